@@ -1,0 +1,10 @@
+pub mod Member
+pub mod Value
+pub mod Object
+pub mod Holdings
+pub mod Reach
+pub mod Maps
+pub mod Places
+pub mod Rows
+pub mod Store
+pub mod Changes

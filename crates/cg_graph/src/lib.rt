@@ -1,0 +1,13 @@
+//! The object graph as plain data: who holds whom, what a path of references reaches, and what a heap means.
+//!
+//! Nearly all of this crate is `specs/`. The machine rests on `Holdings` and `Reach`, which count references and
+//! follow them; the heap and the crates below it rest on `Maps`, `Places`, `Rows` and `Store`, which say what a heap
+//! stands for, so that heap and machine speak with the same words.
+#![tactic(auto)]
+
+/// A reference from one object to another, both by serial.
+#[derive(Clone, Copy, Debug, PartialEq, Eq, Drop)]
+pub struct Edge {
+    pub from: u64,
+    pub to: u64,
+}

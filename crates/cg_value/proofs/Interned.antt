@@ -1,0 +1,55 @@
+-- What a table of texts finds and what goes into it.
+use Rattle.std.proofs.Common.{◌≡◌, ℕ, ◌+◌, List, [], ◌∷◌, ◌++◌, map, length, Bool, true, false, cond, not, ◌||◌, Some, None, position, refl, sym, ap, ◌∙◌, arith}
+use Rattle.std.specs.List.{list_any, position_or_len}
+use Rattle.std.specs.Str.{bytes_eq}
+use Rattle.cg_value.specs.Texts.{has_text, place_of, with_text}
+
+any_map : {A B : Type 0} (p : B → Bool) (f : A → B) (xs : List A) → list_any p (map f xs) ≡ list_any (λ x. p (f x)) xs
+any_map p f [] = refl
+any_map p f (x ∷ xs) = ap (λ b. p (f x) || b) (any_map p f xs)
+
+any_same : {A : Type 0} (p q : A → Bool) (xs : List A) → ((x : A) → p x ≡ q x) → list_any p xs ≡ list_any q xs
+any_same p q [] h = refl
+any_same p q (x ∷ xs) h = ap (λ b. b || list_any p xs) (h x) ∙ ap (λ b. q x || b) (any_same p q xs h)
+
+place_map : {A B : Type 0} (p : B → Bool) (f : A → B) (xs : List A) → position_or_len p (map f xs) ≡ position_or_len (λ x. p (f x)) xs
+place_map p f [] = refl
+place_map p f (x ∷ xs) = grind (arith, place_map p f xs)
+
+absent_step : (b : Bool) (any : Bool) (n m : ℕ) → (b || any) ≡ false → (any ≡ false → n ≡ m) → cond (not b) (1 + n) 0 ≡ 1 + m
+absent_step true any n m e h = cc
+absent_step false any n m e h = ap (λ k. 1 + k) (h e)
+
+absent_place : {A : Type 0} (p : A → Bool) (xs : List A) → list_any p xs ≡ false → position_or_len p xs ≡ length xs
+absent_place p [] e = refl
+absent_place p (x ∷ xs) e = absent_step (p x) (list_any p xs) _ _ e (absent_place p xs) ∙ omega arith
+
+map_push : {A B : Type 0} (f : A → B) (xs : List A) (y : A) → map f (xs ++ y ∷ []) ≡ map f xs ++ f y ∷ []
+map_push f [] y = refl
+map_push f (x ∷ xs) y = ap (λ l. f x ∷ l) (map_push f xs y)
+
+found_place : (b : Bool) (n i : ℕ) → Some i ≡ cond b (Some n) None → i ≡ n
+found_place true n i e = cc
+found_place false n i e = cc
+
+module _ {A : Type 0} (f : A → List ℕ) (keys : List A) (text : List ℕ) where
+  abbrev test : A → Bool
+  test k = bytes_eq text (f k)
+
+  -- a text that is there has its place, and nothing changes
+  pub known : (i : ℕ) → Some i ≡ position test keys → true ≡ list_any test keys → (i ≡ place_of (map f keys) text) × (map f keys ≡ with_text (map f keys) text)
+  known i at found = (
+    found_place _ _ i at ∙ sym (place_map (bytes_eq text) f keys),
+    ap (λ b. cond b (map f keys) (map f keys ++ text ∷ [])) (found ∙ sym (any_map (bytes_eq text) f keys)),
+  )
+
+  -- a text that is new goes last
+  pub fresh : (eq : A → A → Bool) (x : A) (after : List A) → f x ≡ text → ((k : A) → eq x k ≡ bytes_eq (f x) (f k)) → false ≡ list_any test keys
+      → after ≡ cond (list_any (eq x) keys) keys (keys ++ x ∷ []) → (length keys ≡ place_of (map f keys) text) × (map f after ≡ with_text (map f keys) text)
+  fresh eq x after is same absent e =
+      let none : list_any (eq x) keys ≡ false = any_same (eq x) test keys (λ k. same k ∙ ap (λ t. bytes_eq t (f k)) is) ∙ sym absent in
+      let gone : has_text (map f keys) text ≡ false = any_map (bytes_eq text) f keys ∙ sym absent in (
+        sym (place_map (bytes_eq text) f keys ∙ absent_place test keys (sym absent)),
+        ap (map f) (e ∙ ap (λ b. cond b keys (keys ++ x ∷ [])) none) ∙ map_push f keys x ∙ ap (λ t. map f keys ++ t ∷ []) is
+            ∙ sym (ap (λ b. cond b (map f keys) (map f keys ++ text ∷ [])) gone),
+      )

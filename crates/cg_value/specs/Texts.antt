@@ -1,0 +1,15 @@
+-- Texts by number: each stands once, and its number is its place.
+use Rattle.std.specs.Prelude.{ℕ, List, [], ◌∷◌, ◌++◌, Bool, if◌then◌else◌}
+use Rattle.std.specs.List.{list_any, position_or_len}
+use Rattle.std.specs.Str.{bytes_eq}
+
+abbrev pub has_text : List (List ℕ) → List ℕ → Bool
+has_text texts text = list_any (bytes_eq text) texts
+
+-- the first place of a text, or the number of the texts
+abbrev pub place_of : List (List ℕ) → List ℕ → ℕ
+place_of texts text = position_or_len (bytes_eq text) texts
+
+-- the texts with one that goes last where it is new
+abbrev pub with_text : List (List ℕ) → List ℕ → List (List ℕ)
+with_text texts text = if has_text texts text then texts else texts ++ text ∷ []

@@ -1,0 +1,75 @@
+//! Interned texts. (Interning is ours; CPython interns identifiers likewise.)
+ghost use Rattle.std.specs.Prelude.{◌≡◌, ◌+◌, ◌-◌, ◌^◌, ◌<◌, List, [], length, map, IfOk, OnOk, OnErr, slice_get, Some};
+ghost use Rattle.std.specs.String.{string_bytes};
+ghost use Rattle.cg_value.specs.Texts.{place_of, with_text};
+
+use indexmap::IndexSet;
+use std::alloc::{AllocError, Global};
+use std::marker::Model;
+
+/// Texts by number, each once: contracts see the list of their bytes, in the order of their numbers.
+///
+/// It has at most 2^32 - 1 texts, so that each number is a `u32`.
+#[derive(Drop)]
+pub struct Names {
+    alloc: Global,
+    texts: IndexSet<String>,
+}
+
+impl Model for Names {
+    ghost use Rattle.std.specs.Prelude.{List, ℕ, map, length, ◌<◌, ◌^◌};
+    ghost use Rattle.std.specs.String.{string_bytes};
+
+    ghost Value = { List (List ℕ) };
+
+    ghost view = { λ s. map string_bytes s.texts.keys };
+
+    ghost invariant = { λ s. length s.texts.keys < 2 ^ 32 };
+}
+
+impl Names {
+    /// The empty list of texts. It takes no memory yet.
+    pub fn new(alloc: Global) -> Names
+        ensures { result ≡ [] }
+    {
+        Names {
+            alloc,
+            texts: IndexSet::new(alloc),
+        }
+    }
+
+    /// The number of a text: its position, after it was appended if it was not there.
+    ///
+    /// It answers `AllocError` for want of memory alone, and then nothing has changed.
+    pub fn intern(&mut self, text: &str) -> Result<u32, AllocError>
+        requires { length self.old < 2 ^ 32 - 1 }
+        ensures number { IfOk result (λ number. number ≡ place_of self.old text.now) }
+        ensures ok { OnOk result (self.new ≡ with_text self.old text.now) }
+        ensures err { OnErr result (self.new ≡ self.old) }
+    {
+        if let Some(place) = self.texts.get_index_of(text) {
+            return Ok(place as u32);
+        }
+        let place = self.texts.len();
+        self.texts.insert(String::from_str(self.alloc, text)?)?;
+        Ok(place as u32)
+    }
+
+    /// The text with a number, which is below `len`.
+    pub fn text(&self, id: u32) -> &str
+        requires { id < length self.now }
+        ensures { slice_get self.now id ≡ Some result.now }
+    {
+        match self.texts.get_index(id as usize) {
+            Some(text) => text.as_str(),
+            None => unreachable!(),
+        }
+    }
+
+    /// How many texts there are.
+    pub fn len(&self) -> u32
+        ensures { result ≡ length self.now }
+    {
+        self.texts.len() as u32
+    }
+}
