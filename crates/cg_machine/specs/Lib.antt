@@ -1,0 +1,16 @@
+pub mod Program
+pub mod World
+pub mod Holdings
+pub mod Frame
+pub mod Weak
+pub mod Dying
+pub mod Refusals
+pub mod Operands
+pub mod Effects
+pub mod Commands
+pub mod Collect
+pub mod Due
+pub mod Run
+pub mod Lines
+pub mod Laws
+pub mod Represents

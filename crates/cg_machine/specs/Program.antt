@@ -1,0 +1,60 @@
+-- What the machine reads in a script: its commands, procedures and classes. (The script language is ours.)
+use Rattle.std.specs.Prelude.{ℕ, List, [], ◌∷◌, Option, None, slice_get, option_map, option_and_then, unwrap_or}
+use Rattle.cg_script.specs.declared.Script.{Script}
+use Rattle.cg_script.specs.declared.Item.{Item}
+use Rattle.cg_script.specs.declared.Item.TheVariants.{Budget, Class, Def, Run}
+use Rattle.cg_script.specs.declared.ClassDef.{ClassDef}
+use Rattle.cg_script.specs.declared.Proc.{Proc}
+use Rattle.cg_script.specs.declared.Command.{Command}
+use Rattle.cg_value.specs.declared.KindCode.{KindCode}
+use Rattle.cg_value.specs.declared.KindCode.TheVariants.{List as ListKind, Tuple, Dict, Inst, Func, Weak}
+use Rattle.cg_graph.specs.Object.{Object}
+
+-- the commands outside procedures
+abbrev pub commands_of : List Item → List Command
+commands_of [] = []
+commands_of (Budget n ∷ items) = commands_of items
+commands_of (Class c ∷ items) = commands_of items
+commands_of (Def p ∷ items) = commands_of items
+commands_of (Run c ∷ items) = c ∷ commands_of items
+
+-- the procedures, in order: procedures and classes are named by their position among their own
+abbrev pub procedures : List Item → List Proc
+procedures [] = []
+procedures (Budget n ∷ items) = procedures items
+procedures (Class c ∷ items) = procedures items
+procedures (Def p ∷ items) = p ∷ procedures items
+procedures (Run c ∷ items) = procedures items
+
+-- the classes, in order
+abbrev pub classes : List Item → List ClassDef
+classes [] = []
+classes (Budget n ∷ items) = classes items
+classes (Class c ∷ items) = c ∷ classes items
+classes (Def p ∷ items) = classes items
+classes (Run c ∷ items) = classes items
+
+-- the body of a procedure; none where the script has no such procedure
+abbrev pub body_of : Script → ℕ → List Command
+body_of script p = unwrap_or (option_map (λ x. x.body) (slice_get (procedures script.items) p)) []
+
+-- the number of an object's class, which instances alone have
+abbrev pub class_number : KindCode → Option ℕ → Option ℕ
+class_number ListKind class = None
+class_number Tuple class = None
+class_number Dict class = None
+class_number Inst class = class
+class_number Func class = None
+class_number Weak class = None
+
+-- the class of an instance
+abbrev pub class_of : Script → Object → Option ClassDef
+class_of script x = option_and_then (λ c. slice_get (classes script.items) c) (class_number x.code x.class)
+
+-- the finalizer of an object's class (PEP 442, `tp_finalize`, a class's `__del__`)
+abbrev pub finalizer_of : Script → Object → Option ℕ
+finalizer_of script x = option_and_then (λ c. c.del) (class_of script x)
+
+-- its legacy finalizer (PEP 442, "legacy finalizers", `tp_del`)
+abbrev pub legacy_of : Script → Object → Option ℕ
+legacy_of script x = option_and_then (λ c. c.legacy) (class_of script x)

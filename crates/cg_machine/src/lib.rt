@@ -1,0 +1,15 @@
+//! The object graph machine: what a script does to objects and their holders, as a definition, and what it prints.
+//!
+//! `specs/` is the machine. It knows no counts, no lists of generations and no marks: an object is freed when no
+//! reference to it is left, or when a collection of its generation finds it unreachable before and after the
+//! finalizers. The layers above state their calls by its steps and runs (`specs/Run`, `specs/Represents`), print by
+//! `line_of`, and use the laws of `laws`, which hold in every run.
+#![tactic(auto)]
+
+mod event;
+mod laws;
+mod line;
+
+pub use event::{Event, FrameSort, FrameSpec};
+pub use laws::{fronts_begin_whole_texts, no_run_is_stuck};
+pub use line::line_of;

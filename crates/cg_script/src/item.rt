@@ -1,0 +1,40 @@
+//! Declarations, and a whole script.
+use crate::command::Command;
+use crate::members::{Commands, Items};
+use cg_value::Names;
+
+/// A class: its finalizer and its legacy finalizer, each the number of a procedure. (`object.__del__`, PEP 442; a legacy
+/// finalizer is a type's `tp_del`.)
+#[derive(Drop)]
+pub struct ClassDef {
+    pub name: u32,
+    pub del: Option<u32>,
+    pub legacy: Option<u32>,
+}
+
+/// A procedure: the commands between `def P` and `end`.
+#[derive(Drop)]
+pub struct Proc {
+    pub name: u32,
+    pub body: Commands,
+}
+
+/// A declaration, or a command outside procedures. Procedures and classes are named by their position among their own.
+#[derive(Drop)]
+pub enum Item {
+    /// How many frames may start, 0 to 100,000.
+    Budget(u32),
+    /// A class.
+    Class(ClassDef),
+    /// A procedure.
+    Def(Proc),
+    /// A command of the script itself.
+    Run(Command),
+}
+
+/// A whole script: its texts, and its lines in order.
+#[derive(Drop)]
+pub struct Script {
+    pub names: Names,
+    pub items: Items,
+}

@@ -1,0 +1,16 @@
+//! Scripts as data: the commands and declarations that a script has. Reading and printing them comes with the whole
+//! script language; until then this crate is its types.
+//!
+//! The machine and the interpreter rest on the fields: what a `Script` says is its items in order, and each text is
+//! named by its position in `names`.
+#![tactic(auto)]
+
+mod command;
+mod fault;
+mod item;
+mod members;
+
+pub use command::{Command, Operand};
+pub use fault::ScriptFault;
+pub use item::{ClassDef, Item, Proc, Script};
+pub use members::{Commands, Items, Operands};
