@@ -1,0 +1,97 @@
+//! A sink over a writer of the standard library.
+ghost use Rattle.std.specs.Prelude.{◌≡◌, ◌<◌, ◌≤◌, length, None, OnOk, OnErr, IfOk, IsErr};
+ghost use Rattle.std.specs.Io.{WritesAtMost};
+ghost use Rattle.std.specs.Io.KnownBytes.{Appends, WriteAppends};
+ghost use Rattle.cg_io.specs.Causes.{HasCause, AppendsFront, counted};
+ghost use Rattle.cg_io.specs.Adapters.{WriterInUse};
+
+use crate::read_source::TRIES;
+use crate::{Sink, WriteFailed};
+use std::io::{ErrorKind, Write};
+use std::marker::Model;
+
+/// Any writer, with a count of its faults. Over `std::io::Write`.
+///
+/// A contract sees a `WriterInUse`: what the writer holds, where it tells that, and the faults so far. As a sink it
+/// tells nothing.
+#[derive(Drop)]
+pub struct WriteSink<W: Write + Drop> {
+    inner: W,
+    faults: u64,
+}
+
+impl<W: Write + Drop> Model for WriteSink<W> {
+    ghost Value = { WriterInUse };
+
+    ghost view = { λ s. record { contents = W.contents s.inner; faults = s.faults } };
+}
+
+impl<W: Write + Drop> WriteSink<W> {
+    /// A sink over this writer, which has not failed yet.
+    pub fn new(inner: W) -> WriteSink<W>
+        ensures { result ≡ record { contents = W.contents inner; faults = 0 } }
+    {
+        WriteSink { inner, faults: 0 }
+    }
+}
+
+/// Writes a front of the bytes, and tries again where the writer was interrupted.
+fn write_patiently<W: Write>(inner: &mut W, bytes: &[u8]) -> Result<usize, WriteFailed>
+    ensures bound { WritesAtMost result bytes.now }
+    ensures bytes { WriteAppends (W.contents inner.old) (W.contents inner.new) result bytes.now }
+{
+    'tries: for _attempt in 0..TRIES {
+        match inner.write(bytes) {
+            Ok(n) => return Ok(n),
+            Err(e) => {
+                if e.kind() != ErrorKind::Interrupted {
+                    break;
+                }
+            }
+        }
+    }
+    Err(WriteFailed)
+}
+
+/// Writes all of the bytes, front by front.
+fn write_fronts<W: Write>(inner: &mut W, bytes: &[u8]) -> Result<(), WriteFailed>
+    ensures ok { OnOk result (Appends (W.contents inner.old) (W.contents inner.new) bytes.now) }
+    ensures err { OnErr result (AppendsFront (W.contents inner.old) (W.contents inner.new) bytes.now) }
+{
+    let mut rest = bytes;
+    'fronts: while !rest.is_empty() {
+        let n = write_patiently(inner, rest)?;
+        if n == 0 {
+            return Err(WriteFailed);
+        }
+        rest = &rest[n..];
+    }
+    Ok(())
+}
+
+impl<W: Write + Drop> Sink for WriteSink<W> {
+    ghost written = { λ _. None };
+
+    ghost faults = { λ s. s.faults };
+
+    /// Writes the bytes to the writer, in as many calls as it takes. A write that the writer answers with `Interrupted`
+    /// is tried again, at most 100 times, as `Write::write_all` does without a bound; any other error, one `Interrupted`
+    /// more, and a write that takes nothing is a fault.
+    fn write(&mut self, bytes: &[u8]) -> Result<(), WriteFailed>
+        ensures ok { OnOk result (Appends None None bytes.now) }
+        ensures err { OnErr result (AppendsFront None None bytes.now) }
+        ensures cause { HasCause self.old.faults self.new.faults result }
+
+        // The writer was given all of the bytes, or a front of them where the call fails, and each failure is counted.
+        ensures to_writer { OnOk result (Appends self.old.contents self.new.contents bytes.now) }
+        ensures front { OnErr result (AppendsFront self.old.contents self.new.contents bytes.now) }
+        ensures unfailed { OnOk result (self.new.faults ≡ self.old.faults) }
+        ensures faulted { OnErr result (self.new.faults ≡ counted self.old.faults) }
+    {
+        let answer = write_fronts(&mut self.inner, bytes);
+        if answer.is_err() {
+            self.faults = self.faults.saturating_add(1);
+        }
+        answer
+    }
+}
