@@ -1,0 +1,10 @@
+pub mod Ascii
+pub mod Cuts
+pub mod Known
+pub mod Lines
+pub mod Bare
+pub mod Death
+pub mod Moves
+pub mod Written
+pub mod Built
+pub mod Told

@@ -1,0 +1,80 @@
+-- When each status comes, and what is written then. (Ours.)
+use Rattle.std.specs.Prelude.{◌≡◌, ◌<◌, ◌≤◌, ◌⊎◌, ℕ, List, [], ◌∷◌, ◌++◌, length, codes, decimal, Option, None, Some, unwrap_or}
+use Rattle.std.specs.Io.KnownBytes.{Appends}
+use Rattle.cg_io.specs.Causes.{AppendsFront}
+use Rattle.cg_script.specs.declared.Script.{Script}
+use Rattle.cg_script.specs.declared.Item.{Item}
+use Rattle.cg_script.specs.declared.Item.TheVariants.{Budget, Class, Def, Run as Line}
+use Rattle.cg_machine.specs.World.{Outcome}
+use Rattle.cg_machine.specs.Run.{StepTaken, IsWholeRun}
+use Rattle.cg_machine.specs.Lines.{text_of}
+use Rattle.cg_cli.specs.Reading.{Reading, reading, spells, faulty}
+use Rattle.cg_cli.specs.Headline.{WroteRun}
+use Rattle.cg_cli.specs.declared.status.Status.{Status}
+use Rattle.cg_cli.specs.declared.status.Status.TheVariants.{Done, BadScript, TooLarge, ReadFault, WriteFault, OutOfMemory}
+
+-- the words ask for a run
+abbrev pub AreRun : List (List ℕ) → Type 0
+AreRun words = words ≡ codes "run" ∷ []
+
+-- one more byte than a script may have
+abbrev pub limit : ℕ
+limit = 16777217
+
+-- the budget of a run: that of the script, or 10,000
+abbrev pub budget_in : List Item → Option ℕ
+budget_in [] = None
+budget_in (Budget n ∷ items) = Some n
+budget_in (Class c ∷ items) = budget_in items
+budget_in (Def p ∷ items) = budget_in items
+budget_in (Line c ∷ items) = budget_in items
+
+abbrev pub budget_of : Script → ℕ
+budget_of script = unwrap_or (budget_in script.items) 10000
+
+-- some bytes spell a script
+abbrev pub Spells : List ℕ → Script → Type 0
+Spells bytes script = reading bytes ≡ spells script.names script.items
+
+-- The bytes spell a script, and the text of a whole run of it was written, which ended so.
+pub record RanWhole (outcome : Outcome) (bytes : List ℕ) (before now : Option (List ℕ)) : Type 0 where
+  pub few : length bytes < limit
+  pub script : Script
+  pub spelled : Spells bytes script
+  pub wrote : WroteRun script (budget_of script) outcome before now
+
+-- the line of the first bad line
+abbrev pub bad_script_text : ℕ → ℕ → List ℕ
+bad_script_text number code = codes "bad script " ++ decimal number ++ codes " " ++ decimal code ++ codes "\n"
+
+-- The bytes have a first bad line, and that was written.
+pub record RanBad (bytes : List ℕ) (before now : Option (List ℕ)) : Type 0 where
+  pub few : length bytes < limit
+  pub number : ℕ
+  pub code : ℕ
+  pub fault : reading bytes ≡ faulty number code
+  pub wrote : Appends before now (bad_script_text number code)
+
+-- What a run job writes on these bytes: the text of a whole run, or the first bad line, or that they are too many.
+pub data RowText (bytes : List ℕ) : List ℕ → Type 0 where
+  run_text : (script : Script) (outcome : Outcome) (steps : List StepTaken) → length bytes < limit → Spells bytes script → IsWholeRun script (budget_of script) outcome steps → RowText bytes (text_of script steps)
+  bad_text : (number code : ℕ) → length bytes < limit → reading bytes ≡ faulty number code → RowText bytes (bad_script_text number code)
+  large_text : limit ≤ length bytes → RowText bytes (codes "too large\n")
+
+-- A front of that was written.
+pub record WroteFront (bytes : List ℕ) (before now : Option (List ℕ)) : Type 0 where
+  pub text : List ℕ
+  pub row : RowText bytes text
+  pub wrote : AppendsFront before now text
+
+-- The answer to these bytes, where neither source nor sink failed and memory was there: it goes by the bytes alone.
+abbrev pub answer_to_reading : Reading → Status
+answer_to_reading (spells names items) = Done
+answer_to_reading (faulty number code) = BadScript
+
+abbrev pub Answers : List ℕ → Status → Type 0
+Answers bytes status = (length bytes < limit → status ≡ answer_to_reading (reading bytes)) × (limit ≤ length bytes → status ≡ TooLarge)
+
+-- a fault of the source or of the sink, or want of memory
+abbrev pub IsCutShort : Status → Type 0
+IsCutShort status = (status ≡ ReadFault) ⊎ (status ≡ WriteFault) ⊎ (status ≡ OutOfMemory)
