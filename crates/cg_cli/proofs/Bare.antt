@@ -8,12 +8,12 @@ use Rattle.cg_value.specs.declared.KindCode.TheVariants.{List as ListKind}
 use Rattle.cg_value.specs.declared.Place.TheVariants.{Untracked}
 use Rattle.cg_script.specs.declared.Script.{Script}
 use Rattle.cg_graph.specs.Member.{Includes}
-use Rattle.cg_graph.specs.Value.{references}
+use Rattle.cg_graph.specs.Value.{references, last_entry}
 use Rattle.cg_graph.specs.Object.{Object, object_at, entries_of, change, without, with_place, with_referent}
 use Rattle.cg_graph.specs.Holdings.{entry_holdings, graph_of}
 use Rattle.cg_graph.proofs.Members.{Includes-map_cases, Includes-filter_cases, Includes-append_cases, either}
 use Rattle.cg_machine.specs.Program.{legacy_of}
-use Rattle.cg_machine.specs.Dying.{finalizer_to_run, has_finalizers, last_entry}
+use Rattle.cg_machine.specs.Dying.{finalizer_to_run, has_finalizers}
 use Rattle.cg_machine.specs.Weak.{weak_references, weak_references_if, has_weak_references}
 use Rattle.cg_cli.specs.Engine.{IsBareList}
 

@@ -24,6 +24,7 @@ abbrev pub slot_count : ℕ → Option ℕ → ℕ
 slot_count n None = 0
 slot_count n (Some m) = if m == n then 1 else 0
 
+-- in all
 abbrev pub copies : List (Option ℕ) → ℕ → ℕ
 copies slots n = sum_by (slot_count n) slots
 
@@ -70,6 +71,7 @@ IsBuilt names (MakeList name items) = (name < names) × (items ≡ [])
 IsBuilt names (Del name) = name < names
 IsBuilt names command = ⊥
 
+-- a line of the script with such a command
 abbrev pub IsBuiltItem : ℕ → Item → Type 0
 IsBuiltItem names (Line command) = IsBuilt names command
 IsBuiltItem names item = ⊥

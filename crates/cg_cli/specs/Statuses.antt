@@ -21,7 +21,7 @@ AreRun words = words ≡ codes "run" ∷ []
 abbrev pub limit : ℕ
 limit = 16777217
 
--- the budget of a run: that of the script, or 10,000
+-- the budget that a script sets
 abbrev pub budget_in : List Item → Option ℕ
 budget_in [] = None
 budget_in (Budget n ∷ items) = Some n
@@ -29,6 +29,7 @@ budget_in (Class c ∷ items) = budget_in items
 budget_in (Def p ∷ items) = budget_in items
 budget_in (Line c ∷ items) = budget_in items
 
+-- the budget of a run of the script; the words set none yet
 abbrev pub budget_of : Script → ℕ
 budget_of script = unwrap_or (budget_in script.items) 10000
 
@@ -72,6 +73,7 @@ abbrev pub answer_to_reading : Reading → Status
 answer_to_reading (spells names items) = Done
 answer_to_reading (faulty number code) = BadScript
 
+-- up to the limit by what the bytes are read as, and beyond it that they are too many
 abbrev pub Answers : List ℕ → Status → Type 0
 Answers bytes status = (length bytes < limit → status ≡ answer_to_reading (reading bytes)) × (limit ≤ length bytes → status ≡ TooLarge)
 

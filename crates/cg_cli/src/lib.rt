@@ -19,3 +19,8 @@ mod word;
 
 pub use status::Status;
 pub use top::gc_run;
+
+#[cfg(test)]
+mod reader_tests;
+#[cfg(test)]
+mod tests;

@@ -17,6 +17,7 @@ use Rattle.cg_graph.specs.Store.{Store, Node, place_of}
 abbrev pub more : ℕ → Node → Node
 more k n = record n { outside = n.outside + k }
 
+-- these references are held from outside
 abbrev pub held : List ℕ → Store → Store
 held refs store = record store { nodes = mapped (λ s n. more (occurrences s refs) n) store.nodes }
 
@@ -24,6 +25,7 @@ held refs store = record store { nodes = mapped (λ s n. more (occurrences s ref
 abbrev pub less : ℕ → Node → Node
 less k n = record n { outside = n.outside - k }
 
+-- these references are held from outside no longer
 abbrev pub unheld : List ℕ → Store → Store
 unheld refs store = record store { nodes = mapped (λ s n. less (occurrences s refs) n) store.nodes }
 
@@ -31,6 +33,7 @@ unheld refs store = record store { nodes = mapped (λ s n. less (occurrences s r
 abbrev pub with_entries : List Entry → Node → Node
 with_entries es n = record n { entries = es }
 
+-- the entries of one object are replaced
 abbrev pub rewritten : ℕ → List Entry → Store → Store
 rewritten o es store = record store { nodes = changed (with_entries es) o store.nodes }
 
@@ -42,6 +45,7 @@ named i v store = record store { names = slice_set store.names i v }
 abbrev pub with_place : Place → Node → Node
 with_place p n = record n { place = p }
 
+-- it stands last there
 abbrev pub moved : ℕ → Place → Store → Store
 moved o p store = record store {
   nodes = changed (with_place p) o store.nodes;
@@ -67,6 +71,7 @@ new_node code class parts = record {
   outside = 1;
 }
 
+-- its serial is one above the last
 abbrev pub made : KindCode → Option ℕ → List Entry → Store → Store
 made code class parts store = record store {
   nodes = fin.insert store.nodes (store.last + 1) (new_node code class parts);

@@ -37,12 +37,15 @@ without o objects = filter (λ x. not (x.serial == o)) objects
 abbrev pub with_entries : List Entry → Object → Object
 with_entries es x = record x { entries = es }
 
+-- another place
 abbrev pub with_place : Place → Object → Object
 with_place p x = record x { place = p }
 
+-- another referent, or none
 abbrev pub with_referent : Option ℕ → Object → Object
 with_referent r x = record x { referent = r }
 
+-- its finalizer has been called (PEP 442)
 abbrev pub marked : Object → Object
 marked x = record x { finalized = true }
 
@@ -70,12 +73,15 @@ is_tracked x = not (same_place x.place Untracked)
 abbrev pub is_at : Place → Object → Bool
 is_at p x = same_place x.place p
 
+-- all of a place
 abbrev pub objects_at : List Object → Place → List Object
 objects_at objects p = filter (is_at p) objects
 
+-- the serials of some objects
 abbrev pub serials : List Object → List ℕ
 serials objects = map (λ x. x.serial) objects
 
+-- the serials of a place
 abbrev pub serials_at : List Object → Place → List ℕ
 serials_at objects p = serials (objects_at objects p)
 
@@ -85,6 +91,7 @@ abbrev pub first_place : KindCode → Place
 first_place Dict = Untracked
 first_place code = Gen 0
 
+-- whether an object is a tuple
 abbrev pub is_tuple : Object → Bool
 is_tuple x = elim x.code [ ListKind ↦ false | Tuple ↦ true | Dict ↦ false | Inst ↦ false | Func ↦ false | Weak ↦ false ]
 

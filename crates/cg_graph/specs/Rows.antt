@@ -19,6 +19,7 @@ referent_in rows weak = option_map (λ r. r.referent) (find (λ r. (r.weak == we
 abbrev pub refers_to : ℕ → Row → Bool
 refers_to o r = (r.referent == o) && not r.waits
 
+-- whether a row waits with this referent
 abbrev pub waits_with : ℕ → Row → Bool
 waits_with o r = (r.referent == o) && r.waits
 
@@ -30,5 +31,6 @@ newest_first test rows = reverse (map (λ r. r.weak) (filter test rows))
 abbrev pub weak_references_in : List Row → ℕ → List ℕ
 weak_references_in rows o = newest_first (refers_to o) rows
 
+-- those that wait with it
 abbrev pub waiting_in : List Row → ℕ → List ℕ
 waiting_in rows o = newest_first (waits_with o) rows

@@ -25,6 +25,7 @@ pub record Node : Type 0 where
   pub number : ℕ  -- the collector's
   pub outside : ℕ  -- holds from outside the heap
 
+-- the value of a heap
 pub record Store : Type 0 where
   pub nodes : fin.FinMap nat_cmp Node  -- by serial
   pub last : ℕ  -- the last serial
@@ -64,6 +65,7 @@ held_by s n = occurrences s (references n.entries)
 unfoldable pub held_within : List (Option Val) → fin.FinMap nat_cmp Node → ℕ → ℕ
 held_within names nodes s = occurrences s (name_holdings names) + occurrences s (1 ∷ []) + total (held_by s) nodes
 
+-- how often an object is held inside the heap
 abbrev pub inner : Store → ℕ → ℕ
 inner store s = held_within store.names store.nodes s
 
@@ -72,6 +74,7 @@ abbrev pub outside_in : Option Node → ℕ
 outside_in None = 0
 outside_in (Some n) = n.outside
 
+-- the same of a store
 abbrev pub outside_of : Store → ℕ → ℕ
 outside_of store s = outside_in (fin.get store.nodes s)
 
@@ -83,10 +86,12 @@ count_of store s = inner store s + outside_of store s
 abbrev pub IsLive : Store → ℕ → Type 0
 IsLive store s = IsSome (fin.get store.nodes s)
 
+-- the entries of a node that may be there
 abbrev pub entries_in : Option Node → List Entry
 entries_in None = []
 entries_in (Some n) = n.entries
 
+-- the entries of an object, none where there is no such object
 abbrev pub entries_of : Store → ℕ → List Entry
 entries_of store s = entries_in (fin.get store.nodes s)
 
@@ -95,8 +100,10 @@ abbrev pub place_in : Option Node → Place
 place_in None = Untracked
 place_in (Some n) = n.place
 
+-- the same of a store
 abbrev pub place_of : Store → ℕ → Place
 place_of store s = place_in (fin.get store.nodes s)
 
+-- an object of this kind lives
 abbrev pub HasCode : Store → ℕ → KindCode → Type 0
 HasCode store s code = (n : Node) × (fin.get store.nodes s ≡ Some n) × (n.code ≡ code)

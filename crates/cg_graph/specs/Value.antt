@@ -1,6 +1,6 @@
 -- Values, entries and the references in them. (Developer guide, "reference counting": only objects are counted, and
 -- each stored reference once.)
-use Rattle.std.specs.Prelude.{ℕ, ℤ, pos, negsuc, Bool, true, false, List, [], ◌∷◌, ◌++◌, ◌==◌, Option, Some, None, flat_map, option_and_then, option_to_list, if◌then◌else◌}
+use Rattle.std.specs.Prelude.{ℕ, ℤ, pos, negsuc, Bool, true, false, List, [], ◌∷◌, ◌++◌, ◌==◌, Option, Some, None, flat_map, option_and_then, option_to_list, if◌then◌else◌, slice_get, take, length, ◌-◌}
 use Rattle.cg_value.specs.declared.Val.{Val}
 use Rattle.cg_value.specs.declared.Val.TheVariants.{None as Nothing, Int, Str, Ref}
 use Rattle.cg_value.specs.declared.Entry.{Entry}
@@ -73,3 +73,10 @@ without_key (e ∷ entries) key = if same_value e.key key then entries else e �
 abbrev pub entry_at : List Entry → Val → Option Entry
 entry_at [] key = None
 entry_at (e ∷ entries) key = if same_value e.key key then Some e else entry_at entries key
+
+-- the last entry, if there is one, and the entries without it
+abbrev pub last_entry : List Entry → Option Entry
+last_entry entries = slice_get entries (length entries - 1)
+
+abbrev pub without_last : List Entry → List Entry
+without_last entries = take (length entries - 1) entries

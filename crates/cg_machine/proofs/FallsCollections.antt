@@ -10,7 +10,7 @@ use Rattle.cg_value.specs.declared.Place.{Place}
 use Rattle.cg_value.specs.declared.Place.TheVariants.{Gen, Cand, Seen, Legacy, Pend}
 use Rattle.cg_script.specs.declared.Script.{Script}
 use Rattle.cg_graph.specs.Member.{Includes, includes}
-use Rattle.cg_graph.specs.Value.{entry_references}
+use Rattle.cg_graph.specs.Value.{entry_references, last_entry, without_last}
 use Rattle.cg_graph.specs.Object.{Object, change, object_at, is_in_map, entries_of, is_at, is_tuple, with_place, with_entries, with_referent, marked, serials_at, serials}
 use Rattle.cg_graph.proofs.Members.{Includes-filter_cases}
 use Rattle.cg_machine.specs.declared.event.FrameSpec.{FrameSpec}
@@ -19,7 +19,7 @@ use Rattle.cg_machine.specs.declared.event.Event.TheVariants.{GcSaved}
 use Rattle.cg_machine.specs.World.{World, Activity, Releasing, Collecting, Collection, CollectPhase, Start, WeakClearing, WeakCalling, AfterCallback, AfterRelease, Finalizing, AfterFinalizing, Split, Turns, Turn, AfterTurn, Ending, Numbers, Running, with_change, with_objects}
 use Rattle.cg_machine.specs.Frame.{Transition, start_frame}
 use Rattle.cg_machine.specs.Weak.{loses_referent}
-use Rattle.cg_machine.specs.Dying.{last_entry, without_last, finalizer_to_run}
+use Rattle.cg_machine.specs.Dying.{finalizer_to_run}
 use Rattle.cg_machine.specs.Due.{is_due}
 use Rattle.cg_machine.specs.Collect.{collection_at, merged, merged_place, begun, survived, sorted, start_world, survivor_count, StartStep, older, waits, ClearsOne, WeakClearingStep, calls_back, after_release, looks_at, FinalizingStep, get_older, SplitStep, takes_turn, TurnsStep, saved, all_saved, has_flag, save_all, empties, after_turn, EndStep, PhaseStep, loses_at_split, is_saved}
 use Rattle.cg_machine.proofs.Tally.{tally, tally-append, tally-map_le}

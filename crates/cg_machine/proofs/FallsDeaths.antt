@@ -8,7 +8,7 @@ use Rattle.cg_value.specs.declared.Entry.{Entry}
 use Rattle.cg_value.specs.declared.Place.TheVariants.{Untracked, Gen}
 use Rattle.cg_script.specs.declared.Script.{Script}
 use Rattle.cg_graph.specs.Member.{Includes}
-use Rattle.cg_graph.specs.Value.{reference_in, entry_references}
+use Rattle.cg_graph.specs.Value.{reference_in, entry_references, last_entry, without_last}
 use Rattle.cg_graph.specs.Object.{Object, change, without, object_at, entries_of, with_place, with_entries, with_referent, marked, serials}
 use Rattle.cg_graph.proofs.Members.{either, Includes-append_cases, Includes-map_cases, Includes-filter_cases}
 use Rattle.cg_machine.specs.declared.event.FrameSort.{FrameSort}
@@ -20,7 +20,7 @@ use Rattle.cg_machine.specs.World.{push, World, Activity, TopLevel, Framed, Rele
 use Rattle.cg_machine.specs.Frame.{gives_up_function, Transition, start_frame, frame_end, begin_death, released}
 use Rattle.cg_machine.specs.Holdings.{in_degree, is_dying}
 use Rattle.cg_machine.specs.Weak.{has_weak_references, is_reference_to, weak_references_if, weak_references, loses_referent, callback_of}
-use Rattle.cg_machine.specs.Dying.{has_finalizers, last_entry, without_last, finalizer_to_run, run_finalizer, run_legacy, after_frame, clear_one, call_one, detach_one, empty_one, dying}
+use Rattle.cg_machine.specs.Dying.{has_finalizers, finalizer_to_run, run_finalizer, run_legacy, after_frame, clear_one, call_one, detach_one, empty_one, dying}
 use Rattle.cg_machine.specs.Due.{is_due}
 use Rattle.cg_machine.proofs.Tally.{tally, tally-append}
 use Rattle.cg_machine.proofs.Serials.{change-shortened, shortened}

@@ -12,7 +12,8 @@ use Rattle.cg_graph.proofs.Members.{either, Includes-of, includes-of}
 use Rattle.cg_machine.specs.declared.event.Event.TheVariants.{Alive, Cleared, GcStart, GcCollectable, GcUncollectable, GcSaved, GcStop, Collected}
 use Rattle.cg_machine.specs.World.{World, Activity, Releasing, Collection, CollectPhase, Start, WeakClearing, WeakCalling, AfterCallback, AfterRelease, Finalizing, AfterFinalizing, Split, Turns, Turn, AfterTurn, Ending, push, with_stack, with_objects}
 use Rattle.cg_machine.specs.Frame.{Transition}
-use Rattle.cg_machine.specs.Dying.{last_entry, finalizer_to_run}
+use Rattle.cg_graph.specs.Value.{last_entry}
+use Rattle.cg_machine.specs.Dying.{finalizer_to_run}
 use Rattle.cg_machine.specs.Effects.{gens_line}
 use Rattle.cg_machine.specs.Collect.{merged, start_world, StartStep, WeakClearingStep, loses_in_weak_phase, clears_one, calls_back, after_release, FinalizingStep, looks_at, replaced_place, loses_at_split, get_older, SplitStep, TurnsStep, takes_turn, empties, after_turn, is_saved, all_saved, EndStep, PhaseStep, collection_at, lines_if, has_flag, stats, collectable, uncollectable, older}
 use Rattle.cg_machine.proofs.Garbage.{survivors, survivors_survive, Survives-survivors}

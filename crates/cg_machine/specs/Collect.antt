@@ -9,7 +9,7 @@ use Rattle.cg_value.specs.declared.Place.{Place}
 use Rattle.cg_value.specs.declared.Place.TheVariants.{Untracked, Gen, Cand, Seen, Legacy, Pend}
 use Rattle.cg_script.specs.declared.Script.{Script}
 use Rattle.cg_graph.specs.Member.{Includes, includes}
-use Rattle.cg_graph.specs.Value.{references, entry_references, item}
+use Rattle.cg_graph.specs.Value.{references, entry_references, item, last_entry, without_last}
 use Rattle.cg_graph.specs.Object.{Object, object_at, is_in_map, entries_of, change, with_place, with_entries, marked, is_at, is_tuple, is_tracked, may_be_tracked, same_place, objects_at, serials, serials_at}
 use Rattle.cg_graph.specs.Holdings.{Graph, graph_of, occurrences}
 use Rattle.cg_graph.specs.Reach.{Reach, Unreachable, IsOutsideHeld, edges}
@@ -21,7 +21,7 @@ use Rattle.cg_machine.specs.World.{with_objects, World, Activity, Releasing, Col
 use Rattle.cg_machine.specs.Holdings.{holdings}
 use Rattle.cg_machine.specs.Frame.{Transition, Yields, start_frame}
 use Rattle.cg_machine.specs.Weak.{loses_referent, callback_of, MayLoseNext, NoneLeft, AllLose}
-use Rattle.cg_machine.specs.Dying.{last_entry, without_last, finalizer_to_run}
+use Rattle.cg_machine.specs.Dying.{finalizer_to_run}
 use Rattle.cg_machine.specs.Effects.{gens_line}
 use Rattle.cg_machine.specs.Commands.{procedure_of}
 use Rattle.cg_machine.specs.Operands.{is_dict}
@@ -30,15 +30,19 @@ use Rattle.cg_machine.specs.Operands.{is_dict}
 abbrev pub has_flag : ℕ → ℕ → Bool
 has_flag flags bit = not (bit_and flags bit == 0)
 
+-- STATS
 abbrev pub stats : ℕ
 stats = 1
 
+-- COLLECTABLE
 abbrev pub collectable : ℕ
 collectable = 2
 
+-- UNCOLLECTABLE
 abbrev pub uncollectable : ℕ
 uncollectable = 4
 
+-- SAVEALL
 abbrev pub save_all : ℕ
 save_all = 32
 
@@ -62,6 +66,7 @@ collection_at c phase below w = with_stack (Collecting (record c { phase = phase
 abbrev pub members_at : World → Place → Graph
 members_at w p = graph_of (objects_at w.objects p)
 
+-- an object stands at a place
 abbrev pub IsMemberOf : World → Place → ℕ → Type 0
 IsMemberOf w p o = Includes (serials_at w.objects p) o
 
@@ -73,6 +78,7 @@ Survives w p o = Reach (IsOutsideHeld (holdings w) (members_at w p)) (IsMemberOf
 abbrev pub IsGarbage : World → Place → ℕ → Type 0
 IsGarbage w p o = Unreachable (IsOutsideHeld (holdings w) (members_at w p)) (IsMemberOf w p) (edges (members_at w p)) o
 
+-- whether the class of an object has a legacy finalizer
 abbrev pub has_legacy : Script → World → ℕ → Bool
 has_legacy script w o = is_some (option_and_then (legacy_of script) (object_at w.objects o))
 
@@ -88,10 +94,12 @@ begun g n = record n {
   two_count = if g == 0 then n.two_count else (if g == 1 then n.two_count + 1 else 0);
 }
 
+-- a younger generation's place after the merge
 abbrev pub merged_place : ℕ → Place → Place
 merged_place g (Gen i) = if nat_le i g then Gen g else Gen i
 merged_place g p = p
 
+-- the world after the merge
 abbrev pub merged : ℕ → World → World
 merged g w = record w { objects = map (λ x. with_place (merged_place g x.place) x) w.objects; numbers = begun g w.numbers }
 
@@ -110,6 +118,7 @@ has_none_tracked objects x = not (list_any (λ o. unwrap_or (option_map may_be_t
 abbrev pub untracked_if : Bool → Object → Object
 untracked_if b x = if b then with_place Untracked x else x
 
+-- the objects once the chosen ones are untracked
 abbrev pub untrack : ℕ → (Object → Bool) → List Object → List Object
 untrack g chosen objects = map (λ x. untracked_if (is_at (Gen g) x && chosen x) x) objects
 
@@ -158,6 +167,7 @@ pub record StartStep (script : Script) (w : World) (c : Collection) (below : Lis
 abbrev pub is_condemned : Object → Bool
 is_condemned x = is_at Cand x || is_at Seen x
 
+-- whether an object is condemned, by its serial
 abbrev pub is_condemned_in : List Object → ℕ → Bool
 is_condemned_in objects o = unwrap_or (option_map is_condemned (object_at objects o)) false
 
@@ -169,6 +179,7 @@ loses_in_weak_phase objects x = unwrap_or (option_map (λ o. is_condemned_in obj
 abbrev pub waits : List Object → ℕ → Bool
 waits objects weak = not (is_condemned_in objects weak) && is_some (callback_of objects weak)
 
+-- one loses its referent, and waits where it is to be called back
 abbrev pub clears_one : Collection → List ℕ → List Activity → World → ℕ → Transition
 clears_one c waiting below w weak = (
   Cleared weak ∷ [],
@@ -177,11 +188,13 @@ clears_one c waiting below w weak = (
       else collection_at c (WeakClearing waiting) below (with_objects (loses_referent weak w.objects) w),
 )
 
+-- any that is next may be the one
 pub record ClearsOne (c : Collection) (waiting : List ℕ) (below : List Activity) (w : World) (events : List Event) (after : World) : Type 0 where
   pub weak : ℕ
   pub newest : MayLoseNext (loses_in_weak_phase w.objects) w.objects weak
   pub yields : Yields (clears_one c waiting below w weak) events after
 
+-- when none is left, the callbacks follow
 abbrev pub WeakClearingStep : Collection → List ℕ → List Activity → World → List Event → World → Type 0
 WeakClearingStep c waiting below w events after =
     ClearsOne c waiting below w events after ⊎ NoneLeft (loses_in_weak_phase w.objects) w.objects × Yields ([], collection_at c (WeakCalling waiting) below w) events after
@@ -207,6 +220,7 @@ looks_at script c o below w (Some p) =
     start_frame script (record { sort = Del; proc = p; subject = o; func = None })
     (collection_at c (AfterFinalizing o) below (with_change (λ x. marked (with_place Seen x)) o w))
 
+-- any condemned object may be next
 pub record LooksAtOne (script : Script) (c : Collection) (below : List Activity) (w : World) (events : List Event) (after : World) : Type 0 where
   pub object : ℕ
   pub condemned : IsMemberOf w Cand object
@@ -220,6 +234,7 @@ NoneAt w p = serials_at w.objects p ≡ []
 abbrev pub replaced_place : Place → Place → World → World
 replaced_place old new w = with_objects (map (λ x. if is_at old x then with_place new x else x) w.objects) w
 
+-- when all were looked at, they are all condemned as before, and the second detection follows
 abbrev pub FinalizingStep : Script → Collection → List Activity → World → List Event → World → Type 0
 FinalizingStep script c below w events after =
     LooksAtOne script c below w events after ⊎ NoneAt w Cand × Yields ([], collection_at c Split below (replaced_place Seen Cand w)) events after
@@ -228,6 +243,7 @@ FinalizingStep script c below w events after =
 abbrev pub loses_at_split : List Object → Object → Bool
 loses_at_split objects x = unwrap_or (option_map (λ o. unwrap_or (option_map (is_at Cand) (object_at objects o)) false) x.referent) false
 
+-- those that are alive go to the older generation
 abbrev pub get_older : ℕ → List ℕ → List Object → List Object
 get_older g alive objects = map (λ x. if includes alive x.serial then with_place (Gen (older g)) x else x) objects
 
@@ -257,11 +273,13 @@ takes_turn c x below w =
     then ([], collection_at c Turns below (with_change (with_place (Gen (older c.generation))) x.serial w))
     else ([], collection_at c (Turn x.serial) below w)
 
+-- any member may have the next turn
 pub record TakesTurn (c : Collection) (below : List Activity) (w : World) (events : List Event) (after : World) : Type 0 where
   pub object : Object
   pub member : Includes (objects_at w.objects Cand) object
   pub yields : Yields (takes_turn c object below w) events after
 
+-- when all had theirs, the end follows
 abbrev pub TurnsStep : Collection → List Activity → World → List Event → World → Type 0
 TurnsStep c below w events after = TakesTurn c below w events after ⊎ NoneAt w Cand × Yields ([], collection_at c Ending below w) events after
 
@@ -278,10 +296,12 @@ after_turn c o below w = ([], collection_at c Turns below (with_change (with_pla
 abbrev pub is_saved : Script → Collection → Object → Bool
 is_saved script c x = is_at Legacy x && (has_flag c.flags save_all || is_some (legacy_of script x))
 
+-- several are appended, in order
 abbrev pub all_saved : List ℕ → List Object → List Object
 all_saved [] objects = objects
 all_saved (o ∷ os) objects = all_saved os (saved o objects)
 
+-- the lines come in two passes, each in any order
 pub record EndStep (script : Script) (c : Collection) (below : List Activity) (w : World) (events : List Event) (after : World) : Type 0 where
   pub told : List ℕ
   pub told_order : SameMembers told (serials_at w.objects Legacy)
@@ -305,5 +325,6 @@ PhaseStep script c (Turn o) below w events after = Yields (empties c o below w (
 PhaseStep script c (AfterTurn o) below w events after = Yields (after_turn c o below w) events after
 PhaseStep script c Ending below w events after = EndStep script c below w events after
 
+-- the step of a collection on top
 abbrev pub CollectStep : Script → World → Collection → List Activity → List Event → World → Type 0
 CollectStep script w c below events after = PhaseStep script c c.phase below w events after

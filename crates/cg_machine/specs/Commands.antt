@@ -148,13 +148,16 @@ without_commands (TopLevel commands ∷ below) = TopLevel [] ∷ below
 without_commands (Framed f ∷ below) = Framed (record f { commands = [] }) ∷ below
 without_commands stack = stack
 
+-- the frame on top loses the commands that it has left
 abbrev pub stopped_frame : List Activity → List Activity
 stopped_frame (Framed f ∷ below) = Framed (record f { commands = [] }) ∷ below
 stopped_frame stack = stack
 
+-- a refusal leaves the world but for this
 abbrev pub refused : ℕ → World → Transition
 refused refusal w = (Refused refusal ∷ [], with_stack (stopped_frame w.stack) w)
 
+-- a collection that is to start; it reads the debug flags now
 abbrev pub new_collection : ℕ → Bool → World → Activity
 new_collection g asked w = Collecting (record { generation = g; flags = w.numbers.flags; asked = asked; collected = 0; phase = Start })
 
@@ -173,5 +176,6 @@ DoesEffect script w (Ok (Collects g)) events after =
     Yields (if is_collecting w then (Collected 0 ∷ [], w) else ([], push (new_collection g true w) w)) events after
 DoesEffect script w (Ok Quits) events after = Yields ([], with_stack (without_commands w.stack) w) events after
 
+-- the step of a command
 abbrev pub CommandStep : Script → World → Command → List Event → World → Type 0
 CommandStep script w command events after = DoesEffect script w (effect w command) events after

@@ -4,7 +4,7 @@ use Rattle.std.specs.Prelude.{ℕ, ◌-◌, ◌==◌, List, [], ◌∷◌, ◌++
 use Rattle.cg_value.specs.declared.Entry.{Entry}
 use Rattle.cg_value.specs.declared.Place.TheVariants.{Untracked, Gen}
 use Rattle.cg_script.specs.declared.Script.{Script}
-use Rattle.cg_graph.specs.Value.{entry_references}
+use Rattle.cg_graph.specs.Value.{last_entry, without_last, entry_references}
 use Rattle.cg_graph.specs.Object.{Object, object_at, entries_of, with_place, with_entries, marked, without}
 use Rattle.cg_machine.specs.declared.event.Event.{Event}
 use Rattle.cg_machine.specs.declared.event.Event.TheVariants.{Cleared, Free, Alive}
@@ -14,13 +14,6 @@ use Rattle.cg_machine.specs.World.{World, Activity, Releasing, Dying, DyingPhase
 use Rattle.cg_machine.specs.Holdings.{in_degree}
 use Rattle.cg_machine.specs.Frame.{Transition, Yields, start_frame}
 use Rattle.cg_machine.specs.Weak.{weak_references_if, has_weak_references, loses_referent, callback_of}
-
--- the last entry, and those before it
-abbrev pub last_entry : List Entry → Option Entry
-last_entry entries = slice_get entries (length entries - 1)
-
-abbrev pub without_last : List Entry → List Entry
-without_last entries = take (length entries - 1) entries
 
 -- the finalizer, if it has not run (PEP 442: a finalizer is called once)
 abbrev pub finalizer_to_run : Script → Object → Option ℕ
@@ -62,6 +55,7 @@ call_back script o weak callback waiting below w =
     start_frame script (record { sort = Callback; proc = unwrap_or (option_and_then (λ x. x.class) (object_at w.objects callback)) 0; subject = weak; func = Some callback })
     (death_at o (AfterCall weak callback waiting) below (with_change (with_entries []) weak w))
 
+-- when none waits, the legacy finalizer follows
 abbrev pub call_one : Script → ℕ → List Activity → World → List ℕ → Transition
 call_one script o below w [] = ([], death_at o LegacyFinalizer below w)
 call_one script o below w (weak ∷ waiting) = call_back script o weak (unwrap_or (callback_of w.objects weak) 0) waiting below w
@@ -94,5 +88,6 @@ dying script o AfterLegacy below w = after_frame o Detaching below w
 dying script o Detaching below w = detach_one o below w (weak_references_if (has_finalizers script) w.objects o)
 dying script o Emptying below w = empty_one o below w (last_entry (entries_of w.objects o))
 
+-- the step of a death on top
 abbrev pub DyingStep : Script → World → Death → List Activity → List Event → World → Type 0
 DyingStep script w d below events after = Yields (dying script d.object d.phase below w) events after

@@ -39,6 +39,7 @@ place_of_index (negsuc n) len = None
 abbrev pub live : World → ℕ
 live w = count_by (λ x. not (x.serial == 1)) w.objects
 
+-- their entries
 abbrev pub entry_count : World → ℕ
 entry_count w = sum_by (λ x. if x.serial == 1 then 0 else length x.entries) w.objects
 
@@ -50,9 +51,11 @@ has_room w n = unless (nat_le (entry_count w + n) most_entries) entry_limit
 abbrev pub bound : World → ℕ → Option Val → World
 bound w name v = record w { names = slice_set w.names name v }
 
+-- what stands under a name, as references
 abbrev pub given_up_by : World → ℕ → List ℕ
 given_up_by w name = references_of_value (option_and_then (λ v. v) (slice_get w.names name))
 
+-- a name is bound to a value
 abbrev pub binds : World → ℕ → Val → Result Effect ℕ
 binds w name v = Ok (Changes false [] (given_up_by w name) (bound w name (Some v)))
 
@@ -103,6 +106,7 @@ abbrev pub frozen : Place → Place
 frozen (Gen i) = Frozen
 frozen p = p
 
+-- out of the permanent generation
 abbrev pub unfrozen : Place → Place
 unfrozen Frozen = Gen 2
 unfrozen p = p

@@ -41,6 +41,7 @@ gives_up_function Legacy function w = w
 gives_up_function Callback function w = w
 gives_up_function Call function w = push (Releasing (option_to_list function)) w
 
+-- it prints `leave`
 abbrev pub frame_end : Frame → World → Transition
 frame_end f w = (Leave ∷ [], gives_up_function f.sort f.function w)
 
@@ -57,5 +58,6 @@ released (o ∷ references) below w =
     let v = with_stack (Releasing references ∷ below) w in
     if not (is_dying v o) && (in_degree v o == 0) then ([], begin_death o v) else ([], v)
 
+-- the step of a release on top
 abbrev pub ReleaseStep : World → List ℕ → List Activity → List Event → World → Type 0
 ReleaseStep w references below events after = Yields (released references below w) events after

@@ -66,9 +66,11 @@ is_death_of o (Releasing references) = false
 is_death_of o (Dying d) = d.object == o
 is_death_of o (Collecting c) = false
 
+-- whether one is on the stack
 abbrev pub is_dying : World → ℕ → Bool
 is_dying w o = list_any (is_death_of o) w.stack
 
+-- whether an activity is a collection
 abbrev pub is_collection : Activity → Bool
 is_collection (TopLevel commands) = false
 is_collection (Framed f) = false

@@ -68,10 +68,12 @@ abbrev pub is_stop : Event → Bool
 is_stop (GcStop g m n) = true
 is_stop event = false
 
+-- a frame begins
 abbrev pub is_enter : Event → Bool
 is_enter (Enter sort serial) = true
 is_enter event = false
 
+-- the finalizer of an object begins
 abbrev pub is_finalizer_of : ℕ → Event → Bool
 is_finalizer_of n (Enter Del serial) = serial == n
 is_finalizer_of n event = false
@@ -101,9 +103,11 @@ abbrev pub function_and_cells : List Object → Option ℕ → List ℕ
 function_and_cells objects None = []
 function_and_cells objects (Some f) = f ∷ references (entries_of objects f)
 
+-- all of them
 abbrev pub locals_of : List Object → Frame → List ℕ
 locals_of objects f = f.subject ∷ function_and_cells objects f.function
 
+-- an object is none of these, where the activity is a frame
 abbrev pub IsNoLocal : List Object → ℕ → Activity → Type 0
 IsNoLocal objects o (Framed f) = ¬ Includes (locals_of objects f) o
 IsNoLocal objects o activity = Unit {0}

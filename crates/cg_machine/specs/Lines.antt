@@ -12,6 +12,7 @@ use Rattle.cg_machine.specs.declared.event.Event.{Event}
 use Rattle.cg_machine.specs.declared.event.Event.TheVariants.{Made, Enter, Leave, Cleared, Free, Alive, GcStart, GcCollectable, GcUncollectable, GcSaved, GcStop, Collected, Value, RefCount, Tracked, Finalized, Count, Gens, Refused, BudgetSpent, End}
 use Rattle.cg_machine.specs.Run.{StepTaken, events_of}
 
+-- the word of a kind
 abbrev pub kind_text : KindCode → List ℕ
 kind_text ListKind = codes "list"
 kind_text Tuple = codes "tuple"
@@ -20,12 +21,14 @@ kind_text Inst = codes "instance"
 kind_text Func = codes "function"
 kind_text Weak = codes "weakref"
 
+-- the word of a frame
 abbrev pub sort_text : FrameSort → List ℕ
 sort_text Del = codes "del"
 sort_text Legacy = codes "legacy"
 sort_text Callback = codes "callback"
 sort_text Call = codes "call"
 
+-- an answer
 abbrev pub yes_or_no : Bool → List ℕ
 yes_or_no true = codes "yes"
 yes_or_no false = codes "no"
@@ -34,9 +37,11 @@ yes_or_no false = codes "no"
 abbrev pub serial_text : ℕ → List ℕ
 serial_text n = codes " #" ++ decimal n
 
+-- a number after a space
 abbrev pub number_text : ℕ → List ℕ
 number_text n = 32 ∷ decimal n
 
+-- a value: a string stands behind an apostrophe
 abbrev pub value_text : List (List ℕ) → Val → List ℕ
 value_text names Nothing = codes "none"
 value_text names (Int n) = signed_decimal n
@@ -74,6 +79,7 @@ IsPrintableValue names (Int n) = Unit {0}
 IsPrintableValue names (Str s) = (s < length names) × (length (unwrap_or (slice_get names s) []) ≤ 1024)
 IsPrintableValue names (Ref o) = Unit {0}
 
+-- an event can be printed where its value can
 abbrev pub IsPrintable : List (List ℕ) → Event → Type 0
 IsPrintable names (Value v) = IsPrintableValue names v
 IsPrintable names event = Unit {0}

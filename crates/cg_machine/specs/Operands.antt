@@ -62,18 +62,23 @@ object_of w v = option_and_then (object_at w.objects) (reference_in v)
 abbrev pub is_list : Object → Bool
 is_list x = elim x.code [ ListKind ↦ true | _ ↦ false ]
 
+-- a list that is not the garbage list
 abbrev pub is_script_list : Object → Bool
 is_script_list x = is_list x && not (x.serial == 1)
 
+-- a list or a tuple
 abbrev pub is_sequence : Object → Bool
 is_sequence x = elim x.code [ ListKind ↦ true | Tuple ↦ true | _ ↦ false ]
 
+-- a dictionary
 abbrev pub is_dict : Object → Bool
 is_dict x = elim x.code [ Dict ↦ true | _ ↦ false ]
 
+-- a weak reference
 abbrev pub is_weak : Object → Bool
 is_weak x = elim x.code [ Weak ↦ true | _ ↦ false ]
 
+-- any kind
 abbrev pub any_object : Object → Bool
 any_object x = true
 

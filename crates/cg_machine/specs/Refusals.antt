@@ -54,6 +54,7 @@ entry_limit = 12
 abbrev pub most_objects : ℕ
 most_objects = 1000000
 
+-- of all live objects together
 abbrev pub most_entries : ℕ
 most_entries = 4000000
 
@@ -63,6 +64,7 @@ unfoldable pub ◌>>=◌ : {A B : Type 0} → Result A ℕ → (A → Result B �
 (Ok x) >>= f = f x
 (Err e) >>= f = Err e
 
+-- refused where a test fails
 abbrev pub unless : Bool → ℕ → Result (Unit {0}) ℕ
 unless true refusal = Ok tt
 unless false refusal = Err refusal

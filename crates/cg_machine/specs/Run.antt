@@ -18,14 +18,17 @@ TopLevelStep script w (Some g) commands below events after = Yields ([], push (n
 TopLevelStep script w None [] below events after = Yields (End ∷ [], record w { outcome = Ended }) events after
 TopLevelStep script w None (command ∷ commands) below events after = CommandStep script (with_stack (TopLevel commands ∷ below) w) command events after
 
+-- the next command of a frame, or a collection that is due
 abbrev pub CommandInFrame : Script → World → Option ℕ → Frame → Command → List Command → List Activity → List Event → World → Type 0
 CommandInFrame script w (Some g) f command commands below events after = Yields ([], push (new_collection g false w) w) events after
 CommandInFrame script w None f command commands below events after = CommandStep script (with_stack (Framed (record f { commands = commands }) ∷ below) w) command events after
 
+-- a frame without commands left ends, and looks for no collection
 abbrev pub FrameStep : Script → World → Frame → List Command → List Activity → List Event → World → Type 0
 FrameStep script w f [] below events after = Yields (frame_end f (with_stack below w)) events after
 FrameStep script w f (command ∷ commands) below events after = CommandInFrame script w (due w) f command commands below events after
 
+-- only the activity on top steps
 abbrev pub StepOf : Script → World → List Activity → List Event → World → Type 0
 StepOf script w [] events after = ⊥
 StepOf script w (TopLevel commands ∷ below) events after = TopLevelStep script w (due w) commands below events after
@@ -34,6 +37,7 @@ StepOf script w (Releasing references ∷ below) events after = ReleaseStep w re
 StepOf script w (Dying d ∷ below) events after = DyingStep script w d below events after
 StepOf script w (Collecting c ∷ below) events after = CollectStep script w c below events after
 
+-- a world that has ended has no step
 pub record Step (script : Script) (w : World) (events : List Event) (after : World) : Type 0 where
   pub running : w.outcome ≡ Running
   pub step : StepOf script w w.stack events after
@@ -53,6 +57,7 @@ abbrev pub last_world : World → List StepTaken → World
 last_world w [] = w
 last_world w (step ∷ steps) = last_world step.world steps
 
+-- the events of a run, in order
 abbrev pub events_of : List StepTaken → List Event
 events_of [] = []
 events_of (step ∷ steps) = step.events ++ events_of steps
@@ -61,12 +66,15 @@ events_of (step ∷ steps) = step.events ++ events_of steps
 abbrev pub IsRun : Script → ℕ → List StepTaken → Type 0
 IsRun script budget steps = Run script (opening script budget) steps
 
+-- the world that a run of a script leaves
 abbrev pub world_after : Script → ℕ → List StepTaken → World
 world_after script budget steps = last_world (opening script budget) steps
 
+-- how it stands
 abbrev pub outcome_of : Script → ℕ → List StepTaken → Outcome
 outcome_of script budget steps = (world_after script budget steps).outcome
 
+-- a run that has ended so
 pub record IsWholeRun (script : Script) (budget : ℕ) (outcome : Outcome) (steps : List StepTaken) : Type 0 where
   pub run : IsRun script budget steps
   pub whole : outcome ≢ Running

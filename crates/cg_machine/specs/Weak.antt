@@ -23,9 +23,11 @@ weak_references_if test objects o = if unwrap_or (option_map test (object_at obj
 abbrev pub is_instance : Object → Bool
 is_instance x = elim x.code [ Inst ↦ true | _ ↦ false ]
 
+-- a function
 abbrev pub is_function : Object → Bool
 is_function x = elim x.code [ Func ↦ true | _ ↦ false ]
 
+-- either
 abbrev pub has_weak_references : Object → Bool
 has_weak_references x = is_instance x || is_function x
 
@@ -38,6 +40,7 @@ abbrev pub callback_in : List Entry → Option ℕ
 callback_in [] = None
 callback_in (e ∷ entries) = reference_in e.val
 
+-- the callback of a weak reference, by its serial
 abbrev pub callback_of : List Object → ℕ → Option ℕ
 callback_of objects weak = option_and_then (λ x. callback_in x.entries) (object_at objects weak)
 

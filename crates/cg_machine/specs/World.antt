@@ -30,6 +30,7 @@ pub data DyingPhase : Type 0 where
   Detaching : DyingPhase  -- weak references that the frames made lose the object
   Emptying : DyingPhase  -- the entries are taken out, and the object goes
 
+-- the death of an object
 pub record Death : Type 0 where
   pub object : ℕ
   pub phase : DyingPhase
@@ -50,6 +51,7 @@ pub data CollectPhase : Type 0 where
   AfterTurn : (object : ℕ) → CollectPhase  -- it was given up
   Ending : CollectPhase  -- what was set aside is told and saved
 
+-- a collection under way
 pub record Collection : Type 0 where
   pub generation : ℕ
   pub flags : ℕ  -- as they stood when it was started
@@ -86,6 +88,7 @@ pub data Outcome : Type 0 where
   Ended : Outcome
   BudgetIsSpent : Outcome
 
+-- all that a run has at one moment
 pub record World : Type 0 where
   pub objects : List Object  -- by rising serial
   pub next_serial : ℕ
@@ -135,6 +138,7 @@ push a w = record w { stack = a ∷ w.stack }
 abbrev pub with_stack : List Activity → World → World
 with_stack stack w = record w { stack = stack }
 
+-- a world with other objects
 abbrev pub with_objects : List Object → World → World
 with_objects objects w = record w { objects = objects }
 

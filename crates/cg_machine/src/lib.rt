@@ -13,3 +13,6 @@ mod line;
 pub use event::{Event, FrameSort, FrameSpec};
 pub use laws::{fronts_begin_whole_texts, no_run_is_stuck};
 pub use line::line_of;
+
+#[cfg(test)]
+mod tests;

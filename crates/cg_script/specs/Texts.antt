@@ -20,6 +20,7 @@ operand_texts WeakLocal = []
 operand_texts (Cell i) = []
 operand_texts Garbage = []
 
+-- of several operands, in order
 abbrev pub operands_texts : List Operand → List ℕ
 operands_texts operands = flat_map operand_texts operands
 

@@ -14,3 +14,6 @@ pub use command::{Command, Operand};
 pub use fault::ScriptFault;
 pub use item::{ClassDef, Item, Proc, Script};
 pub use members::{Commands, Items, Operands};
+
+#[cfg(test)]
+mod tests;

@@ -3,6 +3,7 @@ use Rattle.std.specs.Prelude.{ℕ, List, [], ◌∷◌, ◌++◌, Bool, if◌the
 use Rattle.std.specs.List.{list_any, position_or_len}
 use Rattle.std.specs.Str.{bytes_eq}
 
+-- whether a text is there
 abbrev pub has_text : List (List ℕ) → List ℕ → Bool
 has_text texts text = list_any (bytes_eq text) texts
 

@@ -73,3 +73,24 @@ impl Names {
         self.texts.len() as u32
     }
 }
+
+#[cfg(test)]
+mod tests {
+    use super::Names;
+    use std::test::Fail;
+
+    #[test]
+    fn a_text_has_its_first_number(rt: HostRuntime) -> Result<(), Fail> {
+        let mut names = Names::new(rt.alloc());
+        for (text, number) in [("a", 0), ("b", 1), ("", 2), ("b", 1), ("a", 0), ("c", 3)] {
+            assert!(rt; names.len() < 100);
+            assert_eq!(rt; names.intern(text)?, number, "at {text:?}");
+        }
+        assert_eq!(rt; names.len(), 4);
+        for (number, text) in [(0, "a"), (1, "b"), (2, ""), (3, "c")] {
+            assert!(rt; number < names.len());
+            assert_eq!(rt; names.text(number), text, "at {number}");
+        }
+        Ok(())
+    }
+}
