@@ -1,0 +1,3 @@
+pub mod Policy
+pub mod Flagset
+pub mod Laws
