@@ -1,0 +1,4 @@
+mod PlaceLemmas
+mod KeyLemmas
+mod ItemLemmas
+mod PairLemmas
