@@ -1,7 +1,6 @@
 -- Look-ups in the map of bodies once one place has another body.
-use Rattle.std.proofs.Common.{◌≡◌, ◌≢◌, ◌⊎◌, ℕ, Bool, true, false, List, Option, Some, cond, refl, sym, ap, ◌∙◌, subst, inl, inr, IsSome}
+use Rattle.std.proofs.Common.{◌≡◌, ◌≢◌, ℕ, List, Some, cond, refl, sym, ap, ◌∙◌, subst, inl, inr, IsSome}
 use Rattle.std.proofs.lemmas.Bool.{cases_eq, eq-eqb, ne_eqb}
-use Rattle.std.specs.Ordering.{nat_cmp, eq_by_cmp}
 use Rattle.std.specs.Cmp.{nat_cmp_total, unsigned_tied}
 use Rattle.std.specs.FinMap as fin
 use Rattle.cg_value.specs.declared.Entry.{Entry}
@@ -33,3 +32,13 @@ module _ (bodies : Bodies) (at : ℕ) (entries : List Entry) (spare : ℕ) where
     | inl same ↦ subst (Holds (with_body bodies at entries spare)) (sym same) Holds-with_body
     | inr differs ↦ subst IsSome (sym (get-other other differs)) held
   ]
+
+-- each place that held a body holds one, in a map with one other body
+pub holds_after : (old new : Bodies) (at : ℕ) (entries : List Entry) (spare : ℕ) → new ≡ with_body old at entries spare → (place : ℕ) → Holds old place → Holds new place
+holds_after old new at entries spare is place held = subst (λ m. Holds m place) (sym is) (still_holds old at entries spare place held)
+
+pub holds_same : (old new : Bodies) → new ≡ old → (place : ℕ) → Holds old place → Holds new place
+holds_same old new is place held = subst (λ m. Holds m place) (sym is) held
+
+pub holds_new : (old new : Bodies) (at : ℕ) (entries : List Entry) (spare : ℕ) → new ≡ with_body old at entries spare → Holds new at
+holds_new old new at entries spare is = subst (λ m. Holds m at) (sym is) (Holds-with_body old at entries spare)

@@ -1,5 +1,5 @@
 -- The equality that `Val` derives is `same_value`, with its sides changed.
-use Rattle.std.proofs.Common.{◌≡◌, ◌≢◌, ◌⊎◌, ℕ, pred, ℤ, pos, negsuc, Bool, true, false, refl, sym, ap, ◌∙◌, inl, inr, eqb}
+use Rattle.std.proofs.Common.{◌≡◌, ◌≢◌, ℕ, pred, ℤ, pos, negsuc, Bool, true, false, refl, sym, ap, ◌∙◌, inl, inr, eqb}
 use Rattle.std.specs.Prelude.{nat_abs}
 use Rattle.std.proofs.lemmas.Bool.{cases_eq, eq-eqb, ne_eqb}
 use Rattle.std.specs.Cmp.{signed_Decides}

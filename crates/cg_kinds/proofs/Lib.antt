@@ -2,3 +2,4 @@ mod PlaceLemmas
 mod KeyLemmas
 mod ItemLemmas
 mod PairLemmas
+mod TestLemmas

@@ -1,5 +1,5 @@
 -- What a call on one value of a slab does to the bodies at its keys, for all kinds at once.
-use Rattle.std.proofs.Common.{◌≡◌, ◌≢◌, ◌⊎◌, ℕ, zero, suc, ◌+◌, ◌<◌, Bool, true, false, List, [], ◌∷◌, get_or, Option, Some, None, cond, refl, sym, ap, ◌∙◌, subst, inl, inr, arith, map, IsSome}
+use Rattle.std.proofs.Common.{◌≡◌, ◌≢◌, ℕ, zero, suc, ◌+◌, ◌<◌, true, false, List, [], ◌∷◌, get_or, Option, Some, None, cond, refl, sym, ap, ◌∙◌, subst, inl, inr, arith, map, IsSome}
 use Rattle.std.specs.Prelude.{option_map, Result, Ok, Err, OnErr, OnSome, IfNone}
 use Rattle.std.proofs.lemmas.Bool.{cases_eq, eq-eqb, ne_eqb}
 use Rattle.std.specs.Ordering.{nat_cmp, eq_by_cmp}

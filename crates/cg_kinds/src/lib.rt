@@ -15,6 +15,8 @@ mod func;
 mod items;
 mod list;
 mod pairs;
+#[cfg(test)]
+mod tests;
 mod tuple;
 mod weak;
 

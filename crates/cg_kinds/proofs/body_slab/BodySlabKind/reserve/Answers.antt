@@ -1,7 +1,6 @@
-use Rattle.std.proofs.Common.{◌≡◌, ◌≤◌}
+use Rattle.std.proofs.Common.{◌≤◌}
 use Rattle.std.specs.Prelude.{OnOk}
 use Rattle.std.proofs.lemmas.Result.{on_ok_weaker, on_err_weaker}
-use Rattle.cg_value.specs.declared.KindCode.TheVariants as code
 use Rattle.cg_kinds.proofs.PlaceLemmas.{holds-key, of_places, with_spare, kept}
 use Rattle.cg_kinds.proofs.body_slab.BodySlabKind.reserve.Goals as goal
 

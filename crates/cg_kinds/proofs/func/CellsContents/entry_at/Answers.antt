@@ -1,4 +1,4 @@
-use Rattle.std.proofs.Common.{◌≡◌, ◌∙◌, ◌<◌, ap, sym, map, Some, get_or, length, arith}
+use Rattle.std.proofs.Common.{◌∙◌, ◌<◌, ap, sym, map, Some, get_or, length, arith}
 use Rattle.std.proofs.lemmas.List.{length-map}
 use Rattle.cg_value.specs.declared.Val.TheVariants.{None as Nothing}
 use Rattle.cg_graph.specs.Value.{item}

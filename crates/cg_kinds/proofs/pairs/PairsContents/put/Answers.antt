@@ -1,4 +1,4 @@
-use Rattle.std.proofs.Common.{◌≡◌, ◌∙◌, ap, sym, map, None, true, false, refl, IsSome, subst}
+use Rattle.std.proofs.Common.{◌≡◌, ◌∙◌, ap, sym, map, None, refl, IsSome, subst}
 use Rattle.cg_value.specs.declared.Val.{Val}
 use Rattle.cg_graph.specs.Value.{value_at, put}
 use Rattle.cg_kind.specs.Bodies.{body_of}
