@@ -1,0 +1,176 @@
+//! The boxed interface of a kind of objects: lists, tuples, dictionaries, instances, functions or weak references.
+//!
+//! The layer above rests on one contract: a kind is a map from places to bodies, and after each call the whole map is
+//! known. So a call on one place leaves all other places, and a refusal leaves the map.
+#![tactic(auto)]
+
+ghost use Rattle.std.specs.Prelude.{◌≡◌, ◌≢◌, ◌<◌, ◌≤◌, ◌+◌, ◌-◌, ◌++◌, ◌∷◌, ◌↔◌, [], length, IfOk, OnOk, OnErr, IfSome, OnSome, IfNone, IsNone, IsSome, IsOk, None, Some, position, slice_get};
+ghost use Rattle.std.specs.FinMap as fin;
+ghost use Rattle.cg_value.specs.declared.KindCode.{KindCode};
+ghost use Rattle.cg_value.specs.declared.KindCode.TheVariants as code;
+ghost use Rattle.cg_graph.specs.Value.{item};
+ghost use Rattle.cg_kind.specs.Bodies.{Bodies, Holds, entries_at, spare_at, with_body};
+ghost use Rattle.cg_kind.specs.Calls.{has_key, IsParts, CanPut, value_under, after_put, after_take, without_last, spare_after_leave};
+
+use cg_value::{Entry, KindCode, Val};
+use std::alloc::AllocError;
+
+/// A kind of objects: it keeps the entries of its objects, each at a place.
+///
+/// Every call but `code` and `make` wants a place that holds an object. An entry that leaves is handed out, never dropped.
+pub trait Kind: Drop {
+    /// Which of the six kinds it is.
+    ghost kind: { Self → KindCode };
+
+    /// The body at each place.
+    ghost bodies: { Self → Bodies };
+
+    /// Which of the six kinds it is.
+    fn code(&self) -> KindCode
+        ensures { result ≡ kind self.now };
+
+    /// Makes an object of these entries, and answers its place. It is refused only for want of memory.
+    ///
+    /// Lists and tuples take any items, dictionaries and instances none, functions at most eight cells, weak references at
+    /// most one callback.
+    fn make(&mut self, parts: &[Entry]) -> Result<usize, AllocError>
+        requires { IsParts (kind self.old) parts.now }
+        ensures made { IfOk result (λ at. bodies self.new ≡
+            with_body (bodies self.old) at parts.now (spare_at (bodies self.new) at)) }
+        ensures vacant { IfOk result (λ at. fin.get (bodies self.old) at ≡ None) }
+        ensures err { OnErr result (bodies self.new ≡ bodies self.old) }
+        ensures same_kind { kind self.new ≡ kind self.old };
+
+    /// The number of entries.
+    fn len(&self, at: usize) -> usize
+        requires { Holds (bodies self.now) at }
+        ensures { result ≡ length (entries_at (bodies self.now) at) };
+
+    /// The entry at a position below the length.
+    fn entry_at(&self, at: usize, i: usize) -> Entry
+        requires held { Holds (bodies self.now) at }
+        requires within { i < length (entries_at (bodies self.now) at) }
+        ensures { slice_get (entries_at (bodies self.now) at) i ≡ Some result };
+
+    /// The first position whose key is this one, `None` exactly where there is none.
+    fn find(&self, at: usize, key: Val) -> Option<usize>
+        requires { Holds (bodies self.now) at }
+        ensures { result ≡ position (has_key key) (entries_at (bodies self.now) at) };
+
+    /// Puts a value at an index of a list, or under a key of a dictionary or an instance, and answers the value that it
+    /// replaces. `Ok(None)` comes exactly for a new key, and a refusal only for one, for want of memory.
+    ///
+    /// A present key keeps its place and its key, as in Python's dictionaries; a new one goes last. On a tuple, a function
+    /// or a weak reference it does nothing.
+    fn put(&mut self, at: usize, key: Val, val: Val) -> Result<Option<Val>, AllocError>
+        requires held { Holds (bodies self.old) at }
+        requires can { CanPut (kind self.old) (entries_at (bodies self.old) at) key }
+        ensures ok { OnOk result (bodies self.new ≡ with_body (bodies self.old) at
+            (after_put (kind self.old) (entries_at (bodies self.old) at) key val)
+            (spare_at (bodies self.old) at)) }
+        ensures replaced { IfOk result (λ was. was ≡
+            value_under (kind self.old) (entries_at (bodies self.old) at) key) }
+        ensures present { IsSome (value_under (kind self.old) (entries_at (bodies self.old) at) key) → IsOk result }
+        ensures err { OnErr result (bodies self.new ≡ bodies self.old) }
+        ensures same_kind { kind self.new ≡ kind self.old };
+
+    /// Takes the entry at a position below the length out of a list, a dictionary or an instance; those after it move down
+    /// by one. An object of another kind keeps it.
+    fn take(&mut self, at: usize, i: usize) -> Entry
+        requires held { Holds (bodies self.old) at }
+        requires within { i < length (entries_at (bodies self.old) at) }
+        ensures entry { slice_get (entries_at (bodies self.old) at) i ≡ Some result }
+        ensures rest { bodies self.new ≡ with_body (bodies self.old) at
+            (after_take (kind self.old) (entries_at (bodies self.old) at) i)
+            (spare_after_leave (kind self.old) (spare_at (bodies self.old) at)) }
+        ensures same_kind { kind self.new ≡ kind self.old };
+
+    /// Takes the last entry off, whatever the kind. `None` comes exactly where there is none.
+    fn detach(&mut self, at: usize) -> Option<Entry>
+        requires { Holds (bodies self.old) at }
+        ensures last { IfSome result (λ e. entries_at (bodies self.old) at ≡
+            without_last (entries_at (bodies self.old) at) ++ e ∷ []) }
+        ensures rest { OnSome result (bodies self.new ≡ with_body (bodies self.old) at
+            (without_last (entries_at (bodies self.old) at))
+            (spare_after_leave (kind self.old) (spare_at (bodies self.old) at))) }
+        ensures empty { IsNone result ↔ (entries_at (bodies self.old) at ≡ []) }
+        ensures none { IfNone result (bodies self.new ≡ bodies self.old) }
+        ensures same_kind { kind self.new ≡ kind self.old };
+
+    /// Makes room in a list for `n` items more, or is refused for want of memory. The spare never falls.
+    fn reserve(&mut self, at: usize, n: usize) -> Result<(), AllocError>
+        requires { Holds (bodies self.old) at }
+        ensures ok { OnOk result (bodies self.new ≡ with_body (bodies self.old) at
+            (entries_at (bodies self.old) at) (spare_at (bodies self.new) at)) }
+        ensures room { kind self.old ≡ code.List → OnOk result (n ≤ spare_at (bodies self.new) at) }
+        ensures no_less { OnOk result (spare_at (bodies self.old) at ≤ spare_at (bodies self.new) at) }
+        ensures err { OnErr result (bodies self.new ≡ bodies self.old) }
+        ensures same_kind { kind self.new ≡ kind self.old };
+
+    /// Appends an item to a list that has room for it. On an object of another kind it does nothing.
+    fn append_reserved(&mut self, at: usize, val: Val)
+        requires held { Holds (bodies self.old) at }
+        requires room { kind self.old ≡ code.List → 0 < spare_at (bodies self.old) at }
+        ensures appends { kind self.old ≡ code.List → bodies self.new ≡ with_body (bodies self.old) at
+            (entries_at (bodies self.old) at ++ item val ∷ []) (spare_at (bodies self.old) at - 1) }
+        ensures others { kind self.old ≢ code.List → bodies self.new ≡ bodies self.old }
+        ensures same_kind { kind self.new ≡ kind self.old };
+
+    /// Gives the place of an empty object back.
+    fn free(&mut self, at: usize)
+        requires held { Holds (bodies self.old) at }
+        requires empty { entries_at (bodies self.old) at ≡ [] }
+        ensures gone { bodies self.new ≡ fin.remove (bodies self.old) at }
+        ensures same_kind { kind self.new ≡ kind self.old };
+}
+
+/// A boxed kind is the kind that it holds.
+impl Kind for Box<dyn Kind> {
+    ghost kind = { λ b. (Kind-box b).kind b.value };
+
+    ghost bodies = { λ b. (Kind-box b).bodies b.value };
+
+    fn code(&self) -> KindCode {
+        (**self).code()
+    }
+
+    fn make(&mut self, parts: &[Entry]) -> Result<usize, AllocError> {
+        (**self).make(parts)
+    }
+
+    fn len(&self, at: usize) -> usize {
+        (**self).len(at)
+    }
+
+    fn entry_at(&self, at: usize, i: usize) -> Entry {
+        (**self).entry_at(at, i)
+    }
+
+    fn find(&self, at: usize, key: Val) -> Option<usize> {
+        (**self).find(at, key)
+    }
+
+    fn put(&mut self, at: usize, key: Val, val: Val) -> Result<Option<Val>, AllocError> {
+        (**self).put(at, key, val)
+    }
+
+    fn take(&mut self, at: usize, i: usize) -> Entry {
+        (**self).take(at, i)
+    }
+
+    fn detach(&mut self, at: usize) -> Option<Entry> {
+        (**self).detach(at)
+    }
+
+    fn reserve(&mut self, at: usize, n: usize) -> Result<(), AllocError> {
+        (**self).reserve(at, n)
+    }
+
+    fn append_reserved(&mut self, at: usize, val: Val) {
+        (**self).append_reserved(at, val)
+    }
+
+    fn free(&mut self, at: usize) {
+        (**self).free(at)
+    }
+}

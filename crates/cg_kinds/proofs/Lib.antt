@@ -1,0 +1,5 @@
+mod PlaceLemmas
+mod KeyLemmas
+mod ItemLemmas
+mod PairLemmas
+mod TestLemmas

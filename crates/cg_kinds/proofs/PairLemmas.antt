@@ -1,0 +1,52 @@
+-- The pairs of a map as the entries of a dictionary or an instance.
+use Rattle.std.proofs.Common.{◌≡◌, ℕ, ◌+◌, Bool, true, false, List, [], ◌∷◌, Some, cond, refl, sym, ap, ◌∙◌, subst, inl, inr, map}
+use Rattle.std.specs.Prelude.{position}
+use Rattle.std.specs.List.{position_from}
+use Rattle.std.specs.Map.{lookup, keys_of}
+use Rattle.std.proofs.lemmas.Iterator.Adapters.{position_from-zero}
+use Rattle.indexmap.specs.IndexMap.{insert_entry}
+use Rattle.cg_value.specs.declared.Val.{Val}
+use Rattle.cg_value.specs.declared.KindCode.{KindCode}
+use Rattle.cg_value.specs.declared.KindCode.TheVariants as code
+use Rattle.cg_graph.specs.Value.{same_value, value_at, put}
+use Rattle.cg_kind.specs.Calls.{has_key}
+use Rattle.cg_kinds.specs.Pairs.{IsKeyed, pair_entry}
+use Rattle.cg_kinds.proofs.KeyLemmas.{equal, equal-same_value}
+
+-- what is true of dictionaries and of instances is true of a kind whose objects hold values under keys
+pub keyed_by : (kind : KindCode) → IsKeyed kind → (P : KindCode → Type 0) → P code.Dict → P code.Inst → P kind
+keyed_by kind (inl is) P dict inst = subst P (sym is) dict
+keyed_by kind (inr is) P dict inst = subst P (sym is) inst
+
+map-choice : {X Y : Type 0} (f : X → Y) (b : Bool) (xs ys : List X) → map f (cond b xs ys) ≡ cond b (map f xs) (map f ys)
+map-choice f true xs ys = refl
+map-choice f false xs ys = refl
+
+module _ (key : Val) where
+  -- a key stands where the map has it
+  find_from : (i : ℕ) (ps : List (Val × Val)) → position_from (equal key) i (keys_of ps) ≡ position_from (has_key key) i (map pair_entry ps)
+  find_from i [] = refl
+  find_from i (p ∷ ps) =
+      ap (λ b. cond b (Some i) (position_from (equal key) (i + 1) (keys_of ps))) (equal-same_value key p.0)
+      ∙ ap (cond (same_value p.0 key) (Some i)) (find_from (i + 1) ps)
+
+  pub find-pairs : (ps : List (Val × Val)) → position (equal key) (keys_of ps) ≡ position (has_key key) (map pair_entry ps)
+  find-pairs ps =
+      position_from-zero (equal key) (keys_of ps)
+      ∙ find_from 0 ps
+      ∙ sym (position_from-zero (has_key key) (map pair_entry ps))
+
+  -- the value that the map has under a key
+  pub lookup-pairs : (ps : List (Val × Val)) → lookup (equal key) ps ≡ value_at (map pair_entry ps) key
+  lookup-pairs [] = refl
+  lookup-pairs (p ∷ ps) =
+      ap (λ b. cond b (Some p.1) (lookup (equal key) ps)) (equal-same_value key p.0)
+      ∙ ap (cond (same_value p.0 key) (Some p.1)) (lookup-pairs ps)
+
+  -- the entries after an insert
+  pub insert-pairs : (val : Val) (ps : List (Val × Val)) → map pair_entry (insert_entry equal ps key val) ≡ put (map pair_entry ps) key val
+  insert-pairs val [] = refl
+  insert-pairs val (p ∷ ps) =
+      map-choice pair_entry (equal key p.0) ((p.0, val) ∷ ps) (p ∷ insert_entry equal ps key val)
+      ∙ ap (λ b. cond b (pair_entry (p.0, val) ∷ map pair_entry ps) (pair_entry p ∷ map pair_entry (insert_entry equal ps key val))) (equal-same_value key p.0)
+      ∙ ap (λ es. cond (same_value p.0 key) (pair_entry (p.0, val) ∷ map pair_entry ps) (pair_entry p ∷ es)) (insert-pairs val ps)

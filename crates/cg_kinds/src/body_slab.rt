@@ -1,0 +1,82 @@
+//! The objects of one kind, at the keys of a slab.
+ghost use Rattle.std.specs.Prelude.{◌≡◌};
+ghost use Rattle.std.specs.FinMap as fin;
+ghost use Rattle.cg_kinds.specs.Places.{bodies_of};
+
+use crate::contents::Contents;
+use cg_kind::Kind;
+use cg_value::{Entry, KindCode, Val};
+use slab::Slab;
+use std::alloc::{AllocError, Global};
+
+/// The objects of one kind, each by what it holds, at the keys of a slab.
+#[derive(Drop)]
+pub struct BodySlab<C> {
+    alloc: Global,
+    slab: Slab<C>,
+}
+
+impl<C: Contents> BodySlab<C> {
+    /// A kind with no object.
+    pub fn new(alloc: Global) -> Self
+        ensures kind { ⟦<BodySlab<C> as Kind>⟧.kind result ≡ C.kind }
+        ensures empty { ⟦<BodySlab<C> as Kind>⟧.bodies result ≡ fin.empty }
+    {
+        BodySlab {
+            alloc,
+            slab: Slab::new(alloc),
+        }
+    }
+}
+
+impl<C: Contents> Kind for BodySlab<C> {
+    ghost kind = { λ _. C.kind };
+
+    ghost bodies = { λ s. bodies_of C.body s.slab };
+
+    fn code(&self) -> KindCode {
+        C::code()
+    }
+
+    fn make(&mut self, parts: &[Entry]) -> Result<usize, AllocError> {
+        let contents = C::make(self.alloc, parts)?;
+        let at = self.slab.insert(contents)?;
+        Ok(at)
+    }
+
+    fn len(&self, at: usize) -> usize {
+        self.slab[at].len()
+    }
+
+    fn entry_at(&self, at: usize, i: usize) -> Entry {
+        self.slab[at].entry_at(i)
+    }
+
+    fn find(&self, at: usize, key: Val) -> Option<usize> {
+        self.slab[at].find(key)
+    }
+
+    fn put(&mut self, at: usize, key: Val, val: Val) -> Result<Option<Val>, AllocError> {
+        self.slab[at].put(key, val)
+    }
+
+    fn take(&mut self, at: usize, i: usize) -> Entry {
+        self.slab[at].take(i)
+    }
+
+    fn detach(&mut self, at: usize) -> Option<Entry> {
+        self.slab[at].detach()
+    }
+
+    fn reserve(&mut self, at: usize, n: usize) -> Result<(), AllocError> {
+        self.slab[at].reserve(n)
+    }
+
+    fn append_reserved(&mut self, at: usize, val: Val) {
+        self.slab[at].append_reserved(val);
+    }
+
+    fn free(&mut self, at: usize) {
+        let _ = self.slab.remove(at);
+    }
+}

@@ -1,0 +1,68 @@
+//! What one object holds.
+ghost use Rattle.std.specs.Prelude.{◌≡◌, ◌≢◌, ◌<◌, ◌≤◌, ◌-◌, ◌++◌, ◌∷◌, ◌↔◌, [], length, IfOk, OnOk, OnErr, IfSome, OnSome, IfNone, IsNone, IsSome, IsOk, Some, position, slice_get};
+ghost use Rattle.cg_value.specs.declared.KindCode.{KindCode};
+ghost use Rattle.cg_value.specs.declared.KindCode.TheVariants as code;
+ghost use Rattle.cg_graph.specs.Value.{item};
+ghost use Rattle.cg_kind.specs.Bodies.{Body, body_of};
+ghost use Rattle.cg_kind.specs.Calls.{has_key, IsParts, CanPut, value_under, after_put, after_take, without_last, spare_after_leave};
+
+use cg_value::{Entry, KindCode, Val};
+use std::alloc::{AllocError, Global};
+
+/// What one object of a kind holds. Its calls are those of `cg_kind::Kind`, at one place.
+pub trait Contents: Drop {
+    ghost kind: { KindCode };
+
+    ghost body: { Self → Body };
+
+    fn code() -> KindCode
+        ensures { result ≡ kind };
+
+    fn make(alloc: Global, parts: &[Entry]) -> Result<Self, AllocError>
+        requires { IsParts kind parts.now }
+        ensures { IfOk result (λ made. (body made).entries ≡ parts.now) };
+
+    fn len(&self) -> usize
+        ensures { result ≡ length (body self.now).entries };
+
+    fn entry_at(&self, i: usize) -> Entry
+        requires { i < length (body self.now).entries }
+        ensures { slice_get (body self.now).entries i ≡ Some result };
+
+    fn find(&self, key: Val) -> Option<usize>
+        ensures { result ≡ position (has_key key) (body self.now).entries };
+
+    fn put(&mut self, key: Val, val: Val) -> Result<Option<Val>, AllocError>
+        requires { CanPut kind (body self.old).entries key }
+        ensures ok { OnOk result (body self.new ≡
+            body_of (after_put kind (body self.old).entries key val) (body self.old).spare) }
+        ensures replaced { IfOk result (λ was. was ≡ value_under kind (body self.old).entries key) }
+        ensures present { IsSome (value_under kind (body self.old).entries key) → IsOk result }
+        ensures err { OnErr result (body self.new ≡ body self.old) };
+
+    fn take(&mut self, i: usize) -> Entry
+        requires { i < length (body self.old).entries }
+        ensures entry { slice_get (body self.old).entries i ≡ Some result }
+        ensures rest { body self.new ≡ body_of (after_take kind (body self.old).entries i)
+            (spare_after_leave kind (body self.old).spare) };
+
+    fn detach(&mut self) -> Option<Entry>
+        ensures last { IfSome result (λ e. (body self.old).entries ≡
+            without_last (body self.old).entries ++ e ∷ []) }
+        ensures rest { OnSome result (body self.new ≡ body_of (without_last (body self.old).entries)
+            (spare_after_leave kind (body self.old).spare)) }
+        ensures empty { IsNone result ↔ ((body self.old).entries ≡ []) }
+        ensures none { IfNone result (body self.new ≡ body self.old) };
+
+    fn reserve(&mut self, n: usize) -> Result<(), AllocError>
+        ensures ok { OnOk result (body self.new ≡ body_of (body self.old).entries (body self.new).spare) }
+        ensures room { kind ≡ code.List → OnOk result (n ≤ (body self.new).spare) }
+        ensures no_less { OnOk result ((body self.old).spare ≤ (body self.new).spare) }
+        ensures err { OnErr result (body self.new ≡ body self.old) };
+
+    fn append_reserved(&mut self, val: Val)
+        requires { kind ≡ code.List → 0 < (body self.old).spare }
+        ensures appends { kind ≡ code.List → body self.new ≡
+            body_of ((body self.old).entries ++ item val ∷ []) ((body self.old).spare - 1) }
+        ensures others { kind ≢ code.List → body self.new ≡ body self.old };
+}

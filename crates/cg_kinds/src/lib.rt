@@ -1,0 +1,28 @@
+//! The six kinds of objects, each the boxed interface `cg_kind::Kind` over a slab of what its objects hold.
+//!
+//! The layers above rest on the contracts of `Kind` alone: `new` gives a kind with no object, and each call states the
+//! whole map from places to entries after it.
+//!
+//! - `body_slab`: the slab, once for all six kinds.
+//! - `contents`: what one object holds, as the slab sees it.
+//! - `items`: what lists, tuples, functions and weak references share; `list`, `tuple`, `func` and `weak`: these four.
+//! - `pairs`: dictionaries and instances.
+#![tactic(auto)]
+
+mod body_slab;
+mod contents;
+mod func;
+mod items;
+mod list;
+mod pairs;
+#[cfg(test)]
+mod tests;
+mod tuple;
+mod weak;
+
+pub use body_slab::BodySlab;
+pub use func::FuncKind;
+pub use list::ListKind;
+pub use pairs::{DictKind, InstKind};
+pub use tuple::TupleKind;
+pub use weak::WeakKind;

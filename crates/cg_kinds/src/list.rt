@@ -1,0 +1,85 @@
+//! Lists.
+ghost use Rattle.std.specs.Prelude.{◌≡◌, ◌<◌, pos};
+ghost use Rattle.cg_value.specs.declared.KindCode.TheVariants as code;
+ghost use Rattle.cg_value.specs.declared.Val.TheVariants as val;
+ghost use Rattle.cg_kinds.specs.Contents.{list_body, IsIndex};
+
+use crate::body_slab::BodySlab;
+use crate::contents::Contents;
+use crate::items::{find_item, item_of, values_of};
+use cg_value::{Entry, KindCode, Val};
+use std::alloc::{AllocError, Global};
+
+/// Lists, each by its items.
+pub type ListKind = BodySlab<ListItems>;
+
+/// The items of a list.
+#[derive(Drop)]
+pub struct ListItems {
+    values: Vec<Val>,
+}
+
+/// The index that a key of a list is.
+fn index_of(key: Val) -> usize
+    requires { IsIndex key }
+    ensures { key ≡ val.Int (pos result) }
+{
+    match key {
+        Val::Int(number) => number as usize,
+        _ => 0,
+    }
+}
+
+impl Contents for ListItems {
+    ghost kind = { code.List };
+
+    ghost body = { λ l. list_body l.values };
+
+    fn code() -> KindCode {
+        KindCode::List
+    }
+
+    fn make(alloc: Global, parts: &[Entry]) -> Result<Self, AllocError> {
+        let values = values_of(alloc, parts)?;
+        Ok(ListItems { values })
+    }
+
+    fn len(&self) -> usize {
+        self.values.len()
+    }
+
+    fn entry_at(&self, i: usize) -> Entry {
+        item_of(self.values[i])
+    }
+
+    fn find(&self, key: Val) -> Option<usize> {
+        find_item(self.values.len(), key)
+    }
+
+    fn put(&mut self, key: Val, val: Val) -> Result<Option<Val>, AllocError> {
+        let i = index_of(key);
+        let replaced = self.values[i];
+        self.values[i] = val;
+        Ok(Some(replaced))
+    }
+
+    fn take(&mut self, i: usize) -> Entry {
+        item_of(self.values.remove(i))
+    }
+
+    fn detach(&mut self) -> Option<Entry> {
+        match self.values.pop() {
+            Some(val) => Some(item_of(val)),
+            None => None,
+        }
+    }
+
+    fn reserve(&mut self, n: usize) -> Result<(), AllocError> {
+        self.values.reserve(n)?;
+        Ok(())
+    }
+
+    fn append_reserved(&mut self, val: Val) {
+        self.values.push_reserved(val);
+    }
+}

@@ -1,0 +1,133 @@
+//! Dictionaries and instances, which differ only in their code.
+ghost use Rattle.std.specs.Prelude.{◌≡◌};
+ghost use Rattle.cg_value.specs.declared.KindCode.{KindCode};
+ghost use Rattle.cg_value.specs.declared.KindCode.TheVariants as code;
+ghost use Rattle.cg_kinds.specs.Pairs.{IsKeyed, pairs_body};
+
+use crate::body_slab::BodySlab;
+use crate::contents::Contents;
+use cg_value::{Entry, KindCode, Val};
+use indexmap::IndexMap;
+use std::alloc::{AllocError, Global};
+use std::marker::PhantomData;
+
+/// Dictionaries, each by its keys and values.
+pub type DictKind = BodySlab<Pairs<Dictionary>>;
+
+/// Instances of classes, each by its attributes.
+pub type InstKind = BodySlab<Pairs<Instance>>;
+
+/// A kind whose objects hold values under keys.
+pub trait Keyed: Drop {
+    ghost kind: { KindCode };
+
+    fn code() -> KindCode
+        ensures { result ≡ kind };
+
+    ghost keyed: { IsKeyed kind };
+}
+
+/// Stands for dictionaries.
+#[derive(Drop)]
+pub struct Dictionary;
+
+impl Keyed for Dictionary {
+    ghost use Rattle.std.specs.Prelude.{refl};
+    ghost use Rattle.std.proofs.Common.{inl};
+
+    ghost kind = { code.Dict };
+
+    ghost keyed = { inl refl };
+
+    fn code() -> KindCode {
+        KindCode::Dict
+    }
+}
+
+/// Stands for instances.
+#[derive(Drop)]
+pub struct Instance;
+
+impl Keyed for Instance {
+    ghost use Rattle.std.specs.Prelude.{refl};
+    ghost use Rattle.std.proofs.Common.{inr};
+
+    ghost kind = { code.Inst };
+
+    ghost keyed = { inr refl };
+
+    fn code() -> KindCode {
+        KindCode::Inst
+    }
+}
+
+/// Keys and their values, in the order in which the keys came.
+#[derive(Drop)]
+pub struct Pairs<K> {
+    pairs: IndexMap<Val, Val>,
+    of: PhantomData<K>,
+}
+
+impl<K: Keyed> Contents for Pairs<K> {
+    ghost kind = { K.kind };
+
+    ghost body = { λ p. pairs_body p.pairs };
+
+    fn code() -> KindCode {
+        K::code()
+    }
+
+    fn make(alloc: Global, parts: &[Entry]) -> Result<Self, AllocError> {
+        let _ = parts;
+        Ok(Pairs {
+            pairs: IndexMap::new(alloc),
+            of: PhantomData,
+        })
+    }
+
+    fn len(&self) -> usize {
+        self.pairs.len()
+    }
+
+    fn entry_at(&self, i: usize) -> Entry {
+        match self.pairs.get_index(i) {
+            Some((key, val)) => Entry {
+                key: *key,
+                val: *val,
+            },
+            None => unreachable!(),
+        }
+    }
+
+    fn find(&self, key: Val) -> Option<usize> {
+        self.pairs.get_index_of(&key)
+    }
+
+    fn put(&mut self, key: Val, val: Val) -> Result<Option<Val>, AllocError> {
+        let replaced = self.pairs.insert(key, val)?;
+        Ok(replaced)
+    }
+
+    fn take(&mut self, i: usize) -> Entry {
+        match self.pairs.shift_remove_index(i) {
+            Some((key, val)) => Entry { key, val },
+            None => unreachable!(),
+        }
+    }
+
+    fn detach(&mut self) -> Option<Entry> {
+        match self.pairs.pop() {
+            Some((key, val)) => Some(Entry { key, val }),
+            None => None,
+        }
+    }
+
+    fn reserve(&mut self, n: usize) -> Result<(), AllocError> {
+        let _ = n;
+        Ok(())
+    }
+
+    fn append_reserved(&mut self, val: Val) {
+        let _ = val;
+    }
+}
