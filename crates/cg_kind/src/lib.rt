@@ -8,9 +8,9 @@ ghost use Rattle.std.specs.Prelude.{◌≡◌, ◌≢◌, ◌<◌, ◌≤◌, �
 ghost use Rattle.std.specs.FinMap as fin;
 ghost use Rattle.cg_value.specs.declared.KindCode.{KindCode};
 ghost use Rattle.cg_value.specs.declared.KindCode.TheVariants as code;
-ghost use Rattle.cg_graph.specs.Value.{item};
+ghost use Rattle.cg_graph.specs.Value.{item, without_last};
 ghost use Rattle.cg_kind.specs.Bodies.{Bodies, Holds, entries_at, spare_at, with_body};
-ghost use Rattle.cg_kind.specs.Calls.{has_key, IsParts, CanPut, value_under, after_put, after_take, without_last, spare_after_leave};
+ghost use Rattle.cg_kind.specs.Calls.{has_key, IsParts, CanPut, value_under, after_put, after_take, spare_after_leave};
 
 use cg_value::{Entry, KindCode, Val};
 use std::alloc::AllocError;

@@ -2,9 +2,9 @@
 ghost use Rattle.std.specs.Prelude.{◌≡◌, ◌≢◌, ◌<◌, ◌≤◌, ◌-◌, ◌++◌, ◌∷◌, ◌↔◌, [], length, IfOk, OnOk, OnErr, IfSome, OnSome, IfNone, IsNone, IsSome, IsOk, Some, position, slice_get};
 ghost use Rattle.cg_value.specs.declared.KindCode.{KindCode};
 ghost use Rattle.cg_value.specs.declared.KindCode.TheVariants as code;
-ghost use Rattle.cg_graph.specs.Value.{item};
+ghost use Rattle.cg_graph.specs.Value.{item, without_last};
 ghost use Rattle.cg_kind.specs.Bodies.{Body, body_of};
-ghost use Rattle.cg_kind.specs.Calls.{has_key, IsParts, CanPut, value_under, after_put, after_take, without_last, spare_after_leave};
+ghost use Rattle.cg_kind.specs.Calls.{has_key, IsParts, CanPut, value_under, after_put, after_take, spare_after_leave};
 
 use cg_value::{Entry, KindCode, Val};
 use std::alloc::{AllocError, Global};
