@@ -1,6 +1,6 @@
 -- What the calls of a kind do to the entries and the spare of one object, by the code of the kind. (Ours, after what
 -- Python's lists, tuples and dictionaries do.)
-use Rattle.std.specs.Prelude.{◌≡◌, ℕ, ◌+◌, ◌-◌, ◌<◌, ◌≤◌, Bool, All, List, [], Option, None, length, slice_get, slice_set, option_map, remove, take, pos}
+use Rattle.std.specs.Prelude.{◌≡◌, ℕ, ◌+◌, ◌<◌, ◌≤◌, Bool, All, List, [], Option, None, length, slice_get, slice_set, option_map, remove, pos}
 use Rattle.cg_value.specs.declared.Val.{Val}
 use Rattle.cg_value.specs.declared.Val.TheVariants.{None as Nothing, Int}
 use Rattle.cg_value.specs.declared.Entry.{Entry}

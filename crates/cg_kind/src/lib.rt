@@ -17,7 +17,7 @@ use std::alloc::AllocError;
 
 /// A kind of objects: it keeps the entries of its objects, each at a place.
 ///
-/// Every call but `code` and `make` wants a place that holds an object. An entry that leaves is handed out, never dropped.
+/// Every call but `code` and `make` wants a place that holds an object. An entry that leaves is handed out.
 pub trait Kind: Drop {
     /// Which of the six kinds it is.
     ghost kind: { Self → KindCode };
@@ -31,8 +31,8 @@ pub trait Kind: Drop {
 
     /// Makes an object of these entries, and answers its place. It is refused only for want of memory.
     ///
-    /// Lists and tuples take any items, dictionaries and instances none, functions at most eight cells, weak references at
-    /// most one callback.
+    /// Lists and tuples take any items, dictionaries and instances none, functions at most eight cells, weak references
+    /// at most one callback.
     fn make(&mut self, parts: &[Entry]) -> Result<usize, AllocError>
         requires { IsParts (kind self.old) parts.now }
         ensures made { IfOk result (λ at. bodies self.new ≡
@@ -60,8 +60,8 @@ pub trait Kind: Drop {
     /// Puts a value at an index of a list, or under a key of a dictionary or an instance, and answers the value that it
     /// replaces. `Ok(None)` comes exactly for a new key, and a refusal only for one, for want of memory.
     ///
-    /// A present key keeps its place and its key, as in Python's dictionaries; a new one goes last. On a tuple, a function
-    /// or a weak reference it does nothing.
+    /// A present key keeps its place and its key, as in Python's dictionaries; a new one goes last. On a tuple, a
+    /// function or a weak reference it does nothing.
     fn put(&mut self, at: usize, key: Val, val: Val) -> Result<Option<Val>, AllocError>
         requires held { Holds (bodies self.old) at }
         requires can { CanPut (kind self.old) (entries_at (bodies self.old) at) key }
@@ -74,8 +74,8 @@ pub trait Kind: Drop {
         ensures err { OnErr result (bodies self.new ≡ bodies self.old) }
         ensures same_kind { kind self.new ≡ kind self.old };
 
-    /// Takes the entry at a position below the length out of a list, a dictionary or an instance; those after it move down
-    /// by one. An object of another kind keeps it.
+    /// Takes the entry at a position below the length out of a list, a dictionary or an instance; those after it move
+    /// down by one. An object of another kind keeps it.
     fn take(&mut self, at: usize, i: usize) -> Entry
         requires held { Holds (bodies self.old) at }
         requires within { i < length (entries_at (bodies self.old) at) }

@@ -1,7 +1,7 @@
 use Rattle.std.proofs.Common.{◌≡◌, ◌↔◌, [], ◌∷◌, ◌++◌}
 use Rattle.std.specs.Prelude.{IfSome, IsNone}
-use Rattle.cg_kind.specs.Bodies.{body_of}
 use Rattle.cg_graph.specs.Value.{without_last}
+use Rattle.cg_kind.specs.Bodies.{body_of}
 use Rattle.cg_kind.specs.Calls.{spare_after_leave}
 use Rattle.cg_kinds.proofs.PlaceLemmas.{holds-key, of_place, rewritten, kept, on_some_weaker, if_none_weaker}
 use Rattle.cg_kinds.proofs.body_slab.BodySlabKind.detach.Goals as goal
