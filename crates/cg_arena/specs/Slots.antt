@@ -46,9 +46,13 @@ abbrev pub after_in : Option Slot → Option ℕ
 after_in None = None
 after_in (Some c) = c.after
 
-abbrev pub serial_in : Option Slot → ℕ
-serial_in None = 0
-serial_in (Some c) = c.serial
+abbrev pub serial_in : Option Slot → Option ℕ
+serial_in None = None
+serial_in (Some c) = Some c.serial
+
+abbrev pub place_in_slot : Option Slot → Option Place
+place_in_slot None = None
+place_in_slot (Some c) = Some c.place
 
 -- a vacant slot has no node: what is said of it there never matters
 abbrev pub node_in : Option Slot → ArenaNode

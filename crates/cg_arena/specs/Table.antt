@@ -1,5 +1,5 @@
 -- What the fields of an arena stand for, and what is true of them.
-use Rattle.std.specs.Prelude.{◌≡◌, ℕ, ◌+◌, ◌-◌, ◌<◌, ◌^◌, ◌==◌, List, [], ◌∷◌, map, length, sum_by, min, nat_eq, Option, Some, None, slice_index_or, if◌then◌else◌}
+use Rattle.std.specs.Prelude.{◌≡◌, ℕ, ◌+◌, ◌-◌, ◌<◌, ◌^◌, ◌==◌, List, [], ◌∷◌, map, length, sum_by, min, nat_eq, unwrap_or, Option, Some, None, slice_index_or, if◌then◌else◌}
 use Rattle.std.specs.Ordering.{nat_cmp}
 use Rattle.std.specs.FinMap as fin
 use Rattle.std.specs.Map.{lookup}
@@ -8,8 +8,9 @@ use Rattle.cg_graph.specs.Holdings.{occurrences}
 use Rattle.cg_graph.specs.Places.{place_number}
 use Rattle.cg_arena.specs.declared.slot.Slot.{Slot}
 use Rattle.cg_arena.specs.declared.ends.Ends.{Ends}
-use Rattle.cg_arena.specs.Nodes.{ArenaNode, IsPlace, stands}
-use Rattle.cg_arena.specs.Slots.{serial_in, node_in, node_of}
+use Rattle.cg_value.specs.declared.Place.{Place}
+use Rattle.cg_arena.specs.Nodes.{ArenaNode, IsPlace}
+use Rattle.cg_arena.specs.Slots.{serial_in, place_in_slot, node_in}
 use Rattle.cg_arena.specs.Links.{chain_from, IsLinked, ends_of, no_ends}
 
 -- the nodes of the rows: each row names the slot of a serial
@@ -18,30 +19,33 @@ nodes_of rows s = fin.from_entries (map (λ e. (e.0, node_in (get s e.1))) rows)
 
 -- the serials of the list between two ends
 unfoldable pub serials_of : Slab Slot → Ends → List ℕ
-serials_of s e = map (λ k. serial_in (get s k)) (chain_from s e.size e.first)
+serials_of s e = map (λ k. unwrap_or (serial_in (get s k)) 0) (chain_from s e.size e.first)
 
 -- how many nodes fit without memory: both tables need room
 abbrev pub room_of : ℕ → Slab Slot → ℕ
 room_of spare s = min spare (s.capacity - slab_len s)
 
--- 1 where the slot stands in the place with this number, unless it is the one that stands in no list just now
-abbrev pub stands_at : Option ℕ → ℕ → ℕ → Option Slot → ℕ
-stands_at loose p k None = 0
-stands_at None p k (Some c) = if place_number c.place == p then 1 else 0
-stands_at (Some l) p k (Some c) = if k == l then 0 else if place_number c.place == p then 1 else 0
+-- 1 where a place has this number
+abbrev pub is_numbered : ℕ → Option Place → ℕ
+is_numbered p None = 0
+is_numbered p (Some q) = if place_number q == p then 1 else 0
 
--- the chain of each place, by its number: its links go both ways, its ends and its size are right, and each slot stands once in
--- the chain of its place and in no other
+-- the same, but 0 for the slot that stands in no list just now
+abbrev pub stands_at : Option ℕ → ℕ → ℕ → Option Place → ℕ
+stands_at None p k at = is_numbered p at
+stands_at (Some loose) p k at = if k == loose then 0 else is_numbered p at
+
+-- The chain of each place, by its number: its links go both ways, its ends and its size are right, and each slot stands
+-- once in the chain of its place and in no other.
 pub record IsSpelled (cell : ℕ → Option Slot) (ends : ℕ → Ends) (chain : ℕ → List ℕ) (loose : Option ℕ) : Type 0 where
   pub linked : (p : ℕ) → p < 10 → IsLinked cell None (chain p) None
   pub ended : (p : ℕ) → p < 10 → ends p ≡ ends_of (chain p)
-  pub standing : (p k : ℕ) → p < 10 → occurrences k (chain p) ≡ stands_at loose p k (cell k)
+  pub standing : (p k : ℕ) → p < 10 → occurrences k (chain p) ≡ stands_at loose p k (place_in_slot (cell k))
 
 -- each slot is named by the row of its serial, and each row names a slot with its serial
-pub record IsNamed (cell : ℕ → Option Slot) (row : ℕ → Option ℕ) : Type 0 where
-  pub named : (k : ℕ) (c : Slot) → cell k ≡ Some c → row c.serial ≡ Some k
-  pub rowed : (s k : ℕ) → row s ≡ Some k → (c : Slot) × (cell k ≡ Some c) × (c.serial ≡ s)
-  pub placed : (k : ℕ) (c : Slot) → cell k ≡ Some c → IsPlace c.place
+pub record IsNamed (serial row : ℕ → Option ℕ) : Type 0 where
+  pub named : (k s : ℕ) → serial k ≡ Some s → row s ≡ Some k
+  pub rowed : (s k : ℕ) → row s ≡ Some k → serial k ≡ Some s
 
 -- the ends at a number
 abbrev pub ends_at : List Ends → ℕ → Ends
@@ -56,6 +60,7 @@ pub record IsSound (slots : Slab Slot) (ends : List Ends) (rows : List (ℕ × �
   pub ten : length ends ≡ 10
   pub chain : ℕ → List ℕ
   pub spelled : IsSpelled (get slots) (ends_at ends) chain None
-  pub names : IsNamed (get slots) (row_of rows)
+  pub names : IsNamed (λ k. serial_in (get slots k)) (row_of rows)
+  pub placed : (k : ℕ) (p : Place) → place_in_slot (get slots k) ≡ Some p → IsPlace p
   pub counted : sum_by (λ e. e.size) ends ≡ slab_len slots
   pub few : slab_len slots < 2 ^ 64

@@ -110,7 +110,7 @@ pub fn place_all(slots: &mut Slab<Slot>, first: Option<usize>, size: u64, place:
     ensures { slots.new ≡ all_placed (chain_from slots.old size first) place slots.old }
 {
     let mut at = first;
-    'nodes: for _ in 0..size {
+    'nodes: for _done in 0..size {
         at = place_one(slots, at, place);
     }
 }
