@@ -6,3 +6,5 @@ pub mod EndsLemmas
 pub mod Spelled
 pub mod Merged
 pub mod Rows
+pub mod Lists
+pub mod Shapes
