@@ -8,3 +8,4 @@ pub mod Merged
 pub mod Rows
 pub mod Lists
 pub mod Shapes
+pub mod Sound

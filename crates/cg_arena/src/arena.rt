@@ -66,13 +66,14 @@ fn number_of(place: Place) -> usize
     }
 }
 
-/// The slot of a serial.
-fn slot_of(rows: &IndexMap<u64, usize>, serial: u64) -> Option<usize>
-    ensures { result ≡ lookup (nat_eq serial) rows.now.entries }
+/// The slot of a serial that has a row.
+fn slot_of(rows: &IndexMap<u64, usize>, serial: u64) -> usize
+    requires { IsSome (lookup (nat_eq serial) rows.now.entries) }
+    ensures { lookup (nat_eq serial) rows.now.entries ≡ Some result }
 {
     match rows.get(&serial) {
-        Some(slot) => Some(*slot),
-        None => None,
+        Some(slot) => *slot,
+        None => unreachable!(),
     }
 }
 
@@ -192,14 +193,13 @@ impl Arena {
         ensures drops { self.new ≡ without_node serial (record self.old { room = self.new.room }) }
         ensures room { self.old.room ≤ self.new.room }
     {
-        if let Some(at) = slot_of(&self.rows, serial) {
-            let slot = slot_at(&self.slots, at);
-            let from = number_of(slot.place);
-            tie(&mut self.slots, slot.before(), slot.after);
-            self.ends[from] = self.ends[from].without(slot.before(), slot.after);
-            self.slots.remove(at);
-            remove_row(&mut self.rows, serial);
-        }
+        let at = slot_of(&self.rows, serial);
+        let slot = slot_at(&self.slots, at);
+        let from = number_of(slot.place);
+        tie(&mut self.slots, slot.before(), slot.after);
+        self.ends[from] = self.ends[from].without(slot.before(), slot.after);
+        self.slots.remove(at);
+        remove_row(&mut self.rows, serial);
     }
 
     /// The count rises by 1. It is below 2^32 - 1 before.
@@ -208,10 +208,9 @@ impl Arena {
         requires room { count_at self.old serial < 2 ^ 32 - 1 }
         ensures { self.new ≡ counted_up (serial ∷ []) self.old }
     {
-        if let Some(at) = slot_of(&self.rows, serial) {
-            let count = slot_at(&self.slots, at).count + 1;
-            set_count(&mut self.slots, at, count);
-        }
+        let at = slot_of(&self.rows, serial);
+        let count = slot_at(&self.slots, at).count + 1;
+        set_count(&mut self.slots, at, count);
     }
 
     /// The count, which is above 0, falls by 1. It answers whether the count is now 0.
@@ -220,21 +219,17 @@ impl Arena {
         ensures falls { self.new ≡ counted_down (serial ∷ []) self.old }
         ensures none { IsTrue result ↔ (count_at self.new serial ≡ 0) }
     {
-        match slot_of(&self.rows, serial) {
-            Some(at) => {
-                let count = slot_at(&self.slots, at).count - 1;
-                set_count(&mut self.slots, at, count);
-                count == 0
-            }
-            None => unreachable!(),
-        }
+        let at = slot_of(&self.rows, serial);
+        let count = slot_at(&self.slots, at).count - 1;
+        set_count(&mut self.slots, at, count);
+        count == 0
     }
 
     /// Whether there is a node with this serial.
     pub fn has(&self, serial: u64) -> bool
         ensures { IsTrue result ↔ HasNode self.now serial }
     {
-        slot_of(&self.rows, serial).is_some()
+        self.rows.contains_key(&serial)
     }
 
     /// The node of a serial, in its slot.
@@ -242,10 +237,8 @@ impl Arena {
         requires { HasNode self.now serial }
         ensures { map.get self.now.nodes serial ≡ Some (node_of result) }
     {
-        match slot_of(&self.rows, serial) {
-            Some(at) => slot_at(&self.slots, at),
-            None => unreachable!(),
-        }
+        let at = slot_of(&self.rows, serial);
+        slot_at(&self.slots, at)
     }
 
     /// The count.
@@ -309,9 +302,8 @@ impl Arena {
         requires { HasNode self.old serial }
         ensures { self.new ≡ with_node_changed node_finalized serial self.old }
     {
-        if let Some(at) = slot_of(&self.rows, serial) {
-            mark_finalized(&mut self.slots, at);
-        }
+        let at = slot_of(&self.rows, serial);
+        mark_finalized(&mut self.slots, at);
     }
 
     /// Gives the node another collector's number.
@@ -319,9 +311,8 @@ impl Arena {
         requires { HasNode self.old serial }
         ensures { self.new ≡ with_node_changed (node_numbered number) serial self.old }
     {
-        if let Some(at) = slot_of(&self.rows, serial) {
-            set_number(&mut self.slots, at, number);
-        }
+        let at = slot_of(&self.rows, serial);
+        set_number(&mut self.slots, at, number);
     }
 
     /// The node goes to the end of the list of a place, which may be its own.
@@ -330,17 +321,16 @@ impl Arena {
         requires place { IsPlace place }
         ensures { self.new ≡ with_node_moved serial place self.old }
     {
-        if let Some(at) = slot_of(&self.rows, serial) {
-            let slot = slot_at(&self.slots, at);
-            let from = number_of(slot.place);
-            let to = number_of(place);
-            tie(&mut self.slots, slot.before(), slot.after);
-            self.ends[from] = self.ends[from].without(slot.before(), slot.after);
-            set_place(&mut self.slots, at, place);
-            set_after(&mut self.slots, Some(at), None);
-            tie(&mut self.slots, self.ends[to].last, Some(at));
-            self.ends[to] = self.ends[to].joined(Ends::one(at));
-        }
+        let at = slot_of(&self.rows, serial);
+        let slot = slot_at(&self.slots, at);
+        let from = number_of(slot.place);
+        let to = number_of(place);
+        tie(&mut self.slots, slot.before(), slot.after);
+        self.ends[from] = self.ends[from].without(slot.before(), slot.after);
+        set_place(&mut self.slots, at, place);
+        set_after(&mut self.slots, Some(at), None);
+        tie(&mut self.slots, self.ends[to].last, Some(at));
+        self.ends[to] = self.ends[to].joined(Ends::one(at));
     }
 
     /// All nodes of one place go to the end of the list of another, in their order.
