@@ -9,3 +9,6 @@ pub mod Rows
 pub mod Lists
 pub mod Shapes
 pub mod Sound
+pub mod Lookups
+pub mod Sizes
+pub mod Adds

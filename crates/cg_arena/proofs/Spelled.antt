@@ -10,7 +10,7 @@ use Rattle.cg_arena.specs.declared.ends.Ends.{Ends}
 use Rattle.cg_arena.specs.Slots.{before_in, after_in, place_in_slot}
 use Rattle.cg_arena.specs.Links.{IsLinked, first_or, last_or, ends_of, ends_without, ends_joined, one_end, no_ends}
 use Rattle.cg_arena.specs.Table.{is_numbered, stands_at, IsSpelled}
-use Rattle.cg_arena.proofs.Standing.{one, one-same, one-apart, occurrences-cons, occurrences-append, occurrences-single, IsBetween, stands_between, without-absent, without-between, occurrences-without_same, occurrences-without_other}
+use Rattle.cg_arena.proofs.Standing.{last_of-stands, first-stands, one, one-same, one-apart, occurrences-cons, occurrences-append, occurrences-single, IsBetween, stands_between, without-absent, without-between, occurrences-without_same, occurrences-without_other}
 use Rattle.cg_arena.proofs.Chains.{HasLinks, linked_still, linked_front, linked_back, IsTied, tied_chain, tied_elsewhere}
 use Rattle.cg_arena.proofs.EndsLemmas.{ends-without, ends-joined}
 
@@ -64,6 +64,23 @@ module _ (cell : ℕ → Option Slot) (ends : ℕ → Ends) (chain : ℕ → Lis
   -- a slot in a chain has the place
   pub stands_placed : (p j : ℕ) → p < 10 → 0 < occurrences j (chain p) → is_numbered p (place_in_slot (cell j)) ≡ 1
   stands_placed p j below stands = omega (arith, stands, spelled.standing p j below, once_at loose p j (place_in_slot (cell j)), numbered_once p (place_in_slot (cell j)))
+
+-- the neighbours of a slot stand in its chain
+module _ (cell : ℕ → Option Slot) (ends : ℕ → Ends) (chain : ℕ → List ℕ) (loose : Option ℕ) (spelled : IsSpelled cell ends chain loose) (k p : ℕ) (below : p < 10) (stood : 0 < occurrences k (chain p)) where
+  parts : IsBetween k (chain p)
+  parts = stands_between k (chain p) stood
+
+  around : IsLinked cell (last_or None parts.front) (k ∷ parts.back) None
+  around = linked_back cell None parts.front (k ∷ parts.back) None (subst (λ ks. IsLinked cell None ks None) parts.is (spelled.linked p below))
+
+  in_parts : (j : ℕ) → occurrences j (chain p) ≡ occurrences j parts.front + (one j k + occurrences j parts.back)
+  in_parts j = ap (occurrences j) parts.is ∙ occurrences-append j parts.front (k ∷ parts.back) ∙ ap (λ n. occurrences j parts.front + n) (occurrences-cons j k parts.back)
+
+  pub before_stands : (j : ℕ) → before_in (cell k) ≡ Some j → 0 < occurrences j (chain p)
+  before_stands j is = omega (arith, in_parts j, last_of-stands parts.front j (sym around.0 ∙ is))
+
+  pub after_stands : (j : ℕ) → after_in (cell k) ≡ Some j → 0 < occurrences j (chain p)
+  after_stands j is = omega (arith, in_parts j, first-stands parts.back j (sym around.1 ∙ is))
 
 -- a slot leaves its chain
 module _ (cell new : ℕ → Option Slot) (ends later : ℕ → Ends) (chain : ℕ → List ℕ) (spelled : IsSpelled cell ends chain None) (k p : ℕ) (place : Place) (below : p < 10) (place_is : place_in_slot (cell k) ≡ Some place) (number_is : place_number place ≡ p) (tie : IsTied cell new (before_in (cell k)) (after_in (cell k))) (places : (j : ℕ) → place_in_slot (new j) ≡ place_in_slot (cell j)) (there : later p ≡ ends_without (before_in (cell k)) (after_in (cell k)) (ends p)) (elsewhere : (r : ℕ) → r ≢ p → later r ≡ ends r) where

@@ -362,7 +362,8 @@ impl Arena {
         requires { HasNode self.now serial }
         ensures { result ≡ following serial (list_at self.now (place_at self.now serial)) }
     {
-        serial_at(&self.slots, self.node(serial).after)
+        let at = slot_of(&self.rows, serial);
+        serial_at(&self.slots, slot_at(&self.slots, at).after)
     }
 
     /// How many nodes stand in a place.
