@@ -1,6 +1,6 @@
 -- The fields once a node is added.
 use Rattle.std.proofs.Common.{◌≡◌, ◌≢◌, ℕ, ◌+◌, ◌-◌, ◌<◌, ◌≤◌, ◌^◌, Bool, true, false, List, [], ◌∷◌, map, length, Option, Some, None, cond, refl, sym, ap, ◌∙◌, subst, inl, inr, arith}
-use Rattle.std.specs.Prelude.{option_map, is_some, IsSome, nat_eq, unwrap_or, slice_set, if◌then◌else◌}
+use Rattle.std.specs.Prelude.{option_map, is_some, IsSome, nat_eq, unwrap_or, slice_set, min, if◌then◌else◌}
 use Rattle.std.proofs.lemmas.Bool.{cases_eq, eq-eqb, ne_eqb}
 use Rattle.std.proofs.lemmas.List.{length-map, length-set}
 use Rattle.std.specs.Ordering.{nat_cmp}
@@ -167,3 +167,8 @@ module _ (s mid new : Slab Slot) (ends : List Ends) (rows later : List (ℕ × �
 
   pub added_view : (left : ℕ) → value_of new (slice_set ends q e) later left ≡ with_node t n (record v { room = room_of left new })
   added_view left = λ i. record { nodes = nodes_are i; lists = lists_are i; room = room_of left new }
+
+  pub added_room : (left : ℕ) → mid.capacity ≡ s.capacity → spare ≤ left + 1 → v.room ≤ room_of left new + 1
+  added_room left capacity used =
+      let was : v.room ≡ min spare (s.capacity - slab_len s) = ap (λ (w : Nodes). w.room) (sym view_is) in
+      omega (arith, was, capacity, used, len, shape.len, shape.capacity)

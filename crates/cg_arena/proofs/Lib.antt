@@ -12,3 +12,5 @@ pub mod Sound
 pub mod Lookups
 pub mod Sizes
 pub mod Adds
+pub mod Drops
+pub mod Moves

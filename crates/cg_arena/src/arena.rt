@@ -195,9 +195,10 @@ impl Arena {
     {
         let at = slot_of(&self.rows, serial);
         let slot = slot_at(&self.slots, at);
+        let before = slot.before();
         let from = number_of(slot.place);
-        tie(&mut self.slots, slot.before(), slot.after);
-        self.ends[from] = self.ends[from].without(slot.before(), slot.after);
+        tie(&mut self.slots, before, slot.after);
+        self.ends[from] = self.ends[from].without(before, slot.after);
         self.slots.remove(at);
         remove_row(&mut self.rows, serial);
     }
@@ -323,10 +324,11 @@ impl Arena {
     {
         let at = slot_of(&self.rows, serial);
         let slot = slot_at(&self.slots, at);
+        let before = slot.before();
         let from = number_of(slot.place);
         let to = number_of(place);
-        tie(&mut self.slots, slot.before(), slot.after);
-        self.ends[from] = self.ends[from].without(slot.before(), slot.after);
+        tie(&mut self.slots, before, slot.after);
+        self.ends[from] = self.ends[from].without(before, slot.after);
         set_place(&mut self.slots, at, place);
         set_after(&mut self.slots, Some(at), None);
         tie(&mut self.slots, self.ends[to].last, Some(at));

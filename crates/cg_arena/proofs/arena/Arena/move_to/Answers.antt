@@ -1,0 +1,52 @@
+use Rattle.std.proofs.Common.{ap, ◌∙◌}
+use Rattle.std.specs.Prelude.{slice_set}
+use Rattle.indexmap.specs.IndexMap.{spare}
+use Rattle.cg_arena.specs.Links.{tied, ends_without, ends_joined}
+use Rattle.cg_arena.specs.Table.{ends_at}
+use Rattle.cg_arena.proofs.Sound.{row_there, slot_there, slot_placed}
+use Rattle.cg_arena.proofs.Drops.{size_there}
+use Rattle.cg_arena.proofs.Moves.{room_for_one, moved_sound, moved_view}
+use Rattle.cg_arena.proofs.arena.Arena.move_to.Goals as goal
+
+pub slot_of-at-requires : goal.slot_of-at-requires
+slot_of-at-requires c = row_there c.self.inside.slots c.self.inside.ends c.self.inside.rows.entries (spare c.self.inside.rows) c.args.self.now c.self.view_is c.args.serial c.requires.has
+
+pub slot_at-slot-requires : goal.slot_at-slot-requires
+slot_at-slot-requires c = slot_there c.self.inside.slots c.self.inside.ends c.self.inside.rows.entries c.self.invariant c.args.serial c.slot_of-at.result c.slot_of-at.ensures
+
+pub number_of-from-requires : goal.number_of-from-requires
+number_of-from-requires c = slot_placed c.self.inside.slots c.self.inside.ends c.self.inside.rows.entries c.self.invariant c.slot_of-at.result c.slot_at-slot.result c.slot_at-slot.ensures
+
+pub without-requires : goal.without-requires
+without-requires c =
+    size_there c.self.inside.slots c.tie.new.slots c.self.inside.ends c.self.inside.rows.entries c.self.invariant c.args.serial c.slot_of-at.result c.slot_at-slot.result c.slot_of-at.ensures c.slot_at-slot.ensures
+    c.number_of-from.result c.number_of-from.ensures.number c.number_of-from.ensures.below
+    (c.tie.ensures ∙ ap (λ b. tied b c.slot_at-slot.result.after c.self.inside.slots) c.before-before.ensures)
+
+pub joined-requires : goal.joined-requires
+joined-requires c =
+    ?
+
+pub invariant_of-self : goal.invariant_of-self
+invariant_of-self c =
+    moved_sound c.self.inside.slots c.tie.new.slots c.set_place.new.slots c.set_after.new.slots c.tie-2.new.slots c.self.inside.ends c.self.inside.rows.entries c.self.invariant (spare c.self.inside.rows) c.args.self.now c.self.view_is
+    c.args.serial c.slot_of-at.result c.slot_at-slot.result c.slot_of-at.ensures c.slot_at-slot.ensures
+    c.number_of-from.result c.number_of-from.ensures.number c.number_of-from.ensures.below
+    (c.tie.ensures ∙ ap (λ b. tied b c.slot_at-slot.result.after c.self.inside.slots) c.before-before.ensures)
+    c.without.result
+    (c.without.ensures ∙ ap (λ b. ends_without b c.slot_at-slot.result.after (ends_at c.self.inside.ends c.number_of-from.result)) c.before-before.ensures)
+    c.args.place c.set_place.ensures c.set_after.ensures c.number_of-to.result c.number_of-to.ensures.number c.number_of-to.ensures.below
+    c.tie-2.ensures c.joined.result
+    (c.joined.ensures ∙ ap (ends_joined (ends_at (slice_set c.self.inside.ends c.number_of-from.result c.without.result) c.number_of-to.result)) c.one.ensures)
+
+pub returns : goal.returns
+returns c =
+    moved_view c.self.inside.slots c.tie.new.slots c.set_place.new.slots c.set_after.new.slots c.tie-2.new.slots c.self.inside.ends c.self.inside.rows.entries c.self.invariant (spare c.self.inside.rows) c.args.self.now c.self.view_is
+    c.args.serial c.slot_of-at.result c.slot_at-slot.result c.slot_of-at.ensures c.slot_at-slot.ensures
+    c.number_of-from.result c.number_of-from.ensures.number c.number_of-from.ensures.below
+    (c.tie.ensures ∙ ap (λ b. tied b c.slot_at-slot.result.after c.self.inside.slots) c.before-before.ensures)
+    c.without.result
+    (c.without.ensures ∙ ap (λ b. ends_without b c.slot_at-slot.result.after (ends_at c.self.inside.ends c.number_of-from.result)) c.before-before.ensures)
+    c.args.place c.set_place.ensures c.set_after.ensures c.number_of-to.result c.number_of-to.ensures.number c.number_of-to.ensures.below
+    c.tie-2.ensures c.joined.result
+    (c.joined.ensures ∙ ap (ends_joined (ends_at (slice_set c.self.inside.ends c.number_of-from.result c.without.result) c.number_of-to.result)) c.one.ensures)
