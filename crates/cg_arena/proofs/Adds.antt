@@ -45,7 +45,7 @@ pub last_there : (cell : ℕ → Option Slot) (ends : ℕ → Ends) (chain : ℕ
 last_there cell ends chain loose spelled q below j is =
     some_numbered q (cell j)
     (stands_placed cell ends chain loose spelled q j below
-      (last_of-stands (chain q) j (sym (ap (λ (e : Ends). e.last) (spelled.ended q below)) ∙ is)))
+    (last_of-stands (chain q) j (sym (ap (λ (e : Ends). e.last) (spelled.ended q below)) ∙ is)))
 
 module _ (s mid new : Slab Slot) (ends : List Ends) (rows later : List (ℕ × ℕ)) (sound : IsSound s ends rows) (spare : ℕ) (v : Nodes) (view_is : value_of s ends rows spare ≡ v) (t k : ℕ) (c : Slot) (n : ArenaNode) (node_is : node_of c ≡ n) (serial_is : c.serial ≡ t) (after_is : c.after ≡ None) (fresh : fin.get v.nodes t ≡ None) (vacant : get s k ≡ None) (updates : Updates s mid k (Some c)) (len : slab_len mid ≡ slab_len s + 1) (few : slab_len mid < 2 ^ 64) (rows_are : (q : ℕ) → row_of later q ≡ (if nat_eq t q then Some k else row_of rows q)) (q : ℕ) (q_is : q ≡ place_number n.place) (below : q < 10) (tied_is : new ≡ tied (ends_at ends q).last (Some k) mid) (e : Ends) (ends_are : e ≡ ends_joined (ends_at ends q) (one_end k)) where
   no_row : row_of rows t ≡ None
@@ -68,8 +68,8 @@ module _ (s mid new : Slab Slot) (ends : List Ends) (rows later : List (ℕ × �
   tie =
       subst (λ z. IsTied (get mid) (get z) (ends_at ends q).last (Some k)) (sym tied_is)
       (get-tied (ends_at ends q).last (Some k) mid
-        (last_there (get mid) (ends_at ends) sound.chain (Some k) loose q below)
-        (λ j is. let same : k ≡ j = cc in ap (λ i. is_some (get mid i)) (sym same) ∙ ap is_some updates.changed))
+      (last_there (get mid) (ends_at ends) sound.chain (Some k) loose q below)
+      (λ j is. let same : k ≡ j = cc in ap (λ i. is_some (get mid i)) (sym same) ∙ ap is_some updates.changed))
 
   shape : SameShape mid new
   shape = subst (SameShape mid) (sym tied_is) (shape-tied (ends_at ends q).last (Some k) mid)
@@ -155,15 +155,15 @@ module _ (s mid new : Slab Slot) (ends : List Ends) (rows later : List (ℕ × �
   lists_are =
       let old_ten = lists_ten s ends rows spare v view_is sound in
       let old_are = λ (r : ℕ) (r_below : r < 10). let f : list_of v.lists r ≡ serials new (sound.chain r) =
-          list_is s ends rows spare v view_is sound r r_below
-          ∙ sym (serials-same s new (sound.chain r) (λ j stands. serial_there j (λ same. absurd (omega (arith, stands, absent_before r r_below, ap (λ i. occurrences i (sound.chain r)) same))))) in f in
+      list_is s ends rows spare v view_is sound r r_below
+      ∙ sym (serials-same s new (sound.chain r) (λ j stands. serial_there j (λ same. absurd (omega (arith, stands, absent_before r r_below, ap (λ i. occurrences i (sound.chain r)) same))))) in f in
       ten_lists (map (serials_of new) (slice_set ends q e)) (joins_list v.lists t (place_number n.place))
       (length-map (slice_set ends q e) (serials_of new) ∙ length-set ends q e ∙ sound.ten)
       (length-set v.lists (place_number n.place) _ ∙ old_ten)
       (λ r r_below.
-        list-at new (slice_set ends q e) (appended_at q (k ∷ []) sound.chain) None (length-set ends q e ∙ sound.ten) added_spelled r r_below
-        ∙ sym (lists-joined new v.lists sound.chain old_ten old_are t k q (ap (λ o. unwrap_or o 0) serial_here) below r r_below)
-        ∙ ap (λ p. list_of (joins_list v.lists t p) r) q_is)
+      list-at new (slice_set ends q e) (appended_at q (k ∷ []) sound.chain) None (length-set ends q e ∙ sound.ten) added_spelled r r_below
+      ∙ sym (lists-joined new v.lists sound.chain old_ten old_are t k q (ap (λ o. unwrap_or o 0) serial_here) below r r_below)
+      ∙ ap (λ p. list_of (joins_list v.lists t p) r) q_is)
 
   pub added_view : (left : ℕ) → value_of new (slice_set ends q e) later left ≡ with_node t n (record v { room = room_of left new })
   added_view left = λ i. record { nodes = nodes_are i; lists = lists_are i; room = room_of left new }

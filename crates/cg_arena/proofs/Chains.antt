@@ -57,16 +57,15 @@ relast cell new before (k ∷ []) old after once befores afters at_last linked =
 relast cell new before (k ∷ l ∷ ks) old after once befores afters at_last linked =
     let stands : 0 < occurrences k (k ∷ l ∷ ks) = omega (arith, occurrences-cons k k (l ∷ ks), one-same k k refl) in
     let later = λ (j : ℕ) (h : 0 < occurrences j (l ∷ ks)). let here : 0 < occurrences j (k ∷ l ∷ ks) = omega (arith, h, occurrences-cons j k (l ∷ ks)) in here in
-    let inner : last_or (Some k) (l ∷ ks) ≢ Some k = λ is. absurd (omega (arith, last-stands (Some k) l ks k is, once k, occurrences-cons k k (l ∷ ks), one-same k k refl)) in
-    (
+    let inner : last_or (Some k) (l ∷ ks) ≢ Some k = λ is. absurd (omega (arith, last-stands (Some k) l ks k is, once k, occurrences-cons k k (l ∷ ks), one-same k k refl)) in (
       befores k stands ∙ linked.0,
       afters k stands inner ∙ linked.1,
       relast cell new (Some k) (l ∷ ks) old after
-      (λ j. omega (arith, once j, occurrences-cons j k (l ∷ ks)))
-      (λ j h. befores j (later j h))
-      (λ j h. afters j (later j h))
-      (λ j h. at_last j (later j h))
-      linked.2
+          (λ j. omega (arith, once j, occurrences-cons j k (l ∷ ks)))
+          (λ j h. befores j (later j h))
+          (λ j h. afters j (later j h))
+          (λ j h. at_last j (later j h))
+          linked.2,
     )
 
 -- two slots, each of which may be missing, now name each other, and no other link has changed
@@ -93,16 +92,15 @@ module _ (cell new : ℕ → Option Slot) (ks ls : List ℕ) (old : Option ℕ) 
       let first_is : first_or ls None ≡ Some m = sym (ap (λ xs. first_or xs None) is) in
       let stands : 0 < occurrences m ls = first-stands ls m first_is in
       let counted = λ (j : ℕ). let e : occurrences j ls ≡ one j m + occurrences j ms = sym (ap (occurrences j) is) ∙ occurrences-cons j m ms in e in
-      let not_last = λ (j : ℕ) (h : 0 < occurrences j ls). let e : last_or None ks ≢ Some j = λ is. absurd (omega (arith, h, last_of-stands ks j is, once j)) in e in
-      (
+      let not_last = λ (j : ℕ) (h : 0 < occurrences j ls). let e : last_or None ks ≢ Some j = λ is. absurd (omega (arith, h, last_of-stands ks j is, once j)) in e in (
         is_tied.last m first_is,
         is_tied.afters m (not_last m stands) ∙ linked.1,
         linked_still cell new (Some m) ms None
-        (λ j h.
-          let among : 0 < occurrences j ls = omega (arith, h, counted j) in
-          let apart : m ≢ j = λ same. absurd (omega (arith, h, once j, counted j, one-same j m same)) in
-          (is_tied.befores j (λ e. apart (let same : m ≡ j = cc in same)), is_tied.afters j (not_last j among)))
-        linked.2
+            (λ j h.
+            let among : 0 < occurrences j ls = omega (arith, h, counted j) in
+            let apart : m ≢ j = λ same. absurd (omega (arith, h, once j, counted j, one-same j m same)) in
+            (is_tied.befores j (λ e. apart (let same : m ≡ j = cc in same)), is_tied.afters j (not_last j among)))
+            linked.2,
       )
 
   pub tied_chain : IsLinked cell None ks old → IsLinked cell gone ls None → IsLinked new None (ks ++ ls) None
@@ -114,6 +112,6 @@ module _ (cell new : ℕ → Option Slot) (ks ls : List ℕ) (old : Option ℕ) 
       linked_still cell new None ms after
       (λ j h. (
         is_tied.befores j (λ is. absurd (omega (arith, apart j h, first-stands ls j is))),
-        is_tied.afters j (λ is. absurd (omega (arith, apart j h, last_of-stands ks j is)))
+        is_tied.afters j (λ is. absurd (omega (arith, apart j h, last_of-stands ks j is))),
       ))
       linked

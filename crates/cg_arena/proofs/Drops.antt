@@ -51,8 +51,8 @@ module _ (s new : Slab Slot) (ends : List Ends) (rows : List (ℕ × ℕ)) (soun
   leaving_tie =
       subst (λ z. IsTied (get s) (get z) c.before c.after) (sym tied_is)
       (get-tied c.before c.after s
-        (λ j is. neighbour j (before_stands (get s) (ends_at ends) sound.chain None sound.spelled k p below (omega (arith, stood)) j (before_is ∙ is)))
-        (λ j is. neighbour j (after_stands (get s) (ends_at ends) sound.chain None sound.spelled k p below (omega (arith, stood)) j (after_is ∙ is))))
+      (λ j is. neighbour j (before_stands (get s) (ends_at ends) sound.chain None sound.spelled k p below (omega (arith, stood)) j (before_is ∙ is)))
+      (λ j is. neighbour j (after_stands (get s) (ends_at ends) sound.chain None sound.spelled k p below (omega (arith, stood)) j (after_is ∙ is))))
 
   pub left_shape : SameShape s new
   left_shape = subst (SameShape s) (sym tied_is) (shape-tied c.before c.after s)
@@ -93,9 +93,9 @@ module _ (s mid new : Slab Slot) (ends : List Ends) (rows later : List (ℕ × �
   dropped_spelled =
       loose_vacant (get new) (ends_at (slice_set ends p e)) (λ r. without_serial k (sound.chain r)) k updates.changed
       (loose_spelled (get mid) (get new) (ends_at (slice_set ends p e)) (λ r. without_serial k (sound.chain r)) k
-        (left_spelled s mid ends rows sound t k c row_is slot_is p p_is below tied_is e ends_are)
-        (λ j differs. (ap before_in (others j differs), ap after_in (others j differs)))
-        (λ j differs. ap place_in_slot (others j differs)))
+      (left_spelled s mid ends rows sound t k c row_is slot_is p p_is below tied_is e ends_are)
+      (λ j differs. (ap before_in (others j differs), ap after_in (others j differs)))
+      (λ j differs. ap place_in_slot (others j differs)))
 
   serial_here : serial_in (get new k) ≡ None
   serial_here = ap serial_in updates.changed
@@ -166,12 +166,12 @@ module _ (s mid new : Slab Slot) (ends : List Ends) (rows later : List (ℕ × �
       (length-map (slice_set ends p e) (serials_of new) ∙ length-set ends p e ∙ sound.ten)
       (length-set v.lists p (without_serial t (list_of v.lists p)) ∙ old_ten)
       (λ r r_below.
-        list-at new (slice_set ends p e) (λ q. without_serial k (sound.chain q)) None (length-set ends p e ∙ sound.ten) dropped_spelled r r_below
-        ∙ serials-same s new (without_serial k (sound.chain r)) (λ j stands. serial_there j (λ same. absurd (omega (arith, stands, gone r, ap (λ i. occurrences i (without_serial k (sound.chain r))) same))))
-        ∙ sym (lists-left s v.lists sound.chain old_ten (list_is s ends rows spare v view_is sound) (row_of rows) sound.names t k p row_is below
-          (with_serial s ends rows spare v view_is sound)
-          (absent s mid ends rows sound t k c row_is slot_is p p_is below tied_is)
-          r r_below))
+      list-at new (slice_set ends p e) (λ q. without_serial k (sound.chain q)) None (length-set ends p e ∙ sound.ten) dropped_spelled r r_below
+      ∙ serials-same s new (without_serial k (sound.chain r)) (λ j stands. serial_there j (λ same. absurd (omega (arith, stands, gone r, ap (λ i. occurrences i (without_serial k (sound.chain r))) same))))
+      ∙ sym (lists-left s v.lists sound.chain old_ten (list_is s ends rows spare v view_is sound) (row_of rows) sound.names t k p row_is below
+      (with_serial s ends rows spare v view_is sound)
+      (absent s mid ends rows sound t k c row_is slot_is p p_is below tied_is)
+      r r_below))
 
   pub dropped_view : (left : ℕ) → value_of new (slice_set ends p e) later left ≡ without_node t (record v { room = room_of left new })
   dropped_view left =

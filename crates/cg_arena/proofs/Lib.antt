@@ -14,3 +14,5 @@ pub mod Sizes
 pub mod Adds
 pub mod Drops
 pub mod Moves
+pub mod Merges
+pub mod Reserves

@@ -151,6 +151,6 @@ module _ (s : Slab Slot) (e : Ends) (rows : List (ℕ × ℕ)) (vacant : s.slots
   new_value spare =
       let nodes_are : nodes_of rows s ≡ fin.empty = same_map (nodes_of rows s) fin.empty (λ q. get-nodes_of rows s q ∙ ap (option_map (λ k. node_in (get s k))) (no_row q) ∙ sym (fin.get-empty nat_cmp q)) in
       let lists_are : map (serials_of s) ten_ends ≡ replicate 10 [] =
-          ten_lists (map (serials_of s) ten_ends) (replicate 10 []) refl refl
-          (λ r below. list-at s ten_ends (λ p. []) None refl empty_spelled r below ∙ sym (get_or-replicate 10 r [] [] below)) in
+      ten_lists (map (serials_of s) ten_ends) (replicate 10 []) refl refl
+      (λ r below. list-at s ten_ends (λ p. []) None refl empty_spelled r below ∙ sym (get_or-replicate 10 r [] [] below)) in
       λ i. record { nodes = nodes_are i; lists = lists_are i; room = room_of spare s }

@@ -42,7 +42,7 @@ pub data Which (p q r : ℕ) : Type 0 where
 pub which : (p q r : ℕ) → Which p q r
 which p q r = elim (cases_eq r q) [
   | inl to ↦ To to
-  | inr not_to ↦ elim (cases_eq r p) [ | inl from ↦ From from | inr not_from ↦ Other not_to not_from ]
+  | inr not_to ↦ elim (cases_eq r p) [ inl from ↦ From from | inr not_from ↦ Other not_to not_from ]
 ]
 
 module _ (cell placed new : ℕ → Option Slot) (ends later : ℕ → Ends) (chain : ℕ → List ℕ) (spelled : IsSpelled cell ends chain None) (p q : ℕ) (place : Place) (below_p : p < 10) (below_q : q < 10) (differ : p ≢ q) (number_is : place_number place ≡ q) (links : (j : ℕ) → HasLinks cell placed j) (among : (j : ℕ) → 0 < occurrences j (chain p) → place_in_slot (placed j) ≡ Some place) (aside : (j : ℕ) → occurrences j (chain p) ≡ 0 → place_in_slot (placed j) ≡ place_in_slot (cell j)) (last first : Option ℕ) (last_is : last ≡ (ends q).last) (first_is : first ≡ (ends p).first) (tie : IsTied placed new last first) (places : (j : ℕ) → place_in_slot (new j) ≡ place_in_slot (placed j)) (to : later q ≡ ends_joined (ends q) (ends p)) (from : later p ≡ no_ends) (elsewhere : (r : ℕ) → r ≢ q → r ≢ p → later r ≡ ends r) where

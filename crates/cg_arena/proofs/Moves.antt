@@ -87,8 +87,8 @@ module _ (s left placed ended new : Slab Slot) (ends : List Ends) (rows : List (
   shape_ended =
       shape-trans s left ended (left_shape s left ends rows sound t k c row_is slot_is p p_is below_p left_is)
       (shape-trans left placed ended
-        (subst (SameShape left) (sym placed_is) (shape-rewritten (with_place place) k left (λ x. refl)))
-        (subst (SameShape placed) (sym ended_is) (shape-rewritten (with_after None) k placed (λ x. refl))))
+      (subst (SameShape left) (sym placed_is) (shape-rewritten (with_place place) k left (λ x. refl)))
+      (subst (SameShape placed) (sym ended_is) (shape-rewritten (with_after None) k placed (λ x. refl))))
 
   loose : IsSpelled (get ended) (ends_at between_ends) between_chain (Some k)
   loose =
@@ -108,8 +108,8 @@ module _ (s left placed ended new : Slab Slot) (ends : List Ends) (rows : List (
     tie =
         subst (λ z. IsTied (get ended) (get z) (ends_at between_ends q).last (Some k)) (sym tied_is)
         (get-tied (ends_at between_ends q).last (Some k) ended
-          (last_there (get ended) (ends_at between_ends) between_chain (Some k) loose q below_q)
-          (λ j is. let same : k ≡ j = cc in ap (λ i. is_some (get ended i)) (sym same) ∙ there_ended))
+        (last_there (get ended) (ends_at between_ends) between_chain (Some k) loose q below_q)
+        (λ j is. let same : k ≡ j = cc in ap (λ i. is_some (get ended i)) (sym same) ∙ there_ended))
 
     shape : SameShape s new
     shape = shape-trans s ended new shape_ended (subst (SameShape ended) (sym tied_is) (shape-tied (ends_at between_ends q).last (Some k) ended))
@@ -163,17 +163,17 @@ module _ (s left placed ended new : Slab Slot) (ends : List Ends) (rows : List (
         let old_ten = lists_ten s ends rows spare v view_is sound in
         let left_ten : length (leaves_list v.lists t p) ≡ 10 = length-set v.lists p (without_serial t (list_of v.lists p)) ∙ old_ten in
         let left_are = λ (r : ℕ) (r_below : r < 10). let f : list_of (leaves_list v.lists t p) r ≡ serials new (between_chain r) =
-            lists-left s v.lists sound.chain old_ten (list_is s ends rows spare v view_is sound) (row_of rows) sound.names t k p row_is below_p
-            (with_serial s ends rows spare v view_is sound)
-            (absent s left ends rows sound t k c row_is slot_is p p_is below_p left_is)
-            r r_below
-            ∙ sym (serials-same s new (between_chain r) (λ j stands. shape.serials j)) in f in
+        lists-left s v.lists sound.chain old_ten (list_is s ends rows spare v view_is sound) (row_of rows) sound.names t k p row_is below_p
+        (with_serial s ends rows spare v view_is sound)
+        (absent s left ends rows sound t k c row_is slot_is p p_is below_p left_is)
+        r r_below
+        ∙ sym (serials-same s new (between_chain r) (λ j stands. shape.serials j)) in f in
         ten_lists (map (serials_of new) (slice_set between_ends q e)) (move_between v.lists t p q)
         (length-map (slice_set between_ends q e) (serials_of new) ∙ length-set between_ends q e ∙ between_ten)
         (length-set (leaves_list v.lists t p) q _ ∙ left_ten)
         (λ r r_below.
-          list-at new (slice_set between_ends q e) (appended_at q (k ∷ []) between_chain) None (length-set between_ends q e ∙ between_ten) moved_spelled r r_below
-          ∙ sym (lists-joined new (leaves_list v.lists t p) between_chain left_ten left_are t k q (ap (λ o. unwrap_or o 0) (shape.serials k ∙ sound.names.rowed t k row_is)) below_q r r_below))
+        list-at new (slice_set between_ends q e) (appended_at q (k ∷ []) between_chain) None (length-set between_ends q e ∙ between_ten) moved_spelled r r_below
+        ∙ sym (lists-joined new (leaves_list v.lists t p) between_chain left_ten left_are t k q (ap (λ o. unwrap_or o 0) (shape.serials k ∙ sound.names.rowed t k row_is)) below_q r r_below))
 
     pub moved_view : value_of new (slice_set (slice_set ends p d) q e) rows spare ≡ with_node_moved t place v
     moved_view =

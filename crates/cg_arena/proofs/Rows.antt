@@ -49,9 +49,9 @@ pub nodes-same : (rows : List (ℕ × ℕ)) (s new : Slab Slot) → ((k : ℕ) �
 nodes-same rows s new same =
     same_map (nodes_of rows new) (nodes_of rows s)
     (λ q.
-      get-nodes_of rows new q
-      ∙ at_each (λ k. node_in (get new k)) (λ k. node_in (get s k)) (row_of rows q) (λ k is. same k)
-      ∙ sym (get-nodes_of rows s q))
+    get-nodes_of rows new q
+    ∙ at_each (λ k. node_in (get new k)) (λ k. node_in (get s k)) (row_of rows q) (λ k is. same k)
+    ∙ sym (get-nodes_of rows s q))
 
 -- no two serials share a slot
 pub one_serial : (serial row : ℕ → Option ℕ) → IsNamed serial row → (s t k : ℕ) → row s ≡ Some k → row t ≡ Some k → s ≡ t
@@ -73,9 +73,9 @@ nodes-changed rows s new names g t k row_is here there =
           ∙ ap Some here
           ∙ sym
           (
-            get-changed_same g t (nodes_of rows s) q same
-            ∙ ap (λ u. option_map g (fin.get (nodes_of rows s) u)) same
-            ∙ ap (option_map g) (get-nodes_of rows s t ∙ ap (option_map (λ j. node_in (get s j))) row_is)
+          get-changed_same g t (nodes_of rows s) q same
+          ∙ ap (λ u. option_map g (fin.get (nodes_of rows s) u)) same
+          ∙ ap (option_map g) (get-nodes_of rows s t ∙ ap (option_map (λ j. node_in (get s j))) row_is)
           )
       | inr differs ↦
           at_each (λ j. node_in (get new j)) (λ j. node_in (get s j)) (row_of rows q)
@@ -88,10 +88,10 @@ pub nodes-mapped : (rows : List (ℕ × ℕ)) (s new : Slab Slot) (g : ArenaNode
 nodes-mapped rows s new g each =
     same_map (nodes_of rows new) (mapped (λ q n. g n) (nodes_of rows s))
     (λ q.
-      get-nodes_of rows new q
-      ∙ at_each (λ k. node_in (get new k)) (λ k. g (node_in (get s k))) (row_of rows q) (each q)
-      ∙ sym (option_map-map g (λ k. node_in (get s k)) (row_of rows q))
-      ∙ sym (get-mapped (λ q n. g n) (nodes_of rows s) q ∙ ap (option_map g) (get-nodes_of rows s q)))
+    get-nodes_of rows new q
+    ∙ at_each (λ k. node_in (get new k)) (λ k. g (node_in (get s k))) (row_of rows q) (each q)
+    ∙ sym (option_map-map g (λ k. node_in (get s k)) (row_of rows q))
+    ∙ sym (get-mapped (λ q n. g n) (nodes_of rows s) q ∙ ap (option_map g) (get-nodes_of rows s q)))
 
 -- a row more
 pub nodes-insert : (rows later : List (ℕ × ℕ)) (s new : Slab Slot) → IsNamed (λ k. serial_in (get s k)) (row_of rows) → (t k : ℕ) (n : ArenaNode) → get s k ≡ None
@@ -108,9 +108,9 @@ nodes-insert rows later s new names t k n vacant rows_are here there =
           ap (λ b. option_map (λ j. node_in (get new j)) (if b then Some k else row_of rows q)) (ne_eqb t q (λ e. differs (sym e)))
           ∙ at_each (λ j. node_in (get new j)) (λ j. node_in (get s j)) (row_of rows q)
           (λ j is. there j (λ same.
-            let named = names.rowed q j is in
-            let none : serial_in (get s j) ≡ None = ap (λ i. serial_in (get s i)) same ∙ ap serial_in vacant in
-            absurd (cc)))
+          let named = names.rowed q j is in
+          let none : serial_in (get s j) ≡ None = ap (λ i. serial_in (get s i)) same ∙ ap serial_in vacant in
+          absurd (cc)))
           ∙ sym (get-insert_other (nodes_of rows s) t q n differs ∙ get-nodes_of rows s q)
     ])
 

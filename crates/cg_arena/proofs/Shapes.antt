@@ -117,7 +117,7 @@ get-all_placed_among (k ∷ ks) place s j some =
     let here = λ (same : j ≡ k). let e : get (rewritten (with_place place) k s) j ≡ option_map (with_place place) (get s j) = ap (get (rewritten (with_place place) k s)) same ∙ get-rewritten_same (with_place place) k s ∙ ap (λ i. option_map (with_place place) (get s i)) (sym same) in e in
     elim (cases_eq (occurrences j ks) 0) [
       | inl none ↦
-          let same : j ≡ k = elim (cases_eq j k) [ | inl e ↦ e | inr d ↦ absurd (omega (arith, some, none, occurrences-cons j k ks, one-apart j k (λ e. d (sym e)))) ] in
+          let same : j ≡ k = elim (cases_eq j k) [ inl e ↦ e | inr d ↦ absurd (omega (arith, some, none, occurrences-cons j k ks, one-apart j k (λ e. d (sym e)))) ] in
           get-all_placed_aside ks place (rewritten (with_place place) k s) j none ∙ here same
       | inr more ↦
           get-all_placed_among ks place (rewritten (with_place place) k s) j (omega (arith, more))

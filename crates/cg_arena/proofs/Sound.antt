@@ -114,9 +114,9 @@ module _ (s new : Slab Slot) (ends : List Ends) (rows : List (ℕ × ℕ)) (soun
   lists_still =
       ten_lists (map (serials_of new) ends) (map (serials_of s) ends) (length-map ends (serials_of new) ∙ sound.ten) (length-map ends (serials_of s) ∙ sound.ten)
       (λ r below.
-        list-at new ends sound.chain None sound.ten still_spelled r below
-        ∙ serials-same s new (sound.chain r) (λ j stands. names j)
-        ∙ sym (list-at s ends sound.chain None sound.ten sound.spelled r below))
+      list-at new ends sound.chain None sound.ten still_spelled r below
+      ∙ serials-same s new (sound.chain r) (λ j stands. names j)
+      ∙ sym (list-at s ends sound.chain None sound.ten sound.spelled r below))
 
 -- a field of one node is written
 module _ (f : Slot → Slot) (befores : (x : Slot) → (f x).before ≡ x.before) (afters : (x : Slot) → (f x).after ≡ x.after) (serial_same : (x : Slot) → (f x).serial ≡ x.serial) (place_same : (x : Slot) → (f x).place ≡ x.place) (s : Slab Slot) (ends : List Ends) (rows : List (ℕ × ℕ)) (sound : IsSound s ends rows) (k : ℕ) where
@@ -137,7 +137,7 @@ module _ (f : Slot → Slot) (befores : (x : Slot) → (f x).before ≡ x.before
       → value_of new ends rows spare ≡ with_node_changed g t v
   field_view new is spare v view_is g t c row_is slot_is node_is =
       let node_here : node_in (get (rewritten f k s) k) ≡ g (node_in (get s k)) =
-          ap node_in (get-rewritten_same f k s ∙ ap (option_map f) slot_is) ∙ node_is ∙ ap (λ o. g (node_in o)) (sym slot_is) in
+      ap node_in (get-rewritten_same f k s ∙ ap (option_map f) slot_is) ∙ node_is ∙ ap (λ o. g (node_in o)) (sym slot_is) in
       let nodes_are = nodes-changed rows s (rewritten f k s) sound.names g t k row_is node_here (λ j differs. ap node_in (get-rewritten_other f k s j differs)) in
       let lists_are = lists_still s (rewritten f k s) ends rows sound field_links field_places shape.serials shape.len in
       let changed_is : value_of (rewritten f k s) ends rows spare ≡ with_node_changed g t (value_of s ends rows spare) = λ i. record {

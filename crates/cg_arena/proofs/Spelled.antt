@@ -56,10 +56,14 @@ module _ (cell : ℕ → Option Slot) (ends : ℕ → Ends) (chain : ℕ → Lis
 
   pub stands_either : (p r j : ℕ) → p < 10 → r < 10 → p ≢ r → occurrences j (chain p) + occurrences j (chain r) ≤ 1
   stands_either p r j below_p below_r differs =
-      omega (arith,
-        spelled.standing p j below_p, spelled.standing r j below_r,
-        once_at loose p j (place_in_slot (cell j)), once_at loose r j (place_in_slot (cell j)),
-        numbered_either p r (place_in_slot (cell j)) differs)
+      omega (
+        arith,
+        spelled.standing p j below_p,
+        spelled.standing r j below_r,
+        once_at loose p j (place_in_slot (cell j)),
+        once_at loose r j (place_in_slot (cell j)),
+        numbered_either p r (place_in_slot (cell j)) differs,
+      )
 
   -- a slot in a chain has the place
   pub stands_placed : (p j : ℕ) → p < 10 → 0 < occurrences j (chain p) → is_numbered p (place_in_slot (cell j)) ≡ 1
@@ -118,15 +122,15 @@ module _ (cell new : ℕ → Option Slot) (ends later : ℕ → Ends) (chain : �
   linked_here =
       subst (λ ks. IsLinked new None ks None) (sym without_is)
       (tied_chain cell new between.front between.back (Some k) (Some k) ties once
-        (linked_front cell None between.front (k ∷ between.back) None was_linked)
-        behind.2)
+      (linked_front cell None between.front (k ∷ between.back) None was_linked)
+      behind.2)
 
   linked_there : (r : ℕ) → r < 10 → r ≢ p → IsLinked new None (without_serial k (chain r)) None
   linked_there r r_below differs =
       subst (λ ks. IsLinked new None ks None) (sym (without-absent k (chain r) (stood_not r r_below differs)))
       (tied_elsewhere cell new between.front between.back (Some k) (Some k) ties once (chain r) None
-        (λ j stands. omega (arith, stands, counted j, stands_either cell ends chain None spelled p r j below r_below (λ e. differs (sym e))))
-        (spelled.linked r r_below))
+      (λ j stands. omega (arith, stands, counted j, stands_either cell ends chain None spelled p r j below r_below (λ e. differs (sym e))))
+      (spelled.linked r r_below))
 
   ends_here : later p ≡ ends_of (without_serial k (chain p))
   ends_here =
@@ -174,8 +178,8 @@ loose_spelled cell new ends chain k spelled links places =
     let nowhere = λ (p : ℕ) (below : p < 10). let e : occurrences k (chain p) ≡ 0 = spelled.standing p k below ∙ stands-loose p k (place_in_slot (cell k)) in e in
     record {
       linked = λ p below. linked_still cell new None (chain p) None
-      (λ j stands. links j (λ same. absurd (omega (arith, stands, nowhere p below, ap (λ i. occurrences i (chain p)) same))))
-      (spelled.linked p below);
+          (λ j stands. links j (λ same. absurd (omega (arith, stands, nowhere p below, ap (λ i. occurrences i (chain p)) same))))
+          (spelled.linked p below);
       ended = spelled.ended;
       standing = λ p j below. elim (cases_eq j k) [
         | inl same ↦

@@ -60,15 +60,15 @@ pub get-tied : (before after : Option ℕ) (s : Slab Slot) → ((j : ℕ) → be
 get-tied before after s there_before there_after =
     record {
       befores = λ j differs.
-        ap before_in (before_set-other after before (after_set before after s) j differs)
-        ∙ part-after_set before_in (λ o x. refl) before after s j;
+          ap before_in (before_set-other after before (after_set before after s) j differs)
+          ∙ part-after_set before_in (λ o x. refl) before after s j;
       afters = λ j differs.
-        part-before_set after_in (λ o x. refl) after before (after_set before after s) j
-        ∙ ap after_in (after_set-other before after s j differs);
+          part-before_set after_in (λ o x. refl) after before (after_set before after s) j
+          ∙ ap after_in (after_set-other before after s j differs);
       next = λ j is.
-        part-before_set after_in (λ o x. refl) after before (after_set before after s) j
-        ∙ after_set-same before after s j is (there_before j is);
+          part-before_set after_in (λ o x. refl) after before (after_set before after s) j
+          ∙ after_set-same before after s j is (there_before j is);
       last = λ j is.
-        before_set-same after before (after_set before after s) j is
-        (part-after_set is_some (λ o x. refl) before after s j ∙ there_after j is);
+          before_set-same after before (after_set before after s) j is
+          (part-after_set is_some (λ o x. refl) before after s j ∙ there_after j is);
     }

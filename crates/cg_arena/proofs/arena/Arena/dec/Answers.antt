@@ -17,7 +17,7 @@ slot_at-count-requires c = slot_there c.self.inside.slots c.self.inside.ends c.s
 pub overflow_sub-count : goal.overflow_sub-count
 overflow_sub-count c =
     let count : count_of c.args.self.now c.args.serial ≡ c.slot_at-count.result.count = ap count_in
-    ( node_here c.self.inside.slots c.self.inside.ends c.self.inside.rows.entries (spare c.self.inside.rows) c.args.self.now c.self.view_is c.args.serial c.slot_of-at.result c.slot_at-count.result c.slot_of-at.ensures c.slot_at-count.ensures) in
+    (node_here c.self.inside.slots c.self.inside.ends c.self.inside.rows.entries (spare c.self.inside.rows) c.args.self.now c.self.view_is c.args.serial c.slot_of-at.result c.slot_at-count.result c.slot_of-at.ensures c.slot_at-count.ensures) in
     omega (arith, count, c.requires)
 
 pub invariant_of-self : goal.invariant_of-self

@@ -15,7 +15,7 @@ slot_at-count-requires c = slot_there c.self.inside.slots c.self.inside.ends c.s
 pub overflow_add-count : goal.overflow_add-count
 overflow_add-count c =
     let count : count_of c.args.self.now c.args.serial ≡ c.slot_at-count.result.count = ap count_in
-    ( node_here c.self.inside.slots c.self.inside.ends c.self.inside.rows.entries (spare c.self.inside.rows) c.args.self.now c.self.view_is c.args.serial c.slot_of-at.result c.slot_at-count.result c.slot_of-at.ensures c.slot_at-count.ensures) in
+    (node_here c.self.inside.slots c.self.inside.ends c.self.inside.rows.entries (spare c.self.inside.rows) c.args.self.now c.self.view_is c.args.serial c.slot_of-at.result c.slot_at-count.result c.slot_of-at.ensures c.slot_at-count.ensures) in
     omega (arith, count, c.requires.room)
 
 pub invariant_of-self : goal.invariant_of-self

@@ -1,6 +1,7 @@
-use Rattle.std.proofs.Common.{ap, ◌∙◌}
+use Rattle.std.proofs.Common.{◌≡◌, ap, ◌∙◌, arith}
 use Rattle.std.specs.Prelude.{slice_set}
 use Rattle.indexmap.specs.IndexMap.{spare}
+use Rattle.cg_arena.specs.declared.ends.Ends.{Ends}
 use Rattle.cg_arena.specs.Links.{tied, ends_without, ends_joined}
 use Rattle.cg_arena.specs.Table.{ends_at}
 use Rattle.cg_arena.proofs.Sound.{row_there, slot_there, slot_placed}
@@ -25,7 +26,15 @@ without-requires c =
 
 pub joined-requires : goal.joined-requires
 joined-requires c =
-    ?
+    let one : c.one.result.size ≡ 1 = ap (λ (e : Ends). e.size) c.one.ensures in
+    let fits = room_for_one c.self.inside.slots c.tie.new.slots c.set_place.new.slots c.set_after.new.slots c.tie-2.new.slots c.self.inside.ends c.self.inside.rows.entries c.self.invariant (spare c.self.inside.rows) c.args.self.now c.self.view_is
+    c.args.serial c.slot_of-at.result c.slot_at-slot.result c.slot_of-at.ensures c.slot_at-slot.ensures
+    c.number_of-from.result c.number_of-from.ensures.number c.number_of-from.ensures.below
+    (c.tie.ensures ∙ ap (λ b. tied b c.slot_at-slot.result.after c.self.inside.slots) c.before-before.ensures)
+    c.without.result
+    (c.without.ensures ∙ ap (λ b. ends_without b c.slot_at-slot.result.after (ends_at c.self.inside.ends c.number_of-from.result)) c.before-before.ensures)
+    c.args.place c.set_place.ensures c.set_after.ensures c.number_of-to.result c.number_of-to.ensures.number c.number_of-to.ensures.below in
+    omega (arith, one, fits)
 
 pub invariant_of-self : goal.invariant_of-self
 invariant_of-self c =
