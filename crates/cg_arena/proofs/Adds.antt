@@ -11,10 +11,10 @@ use Rattle.cg_graph.specs.Holdings.{occurrences}
 use Rattle.cg_graph.specs.Places.{place_number, list_of, joins_list}
 use Rattle.cg_arena.specs.declared.slot.Slot.{Slot}
 use Rattle.cg_arena.specs.declared.ends.Ends.{Ends}
-use Rattle.cg_arena.specs.Nodes.{Nodes, ArenaNode, IsPlace, with_node}
+use Rattle.cg_arena.specs.Nodes.{Nodes, ArenaNode, IsPlace, with_node, count_in_list}
 use Rattle.cg_arena.specs.Slots.{before_in, after_in, serial_in, place_in_slot, node_in, node_of}
 use Rattle.cg_arena.specs.Links.{tied, ends_joined, one_end, last_or}
-use Rattle.cg_arena.specs.Table.{nodes_of, serials_of, room_of, is_numbered, stands_at, IsSpelled, IsNamed, ends_at, row_of, IsSound}
+use Rattle.cg_arena.specs.Table.{nodes_of, serials_of, room_of, stands_at, IsSpelled, IsNamed, ends_at, row_of, IsSound}
 use Rattle.cg_arena.proofs.Standing.{last_of-stands}
 use Rattle.cg_arena.proofs.Chains.{IsTied}
 use Rattle.cg_arena.proofs.Ties.{get-tied}
@@ -37,7 +37,7 @@ no_row_there s ends rows spare v view_is t none =
     (sym (get-nodes_of rows s t) ∙ ap (λ (w : Nodes). fin.get w.nodes t) view_is ∙ none)
 
 -- what stands in a place is an occupied slot
-pub some_numbered : (p : ℕ) (o : Option Slot) → is_numbered p (place_in_slot o) ≡ 1 → is_some o ≡ true
+pub some_numbered : (p : ℕ) (o : Option Slot) → count_in_list p (place_in_slot o) ≡ 1 → is_some o ≡ true
 some_numbered p None stands = absurd (omega (arith, stands))
 some_numbered p (Some c) stands = refl
 
@@ -149,7 +149,7 @@ module _ (s mid new : Slab Slot) (ends : List Ends) (rows later : List (ℕ × �
       ∙ ap (λ (w : Nodes). fin.insert w.nodes t n) view_is
 
   absent_before : (r : ℕ) → r < 10 → occurrences k (sound.chain r) ≡ 0
-  absent_before r r_below = sound.spelled.standing r k r_below ∙ ap (λ o. is_numbered r (place_in_slot o)) vacant
+  absent_before r r_below = sound.spelled.standing r k r_below ∙ ap (λ o. count_in_list r (place_in_slot o)) vacant
 
   lists_are : map (serials_of new) (slice_set ends q e) ≡ joins_list v.lists t (place_number n.place)
   lists_are =

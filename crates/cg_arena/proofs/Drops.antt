@@ -11,14 +11,14 @@ use Rattle.cg_graph.specs.Holdings.{occurrences}
 use Rattle.cg_graph.specs.Places.{place_number, list_of, without_serial, leaves_list}
 use Rattle.cg_arena.specs.declared.slot.Slot.{Slot}
 use Rattle.cg_arena.specs.declared.ends.Ends.{Ends}
-use Rattle.cg_arena.specs.Nodes.{Nodes, ArenaNode, IsPlace, without_node, place_in, place_of}
+use Rattle.cg_arena.specs.Nodes.{Nodes, ArenaNode, IsPlace, without_node, place_in, place_of, count_in_list}
 use Rattle.cg_arena.specs.Slots.{before_in, after_in, serial_in, place_in_slot, node_in, node_of}
 use Rattle.cg_arena.specs.Links.{tied, ends_without}
-use Rattle.cg_arena.specs.Table.{nodes_of, serials_of, room_of, is_numbered, stands_at, IsSpelled, IsNamed, ends_at, row_of, IsSound}
+use Rattle.cg_arena.specs.Table.{nodes_of, serials_of, room_of, stands_at, IsSpelled, IsNamed, ends_at, row_of, IsSound}
 use Rattle.cg_arena.proofs.Standing.{without-absent, occurrences-without_same, occurrences-without_other}
 use Rattle.cg_arena.proofs.Chains.{IsTied}
 use Rattle.cg_arena.proofs.Ties.{get-tied}
-use Rattle.cg_arena.proofs.Spelled.{numbered-same, numbered-other, stands_placed, stands-loose, before_stands, after_stands, leaves_spelled, loose_spelled, loose_vacant}
+use Rattle.cg_arena.proofs.Spelled.{count_in_list-same, count_in_list-other, stands_placed, stands-loose, before_stands, after_stands, leaves_spelled, loose_spelled, loose_vacant}
 use Rattle.cg_arena.proofs.Shapes.{SameShape, shape-tied, nodes-tied, places-tied, there-tied}
 use Rattle.cg_arena.proofs.Rows.{get-nodes_of, nodes-remove, one_serial}
 use Rattle.cg_arena.proofs.Lists.{serial_at, serials, serials-same, list-at, ten_lists, lists-left}
@@ -30,10 +30,10 @@ use Rattle.cg_arena.proofs.Adds.{some_numbered}
 -- a node leaves its list: its neighbours are tied, and the ends are those without it
 module _ (s new : Slab Slot) (ends : List Ends) (rows : List (ℕ × ℕ)) (sound : IsSound s ends rows) (t k : ℕ) (c : Slot) (row_is : row_of rows t ≡ Some k) (slot_is : get s k ≡ Some c) (p : ℕ) (p_is : p ≡ place_number c.place) (below : p < 10) (tied_is : new ≡ tied c.before c.after s) where
   stood : occurrences k (sound.chain p) ≡ 1
-  stood = sound.spelled.standing p k below ∙ ap (λ o. is_numbered p (place_in_slot o)) slot_is ∙ numbered-same p c.place (sym p_is)
+  stood = sound.spelled.standing p k below ∙ ap (λ o. count_in_list p (place_in_slot o)) slot_is ∙ count_in_list-same p c.place (sym p_is)
 
   pub absent : (r : ℕ) → r < 10 → r ≢ p → occurrences k (sound.chain r) ≡ 0
-  absent r r_below differs = sound.spelled.standing r k r_below ∙ ap (λ o. is_numbered r (place_in_slot o)) slot_is ∙ numbered-other r c.place (λ e. differs (sym e ∙ sym p_is))
+  absent r r_below differs = sound.spelled.standing r k r_below ∙ ap (λ o. count_in_list r (place_in_slot o)) slot_is ∙ count_in_list-other r c.place (λ e. differs (sym e ∙ sym p_is))
 
   pub size_there : 0 < (ends_at ends p).size
   size_there = size_above (get s) (ends_at ends) sound.chain None sound.spelled p k below (omega (arith, stood))

@@ -9,10 +9,10 @@ use Rattle.cg_graph.specs.Holdings.{occurrences}
 use Rattle.cg_graph.specs.Places.{list_of, without_serial, leaves_list, joins_list, merge_lists}
 use Rattle.cg_arena.specs.declared.slot.Slot.{Slot}
 use Rattle.cg_arena.specs.declared.ends.Ends.{Ends}
-use Rattle.cg_arena.specs.Nodes.{following}
+use Rattle.cg_arena.specs.Nodes.{following, count_in_list}
 use Rattle.cg_arena.specs.Slots.{serial_in, place_in_slot}
 use Rattle.cg_arena.specs.Links.{chain_from, ends_of, no_ends}
-use Rattle.cg_arena.specs.Table.{serials_of, is_numbered, IsSpelled, IsNamed, ends_at}
+use Rattle.cg_arena.specs.Table.{serials_of, IsSpelled, IsNamed, ends_at}
 use Rattle.cg_arena.proofs.Standing.{one, one-same, one-apart, occurrences-cons, without-absent}
 use Rattle.cg_arena.proofs.Chains.{chain-read}
 use Rattle.cg_arena.proofs.Spelled.{appended_at, appended-here, appended-there}
@@ -26,7 +26,7 @@ abbrev pub serials : Slab Slot → List ℕ → List ℕ
 serials s ks = map (serial_at s) ks
 
 -- a slot that stands in a place has a serial
-pub has_serial : (p : ℕ) (o : Option Slot) → is_numbered p (place_in_slot o) ≡ 1 → (u : ℕ) × (serial_in o ≡ Some u)
+pub has_serial : (p : ℕ) (o : Option Slot) → count_in_list p (place_in_slot o) ≡ 1 → (u : ℕ) × (serial_in o ≡ Some u)
 has_serial p None stands = absurd (omega (arith, stands))
 has_serial p (Some c) stands = (c.serial, refl)
 

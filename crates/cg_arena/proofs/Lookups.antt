@@ -11,16 +11,19 @@ use Rattle.cg_graph.specs.Places.{place_number, list_of}
 use Rattle.cg_graph.proofs.Maps.{same_map}
 use Rattle.cg_arena.specs.declared.slot.Slot.{Slot}
 use Rattle.cg_arena.specs.declared.ends.Ends.{Ends}
-use Rattle.cg_arena.specs.Nodes.{Nodes, ArenaNode, IsPlace, IsListed, stands, following, place_in, place_of, no_nodes}
+use Rattle.cg_arena.specs.Nodes.{Nodes, ArenaNode, IsPlace, IsListed, following, place_in, place_of, no_nodes, count_in_list}
 use Rattle.cg_arena.specs.Slots.{before_in, after_in, serial_in, place_in_slot, node_in, node_of}
 use Rattle.cg_arena.specs.Links.{first_or, last_or, ends_of, no_ends, IsLinked}
-use Rattle.cg_arena.specs.Table.{nodes_of, serials_of, room_of, is_numbered, IsSpelled, IsNamed, ends_at, row_of, IsSound}
+use Rattle.cg_arena.specs.Table.{nodes_of, serials_of, room_of, IsSpelled, IsNamed, ends_at, row_of, IsSound}
 use Rattle.cg_arena.proofs.Standing.{one-same, occurrences-cons, occurrences-append, IsBetween, stands_between}
 use Rattle.cg_arena.proofs.Chains.{linked_back}
-use Rattle.cg_arena.proofs.Spelled.{stands_once, stands_placed, numbered-same}
+use Rattle.cg_arena.proofs.Spelled.{stands_once, stands_placed, count_in_list-same}
 use Rattle.cg_arena.proofs.Rows.{get-nodes_of}
 use Rattle.cg_arena.proofs.Lists.{serial_at, serials, has_serial, list-at, ten_lists, occurrences-serials, following-serials, serials-absent}
 use Rattle.cg_arena.proofs.Sound.{value_of, node_here, the_slot, slot_there}
+
+abbrev count_of_node : ℕ → Option ArenaNode → ℕ
+count_of_node p o = count_in_list p (option_map (λ (n : ArenaNode). n.place) o)
 
 -- the first serial of a chain
 abbrev pub serial_of_slot : Slab Slot → Option ℕ → Option ℕ
@@ -63,7 +66,7 @@ module _ (s : Slab Slot) (ends : List Ends) (rows : List (ℕ × ℕ)) (spare : 
       let node_is = node_here s ends rows spare v view_is t k c row_is slot_is in
       let below : place_number c.place < 10 = sound.placed k c.place (ap place_in_slot slot_is) in
       let p = place_number c.place in
-      let once : occurrences k (sound.chain p) ≡ 1 = sound.spelled.standing p k below ∙ ap (λ o. is_numbered p (place_in_slot o)) slot_is ∙ numbered-same p c.place refl in
+      let once : occurrences k (sound.chain p) ≡ 1 = sound.spelled.standing p k below ∙ ap (λ o. count_in_list p (place_in_slot o)) slot_is ∙ count_in_list-same p c.place refl in
       let between : IsBetween k (sound.chain p) = stands_between k (sound.chain p) (omega (arith, once)) in
       let counted : occurrences k (sound.chain p) ≡ occurrences k between.front + occurrences k (k ∷ between.back) = ap (occurrences k) between.is ∙ occurrences-append k between.front (k ∷ between.back) in
       let linked : IsLinked (get s) None (between.front ++ k ∷ between.back) None = subst (λ ks. IsLinked (get s) None ks None) between.is (sound.spelled.linked p below) in
@@ -99,18 +102,18 @@ module _ (s : Slab Slot) (ends : List Ends) (rows : List (ℕ × ℕ)) (spare : 
           let same : node_of found.0 ≡ n = cc in
           subst (λ (m : ArenaNode). IsPlace m.place) same (sound.placed k found.0.place (ap place_in_slot found.1))
 
-      once_here : (p t : ℕ) → p < 10 → (o : Option ℕ) → row_of rows t ≡ o → occurrences t (list_of v.lists p) ≡ stands p (fin.get v.nodes t)
+      once_here : (p t : ℕ) → p < 10 → (o : Option ℕ) → row_of rows t ≡ o → occurrences t (list_of v.lists p) ≡ count_of_node p (fin.get v.nodes t)
       once_here p t below None row_is =
           ap (occurrences t) (list_is p below)
           ∙ serials-absent s (row_of rows) sound.names t row_is (sound.chain p) (λ j. with_serial j p below)
-          ∙ sym (ap (stands p) (node_at t ∙ ap (option_map (λ k. node_in (get s k))) row_is))
+          ∙ sym (ap (count_of_node p) (node_at t ∙ ap (option_map (λ k. node_in (get s k))) row_is))
       once_here p t below (Some k) row_is =
           let found = the_slot (get s k) (slot_there s ends rows sound t k row_is) in
           ap (occurrences t) (list_is p below)
           ∙ occurrences-serials s (row_of rows) sound.names t k row_is (sound.chain p) (λ j. with_serial j p below)
           ∙ sound.spelled.standing p k below
-          ∙ ap (λ o. is_numbered p (place_in_slot o)) found.1
-          ∙ sym (ap (stands p) (node_here s ends rows spare v view_is t k found.0 row_is found.1))
+          ∙ ap (λ o. count_in_list p (place_in_slot o)) found.1
+          ∙ sym (ap (count_of_node p) (node_here s ends rows spare v view_is t k found.0 row_is found.1))
 
 -- an arena with no node
 module _ (s : Slab Slot) (e : Ends) (rows : List (ℕ × ℕ)) (vacant : s.slots ≡ []) (ends_are : e ≡ no_ends) (no_rows : rows ≡ []) where
@@ -128,7 +131,7 @@ module _ (s : Slab Slot) (e : Ends) (rows : List (ℕ × ℕ)) (vacant : s.slots
       record {
         linked = λ p below. tt;
         ended = λ p below. get_or-replicate 10 p e no_ends below ∙ ends_are;
-        standing = λ p k below. sym (ap (λ o. is_numbered p (place_in_slot o)) (nothing_at k));
+        standing = λ p k below. sym (ap (λ o. count_in_list p (place_in_slot o)) (nothing_at k));
       }
 
   pub new_sound : IsSound s ten_ends rows

@@ -7,13 +7,14 @@ use Rattle.cg_graph.specs.Holdings.{occurrences}
 use Rattle.cg_graph.specs.Places.{place_number}
 use Rattle.cg_arena.specs.declared.slot.Slot.{Slot}
 use Rattle.cg_arena.specs.declared.ends.Ends.{Ends}
+use Rattle.cg_arena.specs.Nodes.{count_in_list}
 use Rattle.cg_arena.specs.Slots.{place_in_slot}
 use Rattle.cg_arena.specs.Links.{IsLinked, first_or, last_or, ends_of, ends_joined, no_ends}
-use Rattle.cg_arena.specs.Table.{is_numbered, IsSpelled}
+use Rattle.cg_arena.specs.Table.{IsSpelled}
 use Rattle.cg_arena.proofs.Standing.{occurrences-append}
 use Rattle.cg_arena.proofs.Chains.{HasLinks, linked_still, IsTied, tied_chain, tied_elsewhere}
 use Rattle.cg_arena.proofs.EndsLemmas.{ends-joined}
-use Rattle.cg_arena.proofs.Spelled.{numbered-same, numbered-other, stands_once, stands_either, stands_placed}
+use Rattle.cg_arena.proofs.Spelled.{count_in_list-same, count_in_list-other, stands_once, stands_either, stands_placed}
 
 -- the chains once the one of p is appended to that of q
 abbrev pub merged_chain : ℕ → ℕ → (ℕ → List ℕ) → ℕ → List ℕ
@@ -66,11 +67,11 @@ module _ (cell placed new : ℕ → Option Slot) (ends later : ℕ → Ends) (ch
       (λ j stands. omega (arith, stands, stands_either cell ends chain None spelled r q j below below_q not_to, stands_either cell ends chain None spelled r p j below below_p not_from))
       (linked_placed r below)
 
-  in_from : (j : ℕ) → (0 < occurrences j (chain p)) → (r : ℕ) → is_numbered r (place_in_slot (new j)) ≡ is_numbered r (Some place)
-  in_from j stands r = ap (is_numbered r) (places j ∙ among j stands)
+  in_from : (j : ℕ) → (0 < occurrences j (chain p)) → (r : ℕ) → count_in_list r (place_in_slot (new j)) ≡ count_in_list r (Some place)
+  in_from j stands r = ap (count_in_list r) (places j ∙ among j stands)
 
-  not_in_from : (j : ℕ) → occurrences j (chain p) ≡ 0 → (r : ℕ) → is_numbered r (place_in_slot (new j)) ≡ is_numbered r (place_in_slot (cell j))
-  not_in_from j none r = ap (is_numbered r) (places j ∙ aside j none)
+  not_in_from : (j : ℕ) → occurrences j (chain p) ≡ 0 → (r : ℕ) → count_in_list r (place_in_slot (new j)) ≡ count_in_list r (place_in_slot (cell j))
+  not_in_from j none r = ap (count_in_list r) (places j ∙ aside j none)
 
   -- a slot of the chain appended, or not
   pub data Stands (j : ℕ) : Type 0 where
@@ -83,21 +84,21 @@ module _ (cell placed new : ℕ → Option Slot) (ends later : ℕ → Ends) (ch
     | inr some ↦ There (omega (arith, some)) (omega (arith, some, stands_once cell ends chain None spelled p j below_p))
   ]
 
-  standing_to : (j : ℕ) → occurrences j (chain q ++ chain p) ≡ is_numbered q (place_in_slot (new j))
+  standing_to : (j : ℕ) → occurrences j (chain q ++ chain p) ≡ count_in_list q (place_in_slot (new j))
   standing_to j = elim (stands_there j) [
-    | There some is ↦ omega (arith, occurrences-append j (chain q) (chain p), is, merge_once j, in_from j some q, numbered-same q place number_is)
+    | There some is ↦ omega (arith, occurrences-append j (chain q) (chain p), is, merge_once j, in_from j some q, count_in_list-same q place number_is)
     | Elsewhere none ↦ omega (arith, occurrences-append j (chain q) (chain p), none, not_in_from j none q, spelled.standing q j below_q)
   ]
 
-  standing_from : (j : ℕ) → 0 ≡ is_numbered p (place_in_slot (new j))
+  standing_from : (j : ℕ) → 0 ≡ count_in_list p (place_in_slot (new j))
   standing_from j = elim (stands_there j) [
-    | There some is ↦ omega (arith, in_from j some p, numbered-other p place (λ e. differ (sym e ∙ number_is)))
+    | There some is ↦ omega (arith, in_from j some p, count_in_list-other p place (λ e. differ (sym e ∙ number_is)))
     | Elsewhere none ↦ omega (arith, none, not_in_from j none p, spelled.standing p j below_p)
   ]
 
-  standing_aside : (r j : ℕ) → r < 10 → r ≢ q → r ≢ p → occurrences j (chain r) ≡ is_numbered r (place_in_slot (new j))
+  standing_aside : (r j : ℕ) → r < 10 → r ≢ q → r ≢ p → occurrences j (chain r) ≡ count_in_list r (place_in_slot (new j))
   standing_aside r j below not_to not_from = elim (stands_there j) [
-    | There some is ↦ omega (arith, is, stands_either cell ends chain None spelled r p j below below_p not_from, in_from j some r, numbered-other r place (λ e. not_to (sym e ∙ number_is)))
+    | There some is ↦ omega (arith, is, stands_either cell ends chain None spelled r p j below below_p not_from, in_from j some r, count_in_list-other r place (λ e. not_to (sym e ∙ number_is)))
     | Elsewhere none ↦ spelled.standing r j below ∙ sym (not_in_from j none r)
   ]
 
@@ -115,9 +116,9 @@ module _ (cell placed new : ℕ → Option Slot) (ends later : ℕ → Ends) (ch
   merged_ended r below (From same) = ap later same ∙ from ∙ ap ends_of (sym (merged-from p q differ chain r same))
   merged_ended r below (Other not_to not_from) = elsewhere r not_to not_from ∙ spelled.ended r below ∙ ap ends_of (sym (merged-other p q differ chain r not_to not_from))
 
-  merged_standing : (r j : ℕ) → r < 10 → Which p q r → occurrences j (merged_chain p q chain r) ≡ is_numbered r (place_in_slot (new j))
-  merged_standing r j below (To same) = ap (occurrences j) (merged-to p q differ chain r same) ∙ standing_to j ∙ ap (λ s. is_numbered s (place_in_slot (new j))) (sym same)
-  merged_standing r j below (From same) = ap (occurrences j) (merged-from p q differ chain r same) ∙ standing_from j ∙ ap (λ s. is_numbered s (place_in_slot (new j))) (sym same)
+  merged_standing : (r j : ℕ) → r < 10 → Which p q r → occurrences j (merged_chain p q chain r) ≡ count_in_list r (place_in_slot (new j))
+  merged_standing r j below (To same) = ap (occurrences j) (merged-to p q differ chain r same) ∙ standing_to j ∙ ap (λ s. count_in_list s (place_in_slot (new j))) (sym same)
+  merged_standing r j below (From same) = ap (occurrences j) (merged-from p q differ chain r same) ∙ standing_from j ∙ ap (λ s. count_in_list s (place_in_slot (new j))) (sym same)
   merged_standing r j below (Other not_to not_from) = ap (occurrences j) (merged-other p q differ chain r not_to not_from) ∙ standing_aside r j below not_to not_from
 
   pub merged_spelled : IsSpelled new later (merged_chain p q chain) None

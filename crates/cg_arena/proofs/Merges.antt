@@ -10,14 +10,14 @@ use Rattle.cg_graph.specs.Holdings.{occurrences}
 use Rattle.cg_graph.specs.Places.{place_number, list_of, merge_lists}
 use Rattle.cg_arena.specs.declared.slot.Slot.{Slot}
 use Rattle.cg_arena.specs.declared.ends.Ends.{Ends}
-use Rattle.cg_arena.specs.Nodes.{Nodes, ArenaNode, IsPlace, with_lists_merged, place_merged, node_placed}
+use Rattle.cg_arena.specs.Nodes.{Nodes, ArenaNode, IsPlace, with_lists_merged, place_merged, node_placed, count_in_list}
 use Rattle.cg_arena.specs.Slots.{before_in, after_in, serial_in, place_in_slot, node_in, node_of, with_place}
 use Rattle.cg_arena.specs.Links.{tied, all_placed, chain_from, ends_joined, ends_of, no_ends}
-use Rattle.cg_arena.specs.Table.{nodes_of, serials_of, room_of, is_numbered, IsSpelled, IsNamed, ends_at, row_of, IsSound}
+use Rattle.cg_arena.specs.Table.{nodes_of, serials_of, room_of, IsSpelled, IsNamed, ends_at, row_of, IsSound}
 use Rattle.cg_arena.proofs.Standing.{first-stands}
 use Rattle.cg_arena.proofs.Chains.{HasLinks, IsTied, chain-read}
 use Rattle.cg_arena.proofs.Ties.{get-tied}
-use Rattle.cg_arena.proofs.Spelled.{numbered-same, numbered-other, stands_placed}
+use Rattle.cg_arena.proofs.Spelled.{count_in_list-same, count_in_list-other, stands_placed}
 use Rattle.cg_arena.proofs.Merged.{merged_chain, merged_spelled}
 use Rattle.cg_arena.proofs.Shapes.{SameShape, shape-trans, shape-tied, shape-all_placed, nodes-tied, places-tied, part-all_placed, get-all_placed_aside, get-all_placed_among}
 use Rattle.cg_arena.proofs.Rows.{nodes-mapped}
@@ -143,16 +143,16 @@ module _ (s placed new : Slab Slot) (ends : List Ends) (rows : List (ℕ × ℕ)
   node_is u j row_is =
       let found = the_slot (get s j) (slot_there s ends rows sound u j row_is) in
       let c = found.0 in
-      let standing : occurrences j (sound.chain p) ≡ is_numbered p (Some c.place) = sound.spelled.standing p j below_p ∙ ap (λ o. is_numbered p (place_in_slot o)) found.1 in
+      let standing : occurrences j (sound.chain p) ≡ count_in_list p (Some c.place) = sound.spelled.standing p j below_p ∙ ap (λ o. count_in_list p (place_in_slot o)) found.1 in
       nodes j ∙ elim (cases_eq (place_number c.place) (place_number from)) [
         | inl same ↦
-            let stands : 0 < occurrences j (sound.chain p) = omega (arith, standing, numbered-same p c.place (same ∙ sym p_is)) in
+            let stands : 0 < occurrences j (sound.chain p) = omega (arith, standing, count_in_list-same p c.place (same ∙ sym p_is)) in
             ap node_in (among j stands)
             ∙ ap (λ o. node_in (option_map (with_place to) o)) found.1
             ∙ sym (ap (λ b. if b then node_placed to (node_of c) else node_of c) (eq-eqb (place_number c.place) (place_number from) same))
             ∙ ap (λ o. place_merged from to (node_in o)) (sym found.1)
         | inr differs ↦
-            let absent : occurrences j (sound.chain p) ≡ 0 = standing ∙ numbered-other p c.place (λ f. differs (f ∙ p_is)) in
+            let absent : occurrences j (sound.chain p) ≡ 0 = standing ∙ count_in_list-other p c.place (λ f. differs (f ∙ p_is)) in
             ap node_in (aside j absent)
             ∙ ap node_in found.1
             ∙ sym (ap (λ b. if b then node_placed to (node_of c) else node_of c) (ne_eqb (place_number c.place) (place_number from) differs))

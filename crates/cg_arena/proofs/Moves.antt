@@ -11,10 +11,10 @@ use Rattle.cg_graph.specs.Holdings.{occurrences}
 use Rattle.cg_graph.specs.Places.{place_number, list_of, without_serial, leaves_list, joins_list, move_between}
 use Rattle.cg_arena.specs.declared.slot.Slot.{Slot}
 use Rattle.cg_arena.specs.declared.ends.Ends.{Ends}
-use Rattle.cg_arena.specs.Nodes.{Nodes, ArenaNode, IsPlace, with_node_moved, node_placed, place_in, place_of}
+use Rattle.cg_arena.specs.Nodes.{Nodes, ArenaNode, IsPlace, with_node_moved, node_placed, place_in, place_of, count_in_list}
 use Rattle.cg_arena.specs.Slots.{before_in, after_in, serial_in, place_in_slot, node_in, node_of, with_place, with_after}
 use Rattle.cg_arena.specs.Links.{rewritten, after_set, tied, ends_without, ends_joined, one_end}
-use Rattle.cg_arena.specs.Table.{nodes_of, serials_of, room_of, is_numbered, stands_at, IsSpelled, IsNamed, ends_at, row_of, IsSound}
+use Rattle.cg_arena.specs.Table.{nodes_of, serials_of, room_of, stands_at, IsSpelled, IsNamed, ends_at, row_of, IsSound}
 use Rattle.cg_arena.proofs.Chains.{IsTied}
 use Rattle.cg_arena.proofs.Writes.{get-rewritten_same, get-rewritten_other, part-rewritten}
 use Rattle.cg_arena.proofs.Ties.{get-tied}

@@ -12,10 +12,10 @@ use Rattle.cg_graph.specs.Holdings.{occurrences}
 use Rattle.cg_graph.proofs.Maps.{get-changed_same}
 use Rattle.cg_arena.specs.declared.slot.Slot.{Slot}
 use Rattle.cg_arena.specs.declared.ends.Ends.{Ends}
-use Rattle.cg_arena.specs.Nodes.{Nodes, ArenaNode, HasNode, IsPlace, count_in, count_of, place_of, place_in, with_node_changed, node_counted_up, node_counted_down, counted_up, counted_down}
+use Rattle.cg_arena.specs.Nodes.{Nodes, ArenaNode, HasNode, IsPlace, count_in, count_of, place_of, place_in, with_node_changed, node_counted_up, node_counted_down, counted_up, counted_down, count_in_list}
 use Rattle.cg_arena.specs.Slots.{before_in, after_in, serial_in, place_in_slot, node_in, node_of}
 use Rattle.cg_arena.specs.Links.{rewritten}
-use Rattle.cg_arena.specs.Table.{nodes_of, serials_of, room_of, is_numbered, IsSpelled, IsNamed, ends_at, row_of, IsSound}
+use Rattle.cg_arena.specs.Table.{nodes_of, serials_of, room_of, IsSpelled, IsNamed, ends_at, row_of, IsSound}
 use Rattle.cg_arena.proofs.Standing.{one, one-same, one-apart, occurrences-single}
 use Rattle.cg_arena.proofs.Chains.{HasLinks, linked_still}
 use Rattle.cg_arena.proofs.Writes.{part-rewritten, get-rewritten_same, get-rewritten_other}
@@ -83,7 +83,7 @@ spelled_still cell new ends chain links places spelled =
     record {
       linked = λ p below. linked_still cell new None (chain p) None (λ j stands. links j) (spelled.linked p below);
       ended = spelled.ended;
-      standing = λ p k below. spelled.standing p k below ∙ ap (is_numbered p) (sym (places k));
+      standing = λ p k below. spelled.standing p k below ∙ ap (count_in_list p) (sym (places k));
     }
 
 pub named_still : (serial new row : ℕ → Option ℕ) → ((k : ℕ) → new k ≡ serial k) → IsNamed serial row → IsNamed new row

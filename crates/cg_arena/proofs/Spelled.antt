@@ -7,21 +7,22 @@ use Rattle.cg_graph.specs.Holdings.{occurrences}
 use Rattle.cg_graph.specs.Places.{place_number, without_serial}
 use Rattle.cg_arena.specs.declared.slot.Slot.{Slot}
 use Rattle.cg_arena.specs.declared.ends.Ends.{Ends}
+use Rattle.cg_arena.specs.Nodes.{count_in_list}
 use Rattle.cg_arena.specs.Slots.{before_in, after_in, place_in_slot}
 use Rattle.cg_arena.specs.Links.{IsLinked, first_or, last_or, ends_of, ends_without, ends_joined, one_end, no_ends}
-use Rattle.cg_arena.specs.Table.{is_numbered, stands_at, IsSpelled}
+use Rattle.cg_arena.specs.Table.{stands_at, IsSpelled}
 use Rattle.cg_arena.proofs.Standing.{last_of-stands, first-stands, one, one-same, one-apart, occurrences-cons, occurrences-append, occurrences-single, IsBetween, stands_between, without-absent, without-between, occurrences-without_same, occurrences-without_other}
 use Rattle.cg_arena.proofs.Chains.{HasLinks, linked_still, linked_front, linked_back, IsTied, tied_chain, tied_elsewhere}
 use Rattle.cg_arena.proofs.EndsLemmas.{ends-without, ends-joined}
 
 -- a place has one number
-pub numbered-same : (p : ℕ) (q : Place) → place_number q ≡ p → is_numbered p (Some q) ≡ 1
-numbered-same p q is = ap (λ b. if b then 1 else 0) (eq-eqb (place_number q) p is)
+pub count_in_list-same : (p : ℕ) (q : Place) → place_number q ≡ p → count_in_list p (Some q) ≡ 1
+count_in_list-same p q is = ap (λ b. if b then 1 else 0) (eq-eqb (place_number q) p is)
 
-pub numbered-other : (p : ℕ) (q : Place) → place_number q ≢ p → is_numbered p (Some q) ≡ 0
-numbered-other p q differs = ap (λ b. if b then 1 else 0) (ne_eqb (place_number q) p differs)
+pub count_in_list-other : (p : ℕ) (q : Place) → place_number q ≢ p → count_in_list p (Some q) ≡ 0
+count_in_list-other p q differs = ap (λ b. if b then 1 else 0) (ne_eqb (place_number q) p differs)
 
-pub numbered_once : (p : ℕ) (at : Option Place) → is_numbered p at ≤ 1
+pub numbered_once : (p : ℕ) (at : Option Place) → count_in_list p at ≤ 1
 numbered_once p None = omega arith
 numbered_once p (Some q) = go (place_number q == p)
   where
@@ -29,24 +30,24 @@ numbered_once p (Some q) = go (place_number q == p)
     go true = omega arith
     go false = omega arith
 
-pub numbered_either : (p r : ℕ) (at : Option Place) → p ≢ r → is_numbered p at + is_numbered r at ≤ 1
+pub numbered_either : (p r : ℕ) (at : Option Place) → p ≢ r → count_in_list p at + count_in_list r at ≤ 1
 numbered_either p r None differs = omega arith
 numbered_either p r (Some q) differs = elim (cases_eq (place_number q) p) [
-  | inl same ↦ omega (arith, numbered-same p q same, numbered-other r q (λ e. differs (sym same ∙ e)))
-  | inr other ↦ omega (arith, numbered-other p q other, numbered_once r (Some q))
+  | inl same ↦ omega (arith, count_in_list-same p q same, count_in_list-other r q (λ e. differs (sym same ∙ e)))
+  | inr other ↦ omega (arith, count_in_list-other p q other, numbered_once r (Some q))
 ]
 
 pub stands-loose : (p k : ℕ) (at : Option Place) → stands_at (Some k) p k at ≡ 0
-stands-loose p k at = ap (λ b. if b then 0 else is_numbered p at) (eq-eqb k k refl)
+stands-loose p k at = ap (λ b. if b then 0 else count_in_list p at) (eq-eqb k k refl)
 
-pub stands-other : (p j k : ℕ) (at : Option Place) → j ≢ k → stands_at (Some k) p j at ≡ is_numbered p at
-stands-other p j k at differs = ap (λ b. if b then 0 else is_numbered p at) (ne_eqb j k differs)
+pub stands-other : (p j k : ℕ) (at : Option Place) → j ≢ k → stands_at (Some k) p j at ≡ count_in_list p at
+stands-other p j k at differs = ap (λ b. if b then 0 else count_in_list p at) (ne_eqb j k differs)
 
 -- each slot stands at most once, in whatever chain
-once_at : (loose : Option ℕ) (p k : ℕ) (at : Option Place) → stands_at loose p k at ≤ is_numbered p at
+once_at : (loose : Option ℕ) (p k : ℕ) (at : Option Place) → stands_at loose p k at ≤ count_in_list p at
 once_at None p k at = omega arith
 once_at (Some l) p k at = elim (cases_eq k l) [
-  | inl same ↦ subst (λ m. stands_at (Some m) p k at ≤ is_numbered p at) same (omega (arith, stands-loose p k at))
+  | inl same ↦ subst (λ m. stands_at (Some m) p k at ≤ count_in_list p at) same (omega (arith, stands-loose p k at))
   | inr differs ↦ omega (arith, stands-other p k l at differs)
 ]
 
@@ -66,7 +67,7 @@ module _ (cell : ℕ → Option Slot) (ends : ℕ → Ends) (chain : ℕ → Lis
       )
 
   -- a slot in a chain has the place
-  pub stands_placed : (p j : ℕ) → p < 10 → 0 < occurrences j (chain p) → is_numbered p (place_in_slot (cell j)) ≡ 1
+  pub stands_placed : (p j : ℕ) → p < 10 → 0 < occurrences j (chain p) → count_in_list p (place_in_slot (cell j)) ≡ 1
   stands_placed p j below stands = omega (arith, stands, spelled.standing p j below, once_at loose p j (place_in_slot (cell j)), numbered_once p (place_in_slot (cell j)))
 
 -- the neighbours of a slot stand in its chain
@@ -89,10 +90,10 @@ module _ (cell : ℕ → Option Slot) (ends : ℕ → Ends) (chain : ℕ → Lis
 -- a slot leaves its chain
 module _ (cell new : ℕ → Option Slot) (ends later : ℕ → Ends) (chain : ℕ → List ℕ) (spelled : IsSpelled cell ends chain None) (k p : ℕ) (place : Place) (below : p < 10) (place_is : place_in_slot (cell k) ≡ Some place) (number_is : place_number place ≡ p) (tie : IsTied cell new (before_in (cell k)) (after_in (cell k))) (places : (j : ℕ) → place_in_slot (new j) ≡ place_in_slot (cell j)) (there : later p ≡ ends_without (before_in (cell k)) (after_in (cell k)) (ends p)) (elsewhere : (r : ℕ) → r ≢ p → later r ≡ ends r) where
   stood : occurrences k (chain p) ≡ 1
-  stood = spelled.standing p k below ∙ ap (is_numbered p) place_is ∙ numbered-same p place number_is
+  stood = spelled.standing p k below ∙ ap (count_in_list p) place_is ∙ count_in_list-same p place number_is
 
   stood_not : (r : ℕ) → r < 10 → r ≢ p → occurrences k (chain r) ≡ 0
-  stood_not r r_below differs = spelled.standing r k r_below ∙ ap (is_numbered r) place_is ∙ numbered-other r place (λ e. differs (sym e ∙ number_is))
+  stood_not r r_below differs = spelled.standing r k r_below ∙ ap (count_in_list r) place_is ∙ count_in_list-other r place (λ e. differs (sym e ∙ number_is))
 
   between : IsBetween k (chain p)
   between = stands_between k (chain p) (omega (arith, stood))
@@ -153,7 +154,7 @@ module _ (cell new : ℕ → Option Slot) (ends later : ℕ → Ends) (chain : �
     | inr differs ↦
         occurrences-without_other j k (chain r) differs
         ∙ spelled.standing r j r_below
-        ∙ ap (is_numbered r) (sym (places j))
+        ∙ ap (count_in_list r) (sym (places j))
         ∙ sym (stands-other r j k (place_in_slot (new j)) differs)
   ]
 
@@ -188,7 +189,7 @@ loose_spelled cell new ends chain k spelled links places =
         | inr differs ↦
             spelled.standing p j below
             ∙ stands-other p j k (place_in_slot (cell j)) differs
-            ∙ ap (is_numbered p) (sym (places j differs))
+            ∙ ap (count_in_list p) (sym (places j differs))
             ∙ sym (stands-other p j k (place_in_slot (new j)) differs)
       ];
     }
@@ -202,8 +203,8 @@ vacant_loose cell ends chain k vacant spelled =
       standing = λ p j below. elim (cases_eq j k) [
         | inl same ↦
             spelled.standing p j below
-            ∙ ap (λ i. is_numbered p (place_in_slot (cell i))) same
-            ∙ ap (λ o. is_numbered p (place_in_slot o)) vacant
+            ∙ ap (λ i. count_in_list p (place_in_slot (cell i))) same
+            ∙ ap (λ o. count_in_list p (place_in_slot o)) vacant
             ∙ sym (ap (λ i. stands_at (Some i) p j (place_in_slot (cell j))) (sym same) ∙ stands-loose p j (place_in_slot (cell j)))
         | inr differs ↦ spelled.standing p j below ∙ sym (stands-other p j k (place_in_slot (cell j)) differs)
       ];
@@ -218,7 +219,7 @@ loose_vacant cell ends chain k vacant spelled =
         | inl same ↦
             spelled.standing p j below
             ∙ ap (λ i. stands_at (Some i) p j (place_in_slot (cell j))) (sym same) ∙ stands-loose p j (place_in_slot (cell j))
-            ∙ sym (ap (λ i. is_numbered p (place_in_slot (cell i))) same ∙ ap (λ o. is_numbered p (place_in_slot o)) vacant)
+            ∙ sym (ap (λ i. count_in_list p (place_in_slot (cell i))) same ∙ ap (λ o. count_in_list p (place_in_slot o)) vacant)
         | inr differs ↦ spelled.standing p j below ∙ stands-other p j k (place_in_slot (cell j)) differs
       ];
     }
@@ -262,7 +263,7 @@ module _ (cell new : ℕ → Option Slot) (ends later : ℕ → Ends) (chain : �
       (λ j stands. omega (arith, stands, single j, apart r j r_below stands, stands_either cell ends chain (Some k) spelled r q j r_below below differs))
       (spelled.linked r r_below)
 
-  joins_standing : (r j : ℕ) → r < 10 → occurrences j (appended_at q (k ∷ []) chain r) ≡ is_numbered r (place_in_slot (new j))
+  joins_standing : (r j : ℕ) → r < 10 → occurrences j (appended_at q (k ∷ []) chain r) ≡ count_in_list r (place_in_slot (new j))
   joins_standing r j r_below = elim (cases_eq r q) [
     | inl same ↦
         ap (occurrences j) (appended-here q (k ∷ []) chain r same)
@@ -271,10 +272,10 @@ module _ (cell new : ℕ → Option Slot) (ends later : ℕ → Ends) (chain : �
         ∙ elim (cases_eq j k) [
           | inl here ↦
               let none : occurrences j (chain r) ≡ 0 = ap (λ i. occurrences i (chain r)) here ∙ absent r r_below in
-              let is : is_numbered r (place_in_slot (new j)) ≡ 1 = ap (is_numbered r) (places j ∙ ap (λ i. place_in_slot (cell i)) here ∙ place_is) ∙ numbered-same r place (number_is ∙ sym same) in
+              let is : count_in_list r (place_in_slot (new j)) ≡ 1 = ap (count_in_list r) (places j ∙ ap (λ i. place_in_slot (cell i)) here ∙ place_is) ∙ count_in_list-same r place (number_is ∙ sym same) in
               omega (arith, none, is, one-same j k (sym here))
           | inr differs ↦
-              let other : occurrences j (chain r) ≡ is_numbered r (place_in_slot (new j)) = spelled.standing r j r_below ∙ stands-other r j k (place_in_slot (cell j)) differs ∙ ap (is_numbered r) (sym (places j)) in
+              let other : occurrences j (chain r) ≡ count_in_list r (place_in_slot (new j)) = spelled.standing r j r_below ∙ stands-other r j k (place_in_slot (cell j)) differs ∙ ap (count_in_list r) (sym (places j)) in
               omega (arith, other, one-apart j k (λ e. differs (sym e)))
         ]
     | inr differs ↦
@@ -282,9 +283,9 @@ module _ (cell new : ℕ → Option Slot) (ends later : ℕ → Ends) (chain : �
         ∙ elim (cases_eq j k) [
           | inl here ↦
               let none : occurrences j (chain r) ≡ 0 = ap (λ i. occurrences i (chain r)) here ∙ absent r r_below in
-              let is : is_numbered r (place_in_slot (new j)) ≡ 0 = ap (is_numbered r) (places j ∙ ap (λ i. place_in_slot (cell i)) here ∙ place_is) ∙ numbered-other r place (λ e. differs (sym e ∙ number_is)) in
+              let is : count_in_list r (place_in_slot (new j)) ≡ 0 = ap (count_in_list r) (places j ∙ ap (λ i. place_in_slot (cell i)) here ∙ place_is) ∙ count_in_list-other r place (λ e. differs (sym e ∙ number_is)) in
               none ∙ sym is
-          | inr other ↦ spelled.standing r j r_below ∙ stands-other r j k (place_in_slot (cell j)) other ∙ ap (is_numbered r) (sym (places j))
+          | inr other ↦ spelled.standing r j r_below ∙ stands-other r j k (place_in_slot (cell j)) other ∙ ap (count_in_list r) (sym (places j))
         ]
   ]
 

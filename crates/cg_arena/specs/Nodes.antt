@@ -1,7 +1,7 @@
 -- What a contract sees of an arena: the nodes by serial, the list of each place, and the room for further nodes. (What
 -- is kept of an object beside its entries; developer guide, "Memory layout and object structure". The count and the
 -- collector's number stand there in the object's head.)
-use Rattle.std.specs.Prelude.{◌≡◌, ℕ, ◌+◌, ◌-◌, ◌<◌, ◌==◌, Bool, true, false, List, [], ◌∷◌, Option, Some, None, IsSome, length, slice_get, if◌then◌else◌, refl, replicate}
+use Rattle.std.specs.Prelude.{◌≡◌, ℕ, ◌+◌, ◌-◌, ◌<◌, ◌==◌, Bool, true, false, List, [], ◌∷◌, Option, Some, None, IsSome, length, slice_get, option_map, if◌then◌else◌, refl, replicate}
 use Rattle.std.specs.Ordering.{nat_cmp}
 use Rattle.std.specs.FinMap as fin
 use Rattle.std.specs.Coded.{Coded, code_by, coded×, coded_ℕ, coded_list, coded_bool, coded_option}
@@ -81,17 +81,17 @@ abbrev pub following : ℕ → List ℕ → Option ℕ
 following s [] = None
 following s (x ∷ xs) = if x == s then slice_get xs 0 else following s xs
 
--- 1 where a node that may be there stands in the place with this number
-abbrev pub stands : ℕ → Option ArenaNode → ℕ
-stands p None = 0
-stands p (Some n) = if place_number n.place == p then 1 else 0
+-- how often something with this place stands in the list with a number: once, or not at all
+abbrev pub count_in_list : ℕ → Option Place → ℕ
+count_in_list p None = 0
+count_in_list p (Some q) = if place_number q == p then 1 else 0
 
 -- Each node stands once in the list of its place, and in no other list. (Developer guide, "Optimization: generations": each
 -- tracked object is in one generation.)
 pub record IsListed (v : Nodes) : Type 0 where
   pub ten : length v.lists ≡ 10
   pub placed : (s : ℕ) (n : ArenaNode) → fin.get v.nodes s ≡ Some n → IsPlace n.place
-  pub once : (p s : ℕ) → p < 10 → occurrences s (list_of v.lists p) ≡ stands p (fin.get v.nodes s)
+  pub once : (p s : ℕ) → p < 10 → occurrences s (list_of v.lists p) ≡ count_in_list p (option_map (λ n. n.place) (fin.get v.nodes s))
 
 -- no node
 abbrev pub no_nodes : ℕ → Nodes
@@ -108,6 +108,10 @@ new_node code class body place = record {
   place = place;
   number = 0;
 }
+
+-- the same nodes and lists, with another room
+abbrev pub with_room : ℕ → Nodes → Nodes
+with_room room v = record v { room = room }
 
 -- one node more, last in the list of its place
 abbrev pub with_node : ℕ → ArenaNode → Nodes → Nodes

@@ -9,7 +9,7 @@ use Rattle.cg_graph.specs.Places.{place_number}
 use Rattle.cg_arena.specs.declared.slot.Slot.{Slot}
 use Rattle.cg_arena.specs.declared.ends.Ends.{Ends}
 use Rattle.cg_value.specs.declared.Place.{Place}
-use Rattle.cg_arena.specs.Nodes.{ArenaNode, IsPlace}
+use Rattle.cg_arena.specs.Nodes.{ArenaNode, IsPlace, count_in_list}
 use Rattle.cg_arena.specs.Slots.{serial_in, place_in_slot, node_in}
 use Rattle.cg_arena.specs.Links.{chain_from, IsLinked, ends_of, no_ends}
 
@@ -25,15 +25,10 @@ serials_of s e = map (λ k. unwrap_or (serial_in (get s k)) 0) (chain_from s e.s
 abbrev pub room_of : ℕ → Slab Slot → ℕ
 room_of spare s = min spare (s.capacity - slab_len s)
 
--- 1 where a place has this number
-abbrev pub is_numbered : ℕ → Option Place → ℕ
-is_numbered p None = 0
-is_numbered p (Some q) = if place_number q == p then 1 else 0
-
--- the same, but 0 for the slot that stands in no list just now
+-- how often a slot stands there: not at all if it is the one that stands in no list just now
 abbrev pub stands_at : Option ℕ → ℕ → ℕ → Option Place → ℕ
-stands_at None p k at = is_numbered p at
-stands_at (Some loose) p k at = if k == loose then 0 else is_numbered p at
+stands_at None p k at = count_in_list p at
+stands_at (Some loose) p k at = if k == loose then 0 else count_in_list p at
 
 -- The chain of each place, by its number: its links go both ways, its ends and its size are right, and each slot stands
 -- once in the chain of its place and in no other.

@@ -1,14 +1,15 @@
 //! The arena: nodes by serial, in one list for each place.
-ghost use Rattle.std.specs.Prelude.{◌≡◌, ◌≢◌, ℕ, ◌+◌, ◌-◌, ◌<◌, ◌≤◌, ◌^◌, ◌↔◌, ◌∷◌, [], nat_eq, if◌then◌else◌, IsTrue, IsSome, IfSome, Some, None, OnOk, OnErr, IsOk, length, slice_get, option_map};
+ghost use Rattle.std.specs.Prelude.{◌≡◌, ◌≢◌, ℕ, ◌+◌, ◌-◌, ◌<◌, ◌≤◌, ◌^◌, ◌↔◌, ◌∷◌, [], ◌==◌, if◌then◌else◌, IsTrue, IsSome, IfSome, Some, None, OnOk, OnErr, IsOk, length, slice_get, option_map};
 ghost use Rattle.std.specs.FinMap as map;
-ghost use Rattle.std.specs.Map.{lookup};
 ghost use Rattle.slab.specs.Slab.{get, slab_len, HasRoomFor, Updates};
 ghost use Rattle.indexmap.specs.IndexMap.{spare};
 ghost use Rattle.cg_graph.specs.Places.{place_number};
+ghost use Rattle.cg_arena.specs.Table.{row_of};
 
 use crate::ends::Ends;
 use crate::links::{
-    mark_finalized, place_all, serial_at, set_after, set_count, set_number, set_place, slot_at, tie,
+    join, mark_finalized, place_all, serial_at, set_after, set_count, set_number, set_place,
+    slot_at, unlink,
 };
 use crate::slot::Slot;
 use cg_value::{KindCode, Place};
@@ -68,8 +69,8 @@ fn number_of(place: Place) -> usize
 
 /// The slot of a serial that has a row.
 fn slot_of(rows: &IndexMap<u64, usize>, serial: u64) -> usize
-    requires { IsSome (lookup (nat_eq serial) rows.now.entries) }
-    ensures { lookup (nat_eq serial) rows.now.entries ≡ Some result }
+    requires { IsSome (row_of rows.now.entries serial) }
+    ensures { row_of rows.now.entries serial ≡ Some result }
 {
     match rows.get(&serial) {
         Some(slot) => *slot,
@@ -95,7 +96,7 @@ fn occupy(slots: &mut Slab<Slot>, slot: Slot) -> usize
 /// Names the slot of a new serial, in a row that `reserve` made room for.
 fn add_row(rows: &mut IndexMap<u64, usize>, serial: u64, at: usize)
     requires { 0 < spare rows.old }
-    ensures rows { (s : ℕ) → lookup (nat_eq s) rows.new.entries ≡ (if nat_eq serial s then Some at else lookup (nat_eq s) rows.old.entries) }
+    ensures rows { (s : ℕ) → row_of rows.new.entries s ≡ (if serial == s then Some at else row_of rows.old.entries s) }
     ensures room { spare rows.old ≤ spare rows.new + 1 }
 {
     match rows.insert(serial, at) {
@@ -106,14 +107,14 @@ fn add_row(rows: &mut IndexMap<u64, usize>, serial: u64, at: usize)
 
 /// Takes out the row of a serial.
 fn remove_row(rows: &mut IndexMap<u64, usize>, serial: u64)
-    ensures rows { (s : ℕ) → lookup (nat_eq s) rows.new.entries ≡ (if nat_eq serial s then None else lookup (nat_eq s) rows.old.entries) }
+    ensures rows { (s : ℕ) → row_of rows.new.entries s ≡ (if serial == s then None else row_of rows.old.entries s) }
     ensures room { spare rows.old ≤ spare rows.new }
 {
     rows.swap_remove(&serial);
 }
 
 impl Arena {
-    ghost use Rattle.cg_arena.specs.Nodes.{HasNode, IsPlace, IsListed, count_of as count_at, place_of as place_at, list_at, following, no_nodes, new_node, with_node, without_node, with_node_changed, node_finalized, node_numbered, counted_up, counted_down, with_node_moved, with_lists_merged};
+    ghost use Rattle.cg_arena.specs.Nodes.{HasNode, IsPlace, IsListed, count_of as count_at, place_of as place_at, list_at, following, no_nodes, new_node, with_room, with_node, without_node, with_node_changed, node_finalized, node_numbered, counted_up, counted_down, with_node_moved, with_lists_merged};
     ghost use Rattle.cg_arena.specs.Slots.{node_of};
 
     /// No node. It takes no memory yet.
@@ -132,7 +133,7 @@ impl Arena {
     /// It answers `AllocError` for want of memory alone. The nodes and lists stay as they are either way.
     pub fn reserve(&mut self) -> Result<(), AllocError>
         ensures ok { OnOk result (0 < self.new.room) }
-        ensures stays { self.new ≡ record self.old { room = self.new.room } }
+        ensures stays { self.new ≡ with_room self.new.room self.old }
         ensures room { self.old.room ≤ self.new.room }
         ensures succeeds { 0 < self.old.room → IsOk result }
     {
@@ -154,8 +155,9 @@ impl Arena {
     ) -> Result<(), AllocError>
         requires fresh { map.get self.old.nodes serial ≡ None }
         requires place { IsPlace place }
-        ensures ok { OnOk result (self.new ≡ with_node serial (new_node code class body place) (record self.old { room = self.new.room })) }
-        ensures err { OnErr result (self.new ≡ record self.old { room = self.new.room }) }
+        ensures ok { OnOk result (self.new ≡ with_node serial (new_node code class body place)
+            (with_room self.new.room self.old)) }
+        ensures err { OnErr result (self.new ≡ with_room self.new.room self.old) }
         ensures room { self.old.room ≤ self.new.room + 1 }
         ensures succeeds { 0 < self.old.room → IsOk result }
     {
@@ -164,7 +166,7 @@ impl Arena {
         Ok(())
     }
 
-    /// `add`, where there is room for the node, as after `reserve` or a `drop_node`. It cannot fail.
+    /// `add`, where there is room for the node, as after `reserve`. It cannot fail.
     pub fn add_reserved(
         &mut self,
         serial: u64,
@@ -176,29 +178,27 @@ impl Arena {
         requires fresh { map.get self.old.nodes serial ≡ None }
         requires place { IsPlace place }
         requires room { 0 < self.old.room }
-        ensures adds { self.new ≡ with_node serial (new_node code class body place) (record self.old { room = self.new.room }) }
+        ensures adds { self.new ≡ with_node serial (new_node code class body place)
+            (with_room self.new.room self.old) }
         ensures room { self.old.room ≤ self.new.room + 1 }
     {
         let at = occupy(&mut self.slots, Slot::new(serial, code, class, body, place));
         add_row(&mut self.rows, serial, at);
-        let to = number_of(place);
-        tie(&mut self.slots, self.ends[to].last, Some(at));
-        self.ends[to] = self.ends[to].joined(Ends::one(at));
+        let list = number_of(place);
+        self.ends[list] = join(&mut self.slots, self.ends[list], Ends::one(at));
     }
 
     /// The node is gone, from its list too.
     pub fn drop_node(&mut self, serial: u64)
         requires has { HasNode self.old serial }
         requires unheld { count_at self.old serial ≡ 0 }
-        ensures drops { self.new ≡ without_node serial (record self.old { room = self.new.room }) }
+        ensures drops { self.new ≡ without_node serial (with_room self.new.room self.old) }
         ensures room { self.old.room ≤ self.new.room }
     {
         let at = slot_of(&self.rows, serial);
         let slot = slot_at(&self.slots, at);
-        let before = slot.before();
         let from = number_of(slot.place);
-        tie(&mut self.slots, before, slot.after);
-        self.ends[from] = self.ends[from].without(before, slot.after);
+        self.ends[from] = unlink(&mut self.slots, self.ends[from], slot);
         self.slots.remove(at);
         remove_row(&mut self.rows, serial);
     }
@@ -324,15 +324,12 @@ impl Arena {
     {
         let at = slot_of(&self.rows, serial);
         let slot = slot_at(&self.slots, at);
-        let before = slot.before();
         let from = number_of(slot.place);
-        let to = number_of(place);
-        tie(&mut self.slots, before, slot.after);
-        self.ends[from] = self.ends[from].without(before, slot.after);
+        self.ends[from] = unlink(&mut self.slots, self.ends[from], slot);
         set_place(&mut self.slots, at, place);
         set_after(&mut self.slots, Some(at), None);
-        tie(&mut self.slots, self.ends[to].last, Some(at));
-        self.ends[to] = self.ends[to].joined(Ends::one(at));
+        let to = number_of(place);
+        self.ends[to] = join(&mut self.slots, self.ends[to], Ends::one(at));
     }
 
     /// All nodes of one place go to the end of the list of another, in their order.
@@ -346,8 +343,7 @@ impl Arena {
         let joined = number_of(to);
         let moved = self.ends[leaving];
         place_all(&mut self.slots, moved.first, moved.size, to);
-        tie(&mut self.slots, self.ends[joined].last, moved.first);
-        self.ends[joined] = self.ends[joined].joined(moved);
+        self.ends[joined] = join(&mut self.slots, self.ends[joined], moved);
         self.ends[leaving] = Ends::none();
     }
 

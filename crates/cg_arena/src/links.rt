@@ -1,9 +1,10 @@
 //! Nodes in slots, and the links between them.
-ghost use Rattle.std.specs.Prelude.{◌≡◌, Some, IsSome, option_and_then, option_map};
+ghost use Rattle.std.specs.Prelude.{◌≡◌, Some, IsSome, option_and_then, option_map, ◌+◌, ◌<◌, ◌^◌};
 ghost use Rattle.slab.specs.Slab.{get, ContainsKey};
 ghost use Rattle.cg_arena.specs.Slots.{with_after, with_before, with_place, with_count, with_mark, with_number, after_in};
-ghost use Rattle.cg_arena.specs.Links.{rewritten, after_set, before_set, tied, place_set, all_placed, chain_from};
+ghost use Rattle.cg_arena.specs.Links.{rewritten, after_set, before_set, tied, ends_without, ends_joined, place_set, all_placed, chain_from};
 
+use crate::ends::Ends;
 use crate::slot::Slot;
 use cg_value::Place;
 use slab::Slab;
@@ -88,11 +89,32 @@ pub fn set_before(slots: &mut Slab<Slot>, at: Option<usize>, before: Option<usiz
 }
 
 /// Makes two slots neighbours. Either may be missing: then the other is an end.
-pub fn tie(slots: &mut Slab<Slot>, before: Option<usize>, after: Option<usize>)
+fn tie(slots: &mut Slab<Slot>, before: Option<usize>, after: Option<usize>)
     ensures { slots.new ≡ tied before after slots.old }
 {
     set_after(slots, before, after);
     set_before(slots, after, before);
+}
+
+/// Takes a slot out of its list, and answers the ends of the list then.
+pub fn unlink(slots: &mut Slab<Slot>, ends: Ends, slot: Slot) -> Ends
+    requires { 0 < ends.size }
+    ensures slots { slots.new ≡ tied slot.before slot.after slots.old }
+    ensures ends { result ≡ ends_without slot.before slot.after ends }
+{
+    let before = slot.before();
+    tie(slots, before, slot.after);
+    ends.without(before, slot.after)
+}
+
+/// Appends one list to another, and answers the ends of the whole.
+pub fn join(slots: &mut Slab<Slot>, front: Ends, back: Ends) -> Ends
+    requires { front.size + back.size < 2 ^ 64 }
+    ensures slots { slots.new ≡ tied front.last back.first slots.old }
+    ensures ends { result ≡ ends_joined front back }
+{
+    tie(slots, front.last, back.first);
+    front.joined(back)
 }
 
 /// Gives a node another place, and answers the slot after it.

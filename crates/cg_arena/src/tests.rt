@@ -130,34 +130,96 @@ fn lists_are_merged_in_order(rt: HostRuntime) -> Result<(), Fail> {
     Ok(())
 }
 
+fn put_reserved(arena: &mut Arena, serial: u64, place: Place) -> Result<(), AllocError>
+    requires { IsPlace place }
+{
+    if !arena.has(serial) {
+        arena.reserve()?;
+        arena.add_reserved(serial, KindCode::Inst, Some(3), 11, place);
+    }
+    Ok(())
+}
+
+fn hold(arena: &mut Arena, serial: u64) {
+    if arena.has(serial) && arena.count_of(serial) < 1000 {
+        arena.inc(serial);
+    }
+}
+
+/// Whether the count is now 0.
+fn unhold(arena: &mut Arena, serial: u64) -> bool {
+    arena.has(serial) && arena.count_of(serial) > 0 && arena.dec(serial)
+}
+
+fn finalize(arena: &mut Arena, serial: u64) {
+    if arena.has(serial) {
+        arena.set_finalized(serial);
+    }
+}
+
+fn renumber(arena: &mut Arena, serial: u64, number: u32) {
+    if arena.has(serial) {
+        arena.set_gc(serial, number);
+    }
+}
+
+/// The count, the collector's number and the mark.
+fn marks_of(arena: &Arena, serial: u64) -> Option<(u32, u32, bool)> {
+    if !arena.has(serial) {
+        return None;
+    }
+    Some((
+        arena.count_of(serial),
+        arena.gc_of(serial),
+        arena.is_finalized(serial),
+    ))
+}
+
+/// The number, the body and the place.
+fn parts_of(arena: &Arena, serial: u64) -> Option<(Option<u32>, usize, Place)> {
+    if !arena.has(serial) {
+        return None;
+    }
+    Some((
+        arena.class_of(serial),
+        arena.body_of(serial),
+        arena.place_of(serial),
+    ))
+}
+
+fn code_of(arena: &Arena, serial: u64) -> Option<KindCode> {
+    if !arena.has(serial) {
+        return None;
+    }
+    Some(arena.code_of(serial))
+}
+
 #[test]
 fn fields_are_kept_by_serial(rt: HostRuntime) -> Result<(), Fail> {
     let mut arena = Arena::new(rt.alloc());
-    arena.reserve()?;
-    arena.add_reserved(7, KindCode::Inst, Some(3), 11, Place::Gen(0));
+    put_reserved(&mut arena, 7, Place::Gen(0))?;
     put(&mut arena, 9, Place::Gen(1))?;
-    if arena.has(7) && arena.count_of(7) < 4 {
-        arena.inc(7);
-    }
+    assert_eq!(rt; marks_of(&arena, 7), Some((0, 0, false)));
+    hold(&mut arena, 7);
     shift(&mut arena, 7, Place::Pend);
-    assert!(rt; arena.has(7));
-    assert_eq!(rt; arena.count_of(7), 1);
-    assert_eq!(rt; arena.code_of(7), KindCode::Inst);
-    assert_eq!(rt; arena.class_of(7), Some(3));
-    assert_eq!(rt; arena.body_of(7), 11);
-    assert_eq!(rt; arena.place_of(7), Place::Pend);
-    assert!(rt; !arena.is_finalized(7));
-    arena.set_finalized(7);
-    assert!(rt; arena.has(7));
-    arena.set_gc(7, 5);
-    assert!(rt; arena.has(7));
-    assert!(rt; arena.is_finalized(7));
-    assert_eq!(rt; arena.gc_of(7), 5);
-    assert_eq!(rt; arena.count_of(7), 1);
-    assert!(rt; arena.dec(7));
-    discard(&mut arena, 7);
-    assert!(rt; !arena.has(7));
-    assert!(rt; arena.has(9));
+    finalize(&mut arena, 7);
+    renumber(&mut arena, 7, 5);
+    assert_eq!(rt; marks_of(&arena, 7), Some((1, 5, true)));
+    assert_eq!(rt; parts_of(&arena, 7), Some((Some(3), 11, Place::Pend)));
+    assert_eq!(rt; code_of(&arena, 7), Some(KindCode::Inst));
+    Ok(())
+}
+
+#[test]
+fn counts_come_down_to_zero(rt: HostRuntime) -> Result<(), Fail> {
+    let mut arena = six(rt.alloc())?;
+    hold(&mut arena, 1);
+    hold(&mut arena, 1);
+    assert!(rt; !unhold(&mut arena, 1));
+    assert!(rt; unhold(&mut arena, 1));
+    discard(&mut arena, 1);
+    assert_eq!(rt; marks_of(&arena, 1), None);
+    assert_eq!(rt; marks_of(&arena, 2), Some((0, 0, false)));
     Ok(())
 }
 

@@ -1,4 +1,4 @@
-use Rattle.std.proofs.Common.{ap, ◌∙◌}
+use Rattle.std.proofs.Common.{refl}
 use Rattle.indexmap.specs.IndexMap.{spare}
 use Rattle.cg_arena.specs.Links.{tied, ends_without}
 use Rattle.cg_arena.specs.Table.{ends_at}
@@ -15,46 +15,35 @@ slot_at-slot-requires c = slot_there c.self.inside.slots c.self.inside.ends c.se
 pub number_of-from-requires : goal.number_of-from-requires
 number_of-from-requires c = slot_placed c.self.inside.slots c.self.inside.ends c.self.inside.rows.entries c.self.invariant c.slot_of-at.result c.slot_at-slot.result c.slot_at-slot.ensures
 
-pub without-requires : goal.without-requires
-without-requires c =
-    size_there c.self.inside.slots c.tie.new.slots c.self.inside.ends c.self.inside.rows.entries c.self.invariant c.args.serial c.slot_of-at.result c.slot_at-slot.result c.slot_of-at.ensures c.slot_at-slot.ensures
-    c.number_of-from.result c.number_of-from.ensures.number c.number_of-from.ensures.below
-    (c.tie.ensures ∙ ap (λ b. tied b c.slot_at-slot.result.after c.self.inside.slots) c.before-before.ensures)
+pub unlink-requires : goal.unlink-requires
+unlink-requires c =
+    size_there c.self.inside.slots (tied c.slot_at-slot.result.before c.slot_at-slot.result.after c.self.inside.slots) c.self.inside.ends c.self.inside.rows.entries c.self.invariant c.args.serial c.slot_of-at.result c.slot_at-slot.result c.slot_of-at.ensures c.slot_at-slot.ensures
+    c.number_of-from.result c.number_of-from.ensures.number c.number_of-from.ensures.below refl
 
 pub remove-requires : goal.remove-requires
 remove-requires c =
-    left_there c.self.inside.slots c.tie.new.slots c.self.inside.ends c.self.inside.rows.entries c.self.invariant c.args.serial c.slot_of-at.result c.slot_at-slot.result c.slot_of-at.ensures c.slot_at-slot.ensures
-    c.number_of-from.result c.number_of-from.ensures.number c.number_of-from.ensures.below
-    (c.tie.ensures ∙ ap (λ b. tied b c.slot_at-slot.result.after c.self.inside.slots) c.before-before.ensures)
+    left_there c.self.inside.slots c.unlink.new.slots c.self.inside.ends c.self.inside.rows.entries c.self.invariant c.args.serial c.slot_of-at.result c.slot_at-slot.result c.slot_of-at.ensures c.slot_at-slot.ensures
+    c.number_of-from.result c.number_of-from.ensures.number c.number_of-from.ensures.below c.unlink.ensures.slots
 
 pub invariant_of-self : goal.invariant_of-self
 invariant_of-self c =
-    dropped_sound c.self.inside.slots c.tie.new.slots c.remove.new.self c.self.inside.ends c.self.inside.rows.entries c.remove_row.new.rows.entries c.self.invariant (spare c.self.inside.rows) c.args.self.now c.self.view_is
+    dropped_sound c.self.inside.slots c.unlink.new.slots c.remove.new.self c.self.inside.ends c.self.inside.rows.entries c.remove_row.new.rows.entries c.self.invariant (spare c.self.inside.rows) c.args.self.now c.self.view_is
     c.args.serial c.slot_of-at.result c.slot_at-slot.result c.slot_of-at.ensures c.slot_at-slot.ensures
-    c.number_of-from.result c.number_of-from.ensures.number c.number_of-from.ensures.below
-    (c.tie.ensures ∙ ap (λ b. tied b c.slot_at-slot.result.after c.self.inside.slots) c.before-before.ensures)
-    c.without.result
-    (c.without.ensures ∙ ap (λ b. ends_without b c.slot_at-slot.result.after (ends_at c.self.inside.ends c.number_of-from.result)) c.before-before.ensures)
+    c.number_of-from.result c.number_of-from.ensures.number c.number_of-from.ensures.below c.unlink.ensures.slots c.unlink.result c.unlink.ensures.ends
     c.remove.ensures.updates c.remove.ensures.len c.remove_row.ensures.rows
 
 pub returns-clause-drops : goal.returns-clause-drops
 returns-clause-drops c =
-    dropped_view c.self.inside.slots c.tie.new.slots c.remove.new.self c.self.inside.ends c.self.inside.rows.entries c.remove_row.new.rows.entries c.self.invariant (spare c.self.inside.rows) c.args.self.now c.self.view_is
+    dropped_view c.self.inside.slots c.unlink.new.slots c.remove.new.self c.self.inside.ends c.self.inside.rows.entries c.remove_row.new.rows.entries c.self.invariant (spare c.self.inside.rows) c.args.self.now c.self.view_is
     c.args.serial c.slot_of-at.result c.slot_at-slot.result c.slot_of-at.ensures c.slot_at-slot.ensures
-    c.number_of-from.result c.number_of-from.ensures.number c.number_of-from.ensures.below
-    (c.tie.ensures ∙ ap (λ b. tied b c.slot_at-slot.result.after c.self.inside.slots) c.before-before.ensures)
-    c.without.result
-    (c.without.ensures ∙ ap (λ b. ends_without b c.slot_at-slot.result.after (ends_at c.self.inside.ends c.number_of-from.result)) c.before-before.ensures)
+    c.number_of-from.result c.number_of-from.ensures.number c.number_of-from.ensures.below c.unlink.ensures.slots c.unlink.result c.unlink.ensures.ends
     c.remove.ensures.updates c.remove.ensures.len c.remove_row.ensures.rows
     (spare c.remove_row.new.rows)
 
 pub returns-clause-room : goal.returns-clause-room
 returns-clause-room c =
-    dropped_room c.self.inside.slots c.tie.new.slots c.remove.new.self c.self.inside.ends c.self.inside.rows.entries c.remove_row.new.rows.entries c.self.invariant (spare c.self.inside.rows) c.args.self.now c.self.view_is
+    dropped_room c.self.inside.slots c.unlink.new.slots c.remove.new.self c.self.inside.ends c.self.inside.rows.entries c.remove_row.new.rows.entries c.self.invariant (spare c.self.inside.rows) c.args.self.now c.self.view_is
     c.args.serial c.slot_of-at.result c.slot_at-slot.result c.slot_of-at.ensures c.slot_at-slot.ensures
-    c.number_of-from.result c.number_of-from.ensures.number c.number_of-from.ensures.below
-    (c.tie.ensures ∙ ap (λ b. tied b c.slot_at-slot.result.after c.self.inside.slots) c.before-before.ensures)
-    c.without.result
-    (c.without.ensures ∙ ap (λ b. ends_without b c.slot_at-slot.result.after (ends_at c.self.inside.ends c.number_of-from.result)) c.before-before.ensures)
+    c.number_of-from.result c.number_of-from.ensures.number c.number_of-from.ensures.below c.unlink.ensures.slots c.unlink.result c.unlink.ensures.ends
     c.remove.ensures.updates c.remove.ensures.len c.remove_row.ensures.rows
     (spare c.remove_row.new.rows) c.remove.ensures.capacity c.remove_row.ensures.room

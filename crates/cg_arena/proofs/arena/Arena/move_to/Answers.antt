@@ -1,4 +1,4 @@
-use Rattle.std.proofs.Common.{◌≡◌, ap, ◌∙◌, arith}
+use Rattle.std.proofs.Common.{◌≡◌, ap, ◌∙◌, arith, refl}
 use Rattle.std.specs.Prelude.{slice_set}
 use Rattle.indexmap.specs.IndexMap.{spare}
 use Rattle.cg_arena.specs.declared.ends.Ends.{Ends}
@@ -18,44 +18,34 @@ slot_at-slot-requires c = slot_there c.self.inside.slots c.self.inside.ends c.se
 pub number_of-from-requires : goal.number_of-from-requires
 number_of-from-requires c = slot_placed c.self.inside.slots c.self.inside.ends c.self.inside.rows.entries c.self.invariant c.slot_of-at.result c.slot_at-slot.result c.slot_at-slot.ensures
 
-pub without-requires : goal.without-requires
-without-requires c =
-    size_there c.self.inside.slots c.tie.new.slots c.self.inside.ends c.self.inside.rows.entries c.self.invariant c.args.serial c.slot_of-at.result c.slot_at-slot.result c.slot_of-at.ensures c.slot_at-slot.ensures
-    c.number_of-from.result c.number_of-from.ensures.number c.number_of-from.ensures.below
-    (c.tie.ensures ∙ ap (λ b. tied b c.slot_at-slot.result.after c.self.inside.slots) c.before-before.ensures)
+pub unlink-requires : goal.unlink-requires
+unlink-requires c =
+    size_there c.self.inside.slots (tied c.slot_at-slot.result.before c.slot_at-slot.result.after c.self.inside.slots) c.self.inside.ends c.self.inside.rows.entries c.self.invariant c.args.serial c.slot_of-at.result c.slot_at-slot.result c.slot_of-at.ensures c.slot_at-slot.ensures
+    c.number_of-from.result c.number_of-from.ensures.number c.number_of-from.ensures.below refl
 
-pub joined-requires : goal.joined-requires
-joined-requires c =
+pub join-requires : goal.join-requires
+join-requires c =
     let one : c.one.result.size ≡ 1 = ap (λ (e : Ends). e.size) c.one.ensures in
-    let fits = room_for_one c.self.inside.slots c.tie.new.slots c.set_place.new.slots c.set_after.new.slots c.tie-2.new.slots c.self.inside.ends c.self.inside.rows.entries c.self.invariant (spare c.self.inside.rows) c.args.self.now c.self.view_is
+    let fits = room_for_one c.self.inside.slots c.unlink.new.slots c.set_place.new.slots c.set_after.new.slots c.set_after.new.slots c.self.inside.ends c.self.inside.rows.entries c.self.invariant (spare c.self.inside.rows) c.args.self.now c.self.view_is
     c.args.serial c.slot_of-at.result c.slot_at-slot.result c.slot_of-at.ensures c.slot_at-slot.ensures
-    c.number_of-from.result c.number_of-from.ensures.number c.number_of-from.ensures.below
-    (c.tie.ensures ∙ ap (λ b. tied b c.slot_at-slot.result.after c.self.inside.slots) c.before-before.ensures)
-    c.without.result
-    (c.without.ensures ∙ ap (λ b. ends_without b c.slot_at-slot.result.after (ends_at c.self.inside.ends c.number_of-from.result)) c.before-before.ensures)
+    c.number_of-from.result c.number_of-from.ensures.number c.number_of-from.ensures.below c.unlink.ensures.slots c.unlink.result c.unlink.ensures.ends
     c.args.place c.set_place.ensures c.set_after.ensures c.number_of-to.result c.number_of-to.ensures.number c.number_of-to.ensures.below in
     omega (arith, one, fits)
 
 pub invariant_of-self : goal.invariant_of-self
 invariant_of-self c =
-    moved_sound c.self.inside.slots c.tie.new.slots c.set_place.new.slots c.set_after.new.slots c.tie-2.new.slots c.self.inside.ends c.self.inside.rows.entries c.self.invariant (spare c.self.inside.rows) c.args.self.now c.self.view_is
+    moved_sound c.self.inside.slots c.unlink.new.slots c.set_place.new.slots c.set_after.new.slots c.join.new.slots c.self.inside.ends c.self.inside.rows.entries c.self.invariant (spare c.self.inside.rows) c.args.self.now c.self.view_is
     c.args.serial c.slot_of-at.result c.slot_at-slot.result c.slot_of-at.ensures c.slot_at-slot.ensures
-    c.number_of-from.result c.number_of-from.ensures.number c.number_of-from.ensures.below
-    (c.tie.ensures ∙ ap (λ b. tied b c.slot_at-slot.result.after c.self.inside.slots) c.before-before.ensures)
-    c.without.result
-    (c.without.ensures ∙ ap (λ b. ends_without b c.slot_at-slot.result.after (ends_at c.self.inside.ends c.number_of-from.result)) c.before-before.ensures)
+    c.number_of-from.result c.number_of-from.ensures.number c.number_of-from.ensures.below c.unlink.ensures.slots c.unlink.result c.unlink.ensures.ends
     c.args.place c.set_place.ensures c.set_after.ensures c.number_of-to.result c.number_of-to.ensures.number c.number_of-to.ensures.below
-    c.tie-2.ensures c.joined.result
-    (c.joined.ensures ∙ ap (ends_joined (ends_at (slice_set c.self.inside.ends c.number_of-from.result c.without.result) c.number_of-to.result)) c.one.ensures)
+    (c.join.ensures.slots ∙ ap (λ (o : Ends). tied (ends_at (slice_set c.self.inside.ends c.number_of-from.result c.unlink.result) c.number_of-to.result).last o.first c.set_after.new.slots) c.one.ensures) c.join.result
+    (c.join.ensures.ends ∙ ap (ends_joined (ends_at (slice_set c.self.inside.ends c.number_of-from.result c.unlink.result) c.number_of-to.result)) c.one.ensures)
 
 pub returns : goal.returns
 returns c =
-    moved_view c.self.inside.slots c.tie.new.slots c.set_place.new.slots c.set_after.new.slots c.tie-2.new.slots c.self.inside.ends c.self.inside.rows.entries c.self.invariant (spare c.self.inside.rows) c.args.self.now c.self.view_is
+    moved_view c.self.inside.slots c.unlink.new.slots c.set_place.new.slots c.set_after.new.slots c.join.new.slots c.self.inside.ends c.self.inside.rows.entries c.self.invariant (spare c.self.inside.rows) c.args.self.now c.self.view_is
     c.args.serial c.slot_of-at.result c.slot_at-slot.result c.slot_of-at.ensures c.slot_at-slot.ensures
-    c.number_of-from.result c.number_of-from.ensures.number c.number_of-from.ensures.below
-    (c.tie.ensures ∙ ap (λ b. tied b c.slot_at-slot.result.after c.self.inside.slots) c.before-before.ensures)
-    c.without.result
-    (c.without.ensures ∙ ap (λ b. ends_without b c.slot_at-slot.result.after (ends_at c.self.inside.ends c.number_of-from.result)) c.before-before.ensures)
+    c.number_of-from.result c.number_of-from.ensures.number c.number_of-from.ensures.below c.unlink.ensures.slots c.unlink.result c.unlink.ensures.ends
     c.args.place c.set_place.ensures c.set_after.ensures c.number_of-to.result c.number_of-to.ensures.number c.number_of-to.ensures.below
-    c.tie-2.ensures c.joined.result
-    (c.joined.ensures ∙ ap (ends_joined (ends_at (slice_set c.self.inside.ends c.number_of-from.result c.without.result) c.number_of-to.result)) c.one.ensures)
+    (c.join.ensures.slots ∙ ap (λ (o : Ends). tied (ends_at (slice_set c.self.inside.ends c.number_of-from.result c.unlink.result) c.number_of-to.result).last o.first c.set_after.new.slots) c.one.ensures) c.join.result
+    (c.join.ensures.ends ∙ ap (ends_joined (ends_at (slice_set c.self.inside.ends c.number_of-from.result c.unlink.result) c.number_of-to.result)) c.one.ensures)
