@@ -1,28 +1,26 @@
 -- The fields once a node is added.
-use Rattle.std.proofs.Common.{◌≡◌, ◌≢◌, ℕ, ◌+◌, ◌-◌, ◌<◌, ◌≤◌, ◌^◌, Bool, true, false, List, [], ◌∷◌, map, length, Option, Some, None, cond, refl, sym, ap, ◌∙◌, subst, inl, inr, arith}
-use Rattle.std.specs.Prelude.{option_map, is_some, IsSome, nat_eq, unwrap_or, slice_set, min, if◌then◌else◌}
+use Rattle.std.proofs.Common.{◌≡◌, ◌≢◌, ℕ, ◌+◌, ◌-◌, ◌<◌, ◌≤◌, ◌^◌, true, List, [], ◌∷◌, map, Option, Some, None, refl, sym, ap, ◌∙◌, subst, inl, inr, arith}
+use Rattle.std.specs.Prelude.{option_map, is_some, nat_eq, unwrap_or, slice_set, min, if◌then◌else◌}
 use Rattle.std.proofs.lemmas.Bool.{cases_eq, eq-eqb, ne_eqb}
 use Rattle.std.proofs.lemmas.List.{length-map, length-set}
-use Rattle.std.specs.Ordering.{nat_cmp}
 use Rattle.std.specs.FinMap as fin
 use Rattle.slab.specs.Slab.{Slab, get, slab_len, Updates}
-use Rattle.cg_value.specs.declared.Place.{Place}
 use Rattle.cg_graph.specs.Holdings.{occurrences}
 use Rattle.cg_graph.specs.Places.{place_number, list_of, joins_list}
 use Rattle.cg_arena.specs.declared.slot.Slot.{Slot}
 use Rattle.cg_arena.specs.declared.ends.Ends.{Ends}
-use Rattle.cg_arena.specs.Nodes.{Nodes, ArenaNode, IsPlace, with_node, count_in_list}
+use Rattle.cg_arena.specs.Nodes.{Nodes, ArenaNode, with_node, count_in_list}
 use Rattle.cg_arena.specs.Slots.{before_in, after_in, serial_in, place_in_slot, node_in, node_of}
-use Rattle.cg_arena.specs.Links.{tied, ends_joined, one_end, last_or}
-use Rattle.cg_arena.specs.Table.{nodes_of, serials_of, room_of, stands_at, IsSpelled, IsNamed, ends_at, row_of, IsSound}
+use Rattle.cg_arena.specs.Links.{tied, ends_joined, one_end}
+use Rattle.cg_arena.specs.Table.{nodes_of, serials_of, room_of, IsSpelled, IsNamed, ends_at, row_of, IsSound}
 use Rattle.cg_arena.proofs.Standing.{last_of-stands}
 use Rattle.cg_arena.proofs.Chains.{IsTied}
 use Rattle.cg_arena.proofs.Ties.{get-tied}
-use Rattle.cg_arena.proofs.Spelled.{stands_placed, stands-loose, vacant_loose, loose_spelled, appended_at, joins_spelled}
+use Rattle.cg_arena.proofs.Spelled.{stands_placed, vacant_loose, loose_spelled, appended_at, joins_spelled}
 use Rattle.cg_arena.proofs.Shapes.{SameShape, shape-tied, nodes-tied, places-tied}
 use Rattle.cg_arena.proofs.Rows.{get-nodes_of, nodes-insert}
-use Rattle.cg_arena.proofs.Lists.{serial_at, serials, serials-same, list-at, ten_lists, lists-joined}
-use Rattle.cg_arena.proofs.Sizes.{sizes, ends_set-same, ends_set-other, sizes-set}
+use Rattle.cg_arena.proofs.Lists.{serials, serials-same, list-at, ten_lists, lists-joined}
+use Rattle.cg_arena.proofs.Sizes.{ends_set-same, ends_set-other, sizes-set}
 use Rattle.cg_arena.proofs.Sound.{value_of}
 use Rattle.cg_arena.proofs.Lookups.{list_is, lists_ten}
 

@@ -1,12 +1,11 @@
 -- Chains of linked slots: what a change of links leaves of them.
-use Rattle.std.proofs.Common.{◌≡◌, ◌≢◌, ◌⊎◌, ℕ, suc, ◌+◌, ◌-◌, ◌<◌, ◌≤◌, List, [], ◌∷◌, ◌++◌, length, Option, Some, None, refl, sym, ap, ◌∙◌, subst, inl, inr, arith}
-use Rattle.std.proofs.lemmas.Bool.{cases_eq}
+use Rattle.std.proofs.Common.{◌≡◌, ◌≢◌, ℕ, ◌+◌, ◌<◌, ◌≤◌, List, [], ◌∷◌, ◌++◌, length, Option, Some, None, refl, sym, ap, ◌∙◌, arith}
 use Rattle.slab.specs.Slab.{Slab, get}
 use Rattle.cg_graph.specs.Holdings.{occurrences}
 use Rattle.cg_arena.specs.declared.slot.Slot.{Slot}
 use Rattle.cg_arena.specs.Slots.{before_in, after_in}
 use Rattle.cg_arena.specs.Links.{IsLinked, first_or, last_or, chain_from}
-use Rattle.cg_arena.proofs.Standing.{one, one-same, one-apart, occurrences-cons, last-stands, last_of-stands, first-stands, first_or-append}
+use Rattle.cg_arena.proofs.Standing.{one, one-same, occurrences-cons, last-stands, last_of-stands, first-stands, first_or-append}
 
 -- a slot has the same links
 abbrev pub HasLinks : (ℕ → Option Slot) → (ℕ → Option Slot) → ℕ → Type 0

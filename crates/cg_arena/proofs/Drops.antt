@@ -1,27 +1,25 @@
 -- The fields once a node is dropped.
-use Rattle.std.proofs.Common.{◌≡◌, ◌≢◌, ℕ, ◌+◌, ◌-◌, ◌<◌, ◌≤◌, ◌^◌, Bool, true, false, List, [], ◌∷◌, map, length, Option, Some, None, cond, refl, sym, ap, ◌∙◌, subst, inl, inr, arith}
-use Rattle.std.specs.Prelude.{option_map, is_some, IsSome, nat_eq, min, slice_set, if◌then◌else◌}
+use Rattle.std.proofs.Common.{◌≡◌, ◌≢◌, ℕ, ◌+◌, ◌-◌, ◌<◌, ◌≤◌, true, List, map, Some, None, sym, ap, ◌∙◌, subst, inl, inr, arith}
+use Rattle.std.specs.Prelude.{is_some, nat_eq, min, slice_set, if◌then◌else◌}
 use Rattle.std.proofs.lemmas.Bool.{cases_eq, eq-eqb, ne_eqb}
 use Rattle.std.proofs.lemmas.List.{length-map, length-set}
-use Rattle.std.specs.Ordering.{nat_cmp}
 use Rattle.std.specs.FinMap as fin
 use Rattle.slab.specs.Slab.{Slab, get, slab_len, Updates}
-use Rattle.cg_value.specs.declared.Place.{Place}
 use Rattle.cg_graph.specs.Holdings.{occurrences}
 use Rattle.cg_graph.specs.Places.{place_number, list_of, without_serial, leaves_list}
 use Rattle.cg_arena.specs.declared.slot.Slot.{Slot}
 use Rattle.cg_arena.specs.declared.ends.Ends.{Ends}
-use Rattle.cg_arena.specs.Nodes.{Nodes, ArenaNode, IsPlace, without_node, place_in, place_of, count_in_list}
-use Rattle.cg_arena.specs.Slots.{before_in, after_in, serial_in, place_in_slot, node_in, node_of}
+use Rattle.cg_arena.specs.Nodes.{Nodes, without_node, place_in, place_of, count_in_list}
+use Rattle.cg_arena.specs.Slots.{before_in, after_in, serial_in, place_in_slot, node_in}
 use Rattle.cg_arena.specs.Links.{tied, ends_without}
-use Rattle.cg_arena.specs.Table.{nodes_of, serials_of, room_of, stands_at, IsSpelled, IsNamed, ends_at, row_of, IsSound}
-use Rattle.cg_arena.proofs.Standing.{without-absent, occurrences-without_same, occurrences-without_other}
+use Rattle.cg_arena.specs.Table.{nodes_of, serials_of, room_of, IsSpelled, IsNamed, ends_at, row_of, IsSound}
+use Rattle.cg_arena.proofs.Standing.{occurrences-without_same}
 use Rattle.cg_arena.proofs.Chains.{IsTied}
 use Rattle.cg_arena.proofs.Ties.{get-tied}
-use Rattle.cg_arena.proofs.Spelled.{count_in_list-same, count_in_list-other, stands_placed, stands-loose, before_stands, after_stands, leaves_spelled, loose_spelled, loose_vacant}
+use Rattle.cg_arena.proofs.Spelled.{count_in_list-same, count_in_list-other, stands_placed, before_stands, after_stands, leaves_spelled, loose_spelled, loose_vacant}
 use Rattle.cg_arena.proofs.Shapes.{SameShape, shape-tied, nodes-tied, places-tied, there-tied}
-use Rattle.cg_arena.proofs.Rows.{get-nodes_of, nodes-remove, one_serial}
-use Rattle.cg_arena.proofs.Lists.{serial_at, serials, serials-same, list-at, ten_lists, lists-left}
+use Rattle.cg_arena.proofs.Rows.{nodes-remove}
+use Rattle.cg_arena.proofs.Lists.{serials-same, list-at, ten_lists, lists-left}
 use Rattle.cg_arena.proofs.Sizes.{sizes, ends_set-same, ends_set-other, sizes-set, size_above}
 use Rattle.cg_arena.proofs.Sound.{value_of, node_here}
 use Rattle.cg_arena.proofs.Lookups.{list_is, lists_ten, with_serial}

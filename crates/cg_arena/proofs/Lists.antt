@@ -1,19 +1,18 @@
 -- The lists of serials that chains of slots stand for.
-use Rattle.std.proofs.Common.{◌≡◌, ◌≢◌, ◌⊎◌, ℕ, ◌+◌, ◌<◌, Bool, true, false, not, List, [], ◌∷◌, ◌++◌, map, length, get_or, set, Option, Some, None, cond, refl, sym, ap, ◌∙◌, subst, inl, inr, arith}
-use Rattle.std.specs.Prelude.{◌==◌, nat_eq, unwrap_or, slice_get, slice_set, if◌then◌else◌}
+use Rattle.std.proofs.Common.{◌≡◌, ◌≢◌, ◌⊎◌, ℕ, ◌<◌, not, List, [], ◌∷◌, ◌++◌, map, length, get_or, set, Option, Some, None, cond, refl, sym, ap, ◌∙◌, inl, inr, arith}
+use Rattle.std.specs.Prelude.{unwrap_or, slice_get, if◌then◌else◌}
 use Rattle.std.proofs.lemmas.Bool.{cases_eq, eq-eqb, ne_eqb}
-use Rattle.std.proofs.lemmas.List.{get_or-set_same, get_or-set_other, length-set, get_or-map, ext_get_or, map-append, length-map}
+use Rattle.std.proofs.lemmas.List.{get_or-set_same, get_or-set_other, length-set, get_or-map, ext_get_or, map-append}
 use Rattle.slab.specs.Slab.{Slab, get}
-use Rattle.cg_value.specs.declared.Place.{Place}
 use Rattle.cg_graph.specs.Holdings.{occurrences}
 use Rattle.cg_graph.specs.Places.{list_of, without_serial, leaves_list, joins_list, merge_lists}
 use Rattle.cg_arena.specs.declared.slot.Slot.{Slot}
 use Rattle.cg_arena.specs.declared.ends.Ends.{Ends}
 use Rattle.cg_arena.specs.Nodes.{following, count_in_list}
 use Rattle.cg_arena.specs.Slots.{serial_in, place_in_slot}
-use Rattle.cg_arena.specs.Links.{chain_from, ends_of, no_ends}
+use Rattle.cg_arena.specs.Links.{chain_from, no_ends}
 use Rattle.cg_arena.specs.Table.{serials_of, IsSpelled, IsNamed, ends_at}
-use Rattle.cg_arena.proofs.Standing.{one, one-same, one-apart, occurrences-cons, without-absent}
+use Rattle.cg_arena.proofs.Standing.{one-same, one-apart, occurrences-cons, without-absent}
 use Rattle.cg_arena.proofs.Chains.{chain-read}
 use Rattle.cg_arena.proofs.Spelled.{appended_at, appended-here, appended-there}
 use Rattle.cg_arena.proofs.Merged.{merged_chain, merged-to, merged-from, merged-other, Which, To, From, Other, which}

@@ -1,23 +1,22 @@
 -- What the fields of an arena say of its lists.
-use Rattle.std.proofs.Common.{◌≡◌, ◌≢◌, ℕ, ◌+◌, ◌<◌, ◌≤◌, ◌^◌, Bool, true, false, List, [], ◌∷◌, ◌++◌, map, length, get_or, Option, Some, None, refl, sym, ap, ◌∙◌, subst, inl, inr, arith, replicate}
-use Rattle.std.specs.Prelude.{option_map, option_and_then, slice_get, unwrap_or, is_some, IsSome, sum_by, ◌==◌, if◌then◌else◌}
+use Rattle.std.proofs.Common.{◌≡◌, ℕ, ◌+◌, ◌<◌, List, [], ◌∷◌, ◌++◌, map, length, get_or, Option, Some, None, refl, sym, ap, ◌∙◌, subst, arith, replicate}
+use Rattle.std.specs.Prelude.{option_map, option_and_then, slice_get, unwrap_or, sum_by}
 use Rattle.std.proofs.lemmas.List.{length-map, get_or-replicate}
 use Rattle.std.specs.Ordering.{nat_cmp}
 use Rattle.std.specs.FinMap as fin
 use Rattle.slab.specs.Slab.{Slab, get, slab_len}
-use Rattle.cg_value.specs.declared.Place.{Place}
 use Rattle.cg_graph.specs.Holdings.{occurrences}
 use Rattle.cg_graph.specs.Places.{place_number, list_of}
 use Rattle.cg_graph.proofs.Maps.{same_map}
 use Rattle.cg_arena.specs.declared.slot.Slot.{Slot}
 use Rattle.cg_arena.specs.declared.ends.Ends.{Ends}
 use Rattle.cg_arena.specs.Nodes.{Nodes, ArenaNode, IsPlace, IsListed, following, place_in, place_of, no_nodes, count_in_list}
-use Rattle.cg_arena.specs.Slots.{before_in, after_in, serial_in, place_in_slot, node_in, node_of}
-use Rattle.cg_arena.specs.Links.{first_or, last_or, ends_of, no_ends, IsLinked}
-use Rattle.cg_arena.specs.Table.{nodes_of, serials_of, room_of, IsSpelled, IsNamed, ends_at, row_of, IsSound}
+use Rattle.cg_arena.specs.Slots.{after_in, serial_in, place_in_slot, node_in, node_of}
+use Rattle.cg_arena.specs.Links.{first_or, no_ends, IsLinked}
+use Rattle.cg_arena.specs.Table.{nodes_of, serials_of, room_of, IsSpelled, ends_at, row_of, IsSound}
 use Rattle.cg_arena.proofs.Standing.{one-same, occurrences-cons, occurrences-append, IsBetween, stands_between}
 use Rattle.cg_arena.proofs.Chains.{linked_back}
-use Rattle.cg_arena.proofs.Spelled.{stands_once, stands_placed, count_in_list-same}
+use Rattle.cg_arena.proofs.Spelled.{stands_placed, count_in_list-same}
 use Rattle.cg_arena.proofs.Rows.{get-nodes_of}
 use Rattle.cg_arena.proofs.Lists.{serial_at, serials, has_serial, list-at, ten_lists, occurrences-serials, following-serials, serials-absent}
 use Rattle.cg_arena.proofs.Sound.{value_of, node_here, the_slot, slot_there}

@@ -1,5 +1,5 @@
 -- The chains of all places, when one of them is appended to another.
-use Rattle.std.proofs.Common.{◌≡◌, ◌≢◌, ℕ, ◌+◌, ◌<◌, ◌≤◌, Bool, true, false, List, [], ◌∷◌, ◌++◌, Option, Some, None, refl, sym, ap, ◌∙◌, subst, inl, inr, arith, append-nil}
+use Rattle.std.proofs.Common.{◌≡◌, ◌≢◌, ℕ, ◌+◌, ◌<◌, ◌≤◌, List, [], ◌++◌, Option, Some, None, sym, ap, ◌∙◌, subst, inl, inr, arith}
 use Rattle.std.specs.Prelude.{◌==◌, if◌then◌else◌}
 use Rattle.std.proofs.lemmas.Bool.{cases_eq, eq-eqb, ne_eqb}
 use Rattle.cg_value.specs.declared.Place.{Place}
@@ -14,7 +14,7 @@ use Rattle.cg_arena.specs.Table.{IsSpelled}
 use Rattle.cg_arena.proofs.Standing.{occurrences-append}
 use Rattle.cg_arena.proofs.Chains.{HasLinks, linked_still, IsTied, tied_chain, tied_elsewhere}
 use Rattle.cg_arena.proofs.EndsLemmas.{ends-joined}
-use Rattle.cg_arena.proofs.Spelled.{count_in_list-same, count_in_list-other, stands_once, stands_either, stands_placed}
+use Rattle.cg_arena.proofs.Spelled.{count_in_list-same, count_in_list-other, stands_once, stands_either}
 
 -- the chains once the one of p is appended to that of q
 abbrev pub merged_chain : ℕ → ℕ → (ℕ → List ℕ) → ℕ → List ℕ

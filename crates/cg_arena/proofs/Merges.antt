@@ -1,19 +1,19 @@
 -- The fields once one list is appended to another.
-use Rattle.std.proofs.Common.{◌≡◌, ◌≢◌, ℕ, ◌+◌, ◌-◌, ◌<◌, ◌≤◌, ◌^◌, Bool, true, false, List, [], ◌∷◌, map, length, Option, Some, None, cond, refl, sym, ap, ◌∙◌, subst, inl, inr, arith}
-use Rattle.std.specs.Prelude.{option_map, is_some, slice_set, ◌==◌, if◌then◌else◌}
+use Rattle.std.proofs.Common.{◌≡◌, ◌≢◌, ℕ, ◌+◌, ◌<◌, ◌^◌, true, List, [], map, length, Option, Some, None, refl, sym, ap, ◌∙◌, subst, inl, inr, arith}
+use Rattle.std.specs.Prelude.{option_map, is_some, slice_set, if◌then◌else◌}
 use Rattle.std.proofs.lemmas.Bool.{cases_eq, eq-eqb, ne_eqb}
 use Rattle.std.proofs.lemmas.List.{length-map, length-set}
-use Rattle.slab.specs.Slab.{Slab, get, slab_len}
+use Rattle.slab.specs.Slab.{Slab, get}
 use Rattle.cg_value.specs.declared.Place.{Place}
 use Rattle.cg_graph.specs.Maps.{mapped}
 use Rattle.cg_graph.specs.Holdings.{occurrences}
 use Rattle.cg_graph.specs.Places.{place_number, list_of, merge_lists}
 use Rattle.cg_arena.specs.declared.slot.Slot.{Slot}
 use Rattle.cg_arena.specs.declared.ends.Ends.{Ends}
-use Rattle.cg_arena.specs.Nodes.{Nodes, ArenaNode, IsPlace, with_lists_merged, place_merged, node_placed, count_in_list}
+use Rattle.cg_arena.specs.Nodes.{Nodes, with_lists_merged, place_merged, node_placed, count_in_list}
 use Rattle.cg_arena.specs.Slots.{before_in, after_in, serial_in, place_in_slot, node_in, node_of, with_place}
-use Rattle.cg_arena.specs.Links.{tied, all_placed, chain_from, ends_joined, ends_of, no_ends}
-use Rattle.cg_arena.specs.Table.{nodes_of, serials_of, room_of, IsSpelled, IsNamed, ends_at, row_of, IsSound}
+use Rattle.cg_arena.specs.Links.{tied, all_placed, chain_from, ends_joined, no_ends}
+use Rattle.cg_arena.specs.Table.{nodes_of, serials_of, IsSpelled, ends_at, row_of, IsSound}
 use Rattle.cg_arena.proofs.Standing.{first-stands}
 use Rattle.cg_arena.proofs.Chains.{HasLinks, IsTied, chain-read}
 use Rattle.cg_arena.proofs.Ties.{get-tied}
@@ -21,8 +21,8 @@ use Rattle.cg_arena.proofs.Spelled.{count_in_list-same, count_in_list-other, sta
 use Rattle.cg_arena.proofs.Merged.{merged_chain, merged_spelled}
 use Rattle.cg_arena.proofs.Shapes.{SameShape, shape-trans, shape-tied, shape-all_placed, nodes-tied, places-tied, part-all_placed, get-all_placed_aside, get-all_placed_among}
 use Rattle.cg_arena.proofs.Rows.{nodes-mapped}
-use Rattle.cg_arena.proofs.Lists.{serial_at, serials, serials-same, list-at, ten_lists, lists-merged}
-use Rattle.cg_arena.proofs.Sizes.{sizes, ends_set-same, ends_set-other, sizes-set, two_sizes}
+use Rattle.cg_arena.proofs.Lists.{serials, serials-same, list-at, ten_lists, lists-merged}
+use Rattle.cg_arena.proofs.Sizes.{ends_set-same, ends_set-other, sizes-set, two_sizes}
 use Rattle.cg_arena.proofs.Sound.{value_of, the_slot, slot_there, named_still, room_still}
 use Rattle.cg_arena.proofs.Lookups.{list_is, lists_ten}
 use Rattle.cg_arena.proofs.Adds.{some_numbered, last_there}

@@ -1,27 +1,25 @@
 -- The fields once a node is moved.
-use Rattle.std.proofs.Common.{◌≡◌, ◌≢◌, ℕ, ◌+◌, ◌-◌, ◌<◌, ◌≤◌, ◌^◌, Bool, true, false, List, [], ◌∷◌, map, length, Option, Some, None, cond, refl, sym, ap, ◌∙◌, subst, inl, inr, arith}
+use Rattle.std.proofs.Common.{◌≡◌, ◌≢◌, ℕ, ◌+◌, ◌<◌, ◌^◌, true, List, [], ◌∷◌, map, length, Option, Some, None, refl, sym, ap, ◌∙◌, subst, inl, inr, arith}
 use Rattle.std.specs.Prelude.{option_map, is_some, unwrap_or, slice_set}
 use Rattle.std.proofs.lemmas.Bool.{cases_eq}
 use Rattle.std.proofs.lemmas.List.{length-map, length-set}
-use Rattle.std.specs.FinMap as fin
-use Rattle.slab.specs.Slab.{Slab, get, slab_len}
+use Rattle.slab.specs.Slab.{Slab, get}
 use Rattle.cg_value.specs.declared.Place.{Place}
 use Rattle.cg_graph.specs.Maps.{changed}
-use Rattle.cg_graph.specs.Holdings.{occurrences}
-use Rattle.cg_graph.specs.Places.{place_number, list_of, without_serial, leaves_list, joins_list, move_between}
+use Rattle.cg_graph.specs.Places.{place_number, list_of, without_serial, leaves_list, move_between}
 use Rattle.cg_arena.specs.declared.slot.Slot.{Slot}
 use Rattle.cg_arena.specs.declared.ends.Ends.{Ends}
-use Rattle.cg_arena.specs.Nodes.{Nodes, ArenaNode, IsPlace, with_node_moved, node_placed, place_in, place_of, count_in_list}
-use Rattle.cg_arena.specs.Slots.{before_in, after_in, serial_in, place_in_slot, node_in, node_of, with_place, with_after}
-use Rattle.cg_arena.specs.Links.{rewritten, after_set, tied, ends_without, ends_joined, one_end}
-use Rattle.cg_arena.specs.Table.{nodes_of, serials_of, room_of, stands_at, IsSpelled, IsNamed, ends_at, row_of, IsSound}
+use Rattle.cg_arena.specs.Nodes.{Nodes, with_node_moved, node_placed, place_in, place_of}
+use Rattle.cg_arena.specs.Slots.{before_in, after_in, serial_in, place_in_slot, node_in, with_place, with_after}
+use Rattle.cg_arena.specs.Links.{rewritten, tied, ends_without, ends_joined, one_end}
+use Rattle.cg_arena.specs.Table.{nodes_of, serials_of, IsSpelled, ends_at, row_of, IsSound}
 use Rattle.cg_arena.proofs.Chains.{IsTied}
 use Rattle.cg_arena.proofs.Writes.{get-rewritten_same, get-rewritten_other, part-rewritten}
 use Rattle.cg_arena.proofs.Ties.{get-tied}
 use Rattle.cg_arena.proofs.Spelled.{loose_spelled, appended_at, joins_spelled}
 use Rattle.cg_arena.proofs.Shapes.{SameShape, shape-trans, shape-rewritten, shape-tied, nodes-tied, places-tied}
 use Rattle.cg_arena.proofs.Rows.{nodes-changed}
-use Rattle.cg_arena.proofs.Lists.{serial_at, serials, serials-same, list-at, ten_lists, lists-left, lists-joined}
+use Rattle.cg_arena.proofs.Lists.{serials, serials-same, list-at, ten_lists, lists-left, lists-joined}
 use Rattle.cg_arena.proofs.Sizes.{sizes, ends_set-same, ends_set-other, sizes-set, size_within}
 use Rattle.cg_arena.proofs.Sound.{value_of, node_here, named_still, room_still}
 use Rattle.cg_arena.proofs.Lookups.{list_is, lists_ten, with_serial}

@@ -1,5 +1,5 @@
 -- What every write to slots leaves: the serials, how many slots are occupied, and the room.
-use Rattle.std.proofs.Common.{◌≡◌, ◌≢◌, ℕ, ◌+◌, ◌<◌, ◌≤◌, Bool, true, List, [], ◌∷◌, length, Option, Some, None, refl, sym, ap, ◌∙◌, inl, inr, arith, cond, set}
+use Rattle.std.proofs.Common.{◌≡◌, ◌≢◌, ℕ, ◌<◌, Bool, List, [], ◌∷◌, length, Option, Some, None, refl, sym, ap, ◌∙◌, inl, inr, arith, cond}
 use Rattle.std.specs.Prelude.{option_map, is_some, count_by}
 use Rattle.std.proofs.lemmas.Bool.{cases_lt, cases_eq}
 use Rattle.std.proofs.lemmas.List.{set_past}
@@ -8,8 +8,7 @@ use Rattle.slab.specs.Slab.{Slab, get, slab_len}
 use Rattle.cg_value.specs.declared.Place.{Place}
 use Rattle.cg_graph.specs.Holdings.{occurrences}
 use Rattle.cg_arena.specs.declared.slot.Slot.{Slot}
-use Rattle.cg_arena.specs.Slots.{before_in, after_in, serial_in, place_in_slot, node_in, with_before, with_after, with_place}
-use Rattle.cg_arena.specs.Nodes.{ArenaNode, node_placed}
+use Rattle.cg_arena.specs.Slots.{serial_in, place_in_slot, node_in, with_before, with_after, with_place}
 use Rattle.cg_arena.specs.Links.{rewritten, after_set, before_set, tied, all_placed}
 use Rattle.cg_arena.proofs.Standing.{one-same, one-apart, occurrences-cons}
 use Rattle.cg_arena.proofs.Writes.{part-rewritten, get-rewritten_same, get-rewritten_other}

@@ -1,12 +1,12 @@
 -- The sizes of the ten lists, together and after one of them has changed.
-use Rattle.std.proofs.Common.{◌≡◌, ◌≢◌, ℕ, ◌+◌, ◌-◌, ◌<◌, ◌≤◌, List, [], ◌∷◌, length, get_or, set, Option, Some, None, refl, sym, ap, ◌∙◌, arith}
+use Rattle.std.proofs.Common.{◌≡◌, ◌≢◌, ℕ, ◌+◌, ◌<◌, ◌≤◌, List, length, Option, ap, ◌∙◌, arith}
 use Rattle.std.specs.Prelude.{sum_by, slice_set, ◌==◌}
 use Rattle.std.proofs.lemmas.List.{get_or-set_same, get_or-set_other, length-set}
 use Rattle.std.proofs.lemmas.List.Sums.{sum_by-set, get_or-le-sum_by, count_by-le-length}
 use Rattle.cg_graph.specs.Holdings.{occurrences}
 use Rattle.cg_arena.specs.declared.slot.Slot.{Slot}
 use Rattle.cg_arena.specs.declared.ends.Ends.{Ends}
-use Rattle.cg_arena.specs.Links.{no_ends, ends_of}
+use Rattle.cg_arena.specs.Links.{no_ends}
 use Rattle.cg_arena.specs.Table.{IsSpelled, ends_at}
 
 -- the sum of the sizes

@@ -1,27 +1,26 @@
 -- What the fields of an arena say of one serial, and what a change of other parts of a slot leaves of them.
-use Rattle.std.proofs.Common.{◌≡◌, ◌≢◌, ℕ, ◌+◌, ◌-◌, ◌<◌, ◌≤◌, ◌^◌, Bool, true, false, List, [], ◌∷◌, map, length, Option, Some, None, refl, sym, ap, ◌∙◌, subst, inl, inr, arith}
-use Rattle.std.specs.Prelude.{option_map, is_some, IsSome, min, ◌==◌, if◌then◌else◌}
+use Rattle.std.proofs.Common.{◌≡◌, ℕ, ◌+◌, ◌-◌, ◌<◌, ◌^◌, List, [], ◌∷◌, map, Option, Some, None, refl, sym, ap, ◌∙◌, subst, inl, inr, arith}
+use Rattle.std.specs.Prelude.{option_map, IsSome, min, ◌==◌, if◌then◌else◌}
 use Rattle.std.proofs.lemmas.Bool.{cases_eq, eq-eqb, ne_eqb}
 use Rattle.std.proofs.lemmas.List.{length-map}
 use Rattle.std.specs.Ordering.{nat_cmp}
 use Rattle.std.specs.FinMap as fin
 use Rattle.slab.specs.Slab.{Slab, get, slab_len}
-use Rattle.cg_value.specs.declared.Place.{Place}
 use Rattle.cg_graph.specs.Maps.{mapped, changed}
 use Rattle.cg_graph.specs.Holdings.{occurrences}
 use Rattle.cg_graph.proofs.Maps.{get-changed_same}
 use Rattle.cg_arena.specs.declared.slot.Slot.{Slot}
 use Rattle.cg_arena.specs.declared.ends.Ends.{Ends}
-use Rattle.cg_arena.specs.Nodes.{Nodes, ArenaNode, HasNode, IsPlace, count_in, count_of, place_of, place_in, with_node_changed, node_counted_up, node_counted_down, counted_up, counted_down, count_in_list}
+use Rattle.cg_arena.specs.Nodes.{Nodes, ArenaNode, HasNode, IsPlace, count_in, count_of, with_node_changed, node_counted_up, node_counted_down, counted_up, counted_down, count_in_list}
 use Rattle.cg_arena.specs.Slots.{before_in, after_in, serial_in, place_in_slot, node_in, node_of}
 use Rattle.cg_arena.specs.Links.{rewritten}
 use Rattle.cg_arena.specs.Table.{nodes_of, serials_of, room_of, IsSpelled, IsNamed, ends_at, row_of, IsSound}
-use Rattle.cg_arena.proofs.Standing.{one, one-same, one-apart, occurrences-single}
+use Rattle.cg_arena.proofs.Standing.{one-same, one-apart, occurrences-single}
 use Rattle.cg_arena.proofs.Chains.{HasLinks, linked_still}
 use Rattle.cg_arena.proofs.Writes.{part-rewritten, get-rewritten_same, get-rewritten_other}
 use Rattle.cg_arena.proofs.Shapes.{SameShape, shape-rewritten}
-use Rattle.cg_arena.proofs.Rows.{get-nodes_of, nodes-changed, nodes-same}
-use Rattle.cg_arena.proofs.Lists.{serials, serials-same, list-at, ten_lists}
+use Rattle.cg_arena.proofs.Rows.{get-nodes_of, nodes-changed}
+use Rattle.cg_arena.proofs.Lists.{serials-same, list-at, ten_lists}
 
 -- the value of some fields
 abbrev pub value_of : Slab Slot → List Ends → List (ℕ × ℕ) → ℕ → Nodes

@@ -1,5 +1,5 @@
 -- The chains of all places, when a slot leaves its chain, joins one, or a chain is appended to another.
-use Rattle.std.proofs.Common.{◌≡◌, ◌≢◌, ◌⊎◌, ℕ, suc, ◌+◌, ◌-◌, ◌<◌, ◌≤◌, Bool, true, false, List, [], ◌∷◌, ◌++◌, length, Option, Some, None, cond, refl, sym, ap, ◌∙◌, subst, inl, inr, arith}
+use Rattle.std.proofs.Common.{◌≡◌, ◌≢◌, ℕ, ◌+◌, ◌<◌, ◌≤◌, Bool, true, false, List, [], ◌∷◌, ◌++◌, Option, Some, None, refl, sym, ap, ◌∙◌, subst, inl, inr, arith}
 use Rattle.std.specs.Prelude.{◌==◌, if◌then◌else◌}
 use Rattle.std.proofs.lemmas.Bool.{cases_eq, eq-eqb, ne_eqb}
 use Rattle.cg_value.specs.declared.Place.{Place}
@@ -9,7 +9,7 @@ use Rattle.cg_arena.specs.declared.slot.Slot.{Slot}
 use Rattle.cg_arena.specs.declared.ends.Ends.{Ends}
 use Rattle.cg_arena.specs.Nodes.{count_in_list}
 use Rattle.cg_arena.specs.Slots.{before_in, after_in, place_in_slot}
-use Rattle.cg_arena.specs.Links.{IsLinked, first_or, last_or, ends_of, ends_without, ends_joined, one_end, no_ends}
+use Rattle.cg_arena.specs.Links.{IsLinked, first_or, last_or, ends_of, ends_without, ends_joined, one_end}
 use Rattle.cg_arena.specs.Table.{stands_at, IsSpelled}
 use Rattle.cg_arena.proofs.Standing.{last_of-stands, first-stands, one, one-same, one-apart, occurrences-cons, occurrences-append, occurrences-single, IsBetween, stands_between, without-absent, without-between, occurrences-without_same, occurrences-without_other}
 use Rattle.cg_arena.proofs.Chains.{HasLinks, linked_still, linked_front, linked_back, IsTied, tied_chain, tied_elsewhere}

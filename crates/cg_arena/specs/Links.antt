@@ -1,5 +1,5 @@
 -- Chains of slots: what their links spell, and what a change of links writes.
-use Rattle.std.specs.Prelude.{◌≡◌, ℕ, zero, suc, ◌+◌, ◌-◌, ◌<◌, List, [], ◌∷◌, length, Option, Some, None, option_map, slice_set, slice_get}
+use Rattle.std.specs.Prelude.{◌≡◌, ℕ, zero, suc, ◌+◌, ◌-◌, List, [], ◌∷◌, length, Option, Some, None, option_map, slice_set}
 use Rattle.slab.specs.Slab.{Slab, get}
 use Rattle.cg_value.specs.declared.Place.{Place}
 use Rattle.cg_arena.specs.declared.slot.Slot.{Slot}

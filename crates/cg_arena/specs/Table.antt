@@ -1,11 +1,10 @@
 -- What the fields of an arena stand for, and what is true of them.
-use Rattle.std.specs.Prelude.{◌≡◌, ℕ, ◌+◌, ◌-◌, ◌<◌, ◌^◌, ◌==◌, List, [], ◌∷◌, map, length, sum_by, min, nat_eq, unwrap_or, Option, Some, None, slice_index_or, if◌then◌else◌}
+use Rattle.std.specs.Prelude.{◌≡◌, ℕ, ◌-◌, ◌<◌, ◌^◌, ◌==◌, List, map, length, sum_by, min, nat_eq, unwrap_or, Option, Some, None, slice_index_or, if◌then◌else◌}
 use Rattle.std.specs.Ordering.{nat_cmp}
 use Rattle.std.specs.FinMap as fin
 use Rattle.std.specs.Map.{lookup}
 use Rattle.slab.specs.Slab.{Slab, get, slab_len}
 use Rattle.cg_graph.specs.Holdings.{occurrences}
-use Rattle.cg_graph.specs.Places.{place_number}
 use Rattle.cg_arena.specs.declared.slot.Slot.{Slot}
 use Rattle.cg_arena.specs.declared.ends.Ends.{Ends}
 use Rattle.cg_value.specs.declared.Place.{Place}

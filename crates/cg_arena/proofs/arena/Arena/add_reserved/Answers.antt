@@ -1,9 +1,9 @@
-use Rattle.std.proofs.Common.{◌≡◌, ap, ◌∙◌, arith, sym}
+use Rattle.std.proofs.Common.{ap, ◌∙◌}
 use Rattle.indexmap.specs.IndexMap.{spare}
 use Rattle.cg_arena.specs.declared.ends.Ends.{Ends}
-use Rattle.cg_arena.specs.Nodes.{Nodes, new_node}
+use Rattle.cg_arena.specs.Nodes.{new_node}
 use Rattle.cg_arena.specs.Links.{tied, ends_joined}
-use Rattle.cg_arena.specs.Table.{ends_at, room_of}
+use Rattle.cg_arena.specs.Table.{ends_at}
 use Rattle.cg_arena.proofs.Adds.{added_sound, added_view, added_room}
 use Rattle.cg_arena.proofs.arena.Arena.add_reserved.Goals as goal
 

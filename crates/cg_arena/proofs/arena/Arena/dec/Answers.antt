@@ -1,7 +1,6 @@
-use Rattle.std.proofs.Common.{◌≡◌, ◌+◌, ◌-◌, refl, sym, ap, ◌∙◌, arith}
+use Rattle.std.proofs.Common.{◌≡◌, ◌-◌, refl, sym, ap, ◌∙◌, arith}
 use Rattle.std.proofs.lemmas.Bool.{eqb-true, eq-eqb}
 use Rattle.std.specs.FinMap as fin
-use Rattle.slab.specs.Slab.{get}
 use Rattle.indexmap.specs.IndexMap.{spare}
 use Rattle.cg_arena.specs.Nodes.{count_in, count_of, node_counted_down}
 use Rattle.cg_arena.specs.Slots.{with_count}

@@ -1,7 +1,6 @@
 use Rattle.std.proofs.Common.{refl}
 use Rattle.indexmap.specs.IndexMap.{spare}
-use Rattle.cg_arena.specs.Links.{tied, ends_without}
-use Rattle.cg_arena.specs.Table.{ends_at}
+use Rattle.cg_arena.specs.Links.{tied}
 use Rattle.cg_arena.proofs.Sound.{row_there, slot_there, slot_placed}
 use Rattle.cg_arena.proofs.Drops.{size_there, left_there, dropped_sound, dropped_view, dropped_room}
 use Rattle.cg_arena.proofs.arena.Arena.drop_node.Goals as goal

@@ -2,7 +2,7 @@ use Rattle.std.proofs.Common.{◌≡◌, ap, ◌∙◌, arith, refl}
 use Rattle.std.specs.Prelude.{slice_set}
 use Rattle.indexmap.specs.IndexMap.{spare}
 use Rattle.cg_arena.specs.declared.ends.Ends.{Ends}
-use Rattle.cg_arena.specs.Links.{tied, ends_without, ends_joined}
+use Rattle.cg_arena.specs.Links.{tied, ends_joined}
 use Rattle.cg_arena.specs.Table.{ends_at}
 use Rattle.cg_arena.proofs.Sound.{row_there, slot_there, slot_placed}
 use Rattle.cg_arena.proofs.Drops.{size_there}

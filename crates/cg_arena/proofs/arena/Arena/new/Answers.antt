@@ -1,4 +1,3 @@
-use Rattle.std.proofs.Common.{refl}
 use Rattle.indexmap.specs.IndexMap.{spare}
 use Rattle.cg_arena.proofs.Lookups.{new_sound, new_value}
 use Rattle.cg_arena.proofs.arena.Arena.new.Goals as goal

@@ -1,4 +1,4 @@
-use Rattle.std.proofs.Common.{sym, ap, ◌∙◌}
+use Rattle.std.proofs.Common.{◌∙◌}
 use Rattle.indexmap.specs.IndexMap.{spare}
 use Rattle.cg_arena.proofs.Sound.{row_there, slot_there}
 use Rattle.cg_arena.proofs.Lookups.{next_is}

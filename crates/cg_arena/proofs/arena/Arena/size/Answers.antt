@@ -1,4 +1,4 @@
-use Rattle.std.proofs.Common.{length, sym, ap, ◌∙◌}
+use Rattle.std.proofs.Common.{length, ap, ◌∙◌}
 use Rattle.indexmap.specs.IndexMap.{spare}
 use Rattle.cg_graph.specs.Places.{list_of}
 use Rattle.cg_arena.proofs.Lookups.{size_is, listed_is}
