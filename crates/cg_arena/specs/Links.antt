@@ -10,7 +10,7 @@ use Rattle.cg_arena.specs.Slots.{before_in, after_in, with_before, with_after, w
 unfoldable pub rewritten : (Slot → Slot) → ℕ → Slab Slot → Slab Slot
 rewritten f k s = record s { slots = slice_set s.slots k (option_map f (get s k)) }
 
--- a link of a slot that may be missing is set
+-- one of the links of a slot that may be missing is set
 abbrev pub after_set : Option ℕ → Option ℕ → Slab Slot → Slab Slot
 after_set None after s = s
 after_set (Some k) after s = rewritten (with_after after) k s
@@ -19,6 +19,7 @@ abbrev pub before_set : Option ℕ → Option ℕ → Slab Slot → Slab Slot
 before_set None before s = s
 before_set (Some k) before s = rewritten (with_before before) k s
 
+-- and its place
 abbrev pub place_set : Option ℕ → Place → Slab Slot → Slab Slot
 place_set None place s = s
 place_set (Some k) place s = rewritten (with_place place) k s

@@ -20,6 +20,9 @@ use std::marker::Model;
 
 /// The nodes of all objects, by serial, and the list of each place.
 ///
+/// A node is what CPython keeps in the head of an object: its count, and its links in a list of the collector.
+/// (Developer guide, "Garbage collector design": each generation is a doubly linked list.) Serials are ours.
+///
 /// A call that takes a serial takes constant time, and so do `first`, `next` and `size`; `merge` takes time in the
 /// size of `from` alone. Only `reserve` and `add` take memory.
 #[derive(Drop)]
@@ -188,7 +191,7 @@ impl Arena {
         self.ends[list] = join(&mut self.slots, self.ends[list], Ends::one(at));
     }
 
-    /// The node is gone, from its list too.
+    /// The node, whose count is 0, is gone, from its list too. Its serial may be added again.
     pub fn drop_node(&mut self, serial: u64)
         requires has { HasNode self.old serial }
         requires unheld { count_at self.old serial ≡ 0 }
@@ -203,7 +206,7 @@ impl Arena {
         remove_row(&mut self.rows, serial);
     }
 
-    /// The count rises by 1. It is below 2^32 - 1 before.
+    /// The count rises by 1. It is below 2^32 - 1 before. (Developer guide: the count is the number of references.)
     pub fn inc(&mut self, serial: u64)
         requires has { HasNode self.old serial }
         requires room { count_at self.old serial < 2 ^ 32 - 1 }
@@ -214,7 +217,8 @@ impl Arena {
         set_count(&mut self.slots, at, count);
     }
 
-    /// The count, which is above 0, falls by 1. It answers whether the count is now 0.
+    /// The count, which is above 0, falls by 1. It answers whether the count is now 0. (Developer guide: an object
+    /// whose count reaches 0 is deallocated.)
     pub fn dec(&mut self, serial: u64) -> bool
         requires { 0 < count_at self.old serial }
         ensures falls { self.new ≡ counted_down (serial ∷ []) self.old }
@@ -242,7 +246,7 @@ impl Arena {
         slot_at(&self.slots, at)
     }
 
-    /// The count.
+    /// The count, 0 to 2^32 - 1.
     pub fn count_of(&self, serial: u64) -> u32
         requires { HasNode self.now serial }
         ensures { IfSome (map.get self.now.nodes serial) (λ n. result ≡ n.count) }
@@ -290,7 +294,7 @@ impl Arena {
         self.node(serial).is_finalized()
     }
 
-    /// The collector's number.
+    /// The collector's number, 0 at first. (Developer guide, "Identifying reference cycles": `gc_refs`.)
     pub fn gc_of(&self, serial: u64) -> u32
         requires { HasNode self.now serial }
         ensures { IfSome (map.get self.now.nodes serial) (λ n. result ≡ n.number) }
@@ -316,7 +320,7 @@ impl Arena {
         set_number(&mut self.slots, at, number);
     }
 
-    /// The node goes to the end of the list of a place, which may be its own.
+    /// The node goes to the end of the list of a place, which may be its own. (Ours; CPython's `gc_list_move`.)
     pub fn move_to(&mut self, serial: u64, place: Place)
         requires has { HasNode self.old serial }
         requires place { IsPlace place }
@@ -332,7 +336,8 @@ impl Arena {
         self.ends[to] = join(&mut self.slots, self.ends[to], Ends::one(at));
     }
 
-    /// All nodes of one place go to the end of the list of another, in their order.
+    /// All nodes of one place go to the end of the list of another, in their order. (Developer guide, "Optimization:
+    /// generations": the survivors are merged into the next generation.)
     pub fn merge(&mut self, from: Place, to: Place)
         requires from { IsPlace from }
         requires to { IsPlace to }
@@ -364,7 +369,7 @@ impl Arena {
         serial_at(&self.slots, slot_at(&self.slots, at).after)
     }
 
-    /// How many nodes stand in a place.
+    /// How many nodes stand in a place. It tells besides that each node stands once in the list of its place alone.
     pub fn size(&self, place: Place) -> u64
         requires { IsPlace place }
         ensures size { result ≡ length (list_at self.now place) }
