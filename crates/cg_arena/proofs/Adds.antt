@@ -1,0 +1,172 @@
+-- The fields once a node is added.
+use Rattle.std.proofs.Common.{◌≡◌, ◌≢◌, ℕ, ◌+◌, ◌-◌, ◌<◌, ◌≤◌, ◌^◌, true, List, [], ◌∷◌, map, Option, Some, None, refl, sym, ap, ◌∙◌, subst, inl, inr, arith}
+use Rattle.std.specs.Prelude.{option_map, is_some, nat_eq, unwrap_or, slice_set, min, if◌then◌else◌}
+use Rattle.std.proofs.lemmas.Bool.{cases_eq, eq-eqb, ne_eqb}
+use Rattle.std.proofs.lemmas.List.{length-map, length-set}
+use Rattle.std.specs.FinMap as fin
+use Rattle.slab.specs.Slab.{Slab, get, slab_len, Updates}
+use Rattle.cg_graph.specs.Holdings.{occurrences}
+use Rattle.cg_graph.specs.Places.{place_number, list_of, joins_list}
+use Rattle.cg_arena.specs.declared.slot.Slot.{Slot}
+use Rattle.cg_arena.specs.declared.ends.Ends.{Ends}
+use Rattle.cg_arena.specs.Nodes.{Nodes, ArenaNode, with_node, count_in_list}
+use Rattle.cg_arena.specs.Slots.{before_in, after_in, serial_in, place_in_slot, node_in, node_of}
+use Rattle.cg_arena.specs.Links.{tied, ends_joined, one_end}
+use Rattle.cg_arena.specs.Table.{nodes_of, serials_of, room_of, IsSpelled, IsNamed, ends_at, row_of, IsSound}
+use Rattle.cg_arena.proofs.Standing.{last_of-stands}
+use Rattle.cg_arena.proofs.Chains.{IsTied}
+use Rattle.cg_arena.proofs.Ties.{get-tied}
+use Rattle.cg_arena.proofs.Spelled.{stands_placed, vacant_loose, loose_spelled, appended_at, joins_spelled}
+use Rattle.cg_arena.proofs.Shapes.{SameShape, shape-tied, nodes-tied, places-tied}
+use Rattle.cg_arena.proofs.Rows.{get-nodes_of, nodes-insert}
+use Rattle.cg_arena.proofs.Lists.{serials, serials-same, list-at, ten_lists, lists-joined}
+use Rattle.cg_arena.proofs.Sizes.{ends_set-same, ends_set-other, sizes-set}
+use Rattle.cg_arena.proofs.Sound.{value_of}
+use Rattle.cg_arena.proofs.Lookups.{list_is, lists_ten}
+
+no_value : {X Y : Type 0} (f : X → Y) (o : Option X) → option_map f o ≡ None → o ≡ None
+no_value f None none = refl
+no_value f (Some x) none = absurd (cc)
+
+-- a serial that is not there has no row
+pub no_row_there : (s : Slab Slot) (ends : List Ends) (rows : List (ℕ × ℕ)) (spare : ℕ) (v : Nodes) → value_of s ends rows spare ≡ v → (t : ℕ) → fin.get v.nodes t ≡ None → row_of rows t ≡ None
+no_row_there s ends rows spare v view_is t none =
+    no_value (λ k. node_in (get s k)) (row_of rows t)
+    (sym (get-nodes_of rows s t) ∙ ap (λ (w : Nodes). fin.get w.nodes t) view_is ∙ none)
+
+-- what stands in a place is an occupied slot
+pub some_numbered : (p : ℕ) (o : Option Slot) → count_in_list p (place_in_slot o) ≡ 1 → is_some o ≡ true
+some_numbered p None stands = absurd (omega (arith, stands))
+some_numbered p (Some c) stands = refl
+
+pub last_there : (cell : ℕ → Option Slot) (ends : ℕ → Ends) (chain : ℕ → List ℕ) (loose : Option ℕ) → IsSpelled cell ends chain loose → (q : ℕ) → q < 10 → (j : ℕ) → (ends q).last ≡ Some j → is_some (cell j) ≡ true
+last_there cell ends chain loose spelled q below j is =
+    some_numbered q (cell j)
+    (stands_placed cell ends chain loose spelled q j below
+    (last_of-stands (chain q) j (sym (ap (λ (e : Ends). e.last) (spelled.ended q below)) ∙ is)))
+
+module _ (s mid new : Slab Slot) (ends : List Ends) (rows later : List (ℕ × ℕ)) (sound : IsSound s ends rows) (spare : ℕ) (v : Nodes) (view_is : value_of s ends rows spare ≡ v) (t k : ℕ) (c : Slot) (n : ArenaNode) (node_is : node_of c ≡ n) (serial_is : c.serial ≡ t) (after_is : c.after ≡ None) (fresh : fin.get v.nodes t ≡ None) (vacant : get s k ≡ None) (updates : Updates s mid k (Some c)) (len : slab_len mid ≡ slab_len s + 1) (few : slab_len mid < 2 ^ 64) (rows_are : (q : ℕ) → row_of later q ≡ (if nat_eq t q then Some k else row_of rows q)) (q : ℕ) (q_is : q ≡ place_number n.place) (below : q < 10) (tied_is : new ≡ tied (ends_at ends q).last (Some k) mid) (e : Ends) (ends_are : e ≡ ends_joined (ends_at ends q) (one_end k)) where
+  no_row : row_of rows t ≡ None
+  no_row = no_row_there s ends rows spare v view_is t fresh
+
+  slot_others : (j : ℕ) → j ≢ k → get mid j ≡ get s j
+  slot_others j differs = updates.others j differs
+
+  place_is : c.place ≡ n.place
+  place_is = ap (λ (m : ArenaNode). m.place) node_is
+
+  loose : IsSpelled (get mid) (ends_at ends) sound.chain (Some k)
+  loose =
+      loose_spelled (get s) (get mid) (ends_at ends) sound.chain k
+      (vacant_loose (get s) (ends_at ends) sound.chain k vacant sound.spelled)
+      (λ j differs. (ap before_in (slot_others j differs), ap after_in (slot_others j differs)))
+      (λ j differs. ap place_in_slot (slot_others j differs))
+
+  tie : IsTied (get mid) (get new) (ends_at ends q).last (Some k)
+  tie =
+      subst (λ z. IsTied (get mid) (get z) (ends_at ends q).last (Some k)) (sym tied_is)
+      (get-tied (ends_at ends q).last (Some k) mid
+      (last_there (get mid) (ends_at ends) sound.chain (Some k) loose q below)
+      (λ j is. let same : k ≡ j = cc in ap (λ i. is_some (get mid i)) (sym same) ∙ ap is_some updates.changed))
+
+  shape : SameShape mid new
+  shape = subst (SameShape mid) (sym tied_is) (shape-tied (ends_at ends q).last (Some k) mid)
+
+  places : (j : ℕ) → place_in_slot (get new j) ≡ place_in_slot (get mid j)
+  places j = ap (λ z. place_in_slot (get z j)) tied_is ∙ places-tied (ends_at ends q).last (Some k) mid j
+
+  added_spelled : IsSpelled (get new) (ends_at (slice_set ends q e)) (appended_at q (k ∷ []) sound.chain) None
+  added_spelled =
+      joins_spelled (get mid) (get new) (ends_at ends) (ends_at (slice_set ends q e)) sound.chain k q loose c.place below
+      (ap place_in_slot updates.changed) (ap place_number place_is ∙ sym q_is) (ap after_in updates.changed ∙ after_is)
+      (ends_at ends q).last refl tie places
+      (ends_set-same ends sound.ten q below e ∙ ends_are)
+      (λ r differs. ends_set-other ends q r e differs)
+
+  serial_here : serial_in (get new k) ≡ Some t
+  serial_here = shape.serials k ∙ ap serial_in updates.changed ∙ ap Some serial_is
+
+  serial_there : (j : ℕ) → j ≢ k → serial_in (get new j) ≡ serial_in (get s j)
+  serial_there j differs = shape.serials j ∙ ap serial_in (slot_others j differs)
+
+  row_here : (u : ℕ) → u ≡ t → row_of later u ≡ Some k
+  row_here u same = rows_are u ∙ ap (λ b. if b then Some k else row_of rows u) (eq-eqb t u (sym same))
+
+  row_there : (u : ℕ) → u ≢ t → row_of later u ≡ row_of rows u
+  row_there u differs = rows_are u ∙ ap (λ b. if b then Some k else row_of rows u) (ne_eqb t u (λ f. differs (sym f)))
+
+  added_names : IsNamed (λ j. serial_in (get new j)) (row_of later)
+  added_names =
+      record {
+        named = λ j u is. elim (cases_eq j k) [
+          | inl same ↦
+              let both : Some t ≡ Some u = sym serial_here ∙ ap (λ i. serial_in (get new i)) (sym same) ∙ is in
+              let t_is : u ≡ t = cc in
+              row_here u t_is ∙ ap Some (sym same)
+          | inr differs ↦
+              let row_u : row_of rows u ≡ Some j = sound.names.named j u (sym (serial_there j differs) ∙ is) in
+              let other : u ≢ t = λ same. let none : None ≡ Some j = sym no_row ∙ ap (row_of rows) (sym same) ∙ row_u in absurd (cc) in
+              row_there u other ∙ row_u
+        ];
+        rowed = λ u j is. elim (cases_eq u t) [
+          | inl same ↦
+              let both : Some k ≡ Some j = sym (row_here u same) ∙ is in
+              let k_is : j ≡ k = cc in
+              ap (λ i. serial_in (get new i)) k_is ∙ serial_here ∙ ap Some (sym same)
+          | inr differs ↦
+              let was : serial_in (get s j) ≡ Some u = sound.names.rowed u j (sym (row_there u differs) ∙ is) in
+              let other : j ≢ k = λ same. let none : None ≡ Some u = sym (ap serial_in vacant) ∙ ap (λ i. serial_in (get s i)) (sym same) ∙ was in absurd (cc) in
+              serial_there j other ∙ was
+        ];
+      }
+
+  pub added_sound : IsSound new (slice_set ends q e) later
+  added_sound =
+      let size : e.size ≡ (ends_at ends q).size + 1 = ap (λ (d : Ends). d.size) ends_are in
+      record {
+        ten = length-set ends q e ∙ sound.ten;
+        chain = appended_at q (k ∷ []) sound.chain;
+        spelled = added_spelled;
+        names = added_names;
+        placed = λ j p is. elim (cases_eq j k) [
+          | inl same ↦
+              let both : Some n.place ≡ Some p = ap Some (sym place_is) ∙ sym (ap place_in_slot updates.changed) ∙ ap (λ i. place_in_slot (get mid i)) (sym same) ∙ sym (places j) ∙ is in
+              let there : n.place ≡ p = cc in
+              subst (λ m. m < 10) (q_is ∙ ap place_number there) below
+          | inr differs ↦ sound.placed j p (sym (places j ∙ ap place_in_slot (slot_others j differs)) ∙ is)
+        ];
+        counted = omega (arith, sizes-set ends sound.ten q below e, sound.counted, size, len, shape.len);
+        few = subst (λ m. m < 2 ^ 64) (sym shape.len) few;
+      }
+
+  nodes_are : nodes_of later new ≡ fin.insert v.nodes t n
+  nodes_are =
+      nodes-insert rows later s new sound.names t k n vacant rows_are
+      (ap (λ z. node_in (get z k)) tied_is ∙ nodes-tied (ends_at ends q).last (Some k) mid k ∙ ap node_in updates.changed ∙ node_is)
+      (λ j differs. ap (λ z. node_in (get z j)) tied_is ∙ nodes-tied (ends_at ends q).last (Some k) mid j ∙ ap node_in (slot_others j differs))
+      ∙ ap (λ (w : Nodes). fin.insert w.nodes t n) view_is
+
+  absent_before : (r : ℕ) → r < 10 → occurrences k (sound.chain r) ≡ 0
+  absent_before r r_below = sound.spelled.standing r k r_below ∙ ap (λ o. count_in_list r (place_in_slot o)) vacant
+
+  lists_are : map (serials_of new) (slice_set ends q e) ≡ joins_list v.lists t (place_number n.place)
+  lists_are =
+      let old_ten = lists_ten s ends rows spare v view_is sound in
+      let old_are = λ (r : ℕ) (r_below : r < 10). let f : list_of v.lists r ≡ serials new (sound.chain r) =
+      list_is s ends rows spare v view_is sound r r_below
+      ∙ sym (serials-same s new (sound.chain r) (λ j stands. serial_there j (λ same. absurd (omega (arith, stands, absent_before r r_below, ap (λ i. occurrences i (sound.chain r)) same))))) in f in
+      ten_lists (map (serials_of new) (slice_set ends q e)) (joins_list v.lists t (place_number n.place))
+      (length-map (slice_set ends q e) (serials_of new) ∙ length-set ends q e ∙ sound.ten)
+      (length-set v.lists (place_number n.place) _ ∙ old_ten)
+      (λ r r_below.
+      list-at new (slice_set ends q e) (appended_at q (k ∷ []) sound.chain) None (length-set ends q e ∙ sound.ten) added_spelled r r_below
+      ∙ sym (lists-joined new v.lists sound.chain old_ten old_are t k q (ap (λ o. unwrap_or o 0) serial_here) below r r_below)
+      ∙ ap (λ p. list_of (joins_list v.lists t p) r) q_is)
+
+  pub added_view : (left : ℕ) → value_of new (slice_set ends q e) later left ≡ with_node t n (record v { room = room_of left new })
+  added_view left = λ i. record { nodes = nodes_are i; lists = lists_are i; room = room_of left new }
+
+  pub added_room : (left : ℕ) → mid.capacity ≡ s.capacity → spare ≤ left + 1 → v.room ≤ room_of left new + 1
+  added_room left capacity used =
+      let was : v.room ≡ min spare (s.capacity - slab_len s) = ap (λ (w : Nodes). w.room) (sym view_is) in
+      omega (arith, was, capacity, used, len, shape.len, shape.capacity)

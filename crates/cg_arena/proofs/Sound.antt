@@ -1,0 +1,185 @@
+-- What the fields of an arena say of one serial, and what a change of other parts of a slot leaves of them.
+use Rattle.std.proofs.Common.{◌≡◌, ℕ, ◌+◌, ◌-◌, ◌<◌, ◌^◌, List, [], ◌∷◌, map, Option, Some, None, refl, sym, ap, ◌∙◌, subst, inl, inr, arith}
+use Rattle.std.specs.Prelude.{option_map, IsSome, min, ◌==◌, if◌then◌else◌}
+use Rattle.std.proofs.lemmas.Bool.{cases_eq, eq-eqb, ne_eqb}
+use Rattle.std.proofs.lemmas.List.{length-map}
+use Rattle.std.specs.Ordering.{nat_cmp}
+use Rattle.std.specs.FinMap as fin
+use Rattle.slab.specs.Slab.{Slab, get, slab_len}
+use Rattle.cg_graph.specs.Maps.{mapped, changed}
+use Rattle.cg_graph.specs.Holdings.{occurrences}
+use Rattle.cg_graph.proofs.Maps.{get-changed_same}
+use Rattle.cg_arena.specs.declared.slot.Slot.{Slot}
+use Rattle.cg_arena.specs.declared.ends.Ends.{Ends}
+use Rattle.cg_arena.specs.Nodes.{Nodes, ArenaNode, HasNode, IsPlace, count_in, count_of, with_node_changed, node_counted_up, node_counted_down, counted_up, counted_down, count_in_list}
+use Rattle.cg_arena.specs.Slots.{before_in, after_in, serial_in, place_in_slot, node_in, node_of}
+use Rattle.cg_arena.specs.Links.{rewritten}
+use Rattle.cg_arena.specs.Table.{nodes_of, serials_of, room_of, IsSpelled, IsNamed, ends_at, row_of, IsSound}
+use Rattle.cg_arena.proofs.Standing.{one-same, one-apart, occurrences-single}
+use Rattle.cg_arena.proofs.Chains.{HasLinks, linked_still}
+use Rattle.cg_arena.proofs.Writes.{part-rewritten, get-rewritten_same, get-rewritten_other}
+use Rattle.cg_arena.proofs.Shapes.{SameShape, shape-rewritten}
+use Rattle.cg_arena.proofs.Rows.{get-nodes_of, nodes-changed}
+use Rattle.cg_arena.proofs.Lists.{serials-same, list-at, ten_lists}
+
+-- the value of some fields
+abbrev pub value_of : Slab Slot → List Ends → List (ℕ × ℕ) → ℕ → Nodes
+value_of s ends rows spare = record { nodes = nodes_of rows s; lists = map (serials_of s) ends; room = room_of spare s }
+
+pub room_still : (spare : ℕ) (s new : Slab Slot) → new.capacity ≡ s.capacity → slab_len new ≡ slab_len s → room_of spare new ≡ room_of spare s
+room_still spare s new capacity len = λ i. min spare (capacity i - len i)
+
+some_mapped : {X Y : Type 0} (f : X → Y) (o : Option X) → IsSome (option_map f o) → IsSome o
+some_mapped f None has = absurd (cc)
+some_mapped f (Some x) has = refl
+
+some_serial : (o : Option Slot) (t : ℕ) → serial_in o ≡ Some t → IsSome o
+some_serial None t is = absurd (cc)
+some_serial (Some c) t is = refl
+
+module _ (s : Slab Slot) (ends : List Ends) (rows : List (ℕ × ℕ)) (spare : ℕ) (v : Nodes) (view_is : value_of s ends rows spare ≡ v) (t : ℕ) where
+  -- what is there has a row
+  pub row_there : HasNode v t → IsSome (row_of rows t)
+  row_there has =
+      some_mapped (λ k. node_in (get s k)) (row_of rows t)
+      (subst IsSome (get-nodes_of rows s t) (subst (λ (w : Nodes). IsSome (fin.get w.nodes t)) (sym view_is) has))
+
+  pub row_there_back : IsSome (row_of rows t) → HasNode v t
+  row_there_back has =
+      subst (λ (w : Nodes). IsSome (fin.get w.nodes t)) view_is
+      (subst IsSome (sym (get-nodes_of rows s t)) (mapped_some (row_of rows t) has))
+    where
+      mapped_some : (o : Option ℕ) → IsSome o → IsSome (option_map (λ k. node_in (get s k)) o)
+      mapped_some None h = absurd (cc)
+      mapped_some (Some x) h = refl
+
+  -- and its node is that of the slot
+  pub node_here : (k : ℕ) (c : Slot) → row_of rows t ≡ Some k → get s k ≡ Some c → fin.get v.nodes t ≡ Some (node_of c)
+  node_here k c row_is slot_is =
+      ap (λ (w : Nodes). fin.get w.nodes t) (sym view_is)
+      ∙ get-nodes_of rows s t
+      ∙ ap (option_map (λ j. node_in (get s j))) row_is
+      ∙ ap (λ o. Some (node_in o)) slot_is
+
+-- a slot that is occupied has a content
+pub the_slot : (o : Option Slot) → IsSome o → (c : Slot) × (o ≡ Some c)
+the_slot None some = absurd (cc)
+the_slot (Some c) some = (c, refl)
+
+-- a row names an occupied slot
+pub slot_there : (s : Slab Slot) (ends : List Ends) (rows : List (ℕ × ℕ)) → IsSound s ends rows → (t k : ℕ) → row_of rows t ≡ Some k → IsSome (get s k)
+slot_there s ends rows sound t k row_is = some_serial (get s k) t (sound.names.rowed t k row_is)
+
+pub slot_serial : (s : Slab Slot) (ends : List Ends) (rows : List (ℕ × ℕ)) → IsSound s ends rows → (t k : ℕ) → row_of rows t ≡ Some k → serial_in (get s k) ≡ Some t
+slot_serial s ends rows sound t k row_is = sound.names.rowed t k row_is
+
+-- the place of an occupied slot has a number below 10
+pub slot_placed : (s : Slab Slot) (ends : List Ends) (rows : List (ℕ × ℕ)) → IsSound s ends rows → (k : ℕ) (c : Slot) → get s k ≡ Some c → IsPlace c.place
+slot_placed s ends rows sound k c is = sound.placed k c.place (ap place_in_slot is)
+
+spelled_still : (cell new : ℕ → Option Slot) (ends : ℕ → Ends) (chain : ℕ → List ℕ) → ((j : ℕ) → HasLinks cell new j) → ((j : ℕ) → place_in_slot (new j) ≡ place_in_slot (cell j)) → IsSpelled cell ends chain None → IsSpelled new ends chain None
+spelled_still cell new ends chain links places spelled =
+    record {
+      linked = λ p below. linked_still cell new None (chain p) None (λ j stands. links j) (spelled.linked p below);
+      ended = spelled.ended;
+      standing = λ p k below. spelled.standing p k below ∙ ap (count_in_list p) (sym (places k));
+    }
+
+pub named_still : (serial new row : ℕ → Option ℕ) → ((k : ℕ) → new k ≡ serial k) → IsNamed serial row → IsNamed new row
+named_still serial new row same names =
+    record {
+      named = λ k s is. names.named k s (sym (same k) ∙ is);
+      rowed = λ s k is. same k ∙ names.rowed s k is;
+    }
+
+-- links, places and serials are the same
+module _ (s new : Slab Slot) (ends : List Ends) (rows : List (ℕ × ℕ)) (sound : IsSound s ends rows) (links : (j : ℕ) → HasLinks (get s) (get new) j) (places : (j : ℕ) → place_in_slot (get new j) ≡ place_in_slot (get s j)) (names : (j : ℕ) → serial_in (get new j) ≡ serial_in (get s j)) (len : slab_len new ≡ slab_len s) where
+  pub sound_still : IsSound new ends rows
+  sound_still =
+      record {
+        ten = sound.ten;
+        chain = sound.chain;
+        spelled = spelled_still (get s) (get new) (ends_at ends) sound.chain links places sound.spelled;
+        names = named_still (λ k. serial_in (get s k)) (λ k. serial_in (get new k)) (row_of rows) names sound.names;
+        placed = λ k p is. sound.placed k p (sym (places k) ∙ is);
+        counted = sound.counted ∙ sym len;
+        few = subst (λ n. n < 2 ^ 64) (sym len) sound.few;
+      }
+
+  still_spelled : IsSpelled (get new) (ends_at ends) sound.chain None
+  still_spelled = spelled_still (get s) (get new) (ends_at ends) sound.chain links places sound.spelled
+
+  pub lists_still : map (serials_of new) ends ≡ map (serials_of s) ends
+  lists_still =
+      ten_lists (map (serials_of new) ends) (map (serials_of s) ends) (length-map ends (serials_of new) ∙ sound.ten) (length-map ends (serials_of s) ∙ sound.ten)
+      (λ r below.
+      list-at new ends sound.chain None sound.ten still_spelled r below
+      ∙ serials-same s new (sound.chain r) (λ j stands. names j)
+      ∙ sym (list-at s ends sound.chain None sound.ten sound.spelled r below))
+
+-- a field of one node is written
+module _ (f : Slot → Slot) (befores : (x : Slot) → (f x).before ≡ x.before) (afters : (x : Slot) → (f x).after ≡ x.after) (serial_same : (x : Slot) → (f x).serial ≡ x.serial) (place_same : (x : Slot) → (f x).place ≡ x.place) (s : Slab Slot) (ends : List Ends) (rows : List (ℕ × ℕ)) (sound : IsSound s ends rows) (k : ℕ) where
+  shape : SameShape s (rewritten f k s)
+  shape = shape-rewritten f k s serial_same
+
+  field_links : (j : ℕ) → HasLinks (get s) (get (rewritten f k s)) j
+  field_links j = (part-rewritten before_in f befores k s j, part-rewritten after_in f afters k s j)
+
+  field_places : (j : ℕ) → place_in_slot (get (rewritten f k s) j) ≡ place_in_slot (get s j)
+  field_places j = part-rewritten place_in_slot f (λ x. ap Some (place_same x)) k s j
+
+  pub field_sound : (new : Slab Slot) → new ≡ rewritten f k s → IsSound new ends rows
+  field_sound new is = subst (λ z. IsSound z ends rows) (sym is) (sound_still s (rewritten f k s) ends rows sound field_links field_places shape.serials shape.len)
+
+  -- the value with the node changed
+  pub field_view : (new : Slab Slot) → new ≡ rewritten f k s → (spare : ℕ) (v : Nodes) → value_of s ends rows spare ≡ v → (g : ArenaNode → ArenaNode) (t : ℕ) (c : Slot) → row_of rows t ≡ Some k → get s k ≡ Some c → node_of (f c) ≡ g (node_of c)
+      → value_of new ends rows spare ≡ with_node_changed g t v
+  field_view new is spare v view_is g t c row_is slot_is node_is =
+      let node_here : node_in (get (rewritten f k s) k) ≡ g (node_in (get s k)) =
+      ap node_in (get-rewritten_same f k s ∙ ap (option_map f) slot_is) ∙ node_is ∙ ap (λ o. g (node_in o)) (sym slot_is) in
+      let nodes_are = nodes-changed rows s (rewritten f k s) sound.names g t k row_is node_here (λ j differs. ap node_in (get-rewritten_other f k s j differs)) in
+      let lists_are = lists_still s (rewritten f k s) ends rows sound field_links field_places shape.serials shape.len in
+      let changed_is : value_of (rewritten f k s) ends rows spare ≡ with_node_changed g t (value_of s ends rows spare) = λ i. record {
+        nodes = nodes_are i;
+        lists = lists_are i;
+        room = room_still spare s (rewritten f k s) shape.capacity shape.len i;
+      } in
+      ap (λ z. value_of z ends rows spare) is ∙ changed_is ∙ ap (with_node_changed g t) view_is
+
+-- one count is raised, or lowered
+once_changed : (step : ℕ → ArenaNode → ArenaNode) → ((n : ArenaNode) → step 0 n ≡ n) → (t : ℕ) (m : fin.FinMap nat_cmp ArenaNode) → mapped (λ q n. step (occurrences q (t ∷ [])) n) m ≡ changed (step 1) t m
+once_changed step nothing t m = ap (λ (g : ℕ → ArenaNode → ArenaNode). mapped g m) (λ i q n. each q n i)
+  where
+    each : (q : ℕ) (n : ArenaNode) → step (occurrences q (t ∷ [])) n ≡ (if q == t then step 1 n else n)
+    each q n = elim (cases_eq q t) [
+      | inl same ↦
+          ap (λ k. step k n) (occurrences-single q t ∙ one-same q t (sym same))
+          ∙ sym (ap (λ b. if b then step 1 n else n) (eq-eqb q t same))
+      | inr differs ↦
+          ap (λ k. step k n) (occurrences-single q t ∙ one-apart q t (λ e. differs (sym e)))
+          ∙ nothing n
+          ∙ sym (ap (λ b. if b then step 1 n else n) (ne_eqb q t differs))
+    ]
+
+up_by_none : (n : ArenaNode) → node_counted_up 0 n ≡ n
+up_by_none n = let same : n.count + 0 ≡ n.count = omega arith in ap (λ k. record n { count = k }) same
+
+down_by_none : (n : ArenaNode) → node_counted_down 0 n ≡ n
+down_by_none n = let same : n.count - 0 ≡ n.count = omega arith in ap (λ k. record n { count = k }) same
+
+pub up_once : (t : ℕ) (v : Nodes) → with_node_changed (node_counted_up 1) t v ≡ counted_up (t ∷ []) v
+up_once t v = ap (λ m. record v { nodes = m }) (sym (once_changed node_counted_up up_by_none t v.nodes))
+
+pub down_once : (t : ℕ) (v : Nodes) → with_node_changed (node_counted_down 1) t v ≡ counted_down (t ∷ []) v
+down_once t v = ap (λ m. record v { nodes = m }) (sym (once_changed node_counted_down down_by_none t v.nodes))
+
+-- a count above 0 is that of a node
+pub counted_there : (o : Option ArenaNode) → 0 < count_in o → IsSome o
+counted_there None counted = absurd (omega (arith, counted))
+counted_there (Some n) counted = refl
+
+-- the count after it was lowered
+pub count-down : (t : ℕ) (v w : Nodes) (n : ArenaNode) → fin.get v.nodes t ≡ Some n → w ≡ counted_down (t ∷ []) v → count_of w t ≡ n.count - 1
+count-down t v w n is lowered =
+    ap (λ (x : Nodes). count_of x t) (lowered ∙ sym (down_once t v))
+    ∙ ap count_in (get-changed_same (node_counted_down 1) t v.nodes t refl ∙ ap (option_map (node_counted_down 1)) is)

@@ -1,0 +1,60 @@
+-- What a slot holds: a node, its serial, and its two links.
+use Rattle.std.specs.Prelude.{ℕ, true, Option, Some, None}
+use Rattle.cg_value.specs.declared.Place.{Place}
+use Rattle.cg_value.specs.declared.Place.TheVariants.{Untracked}
+use Rattle.cg_value.specs.declared.KindCode.TheVariants.{List as ListCode}
+use Rattle.cg_arena.specs.Nodes.{ArenaNode, new_node}
+use Rattle.cg_arena.specs.declared.slot.Slot.{Slot}
+
+-- the node
+abbrev pub node_of : Slot → ArenaNode
+node_of c = record {
+  code = c.code;
+  class = c.class;
+  body = c.body;
+  count = c.count;
+  finalized = c.finalized;
+  place = c.place;
+  number = c.number;
+}
+
+-- the slot with one field changed
+abbrev pub with_before : Option ℕ → Slot → Slot
+with_before before c = record c { before = before }
+
+abbrev pub with_after : Option ℕ → Slot → Slot
+with_after after c = record c { after = after }
+
+abbrev pub with_place : Place → Slot → Slot
+with_place place c = record c { place = place }
+
+abbrev pub with_count : ℕ → Slot → Slot
+with_count count c = record c { count = count }
+
+abbrev pub with_mark : Slot → Slot
+with_mark c = record c { finalized = true }
+
+abbrev pub with_number : ℕ → Slot → Slot
+with_number number c = record c { number = number }
+
+-- the parts of a slot that may be vacant
+abbrev pub before_in : Option Slot → Option ℕ
+before_in None = None
+before_in (Some c) = c.before
+
+abbrev pub after_in : Option Slot → Option ℕ
+after_in None = None
+after_in (Some c) = c.after
+
+abbrev pub serial_in : Option Slot → Option ℕ
+serial_in None = None
+serial_in (Some c) = Some c.serial
+
+abbrev pub place_in_slot : Option Slot → Option Place
+place_in_slot None = None
+place_in_slot (Some c) = Some c.place
+
+-- a vacant slot has no node: what is said of it there never matters
+abbrev pub node_in : Option Slot → ArenaNode
+node_in None = new_node ListCode None 0 Untracked
+node_in (Some c) = node_of c

@@ -1,0 +1,380 @@
+//! The arena: nodes by serial, in one list for each place.
+ghost use Rattle.std.specs.Prelude.{◌≡◌, ◌≢◌, ℕ, ◌+◌, ◌-◌, ◌<◌, ◌≤◌, ◌^◌, ◌↔◌, ◌∷◌, [], ◌==◌, if◌then◌else◌, IsTrue, IsSome, IfSome, Some, None, OnOk, OnErr, IsOk, length, slice_get, option_map};
+ghost use Rattle.std.specs.FinMap as map;
+ghost use Rattle.slab.specs.Slab.{get, slab_len, HasRoomFor, Updates};
+ghost use Rattle.indexmap.specs.IndexMap.{spare};
+ghost use Rattle.cg_graph.specs.Places.{place_number};
+ghost use Rattle.cg_arena.specs.Table.{row_of};
+
+use crate::ends::Ends;
+use crate::links::{
+    join, mark_finalized, place_all, serial_at, set_after, set_count, set_number, set_place,
+    slot_at, unlink,
+};
+use crate::slot::Slot;
+use cg_value::{KindCode, Place};
+use indexmap::IndexMap;
+use slab::Slab;
+use std::alloc::{AllocError, Global};
+use std::marker::Model;
+
+/// The nodes of all objects, by serial, and the list of each place.
+///
+/// A node is what CPython keeps in the head of an object: its count, and its links in a list of the collector.
+/// (Developer guide, "Garbage collector design": each generation is a doubly linked list.) Serials are ours.
+///
+/// A call that takes a serial takes constant time, and so do `first`, `next` and `size`; `merge` takes time in the
+/// size of `from` alone. Only `reserve` and `add` take memory.
+#[derive(Drop)]
+pub struct Arena {
+    slots: Slab<Slot>,
+    rows: IndexMap<u64, usize>,
+    ends: [Ends; 10],
+}
+
+impl Model for Arena {
+    ghost use Rattle.std.specs.Prelude.{map as each};
+    ghost use Rattle.cg_arena.specs.Nodes.{Nodes, nodes_code};
+
+    ghost Value = { Nodes };
+
+    ghost coded = { nodes_code };
+
+    ghost use Rattle.indexmap.specs.IndexMap.{spare};
+    ghost use Rattle.cg_arena.specs.Table.{nodes_of, serials_of, room_of, IsSound};
+
+    ghost view = { λ a. record {
+      nodes = nodes_of a.rows.entries a.slots;
+      lists = each (serials_of a.slots) a.ends;
+      room = room_of (spare a.rows) a.slots;
+    } };
+
+    ghost invariant = { λ a. IsSound a.slots a.ends a.rows.entries };
+}
+
+/// The number of a place among the lists.
+fn number_of(place: Place) -> usize
+    requires { place_number place < 10 }
+    ensures number { result ≡ place_number place }
+    ensures below { result < 10 }
+{
+    match place {
+        Place::Untracked => 0,
+        Place::Frozen => 1,
+        Place::Cand => 2,
+        Place::Seen => 3,
+        Place::Back => 4,
+        Place::Legacy => 5,
+        Place::Pend => 6,
+        Place::Gen(generation) => 7 + generation as usize,
+    }
+}
+
+/// The slot of a serial that has a row.
+fn slot_of(rows: &IndexMap<u64, usize>, serial: u64) -> usize
+    requires { IsSome (row_of rows.now.entries serial) }
+    ensures { row_of rows.now.entries serial ≡ Some result }
+{
+    match rows.get(&serial) {
+        Some(slot) => *slot,
+        None => unreachable!(),
+    }
+}
+
+/// Puts a node into a slot that `reserve` made room for.
+fn occupy(slots: &mut Slab<Slot>, slot: Slot) -> usize
+    requires { HasRoomFor slots.old 1 }
+    ensures vacant { get slots.old result ≡ None }
+    ensures updates { Updates slots.old slots.new result (Some slot) }
+    ensures len { slab_len slots.new ≡ slab_len slots.old + 1 }
+    ensures capacity { slots.new.capacity ≡ slots.old.capacity }
+    ensures few { slab_len slots.new < 2 ^ 64 }
+{
+    let at = slots.insert_reserved(slot);
+    // A slab has fewer than 2^64 nodes, since this answer is a `usize`. So no size of a list overflows.
+    let _count = slots.len();
+    at
+}
+
+/// Names the slot of a new serial, in a row that `reserve` made room for.
+fn add_row(rows: &mut IndexMap<u64, usize>, serial: u64, at: usize)
+    requires { 0 < spare rows.old }
+    ensures rows { (s : ℕ) → row_of rows.new.entries s ≡ (if serial == s then Some at else row_of rows.old.entries s) }
+    ensures room { spare rows.old ≤ spare rows.new + 1 }
+{
+    match rows.insert(serial, at) {
+        Ok(_) => {}
+        Err(_) => unreachable!(),
+    }
+}
+
+/// Takes out the row of a serial.
+fn remove_row(rows: &mut IndexMap<u64, usize>, serial: u64)
+    ensures rows { (s : ℕ) → row_of rows.new.entries s ≡ (if serial == s then None else row_of rows.old.entries s) }
+    ensures room { spare rows.old ≤ spare rows.new }
+{
+    rows.swap_remove(&serial);
+}
+
+impl Arena {
+    ghost use Rattle.cg_arena.specs.Nodes.{HasNode, IsPlace, IsListed, count_of as count_at, place_of as place_at, list_at, following, no_nodes, new_node, with_room, with_node, without_node, with_node_changed, node_finalized, node_numbered, counted_up, counted_down, with_node_moved, with_lists_merged};
+    ghost use Rattle.cg_arena.specs.Slots.{node_of};
+
+    /// No node. It takes no memory yet.
+    pub fn new(alloc: Global) -> Arena
+        ensures { result ≡ no_nodes result.room }
+    {
+        Arena {
+            slots: Slab::new(alloc),
+            rows: IndexMap::new(alloc),
+            ends: [Ends::none(); 10],
+        }
+    }
+
+    /// Makes room for one more node, so that `add_reserved` may be called.
+    ///
+    /// It answers `AllocError` for want of memory alone. The nodes and lists stay as they are either way.
+    pub fn reserve(&mut self) -> Result<(), AllocError>
+        ensures ok { OnOk result (0 < self.new.room) }
+        ensures stays { self.new ≡ with_room self.new.room self.old }
+        ensures room { self.old.room ≤ self.new.room }
+        ensures succeeds { 0 < self.old.room → IsOk result }
+    {
+        self.rows.reserve(1)?;
+        self.slots.reserve(1)
+    }
+
+    /// Adds a node for a new serial, last in the list of its place: its count is 0, it is not finalized, and the
+    /// collector's number is 0.
+    ///
+    /// It answers `AllocError` for want of memory alone, and then the nodes and lists are as they were.
+    pub fn add(
+        &mut self,
+        serial: u64,
+        code: KindCode,
+        class: Option<u32>,
+        body: usize,
+        place: Place,
+    ) -> Result<(), AllocError>
+        requires fresh { map.get self.old.nodes serial ≡ None }
+        requires place { IsPlace place }
+        ensures ok { OnOk result (self.new ≡ with_node serial (new_node code class body place)
+            (with_room self.new.room self.old)) }
+        ensures err { OnErr result (self.new ≡ with_room self.new.room self.old) }
+        ensures room { self.old.room ≤ self.new.room + 1 }
+        ensures succeeds { 0 < self.old.room → IsOk result }
+    {
+        self.reserve()?;
+        self.add_reserved(serial, code, class, body, place);
+        Ok(())
+    }
+
+    /// `add`, where there is room for the node, as after `reserve`. It cannot fail.
+    pub fn add_reserved(
+        &mut self,
+        serial: u64,
+        code: KindCode,
+        class: Option<u32>,
+        body: usize,
+        place: Place,
+    )
+        requires fresh { map.get self.old.nodes serial ≡ None }
+        requires place { IsPlace place }
+        requires room { 0 < self.old.room }
+        ensures adds { self.new ≡ with_node serial (new_node code class body place)
+            (with_room self.new.room self.old) }
+        ensures room { self.old.room ≤ self.new.room + 1 }
+    {
+        let at = occupy(&mut self.slots, Slot::new(serial, code, class, body, place));
+        add_row(&mut self.rows, serial, at);
+        let list = number_of(place);
+        self.ends[list] = join(&mut self.slots, self.ends[list], Ends::one(at));
+    }
+
+    /// The node, whose count is 0, is gone, from its list too. Its serial may be added again.
+    pub fn drop_node(&mut self, serial: u64)
+        requires has { HasNode self.old serial }
+        requires unheld { count_at self.old serial ≡ 0 }
+        ensures drops { self.new ≡ without_node serial (with_room self.new.room self.old) }
+        ensures room { self.old.room ≤ self.new.room }
+    {
+        let at = slot_of(&self.rows, serial);
+        let slot = slot_at(&self.slots, at);
+        let from = number_of(slot.place);
+        self.ends[from] = unlink(&mut self.slots, self.ends[from], slot);
+        self.slots.remove(at);
+        remove_row(&mut self.rows, serial);
+    }
+
+    /// The count rises by 1. It is below 2^32 - 1 before. (Developer guide: the count is the number of references.)
+    pub fn inc(&mut self, serial: u64)
+        requires has { HasNode self.old serial }
+        requires room { count_at self.old serial < 2 ^ 32 - 1 }
+        ensures { self.new ≡ counted_up (serial ∷ []) self.old }
+    {
+        let at = slot_of(&self.rows, serial);
+        let count = slot_at(&self.slots, at).count + 1;
+        set_count(&mut self.slots, at, count);
+    }
+
+    /// The count, which is above 0, falls by 1. It answers whether the count is now 0. (Developer guide: an object
+    /// whose count reaches 0 is deallocated.)
+    pub fn dec(&mut self, serial: u64) -> bool
+        requires { 0 < count_at self.old serial }
+        ensures falls { self.new ≡ counted_down (serial ∷ []) self.old }
+        ensures none { IsTrue result ↔ (count_at self.new serial ≡ 0) }
+    {
+        let at = slot_of(&self.rows, serial);
+        let count = slot_at(&self.slots, at).count - 1;
+        set_count(&mut self.slots, at, count);
+        count == 0
+    }
+
+    /// Whether there is a node with this serial.
+    pub fn has(&self, serial: u64) -> bool
+        ensures { IsTrue result ↔ HasNode self.now serial }
+    {
+        self.rows.contains_key(&serial)
+    }
+
+    /// The node of a serial, in its slot.
+    fn node(&self, serial: u64) -> Slot
+        requires { HasNode self.now serial }
+        ensures { map.get self.now.nodes serial ≡ Some (node_of result) }
+    {
+        let at = slot_of(&self.rows, serial);
+        slot_at(&self.slots, at)
+    }
+
+    /// The count, 0 to 2^32 - 1.
+    pub fn count_of(&self, serial: u64) -> u32
+        requires { HasNode self.now serial }
+        ensures { IfSome (map.get self.now.nodes serial) (λ n. result ≡ n.count) }
+    {
+        self.node(serial).count
+    }
+
+    /// The kind.
+    pub fn code_of(&self, serial: u64) -> KindCode
+        requires { HasNode self.now serial }
+        ensures { IfSome (map.get self.now.nodes serial) (λ n. result ≡ n.code) }
+    {
+        self.node(serial).code
+    }
+
+    /// The number that the node was added with: the class of an instance, or the procedure of a function.
+    pub fn class_of(&self, serial: u64) -> Option<u32>
+        requires { HasNode self.now serial }
+        ensures { IfSome (map.get self.now.nodes serial) (λ n. result ≡ n.class) }
+    {
+        self.node(serial).class
+    }
+
+    /// The place of the object's entries among the bodies of its kind.
+    pub fn body_of(&self, serial: u64) -> usize
+        requires { HasNode self.now serial }
+        ensures { IfSome (map.get self.now.nodes serial) (λ n. result ≡ n.body) }
+    {
+        self.node(serial).body
+    }
+
+    /// The place, in whose list the node stands.
+    pub fn place_of(&self, serial: u64) -> Place
+        requires { HasNode self.now serial }
+        ensures { IfSome (map.get self.now.nodes serial) (λ n. result ≡ n.place) }
+    {
+        self.node(serial).place
+    }
+
+    /// Whether the node is marked as finalized.
+    pub fn is_finalized(&self, serial: u64) -> bool
+        requires { HasNode self.now serial }
+        ensures { IfSome (map.get self.now.nodes serial) (λ n. result ≡ n.finalized) }
+    {
+        self.node(serial).is_finalized()
+    }
+
+    /// The collector's number, 0 at first. (Developer guide, "Identifying reference cycles": `gc_refs`.)
+    pub fn gc_of(&self, serial: u64) -> u32
+        requires { HasNode self.now serial }
+        ensures { IfSome (map.get self.now.nodes serial) (λ n. result ≡ n.number) }
+    {
+        self.node(serial).number()
+    }
+
+    /// Marks the node as finalized. (PEP 442: a finalizer is called once.)
+    pub fn set_finalized(&mut self, serial: u64)
+        requires { HasNode self.old serial }
+        ensures { self.new ≡ with_node_changed node_finalized serial self.old }
+    {
+        let at = slot_of(&self.rows, serial);
+        mark_finalized(&mut self.slots, at);
+    }
+
+    /// Gives the node another collector's number.
+    pub fn set_gc(&mut self, serial: u64, number: u32)
+        requires { HasNode self.old serial }
+        ensures { self.new ≡ with_node_changed (node_numbered number) serial self.old }
+    {
+        let at = slot_of(&self.rows, serial);
+        set_number(&mut self.slots, at, number);
+    }
+
+    /// The node goes to the end of the list of a place, which may be its own. (Ours; CPython's `gc_list_move`.)
+    pub fn move_to(&mut self, serial: u64, place: Place)
+        requires has { HasNode self.old serial }
+        requires place { IsPlace place }
+        ensures { self.new ≡ with_node_moved serial place self.old }
+    {
+        let at = slot_of(&self.rows, serial);
+        let slot = slot_at(&self.slots, at);
+        let from = number_of(slot.place);
+        self.ends[from] = unlink(&mut self.slots, self.ends[from], slot);
+        set_place(&mut self.slots, at, place);
+        set_after(&mut self.slots, Some(at), None);
+        let to = number_of(place);
+        self.ends[to] = join(&mut self.slots, self.ends[to], Ends::one(at));
+    }
+
+    /// All nodes of one place go to the end of the list of another, in their order. (Developer guide, "Optimization:
+    /// generations": the survivors are merged into the next generation.)
+    pub fn merge(&mut self, from: Place, to: Place)
+        requires from { IsPlace from }
+        requires to { IsPlace to }
+        requires differ { place_number from ≢ place_number to }
+        ensures { self.new ≡ with_lists_merged from to self.old }
+    {
+        let leaving = number_of(from);
+        let joined = number_of(to);
+        let moved = self.ends[leaving];
+        place_all(&mut self.slots, moved.first, moved.size, to);
+        self.ends[joined] = join(&mut self.slots, self.ends[joined], moved);
+        self.ends[leaving] = Ends::none();
+    }
+
+    /// The first of the list of a place, or `None` where it is empty.
+    pub fn first(&self, place: Place) -> Option<u64>
+        requires { IsPlace place }
+        ensures { result ≡ slice_get (list_at self.now place) 0 }
+    {
+        serial_at(&self.slots, self.ends[number_of(place)].first)
+    }
+
+    /// What comes after a node in its list, or `None` at the end.
+    pub fn next(&self, serial: u64) -> Option<u64>
+        requires { HasNode self.now serial }
+        ensures { result ≡ following serial (list_at self.now (place_at self.now serial)) }
+    {
+        let at = slot_of(&self.rows, serial);
+        serial_at(&self.slots, slot_at(&self.slots, at).after)
+    }
+
+    /// How many nodes stand in a place. It tells besides that each node stands once in the list of its place alone.
+    pub fn size(&self, place: Place) -> u64
+        requires { IsPlace place }
+        ensures size { result ≡ length (list_at self.now place) }
+        ensures listed { IsListed self.now }
+    {
+        self.ends[number_of(place)].size
+    }
+}

@@ -1,0 +1,138 @@
+//! Nodes in slots, and the links between them.
+ghost use Rattle.std.specs.Prelude.{◌≡◌, Some, IsSome, option_and_then, option_map, ◌+◌, ◌<◌, ◌^◌};
+ghost use Rattle.slab.specs.Slab.{get, ContainsKey};
+ghost use Rattle.cg_arena.specs.Slots.{with_after, with_before, with_place, with_count, with_mark, with_number, after_in};
+ghost use Rattle.cg_arena.specs.Links.{rewritten, after_set, before_set, tied, ends_without, ends_joined, place_set, all_placed, chain_from};
+
+use crate::ends::Ends;
+use crate::slot::Slot;
+use cg_value::Place;
+use slab::Slab;
+
+/// The node in an occupied slot.
+pub fn slot_at(slots: &Slab<Slot>, at: usize) -> Slot
+    requires { ContainsKey slots.now at }
+    ensures { get slots.now at ≡ Some result }
+{
+    match slots.get(at) {
+        Some(slot) => *slot,
+        None => unreachable!(),
+    }
+}
+
+/// The serial of the node in a slot, if there is one.
+pub fn serial_at(slots: &Slab<Slot>, at: Option<usize>) -> Option<u64>
+    ensures { result ≡ option_and_then (λ k. option_map (λ c. c.serial) (get slots.now k)) at }
+{
+    match slots.get(at?) {
+        Some(slot) => Some(slot.serial),
+        None => None,
+    }
+}
+
+/// Gives a node another count.
+pub fn set_count(slots: &mut Slab<Slot>, at: usize, count: u32)
+    ensures { slots.new ≡ rewritten (with_count count) at slots.old }
+{
+    if let Some(slot) = slots.get_mut(at) {
+        slot.count = count;
+    }
+}
+
+/// Marks a node as finalized.
+pub fn mark_finalized(slots: &mut Slab<Slot>, at: usize)
+    ensures { slots.new ≡ rewritten with_mark at slots.old }
+{
+    if let Some(slot) = slots.get_mut(at) {
+        slot.mark_finalized();
+    }
+}
+
+/// Gives a node another collector's number.
+pub fn set_number(slots: &mut Slab<Slot>, at: usize, number: u32)
+    ensures { slots.new ≡ rewritten (with_number number) at slots.old }
+{
+    if let Some(slot) = slots.get_mut(at) {
+        slot.set_number(number);
+    }
+}
+
+/// Gives a node another place.
+pub fn set_place(slots: &mut Slab<Slot>, at: usize, place: Place)
+    ensures { slots.new ≡ rewritten (with_place place) at slots.old }
+{
+    if let Some(slot) = slots.get_mut(at) {
+        slot.place = place;
+    }
+}
+
+/// Names what comes after a slot, if there is one.
+pub fn set_after(slots: &mut Slab<Slot>, at: Option<usize>, after: Option<usize>)
+    ensures { slots.new ≡ after_set at after slots.old }
+{
+    if let Some(at) = at {
+        if let Some(slot) = slots.get_mut(at) {
+            slot.after = after;
+        }
+    }
+}
+
+/// Names what comes before a slot, if there is one.
+pub fn set_before(slots: &mut Slab<Slot>, at: Option<usize>, before: Option<usize>)
+    ensures { slots.new ≡ before_set at before slots.old }
+{
+    if let Some(at) = at {
+        if let Some(slot) = slots.get_mut(at) {
+            slot.set_before(before);
+        }
+    }
+}
+
+/// Makes two slots neighbours. Either may be missing: then the other is an end.
+fn tie(slots: &mut Slab<Slot>, before: Option<usize>, after: Option<usize>)
+    ensures { slots.new ≡ tied before after slots.old }
+{
+    set_after(slots, before, after);
+    set_before(slots, after, before);
+}
+
+/// Takes a slot out of its list, and answers the ends of the list then.
+pub fn unlink(slots: &mut Slab<Slot>, ends: Ends, slot: Slot) -> Ends
+    requires { 0 < ends.size }
+    ensures slots { slots.new ≡ tied slot.before slot.after slots.old }
+    ensures ends { result ≡ ends_without slot.before slot.after ends }
+{
+    let before = slot.before();
+    tie(slots, before, slot.after);
+    ends.without(before, slot.after)
+}
+
+/// Appends one list to another, and answers the ends of the whole.
+pub fn join(slots: &mut Slab<Slot>, front: Ends, back: Ends) -> Ends
+    requires { front.size + back.size < 2 ^ 64 }
+    ensures slots { slots.new ≡ tied front.last back.first slots.old }
+    ensures ends { result ≡ ends_joined front back }
+{
+    tie(slots, front.last, back.first);
+    front.joined(back)
+}
+
+/// Gives a node another place, and answers the slot after it.
+fn place_one(slots: &mut Slab<Slot>, at: Option<usize>, place: Place) -> Option<usize>
+    ensures slots { slots.new ≡ place_set at place slots.old }
+    ensures after { result ≡ option_and_then (λ k. after_in (get slots.old k)) at }
+{
+    let slot = slots.get_mut(at?)?;
+    slot.place = place;
+    slot.after
+}
+
+/// Gives each node of a list another place.
+pub fn place_all(slots: &mut Slab<Slot>, first: Option<usize>, size: u64, place: Place)
+    ensures { slots.new ≡ all_placed (chain_from slots.old size first) place slots.old }
+{
+    let mut at = first;
+    'nodes: for _done in 0..size {
+        at = place_one(slots, at, place);
+    }
+}

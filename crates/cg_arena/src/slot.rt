@@ -1,0 +1,89 @@
+//! A node in its slot, between its neighbours in the list of its place.
+//!
+//! The finalized mark, the collector's number and the slot before are read and written by calls alone.
+ghost use Rattle.std.specs.Prelude.{◌≡◌, false, None};
+ghost use Rattle.cg_arena.specs.Nodes.{ArenaNode, new_node};
+
+use cg_value::{KindCode, Place};
+
+/// A node, its serial, and the slots before and after it in the list of its place.
+#[derive(Clone, Copy, Debug)]
+pub struct Slot {
+    pub serial: u64,
+    pub code: KindCode,
+    pub class: Option<u32>,
+    pub body: usize,
+    pub count: u32,
+    finalized: bool,
+    pub place: Place,
+    number: u32,
+    before: Option<usize>,
+    pub after: Option<usize>,
+}
+
+impl Slot {
+    ghost use Rattle.cg_arena.specs.Slots.{node_of, with_mark, with_number, with_before};
+
+    /// A new node in no list: count 0, not finalized, the collector's number 0.
+    pub fn new(serial: u64, code: KindCode, class: Option<u32>, body: usize, place: Place) -> Slot
+        ensures node { node_of result ≡ new_node code class body place }
+        ensures serial { result.serial ≡ serial }
+        ensures before { result.before ≡ None }
+        ensures after { result.after ≡ None }
+    {
+        Slot {
+            serial,
+            code,
+            class,
+            body,
+            count: 0,
+            finalized: false,
+            place,
+            number: 0,
+            before: None,
+            after: None,
+        }
+    }
+
+    /// Whether the object was finalized.
+    pub fn is_finalized(&self) -> bool
+        ensures { result ≡ self.now.finalized }
+    {
+        self.finalized
+    }
+
+    /// Marks the object as finalized.
+    pub fn mark_finalized(&mut self)
+        ensures { self.new ≡ with_mark self.old }
+    {
+        self.finalized = true;
+    }
+
+    /// The collector's number.
+    pub fn number(&self) -> u32
+        ensures { result ≡ self.now.number }
+    {
+        self.number
+    }
+
+    /// Gives the node another collector's number.
+    pub fn set_number(&mut self, number: u32)
+        ensures { self.new ≡ with_number number self.old }
+    {
+        self.number = number;
+    }
+
+    /// The slot before it in its list.
+    pub fn before(&self) -> Option<usize>
+        ensures { result ≡ self.now.before }
+    {
+        self.before
+    }
+
+    /// Names another slot as the one before it.
+    pub fn set_before(&mut self, before: Option<usize>)
+        ensures { self.new ≡ with_before before self.old }
+    {
+        self.before = before;
+    }
+}
