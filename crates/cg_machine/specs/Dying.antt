@@ -1,6 +1,6 @@
 -- A death, phase by phase. It has no choice. (PEP 442, "disposal of regular objects"; the developer guide. Which phase
 -- comes when, and that contents go last entry first, is CPython's for lists and tuples and ours for the rest.)
-use Rattle.std.specs.Prelude.{ℕ, ◌-◌, ◌==◌, List, [], ◌∷◌, ◌++◌, Option, Some, None, if◌then◌else◌, option_and_then, unwrap_or, length, take, slice_get, Bool, ◌||◌, is_some}
+use Rattle.std.specs.Prelude.{ℕ, ◌-◌, ◌==◌, List, [], ◌∷◌, ◌++◌, Option, Some, None, if◌then◌else◌, option_and_then, unwrap_or, Bool, ◌||◌, is_some}
 use Rattle.cg_value.specs.declared.Entry.{Entry}
 use Rattle.cg_value.specs.declared.Place.TheVariants.{Untracked, Gen}
 use Rattle.cg_script.specs.declared.Script.{Script}
