@@ -1,13 +1,13 @@
 -- The fields of a table once a row has left its chain, or has come to one.
-use Rattle.std.proofs.Common.{◌≡◌, ◌≢◌, ◌⊎◌, ℕ, ◌<◌, ◌≤◌, Bool, true, false, Option, Some, None, cond, refl, sym, ap, ◌∙◌, subst, inl, inr, arith}
-use Rattle.std.specs.Prelude.{◌==◌, nat_eq, option_map, if◌then◌else◌}
+use Rattle.std.proofs.Common.{◌≡◌, ◌≢◌, ◌⊎◌, ℕ, Bool, true, false, Option, Some, None, refl, sym, ap, ◌∙◌, subst, inl, inr}
+use Rattle.std.specs.Prelude.{nat_eq, option_map, if◌then◌else◌}
 use Rattle.std.proofs.lemmas.Bool.{cases_eq, eq-eqb, ne_eqb}
 use Rattle.cg_weak.specs.declared.nodes.Node.{Node}
 use Rattle.cg_weak.specs.declared.chains.Ends.{Ends}
 use Rattle.cg_weak.specs.declared.chains.Chains.{Chains}
 use Rattle.cg_weak.specs.Nodes.{Chain, is_named, with_older, with_newer, older_set, newer_set, chain_in, older_in, newer_in}
 use Rattle.cg_weak.specs.Chains.{at_end, ends_without, ends_joined, ends_of, with_ends}
-use Rattle.cg_weak.specs.Table.{below, above, IsLast, IsLinked, IsEnded, IsSound}
+use Rattle.cg_weak.specs.Table.{below, above, IsLast, IsSound}
 use Rattle.cg_weak.proofs.Moves.{down, up, HasLeft, HasCome, left_linked, left_ended, come_linked, come_ended, same_value, some_or_none}
 
 -- two chains are the same, or not

@@ -4,3 +4,4 @@ pub mod Moves
 pub mod Newest
 pub mod Fields
 pub mod Steps
+pub mod CallerLemmas

@@ -1,6 +1,6 @@
 -- A row that leaves its chain, or comes to one: what the others name as their neighbours, one way along the chain. The
 -- two ways differ in the order alone.
-use Rattle.std.proofs.Common.{◌≡◌, ◌≢◌, ◌⊎◌, ℕ, ◌<◌, ◌≤◌, Option, Some, None, refl, sym, ap, ◌∙◌, subst, inl, inr, arith}
+use Rattle.std.proofs.Common.{◌≡◌, ◌≢◌, ◌⊎◌, ℕ, Option, Some, None, sym, ap, ◌∙◌, subst, inl, inr, arith}
 use Rattle.std.proofs.lemmas.Bool.{cases_eq, cases_order}
 use Rattle.cg_weak.specs.Nodes.{Chain}
 use Rattle.cg_weak.specs.Chains.{at_end}

@@ -1,12 +1,11 @@
 -- The newest of the weak references of some rows, and the next older one.
-use Rattle.std.proofs.Common.{◌≡◌, ◌≢◌, ◌⊎◌, ℕ, suc, ◌+◌, ◌<◌, ◌≤◌, Bool, true, false, not, cond, List, [], ◌∷◌, ◌++◌, map, Option, Some, None, refl, sym, ap, ◌∙◌, subst, inl, inr, arith}
-use Rattle.std.specs.Prelude.{◌==◌, ◌&&◌, nat_lt, nat_eq, filter, find, reverse, slice_get, option_map, option_and_then, IsSome, if◌then◌else◌}
-use Rattle.std.specs.List.{All}
+use Rattle.std.proofs.Common.{◌≡◌, ◌⊎◌, ℕ, ◌<◌, Bool, true, false, not, cond, List, [], ◌∷◌, map, Option, Some, None, refl, sym, ap, ◌∙◌, subst, inl, inr, arith}
+use Rattle.std.specs.Prelude.{◌==◌, ◌&&◌, nat_lt, filter, find, reverse, slice_get, option_map, option_and_then, IsSome, if◌then◌else◌}
 use Rattle.std.specs.Option.{option_or}
-use Rattle.std.proofs.lemmas.Bool.{cases_eq, cases_lt, eq-eqb, ne_eqb, eqb-true, lt-ltb, ltb-true, and_parts, not-true}
+use Rattle.std.proofs.lemmas.Bool.{cases_eq, eq-eqb, eqb-true, lt-ltb, ltb-true, and_parts, not-true}
 use Rattle.std.proofs.lemmas.List.{reverse-append}
 use Rattle.std.proofs.lemmas.List.Folds.{find-append}
-use Rattle.cg_graph.specs.Rows.{Row, IsRising, referent_in, waited_in, refers_to, waits_with, newest_first, weak_references_in, waiting_in, next_older_in}
+use Rattle.cg_graph.specs.Rows.{Row, IsRising, referent_in, refers_to, waits_with, newest_first, weak_references_in, next_older_in}
 use Rattle.cg_weak.specs.declared.nodes.Node.{Node}
 use Rattle.cg_weak.specs.declared.chains.Chains.{Chains}
 use Rattle.cg_weak.specs.Nodes.{Chain, chain_in, older_in}
@@ -106,7 +105,7 @@ last_found test p (x ∷ rows) rise = go (test x) refl (p x.weak) refl (last_fou
         (sym (ap (find p) (reverse-append (x.weak ∷ []) weaks) ∙ find-append p (reverse weaks) (x.weak ∷ []) ∙ ap (λ b. option_or (find p (reverse weaks)) (cond b (Some x.weak) None)) not_too ∙ or_none (find p (reverse weaks))))
         (skips test p x rows rise.0 (find p (reverse weaks)) (λ yes also. absurd (cc)) rest))
 
-find_first : (xs : List ℕ) → find (λ v. true) xs ≡ slice_get xs 0
+pub find_first : (xs : List ℕ) → find (λ v. true) xs ≡ slice_get xs 0
 find_first [] = refl
 find_first (x ∷ xs) = refl
 

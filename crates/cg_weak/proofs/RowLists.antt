@@ -1,12 +1,11 @@
 -- Rows by rising weak reference: what a list of them has at each weak reference, and that this tells the whole list.
-use Rattle.std.proofs.Common.{◌≡◌, ◌≢◌, ◌⊎◌, ℕ, suc, ◌+◌, ◌<◌, ◌≤◌, Bool, true, false, not, cond, List, [], ◌∷◌, ◌++◌, map, Option, Some, None, refl, sym, ap, ◌∙◌, subst, inl, inr, arith}
-use Rattle.std.specs.Prelude.{◌==◌, ◌&&◌, nat_lt, nat_eq, filter, find, reverse, slice_get, option_map, option_and_then, IsSome, if◌then◌else◌}
+use Rattle.std.proofs.Common.{◌≡◌, ◌≢◌, ◌⊎◌, ℕ, ◌<◌, ◌≤◌, Bool, true, false, not, cond, List, [], ◌∷◌, ◌++◌, Option, Some, None, refl, sym, ap, ◌∙◌, subst, inl, inr, arith}
+use Rattle.std.specs.Prelude.{◌==◌, ◌&&◌, nat_lt, nat_eq, find, option_map, IsSome, if◌then◌else◌}
 use Rattle.std.specs.List.{All}
-use Rattle.std.specs.Map.{lookup}
 use Rattle.std.proofs.lemmas.Bool.{cases_eq, cases_lt, eq-eqb, ne_eqb, lt-ltb, le-ltb}
 use Rattle.std.proofs.lemmas.Bool.Decides.{nat_tests}
 use Rattle.std.proofs.lemmas.List.Elements.{All-nil, All-cons, All-head, All-tail, All-weaker, All-push}
-use Rattle.cg_graph.specs.Rows.{Row, IsRising, new_row, waiting_row, with_row_waiting, without_row}
+use Rattle.cg_graph.specs.Rows.{Row, IsRising, waiting_row, with_row_waiting, without_row}
 use Rattle.cg_weak.specs.declared.nodes.Node.{Node}
 use Rattle.cg_weak.specs.Table.{row_at, row_of, put_row, rows_of, node_in}
 
@@ -159,13 +158,13 @@ rising-append (x ∷ rows) r rise lower =
     (All-push (λ y. x.weak < y.weak) rows r rise.0 (All-head (λ y. y.weak < r.weak) x rows lower), rising-append rows r rise.1 (All-tail (λ y. y.weak < r.weak) x rows lower))
 
 -- the rows without one
-above-without : (low weak : ℕ) (rows : List Row) → AllAbove low rows → AllAbove low (without_row weak rows)
-above-without low weak [] lower = lower
-above-without low weak (x ∷ rows) lower = go (x.weak == weak) (above-without low weak rows (All-tail (λ y. low < y.weak) x rows lower))
+pub each-without : (P : Row → Type 0) (weak : ℕ) (rows : List Row) → All P rows → All P (without_row weak rows)
+each-without P weak [] each = each
+each-without P weak (x ∷ rows) each = go (x.weak == weak) (each-without P weak rows (All-tail P x rows each))
   where
-    go : (b : Bool) → AllAbove low (without_row weak rows) → AllAbove low (cond (not b) (x ∷ without_row weak rows) (without_row weak rows))
+    go : (b : Bool) → All P (without_row weak rows) → All P (cond (not b) (x ∷ without_row weak rows) (without_row weak rows))
     go true rest = rest
-    go false rest = All-cons (λ y. low < y.weak) x (without_row weak rows) (All-head (λ y. low < y.weak) x rows lower) rest
+    go false rest = All-cons P x (without_row weak rows) (All-head P x rows each) rest
 
 pub rising-without : (weak : ℕ) (rows : List Row) → IsRising rows → IsRising (without_row weak rows)
 rising-without weak [] rise = tt
@@ -173,7 +172,7 @@ rising-without weak (x ∷ rows) rise = go (x.weak == weak) (rising-without weak
   where
     go : (b : Bool) → IsRising (without_row weak rows) → IsRising (cond (not b) (x ∷ without_row weak rows) (without_row weak rows))
     go true rest = rest
-    go false rest = (above-without x.weak weak rows rise.0, rest)
+    go false rest = (each-without (λ y. x.weak < y.weak) weak rows rise.0, rest)
 
 pub row_at-without : (weak : ℕ) (rows : List Row) (v : ℕ) → row_at (without_row weak rows) v ≡ cond (nat_eq weak v) None (row_at rows v)
 row_at-without weak [] v = grind (arith, nat_tests)
@@ -193,17 +192,21 @@ same_weak weak r = go (r.weak == weak)
     go true = refl
     go false = refl
 
-above-waiting : (low weak : ℕ) (rows : List Row) → AllAbove low rows → AllAbove low (with_row_waiting weak rows)
-above-waiting low weak [] lower = All-nil (λ y. low < y.weak)
-above-waiting low weak (x ∷ rows) lower =
-    All-cons (λ y. low < y.weak) (if x.weak == weak then waiting_row x else x) (with_row_waiting weak rows)
-    (subst (λ w. low < w) (sym (same_weak weak x)) (All-head (λ y. low < y.weak) x rows lower))
-    (above-waiting low weak rows (All-tail (λ y. low < y.weak) x rows lower))
+pub each-waiting : (P : Row → Type 0) → ((r : Row) → P r → P (waiting_row r)) → (weak : ℕ) (rows : List Row) → All P rows → All P (with_row_waiting weak rows)
+each-waiting P kept weak [] each = All-nil P
+each-waiting P kept weak (x ∷ rows) each =
+    All-cons P (if x.weak == weak then waiting_row x else x) (with_row_waiting weak rows)
+    (go (x.weak == weak) (All-head P x rows each))
+    (each-waiting P kept weak rows (All-tail P x rows each))
+  where
+    go : (b : Bool) → P x → P (if b then waiting_row x else x)
+    go true here = kept x here
+    go false here = here
 
 pub rising-waiting : (weak : ℕ) (rows : List Row) → IsRising rows → IsRising (with_row_waiting weak rows)
 rising-waiting weak [] rise = tt
 rising-waiting weak (x ∷ rows) rise =
-    (subst (λ w. AllAbove w (with_row_waiting weak rows)) (sym (same_weak weak x)) (above-waiting x.weak weak rows rise.0), rising-waiting weak rows rise.1)
+    (subst (λ w. AllAbove w (with_row_waiting weak rows)) (sym (same_weak weak x)) (each-waiting (λ y. x.weak < y.weak) (λ y higher. higher) weak rows rise.0), rising-waiting weak rows rise.1)
 
 pub row_at-waiting : (weak : ℕ) (rows : List Row) (v : ℕ) → row_at (with_row_waiting weak rows) v ≡ option_map (λ r. if nat_eq weak v then waiting_row r else r) (row_at rows v)
 row_at-waiting weak [] v = refl

@@ -1,21 +1,20 @@
 -- What a call does to the rows and to the fields: a row leaves, comes last, or goes from one chain to the other.
-use Rattle.std.proofs.Common.{◌≡◌, ◌≢◌, ◌⊎◌, ℕ, ◌+◌, ◌<◌, ◌≤◌, Bool, true, false, not, cond, List, [], ◌∷◌, ◌++◌, Option, Some, None, refl, sym, ap, ◌∙◌, subst, inl, inr, arith}
+use Rattle.std.proofs.Common.{◌≡◌, ◌≢◌, ◌⊎◌, ℕ, ◌<◌, Bool, true, false, cond, List, [], ◌∷◌, ◌++◌, Option, Some, None, refl, sym, ap, ◌∙◌, subst, inl, inr, arith}
 use Rattle.std.specs.Prelude.{◌==◌, nat_eq, option_map, IsSome, if◌then◌else◌}
-use Rattle.std.specs.List.{All}
 use Rattle.std.specs.Map.{lookup}
 use Rattle.std.proofs.lemmas.Bool.{cases_eq, eq-eqb, ne_eqb}
 use Rattle.std.proofs.lemmas.List.Elements.{All-head, All-tail}
-use Rattle.cg_graph.specs.Rows.{Row, IsRising, referent_in, new_row, waiting_row, with_row_waiting, without_row}
+use Rattle.cg_graph.specs.Rows.{Row, IsRising, new_row, waiting_row, with_row_waiting, without_row}
 use Rattle.cg_weak.specs.declared.nodes.Node.{Node}
 use Rattle.cg_weak.specs.declared.chains.Ends.{Ends}
 use Rattle.cg_weak.specs.declared.chains.Chains.{Chains}
-use Rattle.cg_weak.specs.Nodes.{Chain, with_older, with_newer, older_set, newer_set, chain_in, older_in, newer_in}
+use Rattle.cg_weak.specs.Nodes.{Chain, older_set, chain_in}
 use Rattle.cg_weak.specs.Chains.{ends_without, ends_joined, ends_of, with_ends, chains_in, no_chains}
-use Rattle.cg_weak.specs.Table.{row_at, row_of, rows_of, node_in, chains_of, ends_at, chain_at, below, above, IsLast, IsLinked, IsEnded, IsSound}
-use Rattle.cg_weak.proofs.RowLists.{AllBelow, row_at-head, row_at-tail, row_at-below, same_rows, rising-rows_of, row_at-rows_of, row_at-append, rising-append, row_at-without, rising-without, row_at-waiting, rising-waiting}
+use Rattle.cg_weak.specs.Table.{row_at, row_of, rows_of, node_in, chains_of, ends_at, chain_at, below, above, IsLast, IsSound}
+use Rattle.cg_weak.proofs.RowLists.{AllBelow, row_at-tail, same_rows, rising-rows_of, row_at-rows_of, row_at-append, rising-append, row_at-without, rising-without, row_at-waiting, rising-waiting}
 use Rattle.cg_weak.proofs.Newest.{rows_rise, row_of_node}
 use Rattle.cg_weak.proofs.Moves.{HasLeft, last_same}
-use Rattle.cg_weak.proofs.Fields.{tied, chain-tied, part-older_set, part-newer_set, has_left, left_sound, come_sound, ends_here, ends_elsewhere, the_node, same_chain}
+use Rattle.cg_weak.proofs.Fields.{tied, part-older_set, part-newer_set, has_left, left_sound, come_sound, ends_here, ends_elsewhere, the_node}
 
 -- neighbours do not tell on the row
 row-tied : (newer now_older older now_newer : Option ℕ) (v : ℕ) (o : Option Node) → option_map (row_of v) (tied newer now_older older now_newer v o) ≡ option_map (row_of v) o

@@ -1,5 +1,5 @@
 -- What a node holds: a row, its weak reference aside, and its neighbours.
-use Rattle.std.specs.Prelude.{◌≡◌, ◌≢◌, ℕ, ◌<◌, ◌==◌, Bool, false, Option, Some, None, option_map, if◌then◌else◌}
+use Rattle.std.specs.Prelude.{ℕ, ◌==◌, Bool, false, Option, Some, None, option_map, if◌then◌else◌}
 use Rattle.cg_weak.specs.declared.nodes.Node.{Node}
 
 -- whether a weak reference is the one that is named

@@ -1,5 +1,5 @@
 -- What the fields of a table stand for, and what is true of them.
-use Rattle.std.specs.Prelude.{◌≡◌, ◌≢◌, ℕ, ◌<◌, ◌≤◌, ◌==◌, nat_lt, nat_eq, Bool, List, [], ◌∷◌, find, Option, Some, None, if◌then◌else◌}
+use Rattle.std.specs.Prelude.{◌≡◌, ◌≢◌, ℕ, ◌<◌, ◌==◌, nat_lt, nat_eq, List, [], ◌∷◌, find, Option, Some, None, if◌then◌else◌}
 use Rattle.std.specs.Map.{lookup}
 use Rattle.cg_graph.specs.Rows.{Row}
 use Rattle.cg_weak.specs.declared.nodes.Node.{Node}

@@ -5,10 +5,12 @@
 #![tactic(auto)]
 
 mod chains;
+mod laws;
 mod nodes;
 mod place;
 mod table;
 #[cfg(test)]
 mod tests;
 
+pub use laws::a_walk_meets_each_newest_first;
 pub use table::WeakTable;

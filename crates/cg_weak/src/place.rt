@@ -6,8 +6,8 @@ use crate::chains::Ends;
 use crate::nodes::{Node, node_at};
 use indexmap::IndexMap;
 
-// The oldest of the rows that wait with an object and are newer than a weak reference. A death lets its weak
-// references wait from the newest on, so that the first row that is looked at tells.
+// The oldest of the rows that wait with an object and are newer than a weak reference. Where weak references are set
+// waiting from the newest on, as in a death, the first row that is looked at tells.
 fn oldest_above(
     nodes: &IndexMap<u64, Node>,
     referent: u64,
@@ -43,6 +43,9 @@ pub fn neighbours(
     ensures above { IsLast above (λ v. (chain_at nodes.now.entries v ≡ Some (referent, true)) × above v weak) result.0 }
     ensures below { IsLast below (λ v. (chain_at nodes.now.entries v ≡ Some (referent, true)) × below v weak) result.1 }
 {
+    if ends.newest.is_some_and(|newest| newest < weak) {
+        return (None, ends.newest);
+    }
     let newer = oldest_above(nodes, referent, ends.oldest, weak);
     match newer {
         Some(above) => (newer, node_at(nodes, above).older),

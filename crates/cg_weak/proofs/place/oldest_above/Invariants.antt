@@ -1,4 +1,4 @@
-use Rattle.std.proofs.Common.{◌≡◌, ℕ, true, Some}
+use Rattle.std.proofs.Common.{◌≡◌, true, Some}
 use Rattle.cg_weak.specs.Table.{chain_at}
 use Rattle.cg_weak.proofs.Walk.{IsFront, rows_ahead}
 use Rattle.cg_weak.proofs.place.oldest_above.Given as goal

@@ -1,4 +1,4 @@
-use Rattle.std.proofs.Common.{None, sym, ◌∙◌, ap}
+use Rattle.std.proofs.Common.{None, ◌∙◌, ap}
 use Rattle.std.specs.Prelude.{nat_eq, if◌then◌else◌}
 use Rattle.cg_weak.specs.Chains.{with_ends, ends_without, ends_of}
 use Rattle.cg_weak.proofs.Newest.{node_there}

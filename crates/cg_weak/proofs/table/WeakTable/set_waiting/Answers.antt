@@ -1,4 +1,4 @@
-use Rattle.std.proofs.Common.{◌≡◌, ℕ, None, Some, Bool, true, false, not, refl, sym, ◌∙◌, ap, subst}
+use Rattle.std.proofs.Common.{◌≡◌, Some, true, false, not, sym, ◌∙◌, ap, subst}
 use Rattle.std.specs.Prelude.{nat_eq, if◌then◌else◌}
 use Rattle.cg_weak.specs.declared.nodes.Node.{Node}
 use Rattle.cg_weak.specs.declared.chains.Chains.{Chains}
