@@ -67,7 +67,7 @@ impl Chains {
 
     /// Whether neither chain has a row.
     fn is_empty(&self) -> bool
-        ensures { IsTrue result → self.now ≡ no_chains }
+        ensures { IsTrue result ↔ (self.now ≡ no_chains) }
     {
         self.current.newest.is_none()
             && self.current.oldest.is_none()

@@ -12,7 +12,11 @@ use std::marker::Model;
 
 /// Which weak reference has which referent, and which wait for their callback with the one that they had.
 ///
-/// A weak reference is newer than another one where its number is greater. Only `reserve` and `attach` take memory.
+/// A weak reference is newer than another one where its number is greater. (`weakref` manual: the callbacks of an object
+/// are called from the most recently registered on. That its weak references lose it in this order too is ours.)
+///
+/// Only `reserve` and `attach` take memory. No call takes longer where there are more rows, but for `clear` with `wait`
+/// of a weak reference that is neither older nor newer than all that wait with its referent: it goes over the older ones.
 #[derive(Drop)]
 pub struct WeakTable {
     nodes: IndexMap<u64, Node>,
@@ -44,7 +48,7 @@ impl WeakTable {
         }
     }
 
-    /// Makes room for one more row, so that `attach_reserved` may be called.
+    /// Makes room for one more row, so that `attach_reserved` may be called. (Ours.)
     ///
     /// It answers `AllocError` for want of memory alone. The rows stay as they are either way.
     pub fn reserve(&mut self) -> Result<(), AllocError>
@@ -57,7 +61,7 @@ impl WeakTable {
         self.chains.reserve(1)
     }
 
-    /// Gives a weak reference that is above every other one its referent. Its row goes last, and does not wait.
+    /// Gives a weak reference that is above every other one its referent. Its row goes last, and does not wait. (Ours.)
     ///
     /// It answers `AllocError` for want of memory alone, and then the rows are as they were.
     pub fn attach(&mut self, weak: u64, referent: u64) -> Result<(), AllocError>
@@ -93,7 +97,8 @@ impl WeakTable {
         add_chains(&mut self.chains, referent, chains.with(false, ends));
     }
 
-    /// The referent of a weak reference, or `None` where it has no row or waits.
+    /// The referent of a weak reference, or `None` where it has no row or waits. (`weakref` manual: a reference object
+    /// that is called gives its referent, or None once that is no longer alive.)
     pub fn referent_of(&self, weak: u64) -> Option<u64>
         ensures referent { result ≡ referent_in self.now.rows weak }
         ensures rising { IsRising self.now.rows }
@@ -106,21 +111,22 @@ impl WeakTable {
         }
     }
 
-    /// The newest weak reference to an object, or `None` where it has none that does not wait.
+    /// The newest weak reference to an object, or `None` where it has none that does not wait. (`weakref` manual: the
+    /// most recently registered callback is called first.)
     pub fn newest_of(&self, referent: u64) -> Option<u64>
         ensures { result ≡ slice_get (weak_references_in self.now.rows referent) 0 }
     {
         chains_at(&self.chains, referent).current.newest
     }
 
-    /// The newest weak reference that waits with an object, or `None` where none does.
+    /// The newest weak reference that waits with an object, or `None` where none does. (Ours.)
     pub fn newest_waiting(&self, referent: u64) -> Option<u64>
         ensures { result ≡ slice_get (waiting_in self.now.rows referent) 0 }
     {
         chains_at(&self.chains, referent).waiting.newest
     }
 
-    /// The next older weak reference to the same object, or `None` where there is none that does not wait.
+    /// The next older weak reference to the same object, or `None` where there is none that does not wait. (Ours.)
     pub fn older_of(&self, weak: u64) -> Option<u64>
         requires { IsSome (referent_in self.now.rows weak) }
         ensures { result ≡ next_older_in self.now.rows weak }
@@ -128,7 +134,8 @@ impl WeakTable {
         node_at(&self.nodes, weak).older
     }
 
-    /// A weak reference loses its referent: its row waits with it from now on, or is gone.
+    /// A weak reference loses its referent: its row waits with it from now on, or is gone. (`weakref` manual: what is
+    /// about to be finalized is no longer there for its weak references when their callbacks run. The waiting is ours.)
     pub fn clear(&mut self, weak: u64, wait: bool)
         requires { IsSome (referent_in self.old.rows weak) }
         ensures rows { self.new.rows ≡ (if wait then with_row_waiting weak self.old.rows else without_row weak self.old.rows) }
@@ -141,7 +148,7 @@ impl WeakTable {
         }
     }
 
-    /// A weak reference that waits does so no longer: its row is gone.
+    /// A weak reference that waits does so no longer: its row is gone. (Ours.)
     pub fn forget(&mut self, weak: u64)
         requires { IsSome (waited_in self.old.rows weak) }
         ensures rows { self.new.rows ≡ without_row weak self.old.rows }
