@@ -23,7 +23,7 @@ referent_in rows weak = option_map (λ r. r.referent) (find (λ r. (r.weak == we
 abbrev pub waited_in : List Row → ℕ → Option ℕ
 waited_in rows weak = option_map (λ r. r.referent) (find (λ r. (r.weak == weak) && r.waits) rows)
 
--- whether a row has this referent and does not wait, or waits with it
+-- whether a row has this referent and does not wait
 abbrev pub refers_to : ℕ → Row → Bool
 refers_to o r = (r.referent == o) && not r.waits
 
@@ -35,11 +35,11 @@ waits_with o r = (r.referent == o) && r.waits
 abbrev pub newest_first : (Row → Bool) → List Row → List ℕ
 newest_first test rows = reverse (map (λ r. r.weak) (filter test rows))
 
--- the weak references to an object, and those that wait with it, the newest first
+-- the weak references to an object, the newest first
 abbrev pub weak_references_in : List Row → ℕ → List ℕ
 weak_references_in rows o = newest_first (refers_to o) rows
 
--- those that wait with it
+-- those that wait with it, the newest first
 abbrev pub waiting_in : List Row → ℕ → List ℕ
 waiting_in rows o = newest_first (waits_with o) rows
 
@@ -56,9 +56,10 @@ new_row weak referent = record { weak = weak; referent = referent; waits = false
 abbrev pub waiting_row : Row → Row
 waiting_row r = record r { waits = true }
 
--- the rows once a weak reference waits, and once its row is gone
+-- the rows once a weak reference waits
 abbrev pub with_row_waiting : ℕ → List Row → List Row
 with_row_waiting weak rows = map (λ r. if r.weak == weak then waiting_row r else r) rows
 
+-- the rows once that of a weak reference is gone
 abbrev pub without_row : ℕ → List Row → List Row
 without_row weak rows = filter (λ r. not (r.weak == weak)) rows

@@ -8,20 +8,22 @@ abbrev pub at_end : Option ℕ → Option ℕ → Option ℕ → Option ℕ
 at_end None here end = here
 at_end (Some w) here end = end
 
--- the ends once a row between two neighbours has left, or has come
+-- the ends once a row between two neighbours has left
 abbrev pub ends_without : Option ℕ → Option ℕ → Ends → Ends
 ends_without newer older e = record { newest = at_end newer older e.newest; oldest = at_end older newer e.oldest }
 
+-- the ends once a row has come between two neighbours
 abbrev pub ends_joined : Option ℕ → ℕ → Option ℕ → Ends → Ends
 ends_joined newer weak older e = record {
   newest = at_end newer (Some weak) e.newest;
   oldest = at_end older (Some weak) e.oldest;
 }
 
--- an empty chain, and two of them
+-- the ends of an empty chain
 abbrev pub no_ends : Ends
 no_ends = record { newest = None; oldest = None }
 
+-- two empty chains
 abbrev pub no_chains : Chains
 no_chains = record { current = no_ends; waiting = no_ends }
 

@@ -27,17 +27,19 @@ unfoldable pub rows_of : List (ℕ × Node) → List Row
 rows_of [] = []
 rows_of (e ∷ es) = put_row (row_of e.0 e.1) (rows_of es)
 
--- the node of a weak reference, and the chains of an object
+-- the node of a weak reference
 abbrev pub node_in : List (ℕ × Node) → ℕ → Option Node
 node_in nodes weak = lookup (nat_eq weak) nodes
 
+-- the chains of an object
 abbrev pub chains_of : List (ℕ × Chains) → ℕ → Chains
 chains_of chains o = chains_in (lookup (nat_eq o) chains)
 
--- the two ways along a chain: to what is older, and to what is newer
+-- one way along a chain, from the oldest to the newest
 abbrev pub below : ℕ → ℕ → Type 0
 below v w = v < w
 
+-- the other way
 abbrev pub above : ℕ → ℕ → Type 0
 above v w = w < v
 
@@ -51,17 +53,19 @@ abbrev pub IsLinked : (ℕ → ℕ → Type 0) → (ℕ → Option Chain) → (�
 IsLinked before chain next =
     (w : ℕ) (k : Chain) → chain w ≡ Some k → IsLast before (λ v. (chain v ≡ Some k) × before v w) (next w)
 
--- and each chain its end
+-- in one of the two ways, each chain names its end
 abbrev pub IsEnded : (ℕ → ℕ → Type 0) → (ℕ → Option Chain) → (Chain → Option ℕ) → Type 0
 IsEnded before chain end = (k : Chain) → IsLast before (λ v. chain v ≡ Some k) (end k)
 
--- the chain of each weak reference, and its neighbours
+-- the chain of a weak reference
 abbrev pub chain_at : List (ℕ × Node) → ℕ → Option Chain
 chain_at nodes weak = chain_in (node_in nodes weak)
 
+-- its older neighbour
 abbrev pub older_at : List (ℕ × Node) → ℕ → Option ℕ
 older_at nodes weak = older_in (node_in nodes weak)
 
+-- its newer neighbour
 abbrev pub newer_at : List (ℕ × Node) → ℕ → Option ℕ
 newer_at nodes weak = newer_in (node_in nodes weak)
 
