@@ -1,7 +1,8 @@
 -- The rows of weak references: which has which referent, and which wait for their callback with the one that they had.
 -- (`weakref` manual: when the referent is about to be finalized, callbacks are called from the most recently registered
 -- on.)
-use Rattle.std.specs.Prelude.{ℕ, not, ◌&&◌, ◌==◌, Bool, Option, List, map, filter, find, reverse, option_map}
+use Rattle.std.specs.Prelude.{ℕ, ◌<◌, not, ◌&&◌, ◌==◌, nat_lt, if◌then◌else◌, Bool, true, false, Option, List, [], ◌∷◌, map, filter, find, reverse, option_map, option_and_then}
+use Rattle.std.specs.List.{All}
 
 -- a weak reference that has a referent, or waits with the one that it had
 pub record Row : Type 0 where
@@ -9,13 +10,20 @@ pub record Row : Type 0 where
   pub referent : ℕ
   pub waits : Bool
 
--- The rows of a table stand by rising weak reference, each weak reference once.
+-- the rows of a table stand by rising weak reference, each weak reference once
+abbrev pub IsRising : List Row → Type 0
+IsRising [] = Unit {0}
+IsRising (r ∷ rows) = All (λ x. r.weak < x.weak) rows × IsRising rows
 
 -- the referent of a weak reference whose row does not wait
 abbrev pub referent_in : List Row → ℕ → Option ℕ
 referent_in rows weak = option_map (λ r. r.referent) (find (λ r. (r.weak == weak) && not r.waits) rows)
 
--- whether a row has this referent and does not wait, or waits with it
+-- the referent with which a weak reference waits
+abbrev pub waited_in : List Row → ℕ → Option ℕ
+waited_in rows weak = option_map (λ r. r.referent) (find (λ r. (r.weak == weak) && r.waits) rows)
+
+-- whether a row has this referent and does not wait
 abbrev pub refers_to : ℕ → Row → Bool
 refers_to o r = (r.referent == o) && not r.waits
 
@@ -27,10 +35,31 @@ waits_with o r = (r.referent == o) && r.waits
 abbrev pub newest_first : (Row → Bool) → List Row → List ℕ
 newest_first test rows = reverse (map (λ r. r.weak) (filter test rows))
 
--- the weak references to an object, and those that wait with it, the newest first
+-- the weak references to an object, the newest first
 abbrev pub weak_references_in : List Row → ℕ → List ℕ
 weak_references_in rows o = newest_first (refers_to o) rows
 
--- those that wait with it
+-- those that wait with it, the newest first
 abbrev pub waiting_in : List Row → ℕ → List ℕ
 waiting_in rows o = newest_first (waits_with o) rows
+
+-- the next older one of the weak references to the same object
+abbrev pub next_older_in : List Row → ℕ → Option ℕ
+next_older_in rows weak =
+    option_and_then (λ o. find (λ v. nat_lt v weak) (weak_references_in rows o)) (referent_in rows weak)
+
+-- a weak reference that has just got its referent
+abbrev pub new_row : ℕ → ℕ → Row
+new_row weak referent = record { weak = weak; referent = referent; waits = false }
+
+-- the row waits
+abbrev pub waiting_row : Row → Row
+waiting_row r = record r { waits = true }
+
+-- the rows once a weak reference waits
+abbrev pub with_row_waiting : ℕ → List Row → List Row
+with_row_waiting weak rows = map (λ r. if r.weak == weak then waiting_row r else r) rows
+
+-- the rows once that of a weak reference is gone
+abbrev pub without_row : ℕ → List Row → List Row
+without_row weak rows = filter (λ r. not (r.weak == weak)) rows

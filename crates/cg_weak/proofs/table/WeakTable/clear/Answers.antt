@@ -1,0 +1,6 @@
+use Rattle.std.proofs.Common.{not}
+use Rattle.cg_weak.proofs.RowLists.{found_there}
+use Rattle.cg_weak.proofs.table.WeakTable.clear.Goals as goal
+
+pub remove-requires : goal.remove-requires
+remove-requires c = found_there (λ r. not r.waits) c.args.self.now.rows c.args.weak c.requires

@@ -1,0 +1,4 @@
+pub mod WeakRows
+pub mod Nodes
+pub mod Chains
+pub mod Table

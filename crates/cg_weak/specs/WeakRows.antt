@@ -1,0 +1,8 @@
+-- What contracts see of a table of weak references.
+use Rattle.std.specs.Prelude.{ℕ, List}
+use Rattle.cg_graph.specs.Rows.{Row}
+
+-- the rows by rising weak reference, and how many more can be attached without memory
+pub record WeakRows : Type 0 where
+  pub rows : List Row
+  pub room : ℕ

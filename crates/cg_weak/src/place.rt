@@ -1,0 +1,54 @@
+//! Where a row stands in a chain that it has not come to yet.
+ghost use Rattle.std.specs.Prelude.{◌≡◌, ◌≢◌, ℕ, true, Some};
+ghost use Rattle.cg_weak.specs.Table.{below, above, IsLast, IsLinked, chain_at, older_at, newer_at};
+
+use crate::chains::Ends;
+use crate::nodes::{Node, node_at};
+use indexmap::IndexMap;
+
+// The oldest of the rows that wait with an object and are newer than a weak reference. Where weak references are set
+// waiting from the newest on, as in a death, the first row that is looked at tells.
+fn oldest_above(
+    nodes: &IndexMap<u64, Node>,
+    referent: u64,
+    oldest: Option<u64>,
+    weak: u64,
+) -> Option<u64>
+    requires linked { IsLinked above (chain_at nodes.now.entries) (newer_at nodes.now.entries) }
+    requires oldest { IsLast above (λ v. chain_at nodes.now.entries v ≡ Some (referent, true)) oldest }
+    ensures { IsLast above (λ v. (chain_at nodes.now.entries v ≡ Some (referent, true)) × above v weak) result }
+{
+    let mut at = oldest;
+    'rows: while let Some(here) = at {
+        if weak < here {
+            return at;
+        }
+        at = node_at(nodes, here).newer;
+    }
+    None
+}
+
+/// The neighbours that a row will have among those that wait with its object: the newer one, and the older one.
+pub fn neighbours(
+    nodes: &IndexMap<u64, Node>,
+    referent: u64,
+    ends: Ends,
+    weak: u64,
+) -> (Option<u64>, Option<u64>)
+    requires apart { chain_at nodes.now.entries weak ≢ Some (referent, true) }
+    requires older { IsLinked below (chain_at nodes.now.entries) (older_at nodes.now.entries) }
+    requires newer { IsLinked above (chain_at nodes.now.entries) (newer_at nodes.now.entries) }
+    requires newest { IsLast below (λ v. chain_at nodes.now.entries v ≡ Some (referent, true)) ends.newest }
+    requires oldest { IsLast above (λ v. chain_at nodes.now.entries v ≡ Some (referent, true)) ends.oldest }
+    ensures above { IsLast above (λ v. (chain_at nodes.now.entries v ≡ Some (referent, true)) × above v weak) result.0 }
+    ensures below { IsLast below (λ v. (chain_at nodes.now.entries v ≡ Some (referent, true)) × below v weak) result.1 }
+{
+    if ends.newest.is_some_and(|newest| newest < weak) {
+        return (None, ends.newest);
+    }
+    let newer = oldest_above(nodes, referent, ends.oldest, weak);
+    match newer {
+        Some(above) => (newer, node_at(nodes, above).older),
+        None => (None, ends.newest),
+    }
+}
