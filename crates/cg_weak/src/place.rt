@@ -7,18 +7,17 @@ use crate::nodes::{Node, node_at};
 use indexmap::IndexMap;
 
 // The oldest of the rows that wait with an object and are newer than a weak reference. Where weak references are set
-// waiting from the newest on, as in a death, the first row that is looked at tells.
-fn oldest_above(
-    nodes: &IndexMap<u64, Node>,
-    referent: u64,
-    oldest: Option<u64>,
-    weak: u64,
-) -> Option<u64>
+// waiting from the newest on, as in a death, the oldest tells; where they are from the oldest on, the newest does.
+fn oldest_above(nodes: &IndexMap<u64, Node>, referent: u64, ends: Ends, weak: u64) -> Option<u64>
     requires linked { IsLinked above (chain_at nodes.now.entries) (newer_at nodes.now.entries) }
-    requires oldest { IsLast above (λ v. chain_at nodes.now.entries v ≡ Some (referent, true)) oldest }
+    requires newest { IsLast below (λ v. chain_at nodes.now.entries v ≡ Some (referent, true)) ends.newest }
+    requires oldest { IsLast above (λ v. chain_at nodes.now.entries v ≡ Some (referent, true)) ends.oldest }
     ensures { IsLast above (λ v. (chain_at nodes.now.entries v ≡ Some (referent, true)) × above v weak) result }
 {
-    let mut at = oldest;
+    if ends.newest.is_some_and(|newest| newest < weak) {
+        return None;
+    }
+    let mut at = ends.oldest;
     'rows: while let Some(here) = at {
         if weak < here {
             return at;
@@ -43,10 +42,7 @@ pub fn neighbours(
     ensures above { IsLast above (λ v. (chain_at nodes.now.entries v ≡ Some (referent, true)) × above v weak) result.0 }
     ensures below { IsLast below (λ v. (chain_at nodes.now.entries v ≡ Some (referent, true)) × below v weak) result.1 }
 {
-    if ends.newest.is_some_and(|newest| newest < weak) {
-        return (None, ends.newest);
-    }
-    let newer = oldest_above(nodes, referent, ends.oldest, weak);
+    let newer = oldest_above(nodes, referent, ends, weak);
     match newer {
         Some(above) => (newer, node_at(nodes, above).older),
         None => (None, ends.newest),
