@@ -1,0 +1,12 @@
+mod BoxLemmas
+mod Stands
+mod Room
+mod Rewrites
+mod Takes
+mod Puts
+mod Moves
+mod CountAll
+mod Makes
+mod Opens
+mod Calls
+mod Tracks

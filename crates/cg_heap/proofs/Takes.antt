@@ -1,0 +1,161 @@
+-- An entry goes.
+use Rattle.std.proofs.Common.{◌≡◌, ◌≢◌, ℕ, zero, suc, ◌+◌, ◌-◌, ◌<◌, ◌≤◌, List, [], ◌∷◌, ◌++◌, length, Option, Some, None, IsSome, cond, refl, sym, ap, ◌∙◌, inl, inr, arith, length-append, remove, take}
+use Rattle.std.specs.Prelude.{◌==◌, if◌then◌else◌, slice_get}
+use Rattle.std.proofs.lemmas.Bool.{cases_eq, eq-eqb, ne_eqb}
+use Rattle.std.proofs.lemmas.List.Sums.{sum_by-append}
+use Rattle.std.specs.Ordering.{nat_cmp}
+use Rattle.std.specs.FinMap as fin
+use Rattle.cg_value.specs.declared.Val.{Val}
+use Rattle.cg_value.specs.declared.Val.TheVariants as val
+use Rattle.cg_value.specs.declared.Entry.{Entry}
+use Rattle.cg_kind.specs.Bodies.{Bodies}
+use Rattle.cg_graph.specs.Maps.{total}
+use Rattle.cg_graph.specs.Holdings.{occurrences}
+use Rattle.cg_graph.specs.Value.{references, entry_references, references_of_value, item, without_last}
+use Rattle.cg_graph.specs.Store.{Store, Node, inner, count_of, IsLive, entries_of, entries_in}
+use Rattle.cg_graph.specs.Changes.{held, rewritten, with_entries}
+use Rattle.cg_arena.specs.Nodes.{ArenaNode, Nodes, count_in}
+use Rattle.cg_heap.specs.Keeps.{Keeps, Alike, size, IsWellMade}
+use Rattle.cg_heap.specs.Calls.{number_less}
+use Rattle.cg_heap.proofs.Stands.{shape-held, held-outside, held-inner, held-ones, held-well, held-sizes, held-entries, live-mapped}
+use Rattle.cg_heap.proofs.Room.{one_if, occurrences-one}
+use Rattle.cg_heap.proofs.Rewrites.{all_after, object-of, shape-written, inner-written, ones-written, well-written, sizes-written, outside-written, entries-written, entries-written_other, two-sizes}
+
+pub occurrences-append : (s : ℕ) (xs ys : List ℕ) → occurrences s (xs ++ ys) ≡ occurrences s xs + occurrences s ys
+occurrences-append s xs ys = sum_by-append (λ r. cond (r == s) 1 0) xs ys
+
+-- what is held is live
+pub held-live : (all : List Bodies) (nodes : fin.FinMap nat_cmp ArenaNode) (objects number : ℕ) (store : Store) → Keeps all nodes objects number store → (s : ℕ) → 0 < inner store s → IsLive store s
+held-live all nodes objects number store ok s held = known (fin.get nodes s) (fin.get store.nodes s) (ok.shape.alike s) (omega (arith, ok.counted s, held))
+  where
+    known : (a : Option ArenaNode) (x : Option Node) → Alike all a x → 0 < count_in a → IsSome x
+    known None x h c = absurd (omega (arith, c))
+    known (Some n) None h c = absurd h
+    known (Some n) (Some x) h c = refl
+
+number_less-other : (o number : ℕ) → o ≢ 1 → number_less o number ≡ number - 1
+number_less-other o number differs = ap (λ b. if b then number else number - 1) (ne_eqb o 1 differs)
+
+number_less-same : (o number : ℕ) → o ≡ 1 → number_less o number ≡ number
+number_less-same o number same = ap (λ b. if b then number else number - 1) (eq-eqb o 1 same)
+
+module _ (all : List Bodies) (v : Nodes) (objects number : ℕ) (store : Store) (ok : Keeps all v.nodes objects number store) (o : ℕ) (n : ArenaNode) (found : fin.get v.nodes o ≡ Some n) (es : List Entry) (spare : ℕ) where
+  abbrev after : List Bodies
+  after = all_after all v.nodes store ok.shape o n found es spare
+
+  entries-now : (x : Node) → fin.get store.nodes o ≡ Some x → x.entries ≡ entries_of store o
+  entries-now x at = sym (ap entries_in at)
+
+  pub enough : 0 < length (entries_of store o) → o ≢ 1 → 0 < number
+  enough some other =
+      let (x, at, is, h) = object-of all v.nodes store.nodes o n (ok.shape.alike o) found in
+      let len : length x.entries ≡ length (entries_of store o) = ap length (entries-now x at) in
+      omega (arith, len, some, two-sizes store o x at es 1 (λ e. other (sym e)), ok.sized)
+
+  module _ (refs : List ℕ) (split : (s : ℕ) → occurrences s (references (entries_of store o)) ≡ occurrences s (references es) + occurrences s refs) (shorter : length (entries_of store o) ≡ suc (length es)) (well : (x : Node) → fin.get store.nodes o ≡ Some x → IsWellMade x → IsWellMade (with_entries es x)) where
+    abbrev pub taken : Store
+    taken = held refs (rewritten o es store)
+
+    pub keeps-taken : Keeps after v.nodes objects (number_less o number) taken
+    keeps-taken =
+        let (x, at, is, h) = object-of all v.nodes store.nodes o n (ok.shape.alike o) found in
+        record {
+          shape = shape-held after v.nodes (rewritten o es store) (shape-written all v.nodes store ok.shape o n found es spare) refs;
+          counted = counted x at;
+          well = held-well refs (rewritten o es store) (well-written store o x at es ok.well (well x at));
+          numbered = held-ones refs (rewritten o es store) ∙ ones-written store o x at es ∙ ok.numbered;
+          sized = (sizes x at).0;
+          object_limit = ok.object_limit;
+          entry_limit = (sizes x at).1;
+          garbage = (sizes x at).2;
+          names = ok.names;
+        }
+      where
+        refs_live : (x : Node) → fin.get store.nodes o ≡ Some x → (s : ℕ) → 0 < occurrences s refs → IsLive (rewritten o es store) s
+        refs_live x at s there =
+            let was : occurrences s (references x.entries) ≡ occurrences s (references (entries_of store o)) = ap (λ l. occurrences s (references l)) (entries-now x at) in
+            let live = held-live all v.nodes objects number store ok s (omega (arith, inner-written store o x at es s, was, split s, there)) in
+            live-mapped (λ s x. if s == o then with_entries es x else x) store.nodes s live
+
+        counted : (x : Node) → fin.get store.nodes o ≡ Some x → (s : ℕ) → count_in (fin.get v.nodes s) ≡ count_of taken s
+        counted x at s =
+            let was : occurrences s (references x.entries) ≡ occurrences s (references (entries_of store o)) = ap (λ l. occurrences s (references l)) (entries-now x at) in
+            omega (arith, ok.counted s, inner-written store o x at es s, was, split s, outside-written store o x at es s, held-inner refs (rewritten o es store) s, held-outside refs (rewritten o es store) s (refs_live x at s))
+
+        sizes : (x : Node) → fin.get store.nodes o ≡ Some x → (total size taken.nodes ≡ number_less o number + length (entries_of taken 1)) × (number_less o number ≤ 4000000) × (length (entries_of taken 1) ≤ 1000000)
+        sizes x at =
+            let len : length x.entries ≡ length (entries_of store o) = ap length (entries-now x at) in
+            let here : length (entries_of taken 1) ≡ length (entries_of (rewritten o es store) 1) = ap length (held-entries refs (rewritten o es store) 1) in
+            elim (cases_eq o 1) [
+              | inl same ↦
+                  let now : length (entries_of (rewritten o es store) 1) ≡ length es = ap (λ k. length (entries_of (rewritten o es store) k)) (sym same) ∙ ap length (entries-written store o x at es) in
+                  let old : length (entries_of store o) ≡ length (entries_of store 1) = ap (λ k. length (entries_of store k)) same in
+                  let less = number_less-same o number same in (
+                    omega (arith, held-sizes refs (rewritten o es store), sizes-written store o x at es, len, here, now, old, less, ok.sized, shorter),
+                    omega (arith, less, ok.entry_limit),
+                    omega (arith, here, now, old, shorter, ok.garbage),
+                  )
+              | inr differs ↦
+                  let now : length (entries_of (rewritten o es store) 1) ≡ length (entries_of store 1) = ap length (entries-written_other store o x at es 1 (λ e. differs (sym e))) in
+                  let less = number_less-other o number differs in
+                  let some = enough (omega (arith, shorter)) differs in (
+                    omega (arith, held-sizes refs (rewritten o es store), sizes-written store o x at es, len, here, now, less, ok.sized, shorter, some),
+                    omega (arith, less, ok.entry_limit),
+                    omega (arith, here, now, ok.garbage),
+                  )
+            ]
+
+-- the references of a list with an entry at the end, and of one without an entry
+pub references-append : (s : ℕ) (xs ys : List Entry) → occurrences s (references (xs ++ ys)) ≡ occurrences s (references xs) + occurrences s (references ys)
+references-append s [] ys = omega arith
+references-append s (x ∷ xs) ys =
+    omega (arith, occurrences-append s (entry_references x) (references (xs ++ ys)), occurrences-append s (entry_references x) (references xs), references-append s xs ys)
+
+some_same : (x y : Entry) → Some x ≡ Some y → x ≡ y
+some_same x y e = cc
+
+pub references-remove : (s : ℕ) (es : List Entry) (i : ℕ) (e : Entry) → slice_get es i ≡ Some e → occurrences s (references es) ≡ occurrences s (references (remove es i)) + occurrences s (entry_references e)
+references-remove s [] i e at = absurd (cc)
+references-remove s (x ∷ es) zero e at =
+    let is : x ≡ e = some_same x e at in
+    occurrences-append s (entry_references x) (references es) ∙ ap (λ y. occurrences s (entry_references y) + occurrences s (references es)) is ∙ omega arith
+references-remove s (x ∷ es) (suc i) e at =
+    omega (arith, occurrences-append s (entry_references x) (references es), occurrences-append s (entry_references x) (references (remove es i)), references-remove s es i e at)
+
+pub length-remove : (es : List Entry) (i : ℕ) (e : Entry) → slice_get es i ≡ Some e → length es ≡ suc (length (remove es i))
+length-remove [] i e at = absurd (cc)
+length-remove (x ∷ es) zero e at = refl
+length-remove (x ∷ es) (suc i) e at = ap suc (length-remove es i e at)
+
+-- the last entry taken off
+pub last-remove : (es rest : List Entry) (e : Entry) → es ≡ rest ++ e ∷ [] → (without_last es ≡ rest) × ((s : ℕ) → occurrences s (references es) ≡ occurrences s (references rest) + occurrences s (entry_references e)) × (length es ≡ suc (length rest))
+last-remove es rest e is =
+    let len : length es ≡ length rest + 1 = ap length is ∙ length-append rest (e ∷ []) in
+    let before : length es - 1 ≡ length rest = omega (arith, len) in (
+      (λ i. take (before i) (is i)) ∙ front rest,
+      λ s. ap (λ l. occurrences s (references l)) is ∙ references-append s rest (e ∷ []) ∙ omega (arith, occurrences-append s (entry_references e) []),
+      omega (arith, len),
+    )
+  where
+    front : (xs : List Entry) → take (length xs) (xs ++ e ∷ []) ≡ xs
+    front [] = refl
+    front (x ∷ xs) = ap (λ l. x ∷ l) (front xs)
+
+pub occurrences-item : (s : ℕ) (v : Val) → occurrences s (entry_references (item v)) ≡ occurrences s (references_of_value (Some v))
+occurrences-item s v = omega (arith, occurrences-append s (references_of_value (Some v)) [])
+
+pub push-item : (s : ℕ) (es : List Entry) (v : Val) → occurrences s (references (es ++ item v ∷ [])) ≡ occurrences s (references es) + occurrences s (references_of_value (Some v))
+push-item s es v = omega (arith, references-append s es (item v ∷ []), occurrences-append s (entry_references (item v)) [], occurrences-item s v)
+
+-- what a value refers to
+pub refs-are : (v : Val) (s : ℕ) → 0 < occurrences s (references_of_value (Some v)) → v ≡ val.Ref s
+refs-are val.None s h = absurd (omega (arith, h))
+refs-are (val.Int n) s h = absurd (omega (arith, h))
+refs-are (val.Str n) s h = absurd (omega (arith, h))
+refs-are (val.Ref o) s h =
+    elim (cases_eq o s) [
+      | inl same ↦ ap val.Ref same
+      | inr differs ↦
+          let none : one_if (o == s) ≡ 0 = ap one_if (ne_eqb o s differs) in
+          absurd (omega (arith, h, none, occurrences-one s o))
+    ]

@@ -1,0 +1,142 @@
+-- What the calls of a heap ask for, and what they leave. (Ours.)
+use Rattle.std.specs.Prelude.{◌≡◌, ℕ, ◌-◌, ◌<◌, ◌≤◌, ◌==◌, if◌then◌else◌, Bool, true, false, not, ◌&&◌, ◌||◌, Option, Some, None, length, option_map}
+use Rattle.std.specs.FinMap as fin
+use Rattle.cg_value.specs.declared.Val.{Val}
+use Rattle.cg_value.specs.declared.Val.TheVariants.{None as Nothing, Int, Str, Ref}
+use Rattle.cg_value.specs.declared.KindCode.{KindCode}
+use Rattle.cg_value.specs.declared.KindCode.TheVariants.{List as ListKind, Tuple, Dict, Inst}
+use Rattle.cg_value.specs.declared.Place.{Place}
+use Rattle.cg_value.specs.declared.Place.TheVariants.{Untracked, Gen}
+use Rattle.cg_kind.specs.Calls.{CanPut, value_under, after_put}
+use Rattle.cg_graph.specs.Maps.{mapped, changed, total}
+use Rattle.cg_graph.specs.Object.{same_place}
+use Rattle.cg_graph.specs.Value.{references_of_value}
+use Rattle.cg_graph.specs.Holdings.{occurrences}
+use Rattle.cg_graph.specs.Places.{place_number, list_of, merge_lists}
+use Rattle.cg_graph.specs.Store.{Store, Node, IsLive, entries_of, inner}
+use Rattle.cg_graph.specs.Changes.{held, rewritten, moved, with_place}
+use Rattle.cg_arena.specs.Nodes.{count_in_list}
+use Rattle.cg_heap.specs.Keeps.{size, one, IsWellMadeAt}
+
+-- All objects together have fewer than 2^31 - 2 outside holds. So no count passes 2^32 - 1.
+abbrev pub HasFewHolds : Store → Type 0
+HasFewHolds store = total (λ n. n.outside) store.nodes < 2147483646
+
+-- the number of live objects, and of their entries, the garbage list aside
+abbrev pub object_number : Store → ℕ
+object_number store = total one store.nodes - 1
+
+abbrev pub entry_number : Store → ℕ
+entry_number store = total size store.nodes - length (entries_of store 1)
+
+-- the number of entries once one of an object is gone
+abbrev pub number_less : ℕ → ℕ → ℕ
+number_less o number = if o == 1 then number else number - 1
+
+-- the kind of a node that may be there, and of an object
+abbrev pub code_in : Option Node → KindCode
+code_in None = ListKind
+code_in (Some n) = n.code
+
+abbrev pub code_of : Store → ℕ → KindCode
+code_of store o = code_in (fin.get store.nodes o)
+
+-- Values are put into lists, dictionaries and instances, and entries are taken out of them. The other kinds never change
+-- but when they are emptied.
+abbrev pub IsMutable : KindCode → Type 0
+IsMutable ListKind = Unit {0}
+IsMutable Dict = Unit {0}
+IsMutable Inst = Unit {0}
+IsMutable code = ⊥
+
+-- a live object whose entries may be taken out
+abbrev pub CanTake : Store → ℕ → Type 0
+CanTake store o = IsLive store o × IsMutable (code_of store o)
+
+-- a live object that takes a value under the key
+abbrev pub CanPutIn : Store → ℕ → Val → Type 0
+CanPutIn store o key = IsLive store o × IsMutable (code_of store o) × CanPut (code_of store o) (entries_of store o) key
+
+-- a reference in the value is live
+abbrev pub IsLiveValue : Store → Val → Type 0
+IsLiveValue store v = (s : ℕ) → v ≡ Ref s → IsLive store s
+
+-- the value that a put at the key replaces, if there is one
+abbrev pub value_in : Store → ℕ → Val → Option Val
+value_in store o key = value_under (code_of store o) (entries_of store o) key
+
+-- A value put under a key: the one that it replaces is held from outside.
+abbrev pub with_put : Store → ℕ → Val → Val → Store
+with_put store o key val = held (references_of_value (value_in store o key)) (rewritten o (after_put (code_of store o) (entries_of store o) key val) store)
+
+-- An object may be tracked when it is no tuple, or a tracked one; an atom may not. (Developer guide, "optimization: delay
+-- tracking containers".)
+abbrev pub code_may_be_tracked : KindCode → Place → Bool
+code_may_be_tracked Tuple place = not (same_place place Untracked)
+code_may_be_tracked code place = true
+
+abbrev pub node_may_be_tracked : Option Node → Bool
+node_may_be_tracked None = false
+node_may_be_tracked (Some n) = code_may_be_tracked n.code n.place
+
+abbrev pub may_be_tracked : Store → Val → Bool
+may_be_tracked store Nothing = false
+may_be_tracked store (Int n) = false
+may_be_tracked store (Str n) = false
+may_be_tracked store (Ref s) = node_may_be_tracked (fin.get store.nodes s)
+
+-- an untracked dictionary
+abbrev pub is_dict_at : KindCode → Place → Bool
+is_dict_at Dict place = same_place place Untracked
+is_dict_at code place = false
+
+abbrev pub is_untracked_dict : Option Node → Bool
+is_untracked_dict None = false
+is_untracked_dict (Some n) = is_dict_at n.code n.place
+
+-- An untracked dictionary becomes tracked by a key or a value that may be tracked. (`gc` manual, `gc.is_tracked`.)
+abbrev pub becomes_tracked : Store → ℕ → Val → Val → Bool
+becomes_tracked store o key val = is_untracked_dict (fin.get store.nodes o) && (may_be_tracked store key || may_be_tracked store val)
+
+-- it goes to the end of generation 0
+abbrev pub tracked_if : Bool → ℕ → Store → Store
+tracked_if b o store = if b then moved o (Gen 0) store else store
+
+-- all objects of one place go to the end of another, in their order
+abbrev pub place_merged : Place → Place → Node → Node
+place_merged p q n = if place_number n.place == place_number p then with_place q n else n
+
+abbrev pub merged : Place → Place → Store → Store
+merged p q store = record store {
+  nodes = mapped (λ s n. place_merged p q n) store.nodes;
+  lists = merge_lists store.lists (place_number p) (place_number q);
+}
+
+-- one object with the finalized mark (PEP 442: a finalizer is called once)
+abbrev pub marked : Node → Node
+marked n = record n { finalized = true }
+
+-- one object with another collector's number
+abbrev pub with_number : ℕ → Node → Node
+with_number number n = record n { number = number }
+
+abbrev pub with_node : (Node → Node) → ℕ → Store → Store
+with_node f o store = record store { nodes = changed f o store.nodes }
+
+-- Each live object stands once in the list of its place, and in no other list. (Developer guide, "Optimization:
+-- generations": each tracked object is in one generation.)
+pub record IsListed (store : Store) : Type 0 where
+  pub ten : length store.lists ≡ 10
+  pub placed : (s : ℕ) (n : Node) → fin.get store.nodes s ≡ Some n → place_number n.place < 10
+  pub once : (p s : ℕ) → p < 10 → occurrences s (list_of store.lists p) ≡ count_in_list p (option_map (λ n. n.place) (fin.get store.nodes s))
+
+-- What a caller may rest on in every heap.
+pub record IsSound (store : Store) : Type 0 where
+  -- what names, the garbage root and entries hold is live
+  pub live : (s : ℕ) → 0 < inner store s → IsLive store s
+  pub below : (s : ℕ) → IsLive store s → s ≤ store.last
+  -- the items of a list have no keys, a weak reference has at most one entry, and instances and functions have a number
+  pub well : (s : ℕ) → IsWellMadeAt (fin.get store.nodes s)
+  pub listed : IsListed store
+  pub objects : object_number store ≤ 1000000
+  pub entries : entry_number store ≤ 4000000

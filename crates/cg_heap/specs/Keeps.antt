@@ -1,0 +1,95 @@
+-- How boxes, nodes and names stand for a store, and what is true of them. (Ours.)
+use Rattle.std.specs.Prelude.{◌≡◌, ℕ, ◌+◌, ◌-◌, ◌<◌, ◌≤◌, List, length, Option, Some, None, IsSome}
+use Rattle.std.specs.Ordering.{nat_cmp}
+use Rattle.std.specs.FinMap as fin
+use Rattle.cg_value.specs.declared.Val.{Val}
+use Rattle.cg_value.specs.declared.KindCode.{KindCode}
+use Rattle.cg_value.specs.declared.KindCode.TheVariants.{List as ListKind, Inst, Func, Weak}
+use Rattle.cg_kind.specs.Bodies.{Bodies}
+use Rattle.cg_kind.specs.Calls.{AreItems}
+use Rattle.cg_graph.specs.Maps.{mapped, total}
+use Rattle.cg_graph.specs.Rows.{Row}
+use Rattle.cg_graph.specs.Store.{Store, Node, held_within, count_of, IsLive, entries_of}
+use Rattle.cg_arena.specs.Nodes.{ArenaNode, Nodes, count_in}
+use Rattle.cg_heap.specs.Boxes.{HasBody, entries_in_box}
+
+-- what a node stands for, with a number of outside holds
+abbrev pub node_from : List Bodies → ArenaNode → ℕ → Node
+node_from all n outside = record {
+  code = n.code;
+  class = n.class;
+  entries = entries_in_box all n.code n.body;
+  finalized = n.finalized;
+  place = n.place;
+  number = n.number;
+  outside = outside;
+}
+
+-- what the nodes stand for, the outside holds aside
+abbrev pub bare_nodes : List Bodies → fin.FinMap nat_cmp ArenaNode → fin.FinMap nat_cmp Node
+bare_nodes all nodes = mapped (λ s n. node_from all n 0) nodes
+
+-- The outside holds are the count less what names, garbage root and entries hold.
+unfoldable pub nodes_from : List Bodies → List (Option Val) → fin.FinMap nat_cmp ArenaNode → fin.FinMap nat_cmp Node
+nodes_from all names nodes = mapped (λ s n. node_from all n (n.count - held_within names (bare_nodes all nodes) s)) nodes
+
+-- what the fields of a heap stand for
+abbrev pub store_of : List Bodies → Nodes → List (Option Val) → ℕ → List Row → Store
+store_of all v names last rows = record { nodes = nodes_from all names v.nodes; last = last; names = names; lists = v.lists; rows = rows }
+
+-- a node stands for an object, and has a body
+abbrev pub Alike : List Bodies → Option ArenaNode → Option Node → Type 0
+Alike all None None = Unit {0}
+Alike all None (Some x) = ⊥
+Alike all (Some n) None = ⊥
+Alike all (Some n) (Some x) = (x ≡ node_from all n x.outside) × HasBody all n.code n.body
+
+-- the box and the place of the body of a node that may be there
+abbrev pub seat_in : Option ArenaNode → Option (KindCode × ℕ)
+seat_in None = None
+seat_in (Some n) = Some (n.code, n.body)
+
+-- the number of entries of an object, and an object as one
+abbrev pub size : Node → ℕ
+size n = length n.entries
+
+abbrev pub one : Node → ℕ
+one n = 1
+
+-- an instance has a class, a function a procedure, and no other object has a number
+abbrev pub HasClass : KindCode → Option ℕ → Type 0
+HasClass Inst class = IsSome class
+HasClass Func class = IsSome class
+HasClass code class = class ≡ None
+
+-- What is true of each object: the items of a list have no keys, and a weak reference has at most one entry, its callback.
+pub record IsWellMade (n : Node) : Type 0 where
+  pub items : n.code ≡ ListKind → AreItems n.entries
+  pub classed : HasClass n.code n.class
+  pub single : n.code ≡ Weak → length n.entries ≤ 1
+
+abbrev pub IsWellMadeAt : Option Node → Type 0
+IsWellMadeAt None = Unit {0}
+IsWellMadeAt (Some n) = IsWellMade n
+
+-- boxes, nodes and objects agree, the counts aside
+pub record Shape (all : List Bodies) (nodes : fin.FinMap nat_cmp ArenaNode) (store : Store) : Type 0 where
+  pub six : length all ≡ 6
+  pub alike : (s : ℕ) → Alike all (fin.get nodes s) (fin.get store.nodes s)
+  -- no two nodes share a body
+  pub apart : (o p : ℕ) (seat : KindCode × ℕ) → seat_in (fin.get nodes o) ≡ Some seat → seat_in (fin.get nodes p) ≡ Some seat → o ≡ p
+  pub below : (s : ℕ) → IsLive store s → s ≤ store.last
+
+-- What a heap keeps: the fields agree, and the counts are right. The garbage list counts neither as an object nor with its
+-- entries.
+pub record Keeps (all : List Bodies) (nodes : fin.FinMap nat_cmp ArenaNode) (objects entries : ℕ) (store : Store) : Type 0 where
+  pub shape : Shape all nodes store
+  -- the count is the in-degree, and so what is held is live
+  pub counted : (s : ℕ) → count_in (fin.get nodes s) ≡ count_of store s
+  pub well : (s : ℕ) → IsWellMadeAt (fin.get store.nodes s)
+  pub numbered : total one store.nodes ≡ objects + 1
+  pub sized : total size store.nodes ≡ entries + length (entries_of store 1)
+  pub object_limit : objects ≤ 1000000
+  pub entry_limit : entries ≤ 4000000
+  pub garbage : length (entries_of store 1) ≤ 1000000
+  pub names : length store.names < 1073741824

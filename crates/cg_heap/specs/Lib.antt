@@ -1,0 +1,4 @@
+pub mod Boxes
+pub mod Codes
+pub mod Keeps
+pub mod Calls

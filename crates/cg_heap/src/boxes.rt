@@ -1,0 +1,240 @@
+//! The six boxes of kinds, as one.
+ghost use Rattle.std.specs.Prelude.{◌≡◌, ◌≢◌, ◌<◌, ◌≤◌, ◌+◌, ◌-◌, ◌++◌, ◌∷◌, ◌↔◌, [], IsTrue, length, map, IfOk, OnOk, OnErr, IfSome, OnSome, IfNone, IsNone, IsSome, IsOk, None, Some, position, slice_get};
+ghost use Rattle.std.specs.FinMap as fin;
+ghost use Rattle.cg_value.specs.declared.KindCode.TheVariants as code;
+ghost use Rattle.cg_graph.specs.Value.{item, without_last};
+ghost use Rattle.cg_kind.specs.Bodies.{Holds, entries_at, spare_at, with_body};
+ghost use Rattle.cg_kind.specs.Calls.{has_key, IsParts, CanPut, value_under, after_put, after_take, spare_after_leave};
+ghost use Rattle.cg_heap.specs.Boxes.{six_kinds, code_index, bodies_at, HasBody, entries_in_box, spare_in_box, boxes_with_body, boxes_without};
+ghost use Rattle.cg_heap.specs.Calls.{IsMutable};
+
+use cg_kind::Kind;
+use cg_value::{Entry, KindCode, Val};
+use std::alloc::AllocError;
+use std::marker::Model;
+
+/// Where the entries of an object are: in the box of its kind, at a place.
+#[derive(Clone, Copy, Debug)]
+pub struct Seat {
+    pub code: KindCode,
+    pub body: usize,
+}
+
+/// The kinds, in the order of `KindCode`.
+#[derive(Drop)]
+pub struct Boxes<B: Kind> {
+    kinds: Vec<B>,
+}
+
+impl<B: Kind> Model for Boxes<B> {
+    ghost use Rattle.std.specs.Prelude.{◌≡◌, List, map};
+    ghost use Rattle.cg_kind.specs.Bodies.{Bodies};
+    ghost use Rattle.cg_heap.specs.Boxes.{boxes_code, six_kinds};
+
+    ghost Value = { List Bodies };
+
+    ghost coded = { boxes_code };
+
+    ghost view = { λ a. map B.bodies a.kinds.items };
+
+    ghost invariant = { λ a. map B.kind a.kinds.items ≡ six_kinds };
+}
+
+/// Where the box of a kind stands.
+fn index_of(code: KindCode) -> usize
+    ensures index { result ≡ code_index code }
+    ensures below { result < 6 }
+{
+    match code {
+        KindCode::List => 0,
+        KindCode::Tuple => 1,
+        KindCode::Dict => 2,
+        KindCode::Inst => 3,
+        KindCode::Func => 4,
+        KindCode::Weak => 5,
+    }
+}
+
+/// Appends an item to the list at a place of the first box.
+fn append_to<B: Kind>(lists: &mut B, at: usize, val: Val) -> Result<(), AllocError>
+    requires held { Holds (B.bodies lists.old) at }
+    requires list { B.kind lists.old ≡ code.List }
+    ensures ok { OnOk result (B.bodies lists.new ≡ with_body (B.bodies lists.old) at
+        (entries_at (B.bodies lists.old) at ++ item val ∷ []) (spare_at (B.bodies lists.new) at)) }
+    ensures err { OnErr result (B.bodies lists.new ≡ B.bodies lists.old) }
+    ensures same_kind { B.kind lists.new ≡ B.kind lists.old }
+{
+    match lists.reserve(at, 1) {
+        Ok(()) => {
+            lists.append_reserved(at, val);
+            Ok(())
+        }
+        Err(refused) => Err(refused),
+    }
+}
+
+impl<B: Kind> Boxes<B> {
+    /// The six kinds, in the order of `KindCode`.
+    pub fn new(kinds: Vec<B>) -> Self
+        requires { map B.kind kinds.items ≡ six_kinds }
+        ensures { result ≡ map B.bodies kinds.items }
+    {
+        Boxes { kinds }
+    }
+
+    /// Makes a body of a kind, and answers its place.
+    pub fn make(&mut self, code: KindCode, parts: &[Entry]) -> Result<usize, AllocError>
+        requires { IsParts code parts.now }
+        ensures made { IfOk result (λ at. self.new ≡
+            boxes_with_body self.old code at parts.now (spare_in_box self.new code at)) }
+        ensures vacant { IfOk result (λ at. fin.get (bodies_at self.old code) at ≡ None) }
+        ensures err { OnErr result (self.new ≡ self.old) }
+    {
+        let kind = &mut self.kinds[index_of(code)];
+        let made = kind.make(parts);
+        made
+    }
+
+    /// The number of entries.
+    pub fn len(&self, seat: Seat) -> usize
+        requires { HasBody self.now seat.code seat.body }
+        ensures { result ≡ length (entries_in_box self.now seat.code seat.body) }
+    {
+        let kind = &self.kinds[index_of(seat.code)];
+        kind.len(seat.body)
+    }
+
+    /// The entry at a position below the length.
+    pub fn entry_at(&self, seat: Seat, i: usize) -> Entry
+        requires held { HasBody self.now seat.code seat.body }
+        requires within { i < length (entries_in_box self.now seat.code seat.body) }
+        ensures { slice_get (entries_in_box self.now seat.code seat.body) i ≡ Some result }
+    {
+        let kind = &self.kinds[index_of(seat.code)];
+        kind.entry_at(seat.body, i)
+    }
+
+    /// The first position with this key.
+    pub fn find(&self, seat: Seat, key: Val) -> Option<usize>
+        requires { HasBody self.now seat.code seat.body }
+        ensures { result ≡ position (has_key key) (entries_in_box self.now seat.code seat.body) }
+    {
+        let kind = &self.kinds[index_of(seat.code)];
+        kind.find(seat.body, key)
+    }
+
+    /// Puts a value under a key, and answers the one that it replaces.
+    pub fn put(&mut self, seat: Seat, key: Val, val: Val) -> Result<Option<Val>, AllocError>
+        requires held { HasBody self.old seat.code seat.body }
+        requires can { CanPut seat.code (entries_in_box self.old seat.code seat.body) key }
+        ensures ok { OnOk result (self.new ≡ boxes_with_body self.old seat.code seat.body
+            (after_put seat.code (entries_in_box self.old seat.code seat.body) key val)
+            (spare_in_box self.old seat.code seat.body)) }
+        ensures replaced { IfOk result (λ was. was ≡
+            value_under seat.code (entries_in_box self.old seat.code seat.body) key) }
+        ensures present { IsSome (value_under seat.code (entries_in_box self.old seat.code seat.body) key)
+            → IsOk result }
+        ensures err { OnErr result (self.new ≡ self.old) }
+    {
+        let kind = &mut self.kinds[index_of(seat.code)];
+        let put = kind.put(seat.body, key, val);
+        put
+    }
+
+    /// Takes the entry at a position out, where the kind lets it go.
+    pub fn take(&mut self, seat: Seat, i: usize) -> Entry
+        requires held { HasBody self.old seat.code seat.body }
+        requires within { i < length (entries_in_box self.old seat.code seat.body) }
+        ensures entry { slice_get (entries_in_box self.old seat.code seat.body) i ≡ Some result }
+        ensures rest { self.new ≡ boxes_with_body self.old seat.code seat.body
+            (after_take seat.code (entries_in_box self.old seat.code seat.body) i)
+            (spare_after_leave seat.code (spare_in_box self.old seat.code seat.body)) }
+    {
+        let kind = &mut self.kinds[index_of(seat.code)];
+        let entry = kind.take(seat.body, i);
+        entry
+    }
+
+    /// Takes the last entry off.
+    pub fn detach(&mut self, seat: Seat) -> Option<Entry>
+        requires { HasBody self.old seat.code seat.body }
+        ensures last { IfSome result (λ e. entries_in_box self.old seat.code seat.body ≡
+            without_last (entries_in_box self.old seat.code seat.body) ++ e ∷ []) }
+        ensures rest { OnSome result (self.new ≡ boxes_with_body self.old seat.code seat.body
+            (without_last (entries_in_box self.old seat.code seat.body))
+            (spare_after_leave seat.code (spare_in_box self.old seat.code seat.body))) }
+        ensures empty { IsNone result ↔ (entries_in_box self.old seat.code seat.body ≡ []) }
+        ensures none { IfNone result (self.new ≡ self.old) }
+    {
+        let kind = &mut self.kinds[index_of(seat.code)];
+        let entry = kind.detach(seat.body);
+        entry
+    }
+
+    /// Appends an item to a list.
+    pub fn append(&mut self, list: usize, val: Val) -> Result<(), AllocError>
+        requires { HasBody self.old code.List list }
+        ensures ok { OnOk result (self.new ≡ boxes_with_body self.old code.List list
+            (entries_in_box self.old code.List list ++ item val ∷ []) (spare_in_box self.new code.List list)) }
+        ensures err { OnErr result (self.new ≡ self.old) }
+    {
+        let lists = &mut self.kinds[0];
+        let appended = append_to(lists, list, val);
+        appended
+    }
+
+    /// Gives the place of an empty body back.
+    pub fn free(&mut self, seat: Seat)
+        requires held { HasBody self.old seat.code seat.body }
+        requires empty { entries_in_box self.old seat.code seat.body ≡ [] }
+        ensures { self.new ≡ boxes_without self.old seat.code seat.body }
+    {
+        let kind = &mut self.kinds[index_of(seat.code)];
+        kind.free(seat.body);
+    }
+
+    /// Whether a put at the key replaces a value.
+    pub fn has_value(&self, seat: Seat, key: Val) -> bool
+        requires held { HasBody self.now seat.code seat.body }
+        requires can { CanPut seat.code (entries_in_box self.now seat.code seat.body) key }
+        requires mutable { IsMutable seat.code }
+        ensures { IsTrue result ↔
+            IsSome (value_under seat.code (entries_in_box self.now seat.code seat.body) key) }
+    {
+        match seat.code {
+            KindCode::List => true,
+            _ => self.find(seat, key).is_some(),
+        }
+    }
+
+    /// Replaces the value under a key.
+    pub fn replace(&mut self, seat: Seat, key: Val, val: Val) -> Val
+        requires held { HasBody self.old seat.code seat.body }
+        requires can { CanPut seat.code (entries_in_box self.old seat.code seat.body) key }
+        requires present { IsSome (value_under seat.code (entries_in_box self.old seat.code seat.body) key) }
+        ensures writes { self.new ≡ boxes_with_body self.old seat.code seat.body
+            (after_put seat.code (entries_in_box self.old seat.code seat.body) key val)
+            (spare_in_box self.old seat.code seat.body) }
+        ensures old { value_under seat.code (entries_in_box self.old seat.code seat.body) key ≡ Some result }
+    {
+        match self.put(seat, key, val) {
+            Ok(Some(old)) => old,
+            _ => unreachable!(),
+        }
+    }
+
+    /// Adds a value under a new key.
+    pub fn add(&mut self, seat: Seat, key: Val, val: Val) -> Result<(), AllocError>
+        requires held { HasBody self.old seat.code seat.body }
+        requires can { CanPut seat.code (entries_in_box self.old seat.code seat.body) key }
+        ensures ok { OnOk result (self.new ≡ boxes_with_body self.old seat.code seat.body
+            (after_put seat.code (entries_in_box self.old seat.code seat.body) key val)
+            (spare_in_box self.old seat.code seat.body)) }
+        ensures err { OnErr result (self.new ≡ self.old) }
+    {
+        match self.put(seat, key, val) {
+            Ok(_) => Ok(()),
+            Err(refused) => Err(refused),
+        }
+    }
+}

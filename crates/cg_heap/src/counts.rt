@@ -1,0 +1,113 @@
+//! The counts of nodes, and what the entries and names of a heap add to them.
+ghost use Rattle.std.specs.Prelude.{◌≡◌, ◌≢◌, ◌<◌, ◌+◌, ℕ, IsSome, IsTrue, Some, None, slice_get, slice_set, length, replicate, IfOk, ◌^◌, ◌-◌, ◌∷◌, []};
+ghost use Rattle.std.specs.FinMap as fin;
+ghost use Rattle.cg_value.specs.declared.Val.TheVariants as val_of;
+ghost use Rattle.cg_graph.specs.Value.{references, references_of_value};
+ghost use Rattle.cg_graph.specs.Object.{first_place as place_at_first};
+ghost use Rattle.cg_graph.specs.Holdings.{occurrences};
+ghost use Rattle.cg_arena.specs.Nodes.{HasNode, count_of as count_at, counted_up, new_node, with_node, with_room};
+ghost use Rattle.cg_heap.specs.Keeps.{seat_in};
+ghost use Rattle.cg_heap.specs.Calls.{number_less};
+
+use crate::boxes::Seat;
+use cg_arena::Arena;
+use cg_value::{Entry, KindCode, Place, Val};
+use std::alloc::{AllocError, Global};
+
+/// Where the entries of an object are.
+pub fn seat_of(arena: &Arena, object: u64) -> Seat
+    requires { HasNode arena.now object }
+    ensures { seat_in (fin.get arena.now.nodes object) ≡ Some (result.code, result.body) }
+{
+    Seat {
+        code: arena.code_of(object),
+        body: arena.body_of(object),
+    }
+}
+
+/// Counts the reference of a value.
+pub fn count_in(arena: &mut Arena, val: Val)
+    requires live { (s : ℕ) → val ≡ val_of.Ref s → HasNode arena.old s }
+    requires room { (s : ℕ) → val ≡ val_of.Ref s → count_at arena.old s < 2 ^ 32 - 1 }
+    ensures { arena.new ≡ counted_up (references_of_value (Some val)) arena.old }
+{
+    if let Val::Ref(serial) = val {
+        arena.inc(serial);
+    }
+}
+
+/// Counts the references of entries.
+pub fn count_all(arena: &mut Arena, parts: &[Entry])
+    requires live { (s : ℕ) → 0 < occurrences s (references parts.now) → HasNode arena.old s }
+    requires room { (s : ℕ) → count_at arena.old s + occurrences s (references parts.now) < 4294967295 }
+    ensures { arena.new ≡ counted_up (references parts.now) arena.old }
+{
+    for part in parts {
+        count_in(arena, part.val);
+        count_in(arena, part.key);
+    }
+}
+
+/// One entry less, where the object is not the garbage list.
+pub fn fewer(entries: &mut u64, object: u64)
+    requires { object ≢ 1 → 0 < entries.old }
+    ensures { entries.new ≡ number_less object entries.old }
+{
+    if object != 1 {
+        *entries -= 1;
+    }
+}
+
+/// Another value for a name.
+pub fn replace(names: &mut Vec<Option<Val>>, name: usize, val: Option<Val>) -> Option<Val>
+    requires { name < length names.old.items }
+    ensures old { slice_get names.old.items name ≡ Some result }
+    ensures set { names.new.items ≡ slice_set names.old.items name val }
+{
+    let slot = &mut names[name];
+    let old = *slot;
+    *slot = val;
+    old
+}
+
+/// Names without a value.
+pub fn unbound(alloc: Global, n: u32) -> Result<Vec<Option<Val>>, AllocError>
+    ensures { IfOk result (λ names. names.items ≡ replicate n None) }
+{
+    let mut names = Vec::new(alloc);
+    for _name in 0..n {
+        names.push(None)?;
+    }
+    Ok(names)
+}
+
+/// Where an object stands when it is made. (`gc` manual, `gc.is_tracked`: a new dictionary is untracked.)
+pub fn first_place(code: KindCode) -> Place
+    ensures { result ≡ place_at_first code }
+{
+    match code {
+        KindCode::Dict => Place::Untracked,
+        _ => Place::Gen(0),
+    }
+}
+
+/// The node of a new object, held once from outside, and its references.
+pub fn add_object(
+    arena: &mut Arena,
+    serial: u64,
+    code: KindCode,
+    class: Option<u32>,
+    body: usize,
+    parts: &[Entry],
+)
+    requires fresh { fin.get arena.old.nodes serial ≡ None }
+    requires spare { 0 < arena.old.room }
+    requires live { (s : ℕ) → 0 < occurrences s (references parts.now) → HasNode arena.old s }
+    requires room { (s : ℕ) → count_at arena.old s + occurrences s (references parts.now) < 4294967294 }
+    ensures { ((room : ℕ) × (arena.new ≡ counted_up (references parts.now) (counted_up (serial ∷ [])
+        (with_node serial (new_node code class body (place_at_first code)) (with_room room arena.old))))) }
+{
+    arena.add_reserved(serial, code, class, body, first_place(code));
+    arena.inc(serial);
+    count_all(arena, parts);
+}

@@ -1,0 +1,218 @@
+//! The heap: what it is, a new one, and what it answers.
+ghost use Rattle.std.specs.Prelude.{◌≡◌, ◌<◌, ◌≤◌, IfOk, IfSome, IsTrue, ◌↔◌, Some, None, map, replicate, length, position, slice_get};
+ghost use Rattle.std.specs.FinMap as fin;
+ghost use Rattle.cg_kind.specs.Calls.{has_key};
+ghost use Rattle.cg_graph.specs.Store.{IsLive, entries_of, count_of as in_degree, list_at, place_of as place_at};
+ghost use Rattle.cg_graph.specs.Changes.{opening_store};
+ghost use Rattle.cg_arena.specs.Nodes.{following, IsPlace};
+ghost use Rattle.cg_heap.specs.Boxes.{six_kinds};
+ghost use Rattle.cg_heap.specs.Calls.{object_number, entry_number, IsSound};
+
+mod bindings;
+mod entries;
+mod holds;
+mod objects;
+mod places;
+
+use crate::boxes::Boxes;
+use crate::counts::{seat_of, unbound};
+use cg_arena::Arena;
+use cg_kind::Kind;
+use cg_value::{Entry, KindCode, Place, Val};
+use std::alloc::{AllocError, Global};
+use std::marker::Model;
+
+/// Objects, whose entries lie in six boxes of kinds, and names.
+///
+/// An object is named by its serial; serials rise and are never used again. `#1` is the garbage list, which the garbage
+/// root holds. Each live object has a number of outside holds, which are the caller's: an object's count is the number
+/// of the references to it from names, the garbage root and entries, plus its outside holds. (Developer guide,
+/// "Reference counting". The limits and the serials are ours.)
+///
+/// Every call that takes a serial wants it live, every call that takes a name wants it below the number that `new` was
+/// given, and every call that takes a place wants a generation of at most 2. No call but `new`, `make`, `append` and
+/// `put` takes memory.
+#[derive(Drop)]
+pub struct Heap<B: Kind> {
+    boxes: Boxes<B>,
+    arena: Arena,
+    names: Vec<Option<Val>>,
+    last: u64,
+    objects: u64,
+    entries: u64,
+}
+
+impl<B: Kind> Model for Heap<B> {
+    ghost use Rattle.std.specs.Prelude.{[]};
+    ghost use Rattle.cg_graph.specs.Store.{Store};
+    ghost use Rattle.cg_heap.specs.Codes.{store_code};
+    ghost use Rattle.cg_heap.specs.Keeps.{store_of, Keeps};
+
+    ghost Value = { Store };
+
+    ghost coded = { store_code };
+
+    ghost view = { λ a. store_of a.boxes a.arena a.names.items a.last [] };
+
+    ghost invariant = { λ a. Keeps a.boxes a.arena.nodes a.objects a.entries
+        (store_of a.boxes a.arena a.names.items a.last []) };
+}
+
+impl<B: Kind> Heap<B> {
+    /// A heap with the garbage list alone, and `names` names, below 2^30, of which none is bound.
+    ///
+    /// The kinds stand in the order of `KindCode`, and have no object. It answers `AllocError` for want of memory alone.
+    pub fn new(alloc: Global, kinds: Vec<B>, names: u32) -> Result<Self, AllocError>
+        requires kinds { map B.kind kinds.items ≡ six_kinds }
+        requires empty { map B.bodies kinds.items ≡ replicate 6 fin.empty }
+        requires names { names < 1073741824 }
+        ensures { IfOk result (λ h. h ≡ opening_store names) }
+    {
+        let names = unbound(alloc, names)?;
+        let mut arena = Arena::new(alloc);
+        let mut boxes = Boxes::new(kinds);
+        let body = boxes.make(KindCode::List, &[])?;
+        arena.add(1, KindCode::List, None, body, Place::Untracked)?;
+        arena.inc(1);
+        Ok(Heap {
+            boxes,
+            arena,
+            names,
+            last: 1,
+            objects: 0,
+            entries: 0,
+        })
+    }
+
+    /// It changes nothing, and tells what is true of every heap: what names, the garbage root and entries hold is live, no
+    /// live serial is above the last, each object stands once in the list of its place and in no other, and there are at
+    /// most 1,000,000 objects and 4,000,000 entries.
+    pub fn sound(&self)
+        ensures { IsSound self.now }
+    {
+        let _untracked = self.arena.size(Place::Untracked);
+    }
+
+    /// The in-degree, which is below 2^32. (Python: `sys.getrefcount`, without the reference of its argument.)
+    pub fn refs(&self, object: u64) -> u64
+        requires { IsLive self.now object }
+        ensures count { result ≡ in_degree self.now object }
+        ensures below { result < 4294967296 }
+    {
+        self.arena.count_of(object) as u64
+    }
+
+    /// The number of live objects, the garbage list aside.
+    pub fn live(&self) -> u64
+        ensures { result ≡ object_number self.now }
+    {
+        self.objects
+    }
+
+    /// The number of entries of live objects, those of the garbage list aside.
+    pub fn entries(&self) -> u64
+        ensures { result ≡ entry_number self.now }
+    {
+        self.entries
+    }
+
+    /// The kind.
+    pub fn kind_of(&self, object: u64) -> KindCode
+        requires { IsLive self.now object }
+        ensures { IfSome (fin.get self.now.nodes object) (λ n. result ≡ n.code) }
+    {
+        self.arena.code_of(object)
+    }
+
+    /// The number that the object was made with: the class of an instance, or the procedure of a function.
+    pub fn class_of(&self, object: u64) -> Option<u32>
+        requires { IsLive self.now object }
+        ensures { IfSome (fin.get self.now.nodes object) (λ n. result ≡ n.class) }
+    {
+        self.arena.class_of(object)
+    }
+
+    /// The place, in whose list the object stands.
+    pub fn place_of(&self, object: u64) -> Place
+        requires { IsLive self.now object }
+        ensures { result ≡ place_at self.now object }
+    {
+        self.arena.place_of(object)
+    }
+
+    /// Whether the object is marked as finalized.
+    pub fn is_finalized(&self, object: u64) -> bool
+        requires { IsLive self.now object }
+        ensures { IfSome (fin.get self.now.nodes object) (λ n. result ≡ n.finalized) }
+    {
+        self.arena.is_finalized(object)
+    }
+
+    /// The collector's number, 0 at first. (Developer guide, "Identifying reference cycles": `gc_refs`.)
+    pub fn gc_of(&self, object: u64) -> u32
+        requires { IsLive self.now object }
+        ensures { IfSome (fin.get self.now.nodes object) (λ n. result ≡ n.number) }
+    {
+        self.arena.gc_of(object)
+    }
+
+    /// The number of entries.
+    pub fn len(&self, object: u64) -> usize
+        requires { IsLive self.now object }
+        ensures { result ≡ length (entries_of self.now object) }
+    {
+        let seat = seat_of(&self.arena, object);
+        self.boxes.len(seat)
+    }
+
+    /// The entry at a position below the length.
+    pub fn entry_at(&self, object: u64, i: usize) -> Entry
+        requires live { IsLive self.now object }
+        requires within { i < length (entries_of self.now object) }
+        ensures { slice_get (entries_of self.now object) i ≡ Some result }
+    {
+        let seat = seat_of(&self.arena, object);
+        self.boxes.entry_at(seat, i)
+    }
+
+    /// The first position whose key is this one, `None` exactly where there is none.
+    pub fn find(&self, object: u64, key: Val) -> Option<usize>
+        requires { IsLive self.now object }
+        ensures { result ≡ position (has_key key) (entries_of self.now object) }
+    {
+        let seat = seat_of(&self.arena, object);
+        self.boxes.find(seat, key)
+    }
+
+    /// The value of a name, `None` where it is unbound.
+    pub fn name(&self, name: u32) -> Option<Val>
+        requires { name < length self.now.names }
+        ensures { slice_get self.now.names name ≡ Some result }
+    {
+        self.names[name as usize]
+    }
+
+    /// The first of the list of a place, `None` where it is empty.
+    pub fn first(&self, place: Place) -> Option<u64>
+        requires { IsPlace place }
+        ensures { result ≡ slice_get (list_at self.now place) 0 }
+    {
+        self.arena.first(place)
+    }
+
+    /// What comes after an object in the list of its place, `None` at the end.
+    pub fn next(&self, object: u64) -> Option<u64>
+        requires { IsLive self.now object }
+        ensures { result ≡ following object (list_at self.now (place_at self.now object)) }
+    {
+        self.arena.next(object)
+    }
+
+    /// How many objects stand in a place.
+    pub fn size(&self, place: Place) -> u64
+        requires { IsPlace place }
+        ensures { result ≡ length (list_at self.now place) }
+    {
+        self.arena.size(place)
+    }
+}

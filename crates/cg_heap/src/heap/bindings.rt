@@ -1,0 +1,35 @@
+//! Names, and the values that they are bound to.
+ghost use Rattle.std.specs.Prelude.{◌≡◌, ◌<◌, Some, None, length, slice_get};
+ghost use Rattle.cg_graph.specs.Value.{references_of_value};
+ghost use Rattle.cg_graph.specs.Changes.{held, named};
+ghost use Rattle.cg_heap.specs.Calls.{HasFewHolds, IsLiveValue};
+
+use super::Heap;
+use crate::counts::{count_in, replace};
+use cg_kind::Kind;
+use cg_value::Val;
+
+impl<B: Kind> Heap<B> {
+    /// Gives a name a value, and answers the one that it had, `None` where it was unbound.
+    ///
+    /// The reference of the old value is now an outside hold, so that it may be given up after the new one stands.
+    pub fn bind(&mut self, name: u32, val: Val) -> Option<Val>
+        requires name { name < length self.old.names }
+        requires live { IsLiveValue self.old val }
+        requires few { HasFewHolds self.old }
+        ensures old { slice_get self.old.names name ≡ Some result }
+        ensures rest { self.new ≡ held (references_of_value result) (named name (Some val) self.old) }
+    {
+        count_in(&mut self.arena, val);
+        replace(&mut self.names, name as usize, Some(val))
+    }
+
+    /// Takes the value of a name, `None` where it was unbound. Its reference is now an outside hold.
+    pub fn unbind(&mut self, name: u32) -> Option<Val>
+        requires name { name < length self.old.names }
+        ensures old { slice_get self.old.names name ≡ Some result }
+        ensures rest { self.new ≡ held (references_of_value result) (named name None self.old) }
+    {
+        replace(&mut self.names, name as usize, None)
+    }
+}

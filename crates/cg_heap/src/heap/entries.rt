@@ -1,0 +1,257 @@
+//! Entries that come and go.
+ghost use Rattle.std.specs.Prelude.{◌≡◌, ◌≢◌, ◌<◌, ◌≤◌, ◌+◌, ◌++◌, ◌∷◌, ◌↔◌, [], IsTrue, IsOk, IsNone, IsSome, IfOk, IfSome, IfNone, OnOk, OnErr, Ok, Err, Some, None, length, remove, slice_get};
+ghost use Rattle.cg_value.specs.declared.KindCode.TheVariants as code;
+ghost use Rattle.cg_value.specs.declared.Place.TheVariants as where_it_is;
+ghost use Rattle.cg_graph.specs.Object.{same_place};
+ghost use Rattle.cg_graph.specs.Value.{item, without_last, entry_references};
+ghost use Rattle.cg_graph.specs.Store.{IsLive, HasCode, entries_of};
+ghost use Rattle.cg_graph.specs.Changes.{held, rewritten};
+ghost use Rattle.cg_heap.specs.declared.fault.HeapFault.TheVariants as fault;
+ghost use Rattle.cg_heap.specs.Calls.{HasFewHolds, IsLiveValue, CanTake, CanPutIn, entry_number, value_in, with_put, becomes_tracked, tracked_if, may_be_tracked, is_dict_at, code_may_be_tracked};
+
+use super::Heap;
+use crate::counts::{count_in, fewer, seat_of};
+use crate::fault::HeapFault;
+use cg_kind::Kind;
+use cg_value::{Entry, KindCode, Place, Val};
+
+impl<B: Kind> Heap<B> {
+    /// Takes the entry at a position below the length out of a list, a dictionary or an instance; those after it move
+    /// down by one. The references of the entry are now outside holds.
+    pub fn take(&mut self, object: u64, i: usize) -> Entry
+        requires can { CanTake self.old object }
+        requires within { i < length (entries_of self.old object) }
+        ensures entry { slice_get (entries_of self.old object) i ≡ Some result }
+        ensures rest { self.new ≡ held (entry_references result)
+            (rewritten object (remove (entries_of self.old object) i) self.old) }
+    {
+        let seat = seat_of(&self.arena, object);
+        let entry = self.boxes.take(seat, i);
+        fewer(&mut self.entries, object);
+        entry
+    }
+
+    /// Takes the last entry off, whatever the kind. `None` comes exactly where there is none. The references of the
+    /// entry are now outside holds.
+    pub fn detach(&mut self, object: u64) -> Option<Entry>
+        requires { IsLive self.old object }
+        ensures last { IfSome result (λ e. entries_of self.old object ≡
+            without_last (entries_of self.old object) ++ e ∷ []) }
+        ensures rest { IfSome result (λ e. self.new ≡ held (entry_references e)
+            (rewritten object (without_last (entries_of self.old object)) self.old)) }
+        ensures empty { IsNone result ↔ (entries_of self.old object ≡ []) }
+        ensures none { IfNone result (self.new ≡ self.old) }
+    {
+        let seat = seat_of(&self.arena, object);
+        match self.boxes.detach(seat) {
+            Some(entry) => {
+                fewer(&mut self.entries, object);
+                Some(entry)
+            }
+            None => None,
+        }
+    }
+
+    /// Appends an item to a list other than the garbage list.
+    ///
+    /// `EntryLimit` comes exactly where 4,000,000 entries stand, and `OutOfMemory` for want of memory alone. A refusal
+    /// changes nothing.
+    pub fn append(&mut self, list: u64, val: Val) -> Result<(), HeapFault>
+        requires list { HasCode self.old list code.List }
+        requires other { list ≢ 1 }
+        requires live { IsLiveValue self.old val }
+        requires few { HasFewHolds self.old }
+        ensures ok { OnOk result (self.new ≡
+            rewritten list (entries_of self.old list ++ item val ∷ []) self.old) }
+        ensures limit { (result ≡ Err fault.EntryLimit) ↔ (4000000 ≤ entry_number self.old) }
+        ensures objects { result ≢ Err fault.ObjectLimit }
+        ensures err { OnErr result (self.new ≡ self.old) }
+    {
+        if self.entries >= 4_000_000 {
+            return Err(HeapFault::EntryLimit);
+        }
+        let seat = seat_of(&self.arena, list);
+        match self.boxes.append(seat.body, val) {
+            Ok(()) => {
+                count_in(&mut self.arena, val);
+                self.entries += 1;
+                Ok(())
+            }
+            Err(_) => Err(HeapFault::OutOfMemory),
+        }
+    }
+
+    /// Puts a value at an index of a list, or under a key of a dictionary or an instance, and answers the value that it
+    /// replaces, whose reference is now an outside hold. The object is not the garbage list. `Ok(None)` comes exactly for
+    /// a new key.
+    ///
+    /// An untracked dictionary that is given a key or a value that may be tracked goes to the end of generation 0. (`gc`
+    /// manual, `gc.is_tracked`.)
+    ///
+    /// A present key, and a list, refuse nothing. For a new key `EntryLimit` comes exactly where 4,000,000 entries stand,
+    /// and `OutOfMemory` for want of memory alone. A refusal changes nothing.
+    pub fn put(&mut self, object: u64, key: Val, val: Val) -> Result<Option<Val>, HeapFault>
+        requires other { object ≢ 1 }
+        requires can { CanPutIn self.old object key }
+        requires live_key { IsLiveValue self.old key }
+        requires live_val { IsLiveValue self.old val }
+        requires few { HasFewHolds self.old }
+        ensures ok { OnOk result (self.new ≡
+            tracked_if (becomes_tracked self.old object key val) object (with_put self.old object key val)) }
+        ensures replaced { IfOk result (λ was. was ≡ value_in self.old object key) }
+        ensures present { IsSome (value_in self.old object key) → IsOk result }
+        ensures limit { (result ≡ Err fault.EntryLimit)
+            ↔ ((value_in self.old object key ≡ None) × (4000000 ≤ entry_number self.old)) }
+        ensures objects { result ≢ Err fault.ObjectLimit }
+        ensures err { OnErr result (self.new ≡ self.old) }
+    {
+        let tracks = self.becomes_tracked(object, key, val);
+        match self.put_value(object, key, val) {
+            Ok(old) => {
+                self.track_if(tracks, object);
+                Ok(old)
+            }
+            Err(refused) => Err(refused),
+        }
+    }
+
+    /// `put`, without the tracking.
+    fn put_value(&mut self, object: u64, key: Val, val: Val) -> Result<Option<Val>, HeapFault>
+        requires other { object ≢ 1 }
+        requires can { CanPutIn self.old object key }
+        requires live_key { IsLiveValue self.old key }
+        requires live_val { IsLiveValue self.old val }
+        requires few { HasFewHolds self.old }
+        ensures ok { OnOk result (self.new ≡ with_put self.old object key val) }
+        ensures replaced { IfOk result (λ was. was ≡ value_in self.old object key) }
+        ensures present { IsSome (value_in self.old object key) → IsOk result }
+        ensures limit { (result ≡ Err fault.EntryLimit)
+            ↔ ((value_in self.old object key ≡ None) × (4000000 ≤ entry_number self.old)) }
+        ensures objects { result ≢ Err fault.ObjectLimit }
+        ensures err { OnErr result (self.new ≡ self.old) }
+    {
+        if self.has_value(object, key) {
+            let old = self.replace_value(object, key, val);
+            return Ok(Some(old));
+        }
+        match self.add_value(object, key, val) {
+            Ok(()) => Ok(None),
+            Err(refused) => Err(refused),
+        }
+    }
+
+    /// Whether a put at the key replaces a value.
+    fn has_value(&self, object: u64, key: Val) -> bool
+        requires { CanPutIn self.now object key }
+        ensures { IsTrue result ↔ IsSome (value_in self.now object key) }
+    {
+        let seat = seat_of(&self.arena, object);
+        self.boxes.has_value(seat, key)
+    }
+
+    /// Replaces the value under a present key, or at an index.
+    fn replace_value(&mut self, object: u64, key: Val, val: Val) -> Val
+        requires other { object ≢ 1 }
+        requires can { CanPutIn self.old object key }
+        requires present { IsSome (value_in self.old object key) }
+        requires live { IsLiveValue self.old val }
+        requires few { HasFewHolds self.old }
+        ensures old { value_in self.old object key ≡ Some result }
+        ensures rest { self.new ≡ with_put self.old object key val }
+    {
+        let seat = seat_of(&self.arena, object);
+        let old = self.boxes.replace(seat, key, val);
+        count_in(&mut self.arena, val);
+        old
+    }
+
+    /// Adds a value under a new key.
+    fn add_value(&mut self, object: u64, key: Val, val: Val) -> Result<(), HeapFault>
+        requires other { object ≢ 1 }
+        requires can { CanPutIn self.old object key }
+        requires new { value_in self.old object key ≡ None }
+        requires live_key { IsLiveValue self.old key }
+        requires live_val { IsLiveValue self.old val }
+        requires few { HasFewHolds self.old }
+        ensures ok { OnOk result (self.new ≡ with_put self.old object key val) }
+        ensures limit { (result ≡ Err fault.EntryLimit) ↔ (4000000 ≤ entry_number self.old) }
+        ensures objects { result ≢ Err fault.ObjectLimit }
+        ensures err { OnErr result (self.new ≡ self.old) }
+    {
+        if self.entries >= 4_000_000 {
+            return Err(HeapFault::EntryLimit);
+        }
+        let seat = seat_of(&self.arena, object);
+        match self.boxes.add(seat, key, val) {
+            Ok(()) => {
+                count_in(&mut self.arena, val);
+                count_in(&mut self.arena, key);
+                self.entries += 1;
+                Ok(())
+            }
+            Err(_) => Err(HeapFault::OutOfMemory),
+        }
+    }
+
+    /// Whether the object is an untracked dictionary that the key or the value makes tracked.
+    fn becomes_tracked(&self, object: u64, key: Val, val: Val) -> bool
+        requires live { IsLive self.now object }
+        requires live_key { IsLiveValue self.now key }
+        requires live_val { IsLiveValue self.now val }
+        ensures { result ≡ becomes_tracked self.now object key val }
+    {
+        is_untracked_dict(self.kind_of(object), self.place_of(object))
+            && (self.may_be_tracked(key) || self.may_be_tracked(val))
+    }
+
+    /// Whether a value may be tracked: an object that is no tuple, or a tracked one.
+    fn may_be_tracked(&self, val: Val) -> bool
+        requires { IsLiveValue self.now val }
+        ensures { result ≡ may_be_tracked self.now val }
+    {
+        match val {
+            Val::Ref(serial) => may_be_tracked(self.kind_of(serial), self.place_of(serial)),
+            _ => false,
+        }
+    }
+
+    /// Moves an object to the end of generation 0, if it is to be tracked.
+    fn track_if(&mut self, tracks: bool, object: u64)
+        requires { IsLive self.old object }
+        ensures { self.new ≡ tracked_if tracks object self.old }
+    {
+        if tracks {
+            self.move_to(object, Place::Gen(0));
+        }
+    }
+}
+
+/// Whether a place is that of untracked objects.
+fn is_untracked(place: Place) -> bool
+    ensures { result ≡ same_place place where_it_is.Untracked }
+{
+    match place {
+        Place::Untracked => true,
+        _ => false,
+    }
+}
+
+/// Whether an object of this kind at this place is an untracked dictionary.
+fn is_untracked_dict(code: KindCode, place: Place) -> bool
+    ensures { result ≡ is_dict_at code place }
+{
+    match code {
+        KindCode::Dict => is_untracked(place),
+        _ => false,
+    }
+}
+
+/// Whether an object of this kind at this place may be tracked.
+fn may_be_tracked(code: KindCode, place: Place) -> bool
+    ensures { result ≡ code_may_be_tracked code place }
+{
+    match code {
+        KindCode::Tuple => !is_untracked(place),
+        _ => true,
+    }
+}
