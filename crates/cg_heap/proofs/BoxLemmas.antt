@@ -75,6 +75,11 @@ module _ {K : Type 0} (kind : K → KindCode) (bodies : K → Bodies) (items : L
         box_written (λ _ b. with_body b at' (entries_at b at' ++ item x ∷ []) (spare_at (bodies l) at')) is
         ∙ ap (λ b. boxes_with_body old code at' (entries_in_box old code at' ++ item x ∷ []) (spare_at b at')) (sym box_after)
 
+    pub box_reserved : (at' : ℕ) → bodies l ≡ with_body (bodies k) at' (entries_at (bodies k) at') (spare_at (bodies l) at') → map bodies (set items i l) ≡ boxes_with_body old code at' (entries_in_box old code at') (spare_in_box (map bodies (set items i l)) code at')
+    box_reserved at' is =
+        box_written (λ _ b. with_body b at' (entries_at b at') (spare_at (bodies l) at')) is
+        ∙ ap (λ b. boxes_with_body old code at' (entries_in_box old code at') (spare_at b at')) (sym box_after)
+
 -- the second write at a place hides the first
 insert_twice : (m : Bodies) (k : ℕ) (v w : Body) → fin.insert (fin.insert m k v) k w ≡ fin.insert m k w
 insert_twice m k v w =

@@ -1,6 +1,6 @@
 -- What the calls of a heap leave, over the store that it stood for.
 use Rattle.std.proofs.Common.{◌≡◌, ◌≢◌, ℕ, suc, ◌+◌, ◌-◌, ◌<◌, ◌≤◌, List, [], ◌∷◌, ◌++◌, length, set, remove, slice_get, Option, Some, None, IsSome, refl, sym, ap, ◌∙◌, subst, inl, inr, arith, length-append}
-use Rattle.std.specs.Prelude.{option_map, IfSome, if◌then◌else◌, ◌==◌}
+use Rattle.std.specs.Prelude.{option_map, IfSome, if◌then◌else◌, ◌==◌, All}
 use Rattle.std.proofs.lemmas.Bool.{cases_eq}
 use Rattle.std.proofs.lemmas.Option.{some_pair_parts}
 use Rattle.std.specs.Ordering.{nat_cmp}
@@ -12,36 +12,32 @@ use Rattle.cg_value.specs.declared.Place.{Place}
 use Rattle.cg_value.specs.declared.KindCode.{KindCode}
 use Rattle.cg_value.specs.declared.KindCode.TheVariants.{List as ListKind, Tuple, Dict, Inst, Func, Weak}
 use Rattle.cg_kind.specs.Bodies.{Bodies}
-use Rattle.cg_kind.specs.Calls.{AreItems, CanPut, IsParts, value_under, after_put, after_take}
+use Rattle.cg_kind.specs.Calls.{AreItems, CanPut, IsParts, value_under, after_put, after_take, spare_after_leave}
 use Rattle.cg_graph.specs.Object.{first_place}
 use Rattle.cg_graph.specs.Holdings.{occurrences}
 use Rattle.cg_graph.specs.Value.{references, entry_references, references_of_value, item, without_last}
 use Rattle.cg_graph.specs.Places.{place_number, list_of, leaves_list, move_between}
 use Rattle.cg_graph.specs.Rows.{Row}
-use Rattle.cg_graph.specs.Store.{Store, Node, outside_of, count_of, IsLive, HasCode, entries_of, entries_in, place_of}
+use Rattle.cg_graph.specs.Store.{Store, Node, outside_of, count_of, IsLive, HasCode, entries_of, entries_in, place_of, held_within}
 use Rattle.cg_graph.specs.Changes.{held, unheld, rewritten, named, moved, gone, made, more, with_entries}
 use Rattle.cg_graph.proofs.Maps.{same_map, get-mapped}
 use Rattle.cg_arena.specs.Nodes.{ArenaNode, Nodes, count_in, counted_up, counted_down, node_counted_up, new_node as new_arena_node, with_room, with_node as with_arena_node, without_node, with_node_changed, with_node_moved, with_lists_merged, node_finalized, node_numbered, following, IsListed as IsArenaListed, count_in_list, place_of as arena_place_of, place_in as arena_place_in}
-use Rattle.cg_heap.specs.Boxes.{bodies_at, HasBody, entries_in_box, boxes_with_body, boxes_without}
-use Rattle.cg_heap.specs.Keeps.{Keeps, Alike, store_of, node_from, seat_in, HasClass, IsWellMade, IsWellMadeAt}
+use Rattle.cg_heap.specs.Boxes.{bodies_at, HasBody, entries_in_box, boxes_with_body, boxes_without, spare_in_box}
+use Rattle.cg_heap.specs.Keeps.{Keeps, Alike, store_of, node_from, seat_in, HasClass, IsWellMade, IsWellMadeAt, IsSaved}
 use Rattle.cg_heap.specs.Calls.{HasFewHolds, object_number, entry_number, number_less, code_in, code_of, IsMutable, CanTake, CanPutIn, IsLiveValue, value_in, with_put, merged, marked, with_number, with_node, IsSound, IsListed}
 use Rattle.cg_heap.proofs.Stands.{Closed, closed, keeps-held, keeps-unheld, live-mapped}
 use Rattle.cg_heap.proofs.Room.{room-below, live-node, one-enough, counted-has, occurrences-le, reference-le, references-le}
-use Rattle.cg_heap.proofs.Rewrites.{object-of}
+use Rattle.cg_heap.proofs.Rewrites.{object-of, node_seated}
 use Rattle.cg_heap.proofs.Takes.{held-live, keeps-taken, enough, occurrences-append, references-remove, length-remove, last-remove, push-item, refs-are}
-use Rattle.cg_heap.proofs.Puts.{keeps-put, replaced-balance, replaced-were, replaced-length, added-put, added-balance, well-put, well-append, well-remove, well-last}
+use Rattle.cg_heap.proofs.Puts.{keeps-put, replaced-balance, replaced-were, replaced-length, added-put, added-balance, well-put, well-append, well-remove, well-last, All-remove}
 use Rattle.cg_heap.proofs.Moves.{keeps-named, keeps-moved, keeps-marked, keeps-numbered, keeps-merged, same-place, keeps-gone, others}
 use Rattle.cg_heap.proofs.CountAll.{counted_twice, count-le, none-counted}
 use Rattle.cg_heap.proofs.Makes.{keeps-made}
+use Rattle.std.proofs.lemmas.List.Elements.{All-take}
 
 -- the fields of a heap, and the store that they stand for
 pub stands : (all : List Bodies) (v : Nodes) (names : List (Option Val)) (last : ℕ) (rows : List Row) (objects number : ℕ) (old : Store) → Keeps all v.nodes objects number (store_of all v names last rows) → store_of all v names last rows ≡ old → Closed all v names last rows objects number old
 stands all v names last rows objects number old ok view = record { keeps = ok; is = view }
-
--- the node of a seat
-pub node_seated : (a : Option ArenaNode) (code : KindCode) (body : ℕ) → seat_in a ≡ Some (code, body) → (n : ArenaNode) × (a ≡ Some n) × (n.code ≡ code) × (n.body ≡ body)
-node_seated None code body e = absurd (cc)
-node_seated (Some n) code body e = let parts = some_pair_parts n.code code n.body body e in (n, refl, parts.0, parts.1)
 
 -- an atom is not counted
 pub uncounted : (v : Nodes) (x : Val) → ((s : ℕ) → x ≡ val.Ref s → ⊥) → v ≡ counted_up (references_of_value (Some x)) v
@@ -89,6 +85,8 @@ keeps-lists ok = record {
   sized = ok.sized;
   object_limit = ok.object_limit;
   entry_limit = ok.entry_limit;
+  saves = ok.saves;
+  root = record { body = ok.root.body; seat = ok.root.seat; ready = ok.root.ready };
   garbage = ok.garbage;
   names = ok.names;
 }
@@ -233,6 +231,7 @@ module _ {all : List Bodies} {v : Nodes} {names : List (Option Val)} {last : ℕ
     below = h.keeps.shape.below;
     well = h.keeps.well;
     listed = is_listed listed;
+    garbage = h.keeps.saves;
     objects = omega (arith, h.keeps.numbered, h.keeps.object_limit);
     entries = omega (arith, h.keeps.sized, h.keeps.entry_limit);
   })
@@ -263,17 +262,34 @@ module _ {all : List Bodies} {v : Nodes} {names : List (Option Val)} {last : ℕ
   pub parts_fit : HasFewHolds old → (parts : List Entry) → length parts ≤ 4000000 → (s : ℕ) → count_in (fin.get v.nodes s) + occurrences s (references parts) < 4294967294
   parts_fit few parts fits s = omega (arith, count_below few s, occurrences-le s (references parts), references-le parts, fits)
 
+  -- the garbage root holds it
+  pub root_live : IsLive old 1
+  unfolding held_within
+  root_live = subst (λ s. IsLive s 1) h.is (held-live all v.nodes objects number was h.keeps 1 (omega arith))
+
+  -- the body of the garbage list
+  pub garbage_is : (body : ℕ) → IfSome (fin.get v.nodes 1) (λ n. body ≡ n.body) → body ≡ h.keeps.root.body
+  garbage_is body told = known (fin.get v.nodes 1) h.keeps.root.seat told
+    where
+      known : (a : Option ArenaNode) → seat_in a ≡ Some (ListKind, h.keeps.root.body) → IfSome a (λ n. body ≡ n.body) → body ≡ h.keeps.root.body
+      known None e t = absurd (cc)
+      known (Some n) e t = t ∙ (some_pair_parts n.code ListKind n.body h.keeps.root.body e).1
+
+  pub garbage_seat : (body : ℕ) → IfSome (fin.get v.nodes 1) (λ n. body ≡ n.body) → seat_in (fin.get v.nodes 1) ≡ Some (ListKind, body)
+  garbage_seat body told = h.keeps.root.seat ∙ ap (λ b. Some (ListKind, b)) (sym (garbage_is body told))
+
   -- an object made
-  pub after_make : (code : KindCode) (class : Option ℕ) (parts : List Entry) → IsParts code parts → HasClass code class → ((s : ℕ) → 0 < occurrences s (references parts) → IsLive old s) → objects < 1000000 → number + length parts ≤ 4000000
+  pub after_make : (garbage : ℕ) → IfSome (fin.get v.nodes 1) (λ n. garbage ≡ n.body) → objects < length (entries_of old 1) + spare_in_box all ListKind garbage → (code : KindCode) (class : Option ℕ) (parts : List Entry) → IsParts code parts → HasClass code class → ((s : ℕ) → 0 < occurrences s (references parts) → IsLive old s) → objects < 1000000 → number + length parts ≤ 4000000
       → (body : ℕ) → fin.get (bodies_at all code) body ≡ None → (spare : ℕ) (all' : List Bodies) → all' ≡ boxes_with_body all code body parts spare
       → (room : ℕ) (v' : Nodes) → v' ≡ counted_up (references parts) (counted_up ((last + 1) ∷ []) (with_arena_node (last + 1) (new_arena_node code class body (first_place code)) (with_room room v)))
       → Closed all' v' names (last + 1) rows (objects + 1) (number + length parts) (made code class parts old)
-  after_make code class parts is_parts class_fits live few fits body vacant spare all' is room v' counts =
+  after_make garbage told reserved code class parts is_parts class_fits live few fits body vacant spare all' is room v' counts =
       subst (λ s. Closed all' v' names (last + 1) rows (objects + 1) (number + length parts) (made code class parts s)) h.is
       (subst (λ bs. Closed bs v' names (last + 1) rows (objects + 1) (number + length parts) (made code class parts was)) (sym is)
       (subst (λ w. Closed (boxes_with_body all code body parts spare) w names (last + 1) rows (objects + 1) (number + length parts) (made code class parts was)) (sym counts)
       (closed (boxes_with_body all code body parts spare) (counted_up (references parts) (counted_up ((last + 1) ∷ []) (with_arena_node (last + 1) (new_arena_node code class body (first_place code)) (with_room room v)))) (objects + 1) (number + length parts) (made code class parts was)
-      (keeps-made all (with_room room v) objects number was h.keeps code class parts body spare vacant (λ s there. subst (λ o. IsLive o s) (sym h.is) (live s there)) is_parts class_fits few fits)
+      (keeps-made all (with_room room v) objects number was h.keeps code class parts body spare vacant (λ s there. subst (λ o. IsLive o s) (sym h.is) (live s there)) is_parts class_fits
+      (subst (λ b. objects < length (entries_of was 1) + spare_in_box all ListKind b) (garbage_is garbage told) (subst (λ s. objects < length (entries_of s 1) + spare_in_box all ListKind garbage) (sym h.is) reserved)) few fits)
       refl)))
 
   -- an object, by its seat
@@ -332,9 +348,9 @@ module _ {all : List Bodies} {v : Nodes} {names : List (Option Val)} {last : ℕ
 
     -- an entry taken out
     after_leave : (es : List Entry) (spare : ℕ) (all' : List Bodies) → all' ≡ boxes_with_body all code body es spare → (refs : List ℕ) → ((s : ℕ) → occurrences s (references (entries_of old o)) ≡ occurrences s (references es) + occurrences s refs) → length (entries_of old o) ≡ suc (length es)
-        → ((x : Node) → fin.get old.nodes o ≡ Some x → IsWellMade x → IsWellMade (with_entries es x)) → (number' : ℕ) → number' ≡ number_less o number
+        → ((x : Node) → fin.get old.nodes o ≡ Some x → IsWellMade x → IsWellMade (with_entries es x)) → (o ≡ 1 → spare_in_box all code body + 1 ≤ spare) → (o ≡ 1 → All IsSaved (entries_of old o) → All IsSaved es) → (number' : ℕ) → number' ≡ number_less o number
         → Closed all' v names last rows objects number' (held refs (rewritten o es old))
-    after_leave es spare all' is refs split shorter well number' less =
+    after_leave es spare all' is refs split shorter well room saved number' less =
         subst (λ k. Closed all' v names last rows objects k (held refs (rewritten o es old))) (sym less)
         (subst (λ s. Closed all' v names last rows objects (number_less o number) (held refs (rewritten o es s))) h.is
         (subst (λ bs. Closed bs v names last rows objects (number_less o number) (held refs (rewritten o es was))) (sym (is ∙ boxes_are es spare))
@@ -342,29 +358,33 @@ module _ {all : List Bodies} {v : Nodes} {names : List (Option Val)} {last : ℕ
         (keeps-taken all v objects number was h.keeps o there.0 there.1 es spare refs
         (subst (λ st. (s : ℕ) → occurrences s (references (entries_of st o)) ≡ occurrences s (references es) + occurrences s refs) (sym h.is) split)
         (subst (λ st. length (entries_of st o) ≡ suc (length es)) (sym h.is) shorter)
-        (λ x at. well x (ap (λ (s : Store). fin.get s.nodes o) (sym h.is) ∙ at)))
+        (λ x at. well x (ap (λ (s : Store). fin.get s.nodes o) (sym h.is) ∙ at))
+        (λ same. subst (λ (q : KindCode × ℕ). spare_in_box all q.0 q.1 + 1 ≤ spare) (λ i. (sym there.2 i, sym there.3 i)) (room same))
+        (λ same. subst (λ st. All IsSaved (entries_of st o) → All IsSaved es) (sym h.is) (saved same)))
         refl)))
 
     entries_of_object : (x : Node) → fin.get old.nodes o ≡ Some x → x.entries ≡ entries_of old o
     entries_of_object x at = sym (ap entries_in at)
 
-    after_removal : (i : ℕ) (e : Entry) → slice_get (entries_of old o) i ≡ Some e → (spare : ℕ) (all' : List Bodies) → all' ≡ boxes_with_body all code body (remove (entries_of old o) i) spare → (number' : ℕ) → number' ≡ number_less o number
+    after_removal : (i : ℕ) (e : Entry) → slice_get (entries_of old o) i ≡ Some e → (spare : ℕ) (all' : List Bodies) → all' ≡ boxes_with_body all code body (remove (entries_of old o) i) spare → (o ≡ 1 → spare_in_box all code body + 1 ≤ spare) → (number' : ℕ) → number' ≡ number_less o number
         → Closed all' v names last rows objects number' (held (entry_references e) (rewritten o (remove (entries_of old o) i) old))
-    after_removal i e at spare all' is number' less =
+    after_removal i e at spare all' is room number' less =
         after_leave (remove (entries_of old o) i) spare all' is (entry_references e)
         (λ s. references-remove s (entries_of old o) i e at)
         (length-remove (entries_of old o) i e at)
         (λ x found good. subst (λ es. IsWellMade (with_entries (remove es i) x)) (entries_of_object x found)
         (well-remove x i (let len = subst (λ es. length es ≡ suc (length (remove es i))) (sym (entries_of_object x found)) (length-remove (entries_of old o) i e at) in omega (arith, len)) good))
+        room (λ same saved. All-remove IsSaved (entries_of old o) i saved)
         number' less
 
-    pub after_detach : (e : Entry) → entries_of old o ≡ without_last (entries_of old o) ++ e ∷ [] → (spare : ℕ) (all' : List Bodies) → all' ≡ boxes_with_body all code body (without_last (entries_of old o)) spare → (number' : ℕ) → number' ≡ number_less o number
+    pub after_detach : (e : Entry) → entries_of old o ≡ without_last (entries_of old o) ++ e ∷ [] → (spare : ℕ) (all' : List Bodies) → all' ≡ boxes_with_body all code body (without_last (entries_of old o)) spare → (o ≡ 1 → spare_in_box all code body + 1 ≤ spare) → (number' : ℕ) → number' ≡ number_less o number
         → Closed all' v names last rows objects number' (held (entry_references e) (rewritten o (without_last (entries_of old o)) old))
-    after_detach e at spare all' is number' less =
+    after_detach e at spare all' is room number' less =
         let rest = last-remove (entries_of old o) (without_last (entries_of old o)) e at in
         after_leave (without_last (entries_of old o)) spare all' is (entry_references e) rest.1 rest.2
         (λ x found good. subst (λ es. IsWellMade (with_entries (without_last es) x)) (entries_of_object x found)
         (well-last x (let len = subst (λ es. length es ≡ suc (length (without_last es))) (sym (entries_of_object x found)) rest.2 in omega (arith, len)) good))
+        room (λ same saved. All-take IsSaved (length (entries_of old o) - 1) (entries_of old o) saved)
         number' less
 
     pub after_append : (x : Val) (spare : ℕ) (all' : List Bodies) → all' ≡ boxes_with_body all code body (entries_of old o ++ item x ∷ []) spare → code ≡ ListKind → o ≢ 1 → IsLiveValue old x → number < 4000000 → (v' : Nodes) → v' ≡ counted_up (references_of_value (Some x)) v
@@ -452,18 +472,26 @@ module _ {all : List Bodies} {v : Nodes} {names : List (Option Val)} {last : ℕ
     pub value_here : (key : Val) → value_under code (entries_in_box all code body) key ≡ value_in old o key
     value_here key = λ i. value_under (code_is i) (entries_are i) key
 
-    pub after_taking : CanTake old o → (i : ℕ) (e : Entry) → slice_get (entries_in_box all code body) i ≡ Some e → (spare : ℕ) (all' : List Bodies) → all' ≡ boxes_with_body all code body (after_take code (entries_in_box all code body) i) spare → (number' : ℕ) → number' ≡ number_less o number
+    -- the garbage list has room for one item more
+    room_left : o ≡ 1 → spare_in_box all code body + 1 ≤ spare_after_leave code (spare_in_box all code body)
+    room_left same =
+        let parts = some_pair_parts code ListKind body h.keeps.root.body (sym seat ∙ ap (λ k. seat_in (fin.get v.nodes k)) same ∙ h.keeps.root.seat) in
+        let is : spare_after_leave code (spare_in_box all code body) ≡ spare_in_box all code body + 1 = ap (λ c. spare_after_leave c (spare_in_box all code body)) parts.0 in
+        omega (arith, is)
+
+    pub after_taking : CanTake old o → (i : ℕ) (e : Entry) → slice_get (entries_in_box all code body) i ≡ Some e → (all' : List Bodies) → all' ≡ boxes_with_body all code body (after_take code (entries_in_box all code body) i) (spare_after_leave code (spare_in_box all code body)) → (number' : ℕ) → number' ≡ number_less o number
         → Closed all' v names last rows objects number' (held (entry_references e) (rewritten o (remove (entries_of old o) i) old))
-    after_taking can i e at spare all' is number' less =
-        after_removal i e (entry_here i e at) spare all'
-        (is ∙ ap (λ es. boxes_with_body all code body es spare) ((λ j. after_take (code_is j) (entries_are j) i) ∙ takes (code_of old o) can.1 (entries_of old o) i))
+    after_taking can i e at all' is number' less =
+        after_removal i e (entry_here i e at) (spare_after_leave code (spare_in_box all code body)) all'
+        (is ∙ ap (λ es. boxes_with_body all code body es (spare_after_leave code (spare_in_box all code body))) ((λ j. after_take (code_is j) (entries_are j) i) ∙ takes (code_of old o) can.1 (entries_of old o) i))
+        room_left
         number' less
 
-    pub after_detaching : (e : Entry) → entries_in_box all code body ≡ without_last (entries_in_box all code body) ++ e ∷ [] → (spare : ℕ) (all' : List Bodies) → all' ≡ boxes_with_body all code body (without_last (entries_in_box all code body)) spare → (number' : ℕ) → number' ≡ number_less o number
+    pub after_detaching : (e : Entry) → entries_in_box all code body ≡ without_last (entries_in_box all code body) ++ e ∷ [] → (all' : List Bodies) → all' ≡ boxes_with_body all code body (without_last (entries_in_box all code body)) (spare_after_leave code (spare_in_box all code body)) → (number' : ℕ) → number' ≡ number_less o number
         → Closed all' v names last rows objects number' (held (entry_references e) (rewritten o (without_last (entries_of old o)) old))
-    after_detaching e at spare all' is number' less =
-        after_detach e (subst (λ es. es ≡ without_last es ++ e ∷ []) entries_are at) spare all'
-        (is ∙ ap (λ es. boxes_with_body all code body (without_last es) spare) entries_are) number' less
+    after_detaching e at all' is number' less =
+        after_detach e (subst (λ es. es ≡ without_last es ++ e ∷ []) entries_are at) (spare_after_leave code (spare_in_box all code body)) all'
+        (is ∙ ap (λ es. boxes_with_body all code body (without_last es) (spare_after_leave code (spare_in_box all code body))) entries_are) room_left number' less
 
     pub some_entries : (e : Entry) → entries_in_box all code body ≡ without_last (entries_in_box all code body) ++ e ∷ [] → 0 < length (entries_of old o)
     some_entries e at =

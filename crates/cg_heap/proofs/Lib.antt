@@ -10,3 +10,4 @@ mod Makes
 mod Opens
 mod Calls
 mod Tracks
+mod Saves

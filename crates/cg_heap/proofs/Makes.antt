@@ -6,7 +6,7 @@ use Rattle.std.proofs.lemmas.List.{get_or-set_same, get_or-set_other, length-set
 use Rattle.std.specs.FinMap as fin
 use Rattle.cg_value.specs.declared.Entry.{Entry}
 use Rattle.cg_value.specs.declared.KindCode.{KindCode}
-use Rattle.cg_kind.specs.Bodies.{Bodies, with_body, body_of, entries_of as body_entries}
+use Rattle.cg_kind.specs.Bodies.{Bodies, with_body, body_of, entries_of as body_entries, spare_of}
 use Rattle.cg_kind.specs.Calls.{IsParts}
 use Rattle.cg_graph.specs.Maps.{part}
 use Rattle.cg_graph.specs.Object.{first_place}
@@ -16,13 +16,14 @@ use Rattle.cg_graph.specs.Store.{Store, Node, held_within, held_by, inner, count
 use Rattle.cg_graph.specs.Changes.{made, new_node, with_entries}
 use Rattle.cg_graph.proofs.Maps.{total-insert, get-insert_same, get-insert_other}
 use Rattle.cg_arena.specs.Nodes.{ArenaNode, Nodes, count_in, counted_up, node_counted_up, with_node, new_node as new_arena_node}
-use Rattle.cg_heap.specs.Boxes.{code_index, bodies_at, HasBody}
-use Rattle.cg_heap.specs.Keeps.{Keeps, Shape, Alike, size, one, node_from, seat_in, HasClass, IsWellMadeAt}
+use Rattle.cg_heap.specs.Boxes.{code_index, bodies_at, HasBody, spare_in_box}
+use Rattle.cg_heap.specs.Keeps.{Keeps, Shape, Alike, size, one, node_from, seat_in, HasClass, IsWellMadeAt, IsGarbage}
 use Rattle.cg_heap.proofs.BoxLemmas.{code_index-below}
-use Rattle.cg_heap.proofs.Stands.{shape-up, up-counts, live-mapped}
+use Rattle.cg_heap.proofs.Stands.{shape-up, up-counts, live-mapped, seat-up}
 use Rattle.cg_heap.proofs.Room.{live-node, occurrences-one, one_if}
-use Rattle.cg_heap.proofs.Rewrites.{same_code}
+use Rattle.cg_heap.proofs.Rewrites.{same_code, node_seated, object-of}
 use Rattle.cg_heap.proofs.Takes.{held-live}
+use Rattle.cg_value.specs.declared.KindCode.TheVariants.{List as ListKind}
 
 no_body : {X : Type 0} {Y : Type 0} (y : Option X) → y ≡ None → IsSome y → Y
 no_body None e h = absurd (cc)
@@ -211,8 +212,14 @@ module _ (all : List Bodies) (v : Nodes) (objects number : ℕ) (store : Store) 
         | inr differs ↦ subst IsWellMadeAt (sym (get-insert_other store.nodes serial s (new_node code class parts) differs)) (ok.well s)
       ]
 
-  pub keeps-made : objects < 1000000 → number + length parts ≤ 4000000 → Keeps all_made counts.nodes (objects + 1) (number + length parts) after
-  keeps-made few fits =
+  spare-made : spare_in_box all_made ListKind ok.root.body ≡ spare_in_box all ListKind ok.root.body
+  spare-made =
+      let (m, at, c, b) = node_seated (fin.get v.nodes 1) ListKind ok.root.body ok.root.seat in
+      let (x, found, is, has) = object-of all v.nodes store.nodes 1 m (ok.shape.alike 1) at in
+      (λ i. spare_in_box all_made (sym c i) (sym b i)) ∙ ap spare_of (made-kept m has) ∙ (λ i. spare_in_box all (c i) (b i))
+
+  pub keeps-made : objects < length (entries_of store 1) + spare_in_box all ListKind ok.root.body → objects < 1000000 → number + length parts ≤ 4000000 → Keeps all_made counts.nodes (objects + 1) (number + length parts) after
+  keeps-made reserved few fits =
       record {
         shape = shape-up all_made (counted_up (serial ∷ []) added).nodes after (shape-up all_made added.nodes after shape-made (serial ∷ [])) (references parts);
         counted = counted-made;
@@ -225,6 +232,14 @@ module _ (all : List Bodies) (v : Nodes) (objects number : ℕ) (store : Store) 
             omega (arith, total-insert size store.nodes serial (new_node code class parts), none, ok.sized, ap length root-kept);
         object_limit = omega (arith, few);
         entry_limit = fits;
+        saves = subst IsGarbage (sym root-kept) ok.saves;
+        root = record {
+          body = ok.root.body;
+          seat = seat-up (references parts) (counted_up (serial ∷ []) added).nodes 1 ∙ seat-up (serial ∷ []) added.nodes 1 ∙ where-other 1 (λ e. let low = ok.shape.below 1 root_live in absurd (omega (arith, e, low))) ∙ ok.root.seat;
+          ready =
+              let len : length (entries_of after 1) ≡ length (entries_of store 1) = ap length root-kept in
+              omega (arith, spare-made, len, reserved);
+        };
         garbage = subst (λ es. length es ≤ 1000000) (sym root-kept) ok.garbage;
         names = ok.names;
       }

@@ -18,12 +18,14 @@ use Rattle.cg_graph.specs.Store.{Store, Node, held_within, held_by, inner, count
 use Rattle.cg_graph.specs.Changes.{held, named, with_place}
 use Rattle.cg_graph.proofs.Maps.{total-remove, get-remove_same, get-remove_other}
 use Rattle.cg_arena.specs.Nodes.{ArenaNode, Nodes, count_in, counted_up, node_placed, node_finalized, node_numbered, place_of as arena_place_of, place_in as arena_place_in, place_merged as arena_place_merged}
-use Rattle.cg_heap.specs.Boxes.{code_index, bodies_at, HasBody}
-use Rattle.cg_heap.specs.Keeps.{Keeps, Alike, size, one, node_from, seat_in, IsWellMade, IsWellMadeAt}
+use Rattle.cg_heap.specs.Boxes.{code_index, bodies_at, HasBody, spare_in_box}
+use Rattle.cg_heap.specs.Keeps.{Keeps, Alike, size, one, node_from, seat_in, IsWellMade, IsWellMadeAt, IsGarbage}
 use Rattle.cg_heap.specs.Calls.{place_merged, marked, with_number}
-use Rattle.cg_heap.proofs.Stands.{shape-up, shape-held, up-counts, held-outside, held-inner, held-ones, held-well, held-sizes, held-entries, keeps-counts}
-use Rattle.cg_heap.proofs.Rewrites.{object-of, bodies_gone}
+use Rattle.cg_heap.proofs.Stands.{shape-up, shape-held, up-counts, held-outside, held-inner, held-ones, held-well, held-sizes, held-entries, keeps-counts, seat-up}
+use Rattle.cg_heap.proofs.Rewrites.{object-of, bodies_gone, spare-left}
 use Rattle.cg_heap.proofs.Takes.{held-live, occurrences-append}
+use Rattle.cg_value.specs.declared.Entry.{Entry}
+use Rattle.cg_value.specs.declared.KindCode.TheVariants.{List as ListKind}
 
 name-sum : (s : ℕ) (names : List (Option Val)) → occurrences s (name_holdings names) ≡ sum_by (λ v. occurrences s (references_of_value v)) names
 name-sum s [] = refl
@@ -65,6 +67,12 @@ module _ (all : List Bodies) (v : Nodes) (objects number : ℕ) (store : Store) 
           sized = omega (arith, held-sizes (references_of_value old) (named i new store), ap length (held-entries (references_of_value old) (named i new store) 1), ok.sized);
           object_limit = ok.object_limit;
           entry_limit = ok.entry_limit;
+          saves = subst IsGarbage (sym (held-entries (references_of_value old) (named i new store) 1)) ok.saves;
+          root = record {
+            body = ok.root.body;
+            seat = seat-up (references_of_value new) v.nodes 1 ∙ ok.root.seat;
+            ready = subst (λ (e : List Entry). objects ≤ length e + spare_in_box all ListKind ok.root.body) (sym (held-entries (references_of_value old) (named i new store) 1)) ok.root.ready;
+          };
           garbage = subst (λ e. length e ≤ 1000000) (sym (held-entries (references_of_value old) (named i new store) 1)) ok.garbage;
           names = omega (arith, length-set store.names i new, ok.names);
         }
@@ -204,6 +212,14 @@ module _ (all : List Bodies) (v : Nodes) (objects number : ℕ) (store : Store) 
           sized = omega (arith, sizes, ok.sized, root-kept);
           object_limit = omega (arith, ok.object_limit);
           entry_limit = ok.entry_limit;
+          saves = subst IsGarbage (sym (ap entries_in (get-remove_other store.nodes o 1 (λ e. not_root (sym e))))) ok.saves;
+          root = record {
+            body = ok.root.body;
+            seat = ap seat_in (get-remove_other v.nodes o 1 (λ e. not_root (sym e))) ∙ ok.root.seat;
+            ready =
+                let kept : spare_in_box all_gone ListKind ok.root.body ≡ spare_in_box all ListKind ok.root.body = spare-left all v.nodes store ok.shape o n found 1 ListKind ok.root.body (λ e. not_root (sym e)) ok.root.seat in
+                omega (arith, kept, root-kept, ok.root.ready);
+          };
           garbage = omega (arith, root-kept, ok.garbage);
           names = ok.names;
         }

@@ -18,9 +18,9 @@ use Rattle.cg_graph.specs.Changes.{opening_store, garbage_node, with_entries}
 use Rattle.cg_graph.proofs.Maps.{total-insert, get-insert_same, get-insert_other}
 use Rattle.cg_arena.specs.Nodes.{ArenaNode, Nodes, count_in, counted_up, with_node, with_room, new_node, no_nodes}
 use Rattle.cg_heap.specs.Boxes.{bodies_at, boxes_with_body, spare_in_box}
-use Rattle.cg_heap.specs.Keeps.{Keeps, Shape, size, one, seat_in, IsWellMadeAt}
-use Rattle.cg_heap.proofs.Stands.{Closed, closed, shape-up, up-counts}
-use Rattle.cg_heap.proofs.Room.{occurrences-one, one_if}
+use Rattle.cg_heap.specs.Keeps.{Keeps, Shape, size, one, seat_in, IsWellMadeAt, IsGarbage, IsSaved}
+use Rattle.cg_heap.proofs.Stands.{Closed, closed, shape-up, up-counts, seat-up}
+use Rattle.cg_heap.proofs.Room.{occurrences-one, one_if, occurrences-le}
 
 abbrev empties : List Bodies
 empties = replicate 6 fin.empty
@@ -130,6 +130,12 @@ module _ (n body spare room : ℕ) where
         omega (arith, total-insert size fin.empty 1 garbage_node, none, nothing, ap length root-opening);
     object_limit = omega arith;
     entry_limit = omega arith;
+    saves = subst IsGarbage (sym root-opening) (record { saved = All-nil IsSaved; once = λ s. omega (arith, occurrences-le s (1 ∷ [])) });
+    root = record {
+      body = body;
+      seat = seat-up (1 ∷ []) first_nodes.nodes 1 ∙ ap seat_in (get-insert_same fin.empty 1 1 node refl);
+      ready = omega arith;
+    };
     garbage = omega (arith, ap length root-opening);
     names = omega (arith, length_replicate n None, few);
   }

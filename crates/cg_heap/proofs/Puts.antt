@@ -1,6 +1,6 @@
 -- An entry put in, or its value replaced.
 use Rattle.std.proofs.Common.{◌≡◌, ◌≢◌, ℕ, zero, suc, ◌+◌, ◌<◌, ◌≤◌, Bool, true, false, List, [], ◌∷◌, ◌++◌, length, set, Option, Some, None, IsSome, refl, sym, ap, ◌∙◌, subst, arith, pos, negsuc}
-use Rattle.std.specs.Prelude.{if◌then◌else◌, slice_get, option_map, remove, ◌==◌}
+use Rattle.std.specs.Prelude.{if◌then◌else◌, slice_get, option_map, remove, ◌==◌, All}
 use Rattle.std.proofs.lemmas.List.{length-set}
 use Rattle.std.proofs.lemmas.List.Elements.{All-set, All-push, All-take, All-head, All-tail, All-cons}
 use Rattle.std.specs.FinMap as fin
@@ -16,11 +16,12 @@ use Rattle.cg_graph.specs.Value.{references, entry_references, references_of_val
 use Rattle.cg_graph.specs.Store.{Store, Node, IsLive, entries_of, entries_in}
 use Rattle.cg_graph.specs.Changes.{held, rewritten, with_entries}
 use Rattle.cg_arena.specs.Nodes.{ArenaNode, Nodes, counted_up}
-use Rattle.cg_heap.specs.Keeps.{Keeps, IsWellMade}
+use Rattle.cg_heap.specs.Keeps.{Keeps, IsWellMade, IsGarbage}
 use Rattle.cg_heap.specs.Calls.{IsMutable}
-use Rattle.cg_heap.proofs.Stands.{shape-up, shape-held, up-counts, held-outside, held-inner, held-ones, held-well, held-sizes, held-entries, live-mapped}
-use Rattle.cg_heap.proofs.Rewrites.{all_after, object-of, shape-written, inner-written, ones-written, well-written, sizes-written, outside-written, entries-written_other}
+use Rattle.cg_heap.proofs.Stands.{shape-up, shape-held, up-counts, held-outside, held-inner, held-ones, held-well, held-sizes, held-entries, live-mapped, seat-up}
+use Rattle.cg_heap.proofs.Rewrites.{all_after, object-of, shape-written, inner-written, ones-written, well-written, sizes-written, outside-written, entries-written_other, spare-kept}
 use Rattle.cg_heap.proofs.Takes.{held-live, occurrences-append, references-append}
+use Rattle.cg_heap.specs.Boxes.{spare_in_box}
 
 -- Entries other than before: what comes is counted, what leaves is held.
 pub keeps-put : (all : List Bodies) (v : Nodes) (objects number : ℕ) (store : Store) (ok : Keeps all v.nodes objects number store) (o : ℕ) (n : ArenaNode) (found : fin.get v.nodes o ≡ Some n) (es : List Entry) (spare : ℕ) (ups outs : List ℕ)
@@ -31,7 +32,8 @@ pub keeps-put : (all : List Bodies) (v : Nodes) (objects number : ℕ) (store : 
 keeps-put all v objects number store ok o n found es spare ups outs balance were live other well number' sizes limit =
     let (x, at, is, h) = object-of all v.nodes store.nodes o n (ok.shape.alike o) found in
     let len : length x.entries ≡ length (entries_of store o) = ap (λ y. length (entries_in y)) (sym at) in
-    let root : length (entries_of (held outs (rewritten o es store)) 1) ≡ length (entries_of store 1) = ap length (held-entries outs (rewritten o es store) 1 ∙ entries-written_other store o x at es 1 (λ e. other (sym e))) in
+    let same_root : entries_of (held outs (rewritten o es store)) 1 ≡ entries_of store 1 = held-entries outs (rewritten o es store) 1 ∙ entries-written_other store o x at es 1 (λ e. other (sym e)) in
+    let root : length (entries_of (held outs (rewritten o es store)) 1) ≡ length (entries_of store 1) = ap length same_root in
     record {
       shape = shape-up _ v.nodes (held outs (rewritten o es store)) (shape-held _ v.nodes (rewritten o es store) (shape-written all v.nodes store ok.shape o n found es spare) outs) ups;
       counted = λ s.
@@ -42,6 +44,14 @@ keeps-put all v objects number store ok o n found es spare ups outs balance were
       sized = omega (arith, held-sizes outs (rewritten o es store), sizes-written store o x at es, len, root, ok.sized, sizes);
       object_limit = ok.object_limit;
       entry_limit = limit;
+      saves = subst IsGarbage (sym same_root) ok.saves;
+      root = record {
+        body = ok.root.body;
+        seat = seat-up ups v.nodes 1 ∙ ok.root.seat;
+        ready =
+            let kept : spare_in_box (all_after all v.nodes store ok.shape o n found es spare) ListKind ok.root.body ≡ spare_in_box all ListKind ok.root.body = spare-kept all v.nodes store ok.shape o n found es spare 1 ListKind ok.root.body (λ e. other (sym e)) ok.root.seat in
+            omega (arith, kept, root, ok.root.ready);
+      };
       garbage = omega (arith, root, ok.garbage);
       names = ok.names;
     }
@@ -190,11 +200,11 @@ well-append x v list h = record {
     not_both : (c : KindCode) → c ≡ ListKind → c ≡ Weak → ⊥
     not_both c e f = let both : ListKind ≡ Weak = sym e ∙ f in absurd (cc)
 
-All-remove : (es : List Entry) (i : ℕ) → AreItems es → AreItems (remove es i)
-All-remove [] zero h = h
-All-remove [] (suc i) h = h
-All-remove (e ∷ es) zero h = All-tail (λ (x : Entry). x.key ≡ val.None) e es h
-All-remove (e ∷ es) (suc i) h = All-cons (λ (x : Entry). x.key ≡ val.None) e (remove es i) (All-head (λ (x : Entry). x.key ≡ val.None) e es h) (All-remove es i (All-tail (λ (x : Entry). x.key ≡ val.None) e es h))
+pub All-remove : (P : Entry → Type 0) (es : List Entry) (i : ℕ) → All P es → All P (remove es i)
+All-remove P [] zero h = h
+All-remove P [] (suc i) h = h
+All-remove P (e ∷ es) zero h = All-tail P e es h
+All-remove P (e ∷ es) (suc i) h = All-cons P e (remove es i) (All-head P e es h) (All-remove P es i (All-tail P e es h))
 
 pub well-fewer : (x : Node) (es : List Entry) → (AreItems x.entries → AreItems es) → length es ≤ length x.entries → IsWellMade x → IsWellMade (with_entries es x)
 well-fewer x es items fewer h = record {
@@ -204,7 +214,7 @@ well-fewer x es items fewer h = record {
 }
 
 pub well-remove : (x : Node) (i : ℕ) → length (remove x.entries i) ≤ length x.entries → IsWellMade x → IsWellMade (with_entries (remove x.entries i) x)
-well-remove x i fewer = well-fewer x (remove x.entries i) (All-remove x.entries i) fewer
+well-remove x i fewer = well-fewer x (remove x.entries i) (All-remove (λ (e : Entry). e.key ≡ val.None) x.entries i) fewer
 
 pub well-last : (x : Node) → length (without_last x.entries) ≤ length x.entries → IsWellMade x → IsWellMade (with_entries (without_last x.entries) x)
 well-last x fewer = well-fewer x (without_last x.entries) (All-take (λ (e : Entry). e.key ≡ val.None) _ x.entries) fewer

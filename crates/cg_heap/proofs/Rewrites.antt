@@ -8,18 +8,19 @@ use Rattle.std.specs.FinMap as fin
 use Rattle.cg_value.specs.declared.Entry.{Entry}
 use Rattle.cg_value.specs.declared.KindCode.{KindCode}
 use Rattle.cg_value.specs.declared.KindCode.TheVariants.{List as ListKind, Tuple, Dict, Inst, Func, Weak}
-use Rattle.cg_kind.specs.Bodies.{Bodies, with_body, body_of, entries_of as body_entries}
+use Rattle.cg_kind.specs.Bodies.{Bodies, with_body, body_of, entries_of as body_entries, spare_of}
 use Rattle.cg_graph.specs.Maps.{changed, total, part}
 use Rattle.cg_graph.specs.Holdings.{occurrences}
 use Rattle.cg_graph.specs.Value.{references}
 use Rattle.cg_graph.specs.Store.{Store, Node, held_within, held_by, inner, entries_of, entries_in, outside_of, outside_in}
 use Rattle.cg_graph.specs.Changes.{with_entries, rewritten}
-use Rattle.cg_graph.proofs.Maps.{get-mapped, total-mapped, total-changed, get-changed_same, get-changed_other, get-insert_same, get-insert_other, total-remove, get-remove_other, get-remove_same}
+use Rattle.cg_graph.proofs.Maps.{get-mapped, total-mapped, total-changed, get-changed_same, get-changed_other, get-insert_same, get-insert_other, total-remove, get-remove_other, get-remove_same, same_map}
 use Rattle.cg_arena.specs.Nodes.{ArenaNode}
-use Rattle.cg_heap.specs.Boxes.{code_index, bodies_at, HasBody}
+use Rattle.cg_heap.specs.Boxes.{code_index, bodies_at, HasBody, spare_in_box}
 use Rattle.cg_heap.specs.Keeps.{Shape, Alike, node_from, seat_in, size, one, IsWellMade, IsWellMadeAt}
 use Rattle.cg_heap.proofs.BoxLemmas.{code_index-below}
 use Rattle.cg_heap.proofs.Stands.{is_live-mapped}
+use Rattle.std.proofs.lemmas.Option.{some_pair_parts}
 
 abbrev code_at : ℕ → KindCode
 code_at zero = ListKind
@@ -39,6 +40,11 @@ code_at-index Weak = refl
 
 pub same_code : (c d : KindCode) → code_index c ≡ code_index d → c ≡ d
 same_code c d e = sym (code_at-index c) ∙ ap code_at e ∙ code_at-index d
+
+-- the node of a seat
+pub node_seated : (a : Option ArenaNode) (code : KindCode) (body : ℕ) → seat_in a ≡ Some (code, body) → (n : ArenaNode) × (a ≡ Some n) × (n.code ≡ code) × (n.body ≡ body)
+node_seated None code body e = absurd (cc)
+node_seated (Some n) code body e = let parts = some_pair_parts n.code code n.body body e in (n, refl, parts.0, parts.1)
 
 -- the object of a node
 pub object-of : (all : List Bodies) (nodes : fin.FinMap nat_cmp ArenaNode) (m : fin.FinMap nat_cmp Node) (o : ℕ) (n : ArenaNode) → Alike all (fin.get nodes o) (fin.get m o) → fin.get nodes o ≡ Some n → (x : Node) × (fin.get m o ≡ Some x) × (x ≡ node_from all n x.outside) × HasBody all n.code n.body
@@ -79,6 +85,15 @@ module _ (all : List Bodies) (nodes : fin.FinMap nat_cmp ArenaNode) (store : Sto
         | inr other ↦ ap (λ x. fin.get x m.body) (bodies_at-other m.code (λ e. other (ap code_index e)))
       ]
 
+  -- the spares of all others are kept, and the new one stands
+  pub spare-kept : (p : ℕ) (code : KindCode) (body : ℕ) → p ≢ o → seat_in (fin.get nodes p) ≡ Some (code, body) → spare_in_box all_after code body ≡ spare_in_box all code body
+  spare-kept p code body differs seat =
+      let (m, at, c, b) = node_seated (fin.get nodes p) code body seat in
+      (λ i. spare_in_box all_after (sym c i) (sym b i)) ∙ ap spare_of (body-kept p m at differs) ∙ (λ i. spare_in_box all (c i) (b i))
+
+  pub spare-written : spare_in_box all_after n.code n.body ≡ spare
+  spare-written = ap spare_of body-written
+
   alike-written : (q : ℕ) → Alike all_after (fin.get nodes q) (fin.get (changed (with_entries es) o store.nodes) q)
   alike-written q =
       elim (cases_eq q o) [
@@ -105,6 +120,24 @@ module _ (all : List Bodies) (nodes : fin.FinMap nat_cmp ArenaNode) (store : Sto
         apart = ok.apart;
         below = λ s h. ok.below s (is_live-mapped (λ s x. if s == o then with_entries es x else x) store.nodes s h);
       }
+
+-- the entries that an object has already
+pub rewritten-same : (store : Store) (o : ℕ) → rewritten o (entries_of store o) store ≡ store
+rewritten-same store o = λ i. record store { nodes = same_map (changed (with_entries (entries_of store o)) o store.nodes) store.nodes same i }
+  where
+    known : (y : Option Node) → option_map (with_entries (entries_in y)) y ≡ y
+    known None = refl
+    known (Some x) = refl
+
+    same : (q : ℕ) → fin.get (changed (with_entries (entries_of store o)) o store.nodes) q ≡ fin.get store.nodes q
+    same q =
+        elim (cases_eq q o) [
+          | inl is ↦
+              get-changed_same (with_entries (entries_of store o)) o store.nodes q is
+              ∙ ap (λ k. option_map (with_entries (entries_in (fin.get store.nodes k))) (fin.get store.nodes q)) (sym is)
+              ∙ known (fin.get store.nodes q)
+          | inr differs ↦ get-changed_other (with_entries (entries_of store o)) o store.nodes q differs
+        ]
 
 -- what an object's new entries change
 module _ (store : Store) (o : ℕ) (x : Node) (found : fin.get store.nodes o ≡ Some x) (es : List Entry) where
@@ -178,6 +211,11 @@ module _ (all : List Bodies) (nodes : fin.FinMap nat_cmp ArenaNode) (store : Sto
             ∙ ap (λ c. fin.get (bodies_at all c) m.body) (sym code)
         | inr other ↦ ap (λ x. fin.get x m.body) (left-other m.code (λ e. other (ap code_index e)))
       ]
+
+  pub spare-left : (p : ℕ) (code : KindCode) (body : ℕ) → p ≢ o → seat_in (fin.get nodes p) ≡ Some (code, body) → spare_in_box (set all (code_index n.code) left) code body ≡ spare_in_box all code body
+  spare-left p code body differs seat =
+      let (m, at, c, b) = node_seated (fin.get nodes p) code body seat in
+      (λ i. spare_in_box (set all (code_index n.code) left) (sym c i) (sym b i)) ∙ ap spare_of (left-kept p m at differs) ∙ (λ i. spare_in_box all (c i) (b i))
 
   pub bodies_gone : (q : ℕ) → Alike (set all (code_index n.code) left) (fin.get (fin.remove nodes o) q) (fin.get (fin.remove store.nodes o) q)
   bodies_gone q =

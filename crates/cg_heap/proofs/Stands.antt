@@ -15,8 +15,10 @@ use Rattle.cg_graph.specs.Store.{Store, Node, held_within, held_by, inner, count
 use Rattle.cg_graph.specs.Changes.{more, less, held, unheld}
 use Rattle.cg_graph.proofs.Maps.{get-mapped, total-mapped, same_map}
 use Rattle.cg_arena.specs.Nodes.{ArenaNode, Nodes, count_in, counted_up, counted_down, node_counted_up, node_counted_down}
-use Rattle.cg_heap.specs.Boxes.{HasBody}
-use Rattle.cg_heap.specs.Keeps.{Keeps, Shape, Alike, node_from, bare_nodes, nodes_from, store_of, seat_in, size, one, IsWellMade, IsWellMadeAt}
+use Rattle.cg_heap.specs.Boxes.{HasBody, spare_in_box}
+use Rattle.cg_heap.specs.Keeps.{Keeps, Shape, Alike, node_from, bare_nodes, nodes_from, store_of, seat_in, size, one, IsWellMade, IsWellMadeAt, IsGarbage}
+use Rattle.cg_value.specs.declared.Entry.{Entry}
+use Rattle.cg_value.specs.declared.KindCode.TheVariants.{List as ListKind}
 
 -- what is held depends on the entries alone
 pub within-mapped : (g : ℕ → Node → Node) → ((s : ℕ) (x : Node) → (g s x).entries ≡ x.entries) → (names : List (Option Val)) (m : fin.FinMap nat_cmp Node) (s : ℕ) → held_within names (mapped g m) s ≡ held_within names m s
@@ -145,21 +147,22 @@ module _ (f : ℕ → ArenaNode → ArenaNode) (g : ℕ → Node → Node) (all 
         below = λ s h. ok.below s (is_live-mapped g store.nodes s h);
       }
 
+-- counting moves no body
+pub seat-up : (refs : List ℕ) (nodes : fin.FinMap nat_cmp ArenaNode) (s : ℕ) → seat_in (fin.get (mapped (λ s n. node_counted_up (occurrences s refs) n) nodes) s) ≡ seat_in (fin.get nodes s)
+seat-up refs nodes s = ap seat_in (get-mapped (λ s n. node_counted_up (occurrences s refs) n) nodes s) ∙ known (fin.get nodes s)
+  where
+    known : (a : Option ArenaNode) → seat_in (option_map (node_counted_up (occurrences s refs)) a) ≡ seat_in a
+    known None = refl
+    known (Some n) = refl
+
 module _ (all : List Bodies) (nodes : fin.FinMap nat_cmp ArenaNode) (store : Store) (ok : Shape all nodes store) (refs : List ℕ) where
   pub shape-up : Shape all (mapped (λ s n. node_counted_up (occurrences s refs) n) nodes) store
   shape-up = record {
     six = ok.six;
     alike = λ s. rw (get-mapped (λ s n. node_counted_up (occurrences s refs) n) nodes s) (alike-counted all (node_counted_up (occurrences s refs)) (λ n k. refl) (λ n. refl) _ _ (ok.alike s));
-    apart = λ o p b e h. ok.apart o p b (sym (same o) ∙ e) (sym (same p) ∙ h);
+    apart = λ o p b e h. ok.apart o p b (sym (seat-up refs nodes o) ∙ e) (sym (seat-up refs nodes p) ∙ h);
     below = ok.below;
   }
-    where
-      same : (s : ℕ) → seat_in (fin.get (mapped (λ s n. node_counted_up (occurrences s refs) n) nodes) s) ≡ seat_in (fin.get nodes s)
-      same s = ap seat_in (get-mapped (λ s n. node_counted_up (occurrences s refs) n) nodes s) ∙ known (fin.get nodes s)
-        where
-          known : (a : Option ArenaNode) → seat_in (option_map (node_counted_up (occurrences s refs)) a) ≡ seat_in a
-          known None = refl
-          known (Some n) = refl
 
   pub shape-held : Shape all nodes (held refs store)
   shape-held = record {
@@ -245,6 +248,12 @@ module _ (all : List Bodies) (v : Nodes) (objects number : ℕ) (store : Store) 
           sized = total-mapped g size size store.nodes (λ s x. ap length (es s x)) ∙ ok.sized ∙ ap (λ e. number + length e) (sym (entries-mapped_nodes g es store.nodes 1));
           object_limit = ok.object_limit;
           entry_limit = ok.entry_limit;
+          saves = subst IsGarbage (sym (entries-mapped_nodes g es store.nodes 1)) ok.saves;
+          root = record {
+            body = ok.root.body;
+            seat = where-after f g all v.nodes store ok.shape at pair 1 ∙ ok.root.seat;
+            ready = subst (λ (e : List Entry). objects ≤ length e + spare_in_box all ListKind ok.root.body) (sym (entries-mapped_nodes g es store.nodes 1)) ok.root.ready;
+          };
           garbage = subst (λ e. length e ≤ 1000000) (sym (entries-mapped_nodes g es store.nodes 1)) ok.garbage;
           names = ok.names;
         }

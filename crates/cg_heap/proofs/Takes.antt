@@ -1,6 +1,6 @@
 -- An entry goes.
-use Rattle.std.proofs.Common.{◌≡◌, ◌≢◌, ℕ, zero, suc, ◌+◌, ◌-◌, ◌<◌, ◌≤◌, List, [], ◌∷◌, ◌++◌, length, Option, Some, None, IsSome, cond, refl, sym, ap, ◌∙◌, inl, inr, arith, length-append, remove, take}
-use Rattle.std.specs.Prelude.{◌==◌, if◌then◌else◌, slice_get}
+use Rattle.std.proofs.Common.{◌≡◌, ◌≢◌, ℕ, zero, suc, ◌+◌, ◌-◌, ◌<◌, ◌≤◌, List, [], ◌∷◌, ◌++◌, length, Option, Some, None, IsSome, cond, refl, sym, ap, ◌∙◌, inl, inr, arith, length-append, remove, take, subst}
+use Rattle.std.specs.Prelude.{◌==◌, if◌then◌else◌, slice_get, All}
 use Rattle.std.proofs.lemmas.Bool.{cases_eq, eq-eqb, ne_eqb}
 use Rattle.std.proofs.lemmas.List.Sums.{sum_by-append}
 use Rattle.std.specs.Ordering.{nat_cmp}
@@ -15,11 +15,14 @@ use Rattle.cg_graph.specs.Value.{references, entry_references, references_of_val
 use Rattle.cg_graph.specs.Store.{Store, Node, inner, count_of, IsLive, entries_of, entries_in}
 use Rattle.cg_graph.specs.Changes.{held, rewritten, with_entries}
 use Rattle.cg_arena.specs.Nodes.{ArenaNode, Nodes, count_in}
-use Rattle.cg_heap.specs.Keeps.{Keeps, Alike, size, IsWellMade}
+use Rattle.cg_heap.specs.Keeps.{Keeps, Alike, size, IsWellMade, IsGarbage, IsSaved, seat_in}
 use Rattle.cg_heap.specs.Calls.{number_less}
 use Rattle.cg_heap.proofs.Stands.{shape-held, held-outside, held-inner, held-ones, held-well, held-sizes, held-entries, live-mapped}
 use Rattle.cg_heap.proofs.Room.{one_if, occurrences-one}
-use Rattle.cg_heap.proofs.Rewrites.{all_after, object-of, shape-written, inner-written, ones-written, well-written, sizes-written, outside-written, entries-written, entries-written_other, two-sizes}
+use Rattle.cg_heap.proofs.Rewrites.{all_after, object-of, shape-written, inner-written, ones-written, well-written, sizes-written, outside-written, entries-written, entries-written_other, two-sizes, spare-kept, spare-written}
+use Rattle.cg_heap.specs.Boxes.{spare_in_box}
+use Rattle.std.proofs.lemmas.Option.{some_pair_parts}
+use Rattle.cg_value.specs.declared.KindCode.TheVariants.{List as ListKind}
 
 pub occurrences-append : (s : ℕ) (xs ys : List ℕ) → occurrences s (xs ++ ys) ≡ occurrences s xs + occurrences s ys
 occurrences-append s xs ys = sum_by-append (λ r. cond (r == s) 1 0) xs ys
@@ -52,7 +55,7 @@ module _ (all : List Bodies) (v : Nodes) (objects number : ℕ) (store : Store) 
       let len : length x.entries ≡ length (entries_of store o) = ap length (entries-now x at) in
       omega (arith, len, some, two-sizes store o x at es 1 (λ e. other (sym e)), ok.sized)
 
-  module _ (refs : List ℕ) (split : (s : ℕ) → occurrences s (references (entries_of store o)) ≡ occurrences s (references es) + occurrences s refs) (shorter : length (entries_of store o) ≡ suc (length es)) (well : (x : Node) → fin.get store.nodes o ≡ Some x → IsWellMade x → IsWellMade (with_entries es x)) where
+  module _ (refs : List ℕ) (split : (s : ℕ) → occurrences s (references (entries_of store o)) ≡ occurrences s (references es) + occurrences s refs) (shorter : length (entries_of store o) ≡ suc (length es)) (well : (x : Node) → fin.get store.nodes o ≡ Some x → IsWellMade x → IsWellMade (with_entries es x)) (room : o ≡ 1 → spare_in_box all n.code n.body + 1 ≤ spare) (saved : o ≡ 1 → All IsSaved (entries_of store o) → All IsSaved es) where
     abbrev pub taken : Store
     taken = held refs (rewritten o es store)
 
@@ -67,6 +70,8 @@ module _ (all : List Bodies) (v : Nodes) (objects number : ℕ) (store : Store) 
           sized = (sizes x at).0;
           object_limit = ok.object_limit;
           entry_limit = (sizes x at).1;
+          saves = saves_now x at;
+          root = record { body = ok.root.body; seat = ok.root.seat; ready = ready_now x at };
           garbage = (sizes x at).2;
           names = ok.names;
         }
@@ -81,6 +86,43 @@ module _ (all : List Bodies) (v : Nodes) (objects number : ℕ) (store : Store) 
         counted x at s =
             let was : occurrences s (references x.entries) ≡ occurrences s (references (entries_of store o)) = ap (λ l. occurrences s (references l)) (entries-now x at) in
             omega (arith, ok.counted s, inner-written store o x at es s, was, split s, outside-written store o x at es s, held-inner refs (rewritten o es store) s, held-outside refs (rewritten o es store) s (refs_live x at s))
+
+        -- of the garbage list too
+        entries_root : (x : Node) → fin.get store.nodes o ≡ Some x → o ≡ 1 → entries_of taken 1 ≡ es
+        entries_root x at same = held-entries refs (rewritten o es store) 1 ∙ ap (entries_of (rewritten o es store)) (sym same) ∙ entries-written store o x at es
+
+        entries_other : (x : Node) → fin.get store.nodes o ≡ Some x → o ≢ 1 → entries_of taken 1 ≡ entries_of store 1
+        entries_other x at differs = held-entries refs (rewritten o es store) 1 ∙ entries-written_other store o x at es 1 (λ e. differs (sym e))
+
+        saves_now : (x : Node) → fin.get store.nodes o ≡ Some x → IsGarbage (entries_of taken 1)
+        saves_now x at =
+            elim (cases_eq o 1) [
+              | inl same ↦
+                  let old : entries_of store 1 ≡ entries_of store o = ap (entries_of store) (sym same) in
+                  subst IsGarbage (sym (entries_root x at same)) (record {
+                    saved = saved same (subst (λ (l : List Entry). All IsSaved l) old ok.saves.saved);
+                    once = λ s.
+                        let was : occurrences s (references (entries_of store 1)) ≡ occurrences s (references (entries_of store o)) = ap (λ l. occurrences s (references l)) old in
+                        omega (arith, occurrences-append s (1 ∷ []) (references es), occurrences-append s (1 ∷ []) (references (entries_of store 1)), ok.saves.once s, split s, was);
+                  })
+              | inr differs ↦ subst IsGarbage (sym (entries_other x at differs)) ok.saves
+            ]
+
+        ready_now : (x : Node) → fin.get store.nodes o ≡ Some x → objects ≤ length (entries_of taken 1) + spare_in_box after ListKind ok.root.body
+        ready_now x at =
+            elim (cases_eq o 1) [
+              | inl same ↦
+                  let parts = some_pair_parts n.code ListKind n.body ok.root.body (sym (ap seat_in found) ∙ ap (λ k. seat_in (fin.get v.nodes k)) same ∙ ok.root.seat) in
+                  let now : spare_in_box after ListKind ok.root.body ≡ spare = (λ i. spare_in_box after (sym parts.0 i) (sym parts.1 i)) ∙ spare-written all v.nodes store ok.shape o n found es spare in
+                  let old : spare_in_box all n.code n.body ≡ spare_in_box all ListKind ok.root.body = (λ i. spare_in_box all (parts.0 i) (parts.1 i)) in
+                  let len : length (entries_of taken 1) ≡ length es = ap length (entries_root x at same) in
+                  let was : length (entries_of store 1) ≡ length (entries_of store o) = ap (λ k. length (entries_of store k)) (sym same) in
+                  omega (arith, now, old, len, was, shorter, room same, ok.root.ready)
+              | inr differs ↦
+                  let now : spare_in_box after ListKind ok.root.body ≡ spare_in_box all ListKind ok.root.body = spare-kept all v.nodes store ok.shape o n found es spare 1 ListKind ok.root.body (λ e. differs (sym e)) ok.root.seat in
+                  let len : length (entries_of taken 1) ≡ length (entries_of store 1) = ap length (entries_other x at differs) in
+                  omega (arith, now, len, ok.root.ready)
+            ]
 
         sizes : (x : Node) → fin.get store.nodes o ≡ Some x → (total size taken.nodes ≡ number_less o number + length (entries_of taken 1)) × (number_less o number ≤ 4000000) × (length (entries_of taken 1) ≤ 1000000)
         sizes x at =

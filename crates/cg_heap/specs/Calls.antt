@@ -16,7 +16,7 @@ use Rattle.cg_graph.specs.Places.{place_number, list_of, merge_lists}
 use Rattle.cg_graph.specs.Store.{Store, Node, IsLive, entries_of, inner}
 use Rattle.cg_graph.specs.Changes.{held, rewritten, moved, with_place}
 use Rattle.cg_arena.specs.Nodes.{count_in_list}
-use Rattle.cg_heap.specs.Keeps.{size, one, IsWellMadeAt}
+use Rattle.cg_heap.specs.Keeps.{size, one, IsWellMadeAt, IsGarbage}
 
 -- All objects together have fewer than 2^31 - 2 outside holds. So no count passes 2^32 - 1.
 abbrev pub HasFewHolds : Store → Type 0
@@ -138,5 +138,6 @@ pub record IsSound (store : Store) : Type 0 where
   -- the items of a list have no keys, a weak reference has at most one entry, and instances and functions have a number
   pub well : (s : ℕ) → IsWellMadeAt (fin.get store.nodes s)
   pub listed : IsListed store
+  pub garbage : IsGarbage (entries_of store 1)
   pub objects : object_number store ≤ 1000000
   pub entries : entry_number store ≤ 4000000

@@ -1,5 +1,5 @@
 -- How boxes, nodes and names stand for a store, and what is true of them. (Ours.)
-use Rattle.std.specs.Prelude.{◌≡◌, ℕ, ◌+◌, ◌-◌, ◌<◌, ◌≤◌, List, length, Option, Some, None, IsSome}
+use Rattle.std.specs.Prelude.{◌≡◌, ℕ, ◌+◌, ◌-◌, ◌<◌, ◌≤◌, List, length, Option, Some, None, IsSome, ◌∷◌, All}
 use Rattle.std.specs.Ordering.{nat_cmp}
 use Rattle.std.specs.FinMap as fin
 use Rattle.cg_value.specs.declared.Val.{Val}
@@ -11,7 +11,11 @@ use Rattle.cg_graph.specs.Maps.{mapped, total}
 use Rattle.cg_graph.specs.Rows.{Row}
 use Rattle.cg_graph.specs.Store.{Store, Node, held_within, count_of, IsLive, entries_of}
 use Rattle.cg_arena.specs.Nodes.{ArenaNode, Nodes, count_in}
-use Rattle.cg_heap.specs.Boxes.{HasBody, entries_in_box}
+use Rattle.cg_heap.specs.Boxes.{HasBody, entries_in_box, spare_in_box}
+use Rattle.cg_value.specs.declared.Val.TheVariants.{Ref}
+use Rattle.cg_value.specs.declared.Entry.{Entry}
+use Rattle.cg_graph.specs.Value.{item, references}
+use Rattle.cg_graph.specs.Holdings.{occurrences}
 
 -- what a node stands for, with a number of outside holds
 abbrev pub node_from : List Bodies → ArenaNode → ℕ → Node
@@ -72,6 +76,21 @@ abbrev pub IsWellMadeAt : Option Node → Type 0
 IsWellMadeAt None = Unit {0}
 IsWellMadeAt (Some n) = IsWellMade n
 
+-- an entry of the garbage list names an object
+abbrev pub IsSaved : Entry → Type 0
+IsSaved e = (s : ℕ) × (e ≡ item (Ref s))
+
+-- The garbage list names each object at most once, and never itself. (`gc` manual, `gc.garbage`.)
+pub record IsGarbage (entries : List Entry) : Type 0 where
+  pub saved : All IsSaved entries
+  pub once : (s : ℕ) → occurrences s (1 ∷ references entries) ≤ 1
+
+-- The garbage list has room for each live object that it does not name yet.
+pub record HasRoomToSave (all : List Bodies) (nodes : fin.FinMap nat_cmp ArenaNode) (objects : ℕ) (store : Store) : Type 0 where
+  pub body : ℕ
+  pub seat : seat_in (fin.get nodes 1) ≡ Some (ListKind, body)
+  pub ready : objects ≤ length (entries_of store 1) + spare_in_box all ListKind body
+
 -- boxes, nodes and objects agree, the counts aside
 pub record Shape (all : List Bodies) (nodes : fin.FinMap nat_cmp ArenaNode) (store : Store) : Type 0 where
   pub six : length all ≡ 6
@@ -91,5 +110,7 @@ pub record Keeps (all : List Bodies) (nodes : fin.FinMap nat_cmp ArenaNode) (obj
   pub sized : total size store.nodes ≡ entries + length (entries_of store 1)
   pub object_limit : objects ≤ 1000000
   pub entry_limit : entries ≤ 4000000
+  pub saves : IsGarbage (entries_of store 1)
+  pub root : HasRoomToSave all nodes objects store
   pub garbage : length (entries_of store 1) ≤ 1000000
   pub names : length store.names < 1073741824

@@ -183,6 +183,48 @@ impl<B: Kind> Boxes<B> {
         appended
     }
 
+    /// Makes room in a list for `n` items more.
+    pub fn reserve(&mut self, list: usize, n: usize) -> Result<(), AllocError>
+        requires { HasBody self.old code.List list }
+        ensures ok { OnOk result (self.new ≡ boxes_with_body self.old code.List list
+            (entries_in_box self.old code.List list) (spare_in_box self.new code.List list)) }
+        ensures room { OnOk result (n ≤ spare_in_box self.new code.List list) }
+        ensures no_less { OnOk result (spare_in_box self.old code.List list ≤ spare_in_box self.new code.List list) }
+        ensures err { OnErr result (self.new ≡ self.old) }
+    {
+        let lists = &mut self.kinds[0];
+        let reserved = lists.reserve(list, n);
+        reserved
+    }
+
+    /// Makes room in a list for items until they are `total`, at least as many as there are.
+    pub fn reserve_total(&mut self, list: usize, total: usize) -> Result<(), AllocError>
+        requires held { HasBody self.old code.List list }
+        requires more { length (entries_in_box self.old code.List list) ≤ total }
+        ensures ok { OnOk result (self.new ≡ boxes_with_body self.old code.List list
+            (entries_in_box self.old code.List list) (spare_in_box self.new code.List list)) }
+        ensures room { OnOk result (total ≤
+            length (entries_in_box self.old code.List list) + spare_in_box self.new code.List list) }
+        ensures no_less { OnOk result (spare_in_box self.old code.List list ≤ spare_in_box self.new code.List list) }
+        ensures err { OnErr result (self.new ≡ self.old) }
+    {
+        let code = KindCode::List;
+        let count = self.len(Seat { code, body: list });
+        self.reserve(list, total - count)?;
+        Ok(())
+    }
+
+    /// Appends an item to a list that has room for it.
+    pub fn append_reserved(&mut self, list: usize, val: Val)
+        requires held { HasBody self.old code.List list }
+        requires room { 0 < spare_in_box self.old code.List list }
+        ensures { self.new ≡ boxes_with_body self.old code.List list
+            (entries_in_box self.old code.List list ++ item val ∷ []) (spare_in_box self.old code.List list - 1) }
+    {
+        let lists = &mut self.kinds[0];
+        lists.append_reserved(list, val);
+    }
+
     /// Gives the place of an empty body back.
     pub fn free(&mut self, seat: Seat)
         requires held { HasBody self.old seat.code seat.body }

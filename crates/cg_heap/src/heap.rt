@@ -85,8 +85,8 @@ impl<B: Kind> Heap<B> {
     }
 
     /// It changes nothing, and tells what is true of every heap: what names, the garbage root and entries hold is live, no
-    /// live serial is above the last, each object stands once in the list of its place and in no other, and there are at
-    /// most 1,000,000 objects and 4,000,000 entries.
+    /// live serial is above the last, each object stands once in the list of its place and in no other, the garbage list
+    /// names each object at most once and never itself, and there are at most 1,000,000 objects and 4,000,000 entries.
     pub fn sound(&self)
         ensures { IsSound self.now }
     {

@@ -1,10 +1,11 @@
 //! Objects that come and go.
-ghost use Rattle.std.specs.Prelude.{◌≡◌, ◌≢◌, ◌<◌, ◌≤◌, ◌+◌, ◌↔◌, [], ℕ, IfOk, OnOk, OnErr, Err, length};
+ghost use Rattle.std.specs.Prelude.{◌≡◌, ◌≢◌, ◌<◌, ◌≤◌, ◌+◌, ◌++◌, ◌∷◌, ◌↔◌, [], ℕ, IfOk, OnOk, OnErr, Err, length};
 ghost use Rattle.cg_kind.specs.Calls.{IsParts};
-ghost use Rattle.cg_graph.specs.Value.{references};
+ghost use Rattle.cg_value.specs.declared.Val.TheVariants as val_of;
+ghost use Rattle.cg_graph.specs.Value.{references, item};
 ghost use Rattle.cg_graph.specs.Holdings.{occurrences};
 ghost use Rattle.cg_graph.specs.Store.{IsLive, entries_of, count_of};
-ghost use Rattle.cg_graph.specs.Changes.{made, gone};
+ghost use Rattle.cg_graph.specs.Changes.{made, gone, rewritten};
 ghost use Rattle.cg_heap.specs.declared.fault.HeapFault.TheVariants as fault;
 ghost use Rattle.cg_heap.specs.Calls.{HasFewHolds, object_number, entry_number};
 ghost use Rattle.cg_heap.specs.Keeps.{HasClass};
@@ -13,7 +14,7 @@ use super::Heap;
 use crate::counts::{add_object, seat_of};
 use crate::fault::HeapFault;
 use cg_kind::Kind;
-use cg_value::{Entry, KindCode};
+use cg_value::{Entry, KindCode, Val};
 
 impl<B: Kind> Heap<B> {
     /// Makes an object of these entries, held once from outside, and answers its serial, which is one above the last.
@@ -48,19 +49,39 @@ impl<B: Kind> Heap<B> {
             return Err(HeapFault::EntryLimit);
         }
         match self.arena.reserve() {
-            Ok(()) => match self.boxes.make(code, parts) {
-                Ok(body) => {
-                    let serial = self.last + 1;
-                    add_object(&mut self.arena, serial, code, class, body, parts);
-                    self.last = serial;
-                    self.objects += 1;
-                    self.entries += parts.len() as u64;
-                    Ok(serial)
-                }
-                Err(_) => Err(HeapFault::OutOfMemory),
-            },
+            Ok(()) => {}
+            Err(_) => return Err(HeapFault::OutOfMemory),
+        }
+        // Each live object that the garbage list does not name is to have room there.
+        let garbage = self.arena.body_of(1);
+        match self.boxes.reserve_total(garbage, self.objects as usize + 1) {
+            Ok(()) => {}
+            Err(_) => return Err(HeapFault::OutOfMemory),
+        }
+        match self.boxes.make(code, parts) {
+            Ok(body) => {
+                let serial = self.last + 1;
+                add_object(&mut self.arena, serial, code, class, body, parts);
+                self.last = serial;
+                self.objects += 1;
+                self.entries += parts.len() as u64;
+                Ok(serial)
+            }
             Err(_) => Err(HeapFault::OutOfMemory),
         }
+    }
+
+    /// Appends an object to the garbage list, which does not name it yet. It takes no memory. (`gc` manual, `gc.garbage`.)
+    pub fn save(&mut self, object: u64)
+        requires live { IsLive self.old object }
+        requires other { object ≢ 1 }
+        requires new { occurrences object (references (entries_of self.old 1)) ≡ 0 }
+        requires few { HasFewHolds self.old }
+        ensures { self.new ≡ rewritten 1 (entries_of self.old 1 ++ item (val_of.Ref object) ∷ []) self.old }
+    {
+        let garbage = self.arena.body_of(1);
+        self.boxes.append_reserved(garbage, Val::Ref(object));
+        self.arena.inc(object);
     }
 
     /// Lets an object go that nothing holds and that has no entries.

@@ -14,10 +14,10 @@ pub fewer-requires : goal.fewer-requires
 fewer-requires g c = has_number (stands c.self.inside.boxes c.self.inside.arena c.self.inside.names.items c.self.inside.last [] c.self.inside.objects c.self.inside.entries _ c.self.invariant c.self.view_is) c.args.object _ _ c.seat_of-seat.ensures (some_entries (stands c.self.inside.boxes c.self.inside.arena c.self.inside.names.items c.self.inside.last [] c.self.inside.objects c.self.inside.entries _ c.self.invariant c.self.view_is) c.args.object _ _ c.seat_of-seat.ensures _ c.in-Some.ensures.last)
 
 pub invariant_of-self : goal.invariant_of-self
-invariant_of-self g c = (after_detaching (stands c.self.inside.boxes c.self.inside.arena c.self.inside.names.items c.self.inside.last [] c.self.inside.objects c.self.inside.entries _ c.self.invariant c.self.view_is) c.args.object _ _ c.seat_of-seat.ensures _ c.in-Some.ensures.last _ _ c.in-Some.ensures.rest _ c.fewer.ensures).keeps
+invariant_of-self g c = (after_detaching (stands c.self.inside.boxes c.self.inside.arena c.self.inside.names.items c.self.inside.last [] c.self.inside.objects c.self.inside.entries _ c.self.invariant c.self.view_is) c.args.object _ _ c.seat_of-seat.ensures _ c.in-Some.ensures.last _ c.in-Some.ensures.rest _ c.fewer.ensures).keeps
 
 pub returns-in-Some-clause-rest : goal.returns-in-Some-clause-rest
-returns-in-Some-clause-rest g c = (after_detaching (stands c.self.inside.boxes c.self.inside.arena c.self.inside.names.items c.self.inside.last [] c.self.inside.objects c.self.inside.entries _ c.self.invariant c.self.view_is) c.args.object _ _ c.seat_of-seat.ensures _ c.in-Some.ensures.last _ _ c.in-Some.ensures.rest _ c.fewer.ensures).is
+returns-in-Some-clause-rest g c = (after_detaching (stands c.self.inside.boxes c.self.inside.arena c.self.inside.names.items c.self.inside.last [] c.self.inside.objects c.self.inside.entries _ c.self.invariant c.self.view_is) c.args.object _ _ c.seat_of-seat.ensures _ c.in-Some.ensures.last _ c.in-Some.ensures.rest _ c.fewer.ensures).is
 
 pub returns-in-Some-clause-last : goal.returns-in-Some-clause-last
 returns-in-Some-clause-last g c = subst (λ es. es ≡ without_last es ++ c.in-Some.entry ∷ []) (entries_are (stands c.self.inside.boxes c.self.inside.arena c.self.inside.names.items c.self.inside.last [] c.self.inside.objects c.self.inside.entries _ c.self.invariant c.self.view_is) c.args.object _ _ c.seat_of-seat.ensures) c.in-Some.ensures.last

@@ -15,10 +15,10 @@ pub fewer-requires : goal.fewer-requires
 fewer-requires g c = has_number (stands c.self.inside.boxes c.self.inside.arena c.self.inside.names.items c.self.inside.last [] c.self.inside.objects c.self.inside.entries _ c.self.invariant c.self.view_is) c.args.object _ _ c.seat_of-seat.ensures (omega (arith, c.requires.within))
 
 pub invariant_of-self : goal.invariant_of-self
-invariant_of-self g c = (after_taking (stands c.self.inside.boxes c.self.inside.arena c.self.inside.names.items c.self.inside.last [] c.self.inside.objects c.self.inside.entries _ c.self.invariant c.self.view_is) c.args.object _ _ c.seat_of-seat.ensures c.requires.can c.args.i _ c.take-entry.ensures.entry _ _ c.take-entry.ensures.rest _ c.fewer.ensures).keeps
+invariant_of-self g c = (after_taking (stands c.self.inside.boxes c.self.inside.arena c.self.inside.names.items c.self.inside.last [] c.self.inside.objects c.self.inside.entries _ c.self.invariant c.self.view_is) c.args.object _ _ c.seat_of-seat.ensures c.requires.can c.args.i _ c.take-entry.ensures.entry _ c.take-entry.ensures.rest _ c.fewer.ensures).keeps
 
 pub returns-clause-entry : goal.returns-clause-entry
 returns-clause-entry g c = entry_here (stands c.self.inside.boxes c.self.inside.arena c.self.inside.names.items c.self.inside.last [] c.self.inside.objects c.self.inside.entries _ c.self.invariant c.self.view_is) c.args.object _ _ c.seat_of-seat.ensures c.args.i _ c.take-entry.ensures.entry
 
 pub returns-clause-rest : goal.returns-clause-rest
-returns-clause-rest g c = (after_taking (stands c.self.inside.boxes c.self.inside.arena c.self.inside.names.items c.self.inside.last [] c.self.inside.objects c.self.inside.entries _ c.self.invariant c.self.view_is) c.args.object _ _ c.seat_of-seat.ensures c.requires.can c.args.i _ c.take-entry.ensures.entry _ _ c.take-entry.ensures.rest _ c.fewer.ensures).is
+returns-clause-rest g c = (after_taking (stands c.self.inside.boxes c.self.inside.arena c.self.inside.names.items c.self.inside.last [] c.self.inside.objects c.self.inside.entries _ c.self.invariant c.self.view_is) c.args.object _ _ c.seat_of-seat.ensures c.requires.can c.args.i _ c.take-entry.ensures.entry _ c.take-entry.ensures.rest _ c.fewer.ensures).is
