@@ -1,6 +1,9 @@
 -- A run that was written so far, one line of the script on.
 use Rattle.std.proofs.Common.{◌≡◌, ◌⊎◌, ℕ, zero, suc, ◌+◌, List, [], ◌∷◌, ◌++◌, Option, None, refl, sym, ap, subst, ◌∙◌, append_assoc, append-nil, arith, replicate, map, length, inl, inr, true, false, Result, Ok, Err, is_err, OnErr, OnOk}
 use Rattle.std.specs.Prelude.{flat_map}
+use Rattle.std.proofs.lemmas.Grind.{flat_map-append}
+use Rattle.cg_machine.proofs.Ending.{Run-append, last_world-append}
+use Rattle.cg_machine.proofs.Fronts.{events_of-append}
 use Rattle.std.proofs.KnownBytes.{Appends-trans, Appends-nil}
 use Rattle.std.proofs.lemmas.List.Sums.{sum_by-cons}
 use Rattle.std.specs.Io.KnownBytes.{Appends}
@@ -37,25 +40,9 @@ longer_front a b bs cs p = record {
   appended = p.appended;
 }
 
--- two runs, one after the other
-pub Run-append : (script : Script) (w : World) (steps more : List StepTaken) → Run script w steps → Run script (last_world w steps) more → Run script w (steps ++ more)
-Run-append script w [] more run later = later
-Run-append script w (step ∷ steps) more run later = (run.0, Run-append script step.world steps more run.1 later)
-
-pub last_world-append : (w : World) (steps more : List StepTaken) → last_world w (steps ++ more) ≡ last_world (last_world w steps) more
-last_world-append w [] more = refl
-last_world-append w (step ∷ steps) more = last_world-append step.world steps more
-
-pub events_of-append : (steps more : List StepTaken) → events_of (steps ++ more) ≡ events_of steps ++ events_of more
-events_of-append [] more = refl
-events_of-append (step ∷ steps) more = ap (λ es. step.events ++ es) (events_of-append steps more) ∙ sym (append_assoc step.events (events_of steps) (events_of more))
-
-lines-append : (names : List (List ℕ)) (xs ys : List Event) → flat_map (line names) (xs ++ ys) ≡ flat_map (line names) xs ++ flat_map (line names) ys
-lines-append names [] ys = refl
-lines-append names (x ∷ xs) ys = ap (λ l. line names x ++ l) (lines-append names xs ys) ∙ sym (append_assoc (line names x) (flat_map (line names) xs) (flat_map (line names) ys))
-
+-- the text of two runs, one after the other
 pub text_of-append : (script : Script) (steps more : List StepTaken) → text_of script (steps ++ more) ≡ text_of script steps ++ text_of script more
-text_of-append script steps more = ap (flat_map (line script.names)) (events_of-append steps more) ∙ lines-append script.names (events_of steps) (events_of more)
+text_of-append script steps more = ap (flat_map (line script.names)) (events_of-append steps more) ∙ flat_map-append (line script.names) (events_of steps) (events_of more)
 
 -- a front of what a run has printed is a front of the text of a whole run
 pub part_of_whole : FrontsBeginWholeTexts → (script : Script) (budget : ℕ) (steps : List StepTaken) (before now : Option (List ℕ)) → IsRun script budget steps → AppendsFront before now (text_of script steps)

@@ -10,9 +10,9 @@ use Rattle.cg_machine.specs.declared.event.Event.TheVariants.{Collected}
 use Rattle.cg_machine.specs.declared.event.FrameSort.TheVariants.{Call as CallFrame}
 use Rattle.cg_machine.specs.World.{World, Activity, TopLevel, Framed, Releasing, Dying, Collecting, Frame, Running, push, with_stack}
 use Rattle.cg_machine.specs.Holdings.{is_collection, is_collecting}
-use Rattle.cg_machine.specs.Frame.{Transition}
+use Rattle.cg_machine.specs.Frame.{Transition, procedure_of}
 use Rattle.cg_machine.specs.Effects.{Effect, Changes, Calls, Collects, Quits}
-use Rattle.cg_machine.specs.Commands.{effect, DoesEffect, stopped_frame, without_commands, new_collection, procedure_of}
+use Rattle.cg_machine.specs.Commands.{effect, DoesEffect, stopped_frame, without_commands, new_collection}
 use Rattle.cg_machine.specs.Due.{is_due, due, due_generation}
 use Rattle.cg_machine.specs.Run.{Step, StepOf, TopLevelStep, FrameStep, CommandInFrame}
 use Rattle.cg_machine.proofs.Tally.{tally}

@@ -7,10 +7,10 @@ use Rattle.cg_machine.specs.declared.event.Event.TheVariants.{End, Collected}
 use Rattle.cg_machine.specs.declared.event.FrameSort.TheVariants.{Call as CallFrame}
 use Rattle.cg_machine.specs.World.{World, Activity, TopLevel, Framed, Releasing, Dying, Collecting, Frame, Outcome, Running, Ended, BudgetIsSpent, push, with_stack}
 use Rattle.cg_machine.specs.Holdings.{is_collecting}
-use Rattle.cg_machine.specs.Frame.{Transition, frame_end, released, start_frame}
+use Rattle.cg_machine.specs.Frame.{Transition, frame_end, released, start_frame, procedure_of}
 use Rattle.cg_machine.specs.Dying.{dying}
 use Rattle.cg_machine.specs.Effects.{Effect, Changes, Calls, Collects, Quits}
-use Rattle.cg_machine.specs.Commands.{effect, refused, DoesEffect, new_collection, procedure_of, without_commands}
+use Rattle.cg_machine.specs.Commands.{effect, refused, DoesEffect, new_collection, without_commands}
 use Rattle.cg_machine.specs.Due.{due}
 use Rattle.cg_machine.proofs.PlainCollect.{plain_phase, plain_phase_steps}
 use Rattle.cg_machine.specs.Run.{StepTaken, Step, StepOf, Run, TopLevelStep, CommandInFrame, FrameStep}

@@ -19,11 +19,10 @@ use Rattle.cg_machine.specs.declared.event.FrameSort.TheVariants.{Del, Callback}
 use Rattle.cg_machine.specs.Program.{legacy_of}
 use Rattle.cg_machine.specs.World.{with_objects, World, Activity, Releasing, Collecting, Collection, CollectPhase, Start, WeakClearing, WeakCalling, AfterCallback, AfterRelease, Finalizing, AfterFinalizing, Split, Turns, Turn, AfterTurn, Ending, Numbers, push, with_stack, with_change}
 use Rattle.cg_machine.specs.Holdings.{holdings}
-use Rattle.cg_machine.specs.Frame.{Transition, Yields, start_frame}
+use Rattle.cg_machine.specs.Frame.{Transition, Yields, start_frame, procedure_of}
 use Rattle.cg_machine.specs.Weak.{loses_referent, callback_of, MayLoseNext, NoneLeft, AllLose}
 use Rattle.cg_machine.specs.Dying.{finalizer_to_run}
 use Rattle.cg_machine.specs.Effects.{gens_line}
-use Rattle.cg_machine.specs.Commands.{procedure_of}
 use Rattle.cg_machine.specs.Operands.{is_dict}
 
 -- the debug flags (`gc.set_debug`)

@@ -1,6 +1,6 @@
 -- What each command does, or the first refusal that holds. One clause for each command. (Ours, after what Python does:
 -- docs/SCRIPT.md has the table.)
-use Rattle.std.specs.Prelude.{◌≡◌, ℕ, Bool, true, false, List, [], ◌∷◌, ◌++◌, Some, None, Result, Ok, Err, if◌then◌else◌, option_and_then, unwrap_or, ok_or, map, length, slice_get, slice_set, remove, ◌⊎◌}
+use Rattle.std.specs.Prelude.{◌≡◌, ℕ, Bool, true, false, List, [], ◌∷◌, ◌++◌, Some, None, Result, Ok, Err, if◌then◌else◌, unwrap_or, ok_or, map, length, slice_get, slice_set, remove, ◌⊎◌}
 use Rattle.cg_value.specs.declared.Val.TheVariants.{None as Nothing, Str, Ref}
 use Rattle.cg_value.specs.declared.KindCode.TheVariants.{List as ListKind, Tuple, Dict, Inst, Func, Weak}
 use Rattle.cg_script.specs.declared.Script.{Script}
@@ -8,13 +8,13 @@ use Rattle.cg_script.specs.declared.Operand.TheVariants.{Name}
 use Rattle.cg_script.specs.declared.Command.{Command}
 use Rattle.cg_script.specs.declared.Command.TheVariants.{MakeList, MakeTuple, MakeDict, MakeInst, MakeFunc, MakeRef, Bind, Del, Append, SetItem, DelItem, Put, Remove, SetAttr, DelAttr, Item, Get, Attr, Deref, Call, Quit, Collect, Enable, Disable, Threshold, Flags, Freeze, Unfreeze, Print, Refs, Tracked, Finalized, Count, Gens}
 use Rattle.cg_graph.specs.Value.{entry_references, item, value_at, without_key, entry_at}
-use Rattle.cg_graph.specs.Object.{object_at, with_entries, is_tracked}
+use Rattle.cg_graph.specs.Object.{with_entries, is_tracked}
 use Rattle.cg_machine.specs.declared.event.Event.{Event}
 use Rattle.cg_machine.specs.declared.event.Event.TheVariants.{Value, RefCount, Tracked as TrackedLine, Finalized as FinalizedLine, Count as CountLine, Refused, Collected}
 use Rattle.cg_machine.specs.declared.event.FrameSort.TheVariants.{Call as CallFrame}
 use Rattle.cg_machine.specs.World.{World, Activity, TopLevel, Framed, Releasing, Collecting, Start, push, with_stack, with_change}
 use Rattle.cg_machine.specs.Holdings.{in_degree, is_collecting}
-use Rattle.cg_machine.specs.Frame.{Transition, Yields, start_frame}
+use Rattle.cg_machine.specs.Frame.{procedure_of, Transition, Yields, start_frame}
 use Rattle.cg_machine.specs.Refusals.{bad_generation, no_attribute, no_index, no_key, no_memory, not_callable, not_weak, unhashable, wrong_kind, unless, ◌>>=◌}
 use Rattle.cg_machine.specs.Operands.{any_object, is_dict, is_list, is_script_list, is_sequence, is_weak, object, object_of, value, values}
 use Rattle.cg_machine.specs.Effects.{Calls, Changes, Collects, Effect, Quits, binds, bound, callback_entries, frozen, gens_line, given_up_by, has_room, is_hashable, makes, place_of_index, prints, puts, replaced, sets_entries, sets_numbers, unfrozen}
@@ -160,10 +160,6 @@ refused refusal w = (Refused refusal ∷ [], with_stack (stopped_frame w.stack) 
 -- a collection that is to start; it reads the debug flags now
 abbrev pub new_collection : ℕ → Bool → World → Activity
 new_collection g asked w = Collecting (record { generation = g; flags = w.numbers.flags; asked = asked; collected = 0; phase = Start })
-
--- a frame of a function's procedure
-abbrev pub procedure_of : World → ℕ → ℕ
-procedure_of w f = unwrap_or (option_and_then (λ x. x.class) (object_at w.objects f)) 0
 
 -- Where memory may be wanted, the refusal for want of it is allowed besides the effect.
 abbrev pub DoesEffect : Script → World → Result Effect ℕ → List Event → World → Type 0

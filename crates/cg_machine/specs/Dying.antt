@@ -12,7 +12,7 @@ use Rattle.cg_machine.specs.declared.event.FrameSort.TheVariants.{Del, Legacy, C
 use Rattle.cg_machine.specs.Program.{finalizer_of, legacy_of}
 use Rattle.cg_machine.specs.World.{World, Activity, Releasing, Dying, DyingPhase, Finalizer, AfterFinalizer, Clearing, Calling, AfterCall, LegacyFinalizer, AfterLegacy, Detaching, Emptying, Death, push, with_stack, with_change}
 use Rattle.cg_machine.specs.Holdings.{in_degree}
-use Rattle.cg_machine.specs.Frame.{Transition, Yields, start_frame}
+use Rattle.cg_machine.specs.Frame.{procedure_of, Transition, Yields, start_frame}
 use Rattle.cg_machine.specs.Weak.{weak_references_if, has_weak_references, loses_referent, callback_of}
 
 -- the finalizer, if it has not run (PEP 442: a finalizer is called once)
@@ -52,7 +52,7 @@ clear_one o waiting below w (weak ∷ weaks) =
 -- Each waiting one has its callback taken out and called. Then both are given up.
 abbrev pub call_back : Script → ℕ → ℕ → ℕ → List ℕ → List Activity → World → Transition
 call_back script o weak callback waiting below w =
-    start_frame script (record { sort = Callback; proc = unwrap_or (option_and_then (λ x. x.class) (object_at w.objects callback)) 0; subject = weak; func = Some callback })
+    start_frame script (record { sort = Callback; proc = procedure_of w callback; subject = weak; func = Some callback })
     (death_at o (AfterCall weak callback waiting) below (with_change (with_entries []) weak w))
 
 -- when none waits, the legacy finalizer follows

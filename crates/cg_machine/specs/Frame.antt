@@ -1,9 +1,9 @@
 -- How a frame starts and ends, and how a reference is given up.
 -- (Frames and the budget are ours; that an object dies when its count reaches 0 is the developer guide's "reference counting".)
-use Rattle.std.specs.Prelude.{◌≡◌, ℕ, ◌-◌, not, ◌&&◌, ◌==◌, List, [], ◌∷◌, Option, None, if◌then◌else◌, option_to_list}
+use Rattle.std.specs.Prelude.{◌≡◌, ℕ, ◌-◌, not, ◌&&◌, ◌==◌, List, [], ◌∷◌, Option, None, if◌then◌else◌, option_to_list, option_and_then, unwrap_or}
 use Rattle.cg_value.specs.declared.Place.TheVariants.{Untracked}
 use Rattle.cg_script.specs.declared.Script.{Script}
-use Rattle.cg_graph.specs.Object.{with_place, with_referent}
+use Rattle.cg_graph.specs.Object.{object_at, with_place, with_referent}
 use Rattle.cg_machine.specs.declared.event.Event.{Event}
 use Rattle.cg_machine.specs.declared.event.Event.TheVariants.{Enter, Leave, BudgetSpent}
 use Rattle.cg_machine.specs.declared.event.FrameSort.{FrameSort}
@@ -33,6 +33,10 @@ start_frame script spec w =
         stack = Framed (record { sort = spec.sort; subject = spec.subject; function = spec.func; commands = body_of script spec.proc }) ∷ w.stack;
       },
     )
+
+-- the procedure of a function
+abbrev pub procedure_of : World → ℕ → ℕ
+procedure_of w f = unwrap_or (option_and_then (λ x. x.class) (object_at w.objects f)) 0
 
 -- A frame without commands left ends. A function that a command called is given up.
 abbrev pub gives_up_function : FrameSort → Option ℕ → World → World

@@ -1,6 +1,5 @@
 -- Worked scripts, each with what it prints: the rules of the machine by example. Where the order of something is free, this
--- is one of the permitted texts. (Ours; where CPython has the same operations it does the same in the same order, but for
--- the orders that docs/RULES.md marks as ours.)
+-- is one of the permitted texts. (Ours, written from the rules of docs/RULES.md.)
 use Rattle.std.specs.Prelude.{◌≡◌, ℕ, List, [], ◌∷◌, pos, negsuc, codes, None, Some}
 use Rattle.cg_script.specs.declared.Script.{Script}
 use Rattle.cg_script.specs.declared.Operand.TheVariants.{None as NoneWord, Int as IntWord, Str as StrWord, Name, SelfLocal, WeakLocal, Cell, Garbage}
