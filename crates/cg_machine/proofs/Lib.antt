@@ -18,3 +18,4 @@ pub mod FallsCommands
 pub mod Number
 pub mod Ending
 pub mod Fronts
+pub mod Representing

@@ -45,7 +45,7 @@ distinct_keeps : (xs : List ℕ) (y : ℕ) → Includes xs y → Includes (disti
 distinct_keeps [] y h = h
 distinct_keeps (x ∷ xs) y h = distinct_keeps_at (includes xs x) x xs y refl (distinct_keeps xs) h
 
-occurrences-cons : (o x : ℕ) (xs : List ℕ) → occurrences o (x ∷ xs) ≡ cond (x == o) 1 0 + occurrences o xs
+pub occurrences-cons : (o x : ℕ) (xs : List ℕ) → occurrences o (x ∷ xs) ≡ cond (x == o) 1 0 + occurrences o xs
 occurrences-cons o x xs = sum_by-cons (λ r. cond (r == o) 1 0) x xs
 
 occurrences_none : (o : ℕ) (xs : List ℕ) → (Includes xs o → ⊥) → occurrences o xs ≡ 0
