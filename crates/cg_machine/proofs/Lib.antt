@@ -23,3 +23,4 @@ pub mod Unheld
 pub mod Releasing
 pub mod Lookups
 pub mod DyingCalm
+pub mod CollectCalm
