@@ -26,7 +26,7 @@ use Rattle.cg_machine.specs.Dying.{finalizer_to_run}
 use Rattle.cg_machine.specs.Collect.{collection_at, merged, merged_place, sorted, StartStep, older, loses_in_weak_phase, waits, ClearsOne, WeakClearingStep, calls_back, after_release, looks_at, LooksAtOne, IsMemberOf, Survives, replaced_place, FinalizingStep, get_older, loses_at_split, SplitStep, takes_turn, TurnsStep, saved, all_saved, has_flag, save_all, is_saved, empties, after_turn, EndStep, PhaseStep}
 use Rattle.cg_machine.proofs.Forgotten.{IsQuiet, AreQuiet, Forgotten, Mortal, AreReferred, Alters, alters_refl, alters_trans, map_alters, if_alters, change_alters, place_later, map_quiet, test_quiet, place_quiet, entries_quiet, lost_quiet, lost_alters, entries_alter, place_alters, referred_after, still_forgotten}
 use Rattle.cg_machine.proofs.Unheld.{IsLocalHeld, AreOver, AreResting, GivenUp, IsHeldWhereDying, Calm, Keeps, resting_stack, resting_after, altered_keeps, popped_free, top_free, pushed_free, turned_free, held_where_dying}
-use Rattle.cg_machine.proofs.Lookups.{last_free, shorter_free}
+use Rattle.cg_machine.proofs.Lookups.{references-append, last_free, shorter_free}
 use Rattle.cg_machine.proofs.Releasing.{absent, no_times, starts_calm}
 
 -- an object at a place of tracked ones is not a quiet one
@@ -51,12 +51,6 @@ moved_alters : (p : Place) (places : Object → Place) (objects : List Object) �
 moved_alters p places objects = if_alters (λ x. with_place (places x) x) (λ x. place_later (places x) x) (is_at p) objects
 
 -- an object is appended to the garbage list
-references-append : (xs ys : List Entry) (o : ℕ) → Includes (references (xs ++ ys)) o → Includes (references xs) o ⊎ Includes (references ys) o
-references-append [] ys o m = inr m
-references-append (x ∷ xs) ys o m =
-    either (Includes-append_cases (entry_references x) (references (xs ++ ys)) o m) (λ k. inl (Includes-append_left (entry_references x) (references xs) o k))
-    (λ k. either (references-append xs ys o k) (λ a. inl (Includes-append_right (entry_references x) (references xs) o a)) (λ b. inr b))
-
 saved_quiet : (o s : ℕ) (objects : List Object) → s ≢ o → AreQuiet o objects → AreQuiet o (saved s objects)
 saved_quiet o s objects apart q = test_quiet o (λ x. with_entries (x.entries ++ item (Ref s) ∷ []) x) (λ x. x.serial == 1) (λ x e k. record {
   entries = λ m. either (references-append x.entries (item (Ref s) ∷ []) o m) k.entries (λ n. either n apart (λ i. i));

@@ -299,7 +299,7 @@ module _ (script : Script) (o : ℕ) (below : List Activity) (v : World) (rises 
       keeps : (p : ℕ) → p ≢ o → Keeps script (at Emptying) after p
       keeps p apart = record {
         mortal = λ h. record { lives = lives p apart h.lives; refers_to_none = λ x m. h.refers_to_none x (was x m) };
-        finalizers = λ h x m. h x (was x m);
+        finalizers = λ l h x m. h x (was x m);
         forgotten = λ l f. record {
           unheld = record { quiet = λ x m. f.unheld.quiet x (was x m); names = f.unheld.names; root = f.unheld.root; stack = popped_free (dying_now Emptying) below p f.unheld.stack };
           unreferred = λ x m. f.unreferred x (was x m);

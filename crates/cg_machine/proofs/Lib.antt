@@ -24,3 +24,4 @@ pub mod Releasing
 pub mod Lookups
 pub mod DyingCalm
 pub mod CollectCalm
+pub mod CommandRefs

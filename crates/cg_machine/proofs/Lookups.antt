@@ -48,6 +48,12 @@ slice_get_member [] i x e = let no : None ≡ Some x = e in cc
 slice_get_member (y ∷ xs) zero x e = let same : y ≡ x = cc in inl same
 slice_get_member (y ∷ xs) (suc i) x e = inr (slice_get_member xs i x e)
 
+pub references-append : (xs ys : List Entry) (o : ℕ) → Includes (references (xs ++ ys)) o → Includes (references xs) o ⊎ Includes (references ys) o
+references-append [] ys o m = inr m
+references-append (x ∷ xs) ys o m =
+    either (Includes-append_cases (entry_references x) (references (xs ++ ys)) o m) (λ k. inl (Includes-append_left (entry_references x) (references xs) o k))
+    (λ k. either (references-append xs ys o k) (λ a. inl (Includes-append_right (entry_references x) (references xs) o a)) (λ b. inr b))
+
 pub references_take : (n : ℕ) (entries : List Entry) (o : ℕ) → Includes (references (take n entries)) o → Includes (references entries) o
 references_take zero entries o m = absurd m
 references_take (suc n) [] o m = absurd m

@@ -113,7 +113,7 @@ resting_stack script w (a ∷ below) h = (on_top script w a below h, λ d m. h d
 -- what a step keeps of a death that lies below
 pub record Keeps (script : Script) (w after : World) (o : ℕ) : Type 0 where
   pub mortal : Mortal w.objects o → Mortal after.objects o
-  pub finalizers : HasFinalizers script w.objects o → HasFinalizers script after.objects o
+  pub finalizers : Mortal w.objects o → HasFinalizers script w.objects o → HasFinalizers script after.objects o
   pub forgotten : Mortal w.objects o → Forgotten w o → Forgotten after o
 
 rests_after : (script : Script) (w after : World) (o : ℕ) (phase : DyingPhase) → Keeps script w after o → Rests script w o phase → Rests script after o phase
@@ -123,7 +123,7 @@ rests_after script w after o (Clearing waiting) k h = h
 rests_after script w after o (Calling waiting) k h = (k.mortal h.0, k.forgotten h.0 h.1)
 rests_after script w after o (AfterCall weak callback waiting) k h = (k.mortal h.0, k.forgotten h.0 h.1)
 rests_after script w after o LegacyFinalizer k h = h
-rests_after script w after o AfterLegacy k h = (k.mortal h.0, k.finalizers h.1)
+rests_after script w after o AfterLegacy k h = (k.mortal h.0, k.finalizers h.0 h.1)
 rests_after script w after o Detaching k h = h
 rests_after script w after o Emptying k h = (k.mortal h.0, k.forgotten h.0 h.1)
 
@@ -133,7 +133,7 @@ resting_after script w after below k h d m = rests_after script w after d.object
 pub altered_keeps : (script : Script) (w after : World) (o : ℕ) → Alters w.objects after.objects → (Mortal w.objects o → Forgotten w o → Forgotten after o) → Keeps script w after o
 altered_keeps script w after o alters forgotten = record {
   mortal = mortal_after w.objects after.objects alters o;
-  finalizers = finalizers_after script w.objects after.objects alters o;
+  finalizers = λ m. finalizers_after script w.objects after.objects alters o;
   forgotten = forgotten;
 }
 
