@@ -25,3 +25,4 @@ pub mod Lookups
 pub mod DyingCalm
 pub mod CollectCalm
 pub mod CommandRefs
+pub mod CommandCalm
