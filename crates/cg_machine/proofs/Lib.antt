@@ -26,3 +26,4 @@ pub mod DyingCalm
 pub mod CollectCalm
 pub mod CommandRefs
 pub mod CommandCalm
+pub mod RunsCalm

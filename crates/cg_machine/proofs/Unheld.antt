@@ -91,7 +91,7 @@ pub record Calm (script : Script) (w : World) : Type 0 where
   pub stack : IsStack script w w.stack
 
 -- a death on which something lies may be on top
-stands : (script : Script) (w : World) (o : ℕ) (phase : DyingPhase) → Rests script w o phase → Stands script w o phase
+pub stands : (script : Script) (w : World) (o : ℕ) (phase : DyingPhase) → Rests script w o phase → Stands script w o phase
 stands script w o Finalizer h = absurd h
 stands script w o AfterFinalizer h = h
 stands script w o (Clearing waiting) h = absurd h
