@@ -1,7 +1,7 @@
 -- Each step of a collection keeps the invariant of dying objects: what it takes hold of stands at a place of its own, and a
 -- dying object that is unheld is untracked.
-use Rattle.std.proofs.Common.{◌≡◌, ◌≢◌, refl, sym, ◌∙◌, ap, subst, ℕ, Bool, true, false, inl, inr, ◌⊎◌, List, [], ◌∷◌, ◌++◌, map, length, Option, Some, None}
-use Rattle.std.specs.Prelude.{◌==◌, ◌&&◌, ◌+◌, if◌then◌else◌, flat_map, filter, is_some, option_map, option_and_then, unwrap_or}
+use Rattle.std.proofs.Common.{◌≡◌, ◌≢◌, refl, sym, ◌∙◌, ap, subst, ℕ, Bool, true, false, inl, inr, List, [], ◌∷◌, ◌++◌, map, length, Option, Some, None}
+use Rattle.std.specs.Prelude.{◌==◌, ◌+◌, if◌then◌else◌, flat_map, filter, option_map, option_and_then, unwrap_or}
 use Rattle.std.proofs.lemmas.Bool.{eqb-true, and_parts}
 use Rattle.cg_value.specs.declared.Entry.{Entry}
 use Rattle.cg_value.specs.declared.Val.TheVariants.{Ref}
@@ -9,11 +9,11 @@ use Rattle.cg_value.specs.declared.Place.{Place}
 use Rattle.cg_value.specs.declared.Place.TheVariants.{Untracked, Gen, Cand, Seen, Legacy, Pend}
 use Rattle.cg_script.specs.declared.Script.{Script}
 use Rattle.cg_graph.specs.Member.{Includes, includes}
-use Rattle.cg_graph.specs.Value.{item, references, entry_references, last_entry, without_last}
+use Rattle.cg_graph.specs.Value.{item, entry_references, last_entry, without_last}
 use Rattle.cg_graph.specs.Object.{Object, change, object_at, is_in_map, entries_of, is_at, is_tuple, same_place, with_place, with_entries, marked, serials, serials_at, objects_at}
 use Rattle.cg_graph.specs.declared.Edge.{Edge}
 use Rattle.cg_graph.specs.Reach.{Reach, first, next as further}
-use Rattle.cg_graph.proofs.Members.{either, Includes-of, Includes-append_left, Includes-append_right, Includes-append_cases, Includes-map, Includes-map_cases, Includes-filter_cases}
+use Rattle.cg_graph.proofs.Members.{either, Includes-of, Includes-append_cases, Includes-map, Includes-map_cases, Includes-filter_cases}
 use Rattle.cg_machine.specs.declared.event.Event.{Event}
 use Rattle.cg_machine.specs.declared.event.Event.TheVariants.{GcSaved}
 use Rattle.cg_machine.specs.declared.event.FrameSort.TheVariants.{Del, Callback}
@@ -23,9 +23,9 @@ use Rattle.cg_machine.specs.Frame.{Transition, start_frame, procedure_of}
 use Rattle.cg_machine.specs.Holdings.{holds, call_holds, collect_holds}
 use Rattle.cg_machine.specs.Weak.{loses_referent, callback_of, AllLose}
 use Rattle.cg_machine.specs.Dying.{finalizer_to_run}
-use Rattle.cg_machine.specs.Collect.{collection_at, merged, merged_place, sorted, StartStep, older, loses_in_weak_phase, waits, ClearsOne, WeakClearingStep, calls_back, after_release, looks_at, LooksAtOne, IsMemberOf, Survives, replaced_place, FinalizingStep, get_older, loses_at_split, SplitStep, takes_turn, TurnsStep, saved, all_saved, has_flag, save_all, is_saved, empties, after_turn, EndStep, PhaseStep}
-use Rattle.cg_machine.proofs.Forgotten.{IsQuiet, AreQuiet, Forgotten, Mortal, AreReferred, Alters, alters_refl, alters_trans, map_alters, if_alters, change_alters, place_later, map_quiet, test_quiet, place_quiet, entries_quiet, lost_quiet, lost_alters, entries_alter, place_alters, referred_after, still_forgotten}
-use Rattle.cg_machine.proofs.Unheld.{IsLocalHeld, AreOver, AreResting, GivenUp, IsHeldWhereDying, Calm, Keeps, resting_stack, resting_after, altered_keeps, popped_free, top_free, pushed_free, turned_free, held_where_dying}
+use Rattle.cg_machine.specs.Collect.{collection_at, merged_place, sorted, StartStep, older, waits, ClearsOne, WeakClearingStep, calls_back, after_release, looks_at, IsMemberOf, replaced_place, FinalizingStep, get_older, loses_at_split, SplitStep, takes_turn, TurnsStep, saved, all_saved, has_flag, save_all, is_saved, empties, after_turn, EndStep, PhaseStep}
+use Rattle.cg_machine.proofs.Forgotten.{IsQuiet, AreQuiet, Forgotten, Mortal, Alters, alters_refl, alters_trans, map_alters, if_alters, change_alters, place_later, map_quiet, test_quiet, place_quiet, entries_quiet, lost_quiet, lost_alters, entries_alter, place_alters, referred_after, still_forgotten}
+use Rattle.cg_machine.proofs.Unheld.{IsLocalHeld, AreResting, GivenUp, IsHeldWhereDying, Calm, resting_stack, resting_after, altered_keeps, popped_free, top_free, pushed_free, turned_free, held_where_dying}
 use Rattle.cg_machine.proofs.Lookups.{references-append, last_free, shorter_free}
 use Rattle.cg_machine.proofs.Releasing.{absent, no_times, starts_calm}
 
@@ -117,11 +117,14 @@ module _ (script : Script) (c : Collection) (below : List Activity) (v : World) 
   gives_up phase next given_up objects alters calm keeps free given = record {
     referred = referred_after v.objects objects alters calm.referred;
     over = (tt, (given, calm.over.1));
-    stack = (tt, λ d m. either m (λ e. cc) (λ k. resting_after script (at phase) after below
-        (λ e n. altered_keeps script (at phase) after e.object alters (λ l f. let q = keeps e n l f in
-        still_forgotten (at phase) after e.object refl alters (λ _. q.0)
-        (λ h. pushed_free (Releasing given_up) (Collecting (record c { phase = next }) ∷ below) e.object (free e.object f)
-        (turned_free (Collecting (record c { phase = phase })) (Collecting (record c { phase = next })) below e.object (λ _. q.1) h)) f)) calm.stack.1 d k));
+    stack = (
+      tt,
+      λ d m. either m (λ e. cc) (λ k. resting_after script (at phase) after below
+          (λ e n. altered_keeps script (at phase) after e.object alters (λ l f. let q = keeps e n l f in
+          still_forgotten (at phase) after e.object refl alters (λ _. q.0)
+          (λ h. pushed_free (Releasing given_up) (Collecting (record c { phase = next }) ∷ below) e.object (free e.object f)
+          (turned_free (Collecting (record c { phase = phase })) (Collecting (record c { phase = next })) below e.object (λ _. q.1) h)) f)) calm.stack.1 d k),
+    );
   }
     where
       after : World

@@ -1,6 +1,6 @@
 -- Each command keeps the invariant of dying objects: it works only with what is held, or what a weak reference refers to.
-use Rattle.std.proofs.Common.{◌≡◌, ◌≢◌, refl, sym, ◌∙◌, ap, subst, ℕ, ◌+◌, ◌<◌, Bool, true, false, not, ◌&&◌, inl, inr, ◌⊎◌, List, [], ◌∷◌, ◌++◌, map, Option, Some, None, Result, Ok, Err, length, arith}
-use Rattle.std.specs.Prelude.{◌==◌, ◌||◌, if◌then◌else◌, flat_map, is_some, is_none, ok_or, slice_get, slice_set, remove, nat_lt, option_and_then, unwrap_or}
+use Rattle.std.proofs.Common.{◌≡◌, ◌≢◌, refl, sym, ◌∙◌, ap, subst, ℕ, Bool, true, false, not, ◌&&◌, inl, inr, ◌⊎◌, List, [], ◌∷◌, ◌++◌, map, Option, Some, None, Result, Ok, arith}
+use Rattle.std.specs.Prelude.{◌==◌, ◌||◌, if◌then◌else◌, is_some, ok_or, slice_get, slice_set, remove}
 use Rattle.std.proofs.lemmas.Bool.{eqb-true}
 use Rattle.cg_value.specs.declared.Place.{Place}
 use Rattle.cg_value.specs.declared.Place.TheVariants.{Untracked, Gen}
@@ -19,18 +19,16 @@ use Rattle.cg_graph.specs.Object.{Object, change, with_entries, with_place, is_t
 use Rattle.cg_graph.specs.Holdings.{name_holdings}
 use Rattle.cg_graph.proofs.Members.{either, Includes-append_left, Includes-append_cases, Includes-map, Includes-map_cases}
 use Rattle.cg_machine.specs.World.{World, Numbers, with_change}
-use Rattle.cg_machine.specs.Holdings.{holds}
 use Rattle.cg_machine.specs.Weak.{has_weak_references, is_instance, is_function}
-use Rattle.cg_machine.specs.Dying.{has_finalizers}
-use Rattle.cg_machine.specs.Effects.{Effect, Changes, Calls, Collects, Quits, makes, binds, bound, with_new, given_up_by, puts, has_room, sets_entries, replaced, frozen, unfrozen, tracked_by, may_track, callback_entries, place_of_index, is_hashable}
+use Rattle.cg_machine.specs.Effects.{Effect, Changes, Calls, Collects, Quits, makes, binds, given_up_by, puts, has_room, replaced, frozen, unfrozen, tracked_by, may_track, callback_entries}
 use Rattle.cg_machine.specs.Commands.{effect}
-use Rattle.cg_machine.specs.Refusals.{◌>>=◌, unless, no_name, wrong_kind, no_index, no_key, no_attribute, not_weak, not_callable, unhashable}
-use Rattle.cg_machine.specs.Operands.{any_object, is_dict, is_list, is_script_list, is_sequence, is_weak, value, values, object, object_of}
+use Rattle.cg_machine.specs.Refusals.{◌>>=◌, wrong_kind, no_index, no_key, no_attribute, not_weak, not_callable}
+use Rattle.cg_machine.specs.Operands.{is_dict, is_list, is_script_list, is_sequence, is_weak, value, values, object}
 use Rattle.cg_machine.proofs.Serials.{Rises}
 use Rattle.cg_machine.proofs.CommandLaws.{Each, checked}
-use Rattle.cg_machine.proofs.Forgotten.{IsQuiet, AreQuiet, Unheld, NoneRefers, Forgotten, Mortal, HasFinalizers, AreReferred, IsLater, Alters, alters_refl, change_alters, map_alters, place_later, map_quiet, test_quiet, entries_quiet, entries_alter, referred_after, still_forgotten, lives_within}
+use Rattle.cg_machine.proofs.Forgotten.{IsQuiet, AreQuiet, Forgotten, Mortal, AreReferred, IsLater, Alters, alters_refl, change_alters, map_alters, place_later, map_quiet, test_quiet, entries_quiet, entries_alter, referred_after, still_forgotten, lives_within}
 use Rattle.cg_machine.proofs.Unheld.{AreOver, Keeps, altered_keeps}
-use Rattle.cg_machine.proofs.CommandRefs.{HoldNone, IsNotTo, option_free, append_free, entry_val, item_free, cons_free, got_free, set_free, removed_free, put_free, without_key_free, value_at_free, entry_at_free, old_value_free, name_free, bound_free, each_then, each_some, IsKnown, AreKnown, value_known, values_known, IsFound, object_found}
+use Rattle.cg_machine.proofs.CommandRefs.{HoldNone, option_free, append_free, entry_val, item_free, cons_free, got_free, set_free, removed_free, put_free, without_key_free, value_at_free, entry_at_free, old_value_free, name_free, bound_free, each_then, each_some, IsKnown, AreKnown, value_known, values_known, IsFound, object_found}
 
 module _ (script : Script) (w : World) (rises : Rises 1 w.next_serial w.objects) (over : AreOver w.stack) where
   -- a list of references to be given up, and a referent, are of no forgotten object

@@ -1,6 +1,6 @@
 -- The references that a command works with: what its operands stand for, and what lists of entries and names hold after it.
-use Rattle.std.proofs.Common.{◌≡◌, ◌≢◌, refl, sym, ◌∙◌, ap, subst, ℕ, zero, suc, Bool, true, false, cond, inl, inr, ◌⊎◌, List, [], ◌∷◌, ◌++◌, map, Option, Some, None, Result, Ok, Err, take, drop}
-use Rattle.std.specs.Prelude.{◌==◌, if◌then◌else◌, flat_map, slice_get, slice_set, remove, ok_or, option_to_list, option_map, option_and_then, unwrap_or}
+use Rattle.std.proofs.Common.{◌≡◌, ◌≢◌, refl, sym, ◌∙◌, ap, subst, ℕ, zero, suc, Bool, true, false, inl, List, [], ◌∷◌, ◌++◌, map, Option, Some, None, Result, Ok, Err, take, drop}
+use Rattle.std.specs.Prelude.{if◌then◌else◌, flat_map, slice_get, slice_set, remove, ok_or, option_to_list, option_map, option_and_then}
 use Rattle.cg_value.specs.declared.Entry.{Entry}
 use Rattle.cg_value.specs.declared.Val.{Val}
 use Rattle.cg_value.specs.declared.Val.TheVariants.{None as Nothing, Int, Str, Ref}
@@ -18,7 +18,7 @@ use Rattle.cg_machine.specs.Holdings.{holds}
 use Rattle.cg_machine.specs.Refusals.{◌>>=◌}
 use Rattle.cg_machine.specs.Operands.{frame_on, self_in, weak_in, value_of, value, values, object_of, object, tested}
 use Rattle.cg_machine.proofs.CommandLaws.{Each}
-use Rattle.cg_machine.proofs.Forgotten.{AreQuiet, Unheld, Forgotten, Mortal}
+use Rattle.cg_machine.proofs.Forgotten.{Forgotten, Mortal}
 use Rattle.cg_machine.proofs.Unheld.{IsLocalHeld, AreOver}
 use Rattle.cg_machine.proofs.Lookups.{found_at, slice_get_member, references_of_member, references_take, references-append, entries_free}
 

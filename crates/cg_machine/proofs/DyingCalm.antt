@@ -1,30 +1,29 @@
 -- Each step of a death keeps the invariant of dying objects.
-use Rattle.std.proofs.Common.{◌≡◌, ◌≢◌, refl, sym, ◌∙◌, ap, subst, ℕ, ◌-◌, Bool, true, false, not, inl, inr, ◌⊎◌, List, [], ◌∷◌, ◌++◌, Option, Some, None}
-use Rattle.std.specs.Prelude.{◌==◌, ◌||◌, if◌then◌else◌, flat_map, filter, is_some, option_and_then, unwrap_or}
-use Rattle.std.specs.List.{list_any}
+use Rattle.std.proofs.Common.{◌≡◌, ◌≢◌, refl, sym, ◌∙◌, ap, subst, ℕ, ◌-◌, Bool, true, false, not, inl, inr, List, [], ◌∷◌, ◌++◌, Option, Some, None}
+use Rattle.std.specs.Prelude.{◌==◌, if◌then◌else◌, flat_map, is_some, option_and_then, unwrap_or}
 use Rattle.std.proofs.lemmas.Bool.{eqb-true, eq-eqb, ne_eqb}
 use Rattle.cg_value.specs.declared.Entry.{Entry}
 use Rattle.cg_value.specs.declared.Place.{Place}
 use Rattle.cg_value.specs.declared.Place.TheVariants.{Untracked, Gen}
 use Rattle.cg_script.specs.declared.Script.{Script}
 use Rattle.cg_graph.specs.Member.{Includes}
-use Rattle.cg_graph.specs.Value.{references, entry_references, last_entry, without_last}
-use Rattle.cg_graph.specs.Object.{Object, change, without, object_at, entries_of, with_place, with_entries, with_referent, marked, serials}
-use Rattle.cg_graph.proofs.Members.{either, or_left, or_right, Includes-append_left, Includes-append_right, Includes-append_cases, Includes-map, Includes-map_cases, Includes-filter, Includes-filter_cases}
+use Rattle.cg_graph.specs.Value.{entry_references, last_entry, without_last}
+use Rattle.cg_graph.specs.Object.{Object, change, without, object_at, entries_of, with_place, with_entries, marked, serials}
+use Rattle.cg_graph.proofs.Members.{either, or_right, Includes-append_cases, Includes-map, Includes-map_cases, Includes-filter, Includes-filter_cases}
 use Rattle.cg_machine.specs.declared.event.FrameSort.TheVariants.{Del, Legacy, Callback}
 use Rattle.cg_machine.specs.declared.event.FrameSpec.{FrameSpec}
 use Rattle.cg_machine.specs.declared.event.Event.TheVariants.{Alive}
 use Rattle.cg_machine.specs.Program.{finalizer_of, legacy_of}
-use Rattle.cg_machine.specs.World.{push, World, Activity, Releasing, Dying, Death, Numbers, DyingPhase, Finalizer, AfterFinalizer, Clearing, Calling, AfterCall, LegacyFinalizer, AfterLegacy, Detaching, Emptying, with_stack, with_change}
+use Rattle.cg_machine.specs.World.{push, World, Activity, Releasing, Dying, Death, DyingPhase, Finalizer, AfterFinalizer, Clearing, Calling, AfterCall, LegacyFinalizer, AfterLegacy, Detaching, Emptying, with_stack, with_change}
 use Rattle.cg_machine.specs.Frame.{Transition, start_frame, procedure_of}
-use Rattle.cg_machine.specs.Holdings.{holds, call_holds, dying_holds, in_degree, is_death_of}
+use Rattle.cg_machine.specs.Holdings.{holds, call_holds, dying_holds, in_degree}
 use Rattle.cg_machine.specs.Weak.{has_weak_references, weak_references_if, loses_referent, callback_of}
 use Rattle.cg_machine.specs.Dying.{death_at, has_finalizers, finalizer_to_run, run_finalizer, run_legacy, after_frame, clear_one, call_one, detach_one, empty_one, dying}
 use Rattle.cg_machine.proofs.Serials.{Rises}
 use Rattle.cg_machine.proofs.FallsDeaths.{refers_first}
-use Rattle.cg_machine.proofs.Forgotten.{IsQuiet, AreQuiet, Unheld, NoneRefers, Forgotten, Mortal, HasFinalizers, AreReferred, Alters, alters_refl, change_alters, test_quiet, untracked_quiet, place_quiet, entries_quiet, lost_quiet, lost_alters, entries_alter, place_alters, mortal_after, finalizers_after, unreferred_after, referred_after, lives_after, still_unheld, still_forgotten}
-use Rattle.cg_machine.proofs.Unheld.{IsLocalHeld, AreOver, AreResting, Rests, Stands, Calm, Keeps, resting_stack, resting_after, altered_keeps, same_objects, popped_free, top_free, pushed_free, turned_free, not_dying}
-use Rattle.cg_machine.proofs.Lookups.{found_at, at_member, found_lives, last_free, last_lives, shorter_free, callback_free, none_found, found_referent}
+use Rattle.cg_machine.proofs.Forgotten.{IsQuiet, AreQuiet, Unheld, NoneRefers, Forgotten, Mortal, HasFinalizers, Alters, alters_refl, change_alters, test_quiet, untracked_quiet, place_quiet, entries_quiet, lost_quiet, lost_alters, entries_alter, place_alters, mortal_after, finalizers_after, unreferred_after, referred_after, lives_after, still_unheld, still_forgotten}
+use Rattle.cg_machine.proofs.Unheld.{IsLocalHeld, AreResting, Rests, Stands, Calm, Keeps, resting_stack, resting_after, altered_keeps, same_objects, popped_free, top_free, pushed_free, turned_free, not_dying}
+use Rattle.cg_machine.proofs.Lookups.{at_member, found_lives, last_free, last_lives, shorter_free, callback_free, none_found, found_referent}
 use Rattle.cg_machine.proofs.Releasing.{HeldByNone, none_holds, starts_calm}
 
 pub some_not_none : {X : Type 0} (m : Option X) → is_some m ≡ true → m ≢ None
@@ -174,9 +173,10 @@ module _ (script : Script) (o : ℕ) (below : List Activity) (v : World) (rises 
           none_found has_weak_references 1 v.next_serial v.objects o z.0 x rises e z.1 z.2 z.3 m refers
   clearing_calm waiting (weak ∷ weaks) e c =
       goes_to (Clearing waiting) next (loses_referent weak v.objects) (lost_alters weak v.objects) c
-      (keeps_lost (Clearing waiting) next weak (λ p l free. waits_free y.0 weak p calls_back waiting (l.refers_to_none y.0 y.1) y.2 y.3 free))
-      (still_unheld (at (Clearing waiting)) (to next (loses_referent weak v.objects)) o refl (lost_quiet o weak v.objects) (turn_free (Clearing waiting) next o (λ free. waits_free y.0 weak o calls_back waiting (c.stack.0.0.quiet y.0 y.1).refers_to_none y.2 y.3 free)) c.stack.0.0,
-      λ h. lives_after v.objects (loses_referent weak v.objects) (lost_alters weak v.objects) o (found_referent has_weak_references v.objects o weak weaks e))
+      (keeps_lost (Clearing waiting) next weak (λ p l free. waits_free y.0 weak p calls_back waiting (l.refers_to_none y.0 y.1) y.2 y.3 free)) (
+        still_unheld (at (Clearing waiting)) (to next (loses_referent weak v.objects)) o refl (lost_quiet o weak v.objects) (turn_free (Clearing waiting) next o (λ free. waits_free y.0 weak o calls_back waiting (c.stack.0.0.quiet y.0 y.1).refers_to_none y.2 y.3 free)) c.stack.0.0,
+        λ h. lives_after v.objects (loses_referent weak v.objects) (lost_alters weak v.objects) o (found_referent has_weak_references v.objects o weak weaks e),
+      )
     where
       calls_back : Bool
       calls_back = is_some (callback_of v.objects weak)
@@ -193,9 +193,10 @@ module _ (script : Script) (o : ℕ) (below : List Activity) (v : World) (rises 
       (still_forgotten (at (Calling [])) (at LegacyFinalizer) o refl (alters_refl v.objects) (λ q. q) (turn_free (Calling []) LegacyFinalizer o (λ h. h)) c.stack.0.0)
   calling_calm (weak ∷ waiting) c =
       calls (Calling (weak ∷ waiting)) next (record { sort = Callback; proc = procedure_of (at (Calling (weak ∷ waiting))) callback; subject = weak; func = Some callback }) objects alters c
-      (λ d m l f. (entries_quiet d.object weak [] (λ k. k) v.objects f.unheld.quiet, held d.object l f.unheld.quiet (top_free (dying_now (Calling (weak ∷ waiting))) below d.object f.unheld.stack)))
-      (mortal_after v.objects objects alters o lives,
-      still_forgotten (at (Calling (weak ∷ waiting))) (to next objects) o refl alters (entries_quiet o weak [] (λ k. k) v.objects) (turn_free (Calling (weak ∷ waiting)) next o (held o lives c.stack.0.0.unheld.quiet)) c.stack.0.0)
+      (λ d m l f. (entries_quiet d.object weak [] (λ k. k) v.objects f.unheld.quiet, held d.object l f.unheld.quiet (top_free (dying_now (Calling (weak ∷ waiting))) below d.object f.unheld.stack))) (
+        mortal_after v.objects objects alters o lives,
+        still_forgotten (at (Calling (weak ∷ waiting))) (to next objects) o refl alters (entries_quiet o weak [] (λ k. k) v.objects) (turn_free (Calling (weak ∷ waiting)) next o (held o lives c.stack.0.0.unheld.quiet)) c.stack.0.0,
+      )
       (inr (inl refl)) (λ p k. k)
     where
       callback : ℕ
@@ -245,9 +246,10 @@ module _ (script : Script) (o : ℕ) (below : List Activity) (v : World) (rises 
   legacy_calm (Some p) e c =
       let found = lives_where (legacy_of script) p e in
       calls LegacyFinalizer AfterLegacy (record { sort = Legacy; proc = p; subject = o; func = None }) (change (with_place (Gen 0)) o v.objects) (place_alters (Gen 0) o v.objects) c
-      (λ d m l f. (placed_quiet LegacyFinalizer (Gen 0) c d m f, λ k. either k (λ i. other LegacyFinalizer c d m (sym i)) (λ n. n)))
-      (mortal_after v.objects (change (with_place (Gen 0)) o v.objects) (place_alters (Gen 0) o v.objects) o (mortal LegacyFinalizer c.stack.0.unheld (found_lives v.objects o found.0 found.1)),
-      finalizers_after script v.objects (change (with_place (Gen 0)) o v.objects) (place_alters (Gen 0) o v.objects) o (has found.0 found.1 found.2))
+      (λ d m l f. (placed_quiet LegacyFinalizer (Gen 0) c d m f, λ k. either k (λ i. other LegacyFinalizer c d m (sym i)) (λ n. n))) (
+        mortal_after v.objects (change (with_place (Gen 0)) o v.objects) (place_alters (Gen 0) o v.objects) o (mortal LegacyFinalizer c.stack.0.unheld (found_lives v.objects o found.0 found.1)),
+        finalizers_after script v.objects (change (with_place (Gen 0)) o v.objects) (place_alters (Gen 0) o v.objects) o (has found.0 found.1 found.2),
+      )
       (inl refl) (λ p k. k)
     where
       has : (x : Object) → object_at v.objects o ≡ Some x → legacy_of script x ≡ Some p → HasFinalizers script v.objects o
@@ -267,9 +269,10 @@ module _ (script : Script) (o : ℕ) (below : List Activity) (v : World) (rises 
           let z = c.referred x m o refers in
           none_found (has_finalizers script) 1 v.next_serial v.objects o z.0 x rises e z.1 z.2 (has z.0 z.1 z.2) m refers
   detaching_calm (weak ∷ weaks) e c =
-      goes_to Detaching Detaching (loses_referent weak v.objects) (lost_alters weak v.objects) c (keeps_lost Detaching Detaching weak (λ p l free. free))
-      (still_unheld (at Detaching) (to Detaching (loses_referent weak v.objects)) o refl (lost_quiet o weak v.objects) (λ k. k) c.stack.0.0,
-      either c.stack.0.1 (λ has. inl (finalizers_after script v.objects (loses_referent weak v.objects) (lost_alters weak v.objects) o has)) (λ none. inr (unreferred_after v.objects (loses_referent weak v.objects) (lost_alters weak v.objects) o none)))
+      goes_to Detaching Detaching (loses_referent weak v.objects) (lost_alters weak v.objects) c (keeps_lost Detaching Detaching weak (λ p l free. free)) (
+        still_unheld (at Detaching) (to Detaching (loses_referent weak v.objects)) o refl (lost_quiet o weak v.objects) (λ k. k) c.stack.0.0,
+        either c.stack.0.1 (λ has. inl (finalizers_after script v.objects (loses_referent weak v.objects) (lost_alters weak v.objects) o has)) (λ none. inr (unreferred_after v.objects (loses_referent weak v.objects) (lost_alters weak v.objects) o none)),
+      )
 
   -- the entries are taken out, and the object goes
   emptying_calm : (m : Option Entry) → last_entry (entries_of v.objects o) ≡ m → Calm script (at Emptying) → Calm script (empty_one o below (at Emptying) m).1

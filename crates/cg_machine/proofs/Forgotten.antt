@@ -1,18 +1,17 @@
 -- Objects that nothing holds, and to which no weak reference refers. What changes of the objects keep of that.
-use Rattle.std.proofs.Common.{◌≡◌, ◌≢◌, refl, sym, ◌∙◌, ap, subst, ℕ, ◌+◌, ◌<◌, ◌≤◌, suc, Bool, true, false, not, inl, inr, ◌⊎◌, List, [], ◌∷◌, ◌++◌, map, Option, Some, None, arith}
-use Rattle.std.specs.Prelude.{◌==◌, if◌then◌else◌, filter, flat_map}
-use Rattle.std.proofs.lemmas.Bool.{eqb-true, eq-eqb, ne_eqb}
+use Rattle.std.proofs.Common.{◌≡◌, ◌≢◌, refl, sym, ◌∙◌, subst, ℕ, ◌<◌, ◌≤◌, suc, Bool, true, false, inl, inr, ◌⊎◌, List, [], ◌∷◌, map, Some, None, arith}
+use Rattle.std.specs.Prelude.{◌==◌, if◌then◌else◌, flat_map}
+use Rattle.std.proofs.lemmas.Bool.{eqb-true}
 use Rattle.cg_value.specs.declared.Place.{Place}
 use Rattle.cg_value.specs.declared.Place.TheVariants.{Untracked}
-use Rattle.cg_value.specs.declared.KindCode.{KindCode}
 use Rattle.cg_value.specs.declared.Entry.{Entry}
 use Rattle.cg_script.specs.declared.Script.{Script}
 use Rattle.cg_graph.specs.Member.{Includes}
 use Rattle.cg_graph.specs.Value.{references}
 use Rattle.cg_graph.specs.Object.{Object, change, serials, with_place, with_entries, with_referent}
 use Rattle.cg_graph.specs.Holdings.{name_holdings}
-use Rattle.cg_graph.proofs.Members.{either, Includes-map, Includes-map_cases, Includes-append_cases}
-use Rattle.cg_machine.specs.World.{World, Activity}
+use Rattle.cg_graph.proofs.Members.{either, Includes-map, Includes-map_cases}
+use Rattle.cg_machine.specs.World.{World}
 use Rattle.cg_machine.specs.Holdings.{holds}
 use Rattle.cg_machine.specs.Weak.{has_weak_references, loses_referent}
 use Rattle.cg_machine.specs.Dying.{has_finalizers}

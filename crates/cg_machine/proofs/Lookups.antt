@@ -1,10 +1,9 @@
 -- What is found among the objects by a serial, and what its entries hold.
-use Rattle.std.proofs.Common.{◌≡◌, ◌≢◌, refl, sym, ◌∙◌, ap, subst, ℕ, zero, suc, ◌+◌, ◌-◌, ◌<◌, ◌≤◌, Bool, true, false, cond, inl, inr, ◌⊎◌, List, [], ◌∷◌, ◌++◌, Option, Some, None, take, length, reverse, arith}
-use Rattle.std.specs.Prelude.{◌==◌, if◌then◌else◌, filter, slice_get, option_to_list, option_map, option_and_then, unwrap_or, is_some}
+use Rattle.std.proofs.Common.{◌≡◌, ◌≢◌, refl, sym, ◌∙◌, ap, subst, ℕ, zero, suc, ◌-◌, ◌≤◌, Bool, true, false, cond, inl, inr, ◌⊎◌, List, [], ◌∷◌, ◌++◌, Option, Some, None, take, length, reverse, arith}
+use Rattle.std.specs.Prelude.{◌==◌, if◌then◌else◌, filter, slice_get, option_to_list, option_map, option_and_then, unwrap_or}
 use Rattle.std.proofs.lemmas.Bool.{eqb-true, eq-eqb, ne_eqb}
 use Rattle.std.proofs.lemmas.List.{reverse-append}
 use Rattle.cg_value.specs.declared.Entry.{Entry}
-use Rattle.cg_value.specs.declared.Val.{Val}
 use Rattle.cg_graph.specs.Member.{Includes}
 use Rattle.cg_graph.specs.Value.{references, entry_references, reference_in, last_entry, without_last}
 use Rattle.cg_graph.specs.Object.{Object, object_at, entries_of, serials}
@@ -21,7 +20,8 @@ found_at (y ∷ objects) o x e = go (y.serial == o) refl e (λ k. found_at objec
     go true t k ih = let same : y ≡ x = cc in (inl same, ap (λ (z : Object). z.serial) (sym same) ∙ eqb-true y.serial o t)
     go false t k ih = (inr (ih k).0, (ih k).1)
 
-serial_from : (low high : ℕ) (objects : List Object) (x : Object) → Rises low high objects → Includes objects x → low ≤ x.serial
+-- serials rise
+pub serial_from : (low high : ℕ) (objects : List Object) (x : Object) → Rises low high objects → Includes objects x → low ≤ x.serial
 serial_from low high objects x r m = (lives_within low high objects x.serial r (Includes-map (λ (z : Object). z.serial) objects x m)).0
 
 -- each object is found by its serial

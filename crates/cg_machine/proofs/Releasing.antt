@@ -1,9 +1,7 @@
 -- Releases, and frames that start and end, keep the invariant of dying objects.
-use Rattle.std.proofs.Common.{◌≡◌, ◌≢◌, refl, sym, ◌∙◌, ap, subst, ℕ, zero, ◌+◌, ◌-◌, Bool, true, false, cond, not, ◌&&◌, inl, inr, ◌⊎◌, List, [], ◌∷◌, ◌++◌, map, Option, Some, None, arith}
+use Rattle.std.proofs.Common.{◌≡◌, ◌≢◌, refl, sym, ◌∙◌, ap, subst, ℕ, ◌-◌, Bool, true, false, cond, not, ◌&&◌, inl, inr, List, [], ◌∷◌, ◌++◌, Option, None, arith}
 use Rattle.std.specs.Prelude.{◌==◌, if◌then◌else◌, flat_map, option_to_list}
-use Rattle.std.specs.List.{list_any}
 use Rattle.std.proofs.lemmas.Bool.{eqb-true, eq-eqb, and_parts}
-use Rattle.std.proofs.lemmas.List.Sums.{sum_by-cons}
 use Rattle.cg_value.specs.declared.Place.TheVariants.{Untracked}
 use Rattle.cg_script.specs.declared.Script.{Script}
 use Rattle.cg_graph.specs.Member.{Includes}
@@ -17,21 +15,19 @@ use Rattle.cg_machine.specs.declared.event.FrameSpec.{FrameSpec}
 use Rattle.cg_machine.specs.declared.event.Event.TheVariants.{Enter, BudgetSpent}
 use Rattle.cg_machine.specs.Program.{body_of}
 use Rattle.cg_machine.specs.World.{World, Activity, Framed, Releasing, Dying, Death, Frame, Finalizer, BudgetIsSpent, push, with_stack}
-use Rattle.cg_machine.specs.Holdings.{holds, holdings, call_holds, in_degree, is_dying, is_death_of}
+use Rattle.cg_machine.specs.Holdings.{holds, holdings, call_holds, in_degree, is_dying}
 use Rattle.cg_machine.specs.Frame.{Transition, start_frame, frame_end, gives_up_function, begin_death, released}
-use Rattle.cg_machine.proofs.Forgotten.{IsQuiet, AreQuiet, Unheld, Forgotten, Mortal, AreReferred, IsLater, Alters, alters_refl, change_alters, map_quiet, still_forgotten, referred_after}
-use Rattle.cg_machine.proofs.Unheld.{IsLocalHeld, IsOver, AreOver, AreResting, IsStack, Calm, Keeps, resting_stack, resting_after, altered_keeps, same_objects, popped_free, pushed_free, turned_free, not_dying}
+use Rattle.cg_machine.proofs.Saving.{count_cons}
+use Rattle.cg_machine.proofs.Forgotten.{IsQuiet, Unheld, Forgotten, Mortal, AreReferred, IsLater, Alters, alters_refl, change_alters, map_quiet, still_forgotten, referred_after}
+use Rattle.cg_machine.proofs.Unheld.{IsLocalHeld, AreOver, AreResting, Calm, Keeps, resting_stack, resting_after, altered_keeps, same_objects, popped_free, pushed_free, turned_free}
 
 -- an object that is held no time is not among the holdings, and the other way round
-occurrences-cons : (o x : ℕ) (xs : List ℕ) → occurrences o (x ∷ xs) ≡ cond (x == o) 1 0 + occurrences o xs
-occurrences-cons o x xs = sum_by-cons (λ r. cond (r == o) 1 0) x xs
-
 pub absent : (o : ℕ) (xs : List ℕ) → occurrences o xs ≡ 0 → ¬ Includes xs o
 absent o [] none m = absurd m
 absent o (x ∷ xs) none (inl e) =
     let one : ◌≡◌ {A = ℕ} (cond (x == o) 1 0) 1 = ap (λ b. cond b 1 0) (eq-eqb x o e) in
-    absurd (omega (arith, occurrences-cons o x xs, one, none))
-absent o (x ∷ xs) none (inr m) = absent o xs (omega (arith, occurrences-cons o x xs, none)) m
+    absurd (omega (arith, count_cons o x xs, one, none))
+absent o (x ∷ xs) none (inr m) = absent o xs (omega (arith, count_cons o x xs, none)) m
 
 pub no_times : (o : ℕ) (xs : List ℕ) → ¬ Includes xs o → occurrences o xs ≡ 0
 no_times o [] h = refl
@@ -41,7 +37,7 @@ no_times o (x ∷ xs) h = go (x == o) refl (no_times o xs (λ m. h (inr m)))
     go true e rest = absurd (h (inl (eqb-true x o e)))
     go false e rest =
         let none : ◌≡◌ {A = ℕ} (cond (x == o) 1 0) 0 = ap (λ b. cond b 1 0) e in
-        omega (arith, occurrences-cons o x xs, none, rest)
+        omega (arith, count_cons o x xs, none, rest)
 
 pub entry_held : (objects : List Object) (x : Object) (o : ℕ) → Includes objects x → Includes (references x.entries) o → Includes (entry_holdings (graph_of objects)) o
 entry_held [] x o m h = absurd m

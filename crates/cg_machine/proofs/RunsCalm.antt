@@ -1,22 +1,19 @@
 -- Every world of a run has the invariant of dying objects, and so a dying object is unheld.
-use Rattle.std.proofs.Common.{◌≡◌, ◌≢◌, refl, sym, ◌∙◌, ap, subst, ℕ, Bool, true, false, inl, inr, ◌⊎◌, List, [], ◌∷◌, ◌++◌, Option, Some, None, Result, Ok, Err}
-use Rattle.std.specs.Prelude.{if◌then◌else◌, flat_map}
+use Rattle.std.proofs.Common.{◌≡◌, ◌≢◌, refl, sym, ◌∙◌, ap, subst, ℕ, Bool, true, false, inl, inr, List, [], ◌∷◌, Option, Some, None, Result, Ok, Err}
+use Rattle.std.specs.Prelude.{if◌then◌else◌}
 use Rattle.cg_script.specs.declared.Script.{Script}
 use Rattle.cg_script.specs.declared.Command.{Command}
 use Rattle.cg_graph.specs.Member.{Includes}
 use Rattle.cg_graph.specs.Object.{Object}
-use Rattle.cg_graph.specs.Holdings.{occurrences}
 use Rattle.cg_graph.proofs.Members.{either}
 use Rattle.cg_machine.specs.declared.event.Event.{Event}
 use Rattle.cg_machine.specs.declared.event.Event.TheVariants.{Collected}
 use Rattle.cg_machine.specs.declared.event.FrameSort.TheVariants.{Call as CallFrame}
 use Rattle.cg_machine.specs.World.{World, Activity, TopLevel, Framed, Releasing, Dying, Collecting, Frame, Death, DyingPhase, Finalizer, AfterFinalizer, Clearing, Calling, AfterCall, LegacyFinalizer, AfterLegacy, Detaching, Emptying, Ended, opening, garbage_list, push, with_stack}
 use Rattle.cg_machine.specs.Holdings.{holds, holdings, is_collecting}
-use Rattle.cg_machine.specs.Frame.{Transition, frame_end, start_frame, procedure_of, released}
-use Rattle.cg_machine.specs.Dying.{dying}
+use Rattle.cg_machine.specs.Frame.{Transition, start_frame, procedure_of}
 use Rattle.cg_machine.specs.Effects.{Effect, Changes, Calls, Collects, Quits}
-use Rattle.cg_machine.specs.Refusals.{no_memory}
-use Rattle.cg_machine.specs.Commands.{effect, refused, stopped_frame, without_commands, new_collection, DoesEffect}
+use Rattle.cg_machine.specs.Commands.{effect, stopped_frame, without_commands, new_collection, DoesEffect}
 use Rattle.cg_machine.specs.Due.{due}
 use Rattle.cg_machine.specs.Run.{StepTaken, Step, StepOf, Run, TopLevelStep, CommandInFrame, FrameStep, last_world}
 use Rattle.cg_machine.specs.Laws.{DyingIsUnheld, IsHeldByItsDeathAlone}
@@ -64,9 +61,12 @@ module _ (script : Script) (below : List Activity) (v : World) where
   collects a g asked h c = record {
     referred = c.referred;
     over = (tt, c.over);
-    stack = (tt, resting_after script (with_stack (a ∷ below) v) (push (new_collection g asked (with_stack (a ∷ below) v)) (with_stack (a ∷ below) v)) (a ∷ below)
-        (λ d m. same_objects script (with_stack (a ∷ below) v) (push (new_collection g asked (with_stack (a ∷ below) v)) (with_stack (a ∷ below) v)) d.object refl refl (pushed_free (new_collection g asked (with_stack (a ∷ below) v)) (a ∷ below) d.object (λ k. k)))
-        (all_rest script (with_stack (a ∷ below) v) a below h c.stack.1));
+    stack = (
+      tt,
+      resting_after script (with_stack (a ∷ below) v) (push (new_collection g asked (with_stack (a ∷ below) v)) (with_stack (a ∷ below) v)) (a ∷ below)
+          (λ d m. same_objects script (with_stack (a ∷ below) v) (push (new_collection g asked (with_stack (a ∷ below) v)) (with_stack (a ∷ below) v)) d.object refl refl (pushed_free (new_collection g asked (with_stack (a ∷ below) v)) (a ∷ below) d.object (λ k. k)))
+          (all_rest script (with_stack (a ∷ below) v) a below h c.stack.1),
+    );
   }
 
   stopped : (a : Activity) → HasCommands a → Calm script (with_stack (a ∷ below) v) → Calm script (with_stack (stopped_frame (a ∷ below)) v)

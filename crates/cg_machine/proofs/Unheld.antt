@@ -1,14 +1,14 @@
 -- The invariant of runs: a dying object is held by nothing, or by its own death while a frame of its own runs.
-use Rattle.std.proofs.Common.{◌||◌, ◌≡◌, ◌≢◌, refl, sym, ◌∙◌, ap, subst, ℕ, Bool, true, false, inl, inr, ◌⊎◌, List, [], ◌∷◌, ◌++◌, Option, Some, None, arith}
+use Rattle.std.proofs.Common.{◌||◌, ◌≡◌, ◌≢◌, refl, sym, ◌∙◌, ap, subst, ℕ, Bool, true, false, inl, inr, ◌⊎◌, List, [], ◌∷◌}
 use Rattle.std.specs.Prelude.{◌==◌, flat_map}
 use Rattle.std.specs.List.{list_any}
 use Rattle.std.proofs.lemmas.Bool.{eq-eqb}
 use Rattle.cg_script.specs.declared.Script.{Script}
 use Rattle.cg_graph.specs.Member.{Includes}
-use Rattle.cg_graph.specs.Object.{Object, serials}
+use Rattle.cg_graph.specs.Object.{serials}
 use Rattle.cg_machine.specs.declared.event.FrameSort.{FrameSort}
 use Rattle.cg_machine.specs.declared.event.FrameSort.TheVariants.{Del, Legacy, Callback, Call}
-use Rattle.cg_machine.specs.World.{World, Activity, TopLevel, Framed, Releasing, Dying, Collecting, Death, DyingPhase, Finalizer, AfterFinalizer, Clearing, Calling, AfterCall, LegacyFinalizer, AfterLegacy, Detaching, Emptying, CollectPhase, AfterRelease, AfterTurn, opening}
+use Rattle.cg_machine.specs.World.{World, Activity, TopLevel, Framed, Releasing, Dying, Collecting, Death, DyingPhase, Finalizer, AfterFinalizer, Clearing, Calling, AfterCall, LegacyFinalizer, AfterLegacy, Detaching, Emptying, CollectPhase, AfterRelease, AfterTurn}
 use Rattle.cg_graph.proofs.Members.{either, or_left, Includes-append_left, Includes-append_right, Includes-append_cases}
 use Rattle.cg_machine.specs.Holdings.{holds, dying_holds, is_death_of}
 use Rattle.cg_machine.proofs.Forgotten.{AreQuiet, Unheld, Forgotten, Mortal, HasFinalizers, NoneRefers, AreReferred, Alters, alters_refl, mortal_after, finalizers_after, still_forgotten}
