@@ -1,6 +1,8 @@
 mod BoxLemmas
 mod Stands
 mod Room
+pub mod CallerLemmas
+mod RowsAndHolds
 mod Rewrites
 mod Takes
 mod Puts
@@ -9,5 +11,7 @@ mod CountAll
 mod Makes
 mod Opens
 mod Calls
+mod SeatCalls
+mod WeakCalls
 mod Tracks
 mod Saves

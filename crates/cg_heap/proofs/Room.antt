@@ -15,8 +15,7 @@ use Rattle.cg_graph.specs.Value.{references, entry_references, reference_in, ref
 use Rattle.cg_graph.specs.Store.{Store, Node, held_within, held_by, inner, outside_of, outside_in, IsLive}
 use Rattle.cg_graph.proofs.Maps.{total-remove}
 use Rattle.cg_arena.specs.Nodes.{ArenaNode, count_in}
-use Rattle.cg_heap.specs.Calls.{HasFewHolds}
-use Rattle.cg_heap.specs.Keeps.{Keeps, Alike, size}
+use Rattle.cg_heap.specs.Keeps.{Keeps, Alike, size, RowsAndHolds}
 
 pub reference-le : (v : Val) → length (option_to_list (reference_in v)) ≤ 1
 reference-le val.None = omega arith
@@ -24,7 +23,7 @@ reference-le (val.Int n) = omega arith
 reference-le (val.Str n) = omega arith
 reference-le (val.Ref n) = omega arith
 
-name-le : (v : Option Val) → length (references_of_value v) ≤ 1
+pub name-le : (v : Option Val) → length (references_of_value v) ≤ 1
 name-le None = omega arith
 name-le (Some v) = reference-le v
 
@@ -32,17 +31,13 @@ names-le : (names : List (Option Val)) → length (name_holdings names) ≤ leng
 names-le [] = omega arith
 names-le (v ∷ names) = omega (arith, length-append (references_of_value v) (name_holdings names), name-le v, names-le names)
 
+pub entry-le : (e : Entry) → length (entry_references e) ≤ 2
+entry-le e = omega (arith, length-append (option_to_list (reference_in e.val)) (option_to_list (reference_in e.key)), reference-le e.val, reference-le e.key)
+
 pub references-le : (es : List Entry) → length (references es) ≤ 2 * length es
 references-le [] = omega arith
 references-le (e ∷ es) =
-    omega (
-      arith,
-      length-append (entry_references e) (references es),
-      length-append (option_to_list (reference_in e.val)) (option_to_list (reference_in e.key)),
-      reference-le e.val,
-      reference-le e.key,
-      references-le es,
-    )
+    omega (arith, length-append (entry_references e) (references es), entry-le e, references-le es)
 
 pub occurrences-le : (s : ℕ) (xs : List ℕ) → occurrences s xs ≤ length xs
 occurrences-le s xs = count_by-le-length (λ r. r == s) xs
@@ -70,10 +65,9 @@ pub inner-le : (store : Store) (s : ℕ) → inner store s ≤ length store.name
 unfolding held_within
 inner-le store s = omega (arith, occurrences-le s (name_holdings store.names), names-le store.names, occurrences-le s (1 ∷ []), sum-le s (fin.entries store.nodes))
 
-pub room-below : (all : List Bodies) (nodes : fin.FinMap nat_cmp ArenaNode) (objects number : ℕ) (store : Store) → Keeps all nodes objects number store → HasFewHolds store → (s : ℕ) → count_in (fin.get nodes s) < 4000000000
-room-below all nodes objects number store ok few s =
-    let holds : total (λ (n : Node). n.outside) store.nodes < 2147483646 = few in
-    omega (arith, ok.counted s, inner-le store s, outside-le store s, ok.sized, ok.entry_limit, ok.garbage, ok.names, holds)
+pub room-below : (all : List Bodies) (nodes : fin.FinMap nat_cmp ArenaNode) (objects number : ℕ) (store : Store) → Keeps all nodes objects number store → RowsAndHolds store → (s : ℕ) → count_in (fin.get nodes s) < 4000000000
+room-below all nodes objects number store ok rest s =
+    omega (arith, ok.counted s, inner-le store s, outside-le store s, ok.sized, ok.entry_limit, ok.garbage, ok.names, rest.holds)
 
 -- what the nodes and the store have is the same
 pub live-node : (all : List Bodies) (nodes : fin.FinMap nat_cmp ArenaNode) (objects number : ℕ) (store : Store) → Keeps all nodes objects number store → (s : ℕ) → IsLive store s → IsSome (fin.get nodes s)

@@ -16,7 +16,7 @@ use Rattle.cg_graph.specs.Changes.{more, less, held, unheld}
 use Rattle.cg_graph.proofs.Maps.{get-mapped, total-mapped, same_map}
 use Rattle.cg_arena.specs.Nodes.{ArenaNode, Nodes, count_in, counted_up, counted_down, node_counted_up, node_counted_down}
 use Rattle.cg_heap.specs.Boxes.{HasBody, spare_in_box}
-use Rattle.cg_heap.specs.Keeps.{Keeps, Shape, Alike, node_from, bare_nodes, nodes_from, store_of, seat_in, size, one, IsWellMade, IsWellMadeAt, IsGarbage}
+use Rattle.cg_heap.specs.Keeps.{Keeps, Shape, Alike, node_from, bare_nodes, nodes_from, store_of, seat_in, size, one, IsWellMade, IsWellMadeAt, IsGarbage, RowsAndHolds}
 use Rattle.cg_value.specs.declared.Entry.{Entry}
 use Rattle.cg_value.specs.declared.KindCode.TheVariants.{List as ListKind}
 
@@ -63,13 +63,13 @@ nodes-are all names nodes m alike counted =
 
 -- The fields stand for the store, and the struct may close over them.
 pub record Closed (all : List Bodies) (v : Nodes) (names : List (Option Val)) (last : ℕ) (rows : List Row) (objects number : ℕ) (store : Store) : Type 0 where
-  pub keeps : Keeps all v.nodes objects number (store_of all v names last rows)
+  pub keeps : Keeps all v.nodes objects number (store_of all v names last rows) × RowsAndHolds (store_of all v names last rows)
   pub is : store_of all v names last rows ≡ store
 
-pub closed : (all : List Bodies) (v : Nodes) (objects number : ℕ) (store : Store) → Keeps all v.nodes objects number store → v.lists ≡ store.lists → Closed all v store.names store.last store.rows objects number store
-closed all v objects number store ok lists =
+pub closed : (all : List Bodies) (v : Nodes) (objects number : ℕ) (store : Store) → Keeps all v.nodes objects number store → RowsAndHolds store → v.lists ≡ store.lists → Closed all v store.names store.last store.rows objects number store
+closed all v objects number store ok rest lists =
     record {
-      keeps = subst (λ s. Keeps all v.nodes objects number s) (sym is) ok;
+      keeps = subst (λ s. Keeps all v.nodes objects number s × RowsAndHolds s) (sym is) (ok, rest);
       is = is;
     }
   where
