@@ -15,9 +15,9 @@ use Rattle.cg_graph.specs.Places.{place_number}
 use Rattle.cg_graph.specs.Store.{Store, Node, IsLive, HasCode, outside_of, outside_in}
 use Rattle.cg_graph.specs.Changes.{more, less, held, unheld, with_entries, rewritten, with_place, moved, made, new_node, gone, garbage_node, opening_store}
 use Rattle.cg_graph.proofs.Maps.{get-mapped, entries-mapped, total-mapped, total-insert, total-changed, total-remove, get-changed_same, get-changed_other, get-insert_same, get-insert_other, get-remove_other, same_map}
+use Rattle.cg_heap.proofs.ReferenceLemmas.{occurrences-one, one_if}
 use Rattle.cg_heap.specs.Keeps.{outside_total}
 use Rattle.cg_heap.specs.Calls.{place_merged, merged, with_node}
-use Rattle.cg_heap.proofs.Room.{occurrences-one, one_if}
 
 abbrev out : Node → ℕ
 out n = n.outside

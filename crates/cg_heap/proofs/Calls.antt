@@ -21,11 +21,12 @@ use Rattle.cg_graph.specs.Store.{Store, Node, outside_of, count_of, IsLive, entr
 use Rattle.cg_graph.specs.Changes.{held, unheld, rewritten, named, moved, made, more}
 use Rattle.cg_graph.proofs.Maps.{same_map, get-mapped}
 use Rattle.cg_arena.specs.Nodes.{ArenaNode, Nodes, count_in, counted_up, counted_down, node_counted_up, new_node as new_arena_node, with_room, with_node as with_arena_node, with_node_changed, with_node_moved, with_lists_merged, node_finalized, node_numbered, following, IsListed as IsArenaListed, count_in_list, place_of as arena_place_of, place_in as arena_place_in}
+use Rattle.cg_heap.proofs.ReferenceLemmas.{occurrences-le, reference-le, name-le, references-le}
 use Rattle.cg_heap.specs.Boxes.{bodies_at, boxes_with_body, spare_in_box}
 use Rattle.cg_heap.specs.Keeps.{Keeps, Alike, store_of, node_from, seat_in, HasClass}
 use Rattle.cg_heap.specs.Calls.{HasFewHolds, object_number, entry_number, code_of, IsMutable, IsLiveValue, value_in, with_put, merged, marked, with_number, with_node, IsSound, IsListed}
 use Rattle.cg_heap.proofs.Stands.{Closed, closed, keeps-held, keeps-unheld, live-mapped}
-use Rattle.cg_heap.proofs.Room.{room-below, live-node, one-enough, counted-has, occurrences-le, reference-le, name-le, references-le}
+use Rattle.cg_heap.proofs.Room.{room-below, live-node, one-enough, counted-has}
 use Rattle.cg_heap.proofs.Takes.{held-live}
 use Rattle.cg_heap.proofs.Moves.{keeps-named, keeps-moved, keeps-marked, keeps-numbered, keeps-merged, same-place}
 use Rattle.cg_heap.proofs.CountAll.{count-le, none-counted}

@@ -1,7 +1,10 @@
 mod BoxLemmas
+pub mod ReferenceLemmas
+pub mod CallerLemmas
+pub mod HoldLemmas
+pub mod RowLemmas
 mod Stands
 mod Room
-pub mod CallerLemmas
 mod RowsAndHolds
 mod Rewrites
 mod Takes

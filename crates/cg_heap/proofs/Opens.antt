@@ -11,6 +11,7 @@ use Rattle.cg_value.specs.declared.Entry.{Entry}
 use Rattle.cg_value.specs.declared.Place.TheVariants.{Untracked}
 use Rattle.cg_graph.specs.Rows.{Row}
 use Rattle.cg_graph.specs.Store.{IsLive, HasCode}
+use Rattle.cg_heap.proofs.ReferenceLemmas.{occurrences-one, one_if, occurrences-le}
 use Rattle.cg_heap.specs.Keeps.{RowsAndHolds}
 use Rattle.cg_heap.proofs.CallerLemmas.{total-empty, opening_total}
 use Rattle.cg_value.specs.declared.KindCode.TheVariants.{List as ListKind, Weak}
@@ -24,7 +25,6 @@ use Rattle.cg_arena.specs.Nodes.{ArenaNode, Nodes, count_in, counted_up, with_no
 use Rattle.cg_heap.specs.Boxes.{bodies_at, boxes_with_body, spare_in_box}
 use Rattle.cg_heap.specs.Keeps.{Keeps, Shape, size, one, seat_in, IsWellMadeAt, IsGarbage, IsSaved}
 use Rattle.cg_heap.proofs.Stands.{Closed, closed, shape-up, up-counts, seat-up}
-use Rattle.cg_heap.proofs.Room.{occurrences-one, one_if, occurrences-le}
 
 abbrev empties : List Bodies
 empties = replicate 6 fin.empty

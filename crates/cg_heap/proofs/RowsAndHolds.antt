@@ -1,8 +1,8 @@
 -- What a heap keeps of its rows and outside holds, after each change.
-use Rattle.std.proofs.Common.{◌≡◌, ◌≢◌, ℕ, ◌<◌, Bool, true, false, List, [], ◌∷◌, Option, Some, None, IsSome, refl, sym, subst, arith}
+use Rattle.std.proofs.Common.{◌≡◌, ◌≢◌, ℕ, ◌<◌, Bool, true, false, Option, Some, None, IsSome, refl, sym, subst, arith}
 use Rattle.std.specs.Prelude.{IfSome}
 use Rattle.std.specs.List.{All}
-use Rattle.std.proofs.lemmas.List.Elements.{All-nil, All-cons, All-head, All-tail, All-weaker, All-push}
+use Rattle.std.proofs.lemmas.List.Elements.{All-weaker, All-push}
 use Rattle.cg_value.specs.declared.KindCode.TheVariants.{Weak}
 use Rattle.cg_graph.specs.Rows.{IsRising, new_row}
 use Rattle.cg_graph.specs.Store.{Store, IsLive, HasCode}
@@ -11,6 +11,7 @@ use Rattle.cg_weak.proofs.RowLists.{rising-append, rising-without, rising-waitin
 use Rattle.cg_weak.proofs.CallerLemmas.{each-cleared}
 use Rattle.cg_heap.specs.Weak.{IsInNoRow, attached, cleared_weak, forgotten_weak}
 use Rattle.cg_heap.specs.Keeps.{RowsAndHolds, outside_total}
+use Rattle.cg_heap.proofs.RowLemmas.{all_both}
 use Rattle.cg_heap.proofs.CallerLemmas.{KeepsKinds, lives_on, live_of_kind, kind_of_live, kinds-gone, total-gone}
 
 -- the rows stay, and all that they name lives on
@@ -23,11 +24,6 @@ kept old new kinds same fits ok = record {
   };
   holds = fits;
 }
-
--- two facts of each
-all_both : {X : Type 0} (P Q R : X → Type 0) → ((x : X) → P x → Q x → R x) → (xs : List X) → All P xs → All Q xs → All R xs
-all_both P Q R both [] ps qs = All-nil R
-all_both P Q R both (x ∷ xs) ps qs = All-cons R x xs (both x (All-head P x xs ps) (All-head Q x xs qs)) (all_both P Q R both xs (All-tail P x xs ps) (All-tail Q x xs qs))
 
 -- an object is gone that is in no row
 pub kept-gone : (o : ℕ) (store : Store) → IsInNoRow o store.rows → RowsAndHolds store → RowsAndHolds (gone o store)

@@ -19,12 +19,14 @@ use Rattle.cg_graph.specs.Store.{Store, Node, IsLive, entries_of, entries_in}
 use Rattle.cg_graph.specs.Changes.{rewritten, with_entries}
 use Rattle.cg_graph.proofs.Maps.{total-remove, get-remove_other}
 use Rattle.cg_arena.specs.Nodes.{ArenaNode, Nodes, counted_up}
+use Rattle.cg_heap.proofs.HoldLemmas.{outside-rewritten}
+use Rattle.cg_heap.proofs.ReferenceLemmas.{occurrences-append, push-item, occurrences-le, occurrences-one, one_if}
 use Rattle.cg_heap.specs.Boxes.{HasBody, entries_in_box, spare_in_box, boxes_with_body}
 use Rattle.cg_heap.specs.Keeps.{Keeps, Shape, store_of, one, IsSaved, IsGarbage, IsWellMade}
 use Rattle.cg_heap.proofs.Stands.{Closed, closed, shape-up, seat-up, up-counts}
-use Rattle.cg_heap.proofs.Room.{live-node, occurrences-le, occurrences-one, one_if}
-use Rattle.cg_heap.proofs.Rewrites.{node_seated, object-of, rewritten-same, shape-written, spare-written, inner-written, ones-written, well-written, sizes-written, outside-written, entries-written}
-use Rattle.cg_heap.proofs.Takes.{held-live, occurrences-append, push-item}
+use Rattle.cg_heap.proofs.Room.{live-node}
+use Rattle.cg_heap.proofs.Rewrites.{node_seated, object-of, rewritten-same, shape-written, spare-written, inner-written, ones-written, well-written, sizes-written, entries-written}
+use Rattle.cg_heap.proofs.Takes.{held-live}
 use Rattle.cg_heap.proofs.Puts.{well-append}
 use Rattle.cg_heap.proofs.CallerLemmas.{kinds-rewritten, total-rewritten}
 use Rattle.cg_heap.proofs.RowsAndHolds.{kept}
@@ -126,7 +128,7 @@ module _ (all : List Bodies) (v : Nodes) (objects number : ℕ) (store : Store) 
                 inner-written store 1 x at es s,
                 was,
                 push-item s (entries_of store 1) (val.Ref o),
-                outside-written store 1 x at es s,
+                outside-rewritten 1 es store s,
                 up-counts (o ∷ []) v.nodes s (λ has. elim (cases_eq s o) [
                   | inl same ↦ subst (λ k. IsSome (fin.get v.nodes k)) (sym same) (live-node all v.nodes objects number store ok o live)
                   | inr differs ↦

@@ -17,13 +17,13 @@ use Rattle.cg_graph.specs.Rows.{Row}
 use Rattle.cg_graph.specs.Store.{Store, Node, count_of, IsLive, HasCode, entries_of, entries_in}
 use Rattle.cg_graph.specs.Changes.{held, rewritten, gone, with_entries}
 use Rattle.cg_arena.specs.Nodes.{ArenaNode, Nodes, counted_up, with_room, without_node}
+use Rattle.cg_heap.proofs.ReferenceLemmas.{occurrences-append, references-remove, length-remove, last-remove, push-item, refs-are, reference-le, entry-le}
 use Rattle.cg_heap.specs.Boxes.{HasBody, entries_in_box, boxes_with_body, boxes_without, spare_in_box}
 use Rattle.cg_heap.specs.Keeps.{store_of, seat_in, IsWellMade, IsWellMadeAt, IsSaved}
 use Rattle.cg_heap.specs.Calls.{HasFewHolds, number_less, code_in, code_of, IsMutable, CanTake, CanPutIn, IsLiveValue, value_in, with_put}
 use Rattle.cg_heap.proofs.Stands.{Closed, closed}
-use Rattle.cg_heap.proofs.Room.{reference-le, entry-le}
 use Rattle.cg_heap.proofs.Rewrites.{object-of, node_seated}
-use Rattle.cg_heap.proofs.Takes.{keeps-taken, enough, occurrences-append, references-remove, length-remove, last-remove, push-item, refs-are}
+use Rattle.cg_heap.proofs.Takes.{keeps-taken, enough}
 use Rattle.cg_heap.proofs.Puts.{keeps-put, replaced-balance, replaced-were, replaced-length, added-put, added-balance, well-put, well-append, well-remove, well-last, All-remove}
 use Rattle.cg_heap.proofs.Moves.{same-place, keeps-gone, others}
 use Rattle.cg_heap.proofs.CountAll.{counted_twice}

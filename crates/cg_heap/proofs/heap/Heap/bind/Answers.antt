@@ -1,5 +1,5 @@
 use Rattle.std.proofs.Common.{Some}
-use Rattle.cg_heap.proofs.Takes.{refs-are}
+use Rattle.cg_heap.proofs.ReferenceLemmas.{refs-are}
 use Rattle.cg_heap.proofs.Calls.{stands, count_fits, live_value, after_name}
 use Rattle.cg_heap.proofs.heap.Heap.bind.Goals as goal
 
