@@ -7,7 +7,7 @@ use Rattle.std.specs.FinMap as fin
 use Rattle.std.specs.Coded.{Coded, code_by, coded×, coded_ℕ, coded_list, coded_bool, coded_option}
 use Rattle.cg_value.specs.declared.KindCode.{KindCode}
 use Rattle.cg_value.specs.declared.Place.{Place}
-use Rattle.cg_value.specs.declared.Place.TheVariants.{Untracked}
+use Rattle.cg_value.specs.declared.Place.TheVariants.{Untracked, Gen, Cand}
 use Rattle.cg_value.specs.contracts.KindCode as kind
 use Rattle.cg_value.specs.contracts.Place as where_it_is
 use Rattle.cg_graph.specs.Maps.{mapped, changed}
@@ -51,6 +51,13 @@ nodes_code =
 -- the generations are 0 to 2
 abbrev pub IsPlace : Place → Type 0
 IsPlace p = place_number p < 10
+
+-- The collector numbers the objects of a generation, which it is to look through, and the candidates. (Developer guide,
+-- "Identifying reference cycles": `gc_refs` counts while a generation is looked through. The rule is ours.)
+abbrev pub TakesNumber : Place → Type 0
+TakesNumber (Gen i) = Unit {0}
+TakesNumber Cand = Unit {0}
+TakesNumber place = ⊥
 
 -- there is a node with this serial
 abbrev pub HasNode : Nodes → ℕ → Type 0

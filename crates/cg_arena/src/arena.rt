@@ -117,7 +117,7 @@ fn remove_row(rows: &mut IndexMap<u64, usize>, serial: u64)
 }
 
 impl Arena {
-    ghost use Rattle.cg_arena.specs.Nodes.{HasNode, IsPlace, IsListed, count_of as count_at, place_of as place_at, list_at, following, no_nodes, new_node, with_room, with_node, without_node, with_node_changed, node_finalized, node_numbered, counted_up, counted_down, with_node_moved, with_lists_merged};
+    ghost use Rattle.cg_arena.specs.Nodes.{HasNode, IsPlace, TakesNumber, IsListed, count_of as count_at, place_of as place_at, list_at, following, no_nodes, new_node, with_room, with_node, without_node, with_node_changed, node_finalized, node_numbered, counted_up, counted_down, with_node_moved, with_lists_merged};
     ghost use Rattle.cg_arena.specs.Slots.{node_of};
 
     /// No node. It takes no memory yet.
@@ -311,9 +311,10 @@ impl Arena {
         mark_finalized(&mut self.slots, at);
     }
 
-    /// Gives the node another collector's number.
+    /// Gives the node, which stands in a generation or among the candidates, another collector's number.
     pub fn set_gc(&mut self, serial: u64, number: u32)
-        requires { HasNode self.old serial }
+        requires has { HasNode self.old serial }
+        requires place { TakesNumber (place_at self.old serial) }
         ensures { self.new ≡ with_node_changed (node_numbered number) serial self.old }
     {
         let at = slot_of(&self.rows, serial);

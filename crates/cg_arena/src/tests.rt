@@ -158,8 +158,12 @@ fn finalize(arena: &mut Arena, serial: u64) {
 }
 
 fn renumber(arena: &mut Arena, serial: u64, number: u32) {
-    if arena.has(serial) {
-        arena.set_gc(serial, number);
+    if !arena.has(serial) {
+        return;
+    }
+    match arena.place_of(serial) {
+        Place::Gen(_) | Place::Cand => arena.set_gc(serial, number),
+        _ => {}
     }
 }
 
@@ -201,9 +205,9 @@ fn fields_are_kept_by_serial(rt: HostRuntime) -> Result<(), Fail> {
     put(&mut arena, 9, Place::Gen(1))?;
     assert_eq!(rt; marks_of(&arena, 7), Some((0, 0, false)));
     hold(&mut arena, 7);
+    renumber(&mut arena, 7, 5);
     shift(&mut arena, 7, Place::Pend);
     finalize(&mut arena, 7);
-    renumber(&mut arena, 7, 5);
     assert_eq!(rt; marks_of(&arena, 7), Some((1, 5, true)));
     assert_eq!(rt; parts_of(&arena, 7), Some((Some(3), 11, Place::Pend)));
     assert_eq!(rt; code_of(&arena, 7), Some(KindCode::Inst));

@@ -8,3 +8,4 @@ pub mod Places
 pub mod Rows
 pub mod Store
 pub mod Changes
+pub mod Reachable

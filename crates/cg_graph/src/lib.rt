@@ -2,8 +2,15 @@
 //!
 //! Nearly all of this crate is `specs/`. The machine rests on `Holdings` and `Reach`, which count references and
 //! follow them; the heap and the crates below it rest on `Maps`, `Places`, `Rows` and `Store`, which say what a heap
-//! stands for, so that heap and machine speak with the same words.
+//! stands for, so that heap and machine speak with the same words. `reach_plain` finds by a plain search what `Reach`
+//! says; tests compare with it.
 #![tactic(auto)]
+
+mod reach;
+#[cfg(test)]
+mod tests;
+
+pub use reach::reach_plain;
 
 /// A reference from one object to another, both by serial.
 #[derive(Clone, Copy, Debug, PartialEq, Eq, Drop)]

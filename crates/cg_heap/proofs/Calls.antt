@@ -146,7 +146,7 @@ module _ {all : List Bodies} {v : Nodes} {names : List (Option Val)} {last : ℕ
       known None l t = absurd (cc)
       known (Some n) l t = t
 
-  place_same : (o : ℕ) → arena_place_of v o ≡ place_of old o
+  pub place_same : (o : ℕ) → arena_place_of v o ≡ place_of old o
   place_same o = same-place all v objects number was h.keeps.0 o ∙ ap (λ s. place_of s o) h.is
 
   pub place_told : (o : ℕ) → IsLive old o → (p : Place) → IfSome (fin.get v.nodes o) (λ n. p ≡ n.place) → p ≡ place_of old o

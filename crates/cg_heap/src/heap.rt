@@ -11,6 +11,7 @@ ghost use Rattle.cg_heap.specs.Calls.{object_number, entry_number, IsSound};
 mod bindings;
 mod entries;
 mod holds;
+mod look;
 mod objects;
 mod places;
 mod weak;

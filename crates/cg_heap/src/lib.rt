@@ -6,14 +6,17 @@
 //!
 //! - `boxes`: the six boxes as one.
 //! - `counts`: the counts of the nodes.
-//! - `heap`: the type, and what it answers; `heap/holds`, `heap/bindings`, `heap/entries`, `heap/places` and
-//!   `heap/objects`: its other calls.
+//! - `heap`: the type, and what it answers; `heap/holds`, `heap/bindings`, `heap/entries`, `heap/places`,
+//!   `heap/objects` and `heap/look`: its other calls.
+//! - `steps`: the counter of looks at entries.
 #![tactic(auto)]
 
 mod boxes;
 mod counts;
 mod fault;
 mod heap;
+mod steps;
 
 pub use fault::HeapFault;
 pub use heap::Heap;
+pub use steps::Steps;

@@ -1,9 +1,9 @@
 //! Places, the finalized mark and the collector's number.
 ghost use Rattle.std.specs.Prelude.{◌≡◌, ◌≢◌};
 ghost use Rattle.cg_graph.specs.Places.{place_number};
-ghost use Rattle.cg_graph.specs.Store.{IsLive};
+ghost use Rattle.cg_graph.specs.Store.{IsLive, place_of as place_at};
 ghost use Rattle.cg_graph.specs.Changes.{moved};
-ghost use Rattle.cg_arena.specs.Nodes.{IsPlace};
+ghost use Rattle.cg_arena.specs.Nodes.{IsPlace, TakesNumber};
 ghost use Rattle.cg_heap.specs.Calls.{merged, marked, with_number, with_node};
 
 use super::Heap;
@@ -39,9 +39,10 @@ impl<B: Kind> Heap<B> {
         self.arena.set_finalized(object);
     }
 
-    /// Gives the object another collector's number.
+    /// Gives the object, which stands in a generation or among the candidates, another collector's number.
     pub fn set_gc(&mut self, object: u64, number: u32)
-        requires { IsLive self.old object }
+        requires live { IsLive self.old object }
+        requires place { TakesNumber (place_at self.old object) }
         ensures { self.new ≡ with_node (with_number number) object self.old }
     {
         self.arena.set_gc(object, number);

@@ -7,7 +7,7 @@ use Rattle.cg_arena.proofs.Sound.{row_there, slot_there, the_slot, field_sound, 
 use Rattle.cg_arena.proofs.arena.Arena.set_gc.Goals as goal
 
 pub slot_of-at-requires : goal.slot_of-at-requires
-slot_of-at-requires c = row_there c.self.inside.slots c.self.inside.ends c.self.inside.rows.entries (spare c.self.inside.rows) c.args.self.now c.self.view_is c.args.serial c.requires
+slot_of-at-requires c = row_there c.self.inside.slots c.self.inside.ends c.self.inside.rows.entries (spare c.self.inside.rows) c.args.self.now c.self.view_is c.args.serial c.requires.has
 
 pub invariant_of-self : goal.invariant_of-self
 invariant_of-self c =
