@@ -114,7 +114,7 @@ passed : (b : Bool) (weaks : List ℕ) (weak : ℕ) (rest : List ℕ) → (if b 
 passed true weaks weak rest e = e
 passed false weaks weak rest e = cc
 
-refers_first : (test : Object → Bool) (objects : List Object) (o weak : ℕ) (weaks : List ℕ) → weak_references_if test objects o ≡ weak ∷ weaks → (y : Object) × Includes objects y × (y.serial ≡ weak) × (is_some y.referent ≡ true)
+pub refers_first : (test : Object → Bool) (objects : List Object) (o weak : ℕ) (weaks : List ℕ) → weak_references_if test objects o ≡ weak ∷ weaks → (y : Object) × Includes objects y × (y.serial ≡ weak) × (is_some y.referent ≡ true)
 refers_first test objects o weak weaks e =
     let all = passed (unwrap_or (option_map test (object_at objects o)) false) (weak_references objects o) weak weaks e in
     let m : Includes (reverse (serials (filter (is_reference_to o) objects))) weak = subst (λ ys. Includes ys weak) (sym all) (inl refl) in

@@ -1,5 +1,5 @@
 -- How far a command makes the world grow.
-use Rattle.std.proofs.Common.{◌≡◌, refl, ap, ℕ, suc, ◌+◌, ◌≤◌, Bool, true, false, cond, not, ◌&&◌, inl, inr, List, [], ◌∷◌, ◌++◌, map, length, length-append, Option, Some, None, Result, Ok, Err, arith, option_to_list, take, drop, length-drop}
+use Rattle.std.proofs.Common.{◌≡◌, refl, ap, ℕ, suc, ◌+◌, ◌≤◌, Bool, true, false, not, ◌&&◌, inl, inr, List, [], ◌∷◌, ◌++◌, map, length, length-append, Option, Some, None, Result, Ok, Err, arith, option_to_list, take, drop, length-drop}
 use Rattle.std.specs.Prelude.{◌==◌, ◌||◌, nat_le, if◌then◌else◌, is_some, ok_or, option_and_then, slice_set, slice_get, remove}
 use Rattle.std.proofs.lemmas.List.{length-set, length-take}
 use Rattle.std.proofs.lemmas.Bool.{eq-eqb, ne_eqb, leb-true}
@@ -27,6 +27,7 @@ use Rattle.cg_machine.proofs.Measure.{entries_in, referents_in, size_of}
 use Rattle.cg_machine.proofs.Fading.{Same, map_stays, if_same}
 use Rattle.cg_machine.proofs.FallsDeaths.{references_two}
 use Rattle.cg_machine.proofs.CommandLaws.{Each, checked}
+use Rattle.cg_machine.proofs.Lookups.{found_at, serial_from}
 
 pub record Grows (w after : World) (given_up : List ℕ) : Type 0 where
   pub size : size_of after.objects ≤ size_of w.objects + 1
@@ -46,14 +47,6 @@ checked_is P (Ok x) f h = h x refl
 checked_is P (Err e) f h = tt
 
 -- the object that a command works on is there
-member_of : (objects : List Object) (o : ℕ) (x : Object) → object_at objects o ≡ Some x → Includes objects x
-member_of [] o x e = let no : None ≡ Some x = e in cc
-member_of (y ∷ objects) o x e = go (y.serial == o) e (λ k. member_of objects o x k)
-  where
-    go : (b : Bool) → cond b (Some y) (object_at objects o) ≡ Some x → (object_at objects o ≡ Some x → Includes objects x) → Includes (y ∷ objects) x
-    go true k ih = let same : y ≡ x = cc in inl same
-    go false k ih = inr (ih k)
-
 passed : (test : Object → Bool) (refusal : ℕ) (b : Bool) (y x : Object) → (if b then Ok y else Err refusal) ≡ Ok x → y ≡ x
 passed test refusal true y x e = cc
 passed test refusal false y x e = absurd (let no : Err refusal ≡ Ok x = e in cc)
@@ -65,17 +58,12 @@ some_of test refusal (Some y) x e = ap Some (passed test refusal (test y) y x e)
 
 found : (w : World) (m : Option ℕ) (x : Object) → option_and_then (object_at w.objects) m ≡ Some x → Includes w.objects x
 found w None x e = absurd (let no : None ≡ Some x = e in cc)
-found w (Some o) x e = member_of w.objects o x e
+found w (Some o) x e = (found_at w.objects o x e).0
 
 object_member : (w : World) (test : Object → Bool) (refusal : ℕ) (v : Val) (x : Object) → object w test refusal v ≡ Ok x → Includes w.objects x
 object_member w test refusal v x e = found w (reference_in v) x (some_of test refusal (object_of w v) x e)
 
 -- its entries change
-serial_within : (low high : ℕ) (objects : List Object) (x : Object) → Rises low high objects → Includes objects x → low ≤ x.serial
-serial_within low high [] x r m = absurd m
-serial_within low high (y ∷ objects) x r (inl e) = let same : y.serial ≡ x.serial = ap (λ (z : Object). z.serial) e in omega (arith, r.0, same)
-serial_within low high (y ∷ objects) x r (inr m) = omega (arith, r.0, serial_within (suc y.serial) high objects x r.1 m)
-
 changed_entries : (f : Object → Object) (low high : ℕ) (objects : List Object) (x : Object) → Rises low high objects → Includes objects x → entries_in (change f x.serial objects) + length x.entries ≡ entries_in objects + length (f x).entries
 changed_entries f low high [] x r m = absurd m
 changed_entries f low high (y ∷ objects) x r (inl e) =
@@ -85,7 +73,7 @@ changed_entries f low high (y ∷ objects) x r (inl e) =
     let there : length (f y).entries ≡ length (f x).entries = ap (λ (z : Object). length (f z).entries) e in
     rw (eq-eqb y.serial x.serial same) (omega (arith, rest, here, there))
 changed_entries f low high (y ∷ objects) x r (inr m) =
-    let above = serial_within (suc y.serial) high objects x r.1 m in
+    let above = serial_from (suc y.serial) high objects x r.1 m in
     rw (ne_eqb y.serial x.serial (λ e. omega (arith, e, above))) (omega (arith, changed_entries f (suc y.serial) high objects x r.1 m))
 
 sets : (w : World) (f : Object → Object) → Same f → (x : Object) (given_up : List ℕ) → Rises 1 w.next_serial w.objects → Includes w.objects x → length (f x).entries ≤ length x.entries + 1 → length given_up ≤ 2 → Grows w (with_change f x.serial w) given_up

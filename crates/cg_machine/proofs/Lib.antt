@@ -18,3 +18,12 @@ pub mod FallsCommands
 pub mod Number
 pub mod Ending
 pub mod Fronts
+pub mod Forgotten
+pub mod Unheld
+pub mod Releasing
+pub mod Lookups
+pub mod DyingCalm
+pub mod CollectCalm
+pub mod CommandRefs
+pub mod CommandCalm
+pub mod RunsCalm

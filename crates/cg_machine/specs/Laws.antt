@@ -1,4 +1,4 @@
--- What holds in every run. The first two are contracts of functions without a body; the others are stated, and their proofs
+-- What holds in every run. The first three are contracts of functions without a body; the others are stated, and their proofs
 -- are to come. (Ours, after what PEP 442 and the developer guide promise.)
 use Rattle.cg_machine.specs.Represents.{Underway}
 use Rattle.cg_machine.specs.Lines.{line, text_of}

@@ -1,5 +1,5 @@
 //! What holds in every run of the machine. Each law is the contract of a function that does nothing.
-ghost use Rattle.cg_machine.specs.Laws.{NoRunIsStuck, FrontsBeginWholeTexts};
+ghost use Rattle.cg_machine.specs.Laws.{DyingIsUnheld, NoRunIsStuck, FrontsBeginWholeTexts};
 
 /// No run is stuck: each is the beginning of a whole run, whatever choices it took.
 pub fn no_run_is_stuck()
@@ -9,4 +9,9 @@ pub fn no_run_is_stuck()
 /// What a run has printed is how the text of a whole run begins, also where a step has printed its first lines alone.
 pub fn fronts_begin_whole_texts()
     ensures { FrontsBeginWholeTexts }
+{}
+
+/// In every world of a run a dying object is held by nothing, or by its own death while a frame of its own runs.
+pub fn dying_is_unheld()
+    ensures { DyingIsUnheld }
 {}

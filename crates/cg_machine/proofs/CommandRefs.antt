@@ -1,0 +1,247 @@
+-- The references that a command works with: what its operands stand for, and what lists of entries and names hold after it.
+use Rattle.std.proofs.Common.{◌≡◌, ◌≢◌, refl, sym, ◌∙◌, ap, subst, ℕ, zero, suc, Bool, true, false, inl, List, [], ◌∷◌, ◌++◌, map, Option, Some, None, Result, Ok, Err, take, drop}
+use Rattle.std.specs.Prelude.{if◌then◌else◌, flat_map, slice_get, slice_set, remove, ok_or, option_to_list, option_map, option_and_then}
+use Rattle.cg_value.specs.declared.Entry.{Entry}
+use Rattle.cg_value.specs.declared.Val.{Val}
+use Rattle.cg_value.specs.declared.Val.TheVariants.{None as Nothing, Int, Str, Ref}
+use Rattle.cg_script.specs.declared.Operand.{Operand}
+use Rattle.cg_script.specs.declared.Operand.TheVariants.{None as NoneWord, Int as IntWord, Str as StrWord, Name, SelfLocal, WeakLocal, Cell, Garbage}
+use Rattle.cg_graph.specs.Member.{Includes}
+use Rattle.cg_graph.specs.Value.{references, references_of_value, entry_references, reference_in, item, same_value, value_at, put, without_key, entry_at}
+use Rattle.cg_graph.specs.Object.{Object, object_at, entries_of}
+use Rattle.cg_graph.specs.Holdings.{name_holdings}
+use Rattle.cg_graph.proofs.Members.{either, Includes-append_left, Includes-append_right, Includes-append_cases}
+use Rattle.cg_machine.specs.declared.event.FrameSort.{FrameSort}
+use Rattle.cg_machine.specs.declared.event.FrameSort.TheVariants.{Del, Legacy, Callback, Call}
+use Rattle.cg_machine.specs.World.{World, Activity, Framed, Frame}
+use Rattle.cg_machine.specs.Holdings.{holds}
+use Rattle.cg_machine.specs.Refusals.{◌>>=◌}
+use Rattle.cg_machine.specs.Operands.{frame_on, self_in, weak_in, value_of, value, values, object_of, object, tested}
+use Rattle.cg_machine.proofs.CommandLaws.{Each}
+use Rattle.cg_machine.proofs.Forgotten.{Forgotten, Mortal}
+use Rattle.cg_machine.proofs.Unheld.{IsLocalHeld, AreOver}
+use Rattle.cg_machine.proofs.Lookups.{found_at, slice_get_member, references_of_member, references_take, references-append, entries_free}
+
+-- entries hold nothing of o, and a value does not refer to it
+abbrev pub HoldNone : ℕ → List Entry → Type 0
+HoldNone o entries = ¬ Includes (references entries) o
+
+abbrev pub IsNotTo : ℕ → Val → Type 0
+IsNotTo o v = reference_in v ≢ Some o
+
+pub option_free : (m : Option ℕ) (o : ℕ) → m ≢ Some o → ¬ Includes (option_to_list m) o
+option_free None o h k = k
+option_free (Some p) o h k = either k (λ e. h (ap (λ q. Some q) e)) (λ n. n)
+
+pub option_held : (m : Option ℕ) (o : ℕ) → m ≡ Some o → Includes (option_to_list m) o
+option_held m o e = subst (λ n. Includes (option_to_list n) o) (sym e) (inl refl)
+
+pub entry_free : (e : Entry) (o : ℕ) → IsNotTo o e.val → IsNotTo o e.key → ¬ Includes (entry_references e) o
+entry_free e o h k m = either (Includes-append_cases (option_to_list (reference_in e.val)) (option_to_list (reference_in e.key)) o m) (option_free (reference_in e.val) o h) (option_free (reference_in e.key) o k)
+
+pub entry_val : (e : Entry) (o : ℕ) → ¬ Includes (entry_references e) o → IsNotTo o e.val
+entry_val e o h k = h (Includes-append_left (option_to_list (reference_in e.val)) (option_to_list (reference_in e.key)) o (option_held (reference_in e.val) o k))
+
+entry_key : (e : Entry) (o : ℕ) → ¬ Includes (entry_references e) o → IsNotTo o e.key
+entry_key e o h k = h (Includes-append_right (option_to_list (reference_in e.val)) (option_to_list (reference_in e.key)) o (option_held (reference_in e.key) o k))
+
+nothing_free : (o : ℕ) → IsNotTo o Nothing
+nothing_free o e = let no : None ≡ Some o = e in cc
+
+pub item_free : (v : Val) (o : ℕ) → IsNotTo o v → ¬ Includes (entry_references (item v)) o
+item_free v o h = entry_free (item v) o h (nothing_free o)
+
+pub cons_free : (e : Entry) (entries : List Entry) (o : ℕ) → ¬ Includes (entry_references e) o → HoldNone o entries → HoldNone o (e ∷ entries)
+cons_free e entries o h k m = either (Includes-append_cases (entry_references e) (references entries) o m) h k
+
+pub head_free : (e : Entry) (entries : List Entry) (o : ℕ) → HoldNone o (e ∷ entries) → ¬ Includes (entry_references e) o
+head_free e entries o h m = h (Includes-append_left (entry_references e) (references entries) o m)
+
+pub tail_free : (e : Entry) (entries : List Entry) (o : ℕ) → HoldNone o (e ∷ entries) → HoldNone o entries
+tail_free e entries o h m = h (Includes-append_right (entry_references e) (references entries) o m)
+
+-- lists of entries
+pub append_free : (entries : List Entry) (v : Val) (o : ℕ) → HoldNone o entries → IsNotTo o v → HoldNone o (entries ++ item v ∷ [])
+append_free entries v o h k m = either (references-append entries (item v ∷ []) o m) h (cons_free (item v) [] o (item_free v o k) (λ n. n))
+
+pub got_free : (entries : List Entry) (i o : ℕ) (e : Entry) → slice_get entries i ≡ Some e → HoldNone o entries → ¬ Includes (entry_references e) o
+got_free entries i o e at h m = h (references_of_member entries e o (slice_get_member entries i e at) m)
+
+pub set_free : (entries : List Entry) (i : ℕ) (e : Entry) (o : ℕ) → HoldNone o entries → ¬ Includes (entry_references e) o → HoldNone o (slice_set entries i e)
+set_free [] i e o h k = h
+set_free (x ∷ entries) zero e o h k = cons_free e entries o k (tail_free x entries o h)
+set_free (x ∷ entries) (suc i) e o h k = cons_free x (slice_set entries i e) o (head_free x entries o h) (set_free entries i e o (tail_free x entries o h) k)
+
+drop_free : (i : ℕ) (entries : List Entry) (o : ℕ) → HoldNone o entries → HoldNone o (drop i entries)
+drop_free zero entries o h = h
+drop_free (suc i) [] o h = h
+drop_free (suc i) (x ∷ entries) o h = drop_free i entries o (tail_free x entries o h)
+
+pub removed_free : (entries : List Entry) (i o : ℕ) → HoldNone o entries → HoldNone o (remove entries i)
+removed_free entries i o h m = either (references-append (take i entries) (drop (suc i) entries) o m) (λ k. h (references_take i entries o k)) (drop_free (suc i) entries o h)
+
+pub put_free : (entries : List Entry) (key v : Val) (o : ℕ) → HoldNone o entries → IsNotTo o key → IsNotTo o v → HoldNone o (put entries key v)
+put_free [] key v o h k n = cons_free (record { key = key; val = v }) [] o (entry_free (record { key = key; val = v }) o n k) h
+put_free (e ∷ entries) key v o h k n = go (same_value e.key key) (put_free entries key v o (tail_free e entries o h) k n)
+  where
+    go : (b : Bool) → HoldNone o (put entries key v) → HoldNone o (if b then record { key = e.key; val = v } ∷ entries else e ∷ put entries key v)
+    go true rest = cons_free (record { key = e.key; val = v }) entries o (entry_free (record { key = e.key; val = v }) o n (entry_key e o (head_free e entries o h))) (tail_free e entries o h)
+    go false rest = cons_free e (put entries key v) o (head_free e entries o h) rest
+
+pub without_key_free : (entries : List Entry) (key : Val) (o : ℕ) → HoldNone o entries → HoldNone o (without_key entries key)
+without_key_free [] key o h = h
+without_key_free (e ∷ entries) key o h = go (same_value e.key key) (without_key_free entries key o (tail_free e entries o h))
+  where
+    go : (b : Bool) → HoldNone o (without_key entries key) → HoldNone o (if b then entries else e ∷ without_key entries key)
+    go true rest = tail_free e entries o h
+    go false rest = cons_free e (without_key entries key) o (head_free e entries o h) rest
+
+pub value_at_free : (entries : List Entry) (key v : Val) (o : ℕ) → value_at entries key ≡ Some v → HoldNone o entries → IsNotTo o v
+value_at_free [] key v o e h = absurd (let no : None ≡ Some v = e in cc)
+value_at_free (x ∷ entries) key v o e h = go (same_value x.key key) e (λ k. value_at_free entries key v o k (tail_free x entries o h))
+  where
+    go : (b : Bool) → (if b then Some x.val else value_at entries key) ≡ Some v → (value_at entries key ≡ Some v → IsNotTo o v) → IsNotTo o v
+    go true k ih = let same : x.val ≡ v = cc in subst (IsNotTo o) same (entry_val x o (head_free x entries o h))
+    go false k ih = ih k
+
+pub entry_at_free : (entries : List Entry) (key : Val) (e : Entry) (o : ℕ) → entry_at entries key ≡ Some e → HoldNone o entries → ¬ Includes (entry_references e) o
+entry_at_free [] key e o at h = absurd (let no : None ≡ Some e = at in cc)
+entry_at_free (x ∷ entries) key e o at h = go (same_value x.key key) at (λ k. entry_at_free entries key e o k (tail_free x entries o h))
+  where
+    go : (b : Bool) → (if b then Some x else entry_at entries key) ≡ Some e → (entry_at entries key ≡ Some e → ¬ Includes (entry_references e) o) → ¬ Includes (entry_references e) o
+    go true k ih = let same : x ≡ e = cc in subst (λ (z : Entry). ¬ Includes (entry_references z) o) same (head_free x entries o h)
+    go false k ih = ih k
+
+pub old_value_free : (entries : List Entry) (key : Val) (o : ℕ) → HoldNone o entries → ¬ Includes (references_of_value (value_at entries key)) o
+old_value_free entries key o h = go (value_at entries key) refl
+  where
+    go : (m : Option Val) → value_at entries key ≡ m → ¬ Includes (references_of_value m) o
+    go None e = λ k. k
+    go (Some v) e = option_free (reference_in v) o (value_at_free entries key v o e h)
+
+-- names
+pub name_free : (names : List (Option Val)) (x o : ℕ) → ¬ Includes (name_holdings names) o → ¬ Includes (references_of_value (option_and_then (λ v. v) (slice_get names x))) o
+name_free [] x o h k = k
+name_free (n ∷ names) zero o h k = h (Includes-append_left (references_of_value n) (name_holdings names) o k)
+name_free (n ∷ names) (suc x) o h k = name_free names x o (λ m. h (Includes-append_right (references_of_value n) (name_holdings names) o m)) k
+
+pub bound_free : (names : List (Option Val)) (x o : ℕ) (v : Option Val) → ¬ Includes (references_of_value v) o → ¬ Includes (name_holdings names) o → ¬ Includes (name_holdings (slice_set names x v)) o
+bound_free [] x o v free h k = h k
+bound_free (n ∷ names) zero o v free h k = either (Includes-append_cases (references_of_value v) (name_holdings names) o k) free (λ m. h (Includes-append_right (references_of_value n) (name_holdings names) o m))
+bound_free (n ∷ names) (suc x) o v free h k =
+    either (Includes-append_cases (references_of_value n) (name_holdings (slice_set names x v)) o k) (λ m. h (Includes-append_left (references_of_value n) (name_holdings names) o m))
+    (bound_free names x o v free (λ m. h (Includes-append_right (references_of_value n) (name_holdings names) o m)))
+
+-- checks in order, where each result has a property
+pub each_then : {A B : Type 0} (Q : A → Type 0) (P : B → Type 0) (m : Result A ℕ) (f : A → Result B ℕ) → Each Q m → ((x : A) → Q x → Each P (f x)) → Each P (m >>= f)
+unfolding ◌>>=◌
+each_then Q P (Ok x) f q h = h x q
+each_then Q P (Err e) f q h = tt
+
+pub each_some : {A : Type 0} (m : Option A) (refusal : ℕ) → Each (λ x. m ≡ Some x) (ok_or m refusal)
+each_some None refusal = tt
+each_some (Some x) refusal = refl
+
+-- the operands of a command
+module _ (w : World) (over : AreOver w.stack) where
+  -- a value refers to no object that is forgotten
+  abbrev pub IsKnown : Val → Type 0
+  IsKnown v = (o : ℕ) → Mortal w.objects o → Forgotten w o → IsNotTo o v
+
+  same_known : (u v : Val) → Some u ≡ Some v → IsKnown u → IsKnown v
+  same_known u v e h = let same : u ≡ v = cc in subst IsKnown same h
+
+  none_known : (v : Val) → None ≡ Some v → IsKnown v
+  none_known v e = absurd (let no : None ≡ Some v = e in cc)
+
+  name_known : (v : Val) (x : ℕ) → option_and_then (λ v. v) (slice_get w.names x) ≡ Some v → IsKnown v
+  name_known v x e o l f k = name_free w.names x o f.unheld.names (subst (λ m. Includes (references_of_value m) o) (sym e) (option_held (reference_in v) o k))
+
+  self_case : (sort : FrameSort) (subject : ℕ) (below : List Activity) (o : ℕ) → IsLocalHeld sort subject below → self_in sort subject ≡ Some o → Includes (flat_map holds below) o
+  self_case Del subject below o h e = let same : subject ≡ o = cc in subst (Includes (flat_map holds below)) same h
+  self_case Legacy subject below o h e = let same : subject ≡ o = cc in subst (Includes (flat_map holds below)) same h
+  self_case Callback subject below o h e = absurd (let no : None ≡ Some o = e in cc)
+  self_case Call subject below o h e = absurd (let no : None ≡ Some o = e in cc)
+
+  weak_case : (sort : FrameSort) (subject : ℕ) (below : List Activity) (o : ℕ) → IsLocalHeld sort subject below → weak_in sort subject ≡ Some o → Includes (flat_map holds below) o
+  weak_case Del subject below o h e = absurd (let no : None ≡ Some o = e in cc)
+  weak_case Legacy subject below o h e = absurd (let no : None ≡ Some o = e in cc)
+  weak_case Callback subject below o h e = let same : subject ≡ o = cc in subst (Includes (flat_map holds below)) same h
+  weak_case Call subject below o h e = absurd (let no : None ≡ Some o = e in cc)
+
+  self_held : (stack : List Activity) (o : ℕ) → AreOver stack → option_and_then (λ f. self_in f.sort f.subject) (frame_on stack) ≡ Some o → Includes (flat_map holds stack) o
+  self_held [] o h e = absurd (let no : None ≡ Some o = e in cc)
+  self_held (Framed f ∷ below) o h e = Includes-append_right (holds (Framed f)) (flat_map holds below) o (self_case f.sort f.subject below o h.0 e)
+  self_held (a ∷ below) o h e = absurd (let no : None ≡ Some o = e in cc)
+
+  weak_held : (stack : List Activity) (o : ℕ) → AreOver stack → option_and_then (λ f. weak_in f.sort f.subject) (frame_on stack) ≡ Some o → Includes (flat_map holds stack) o
+  weak_held [] o h e = absurd (let no : None ≡ Some o = e in cc)
+  weak_held (Framed f ∷ below) o h e = Includes-append_right (holds (Framed f)) (flat_map holds below) o (weak_case f.sort f.subject below o h.0 e)
+  weak_held (a ∷ below) o h e = absurd (let no : None ≡ Some o = e in cc)
+
+  local_known : (m : Option ℕ) (v : Val) → ((o : ℕ) → m ≡ Some o → Includes (flat_map holds w.stack) o) → option_map Ref m ≡ Some v → IsKnown v
+  local_known None v held e = none_known v e
+  local_known (Some s) v held e = same_known (Ref s) v e (λ o l f k. f.unheld.stack (held o k))
+
+  entry_known : (s i : ℕ) (v : Val) → option_map (λ (e : Entry). e.val) (slice_get (entries_of w.objects s) i) ≡ Some v → IsKnown v
+  entry_known s i v e = go (slice_get (entries_of w.objects s) i) refl e
+    where
+      go : (m : Option Entry) → slice_get (entries_of w.objects s) i ≡ m → option_map (λ (e : Entry). e.val) m ≡ Some v → IsKnown v
+      go None at k = none_known v k
+      go (Some entry) at k = same_known entry.val v k (λ o l f. entry_val entry o (got_free (entries_of w.objects s) i o entry at (entries_free w.objects s o f.unheld.quiet)))
+
+  function_known : (m : Option ℕ) (i : ℕ) (v : Val) → option_and_then (λ o. option_map (λ (e : Entry). e.val) (slice_get (entries_of w.objects o) i)) m ≡ Some v → IsKnown v
+  function_known None i v e = none_known v e
+  function_known (Some s) i v e = entry_known s i v e
+
+  cell_known : (m : Option Frame) (i : ℕ) (v : Val) → option_and_then (λ (f : Frame). option_and_then (λ o. option_map (λ (e : Entry). e.val) (slice_get (entries_of w.objects o) i)) f.function) m ≡ Some v → IsKnown v
+  cell_known None i v e = none_known v e
+  cell_known (Some f) i v e = function_known f.function i v e
+
+  operand_known : (operand : Operand) (v : Val) → value_of w operand ≡ Some v → IsKnown v
+  operand_known NoneWord v e = same_known Nothing v e (λ o l f k. let no : None ≡ Some o = k in cc)
+  operand_known (IntWord n) v e = same_known (Int n) v e (λ o l f k. let no : None ≡ Some o = k in cc)
+  operand_known (StrWord s) v e = same_known (Str s) v e (λ o l f k. let no : None ≡ Some o = k in cc)
+  operand_known (Name x) v e = name_known v x e
+  operand_known SelfLocal v e = local_known (option_and_then (λ f. self_in f.sort f.subject) (frame_on w.stack)) v (λ o k. self_held w.stack o over k) e
+  operand_known WeakLocal v e = local_known (option_and_then (λ f. weak_in f.sort f.subject) (frame_on w.stack)) v (λ o k. weak_held w.stack o over k) e
+  operand_known (Cell i) v e = cell_known (frame_on w.stack) i v e
+  operand_known Garbage v e = same_known (Ref 1) v e (λ o l f k. f.unheld.root (let same : 1 ≡ o = cc in sym same))
+
+  pub value_known : (operand : Operand) → Each IsKnown (value w operand)
+  value_known operand = go (value_of w operand) refl
+    where
+      go : (m : Option Val) → value_of w operand ≡ m → Each IsKnown (ok_or m 1)
+      go None e = tt
+      go (Some v) e = operand_known operand v e
+
+  abbrev pub AreKnown : List Val → Type 0
+  AreKnown vs = (o : ℕ) → Mortal w.objects o → Forgotten w o → HoldNone o (map item vs)
+
+  pub values_known : (operands : List Operand) → Each AreKnown (values w operands)
+  values_known [] = λ o l f k. k
+  values_known (operand ∷ operands) =
+      let rest = values_known operands in
+      each_then IsKnown AreKnown (value w operand) _ (value_known operand) (λ v known. each_then AreKnown AreKnown (values w operands) _ rest (λ vs are o l f. cons_free (item v) (map item vs) o (item_free v o (known o l f)) (are o l f)))
+
+  -- the object of a value
+  pub record IsFound (test : Object → Bool) (x : Object) : Type 0 where
+    pub member : Includes w.objects x
+    pub passes : test x ≡ true
+    pub known : (o : ℕ) → Mortal w.objects o → Forgotten w o → x.serial ≢ o
+
+  tested_found : (test : Object → Bool) (refusal : ℕ) (x : Object) → Includes w.objects x → ((o : ℕ) → Mortal w.objects o → Forgotten w o → x.serial ≢ o) → Each (IsFound test) (tested test refusal x)
+  tested_found test refusal x m known = go (test x) refl
+    where
+      go : (b : Bool) → test x ≡ b → Each (IsFound test) (if b then Ok x else Err refusal)
+      go true e = record { member = m; passes = e; known = known }
+      go false e = tt
+
+  pub object_found : (test : Object → Bool) (refusal : ℕ) (v : Val) → IsKnown v → Each (IsFound test) (object w test refusal v)
+  object_found test refusal v known = each_then (λ x. object_of w v ≡ Some x) (IsFound test) (ok_or (object_of w v) refusal) _ (each_some (object_of w v) refusal) (λ x e. go (reference_in v) refl x e)
+    where
+      go : (m : Option ℕ) → reference_in v ≡ m → (x : Object) → option_and_then (object_at w.objects) m ≡ Some x → Each (IsFound test) (tested test refusal x)
+      go None at x e = absurd (let no : None ≡ Some x = e in cc)
+      go (Some s) at x e =
+          let f = found_at w.objects s x e in
+          tested_found test refusal x f.0 (λ o l g same. known o l g (at ∙ ap (λ q. Some q) (sym f.1 ∙ same)))
