@@ -27,3 +27,8 @@ pub mod CollectCalm
 pub mod CommandRefs
 pub mod CommandCalm
 pub mod RunsCalm
+pub mod Orderly
+pub mod DyingOrderly
+pub mod Condemned
+pub mod CollectOrderly
+pub mod RunsOrderly
