@@ -27,7 +27,7 @@ use Rattle.cg_machine.specs.Operands.{is_dict, is_list, is_script_list, is_seque
 use Rattle.cg_machine.specs.Collect.{is_condemned}
 use Rattle.cg_machine.proofs.Serials.{Rises}
 use Rattle.cg_machine.proofs.Lookups.{same_object}
-use Rattle.cg_machine.specs.Laws.{HasFunction}
+use Rattle.cg_machine.specs.Laws.{HasFunction, IsOfCollection}
 use Rattle.cg_machine.proofs.DyingOrderly.{false_true}
 use Rattle.cg_machine.proofs.CommandLaws.{Each, checked}
 use Rattle.cg_machine.proofs.Forgotten.{IsQuiet, AreQuiet, Forgotten, Mortal, HasFinalizers, AreReferred, IsLater, later_refl, Alters, mortal_after, finalizers_after, change_alters, map_alters, place_later, map_quiet, test_quiet, entries_quiet, entries_alter, referred_after, still_forgotten, lives_within}
@@ -57,8 +57,8 @@ module _ (script : Script) (w : World) (rises : Rises 1 w.next_serial w.objects)
 
   -- where an object comes from: it was there, or it is new
   pub data Comes (y : Object) : Type 0 where
-    was_there : (x : Object) → Includes w.objects x → IsLater x y → (x.code ≡ Weak → y.entries ≡ x.entries) → (is_condemned y ≡ true → is_condemned x ≡ true) → Comes y
-    is_new : y.serial ≡ w.next_serial → is_condemned y ≡ false → ((r : ℕ) → y.referent ≡ Some r → y.code ≡ Weak) → (y.code ≡ Weak → (f : ℕ) → Includes (references y.entries) f → HasFunction w.objects f) → Comes y
+    was_there : (x : Object) → Includes w.objects x → IsLater x y → (y.entries ≡ x.entries) ⊎ (x.code ≢ Weak) × ((o : ℕ) → Forgotten w o → x.serial ≢ o) → (is_condemned y ≡ true → is_condemned x ≡ true) → (IsOfCollection y.place → x.place ≡ y.place) → Comes y
+    is_new : y.serial ≡ w.next_serial → is_condemned y ≡ false → ¬ IsOfCollection y.place → ((r : ℕ) → y.referent ≡ Some r → y.code ≡ Weak) → (y.code ≡ Weak → (f : ℕ) → Includes (references y.entries) f → HasFunction w.objects f) → Comes y
 
   -- what a command does to the objects, and to what is below it
   pub record Mild (after : World) (given_up : List ℕ) : Type 0 where
@@ -89,7 +89,7 @@ module _ (script : Script) (w : World) (rises : Rises 1 w.next_serial w.objects)
     };
     given = given;
     lasts = λ x m. (x, m, later_refl x);
-    comes = λ y m. was_there y m (later_refl y) (λ k. refl) (λ k. k);
+    comes = λ y m. was_there y m (later_refl y) (inl refl) (λ k. k) (λ k. refl);
   }
 
   numbers_mild : (numbers : Numbers) → Mild (record w { numbers = numbers }) []
@@ -115,20 +115,20 @@ module _ (script : Script) (w : World) (rises : Rises 1 w.next_serial w.objects)
   }
 
   -- the change of an object that is no weak reference
-  comes_changed : (f : Object → Object) (x : Object) → Includes w.objects x → x.code ≢ Weak → ((z : Object) → IsLater z (f z)) → ((z : Object) → is_condemned (f z) ≡ true → is_condemned z ≡ true) → (y : Object) → Includes (change f x.serial w.objects) y → Comes y
-  comes_changed f x m code later condemned y n =
+  comes_changed : (f : Object → Object) (x : Object) → Includes w.objects x → x.code ≢ Weak → ((o : ℕ) → Forgotten w o → x.serial ≢ o) → ((z : Object) → IsLater z (f z)) → ((z : Object) → is_condemned (f z) ≡ true → is_condemned z ≡ true) → ((z : Object) → IsOfCollection (f z).place → z.place ≡ (f z).place) → (y : Object) → Includes (change f x.serial w.objects) y → Comes y
+  comes_changed f x m code apart later condemned places y n =
       let z = Includes-map_cases (λ z. if z.serial == x.serial then f z else z) w.objects y n in
       subst Comes z.2 (one z.0 z.1 (z.0.serial == x.serial) refl)
     where
       one : (z : Object) → Includes w.objects z → (b : Bool) → (z.serial == x.serial) ≡ b → Comes (if b then f z else z)
       one z k true e =
           let same : z ≡ x = same_object 1 w.next_serial w.objects z x rises k m (eqb-true z.serial x.serial e) in
-          was_there z k (later z) (λ c. absurd (code (ap (λ (q : Object). q.code) (sym same) ∙ c))) (condemned z)
-      one z k false e = was_there z k (later_refl z) (λ c. refl) (λ c. c)
+          was_there z k (later z) (inr (λ c. code (ap (λ (q : Object). q.code) (sym same) ∙ c), λ o f i. apart o f (ap (λ (q : Object). q.serial) (sym same) ∙ i))) (condemned z) (places z)
+      one z k false e = was_there z k (later_refl z) (inl refl) (λ c. c) (λ c. refl)
 
-  sets_mild : (x : Object) (entries : List Entry) (given_up : List ℕ) → Includes w.objects x → x.code ≢ Weak → ((o : ℕ) → Forgotten w o → HoldNone o entries) → AreGiven given_up → Mild (with_change (with_entries entries) x.serial w) given_up
-  sets_mild x entries given_up m code free given = changes_mild (change (with_entries entries) x.serial w.objects) w.numbers given_up (entries_alter entries x.serial w.objects) (λ o f. entries_quiet o x.serial entries (free o f) w.objects f.unheld.quiet) given
-      (comes_changed (with_entries entries) x m code (λ z. record { serial = refl; code = refl; class = refl; referent = inl refl }) (λ z k. k))
+  sets_mild : (x : Object) (entries : List Entry) (given_up : List ℕ) → Includes w.objects x → x.code ≢ Weak → ((o : ℕ) → Forgotten w o → x.serial ≢ o) → ((o : ℕ) → Forgotten w o → HoldNone o entries) → AreGiven given_up → Mild (with_change (with_entries entries) x.serial w) given_up
+  sets_mild x entries given_up m code apart free given = changes_mild (change (with_entries entries) x.serial w.objects) w.numbers given_up (entries_alter entries x.serial w.objects) (λ o f. entries_quiet o x.serial entries (free o f) w.objects f.unheld.quiet) given
+      (comes_changed (with_entries entries) x m code apart (λ z. record { serial = refl; code = refl; class = refl; referent = inl refl }) (λ z k. k) (λ z k. refl))
 
   own_free : (x : Object) → Includes w.objects x → (o : ℕ) → Forgotten w o → HoldNone o x.entries
   own_free x m o f = (f.unheld.quiet x m).entries
@@ -153,6 +153,13 @@ module _ (script : Script) (w : World) (rises : Rises 1 w.next_serial w.objects)
       go true e = false_true e
       go false e = e
 
+  tracked_place : (key v : Val) (x : Object) → IsOfCollection (tracked_by w key v x).place → x.place ≡ (tracked_by w key v x).place
+  tracked_place key v x = go (is_dict x && not (is_tracked x) && (may_track w key || may_track w v))
+    where
+      go : (b : Bool) → IsOfCollection (if b then with_place (Gen 0) x else x).place → x.place ≡ (if b then with_place (Gen 0) x else x).place
+      go true k = absurd k
+      go false k = refl
+
   tracked_entries : (key v : Val) (x : Object) → (tracked_by w key v x).entries ≡ x.entries
   tracked_entries key v x = go (is_dict x && not (is_tracked x) && (may_track w key || may_track w v))
     where
@@ -168,13 +175,16 @@ module _ (script : Script) (w : World) (rises : Rises 1 w.next_serial w.objects)
         untracked = λ i. absurd (apart o f (sym (eqb-true y.serial x.serial e) ∙ sym (put_later y).serial ∙ i));
         refers_to_none = λ i. absurd (apart o f (sym (eqb-true y.serial x.serial e) ∙ sym (put_later y).serial ∙ i));
       }) w.objects f.unheld.quiet)
-      (λ o f. old_value_free x.entries key o (own_free x m o f)) (comes_changed put_in x m code put_later put_condemned))
+      (λ o f. old_value_free x.entries key o (own_free x m o f)) (comes_changed put_in x m code apart put_later put_condemned put_place))
     where
       put_in : Object → Object
       put_in y = tracked_by w key v (with_entries (put x.entries key v) y)
 
       put_later : (y : Object) → IsLater y (put_in y)
       put_later y = let t = tracked_later key v (with_entries (put x.entries key v) y) in record { serial = t.serial; code = t.code; class = t.class; referent = t.referent }
+
+      put_place : (y : Object) → IsOfCollection (put_in y).place → y.place ≡ (put_in y).place
+      put_place y = tracked_place key v (with_entries (put x.entries key v) y)
 
       put_condemned : (y : Object) → is_condemned (put_in y) ≡ true → is_condemned y ≡ true
       put_condemned y = tracked_condemned key v (with_entries (put x.entries key v) y)
@@ -202,7 +212,7 @@ module _ (script : Script) (w : World) (rises : Rises 1 w.next_serial w.objects)
       unreferred = λ y m e. either (old y m) (λ k. f.unreferred y k e) (λ i. (referent_is referent o refers (ap (λ (z : Object). z.referent) i ∙ e)).4 o f refl);
     };
     lasts = λ y m. (y, Includes-append_left w.objects (new ∷ []) y m, later_refl y);
-    comes = λ y m. either (old y m) (λ k. was_there y k (later_refl y) (λ c. refl) (λ c. c)) (λ i. subst Comes i (is_new refl (uncondemned kind) code functions));
+    comes = λ y m. either (old y m) (λ k. was_there y k (later_refl y) (inl refl) (λ c. c) (λ c. refl)) (λ i. subst Comes i (is_new refl (uncondemned kind) (apart_from kind) code functions));
     given = given_name x;
   }))
     where
@@ -223,6 +233,10 @@ module _ (script : Script) (w : World) (rises : Rises 1 w.next_serial w.objects)
           let within = lives_within 1 w.next_serial w.objects o rises l.lives in
           let same : w.next_serial ≡ o = ap (λ (z : Object). z.serial) i ∙ e in
           omega (arith, within.1, same)
+
+      apart_from : (k : KindCode) → ¬ IsOfCollection (first_place k)
+      apart_from Dict c = c
+      apart_from k c = c
 
       uncondemned : (k : KindCode) → is_condemned (with_place (first_place k) new) ≡ false
       uncondemned Dict = refl
@@ -264,10 +278,18 @@ module _ (script : Script) (w : World) (rises : Rises 1 w.next_serial w.objects)
   quit_mild (Str s) = numbers_mild w.numbers
   quit_mild (Ref o) = numbers_mild w.numbers
 
-  places_mild : (f : Place → Place) (numbers : Numbers) → f Untracked ≡ Untracked → ((p : Place) (x : Object) → is_condemned (with_place (f p) x) ≡ true → is_condemned (with_place p x) ≡ true) → Mild (record w { objects = replaced f w; numbers = numbers }) []
-  places_mild f numbers still condemned = changes_mild (replaced f w) numbers [] (map_alters (λ x. with_place (f x.place) x) (λ x. place_later (f x.place) x) w.objects)
+  places_mild : (f : Place → Place) (numbers : Numbers) → f Untracked ≡ Untracked → ((p : Place) (x : Object) → is_condemned (with_place (f p) x) ≡ true → is_condemned (with_place p x) ≡ true) → ((p : Place) → IsOfCollection (f p) → p ≡ f p) → Mild (record w { objects = replaced f w; numbers = numbers }) []
+  places_mild f numbers still condemned places = changes_mild (replaced f w) numbers [] (map_alters (λ x. with_place (f x.place) x) (λ x. place_later (f x.place) x) w.objects)
       (λ o g. map_quiet o (λ x. with_place (f x.place) x) (λ x k. record { entries = k.entries; untracked = λ i. ap f (k.untracked i) ∙ still; refers_to_none = k.refers_to_none }) w.objects g.unheld.quiet) (λ o g k. k)
-      (λ y m. let x = Includes-map_cases (λ x. with_place (f x.place) x) w.objects y m in subst Comes x.2 (was_there x.0 x.1 (place_later (f x.0.place) x.0) (λ c. refl) (condemned x.0.place x.0)))
+      (λ y m. let x = Includes-map_cases (λ x. with_place (f x.place) x) w.objects y m in subst Comes x.2 (was_there x.0 x.1 (place_later (f x.0.place) x.0) (inl refl) (condemned x.0.place x.0) (places x.0.place)))
+
+  frozen_place : (p : Place) → IsOfCollection (frozen p) → p ≡ frozen p
+  frozen_place (Gen i) c = absurd c
+  frozen_place p c = refl
+
+  unfrozen_place : (p : Place) → IsOfCollection (unfrozen p) → p ≡ unfrozen p
+  unfrozen_place Frozen c = absurd c
+  unfrozen_place p c = refl
 
   frozen_condemned : (p : Place) (x : Object) → is_condemned (with_place (frozen p) x) ≡ true → is_condemned (with_place p x) ≡ true
   frozen_condemned (Gen i) x e = false_true e
@@ -304,13 +326,13 @@ module _ (script : Script) (w : World) (rises : Rises 1 w.next_serial w.objects)
   effect_mild (MakeRef name target callback) = valued IsMild _ target (λ v known. valued IsMild _ callback (λ c known_c. is_found IsMild _ has_weak_references wrong_kind v known (λ x h. each_then IsCallback IsMild (callback_entries w c) _ (callback_mild c known_c) (λ entries k. makes_mild name Weak None entries (Some x.serial) k.free (x, h.member, refl, h.passes, h.known) (λ r e. refl) (λ e. k.functions)))))
   effect_mild (Bind name operand) = valued IsMild _ operand (λ v known. binds_mild name v known)
   effect_mild (Del name) = checked IsMild _ _ (λ v. names_mild (slice_set w.names name None) w.numbers (given_up_by w name) (λ o f. bound_free w.names name o None (λ k. k) f.unheld.names) (given_name name))
-  effect_mild (Append list operand) = valued IsMild _ list (λ t known_t. valued IsMild _ operand (λ v known. is_found IsMild _ is_script_list wrong_kind t known_t (λ x h. checked IsMild _ _ (λ _. sets_mild x (x.entries ++ item v ∷ []) [] h.member (script_list_code x h.passes) (λ o f. append_free x.entries v o (own_free x h.member o f) (known o f)) (λ o f k. k)))))
-  effect_mild (SetItem list index operand) = valued IsMild _ list (λ t known_t. valued IsMild _ operand (λ v known. is_found IsMild _ is_script_list wrong_kind t known_t (λ x h. checked IsMild _ _ (λ i. there IsMild _ (slice_get x.entries i) no_index (λ e at. sets_mild x (slice_set x.entries i (item v)) (entry_references e) h.member (script_list_code x h.passes) (λ o f. set_free x.entries i (item v) o (own_free x h.member o f) (item_free v o (known o f))) (got_given x i e h.member at))))))
-  effect_mild (DelItem list index) = valued IsMild _ list (λ t known_t. is_found IsMild _ is_list wrong_kind t known_t (λ x h. checked IsMild _ _ (λ i. there IsMild _ (slice_get x.entries i) no_index (λ e at. sets_mild x (remove x.entries i) (entry_references e) h.member (list_code x h.passes) (λ o f. removed_free x.entries i o (own_free x h.member o f)) (got_given x i e h.member at)))))
+  effect_mild (Append list operand) = valued IsMild _ list (λ t known_t. valued IsMild _ operand (λ v known. is_found IsMild _ is_script_list wrong_kind t known_t (λ x h. checked IsMild _ _ (λ _. sets_mild x (x.entries ++ item v ∷ []) [] h.member (script_list_code x h.passes) h.known (λ o f. append_free x.entries v o (own_free x h.member o f) (known o f)) (λ o f k. k)))))
+  effect_mild (SetItem list index operand) = valued IsMild _ list (λ t known_t. valued IsMild _ operand (λ v known. is_found IsMild _ is_script_list wrong_kind t known_t (λ x h. checked IsMild _ _ (λ i. there IsMild _ (slice_get x.entries i) no_index (λ e at. sets_mild x (slice_set x.entries i (item v)) (entry_references e) h.member (script_list_code x h.passes) h.known (λ o f. set_free x.entries i (item v) o (own_free x h.member o f) (item_free v o (known o f))) (got_given x i e h.member at))))))
+  effect_mild (DelItem list index) = valued IsMild _ list (λ t known_t. is_found IsMild _ is_list wrong_kind t known_t (λ x h. checked IsMild _ _ (λ i. there IsMild _ (slice_get x.entries i) no_index (λ e at. sets_mild x (remove x.entries i) (entry_references e) h.member (list_code x h.passes) h.known (λ o f. removed_free x.entries i o (own_free x h.member o f)) (got_given x i e h.member at)))))
   effect_mild (Put dict key operand) = valued IsMild _ dict (λ d known_d. valued IsMild _ key (λ k known_k. valued IsMild _ operand (λ v known. is_found IsMild _ is_dict wrong_kind d known_d (λ x h. checked IsMild _ _ (λ _. puts_mild x k v h.member (dict_code x h.passes) h.known known_k known)))))
-  effect_mild (Remove dict key) = valued IsMild _ dict (λ d known_d. valued IsMild _ key (λ k known_k. is_found IsMild _ is_dict wrong_kind d known_d (λ x h. checked IsMild _ _ (λ _. there IsMild _ (entry_at x.entries k) no_key (λ e at. sets_mild x (without_key x.entries k) (entry_references e) h.member (dict_code x h.passes) (λ o f. without_key_free x.entries k o (own_free x h.member o f)) (keyed_given x k e h.member at))))))
+  effect_mild (Remove dict key) = valued IsMild _ dict (λ d known_d. valued IsMild _ key (λ k known_k. is_found IsMild _ is_dict wrong_kind d known_d (λ x h. checked IsMild _ _ (λ _. there IsMild _ (entry_at x.entries k) no_key (λ e at. sets_mild x (without_key x.entries k) (entry_references e) h.member (dict_code x h.passes) h.known (λ o f. without_key_free x.entries k o (own_free x h.member o f)) (keyed_given x k e h.member at))))))
   effect_mild (SetAttr instance name operand) = valued IsMild _ instance (λ t known_t. valued IsMild _ operand (λ v known. is_found IsMild _ is_instance wrong_kind t known_t (λ x h. puts_mild x (Str name) v h.member (instance_code x h.passes) h.known (λ o f e. let no : None ≡ Some o = e in cc) known)))
-  effect_mild (DelAttr instance name) = valued IsMild _ instance (λ t known_t. is_found IsMild _ is_instance wrong_kind t known_t (λ x h. there IsMild _ (entry_at x.entries (Str name)) no_attribute (λ e at. sets_mild x (without_key x.entries (Str name)) (entry_references e) h.member (instance_code x h.passes) (λ o f. without_key_free x.entries (Str name) o (own_free x h.member o f)) (keyed_given x (Str name) e h.member at))))
+  effect_mild (DelAttr instance name) = valued IsMild _ instance (λ t known_t. is_found IsMild _ is_instance wrong_kind t known_t (λ x h. there IsMild _ (entry_at x.entries (Str name)) no_attribute (λ e at. sets_mild x (without_key x.entries (Str name)) (entry_references e) h.member (instance_code x h.passes) h.known (λ o f. without_key_free x.entries (Str name) o (own_free x h.member o f)) (keyed_given x (Str name) e h.member at))))
   effect_mild (Item name list index) = valued IsMild _ list (λ t known_t. is_found IsMild _ is_sequence wrong_kind t known_t (λ x h. checked IsMild _ _ (λ i. there IsMild _ (slice_get x.entries i) no_index (λ e at. binds_mild name e.val (λ o f. entry_val e o (got_given x i e h.member at o f))))))
   effect_mild (Get name dict key) = valued IsMild _ dict (λ d known_d. valued IsMild _ key (λ k known_k. is_found IsMild _ is_dict wrong_kind d known_d (λ x h. checked IsMild _ _ (λ _. there IsMild _ (value_at x.entries k) no_key (λ v at. binds_mild name v (λ o f. value_at_free x.entries k v o at (own_free x h.member o f)))))))
   effect_mild (Attr name instance attribute) = valued IsMild _ instance (λ t known_t. is_found IsMild _ is_instance wrong_kind t known_t (λ x h. there IsMild _ (value_at x.entries (Str attribute)) no_attribute (λ v at. binds_mild name v (λ o f. value_at_free x.entries (Str attribute) v o at (own_free x h.member o f)))))
@@ -322,8 +344,8 @@ module _ (script : Script) (w : World) (rises : Rises 1 w.next_serial w.objects)
   effect_mild Disable = numbers_mild _
   effect_mild (Threshold zero one two) = numbers_mild _
   effect_mild (Flags bits) = numbers_mild _
-  effect_mild Freeze = places_mild frozen _ refl frozen_condemned
-  effect_mild Unfreeze = places_mild unfrozen _ refl unfrozen_condemned
+  effect_mild Freeze = places_mild frozen _ refl frozen_condemned frozen_place
+  effect_mild Unfreeze = places_mild unfrozen _ refl unfrozen_condemned unfrozen_place
   effect_mild (Print operand) = checked IsMild _ _ (λ v. numbers_mild w.numbers)
   effect_mild (Refs operand) = checked IsMild _ _ (λ v. checked IsMild _ _ (λ x. numbers_mild w.numbers))
   effect_mild (Tracked operand) = checked IsMild _ _ (λ v. numbers_mild w.numbers)

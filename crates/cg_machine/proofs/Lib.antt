@@ -32,3 +32,7 @@ pub mod DyingOrderly
 pub mod Condemned
 pub mod CollectOrderly
 pub mod RunsOrderly
+pub mod Left
+pub mod LeftDeaths
+pub mod LeftCollections
+pub mod LeftRuns

@@ -8,10 +8,11 @@ use Rattle.cg_graph.specs.Member.{Includes, includes}
 use Rattle.cg_graph.specs.Value.{references}
 use Rattle.cg_graph.specs.Object.{Object, serials}
 use Rattle.cg_graph.specs.Holdings.{name_holdings, occurrences, graph_of, entry_holdings}
-use Rattle.cg_graph.proofs.Members.{either, Includes-of, includes-of, Includes-append_left, Includes-append_cases, Includes-map, Includes-map_cases}
+use Rattle.cg_graph.proofs.Members.{either, Includes-of, includes-of, Includes-append_left, Includes-append_right, Includes-append_cases, Includes-map, Includes-map_cases}
 use Rattle.cg_machine.specs.declared.event.Event.{Event}
 use Rattle.cg_machine.specs.declared.event.Event.TheVariants.{Collected}
-use Rattle.cg_machine.specs.declared.event.FrameSort.TheVariants.{Call as CallFrame}
+use Rattle.cg_machine.specs.declared.event.FrameSort.{FrameSort}
+use Rattle.cg_machine.specs.declared.event.FrameSort.TheVariants.{Del, Legacy, Callback, Call as CallFrame}
 use Rattle.cg_machine.specs.World.{World, Activity, TopLevel, Framed, Releasing, Dying, Collecting, Frame, Collection, Start, Turn, DyingPhase, Finalizer, AfterFinalizer, Clearing, Calling, AfterCall, LegacyFinalizer, AfterLegacy, Detaching, Emptying, opening, garbage_list, push, with_stack}
 use Rattle.cg_machine.specs.Holdings.{holds, collect_holds, holdings, is_collecting}
 use Rattle.cg_machine.specs.Frame.{Transition, procedure_of}
@@ -21,13 +22,13 @@ use Rattle.cg_machine.specs.Commands.{effect, stopped_frame, without_commands, n
 use Rattle.cg_machine.specs.Collect.{is_condemned}
 use Rattle.cg_machine.specs.Due.{due}
 use Rattle.cg_machine.specs.Run.{StepTaken, StepOf, Run, TopLevelStep, CommandInFrame, FrameStep, last_world}
-use Rattle.cg_machine.specs.Laws.{waits_of, all_waits, IsWaiting, HasFunction, IsDeathIn, WorldsAreOrderly}
+use Rattle.cg_machine.specs.Laws.{waits_of, all_waits, IsWaiting, HasFunction, AreDeathsOfOthers, IsDeathIn, WorldsAreOrderly}
 use Rattle.cg_machine.proofs.Serials.{Rises}
 use Rattle.cg_machine.proofs.Sound.{Sound, opening_sound}
 use Rattle.cg_machine.proofs.Number.{step_falls}
 use Rattle.cg_machine.proofs.CommandLaws.{Each, LeavesStack, effect_leaves}
 use Rattle.cg_machine.proofs.Forgotten.{Forgotten, AreReferred, some_later, none_later, lives_within}
-use Rattle.cg_machine.proofs.Unheld.{AreOver, Stands, Calm, held_by_member}
+use Rattle.cg_machine.proofs.Unheld.{IsLocalHeld, IsOver, AreOver, not_dying, Stands, Calm, held_by_member}
 use Rattle.cg_machine.proofs.Releasing.{entry_holder}
 use Rattle.cg_machine.proofs.CommandCalm.{Mild, IsMild, Comes, was_there, is_new, effect_mild}
 use Rattle.cg_machine.proofs.Orderly.{IsClearing, Orderly, push_orderly, turns_fewer, waits_held}
@@ -86,34 +87,34 @@ module _ (script : Script) (w : World) (rises : Rises 1 w.next_serial w.objects)
       (y.0, y.1, y.2.serial ∙ z.2, same ∙ z.3)
 
   callbacks : (y : Object) → Comes script w rises over y → y.code ≡ Weak → (f : ℕ) → Includes (references y.entries) f → HasFunction after.objects f
-  callbacks y (was_there x m later same condemned) e f k =
+  callbacks y (was_there x m later same condemned placed) e f k =
       let code : x.code ≡ Weak = sym later.code ∙ e in
-      functions_last f (h.callbacks x m code f (subst (λ es. Includes (references es) f) (same code) k))
-  callbacks y (is_new serial condemned weak_alone functions) e f k = functions_last f (functions e f k)
+      functions_last f (h.callbacks x m code f (subst (λ es. Includes (references es) f) (either same (λ k. k) (λ k. absurd (k.0 code))) k))
+  callbacks y (is_new serial condemned apart weak_alone functions) e f k = functions_last f (functions e f k)
 
   codes : (y : Object) → Comes script w rises over y → (r : ℕ) → y.referent ≡ Some r → y.code ≡ Weak
-  codes y (was_there x m later same condemned) r e = later.code ∙ h.codes x m r (some_later x y later r e)
-  codes y (is_new serial condemned weak_alone functions) r e = weak_alone r e
+  codes y (was_there x m later same condemned placed) r e = later.code ∙ h.codes x m r (some_later x y later r e)
+  codes y (is_new serial condemned apart weak_alone functions) r e = weak_alone r e
 
   garbage : (y : Object) → Comes script w rises over y → y.serial ≡ 1 → y.code ≡ ListKind
-  garbage y (was_there x m later same condemned) e = later.code ∙ h.garbage x m (sym later.serial ∙ e)
-  garbage y (is_new serial condemned weak_alone functions) e = absurd (within 1 h.root_lives (sym serial ∙ e))
+  garbage y (was_there x m later same condemned placed) e = later.code ∙ h.garbage x m (sym later.serial ∙ e)
+  garbage y (is_new serial condemned apart weak_alone functions) e = absurd (within 1 h.root_lives (sym serial ∙ e))
 
   waiting : (weak : ℕ) → Includes (all_waits w.stack) weak → (y : Object) → Comes script w rises over y → y.serial ≡ weak → IsWaiting y
-  waiting weak k y (was_there x m later same condemned) e =
+  waiting weak k y (was_there x m later same condemned placed) e =
       let was = h.waiting weak k x m (sym later.serial ∙ e) in
-      record { code = later.code ∙ was.code; referent = none_later x y later was.referent; callback = λ n. was.callback (ap callback_in (sym (same was.code)) ∙ n) }
-  waiting weak k y (is_new serial condemned weak_alone functions) e = absurd (within weak (waits_live weak k) (sym serial ∙ e))
+      record { code = later.code ∙ was.code; referent = none_later x y later was.referent; callback = λ n. was.callback (ap callback_in (sym (either same (λ k. k) (λ k. absurd (k.0 was.code)))) ∙ n) }
+  waiting weak k y (is_new serial condemned apart weak_alone functions) e = absurd (within weak (waits_live weak k) (sym serial ∙ e))
 
   marked : (y : Object) → Comes script w rises over y → is_condemned y ≡ true → (¬ Includes (all_waits w.stack) y.serial) × ((y.referent ≡ None) ⊎ IsClearing w.stack)
-  marked y (was_there x m later same condemned) e =
+  marked y (was_there x m later same condemned placed) e =
       let was = h.condemned x m (condemned e) in
       (λ n. was.0 (subst (Includes (all_waits w.stack)) later.serial n), either was.1 (λ n. inl (none_later x y later n)) (λ n. inr n))
-  marked y (is_new serial condemned weak_alone functions) e = absurd (let no : true ≡ false = sym e ∙ condemned in cc)
+  marked y (is_new serial condemned apart weak_alone functions) e = absurd (let no : true ≡ false = sym e ∙ condemned in cc)
 
   refers : (o : ℕ) → ((x : Object) → Includes w.objects x → x.serial ≡ o → x.referent ≡ None) → Includes (serials w.objects) o → (y : Object) → Comes script w rises over y → y.serial ≡ o → y.referent ≡ None
-  refers o none lives y (was_there x m later same condemned) e = none_later x y later (none x m (sym later.serial ∙ e))
-  refers o none lives y (is_new serial condemned weak_alone functions) e = absurd (within o lives (sym serial ∙ e))
+  refers o none lives y (was_there x m later same condemned placed) e = none_later x y later (none x m (sym later.serial ∙ e))
+  refers o none lives y (is_new serial condemned apart weak_alone functions) e = absurd (within o lives (sym serial ∙ e))
 
   pub command_orderly : HasOrder after
   command_orderly = subst (Orderly after.objects after.names) (sym same_stack) (record {
@@ -142,7 +143,7 @@ no_waits (TopLevel commands) h = refl
 no_waits (Framed f) h = refl
 no_waits a h = absurd h
 
-turned_orderly : (a b : Activity) (below : List Activity) (v : World) → HasCommands a → HasCommands b → ((o : ℕ) → Includes (holds b) o → Includes (holds a) o) → HasOrder (with_stack (a ∷ below) v) → HasOrder (with_stack (b ∷ below) v)
+pub turned_orderly : (a b : Activity) (below : List Activity) (v : World) → HasCommands a → HasCommands b → ((o : ℕ) → Includes (holds b) o → Includes (holds a) o) → HasOrder (with_stack (a ∷ below) v) → HasOrder (with_stack (b ∷ below) v)
 turned_orderly a b below v ha hb fewer h = turns_fewer a b v.objects v.names below h (λ o m. h.stack_lives o (Includes-append_left (holds a) (flat_map holds below) o (fewer o m))) (λ d e. absurd (no_death b hb d e))
     (λ weak m. absurd (subst (λ ws. Includes ws weak) (no_waits b hb) m)) (λ weak. let none : occurrences weak (waits_of b) ≡ 0 = ap (occurrences weak) (no_waits b hb) in omega (arith, none)) (λ c o e. absurd (no_collection b hb c e)) (λ x m e k. absurd (no_clearing a below ha k))
   where
@@ -277,6 +278,22 @@ held_live w h o m = either (Includes-append_cases (names ++ (1 ∷ []) ++ entrie
     front : Includes (names ++ (1 ∷ []) ++ entries) o → Includes (serials w.objects) o
     front k = either (Includes-append_cases (names ++ (1 ∷ [])) entries o k) named (λ n. let x = entry_holder w.objects o n in h.entries_live x.0 x.1 o x.2)
 
+-- the locals of frames are held, and deaths are of others
+local_held : (sort : FrameSort) (o : ℕ) (below : List Activity) → IsLocalHeld sort o below → sort ≢ CallFrame → Includes (flat_map holds below) o
+local_held Del o below h other = h
+local_held Legacy o below h other = h
+local_held Callback o below h other = h
+local_held CallFrame o below h other = absurd (other refl)
+
+locals_held : (stack : List Activity) → AreOver stack → (f : Frame) → Includes stack (Framed f) → f.sort ≢ CallFrame → Includes (flat_map holds stack) f.subject
+locals_held [] h f m other = absurd m
+locals_held (a ∷ below) h f (inl e) other = Includes-append_right (holds a) (flat_map holds below) f.subject (local_held f.sort f.subject below (subst (λ b. IsOver b below) e h.0) other)
+locals_held (a ∷ below) h f (inr m) other = Includes-append_right (holds a) (flat_map holds below) f.subject (locals_held below h.1 f m other)
+
+deaths_of_others : (stack : List Activity) → AreOver stack → AreDeathsOfOthers stack
+deaths_of_others [] h = tt
+deaths_of_others (a ∷ below) h = (λ d i e m. not_dying d.object below e (subst (λ b. IsOver b below) i h.0) m, deaths_of_others below h.1)
+
 pub worlds_orderly : WorldsAreOrderly
 worlds_orderly script budget steps run =
     let w = last_world (opening script budget) steps in
@@ -284,6 +301,8 @@ worlds_orderly script budget steps run =
       held_live = held_live w both.1;
       referents = λ x m r e. (both.1.codes x m r e, both.0.referred x m r e);
       callbacks = both.1.callbacks;
+      locals = λ f m other. both.1.stack_lives f.subject (locals_held w.stack both.0.over f m other);
+      others = deaths_of_others w.stack both.0.over;
       deaths = λ d m. death_in script w d.object d.phase (both.1.deaths_live d m) (death_stands script w w.stack both.0.stack d m);
       waiting = both.1.waiting;
       once = both.1.once;

@@ -1,5 +1,5 @@
 //! What holds in every run of the machine. Each law is the contract of a function that does nothing.
-ghost use Rattle.cg_machine.specs.Laws.{DyingIsUnheld, NoRunIsStuck, FrontsBeginWholeTexts, WorldsAreOrderly};
+ghost use Rattle.cg_machine.specs.Laws.{DyingIsUnheld, NoRunIsStuck, FrontsBeginWholeTexts, StepsLeaveWhatIsBelow, WorldsAreOrderly};
 
 /// No run is stuck: each is the beginning of a whole run, whatever choices it took.
 pub fn no_run_is_stuck()
@@ -20,4 +20,9 @@ pub fn dying_is_unheld()
 /// for its callback has one.
 pub fn worlds_are_orderly()
     ensures { WorldsAreOrderly }
+{}
+
+/// A step of a run leaves the activities below the one that takes it, and the entries of what is dying or waits there.
+pub fn steps_leave_what_is_below()
+    ensures { StepsLeaveWhatIsBelow }
 {}
