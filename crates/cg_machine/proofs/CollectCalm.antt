@@ -70,7 +70,7 @@ all_saved_alters [] objects = alters_refl objects
 all_saved_alters (s ∷ keeps) objects = alters_trans objects (saved s objects) (all_saved keeps (saved s objects)) (saved_alters s objects) (all_saved_alters keeps (saved s objects))
 
 -- several weak references lose their referents
-all_lose_alters : (wanted : Object → Bool) (weaks : List ℕ) (objects after : List Object) → AllLose wanted objects weaks after → Alters objects after
+pub all_lose_alters : (wanted : Object → Bool) (weaks : List ℕ) (objects after : List Object) → AllLose wanted objects weaks after → Alters objects after
 all_lose_alters wanted [] objects after lose = subst (λ os. Alters objects os) (sym lose.1) (alters_refl objects)
 all_lose_alters wanted (weak ∷ weaks) objects after lose = alters_trans objects (loses_referent weak objects) after (lost_alters weak objects) (all_lose_alters wanted weaks (loses_referent weak objects) after lose.1)
 

@@ -18,7 +18,7 @@ use Rattle.cg_machine.specs.Holdings.{holds}
 use Rattle.cg_machine.specs.Refusals.{◌>>=◌}
 use Rattle.cg_machine.specs.Operands.{frame_on, self_in, weak_in, value_of, value, values, object_of, object, tested}
 use Rattle.cg_machine.proofs.CommandLaws.{Each}
-use Rattle.cg_machine.proofs.Forgotten.{Forgotten, Mortal}
+use Rattle.cg_machine.proofs.Forgotten.{Forgotten}
 use Rattle.cg_machine.proofs.Unheld.{IsLocalHeld, AreOver}
 use Rattle.cg_machine.proofs.Lookups.{found_at, slice_get_member, references_of_member, references_take, references-append, entries_free}
 
@@ -146,7 +146,7 @@ each_some (Some x) refusal = refl
 module _ (w : World) (over : AreOver w.stack) where
   -- a value refers to no object that is forgotten
   abbrev pub IsKnown : Val → Type 0
-  IsKnown v = (o : ℕ) → Mortal w.objects o → Forgotten w o → IsNotTo o v
+  IsKnown v = (o : ℕ) → Forgotten w o → IsNotTo o v
 
   same_known : (u v : Val) → Some u ≡ Some v → IsKnown u → IsKnown v
   same_known u v e h = let same : u ≡ v = cc in subst IsKnown same h
@@ -155,7 +155,7 @@ module _ (w : World) (over : AreOver w.stack) where
   none_known v e = absurd (let no : None ≡ Some v = e in cc)
 
   name_known : (v : Val) (x : ℕ) → option_and_then (λ v. v) (slice_get w.names x) ≡ Some v → IsKnown v
-  name_known v x e o l f k = name_free w.names x o f.unheld.names (subst (λ m. Includes (references_of_value m) o) (sym e) (option_held (reference_in v) o k))
+  name_known v x e o f k = name_free w.names x o f.unheld.names (subst (λ m. Includes (references_of_value m) o) (sym e) (option_held (reference_in v) o k))
 
   self_case : (sort : FrameSort) (subject : ℕ) (below : List Activity) (o : ℕ) → IsLocalHeld sort subject below → self_in sort subject ≡ Some o → Includes (flat_map holds below) o
   self_case Del subject below o h e = let same : subject ≡ o = cc in subst (Includes (flat_map holds below)) same h
@@ -181,14 +181,14 @@ module _ (w : World) (over : AreOver w.stack) where
 
   local_known : (m : Option ℕ) (v : Val) → ((o : ℕ) → m ≡ Some o → Includes (flat_map holds w.stack) o) → option_map Ref m ≡ Some v → IsKnown v
   local_known None v held e = none_known v e
-  local_known (Some s) v held e = same_known (Ref s) v e (λ o l f k. f.unheld.stack (held o k))
+  local_known (Some s) v held e = same_known (Ref s) v e (λ o f k. f.unheld.stack (held o k))
 
   entry_known : (s i : ℕ) (v : Val) → option_map (λ (e : Entry). e.val) (slice_get (entries_of w.objects s) i) ≡ Some v → IsKnown v
   entry_known s i v e = go (slice_get (entries_of w.objects s) i) refl e
     where
       go : (m : Option Entry) → slice_get (entries_of w.objects s) i ≡ m → option_map (λ (e : Entry). e.val) m ≡ Some v → IsKnown v
       go None at k = none_known v k
-      go (Some entry) at k = same_known entry.val v k (λ o l f. entry_val entry o (got_free (entries_of w.objects s) i o entry at (entries_free w.objects s o f.unheld.quiet)))
+      go (Some entry) at k = same_known entry.val v k (λ o f. entry_val entry o (got_free (entries_of w.objects s) i o entry at (entries_free w.objects s o f.unheld.quiet)))
 
   function_known : (m : Option ℕ) (i : ℕ) (v : Val) → option_and_then (λ o. option_map (λ (e : Entry). e.val) (slice_get (entries_of w.objects o) i)) m ≡ Some v → IsKnown v
   function_known None i v e = none_known v e
@@ -199,14 +199,14 @@ module _ (w : World) (over : AreOver w.stack) where
   cell_known (Some f) i v e = function_known f.function i v e
 
   operand_known : (operand : Operand) (v : Val) → value_of w operand ≡ Some v → IsKnown v
-  operand_known NoneWord v e = same_known Nothing v e (λ o l f k. let no : None ≡ Some o = k in cc)
-  operand_known (IntWord n) v e = same_known (Int n) v e (λ o l f k. let no : None ≡ Some o = k in cc)
-  operand_known (StrWord s) v e = same_known (Str s) v e (λ o l f k. let no : None ≡ Some o = k in cc)
+  operand_known NoneWord v e = same_known Nothing v e (λ o f k. let no : None ≡ Some o = k in cc)
+  operand_known (IntWord n) v e = same_known (Int n) v e (λ o f k. let no : None ≡ Some o = k in cc)
+  operand_known (StrWord s) v e = same_known (Str s) v e (λ o f k. let no : None ≡ Some o = k in cc)
   operand_known (Name x) v e = name_known v x e
   operand_known SelfLocal v e = local_known (option_and_then (λ f. self_in f.sort f.subject) (frame_on w.stack)) v (λ o k. self_held w.stack o over k) e
   operand_known WeakLocal v e = local_known (option_and_then (λ f. weak_in f.sort f.subject) (frame_on w.stack)) v (λ o k. weak_held w.stack o over k) e
   operand_known (Cell i) v e = cell_known (frame_on w.stack) i v e
-  operand_known Garbage v e = same_known (Ref 1) v e (λ o l f k. f.unheld.root (let same : 1 ≡ o = cc in sym same))
+  operand_known Garbage v e = same_known (Ref 1) v e (λ o f k. f.unheld.root (let same : 1 ≡ o = cc in sym same))
 
   pub value_known : (operand : Operand) → Each IsKnown (value w operand)
   value_known operand = go (value_of w operand) refl
@@ -216,32 +216,33 @@ module _ (w : World) (over : AreOver w.stack) where
       go (Some v) e = operand_known operand v e
 
   abbrev pub AreKnown : List Val → Type 0
-  AreKnown vs = (o : ℕ) → Mortal w.objects o → Forgotten w o → HoldNone o (map item vs)
+  AreKnown vs = (o : ℕ) → Forgotten w o → HoldNone o (map item vs)
 
   pub values_known : (operands : List Operand) → Each AreKnown (values w operands)
-  values_known [] = λ o l f k. k
+  values_known [] = λ o f k. k
   values_known (operand ∷ operands) =
       let rest = values_known operands in
-      each_then IsKnown AreKnown (value w operand) _ (value_known operand) (λ v known. each_then AreKnown AreKnown (values w operands) _ rest (λ vs are o l f. cons_free (item v) (map item vs) o (item_free v o (known o l f)) (are o l f)))
+      each_then IsKnown AreKnown (value w operand) _ (value_known operand) (λ v known. each_then AreKnown AreKnown (values w operands) _ rest (λ vs are o f. cons_free (item v) (map item vs) o (item_free v o (known o f)) (are o f)))
 
   -- the object of a value
-  pub record IsFound (test : Object → Bool) (x : Object) : Type 0 where
+  pub record IsFound (test : Object → Bool) (v : Val) (x : Object) : Type 0 where
+    pub is : reference_in v ≡ Some x.serial
     pub member : Includes w.objects x
     pub passes : test x ≡ true
-    pub known : (o : ℕ) → Mortal w.objects o → Forgotten w o → x.serial ≢ o
+    pub known : (o : ℕ) → Forgotten w o → x.serial ≢ o
 
-  tested_found : (test : Object → Bool) (refusal : ℕ) (x : Object) → Includes w.objects x → ((o : ℕ) → Mortal w.objects o → Forgotten w o → x.serial ≢ o) → Each (IsFound test) (tested test refusal x)
-  tested_found test refusal x m known = go (test x) refl
+  tested_found : (test : Object → Bool) (refusal : ℕ) (v : Val) (x : Object) → reference_in v ≡ Some x.serial → Includes w.objects x → ((o : ℕ) → Forgotten w o → x.serial ≢ o) → Each (IsFound test v) (tested test refusal x)
+  tested_found test refusal v x is m known = go (test x) refl
     where
-      go : (b : Bool) → test x ≡ b → Each (IsFound test) (if b then Ok x else Err refusal)
-      go true e = record { member = m; passes = e; known = known }
+      go : (b : Bool) → test x ≡ b → Each (IsFound test v) (if b then Ok x else Err refusal)
+      go true e = record { is = is; member = m; passes = e; known = known }
       go false e = tt
 
-  pub object_found : (test : Object → Bool) (refusal : ℕ) (v : Val) → IsKnown v → Each (IsFound test) (object w test refusal v)
-  object_found test refusal v known = each_then (λ x. object_of w v ≡ Some x) (IsFound test) (ok_or (object_of w v) refusal) _ (each_some (object_of w v) refusal) (λ x e. go (reference_in v) refl x e)
+  pub object_found : (test : Object → Bool) (refusal : ℕ) (v : Val) → IsKnown v → Each (IsFound test v) (object w test refusal v)
+  object_found test refusal v known = each_then (λ x. object_of w v ≡ Some x) (IsFound test v) (ok_or (object_of w v) refusal) _ (each_some (object_of w v) refusal) (λ x e. go (reference_in v) refl x e)
     where
-      go : (m : Option ℕ) → reference_in v ≡ m → (x : Object) → option_and_then (object_at w.objects) m ≡ Some x → Each (IsFound test) (tested test refusal x)
+      go : (m : Option ℕ) → reference_in v ≡ m → (x : Object) → option_and_then (object_at w.objects) m ≡ Some x → Each (IsFound test v) (tested test refusal x)
       go None at x e = absurd (let no : None ≡ Some x = e in cc)
       go (Some s) at x e =
           let f = found_at w.objects s x e in
-          tested_found test refusal x f.0 (λ o l g same. known o l g (at ∙ ap (λ q. Some q) (sym f.1 ∙ same)))
+          tested_found test refusal v x (at ∙ ap (λ q. Some q) (sym f.1)) f.0 (λ o g same. known o g (at ∙ ap (λ q. Some q) (sym f.1 ∙ same)))

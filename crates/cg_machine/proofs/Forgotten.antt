@@ -114,7 +114,7 @@ lives_after before after a o m =
     let y = a.lasts x.0 x.1 in
     subst (Includes (serials after)) (y.2.serial ∙ x.2) (Includes-map (λ (z : Object). z.serial) after y.0 y.1)
 
-none_later : (x y : Object) → IsLater x y → x.referent ≡ None → y.referent ≡ None
+pub none_later : (x y : Object) → IsLater x y → x.referent ≡ None → y.referent ≡ None
 none_later x y h e = either h.referent (λ k. k ∙ e) (λ k. k)
 
 pub some_later : (x y : Object) → IsLater x y → (r : ℕ) → y.referent ≡ Some r → x.referent ≡ Some r

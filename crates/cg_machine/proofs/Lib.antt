@@ -18,7 +18,6 @@ pub mod FallsCommands
 pub mod Number
 pub mod Ending
 pub mod Fronts
-pub mod Representing
 pub mod Forgotten
 pub mod Unheld
 pub mod Releasing
@@ -28,3 +27,13 @@ pub mod CollectCalm
 pub mod CommandRefs
 pub mod CommandCalm
 pub mod RunsCalm
+pub mod Orderly
+pub mod DyingOrderly
+pub mod Condemned
+pub mod CollectOrderly
+pub mod RunsOrderly
+pub mod Left
+pub mod LeftDeaths
+pub mod LeftCollections
+pub mod LeftRuns
+pub mod Representing

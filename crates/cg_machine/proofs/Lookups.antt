@@ -83,7 +83,7 @@ last_lives objects o e h = go (object_at objects o) refl h
     go (Some x) f k = found_lives objects o x f
 
 -- The callback of a weak reference is an object that its entry holds. Where it has none, no object lives by that number.
-callback_first : (entries : List Entry) (f : ℕ) → callback_in entries ≡ Some f → Includes (references entries) f
+pub callback_first : (entries : List Entry) (f : ℕ) → callback_in entries ≡ Some f → Includes (references entries) f
 callback_first [] f e = let no : None ≡ Some f = e in cc
 callback_first (x ∷ entries) f e = Includes-append_left (entry_references x) (references entries) f (Includes-append_left (option_to_list (reference_in x.val)) (option_to_list (reference_in x.key)) f (subst (λ m. Includes (option_to_list m) f) (sym e) (inl refl)))
 
@@ -120,3 +120,12 @@ found_referent test objects o weak weaks e = go (object_at objects o) refl e
     go : (m : Option Object) → object_at objects o ≡ m → (if unwrap_or (option_map test m) false then weak_references objects o else []) ≡ weak ∷ weaks → Includes (serials objects) o
     go None f k = absurd (let no : [] ≡ weak ∷ weaks = k in cc)
     go (Some x) f k = found_lives objects o x f
+
+-- two objects of one serial are one
+pub same_object : (low high : ℕ) (objects : List Object) (x y : Object) → Rises low high objects → Includes objects x → Includes objects y → x.serial ≡ y.serial → x ≡ y
+same_object low high objects x y r m n e =
+    let both : Some x ≡ Some y = sym (at_member low high objects x r m) ∙ ap (object_at objects) e ∙ at_member low high objects y r n in cc
+
+-- the callback of an object is that of its entries
+pub callback_at : (low high : ℕ) (objects : List Object) (x : Object) → Rises low high objects → Includes objects x → callback_of objects x.serial ≡ callback_in x.entries
+callback_at low high objects x r m = ap (λ k. option_and_then (λ (z : Object). callback_in z.entries) k) (at_member low high objects x r m)

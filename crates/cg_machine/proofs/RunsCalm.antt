@@ -21,7 +21,7 @@ use Rattle.cg_machine.proofs.Serials.{Rises}
 use Rattle.cg_machine.proofs.Sound.{Sound, opening_sound}
 use Rattle.cg_machine.proofs.Number.{step_falls}
 use Rattle.cg_machine.proofs.CommandLaws.{Each, LeavesStack, Leaves, effect_leaves}
-use Rattle.cg_machine.proofs.Forgotten.{Forgotten, Mortal, alters_refl, still_forgotten}
+use Rattle.cg_machine.proofs.Forgotten.{Forgotten, alters_refl, still_forgotten}
 use Rattle.cg_machine.proofs.Unheld.{IsOver, AreOver, AreResting, IsOnTop, IsStack, Stands, Calm, Keeps, stands, resting_after, same_objects, pushed_free, turned_free, held_by_member}
 use Rattle.cg_machine.proofs.Releasing.{none_holds, unheld_degree, starts_calm, released_calm, frame_end_calm}
 use Rattle.cg_machine.proofs.DyingCalm.{dying_calm}
@@ -29,12 +29,12 @@ use Rattle.cg_machine.proofs.CollectCalm.{phase_calm}
 use Rattle.cg_machine.proofs.CommandCalm.{Mild, IsMild, effect_mild}
 
 -- commands stand on top, and may get fewer
-abbrev HasCommands : Activity → Type 0
+abbrev pub HasCommands : Activity → Type 0
 HasCommands (TopLevel commands) = Unit {0}
 HasCommands (Framed f) = Unit {0}
 HasCommands a = ⊥
 
-no_death : (a : Activity) → HasCommands a → (d : Death) → a ≢ Dying d
+pub no_death : (a : Activity) → HasCommands a → (d : Death) → a ≢ Dying d
 no_death (TopLevel commands) h d e = cc
 no_death (Framed f) h d e = cc
 no_death a h d e = absurd h
@@ -49,7 +49,7 @@ on_top script w a h = absurd h
 
 module _ (script : Script) (below : List Activity) (v : World) where
   -- the commands on top change
-  turned : (a b : Activity) → HasCommands b → (IsOver a below → IsOver b below) → ((o : ℕ) → ¬ Includes (holds a) o → ¬ Includes (holds b) o) → Calm script (with_stack (a ∷ below) v) → Calm script (with_stack (b ∷ below) v)
+  pub turned : (a b : Activity) → HasCommands b → (IsOver a below → IsOver b below) → ((o : ℕ) → ¬ Includes (holds a) o → ¬ Includes (holds b) o) → Calm script (with_stack (a ∷ below) v) → Calm script (with_stack (b ∷ below) v)
   turned a b h over free c = record {
     referred = c.referred;
     over = (over c.over.0, c.over.1);
@@ -94,21 +94,21 @@ module _ (script : Script) (a : Activity) (below : List Activity) (v : World) (h
   changes after given_up l m = record {
     referred = m.referred c.referred;
     over = (tt, subst AreOver (sym l.stack) c.over);
-    stack = (tt, subst (AreResting script pushed) (sym l.stack) (resting_after script now pushed (a ∷ below) (λ d k. keeps d.object) resting));
+    stack = (tt, subst (AreResting script pushed) (sym l.stack) (resting_after script now pushed (a ∷ below) (λ d k. kept d.object) resting));
   }
     where
       pushed : World
       pushed = push (Releasing given_up) after
 
-      keeps : (o : ℕ) → Keeps script now pushed o
-      keeps o = record {
-        mortal = (m.keeps o).mortal;
-        finalizers = (m.keeps o).finalizers;
-        forgotten = λ l f. still_forgotten after pushed o refl (alters_refl after.objects) (λ q. q) (pushed_free (Releasing given_up) after.stack o (m.given o l f)) ((m.keeps o).forgotten l f);
+      kept : (o : ℕ) → Keeps script now pushed o
+      kept o = record {
+        mortal = m.mortal o;
+        finalizers = m.finalizers o;
+        forgotten = λ l f. still_forgotten after pushed o refl (alters_refl after.objects) (λ q. q) (pushed_free (Releasing given_up) after.stack o (m.given o f)) (m.forgotten o (inr l) f);
       }
 
-  calls : (f : ℕ) → ((o : ℕ) → Mortal now.objects o → Forgotten now o → f ≢ o) → Calm script (start_frame script (record { sort = CallFrame; proc = procedure_of now f; subject = f; func = Some f }) now).1
-  calls f known = starts_calm script (record { sort = CallFrame; proc = procedure_of now f; subject = f; func = Some f }) now c.referred c.over resting tt (λ o l g k. either k (known o l g) (λ n. n))
+  calls : (f : ℕ) → ((o : ℕ) → Forgotten now o → f ≢ o) → Calm script (start_frame script (record { sort = CallFrame; proc = procedure_of now f; subject = f; func = Some f }) now).1
+  calls f known = starts_calm script (record { sort = CallFrame; proc = procedure_of now f; subject = f; func = Some f }) now c.referred c.over resting tt (λ o l g k. either k (known o g) (λ n. n))
 
   asks : (g : ℕ) → (b : Bool) → (let t : Transition = if b then (Collected 0 ∷ [], now) else ([], push (new_collection g true now) now) in Calm script t.1)
   asks g true = c
@@ -187,7 +187,7 @@ stands_unheld script w o AfterLegacy m h = λ e. (none_holds w o e).stack (held_
 stands_unheld script w o Detaching m h = unheld_degree w o h.0
 stands_unheld script w o Emptying m h = unheld_degree w o h.unheld
 
-death_stands : (script : Script) (w : World) (stack : List Activity) → IsStack script w stack → (d : Death) → Includes stack (Dying d) → Stands script w d.object d.phase
+pub death_stands : (script : Script) (w : World) (stack : List Activity) → IsStack script w stack → (d : Death) → Includes stack (Dying d) → Stands script w d.object d.phase
 death_stands script w [] h d m = absurd m
 death_stands script w (a ∷ below) h d (inl e) = subst (IsOnTop script w) e h.0
 death_stands script w (a ∷ below) h d (inr m) = stands script w d.object d.phase (h.1 d m)

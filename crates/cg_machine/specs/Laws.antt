@@ -1,10 +1,11 @@
--- What holds in every run. The first three are contracts of functions without a body; the others are stated, and their proofs
+-- What holds in every run. The first five are contracts of functions without a body; the others are stated, and their proofs
 -- are to come. (Ours, after what PEP 442 and the developer guide promise.)
-use Rattle.cg_machine.specs.Represents.{Underway}
+use Rattle.cg_machine.specs.Represents.{Underway, death_waits}
 use Rattle.cg_machine.specs.Lines.{line, text_of}
 use Rattle.std.specs.Prelude.{◌≡◌, ◌≢◌, ℕ, ◌<◌, ◌≤◌, Bool, true, false, List, [], ◌∷◌, ◌++◌, ◌==◌, ◌⊎◌, Option, Some, None, count_by, is_some, option_to_list, IsTrue, flat_map}
 use Rattle.cg_value.specs.declared.Entry.{Entry}
-use Rattle.cg_value.specs.declared.Place.TheVariants.{Cand, Frozen}
+use Rattle.cg_value.specs.declared.Place.{Place}
+use Rattle.cg_value.specs.declared.Place.TheVariants.{Untracked, Gen, Frozen, Cand, Seen, Back, Legacy, Pend}
 use Rattle.cg_script.specs.declared.Script.{Script}
 use Rattle.cg_script.specs.Texts.{TextsAreKnown}
 use Rattle.cg_value.specs.declared.KindCode.TheVariants.{Weak}
@@ -15,11 +16,12 @@ use Rattle.cg_graph.specs.Holdings.{occurrences, graph_of, name_holdings}
 use Rattle.cg_graph.specs.Reach.{Reach, IsOutsideHeld, edges}
 use Rattle.cg_machine.specs.declared.event.Event.{Event}
 use Rattle.cg_machine.specs.declared.event.Event.TheVariants.{Made, Enter, Cleared, Free, Alive, GcCollectable, GcUncollectable, GcSaved, GcStop, Value}
-use Rattle.cg_machine.specs.declared.event.FrameSort.TheVariants.{Del}
+use Rattle.cg_machine.specs.declared.event.FrameSort.TheVariants.{Del, Call}
 use Rattle.cg_machine.specs.Program.{finalizer_of, legacy_of}
-use Rattle.cg_machine.specs.World.{World, Activity, TopLevel, Framed, Releasing, Dying, Collecting, Frame, Death, DyingPhase, AfterFinalizer, AfterLegacy, Collection, Split, Start, Outcome}
-use Rattle.cg_machine.specs.Holdings.{holdings, in_degree, is_dying, holds}
-use Rattle.cg_machine.specs.Collect.{has_flag, save_all}
+use Rattle.cg_machine.specs.World.{World, Activity, TopLevel, Framed, Releasing, Dying, Collecting, Frame, Death, DyingPhase, AfterFinalizer, Calling, AfterCall, LegacyFinalizer, AfterLegacy, Emptying, Collection, CollectPhase, WeakClearing, WeakCalling, AfterCallback, AfterRelease, Split, Start, Outcome}
+use Rattle.cg_machine.specs.Holdings.{holdings, in_degree, is_collection, is_dying, holds}
+use Rattle.cg_machine.specs.Weak.{callback_in, has_weak_references, is_function}
+use Rattle.cg_machine.specs.Collect.{has_flag, is_condemned, save_all}
 use Rattle.cg_machine.specs.Run.{world_after, StepTaken, IsRun, IsWholeRun, last_world, events_of}
 
 -- No run is stuck: each is the beginning of a whole run.
@@ -49,6 +51,112 @@ IsHeldByItsDeathAlone o phase held = occurrences o held ≡ 0
 abbrev pub DyingIsUnheld : Type 0
 DyingIsUnheld = (script : Script) (budget : ℕ) (steps : List StepTaken) → IsRun script budget steps
     → (d : Death) → Includes (world_after script budget steps).stack (Dying d) → IsHeldByItsDeathAlone d.object d.phase (holdings (world_after script budget steps))
+
+-- the weak references that an activity waits with: their callbacks are to come, or that of the first one runs
+abbrev pub collection_waits : CollectPhase → List ℕ
+collection_waits (WeakClearing waiting) = waiting
+collection_waits (WeakCalling waiting) = waiting
+collection_waits (AfterCallback weak waiting) = weak ∷ waiting
+collection_waits (AfterRelease weak waiting) = waiting
+collection_waits phase = []
+
+-- those of any activity
+abbrev pub waits_of : Activity → List ℕ
+waits_of (TopLevel commands) = []
+waits_of (Framed f) = []
+waits_of (Releasing references) = []
+waits_of (Dying d) = death_waits d.phase
+waits_of (Collecting c) = collection_waits c.phase
+
+-- all of a stack
+abbrev pub all_waits : List Activity → List ℕ
+all_waits stack = flat_map waits_of stack
+
+-- a weak reference that waits for its callback has one, and has lost its referent
+pub record IsWaiting (x : Object) : Type 0 where
+  pub code : x.code ≡ Weak
+  pub referent : x.referent ≡ None
+  pub callback : callback_in x.entries ≢ None
+
+-- a function is there
+abbrev pub HasFunction : List Object → ℕ → Type 0
+HasFunction objects f = (z : Object) × Includes objects z × (z.serial ≡ f) × (is_function z ≡ true)
+
+-- the finalizer or the legacy finalizer of the dying object runs, or has ended just now
+abbrev pub runs_own_frame : DyingPhase → Bool
+runs_own_frame AfterFinalizer = true
+runs_own_frame AfterLegacy = true
+runs_own_frame phase = false
+
+-- all weak references have lost the dying object, and no frame of its own has run since
+abbrev pub is_cleared : DyingPhase → Bool
+is_cleared (Calling waiting) = true
+is_cleared (AfterCall weak callback waiting) = true
+is_cleared LegacyFinalizer = true
+is_cleared Emptying = true
+is_cleared phase = false
+
+-- what is known of a dying object: it lives, it refers to nothing, it is untracked, and nothing refers to it once it is cleared
+pub record IsDeathIn (objects : List Object) (d : Death) : Type 0 where
+  pub lives : Includes (serials objects) d.object
+  pub refers_to_none : (x : Object) → Includes objects x → x.serial ≡ d.object → x.referent ≡ None
+  pub untracked : runs_own_frame d.phase ≡ false → (x : Object) → Includes objects x → x.serial ≡ d.object → x.place ≡ Untracked
+  pub unreferred : is_cleared d.phase ≡ true → (x : Object) → Includes objects x → x.referent ≢ Some d.object
+
+-- no object dies twice at once
+abbrev pub AreDeathsOfOthers : List Activity → Type 0
+AreDeathsOfOthers [] = Unit {0}
+AreDeathsOfOthers (a ∷ below) = ((d : Death) → a ≡ Dying d → (e : Death) → Includes below (Dying e) → e.object ≢ d.object) × AreDeathsOfOthers below
+
+-- What is held lives, `self` and `ref` of a frame too; a referent is an instance or a function, and the entries of a weak
+-- reference hold functions; what waits for its callback has one, waits once, and is not condemned.
+pub record IsOrderly (w : World) : Type 0 where
+  pub held_live : (o : ℕ) → Includes (holdings w) o → Includes (serials w.objects) o
+  pub referents : (x : Object) → Includes w.objects x → (r : ℕ) → x.referent ≡ Some r → (x.code ≡ Weak) × ((z : Object) × Includes w.objects z × (z.serial ≡ r) × (has_weak_references z ≡ true))
+  pub callbacks : (x : Object) → Includes w.objects x → x.code ≡ Weak → (f : ℕ) → Includes (references x.entries) f → HasFunction w.objects f
+  pub locals : (f : Frame) → Includes w.stack (Framed f) → f.sort ≢ Call → Includes (serials w.objects) f.subject
+  pub deaths : (d : Death) → Includes w.stack (Dying d) → IsDeathIn w.objects d
+  pub others : AreDeathsOfOthers w.stack
+  pub waiting : (weak : ℕ) → Includes (all_waits w.stack) weak → (x : Object) → Includes w.objects x → x.serial ≡ weak → IsWaiting x
+  pub once : (weak : ℕ) → occurrences weak (all_waits w.stack) ≤ 1
+  pub condemned : (x : Object) → Includes w.objects x → is_condemned x ≡ true → ¬ Includes (all_waits w.stack) x.serial
+
+-- Every world of a run is so.
+abbrev pub WorldsAreOrderly : Type 0
+WorldsAreOrderly = (script : Script) (budget : ℕ) (steps : List StepTaken) → IsRun script budget steps → IsOrderly (world_after script budget steps)
+
+-- an object had its entries before
+abbrev pub HadItsEntries : List Object → Object → Type 0
+HadItsEntries before y = (x : Object) × Includes before x × (x.serial ≡ y.serial) × (y.entries ≡ x.entries)
+
+-- the places in which a collection sets objects apart
+abbrev pub IsOfCollection : Place → Type 0
+IsOfCollection Untracked = ⊥
+IsOfCollection (Gen i) = ⊥
+IsOfCollection Frozen = ⊥
+IsOfCollection Cand = Unit {0}
+IsOfCollection Seen = Unit {0}
+IsOfCollection Back = Unit {0}
+IsOfCollection Legacy = Unit {0}
+IsOfCollection Pend = Unit {0}
+
+-- an object was at its place before
+abbrev pub HadItsPlace : List Object → Object → Type 0
+HadItsPlace before y = (x : Object) × Includes before x × (x.serial ≡ y.serial) × (y.place ≡ x.place)
+
+-- What a step leaves below the activity that takes it: the activities there, and the entries of an object that is dying
+-- there and cleared, and of a weak reference that waits there. Collections alone set objects apart.
+pub record LeavesBelow (w : World) (a : Activity) (below : List Activity) (after : World) : Type 0 where
+  pub tops : List Activity
+  pub stack : after.stack ≡ tops ++ below
+  pub places : is_collection a ≡ false → (y : Object) → Includes after.objects y → IsOfCollection y.place → HadItsPlace w.objects y
+  pub dying : (d : Death) → Includes below (Dying d) → is_cleared d.phase ≡ true → (y : Object) → Includes after.objects y → y.serial ≡ d.object → HadItsEntries w.objects y
+  pub waiting : (weak : ℕ) → Includes (all_waits below) weak → (y : Object) → Includes after.objects y → y.serial ≡ weak → HadItsEntries w.objects y
+
+-- Every step of a run does so.
+abbrev pub StepsLeaveWhatIsBelow : Type 0
+StepsLeaveWhatIsBelow = (script : Script) (budget : ℕ) (steps : List StepTaken) (step : StepTaken) → IsRun script budget (steps ++ step ∷ [])
+    → (a : Activity) (below : List Activity) → (world_after script budget steps).stack ≡ a ∷ below → LeavesBelow (world_after script budget steps) a below step.world
 
 -- the serials that a line names
 abbrev pub named : Event → List ℕ

@@ -1,5 +1,5 @@
 //! What holds in every run of the machine. Each law is the contract of a function that does nothing.
-ghost use Rattle.cg_machine.specs.Laws.{DyingIsUnheld, NoRunIsStuck, FrontsBeginWholeTexts};
+ghost use Rattle.cg_machine.specs.Laws.{DyingIsUnheld, NoRunIsStuck, FrontsBeginWholeTexts, StepsLeaveWhatIsBelow, WorldsAreOrderly};
 
 /// No run is stuck: each is the beginning of a whole run, whatever choices it took.
 pub fn no_run_is_stuck()
@@ -14,4 +14,15 @@ pub fn fronts_begin_whole_texts()
 /// In every world of a run a dying object is held by nothing, or by its own death while a frame of its own runs.
 pub fn dying_is_unheld()
     ensures { DyingIsUnheld }
+{}
+
+/// In every world of a run what is held lives, a referent is an instance or a function, and a weak reference that waits
+/// for its callback has one.
+pub fn worlds_are_orderly()
+    ensures { WorldsAreOrderly }
+{}
+
+/// A step of a run leaves the activities below the one that takes it, and the entries of what is dying or waits there.
+pub fn steps_leave_what_is_below()
+    ensures { StepsLeaveWhatIsBelow }
 {}

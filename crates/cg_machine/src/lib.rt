@@ -11,7 +11,10 @@ mod laws;
 mod line;
 
 pub use event::{Event, FrameSort, FrameSpec};
-pub use laws::{dying_is_unheld, fronts_begin_whole_texts, no_run_is_stuck};
+pub use laws::{
+    dying_is_unheld, fronts_begin_whole_texts, no_run_is_stuck, steps_leave_what_is_below,
+    worlds_are_orderly,
+};
 pub use line::line_of;
 
 #[cfg(test)]
