@@ -1,0 +1,8 @@
+mod Lists
+mod Passes
+mod Entries
+mod Waking
+mod Sifts
+mod Splits
+mod Placed
+mod Views

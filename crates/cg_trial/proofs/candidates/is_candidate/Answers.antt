@@ -1,0 +1,10 @@
+use Rattle.std.proofs.Common.{sym, ◌∙◌, refl}
+use Rattle.cg_value.specs.declared.Place.TheVariants.{Cand}
+use Rattle.cg_trial.proofs.Placed.{where_is, is_there}
+use Rattle.cg_trial.proofs.candidates.is_candidate.Goals as goal
+
+pub returns-in-Cand : goal.returns-in-Cand
+returns-in-Cand g c = (λ h. is_there c.args.heap.now c.sound.ensures.listed Cand c.args.object c.requires (sym c.place_of.ensures ∙ c.in-Cand.is), λ h. refl)
+
+pub returns-in_default : goal.returns-in_default
+returns-in_default g c = (λ h. absurd (cc), λ h. absurd (c.in_default.not-Cand (c.place_of.ensures ∙ (where_is c.args.heap.now c.sound.ensures.listed Cand c.args.object h).1)))
