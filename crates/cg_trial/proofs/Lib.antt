@@ -6,3 +6,6 @@ mod Sifts
 mod Splits
 mod Placed
 mod Views
+mod Counted
+mod Objects
+mod Ends

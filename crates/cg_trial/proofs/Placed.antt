@@ -41,8 +41,8 @@ decode-number (Gen i) =
       ne_eqb (7 + i) 6 (λ e. absurd (omega arith)),
     ) (ap Gen (omega arith))
 
-pub same_place : (p q : Place) → place_number p ≡ place_number q → p ≡ q
-same_place p q e = sym (decode-number p) ∙ ap decode e ∙ decode-number q
+pub one_place : (p q : Place) → place_number p ≡ place_number q → p ≡ q
+one_place p q e = sym (decode-number p) ∙ ap decode e ∙ decode-number q
 
 -- how often something with a place stands in a list
 abbrev place_at : Option Node → Option Place
@@ -95,7 +95,7 @@ module _ (store : Store) (listed : IsListed store) where
   pub where_is : (p : Place) (s : ℕ) → Includes (list_at store p) s → IsLive store s × (place_of store s ≡ p)
   where_is p s h =
       let found = counted (place_number p) (fin.get store.nodes s) (omega (arith, occurs (list_at store p) s h, stands p s)) in
-      (found.0, same_place (place_of store s) p found.1)
+      (found.0, one_place (place_of store s) p found.1)
 
   pub is_there : (p : Place) (s : ℕ) → IsLive store s → place_of store s ≡ p → Includes (list_at store p) s
   is_there p s live e =

@@ -19,18 +19,18 @@ use Rattle.cg_trial.proofs.Passes.{cand_same, same_more, same_itself, but_number
 use Rattle.cg_trial.proofs.Entries.{refs_same}
 use Rattle.cg_trial.proofs.Sifts.{in_lists, from_first}
 
-abbrev arrow : ℕ → ℕ → Edge
+abbrev pub arrow : ℕ → ℕ → Edge
 arrow o p = record { from = o; to = p }
 
 -- the edges are the references of the members' entries
-edges_in : (v : View) (members : List ℕ) (o p : ℕ) → Includes members o → Includes (references (v.entries o)) p → Includes (edges (graph_in v members)) (arrow o p)
+pub edges_in : (v : View) (members : List ℕ) (o p : ℕ) → Includes members o → Includes (references (v.entries o)) p → Includes (edges (graph_in v members)) (arrow o p)
 edges_in v [] o p h k = absurd h
 edges_in v (m ∷ members) o p (inl e) k =
     Includes-append_left (map (arrow m) (references (v.entries m))) (edges (graph_in v members)) (arrow o p)
     (subst (λ q. Includes (map (arrow q) (references (v.entries q))) (arrow o p)) (sym e) (Includes-map (arrow o) (references (v.entries o)) p k))
 edges_in v (m ∷ members) o p (inr h) k = Includes-append_right (map (arrow m) (references (v.entries m))) (edges (graph_in v members)) (arrow o p) (edges_in v members o p h k)
 
-edges_out : (v : View) (members : List ℕ) (o p : ℕ) → Includes (edges (graph_in v members)) (arrow o p) → Includes members o × Includes (references (v.entries o)) p
+pub edges_out : (v : View) (members : List ℕ) (o p : ℕ) → Includes (edges (graph_in v members)) (arrow o p) → Includes members o × Includes (references (v.entries o)) p
 edges_out v [] o p h = absurd h
 edges_out v (m ∷ members) o p h =
     either (Includes-append_cases (map (arrow m) (references (v.entries m))) (edges (graph_in v members)) (arrow o p) h)
@@ -108,6 +108,6 @@ reached_same v m members o same r =
     subst (λ (es : ℕ → List Entry). Reach (λ q. occurrences q (entry_holdings (map (λ p. (p, es p)) members)) < v.degree q) (Includes members) (edges (map (λ p. (p, es p)) members)) o) same.hold
     (subst (λ (d : ℕ → ℕ). Reach (λ q. occurrences q (entry_holdings (graph_in m members)) < d q) (Includes members) (edges (graph_in m members)) o) same.degrees r)
 
-same_back : {v m : View} → IsSame v m → IsSame m v
+pub same_back : {v m : View} → IsSame v m → IsSame m v
 same_back s = record { lives = sym s.lives; hold = sym s.hold; degrees = sym s.degrees; bares = sym s.bares; besides = sym s.besides }
 

@@ -1,6 +1,6 @@
 -- What the calls of a heap change of what the search sees of it.
 use Rattle.std.proofs.Common.{◌≡◌, ◌≢◌, refl, sym, ◌∙◌, ap, subst, ℕ, ◌+◌, ◌<◌, ◌≤◌, ◌⊎◌, inl, inr, List, [], ◌∷◌, ◌++◌, Bool, true, false, cond, set, length, Option, Some, None, IsSome, arith}
-use Rattle.std.specs.Prelude.{◌==◌, if◌then◌else◌, is_some, option_map}
+use Rattle.std.specs.Prelude.{◌==◌, if◌then◌else◌, is_some, option_map, IfSome}
 use Rattle.std.specs.FinMap as fin
 use Rattle.std.specs.Ordering.{nat_cmp}
 use Rattle.std.proofs.lemmas.Bool.{eq-eqb, ne_eqb, cases_eq}
@@ -18,7 +18,7 @@ use Rattle.cg_arena.specs.Nodes.{IsPlace, count_in_list}
 use Rattle.cg_heap.specs.Calls.{IsListed, merged, place_merged, with_node, with_number}
 use Rattle.cg_trial.specs.View.{View, view_of, IsSame, IsSameButNumbers, Numbered, Moved, Merged, bare_node, number_in}
 use Rattle.cg_trial.proofs.Lists.{without-absent, absent}
-use Rattle.cg_trial.proofs.Placed.{same_place, stands, apart, where_is, is_there}
+use Rattle.cg_trial.proofs.Placed.{one_place, stands, apart, where_is, is_there}
 
 -- a change of nodes that leaves all but places and numbers
 module _ (store new : Store) (g : ℕ → Node → Node) (nodes : new.nodes ≡ mapped g store.nodes) (names : new.names ≡ store.names) (last : new.last ≡ store.last) (rows : new.rows ≡ store.rows)
@@ -142,7 +142,7 @@ module _ (store : Store) (listed : IsListed store) (o : ℕ) (live : IsLive stor
 
   other_list : (q : Place) → q ≢ p → list_of lists (place_number q) ≡ without_serial o (list_at store q)
   other_list q differ =
-      get_or-set_other (leaves_list store.lists o here) (place_number p) (place_number q) (list_of (leaves_list store.lists o here) (place_number p) ++ o ∷ []) [] (λ e. differ (same_place q p e))
+      get_or-set_other (leaves_list store.lists o here) (place_number p) (place_number q) (list_of (leaves_list store.lists o here) (place_number p) ++ o ∷ []) [] (λ e. differ (one_place q p e))
       ∙ left_at q
 
   pub moved_view : (new : Store) → new ≡ moved o p store → Moved o p (view_of store) (view_of new)
@@ -174,7 +174,7 @@ module _ (store : Store) (listed : IsListed store) (p q : Place) (differ : p ≢
       known (Some n) = go (place_number n.place == place_number p) n
 
   apart_numbers : place_number q ≢ place_number p
-  apart_numbers e = differ (same_place p q (sym e))
+  apart_numbers e = differ (one_place p q (sym e))
 
   abbrev first_set : List (List ℕ)
   first_set = set store.lists (place_number q) (list_at store q ++ list_at store p)
@@ -188,6 +188,14 @@ module _ (store : Store) (listed : IsListed store) (p q : Place) (differ : p ≢
         ∙ get_or-set_same store.lists (place_number q) (list_at store q ++ list_at store p) [] (omega (arith, listed.ten, below_q));
     emptied = get_or-set_same first_set (place_number p) [] [] (omega (arith, listed.ten, below_p, length-set store.lists (place_number q) (list_at store q ++ list_at store p)));
     others = λ r h k.
-        get_or-set_other first_set (place_number p) (place_number r) [] [] (λ e. h (same_place r p e))
-        ∙ get_or-set_other store.lists (place_number q) (place_number r) (list_at store q ++ list_at store p) [] (λ e. k (same_place r q e));
+        get_or-set_other first_set (place_number p) (place_number r) [] [] (λ e. h (one_place r p e))
+        ∙ get_or-set_other store.lists (place_number q) (place_number r) (list_at store q ++ list_at store p) [] (λ e. k (one_place r q e));
   })
+
+-- the number that the heap tells
+pub number_told : (store : Store) (o k : ℕ) → IsLive store o → IfSome (fin.get store.nodes o) (λ n. k ≡ n.number) → k ≡ number_in (fin.get store.nodes o)
+number_told store o k live told = known (fin.get store.nodes o) live told
+  where
+    known : (x : Option Node) → IsSome x → IfSome x (λ n. k ≡ n.number) → k ≡ number_in x
+    known None h t = absurd (cc)
+    known (Some n) h t = t

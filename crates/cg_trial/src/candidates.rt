@@ -8,10 +8,11 @@ use cg_heap::Heap;
 use cg_kind::Kind;
 use cg_value::Place;
 
-/// Whether the object is a candidate.
+/// Whether the object is a candidate. Then it stands in no other place.
 pub fn is_candidate<B: Kind>(heap: &Heap<B>, object: u64) -> bool
     requires { IsTrue ((view_of heap.now).live object) }
-    ensures { IsTrue result ↔ Includes ((view_of heap.now).listed Place.Cand) object }
+    ensures is { IsTrue result ↔ Includes ((view_of heap.now).listed Place.Cand) object }
+    ensures alone { IsTrue result → (p : Place) → Includes ((view_of heap.now).listed p) object → Place.Cand ≡ p }
 {
     heap.sound();
     matches!(heap.place_of(object), Place::Cand)

@@ -130,19 +130,19 @@ fn take_out<B: Kind, L: Ledger>(heap: &mut Heap<B>, kept: Place, steps: &mut Ste
 
 /// The candidates that nothing outside leads to stay, and the others go to the kept place.
 fn sift<B: Kind, L: Ledger>(heap: &mut Heap<B>, kept: Place, steps: &mut Steps<L>)
-    requires ready { IsReady (view_of heap.old) }
-    requires counted { (o : ℕ) → occurrences o (held_by (view_of heap.old) ((view_of heap.old).listed Place.Cand)) ≤ (view_of heap.old).degree o }
     requires place { IsPlace kept }
     requires apart { kept ≢ Place.Cand }
-    requires alone { IsApart kept (view_of heap.old) }
-    requires empty { (view_of heap.old).listed kept ≡ [] }
+    requires empty { list_at heap.old kept ≡ [] }
     ensures sifted { IsSieved kept (view_of heap.old) (view_of heap.new) }
-    ensures least { steps.old + entries_in (view_of heap.old) ((view_of heap.old).listed Place.Cand) ≤ steps.new }
-    ensures most { steps.new ≤ steps.old + 2 * entries_in (view_of heap.old) ((view_of heap.old).listed Place.Cand) }
+    ensures listed { IsListed heap.new }
+    ensures least { steps.old + entries_in (view_of heap.old) (list_at heap.old Place.Cand) ≤ steps.new }
+    ensures most { steps.new ≤ steps.old + 2 * entries_in (view_of heap.old) (list_at heap.old Place.Cand) }
 {
+    heap.sound();
     copy(heap);
     subtract(heap, steps);
     take_out(heap, kept, steps);
+    heap.sound();
 }
 
 /// Afterwards the unreachable objects of a place are the candidates; the reachable ones stand in that place, or in
@@ -178,5 +178,4 @@ pub fn split<B: Kind, L: Ledger>(heap: &mut Heap<B>, from: Place, steps: &mut St
             sift(heap, from, steps);
         }
     }
-    heap.sound();
 }

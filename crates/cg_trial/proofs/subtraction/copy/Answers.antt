@@ -1,6 +1,5 @@
 use Rattle.cg_trial.specs.View.{view_of}
-use Rattle.std.proofs.Common.{inl}
-use Rattle.cg_trial.proofs.Passes.{copying_first, copying_more, cursor_shorter, copying_at, alive_at, stands_at, but_numbers_more}
+use Rattle.cg_trial.proofs.Passes.{copied_all, copied_at, copying_first, copying_more, cursor_shorter, copying_at, alive_at, stands_at, but_numbers_more}
 use Rattle.cg_trial.proofs.subtraction.copy.Goals as goal
 
 pub objects-init : goal.objects-init
@@ -23,3 +22,6 @@ objects-smaller g c = let so = copying_at (view_of c.args.heap.now) (view_of c.o
 
 pub objects-preserved : goal.objects-preserved
 objects-preserved g c = let so = copying_at (view_of c.args.heap.now) (view_of c.objects.heap) _ _ c.objects.invariant c.in-Some.is in copying_more _ _ _ _ _ _ so c.refs-count.ensures.count c.set_number.ensures c.following-cursor.ensures
+
+pub returns-clause-copied : goal.returns-clause-copied
+returns-clause-copied g c = copied_all (view_of c.args.heap.now) (view_of c.objects.heap) (copied_at (view_of c.args.heap.now) (view_of c.objects.heap) _ c.objects.invariant c.in_default.is)

@@ -1,6 +1,6 @@
 use Rattle.cg_trial.specs.View.{view_of}
 use Rattle.cg_trial.proofs.Passes.{cursor_shorter, alive_at, but_numbers_more, ready_same}
-use Rattle.cg_trial.proofs.Entries.{subtracting_at, subtracting_first, subtracting_room, subtracting_more}
+use Rattle.cg_trial.proofs.Entries.{subtracting_at, subtracting_first, subtracting_room, subtracting_more, subtracting_end}
 use Rattle.cg_trial.proofs.subtraction.subtract.Goals as goal
 
 pub objects-init : goal.objects-init
@@ -28,3 +28,9 @@ objects-smaller g c = let so = subtracting_at (view_of c.args.heap.now) (view_of
 pub objects-preserved : goal.objects-preserved
 objects-preserved g c = let so = subtracting_at (view_of c.args.heap.now) (view_of c.objects.heap) _ _ _ _ c.objects.invariant c.in-Some.is in
     subtracting_more _ _ _ _ _ _ _ _ so c.lower_all.ensures.lowered c.lower_all.ensures.looks c.following-cursor.ensures
+
+pub returns-clause-lowered : goal.returns-clause-lowered
+returns-clause-lowered g c = (subtracting_end (view_of c.args.heap.now) (view_of c.objects.heap) _ _ _ c.objects.invariant c.in_default.is).0
+
+pub returns-clause-looks : goal.returns-clause-looks
+returns-clause-looks g c = (subtracting_end (view_of c.args.heap.now) (view_of c.objects.heap) _ _ _ c.objects.invariant c.in_default.is).1

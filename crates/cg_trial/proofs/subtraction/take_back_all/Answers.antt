@@ -1,6 +1,6 @@
 use Rattle.cg_trial.specs.View.{view_of}
 use Rattle.std.proofs.Common.{arith}
-use Rattle.cg_trial.proofs.Entries.{entry_live_value, entry_live_key}
+use Rattle.cg_trial.proofs.Entries.{entry_live_value, entry_live_key, live_same, length_same}
 use Rattle.cg_trial.proofs.Waking.{waking_first, waking_more, waking_ready, woken_ready}
 use Rattle.cg_trial.proofs.subtraction.take_back_all.Goals as goal
 
@@ -26,3 +26,9 @@ loop-i-preserved g c = record {
   waking = waking_more _ _ _ _ _ _ _ c.loop-i.invariant.waking c.look-entry.ensures.entry c.take_back.ensures c.take_back-in-loop-i.ensures;
   looks = omega arith;
 }
+
+pub look-entry-requires-clause-live : goal.look-entry-requires-clause-live
+look-entry-requires-clause-live g c = live_same (view_of c.args.heap.now) (view_of c.loop-i.heap) c.args.object c.loop-i.invariant.waking.woken.same c.requires.live
+
+pub look-entry-requires-clause-within : goal.look-entry-requires-clause-within
+look-entry-requires-clause-within g c = omega (arith, length_same (view_of c.args.heap.now) (view_of c.loop-i.heap) c.args.object c.loop-i.invariant.waking.woken.same)

@@ -1,5 +1,6 @@
 use Rattle.cg_trial.specs.View.{view_of}
 use Rattle.std.proofs.Common.{arith, sym, ◌∙◌}
+use Rattle.cg_trial.proofs.Views.{number_told}
 use Rattle.cg_trial.proofs.Sifts.{sifting_at, sifting_first, sifting_ready, sifting_live, sifting_pass, pass_lighter, sifting_keep, keep_lighter, sifting_done, keep_looks, kept_entries, empty_entries, sifting_alive}
 use Rattle.cg_trial.proofs.subtraction.take_out.Goals as goal
 
@@ -23,7 +24,7 @@ objects-smaller-then-gc_of-eq0 g c = let so = sifting_at _ (view_of c.args.heap.
 
 pub objects-preserved-then-gc_of-eq0 : goal.objects-preserved-then-gc_of-eq0
 objects-preserved-then-gc_of-eq0 g c = let so = sifting_at _ (view_of c.args.heap.now) (view_of c.objects.heap) _ _ c.objects.invariant.sifting c.in-Some.is in
-    record { sifting = sifting_pass _ _ _ _ _ so (sym c.gc_of.ensures ∙ c.if-gc_of-eq0.true) c.following-cursor.ensures; looks = c.objects.invariant.looks }
+    record { sifting = sifting_pass _ _ _ _ _ so (sym (number_told c.objects.heap _ _ (sifting_live _ _ _ _ c.requires.ready so) c.gc_of.ensures) ∙ c.if-gc_of-eq0.true) c.following-cursor.ensures; looks = c.objects.invariant.looks }
 
 pub take_back_all-requires-clause-ready : goal.take_back_all-requires-clause-ready
 take_back_all-requires-clause-ready g c = sifting_ready _ _ _ _ c.requires.ready c.objects.invariant.sifting
@@ -36,19 +37,19 @@ pub following-cursor-requires-else-gc_of-eq0 : goal.following-cursor-requires-el
 following-cursor-requires-else-gc_of-eq0 g c = let so = sifting_at _ (view_of c.args.heap.now) (view_of c.objects.heap) _ _ c.objects.invariant.sifting c.in-Some.is in
     sifting_alive _ _ _ _ _ _ c.requires.ready so c.take_back_all.ensures.woken
 
-pub move_last-requires : goal.move_last-requires
-move_last-requires g c = let so = sifting_at _ (view_of c.args.heap.now) (view_of c.objects.heap) _ _ c.objects.invariant.sifting c.in-Some.is in
+pub move_last-requires-clause-live : goal.move_last-requires-clause-live
+move_last-requires-clause-live g c = let so = sifting_at _ (view_of c.args.heap.now) (view_of c.objects.heap) _ _ c.objects.invariant.sifting c.in-Some.is in
     sifting_alive _ _ _ _ _ _ c.requires.ready so c.take_back_all.ensures.woken
 
 pub objects-smaller : goal.objects-smaller
 objects-smaller g c = let so = sifting_at _ (view_of c.args.heap.now) (view_of c.objects.heap) _ _ c.objects.invariant.sifting c.in-Some.is in
-    keep_lighter _ _ _ _ _ _ _ c.requires.ready c.requires.apart c.requires.alone so (λ z. c.if-gc_of-eq0.false (c.gc_of.ensures ∙ z)) c.take_back_all.ensures.woken c.following-cursor-else-gc_of-eq0.ensures c.move_last.ensures _ c.in-Some.is
+    keep_lighter _ _ _ _ _ _ _ c.requires.ready c.requires.apart c.requires.alone so (λ z. c.if-gc_of-eq0.false (number_told c.objects.heap _ _ (sifting_live _ _ _ _ c.requires.ready so) c.gc_of.ensures ∙ z)) c.take_back_all.ensures.woken c.following-cursor-else-gc_of-eq0.ensures c.move_last.ensures _ c.in-Some.is
 
 pub objects-preserved : goal.objects-preserved
 objects-preserved g c = let so = sifting_at _ (view_of c.args.heap.now) (view_of c.objects.heap) _ _ c.objects.invariant.sifting c.in-Some.is in
-    let more = keep_looks _ _ _ _ _ _ _ c.requires.ready c.requires.apart c.requires.alone so (λ z. c.if-gc_of-eq0.false (c.gc_of.ensures ∙ z)) c.take_back_all.ensures.woken c.following-cursor-else-gc_of-eq0.ensures c.move_last.ensures in
+    let more = keep_looks _ _ _ _ _ _ _ c.requires.ready c.requires.apart c.requires.alone so (λ z. c.if-gc_of-eq0.false (number_told c.objects.heap _ _ (sifting_live _ _ _ _ c.requires.ready so) c.gc_of.ensures ∙ z)) c.take_back_all.ensures.woken c.following-cursor-else-gc_of-eq0.ensures c.move_last.ensures in
     record {
-      sifting = sifting_keep _ _ _ _ _ _ _ c.requires.ready c.requires.apart c.requires.alone so (λ z. c.if-gc_of-eq0.false (c.gc_of.ensures ∙ z)) c.take_back_all.ensures.woken c.following-cursor-else-gc_of-eq0.ensures c.move_last.ensures;
+      sifting = sifting_keep _ _ _ _ _ _ _ c.requires.ready c.requires.apart c.requires.alone so (λ z. c.if-gc_of-eq0.false (number_told c.objects.heap _ _ (sifting_live _ _ _ _ c.requires.ready so) c.gc_of.ensures ∙ z)) c.take_back_all.ensures.woken c.following-cursor-else-gc_of-eq0.ensures c.move_last.ensures;
       looks = omega arith;
     }
 
