@@ -1,5 +1,5 @@
 -- What the entries of some objects hold is at most what all entries hold, so a count covers it.
-use Rattle.std.proofs.Common.{◌≡◌, ◌≢◌, refl, sym, ◌∙◌, ap, subst, ℕ, ◌+◌, ◌<◌, ◌≤◌, inl, inr, Bool, true, false, cond, List, [], ◌∷◌, Option, Some, None, IsTrue, arith}
+use Rattle.std.proofs.Common.{◌≡◌, ◌≢◌, refl, sym, ◌∙◌, ap, ℕ, ◌+◌, ◌≤◌, inl, inr, Bool, true, false, cond, List, [], ◌∷◌, Option, Some, None, arith}
 use Rattle.std.specs.Prelude.{◌==◌, sum_by}
 use Rattle.std.specs.Ordering.{nat_cmp}
 use Rattle.std.specs.FinMap as fin
@@ -11,7 +11,7 @@ use Rattle.cg_graph.specs.Member.{Includes}
 use Rattle.cg_graph.specs.Value.{references}
 use Rattle.cg_graph.specs.Holdings.{occurrences}
 use Rattle.cg_graph.specs.Maps.{total, part}
-use Rattle.cg_graph.specs.Store.{Store, Node, list_at, entries_in, entries_of, count_of, inner, held_within, held_by, IsLive}
+use Rattle.cg_graph.specs.Store.{Store, Node, list_at, entries_in, entries_of, count_of, inner, held_within, held_by}
 use Rattle.cg_graph.proofs.Maps.{total-remove, get-remove_other}
 use Rattle.cg_heap.specs.Calls.{IsSound}
 use Rattle.cg_trial.specs.View.{View, view_of, IsReady, held_by as held_by_all}

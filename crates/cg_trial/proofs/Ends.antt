@@ -1,5 +1,5 @@
 -- What was sieved is split: in the words of the store, whatever place its members had before.
-use Rattle.std.proofs.Common.{◌≡◌, ◌≢◌, refl, sym, ◌∙◌, ap, subst, ℕ, ◌+◌, ◌*◌, ◌≤◌, cond, List, [], ◌++◌, Option, Some, None, arith}
+use Rattle.std.proofs.Common.{◌≡◌, ◌≢◌, refl, sym, ◌∙◌, ap, subst, ℕ, ◌+◌, cond, List, [], ◌++◌, Option, Some, None, arith}
 use Rattle.std.specs.Prelude.{◌==◌, ◌↔◌, option_map}
 use Rattle.std.specs.FinMap as fin
 use Rattle.cg_value.specs.declared.Place.{Place}
@@ -16,7 +16,7 @@ use Rattle.cg_trial.specs.Paths.{Reached, entries_in}
 use Rattle.cg_trial.specs.Sift.{IsSieved}
 use Rattle.cg_trial.specs.Split.{IsSplitPlace, kept_place, entry_number_at, IsSameNode, IsSameButPlaces}
 use Rattle.cg_trial.proofs.Lists.{occurs}
-use Rattle.cg_trial.proofs.Passes.{same_itself, same_more}
+use Rattle.cg_trial.proofs.Passes.{same_more}
 use Rattle.cg_trial.proofs.Placed.{once_at}
 use Rattle.cg_trial.proofs.Sifts.{in_lists, from_first}
 use Rattle.cg_trial.proofs.Splits.{reached_same, same_back, entries_same}

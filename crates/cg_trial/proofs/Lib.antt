@@ -9,3 +9,4 @@ mod Views
 mod Counted
 mod Objects
 mod Ends
+pub mod Worlds

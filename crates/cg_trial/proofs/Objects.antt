@@ -1,7 +1,7 @@
 -- The objects of a place, as its list has them and as the objects of the store that stand there: the same serials, so the
 -- same holdings, edges, entries and paths.
-use Rattle.std.proofs.Common.{◌≡◌, ◌≢◌, refl, sym, ◌∙◌, ap, subst, ℕ, ◌+◌, ◌<◌, ◌≤◌, ◌⊎◌, inl, inr, Bool, true, false, cond, not, List, [], ◌∷◌, ◌++◌, length, map, Option, Some, None, arith}
-use Rattle.std.specs.Prelude.{◌==◌, ◌↔◌, sum_by, filter, is_some}
+use Rattle.std.proofs.Common.{◌≡◌, ◌≢◌, refl, sym, ◌∙◌, ap, subst, ℕ, ◌+◌, ◌≤◌, ◌⊎◌, inl, inr, Bool, true, false, cond, not, List, [], ◌∷◌, length, map, Option, Some, None, arith}
+use Rattle.std.specs.Prelude.{◌↔◌, sum_by, filter, is_some}
 use Rattle.std.specs.Ordering.{nat_cmp, eq_by_cmp}
 use Rattle.std.specs.Cmp.{nat_cmp_total, unsigned_tied}
 use Rattle.std.specs.FinMap as fin
@@ -14,20 +14,19 @@ use Rattle.cg_value.specs.declared.Place.TheVariants.{Untracked, Gen, Frozen, Ca
 use Rattle.cg_graph.specs.declared.Edge.{Edge}
 use Rattle.cg_graph.specs.Member.{Includes}
 use Rattle.cg_graph.specs.Value.{references}
-use Rattle.cg_graph.specs.Object.{Object, same_place, is_at, objects_at, serials, serials_at}
+use Rattle.cg_graph.specs.Object.{Object, same_place, is_at, objects_at, serials}
 use Rattle.cg_graph.specs.Holdings.{occurrences, entry_holdings, graph_of}
-use Rattle.cg_graph.specs.Rows.{Row}
-use Rattle.cg_graph.specs.Reach.{Reach, edges}
-use Rattle.cg_graph.specs.Reachable.{graph_at, StandsAt, IsHeldFromOutside, IsReachable}
-use Rattle.cg_graph.specs.Store.{Store, Node, list_at, objects_of, object_from, entries_of, entries_in, place_of, place_in, count_of, IsLive}
+use Rattle.cg_graph.specs.Reach.{edges}
+use Rattle.cg_graph.specs.Reachable.{graph_at, StandsAt, IsReachable}
+use Rattle.cg_graph.specs.Store.{Store, Node, list_at, objects_of, object_from, entries_of, entries_in, place_of, place_in, IsLive}
 use Rattle.cg_graph.proofs.Counts.{occurrences-entry_holdings}
-use Rattle.cg_graph.proofs.Members.{either, cases_of, Includes-map, Includes-map_cases, Includes-filter, Includes-filter_cases, Includes-append_left, Includes-append_right, Includes-append_cases}
+use Rattle.cg_graph.proofs.Members.{either, Includes-map, Includes-map_cases, Includes-filter, Includes-filter_cases, Includes-append_left, Includes-append_right, Includes-append_cases}
 use Rattle.cg_graph.proofs.Search.{Reach-mono}
 use Rattle.cg_heap.specs.Calls.{IsListed}
-use Rattle.cg_trial.specs.View.{view_of, held_by}
+use Rattle.cg_trial.specs.View.{view_of}
 use Rattle.cg_trial.specs.Paths.{Reached, graph_in, entries_in as entries_among}
 use Rattle.cg_trial.specs.Split.{IsSplitPlace, entry_number_at}
-use Rattle.cg_trial.proofs.Lists.{occurs, occurs_in, occurrences-cons, sum_by-some}
+use Rattle.cg_trial.proofs.Lists.{occurs, occurrences-cons, sum_by-some}
 use Rattle.cg_trial.proofs.Counted.{occurrences-held_by}
 use Rattle.cg_trial.proofs.Placed.{once_at, where_is, is_there}
 use Rattle.cg_trial.proofs.Splits.{arrow, edges_in, edges_out, holdings_of}
@@ -162,8 +161,7 @@ module _ (store : Store) (listed : IsListed store) (p : Place) (is : IsSplitPlac
       let got : fin.get store.nodes e.0 ≡ Some e.1 = fin.get-entries store.nodes e.0 ∙ found (fin.entries store.nodes) e (once_key store.nodes) entry in
       let serial : e.0 ≡ x.serial = ap (λ (y : Object). y.serial) made in
       let here : fin.get store.nodes x.serial ≡ Some e.1 = ap (fin.get store.nodes) (sym serial) ∙ got in
-      let place : e.1.place ≡ x.place = ap (λ (y : Object). y.place) made in
-      (
+      let place : e.1.place ≡ x.place = ap (λ (y : Object). y.place) made in (
         subst (λ (y : Option Node). is_some y ≡ true) (sym here) refl,
         ap place_in here ∙ place ∙ same_is p x.place is at,
         sym (ap (λ (y : Object). y.entries) made) ∙ sym (ap entries_in here),
@@ -179,8 +177,7 @@ module _ (store : Store) (listed : IsListed store) (p : Place) (is : IsSplitPlac
       let (live, at) = where_is store listed p o h in
       let (n, got) = known (fin.get store.nodes o) live in
       let entry = finds (fin.entries store.nodes) o n (sym (fin.get-entries store.nodes o) ∙ got) in
-      let place : n.place ≡ p = sym (ap place_in got) ∙ at in
-      (
+      let place : n.place ≡ p = sym (ap place_in got) ∙ at in (
         object_from store.rows o n,
         Includes-filter (is_at p) (objects_of store) (object_from store.rows o n) (ap (λ q. same_place q p) place ∙ same_itself p)
             (Includes-map (λ (e : ℕ × Node). object_from store.rows e.0 e.1) (fin.entries store.nodes) (o, n) entry),

@@ -1,23 +1,20 @@
 -- A walk from the objects that kept a number is a path from outside.
-use Rattle.std.proofs.Common.{◌≡◌, ◌≢◌, refl, sym, ◌∙◌, ap, subst, ℕ, ◌+◌, ◌<◌, ◌≤◌, ◌^◌, Bool, cond, inl, inr, List, [], ◌∷◌, ◌++◌, length, map, IsTrue, arith}
-use Rattle.std.specs.Prelude.{◌==◌, sum_by, flat_map}
+use Rattle.std.proofs.Common.{◌≡◌, refl, sym, ◌∙◌, ap, subst, ℕ, ◌+◌, ◌<◌, ◌≤◌, inl, inr, List, [], ◌∷◌, ◌++◌, length, map, arith}
+use Rattle.std.specs.Prelude.{sum_by, flat_map}
 use Rattle.cg_value.specs.declared.Place.{Place}
-use Rattle.cg_value.specs.declared.Place.TheVariants.{Gen, Cand, Back, Untracked}
+use Rattle.cg_value.specs.declared.Place.TheVariants.{Cand}
 use Rattle.cg_value.specs.declared.Entry.{Entry}
 use Rattle.cg_graph.specs.Member.{Includes}
 use Rattle.cg_graph.specs.Holdings.{occurrences, entry_holdings}
-use Rattle.cg_trial.specs.View.{View, IsSame, IsSameButNumbers, Merged, Lowered, IsReady, held_by}
+use Rattle.cg_trial.specs.View.{View, IsSame, IsSameButNumbers, Lowered, held_by}
 use Rattle.cg_graph.specs.Value.{references}
 use Rattle.cg_graph.specs.declared.Edge.{Edge}
 use Rattle.cg_graph.specs.Reach.{edges, Reach, first, next}
 use Rattle.cg_trial.specs.Paths.{graph_in, Reached, entries_in}
-use Rattle.cg_trial.specs.Split.{kept_place}
 use Rattle.cg_trial.specs.Sift.{Walk, starts, goes, IsApart, IsSifted, IsSieved}
 use Rattle.cg_graph.proofs.Members.{Includes-map, Includes-map_cases, either, Includes-append_cases, Includes-append_left, Includes-append_right}
-use Rattle.cg_trial.proofs.Lists.{occurs}
-use Rattle.cg_trial.proofs.Passes.{cand_same, same_more, same_itself, but_numbers_more}
+use Rattle.cg_trial.proofs.Passes.{cand_same, same_more, but_numbers_more}
 use Rattle.cg_trial.proofs.Entries.{refs_same}
-use Rattle.cg_trial.proofs.Sifts.{in_lists, from_first}
 
 abbrev pub arrow : ℕ → ℕ → Edge
 arrow o p = record { from = o; to = p }
@@ -110,4 +107,3 @@ reached_same v m members o same r =
 
 pub same_back : {v m : View} → IsSame v m → IsSame m v
 same_back s = record { lives = sym s.lives; hold = sym s.hold; degrees = sym s.degrees; bares = sym s.bares; besides = sym s.besides }
-

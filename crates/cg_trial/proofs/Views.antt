@@ -1,24 +1,21 @@
 -- What the calls of a heap change of what the search sees of it.
-use Rattle.std.proofs.Common.{◌≡◌, ◌≢◌, refl, sym, ◌∙◌, ap, subst, ℕ, ◌+◌, ◌<◌, ◌≤◌, ◌⊎◌, inl, inr, List, [], ◌∷◌, ◌++◌, Bool, true, false, cond, set, length, Option, Some, None, IsSome, arith}
+use Rattle.std.proofs.Common.{◌≡◌, ◌≢◌, refl, sym, ◌∙◌, ap, subst, ℕ, ◌+◌, ◌<◌, inl, inr, List, [], ◌∷◌, ◌++◌, Bool, true, false, cond, set, Option, Some, None, IsSome, arith}
 use Rattle.std.specs.Prelude.{◌==◌, if◌then◌else◌, is_some, option_map, IfSome}
 use Rattle.std.specs.FinMap as fin
 use Rattle.std.specs.Ordering.{nat_cmp}
 use Rattle.std.proofs.lemmas.Bool.{eq-eqb, ne_eqb, cases_eq}
-use Rattle.std.proofs.lemmas.List.{get_or-set_same, get_or-set_other, length-set, get_or_past}
+use Rattle.std.proofs.lemmas.List.{get_or-set_same, get_or-set_other, length-set}
 use Rattle.cg_value.specs.declared.Place.{Place}
-use Rattle.cg_value.specs.declared.Entry.{Entry}
-use Rattle.cg_graph.specs.Member.{Includes}
-use Rattle.cg_graph.specs.Holdings.{occurrences}
 use Rattle.cg_graph.specs.Maps.{mapped, changed}
-use Rattle.cg_graph.specs.Places.{place_number, list_of, without_serial, leaves_list, move_between, merge_lists}
-use Rattle.cg_graph.specs.Store.{Store, Node, list_at, place_of, place_in, IsLive, entries_in, count_of, held_within, held_by, outside_in}
+use Rattle.cg_graph.specs.Places.{place_number, list_of, without_serial, leaves_list, move_between}
+use Rattle.cg_graph.specs.Store.{Store, Node, list_at, place_of, place_in, IsLive, entries_in, held_within, held_by, outside_in}
 use Rattle.cg_graph.specs.Changes.{moved, with_place}
 use Rattle.cg_graph.proofs.Maps.{get-mapped, total-mapped, get-changed_same, get-changed_other}
-use Rattle.cg_arena.specs.Nodes.{IsPlace, count_in_list}
+use Rattle.cg_arena.specs.Nodes.{IsPlace}
 use Rattle.cg_heap.specs.Calls.{IsListed, merged, place_merged, with_node, with_number}
-use Rattle.cg_trial.specs.View.{View, view_of, IsSame, IsSameButNumbers, Numbered, Moved, Merged, bare_node, number_in}
-use Rattle.cg_trial.proofs.Lists.{without-absent, absent}
-use Rattle.cg_trial.proofs.Placed.{one_place, stands, apart, where_is, is_there}
+use Rattle.cg_trial.specs.View.{view_of, IsSame, Numbered, Moved, Merged, bare_node, number_in}
+use Rattle.cg_trial.proofs.Lists.{without-absent}
+use Rattle.cg_trial.proofs.Placed.{one_place, apart, is_there}
 
 -- a change of nodes that leaves all but places and numbers
 module _ (store new : Store) (g : ℕ → Node → Node) (nodes : new.nodes ≡ mapped g store.nodes) (names : new.names ≡ store.names) (last : new.last ≡ store.last) (rows : new.rows ≡ store.rows)

@@ -2,7 +2,7 @@
 use Rattle.std.specs.Prelude.{ℕ, ◌<◌, List, map, length, sum_by}
 use Rattle.cg_graph.specs.Member.{Includes}
 use Rattle.cg_graph.specs.Holdings.{Graph, occurrences, entry_holdings}
-use Rattle.cg_graph.specs.Reach.{Reach, Unreachable, edges}
+use Rattle.cg_graph.specs.Reach.{Reach, edges}
 use Rattle.cg_trial.specs.View.{View}
 
 -- the graph of some objects

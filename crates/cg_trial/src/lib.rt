@@ -5,9 +5,12 @@
 //!
 //! - `candidates`: what the search asks of the heap.
 //! - `subtraction`: the two passes.
+//! - `laws`: what is reachable in a heap is what survives in the world that it stands for.
 #![tactic(auto)]
 
 mod candidates;
+mod laws;
 mod subtraction;
 
+pub use laws::reachable_in_a_heap_survives_in_its_world;
 pub use subtraction::split;

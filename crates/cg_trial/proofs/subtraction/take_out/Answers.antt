@@ -1,3 +1,5 @@
+use Rattle.cg_graph.specs.Value.{references}
+use Rattle.cg_graph.specs.Store.{entries_of}
 use Rattle.cg_trial.specs.View.{view_of}
 use Rattle.std.proofs.Common.{arith, sym, ◌∙◌}
 use Rattle.cg_trial.proofs.Views.{number_told}
@@ -35,11 +37,11 @@ take_back_all-requires-clause-live g c = let so = sifting_at _ (view_of c.args.h
 
 pub following-cursor-requires-else-gc_of-eq0 : goal.following-cursor-requires-else-gc_of-eq0
 following-cursor-requires-else-gc_of-eq0 g c = let so = sifting_at _ (view_of c.args.heap.now) (view_of c.objects.heap) _ _ c.objects.invariant.sifting c.in-Some.is in
-    sifting_alive _ _ _ _ _ _ c.requires.ready so c.take_back_all.ensures.woken
+    sifting_alive c.args.kept (view_of c.args.heap.now) (view_of c.objects.heap) (view_of c.take_back_all.new.heap) c.in-Some.object (references (entries_of c.objects.heap c.in-Some.object)) c.requires.ready so c.take_back_all.ensures.woken
 
 pub move_last-requires-clause-live : goal.move_last-requires-clause-live
 move_last-requires-clause-live g c = let so = sifting_at _ (view_of c.args.heap.now) (view_of c.objects.heap) _ _ c.objects.invariant.sifting c.in-Some.is in
-    sifting_alive _ _ _ _ _ _ c.requires.ready so c.take_back_all.ensures.woken
+    sifting_alive c.args.kept (view_of c.args.heap.now) (view_of c.objects.heap) (view_of c.take_back_all.new.heap) c.in-Some.object (references (entries_of c.objects.heap c.in-Some.object)) c.requires.ready so c.take_back_all.ensures.woken
 
 pub objects-smaller : goal.objects-smaller
 objects-smaller g c = let so = sifting_at _ (view_of c.args.heap.now) (view_of c.objects.heap) _ _ c.objects.invariant.sifting c.in-Some.is in
