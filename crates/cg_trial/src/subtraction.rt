@@ -152,8 +152,8 @@ fn sift<B: Kind, L: Ledger>(heap: &mut Heap<B>, kept: Place, steps: &mut Steps<L
 /// than entries of objects of the place hold it: by a name, by an object of another place, or from outside. (Developer
 /// guide, "Identifying reference cycles".)
 ///
-/// The place is a generation, 0 to 2, and then there is no candidate, or `Cand`; and none stands in `Back`. Each entry of
-/// these objects is looked at once or twice. No memory is taken.
+/// The place is a generation, 0 to 2, and then there is no candidate, or `Cand`; and none stands in `Back`. The counter
+/// rises by the number of entries of these objects, or more, and by twice that number at most. No memory is taken.
 pub fn split<B: Kind, L: Ledger>(heap: &mut Heap<B>, from: Place, steps: &mut Steps<L>)
     requires from { IsSplitPlace from }
     requires back { list_at heap.old Place.Back ≡ [] }
