@@ -1,0 +1,181 @@
+//! Trial subtraction, and the walk that takes out what is reached.
+ghost use Rattle.std.specs.Prelude.{◌≡◌, ◌≢◌, ◌↔◌, ℕ, ◌+◌, ◌*◌, ◌≤◌, [], length, IsTrue};
+ghost use Rattle.cg_graph.specs.Member.{Includes};
+ghost use Rattle.cg_graph.specs.Value.{references};
+ghost use Rattle.cg_graph.specs.Holdings.{occurrences};
+ghost use Rattle.cg_graph.specs.Store.{list_at};
+ghost use Rattle.cg_graph.specs.Reachable.{IsReachable, IsUnreachable};
+ghost use Rattle.cg_arena.specs.Nodes.{IsPlace};
+ghost use Rattle.cg_heap.specs.Calls.{IsListed};
+ghost use Rattle.cg_trial.specs.View.{view_of, IsReady, IsSameButNumbers, Lowered, targets, held_by};
+ghost use Rattle.cg_trial.specs.Paths.{entries_in};
+ghost use Rattle.cg_trial.specs.Sift.{Woken, IsApart, IsSifted, IsSieved};
+ghost use Rattle.cg_trial.specs.Split.{IsSplitPlace, kept_place, entry_number_at, IsSameButPlaces};
+
+use crate::candidates::{following, is_candidate, move_last, set_number};
+use cg_heap::{Heap, Steps};
+use cg_kind::Kind;
+use cg_value::{Place, Val};
+use std::sync::ledger::Ledger;
+
+/// Each candidate's number becomes its count.
+fn copy<B: Kind>(heap: &mut Heap<B>)
+    requires ready { IsReady (view_of heap.old) }
+    ensures same { IsSameButNumbers (view_of heap.old) (view_of heap.new) }
+    ensures copied { (o : ℕ) → Includes ((view_of heap.old).listed Place.Cand) o → (view_of heap.new).number o ≡ (view_of heap.old).degree o }
+{
+    let mut cursor = heap.first(Place::Cand);
+    'objects: while let Some(object) = cursor {
+        let count = heap.refs(object) as u32;
+        set_number(heap, object, count);
+        cursor = following(heap, object);
+    }
+}
+
+/// A reference to a candidate lowers its number by one.
+fn lower<B: Kind>(heap: &mut Heap<B>, value: Val)
+    requires live { (o : ℕ) → Includes (targets value) o → IsTrue ((view_of heap.old).live o) }
+    requires room { (o : ℕ) → Includes ((view_of heap.old).listed Place.Cand) o → occurrences o (targets value) ≤ (view_of heap.old).number o }
+    ensures { Lowered (targets value) (view_of heap.old) (view_of heap.new) }
+{
+    if let Val::Ref(object) = value {
+        if is_candidate(heap, object) {
+            let number = heap.gc_of(object) - 1;
+            set_number(heap, object, number);
+        }
+    }
+}
+
+/// Each reference of the object's entries lowers its candidate's number by one.
+fn lower_all<B: Kind, L: Ledger>(heap: &mut Heap<B>, object: u64, steps: &mut Steps<L>)
+    requires ready { IsReady (view_of heap.old) }
+    requires live { IsTrue ((view_of heap.old).live object) }
+    requires room { (o : ℕ) → Includes ((view_of heap.old).listed Place.Cand) o → occurrences o (references ((view_of heap.old).entries object)) ≤ (view_of heap.old).number o }
+    ensures lowered { Lowered (references ((view_of heap.old).entries object)) (view_of heap.old) (view_of heap.new) }
+    ensures looks { steps.new ≡ steps.old + length ((view_of heap.old).entries object) }
+{
+    for i in 0..heap.len(object) {
+        let entry = heap.look(object, i, steps);
+        lower(heap, entry.val);
+        lower(heap, entry.key);
+    }
+}
+
+/// Each reference of the candidates' entries lowers its candidate's number by one.
+fn subtract<B: Kind, L: Ledger>(heap: &mut Heap<B>, steps: &mut Steps<L>)
+    requires ready { IsReady (view_of heap.old) }
+    requires room { (o : ℕ) → Includes ((view_of heap.old).listed Place.Cand) o → occurrences o (held_by (view_of heap.old) ((view_of heap.old).listed Place.Cand)) ≤ (view_of heap.old).number o }
+    ensures lowered { Lowered (held_by (view_of heap.old) ((view_of heap.old).listed Place.Cand)) (view_of heap.old) (view_of heap.new) }
+    ensures looks { steps.new ≡ steps.old + entries_in (view_of heap.old) ((view_of heap.old).listed Place.Cand) }
+{
+    let mut cursor = heap.first(Place::Cand);
+    'objects: while let Some(object) = cursor {
+        lower_all(heap, object, steps);
+        cursor = following(heap, object);
+    }
+}
+
+/// A candidate with the number 0 gets the number 1 and the last place in the list, so that the walk comes to it.
+fn take_back<B: Kind>(heap: &mut Heap<B>, value: Val)
+    requires ready { IsReady (view_of heap.old) }
+    requires live { (o : ℕ) → Includes (targets value) o → IsTrue ((view_of heap.old).live o) }
+    ensures { Woken (targets value) (view_of heap.old) (view_of heap.new) }
+{
+    if let Val::Ref(object) = value {
+        if is_candidate(heap, object) {
+            if heap.gc_of(object) == 0 {
+                set_number(heap, object, 1);
+                move_last(heap, object, Place::Cand);
+            }
+        }
+    }
+}
+
+/// What the object's entries refer to is taken back.
+fn take_back_all<B: Kind, L: Ledger>(heap: &mut Heap<B>, object: u64, steps: &mut Steps<L>)
+    requires ready { IsReady (view_of heap.old) }
+    requires live { IsTrue ((view_of heap.old).live object) }
+    ensures woken { Woken (references ((view_of heap.old).entries object)) (view_of heap.old) (view_of heap.new) }
+    ensures looks { steps.new ≡ steps.old + length ((view_of heap.old).entries object) }
+{
+    for i in 0..heap.len(object) {
+        let entry = heap.look(object, i, steps);
+        take_back(heap, entry.val);
+        take_back(heap, entry.key);
+    }
+}
+
+/// The candidates that have a number, and what they lead to, go to the kept place.
+fn take_out<B: Kind, L: Ledger>(heap: &mut Heap<B>, kept: Place, steps: &mut Steps<L>)
+    requires ready { IsReady (view_of heap.old) }
+    requires place { IsPlace kept }
+    requires apart { kept ≢ Place.Cand }
+    requires alone { IsApart kept (view_of heap.old) }
+    requires empty { (view_of heap.old).listed kept ≡ [] }
+    ensures sifted { IsSifted kept (view_of heap.old) (view_of heap.new) }
+    ensures later { steps.old ≤ steps.new }
+    ensures looks { steps.new ≤ steps.old + entries_in (view_of heap.old) ((view_of heap.old).listed Place.Cand) }
+{
+    let mut cursor = heap.first(Place::Cand);
+    'objects: while let Some(object) = cursor {
+        if heap.gc_of(object) == 0 {
+            cursor = following(heap, object);
+        } else {
+            take_back_all(heap, object, steps);
+            cursor = following(heap, object);
+            move_last(heap, object, kept);
+        }
+    }
+}
+
+/// The candidates that nothing outside leads to stay, and the others go to the kept place.
+fn sift<B: Kind, L: Ledger>(heap: &mut Heap<B>, kept: Place, steps: &mut Steps<L>)
+    requires place { IsPlace kept }
+    requires apart { kept ≢ Place.Cand }
+    requires empty { list_at heap.old kept ≡ [] }
+    ensures sifted { IsSieved kept (view_of heap.old) (view_of heap.new) }
+    ensures listed { IsListed heap.new }
+    ensures least { steps.old + entries_in (view_of heap.old) (list_at heap.old Place.Cand) ≤ steps.new }
+    ensures most { steps.new ≤ steps.old + 2 * entries_in (view_of heap.old) (list_at heap.old Place.Cand) }
+{
+    heap.sound();
+    copy(heap);
+    subtract(heap, steps);
+    take_out(heap, kept, steps);
+    heap.sound();
+}
+
+/// Afterwards the unreachable objects of a place are the candidates; the reachable ones stand in that place, or in
+/// `Back` where they were candidates. The order in both lists is free.
+///
+/// An object of the place is reachable where a path of objects of the place leads to it from one that is held more often
+/// than entries of objects of the place hold it: by a name, by an object of another place, or from outside. (Developer
+/// guide, "Identifying reference cycles".)
+///
+/// The place is a generation, 0 to 2, and then there is no candidate, or `Cand`; and none stands in `Back`. The counter
+/// rises by the number of entries of these objects, or more, and by twice that number at most. No memory is taken.
+pub fn split<B: Kind, L: Ledger>(heap: &mut Heap<B>, from: Place, steps: &mut Steps<L>)
+    requires from { IsSplitPlace from }
+    requires back { list_at heap.old Place.Back ≡ [] }
+    requires candidates { from ≢ Place.Cand → list_at heap.old Place.Cand ≡ [] }
+
+    ensures unreachable { (o : ℕ) → Includes (list_at heap.new Place.Cand) o ↔ IsUnreachable heap.old from o }
+    ensures reachable { (o : ℕ) → Includes (list_at heap.new (kept_place from)) o ↔ IsReachable heap.old from o }
+
+    // Nothing else changes but the collector's numbers.
+    ensures others { (p : Place) → p ≢ Place.Cand → p ≢ kept_place from → list_at heap.new p ≡ list_at heap.old p }
+    ensures same { IsSameButPlaces heap.old heap.new }
+    ensures listed { IsListed heap.new }
+
+    ensures least { steps.old + entry_number_at heap.old from ≤ steps.new }
+    ensures most { steps.new ≤ steps.old + 2 * entry_number_at heap.old from }
+{
+    heap.sound();
+    match from {
+        Place::Cand => sift(heap, Place::Back, steps),
+        _ => {
+            heap.merge(from, Place::Cand);
+            sift(heap, from, steps);
+        }
+    }
+}
