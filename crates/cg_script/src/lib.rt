@@ -6,13 +6,23 @@
 #![tactic(auto)]
 
 mod command;
+mod draft;
 mod fault;
+mod form;
 mod item;
+mod line;
 mod members;
+mod parse;
+mod part;
+mod pieces;
+mod said;
+mod table;
+mod word;
 
 pub use command::{Command, Operand};
 pub use fault::ScriptFault;
 pub use item::{ClassDef, Item, Proc, Script};
+pub use parse::parse;
 pub use members::{Commands, Items, Operands};
 
 #[cfg(test)]
