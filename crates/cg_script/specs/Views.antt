@@ -1,14 +1,14 @@
 -- What the parts of the reader stand for. (Ours.)
 use Rattle.std.specs.Prelude.{◌≡◌, ℕ, ◌+◌, ◌*◌, ◌≤◌, List, [], ◌∷◌, ◌++◌, Bool, true, false, not, map, length, Option, None, Some, is_some}
 use Rattle.cg_script.specs.declared.item.Item.{Item}
-use Rattle.cg_script.specs.declared.item.Item.TheVariants as items
+use Rattle.cg_script.specs.declared.item.Item.TheVariants as variants
 use Rattle.cg_script.specs.declared.form.Form.{Form}
 use Rattle.cg_script.specs.declared.form.Grammar.{Grammar}
 use Rattle.cg_script.specs.declared.part.Said.{Said}
 use Rattle.cg_script.specs.declared.part.Said.TheVariants.{Declares, Begins, Ends, Does}
 use Rattle.cg_script.specs.declared.line.Line.{Line}
 use Rattle.cg_script.specs.declared.line.Line.TheVariants as lines
-use Rattle.cg_script.specs.declared.draft.Open.{Open}
+use Rattle.cg_script.specs.declared.draft.Begun.{Begun}
 use Rattle.cg_script.specs.declared.draft.Draft.{Draft}
 use Rattle.cg_script.specs.Meanings.{Meaning, passed, says, bad}
 use Rattle.cg_script.specs.Parts.{Known, parts_of}
@@ -23,12 +23,12 @@ meaning_of (lines.Bad code) = bad code
 
 -- what a draft knows
 abbrev pub known_of : Draft → Known
-known_of draft = record { texts = draft.names; procs = draft.procs; classes = draft.classes; budget = draft.budget; inside = is_some draft.open }
+known_of draft = record { texts = draft.names; procs = draft.procs; classes = draft.classes; budget = draft.budget; inside = is_some draft.begun }
 
--- these items, and behind them those of what is said later; a procedure that is open goes on
-abbrev pub grouped : List Item → Option Open → List Said → List Item
+-- these items, and behind them those of what is said later; a procedure that is begun goes on
+abbrev pub grouped : List Item → Option Begun → List Said → List Item
 grouped items None later = items ++ items_of false later
-grouped items (Some open) later = items ++ items.Def (record { name = open.name; body = open.body.items ++ body_of later }) ∷ items_of true later
+grouped items (Some begun) later = items ++ variants.Def (record { name = begun.name; body = begun.body.items ++ body_of later }) ∷ items_of true later
 
 -- a declaration stands outside procedures, and `end` inside one
 abbrev pub is_placed : Said → Bool → Bool
@@ -37,7 +37,7 @@ is_placed (Begins name) inside = not inside
 is_placed Ends inside = inside
 is_placed (Does command) inside = true
 
--- whether a procedure is open behind this
+-- whether a procedure is begun behind this
 abbrev pub inside_behind : Said → Bool → Bool
 inside_behind (Declares item) inside = inside
 inside_behind (Begins name) inside = true
@@ -47,10 +47,10 @@ inside_behind (Does command) inside = inside
 -- The draft has taken a line that says this.
 pub record Takes (old : Draft) (form : Form) (words : List (List ℕ)) (new : Draft) : Type 0 where
   pub known : known_of new ≡ known_after (known_of old) form words
-  pub items : (later : List Said) → grouped new.items.items new.open later ≡ grouped old.items.items old.open (said form (parts_of (known_of old) form words) ∷ later)
+  pub items : (later : List Said) → grouped new.items.items new.begun later ≡ grouped old.items.items old.begun (said form (parts_of (known_of old) form words) ∷ later)
 
 abbrev pub script_after : Draft → Lines → Reading
-script_after draft (good texts later) = spells texts (grouped draft.items.items draft.open later)
+script_after draft (good texts later) = spells texts (grouped draft.items.items draft.begun later)
 script_after draft (spoilt number code) = faulty number code
 
 -- the reading of these lines behind a draft

@@ -4,7 +4,7 @@ ghost use Rattle.cg_script.specs.declared.part.Said.{Said as AnySaid};
 ghost use Rattle.cg_script.specs.declared.part.Said.TheVariants.{Does, Ends};
 ghost use Rattle.cg_script.specs.Forms.{row};
 ghost use Rattle.cg_script.specs.Meanings.{all_fit};
-ghost use Rattle.cg_script.specs.Reading.{is_misplaced, is_repeated, fault_in, procs_after, classes_after, budget_after, inside_after};
+ghost use Rattle.cg_script.specs.Reading.{nothing_known, is_misplaced, is_repeated, fault_in, procs_after, classes_after, budget_after, inside_after};
 ghost use Rattle.cg_script.specs.Views.{known_of, grouped, is_placed, inside_behind, Takes};
 
 use crate::command::Command;
@@ -18,9 +18,9 @@ use crate::word::text_of_identifier;
 use cg_value::Names;
 use std::alloc::{AllocError, Global};
 
-/// A procedure that is open.
+/// A procedure that is begun.
 #[derive(Drop)]
-pub(crate) struct Open {
+pub(crate) struct Begun {
     pub name: u32,
     pub body: Vec<Command>,
 }
@@ -34,17 +34,14 @@ pub(crate) struct Draft {
     pub classes: Table,
     pub budget: bool,
     pub items: Vec<Item>,
-    pub open: Option<Open>,
+    pub begun: Option<Begun>,
 }
 
 /// No line yet.
 pub(crate) fn empty(alloc: Global) -> Draft
-    ensures names { result.names ≡ [] }
-    ensures procs { result.procs ≡ [] }
-    ensures classes { result.classes ≡ [] }
-    ensures budget { result.budget ≡ false }
+    ensures known { known_of result ≡ nothing_known }
     ensures items { result.items.items ≡ [] }
-    ensures open { result.open ≡ None }
+    ensures begun { result.begun ≡ None }
 {
     Draft {
         alloc,
@@ -53,7 +50,7 @@ pub(crate) fn empty(alloc: Global) -> Draft
         classes: Table::new(alloc),
         budget: false,
         items: Vec::new(alloc),
-        open: None,
+        begun: None,
     }
 }
 
@@ -93,7 +90,7 @@ fn define(draft: &mut Draft, form: Form, words: &[&[u8]]) -> Result<(), AllocErr
     ensures budget { OnOk result (draft.new.budget ≡ budget_after draft.old.budget form) }
     ensures names { OnOk result (draft.new.names ≡ draft.old.names) }
     ensures items { OnOk result (draft.new.items ≡ draft.old.items) }
-    ensures open { OnOk result (draft.new.open ≡ draft.old.open) }
+    ensures begun { OnOk result (draft.new.begun ≡ draft.old.begun) }
 {
     match form {
         Form::Def => draft.procs.add(text_of_identifier(words[1])),
@@ -106,31 +103,31 @@ fn define(draft: &mut Draft, form: Form, words: &[&[u8]]) -> Result<(), AllocErr
     }
 }
 
-/// A command goes to the procedure that is open, or else to the items.
+/// A command goes to the procedure that is begun, or else to the items.
 fn push_command(
     items: &mut Vec<Item>,
-    open: &mut Option<Open>,
+    begun: &mut Option<Begun>,
     command: Command,
 ) -> Result<(), AllocError>
-    ensures grouped { OnOk result ((later : List AnySaid) → grouped items.new.items open.new later ≡ grouped items.old.items open.old (Does command ∷ later)) }
-    ensures inside { is_some open.new ≡ is_some open.old }
+    ensures grouped { OnOk result ((later : List AnySaid) → grouped items.new.items begun.new later ≡ grouped items.old.items begun.old (Does command ∷ later)) }
+    ensures inside { is_some begun.new ≡ is_some begun.old }
     ensures few { length items.new.items ≤ length items.old.items + 1 }
 {
-    match open {
+    match begun {
         Some(procedure) => procedure.body.push(command)?,
         None => items.push(Item::Run(command))?,
     }
     Ok(())
 }
 
-/// The procedure that is open goes to the items.
-fn close(items: &mut Vec<Item>, open: &mut Option<Open>) -> Result<(), AllocError>
-    requires { is_some open.old ≡ true }
-    ensures grouped { OnOk result ((later : List AnySaid) → grouped items.new.items open.new later ≡ grouped items.old.items open.old (Ends ∷ later)) }
-    ensures outside { OnOk result (open.new ≡ None) }
+/// The procedure that is begun goes to the items.
+fn close(items: &mut Vec<Item>, begun: &mut Option<Begun>) -> Result<(), AllocError>
+    requires { is_some begun.old ≡ true }
+    ensures grouped { OnOk result ((later : List AnySaid) → grouped items.new.items begun.new later ≡ grouped items.old.items begun.old (Ends ∷ later)) }
+    ensures outside { OnOk result (begun.new ≡ None) }
     ensures few { length items.new.items ≤ length items.old.items + 1 }
 {
-    match open.take() {
+    match begun.take() {
         Some(procedure) => {
             items.push(Item::Def(Proc {
                 name: procedure.name,
@@ -142,16 +139,16 @@ fn close(items: &mut Vec<Item>, open: &mut Option<Open>) -> Result<(), AllocErro
     }
 }
 
-/// What a line says goes to the items, or to the procedure that is open.
+/// What a line says goes to the items, or to the procedure that is begun.
 fn push(
     alloc: Global,
     items: &mut Vec<Item>,
-    open: &mut Option<Open>,
+    begun: &mut Option<Begun>,
     what: Said,
 ) -> Result<(), AllocError>
-    requires { is_placed what (is_some open.old) ≡ true }
-    ensures grouped { OnOk result ((later : List AnySaid) → grouped items.new.items open.new later ≡ grouped items.old.items open.old (what ∷ later)) }
-    ensures inside { OnOk result (is_some open.new ≡ inside_behind what (is_some open.old)) }
+    requires { is_placed what (is_some begun.old) ≡ true }
+    ensures grouped { OnOk result ((later : List AnySaid) → grouped items.new.items begun.new later ≡ grouped items.old.items begun.old (what ∷ later)) }
+    ensures inside { OnOk result (is_some begun.new ≡ inside_behind what (is_some begun.old)) }
     ensures few { length items.new.items ≤ length items.old.items + 1 }
 {
     match what {
@@ -160,14 +157,14 @@ fn push(
             Ok(())
         }
         Said::Begins(name) => {
-            *open = Some(Open {
+            *begun = Some(Begun {
                 name,
                 body: Vec::new(alloc),
             });
             Ok(())
         }
-        Said::Ends => close(items, open),
-        Said::Does(command) => push_command(items, open, command),
+        Said::Ends => close(items, begun),
+        Said::Does(command) => push_command(items, begun, command),
     }
 }
 
@@ -197,7 +194,7 @@ pub(crate) fn take_words(
     ensures few_names { result ≡ Ok None → length draft.new.names ≤ length draft.old.names + 64 }
     ensures few_items { result ≡ Ok None → length draft.new.items.items ≤ length draft.old.items.items + 1 }
 {
-    if stands_wrong(form, draft.open.is_some()) {
+    if stands_wrong(form, draft.begun.is_some()) {
         return Ok(Some(WRONG_PLACE));
     }
     if defines_again(draft, form, words) {
@@ -209,6 +206,6 @@ pub(crate) fn take_words(
     }
     let what = said_of(draft.alloc, form, &parts)?;
     define(draft, form, words)?;
-    push(draft.alloc, &mut draft.items, &mut draft.open, what)?;
+    push(draft.alloc, &mut draft.items, &mut draft.begun, what)?;
     Ok(None)
 }

@@ -12,9 +12,10 @@ mod form;
 mod item;
 mod line;
 mod members;
-mod parse;
+
 mod part;
 mod pieces;
+mod reader;
 mod said;
 mod table;
 mod word;
@@ -22,7 +23,7 @@ mod word;
 pub use command::{Command, Operand};
 pub use fault::ScriptFault;
 pub use item::{ClassDef, Item, Proc, Script};
-pub use parse::parse;
+pub use reader::parse;
 pub use members::{Commands, Items, Operands};
 
 #[cfg(test)]

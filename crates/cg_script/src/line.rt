@@ -89,7 +89,7 @@ fn has_two_alike(form: Form, words: &[&[u8]]) -> bool
 
 /// The words of a line of this form.
 fn formed_line<'a>(grammar: Grammar, form: Form, words: Words<'a>) -> Line<'a>
-    ensures { meaning_of result ≡ formed grammar form (map (λ w. w.now) words.items) }
+    ensures { meaning_of result ≡ formed grammar form (map (λ w. w.now) words.entry.items) }
 {
     let row = row_for(form);
     let read = most_read(grammar, form);
@@ -125,7 +125,7 @@ fn form_of_binding(words: &[&[u8]]) -> Form
 /// A line of these words, which is not passed over.
 fn line_of_words<'a>(grammar: Grammar, words: Words<'a>) -> Line<'a>
     requires { 1 ≤ length words.items }
-    ensures { meaning_of result ≡ worded grammar (map (λ w. w.now) words.items) }
+    ensures { meaning_of result ≡ worded grammar (map (λ w. w.now) words.entry.items) }
 {
     if words.len() >= 2 && has_word(&words, 1, b"=") {
         if words.len() == 2 {

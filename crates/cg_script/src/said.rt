@@ -97,8 +97,8 @@ fn values_from(alloc: Global, parts: &[Part], place: usize) -> Result<Operands, 
     ensures { IfOk result (λ values. values ≡ values_in parts.now place) }
 {
     let mut values = Vec::new(alloc);
-    'parts: for part in parts.iter().skip(place) {
-        values.push(value_of(part))?;
+    'places: for at in place..parts.len() {
+        values.push(value_of(&parts[at]))?;
     }
     Ok(Operands::new(values))
 }

@@ -13,9 +13,9 @@ use std::marker::Model;
 pub(crate) fn named<T: Copy>(table: &[(&[u8], T)], word: &[u8]) -> Option<T>
     ensures { result ≡ named_in (map (λ row. (row.0.now, row.1)) table.now) word.now }
 {
-    for (other, meant) in table {
-        if word == *other {
-            return Some(*meant);
+    'rows: for row in table {
+        if word == row.0 {
+            return Some(row.1);
         }
     }
     None

@@ -155,10 +155,22 @@ pub(crate) fn begins_as_name(word: &[u8]) -> bool
     }
 }
 
+fn is_digit_byte(byte: u8) -> bool
+    ensures { result ≡ is_digit byte }
+{
+    byte.is_ascii_digit()
+}
+
+fn has_digits_alone(word: &[u8]) -> bool
+    ensures { result ≡ list_all is_digit word.now }
+{
+    word.iter().all(|byte| is_digit_byte(*byte))
+}
+
 fn are_digits_word(word: &[u8], most: usize) -> bool
     ensures { result ≡ are_digits most word.now }
 {
-    !word.is_empty() && word.len() <= most && word.iter().all(|byte| byte.is_ascii_digit())
+    !word.is_empty() && word.len() <= most && has_digits_alone(word)
 }
 
 /// The most digits of a number.

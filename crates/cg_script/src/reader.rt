@@ -1,7 +1,8 @@
 //! A whole script, line by line.
-ghost use Rattle.std.specs.Prelude.{◌≡◌, ◌+◌, ◌<◌, ◌≤◌, ◌∷◌, ℕ, List, length, IfOk, IfErr, OnOk, OnErr};
-ghost use Rattle.cg_script.specs.Texts.{TextsAreKnown};
+ghost use Rattle.std.specs.Prelude.{◌≡◌, ◌+◌, ◌<◌, ◌≤◌, [], ◌∷◌, ℕ, List, length, IfOk, IfErr, OnOk, OnErr};
+ghost use Rattle.cg_script.specs.Pieces.{lines_of};
 ghost use Rattle.cg_script.specs.Reading.{reading, reading_by, spells};
+ghost use Rattle.cg_script.specs.declared.form.Grammar.{Grammar as AnyGrammar};
 ghost use Rattle.cg_script.specs.Views.{reading_after, IsSmall};
 ghost use Rattle.cg_script.specs.Faults.{IsFault};
 
@@ -14,7 +15,7 @@ use crate::members::Items;
 use crate::pieces::cut;
 use std::alloc::Global;
 
-/// A procedure that is open at the end.
+/// A procedure that is begun and not ended.
 const NO_END: u8 = 7;
 
 /// Takes the line of this number.
@@ -40,6 +41,45 @@ fn take_line(
     }
 }
 
+/// Takes all lines, and answers the number that the line behind them would have.
+fn take_lines(draft: &mut Draft, grammar: Grammar, bytes: &[u8]) -> Result<u32, ScriptFault>
+    requires { IsSmall draft.old 1 }
+    ensures ok { IfOk result (λ number. reading_after grammar draft.new number [] ≡ reading_after grammar draft.old 1 (lines_of bytes.now)) }
+    ensures small { IfOk result (λ number. IsSmall draft.new number) }
+    ensures fault { IfErr result (λ fault. IsFault fault (reading_after grammar draft.old 1 (lines_of bytes.now))) }
+{
+    let mut number: u32 = 1;
+    let mut rest = bytes;
+    'lines: while !rest.is_empty() {
+        let (line, after) = cut(rest, b'\n');
+        if let Err(fault) = take_line(draft, grammar, number, line) {
+            return Err(fault);
+        }
+        number += 1;
+        rest = after;
+    }
+    Ok(number)
+}
+
+/// The script, unless a procedure is not ended.
+fn finish(draft: Draft, number: u32) -> Result<Script, ScriptFault>
+    requires { IsSmall draft number }
+    ensures ok { IfOk result (λ script. (grammar : AnyGrammar) → reading_after grammar draft number [] ≡ spells script.names script.items) }
+    ensures fault { IfErr result (λ fault. (grammar : AnyGrammar) → IsFault fault (reading_after grammar draft number [])) }
+    ensures few_items { IfOk result (λ script. length script.items ≤ 400000) }
+{
+    if draft.begun.is_some() {
+        return Err(ScriptFault::Bad {
+            line: number,
+            code: NO_END,
+        });
+    }
+    Ok(Script {
+        names: draft.names,
+        items: Items::new(draft.items),
+    })
+}
+
 /// The script that the bytes spell by one of the grammars.
 pub(crate) fn parse_by(
     alloc: Global,
@@ -51,24 +91,10 @@ pub(crate) fn parse_by(
     ensures few_items { IfOk result (λ script. length script.items ≤ 400000) }
 {
     let mut draft = empty(alloc);
-    let mut number: u32 = 1;
-    let mut rest = bytes;
-    'lines: while !rest.is_empty() {
-        let (line, after) = cut(rest, b'\n');
-        take_line(&mut draft, grammar, number, line)?;
-        number += 1;
-        rest = after;
+    match take_lines(&mut draft, grammar, bytes) {
+        Ok(number) => finish(draft, number),
+        Err(fault) => Err(fault),
     }
-    if draft.open.is_some() {
-        return Err(ScriptFault::Bad {
-            line: number,
-            code: NO_END,
-        });
-    }
-    Ok(Script {
-        names: draft.names,
-        items: Items::new(draft.items),
-    })
 }
 
 /// The script that the bytes spell. Lines end with line feeds, and are counted from 1.
