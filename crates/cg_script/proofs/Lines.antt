@@ -3,14 +3,16 @@ use Rattle.std.proofs.Common.{◌≡◌, ℕ, ◌+◌, ◌≤◌, ◌<◌, List,
 use Rattle.std.proofs.lemmas.Bool.Decides.{nat_tests}
 use Rattle.std.specs.Prelude.{is_some}
 use Rattle.cg_script.specs.declared.form.Form.{Form}
+use Rattle.cg_script.specs.declared.form.Form.TheVariants as forms
 use Rattle.cg_script.specs.declared.form.Grammar.{Grammar}
 use Rattle.cg_script.specs.declared.part.Said.{Said}
 use Rattle.cg_script.specs.declared.draft.Draft.{Draft}
-use Rattle.cg_script.specs.Pieces.{lines_of}
 use Rattle.cg_script.specs.Meanings.{Meaning, passed, says, bad, meaning}
+use Rattle.cg_script.specs.Pieces.{lines_of, word_at}
 use Rattle.cg_script.specs.Parts.{Known, parts_of}
+use Rattle.cg_script.proofs.Places.{length-with_text}
 use Rattle.cg_script.specs.Commands.{said}
-use Rattle.cg_script.specs.Reading.{nothing_known, fault_in, says_or_bad, checked, meant, known_after, Lines, good, spoilt, also_said, with_later, lines_from, items_of, Reading, spells, faulty, script_of}
+use Rattle.cg_script.specs.Reading.{nothing_known, procs_after, classes_after, fault_in, says_or_bad, checked, meant, known_after, Lines, good, spoilt, also_said, with_later, lines_from, items_of, Reading, spells, faulty, script_of}
 use Rattle.cg_script.specs.Views.{known_of, grouped, Takes, script_after, reading_after}
 
 -- the reading behind a draft, by the meaning of the first line
@@ -97,3 +99,11 @@ reads_all grammar draft lines known none closed = ap (λ k. script_after draft (
 pub no_line : (bytes : List ℕ) → true ≡ (length bytes == 0) → lines_of bytes ≡ []
 no_line [] e = refl
 no_line (b ∷ bs) e = absurd (grind (arith, nat_tests))
+
+pub one_proc_more : (procs : List (List ℕ)) (form : Form) (words : List (List ℕ)) → length (procs_after procs form words) ≤ length procs + 1
+one_proc_more procs forms.Def words = length-with_text procs (word_at words 1)
+one_proc_more procs form words = omega arith
+
+pub one_class_more : (classes : List (List ℕ)) (form : Form) (words : List (List ℕ)) → length (classes_after classes form words) ≤ length classes + 1
+one_class_more classes forms.Class words = length-with_text classes (word_at words 1)
+one_class_more classes form words = omega arith

@@ -52,11 +52,13 @@ fn take_lines(draft: &mut Draft, grammar: Grammar, bytes: &[u8]) -> Result<u32, 
     let mut rest = bytes;
     'lines: while !rest.is_empty() {
         let (line, after) = cut(rest, b'\n');
-        if let Err(fault) = take_line(draft, grammar, number, line) {
-            return Err(fault);
+        match take_line(draft, grammar, number, line) {
+            Ok(()) => {
+                number += 1;
+                rest = after;
+            }
+            Err(fault) => return Err(fault),
         }
-        number += 1;
-        rest = after;
     }
     Ok(number)
 }
