@@ -28,3 +28,7 @@ pub use members::{Commands, Items, Operands};
 
 #[cfg(test)]
 mod tests;
+#[cfg(test)]
+mod reader_tests;
+#[cfg(test)]
+mod whole_tests;
