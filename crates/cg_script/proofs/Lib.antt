@@ -6,3 +6,6 @@ pub mod Places
 pub mod Grouped
 pub mod Says
 pub mod Lines
+pub mod Below
+pub mod Known
+pub mod Each

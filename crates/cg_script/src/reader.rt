@@ -1,5 +1,6 @@
 //! A whole script, line by line.
 ghost use Rattle.std.specs.Prelude.{◌≡◌, ◌+◌, ◌<◌, ◌≤◌, [], ◌∷◌, ℕ, List, length, IfOk, IfErr, OnOk, OnErr};
+ghost use Rattle.cg_script.specs.Texts.{TextsAreKnown};
 ghost use Rattle.cg_script.specs.Pieces.{lines_of};
 ghost use Rattle.cg_script.specs.Reading.{reading, reading_by, spells};
 ghost use Rattle.cg_script.specs.declared.form.Grammar.{Grammar as AnyGrammar};
@@ -68,6 +69,7 @@ fn finish(draft: Draft, number: u32) -> Result<Script, ScriptFault>
     requires { IsSmall draft number }
     ensures ok { IfOk result (λ script. (grammar : AnyGrammar) → reading_after grammar draft number [] ≡ spells script.names script.items) }
     ensures fault { IfErr result (λ fault. (grammar : AnyGrammar) → IsFault fault (reading_after grammar draft number [])) }
+    ensures few_texts { IfOk result (λ script. length script.names ≤ 25600000) }
     ensures few_items { IfOk result (λ script. length script.items ≤ 400000) }
 {
     if draft.begun.is_some() {
@@ -90,6 +92,8 @@ pub(crate) fn parse_by(
 ) -> Result<Script, ScriptFault>
     ensures ok { IfOk result (λ script. reading_by grammar bytes.now ≡ spells script.names script.items) }
     ensures fault { IfErr result (λ fault. IsFault fault (reading_by grammar bytes.now)) }
+    ensures known { IfOk result TextsAreKnown }
+    ensures few_texts { IfOk result (λ script. length script.names ≤ 25600000) }
     ensures few_items { IfOk result (λ script. length script.items ≤ 400000) }
 {
     let mut draft = empty(alloc);
@@ -112,6 +116,8 @@ pub fn parse(alloc: Global, bytes: &[u8]) -> Result<Script, ScriptFault>
     ensures fault { IfErr result (λ fault. IsFault fault (reading bytes.now)) }
 
     // What the layers above rest on.
+    ensures known { IfOk result TextsAreKnown }
+    ensures few_texts { IfOk result (λ script. length script.names ≤ 25600000) }
     ensures few_items { IfOk result (λ script. length script.items ≤ 400000) }
 {
     parse_by(alloc, Grammar::Built, bytes)
