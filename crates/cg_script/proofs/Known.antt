@@ -248,3 +248,9 @@ module _ (n : ℕ) (ps : List Part) (each : EachPart n ps) where
   said_below forms.Class t = (t 1 (omega arith) refl, tt)
   said_below forms.Def t = (t 1 (omega arith) refl, tt)
   said_below forms.End t = tt
+
+-- as many parts as words
+pub length-parts_from : (procs classes : List (List ℕ)) (form : Form) (words texts : List (List ℕ)) (place : ℕ) → length (parts_from procs classes texts form place words) ≡ length words
+length-parts_from procs classes form [] texts place = refl
+length-parts_from procs classes form (word ∷ words) texts place =
+    let rest = length-parts_from procs classes form words (with_text_if texts (text_in (sort_at form place) word)) (place + 1) in omega arith
