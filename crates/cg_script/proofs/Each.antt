@@ -104,10 +104,10 @@ texts_hold grammar n number known line form words m below =
     let fitting = says_fits grammar number line form words m in
     said_below n ps (each_more _ n ps below (parts_below known.procs known.classes form words known.texts 0)) form
     (λ i h t.
-      let w : 0 + i ≡ i = omega arith in
-      let e = fitting.enough in
-      let k = text_below known.procs known.classes form words known.texts 0 i (omega arith) (ap (λ j. is_text (sort_at form j)) w ∙ t) in
-      omega arith)
+    let w : 0 + i ≡ i = omega arith in
+    let e = fitting.enough in
+    let k = text_below known.procs known.classes form words known.texts 0 i (omega arith) (ap (λ j. is_text (sort_at form j)) w ∙ t) in
+    omega arith)
 
 body_below : (n : ℕ) (saids : List Said) → EachSaid (λ s. Below n (said_texts s)) saids → Below n (flat_map command_texts (body_of saids))
 body_below n [] each = tt

@@ -12,7 +12,6 @@ mod form;
 mod item;
 mod line;
 mod members;
-
 mod part;
 mod pieces;
 mod reader;
@@ -23,12 +22,12 @@ mod word;
 pub use command::{Command, Operand};
 pub use fault::ScriptFault;
 pub use item::{ClassDef, Item, Proc, Script};
-pub use reader::parse;
 pub use members::{Commands, Items, Operands};
+pub use reader::parse;
 
 #[cfg(test)]
-mod tests;
-#[cfg(test)]
 mod reader_tests;
+#[cfg(test)]
+mod tests;
 #[cfg(test)]
 mod whole_tests;

@@ -6,7 +6,10 @@ ghost use Rattle.cg_script.specs.Views.{meaning_of};
 
 use crate::form::{Form, Grammar, Sort, binding_named, most_read, opener_named, row_for, sort_at};
 use crate::pieces::{Words, words};
-use crate::word::{flag, is_count_word, is_identifier_word, is_number_word, is_printable_text, is_value_word, is_variable_word, names_finalizer_word, names_legacy_word};
+use crate::word::{
+    flag, is_count_word, is_identifier_word, is_number_word, is_printable_text, is_value_word,
+    is_variable_word, names_finalizer_word, names_legacy_word,
+};
 
 /// What a line means.
 pub(crate) enum Line<'a> {

@@ -11,7 +11,10 @@ use crate::form::{Form, Sort, sort_at};
 use crate::item::Item;
 use crate::pieces::MOST_WORDS;
 use crate::table::Table;
-use crate::word::{after_del, after_legacy, atom, begins_as_name, count_of_word, flag, is_quoted_word, number_of_word, text_of, text_of_identifier};
+use crate::word::{
+    after_del, after_legacy, atom, begins_as_name, count_of_word, flag, is_quoted_word,
+    number_of_word, text_of, text_of_identifier,
+};
 use arrayvec::ArrayVec;
 use cg_value::Names;
 use std::alloc::AllocError;

@@ -85,11 +85,7 @@ fn finish(draft: Draft, number: u32) -> Result<Script, ScriptFault>
 }
 
 /// The script that the bytes spell by one of the grammars.
-pub(crate) fn parse_by(
-    alloc: Global,
-    grammar: Grammar,
-    bytes: &[u8],
-) -> Result<Script, ScriptFault>
+pub(crate) fn parse_by(alloc: Global, grammar: Grammar, bytes: &[u8]) -> Result<Script, ScriptFault>
     ensures ok { IfOk result (λ script. reading_by grammar bytes.now ≡ spells script.names script.items) }
     ensures fault { IfErr result (λ fault. IsFault fault (reading_by grammar bytes.now)) }
     ensures known { IfOk result TextsAreKnown }

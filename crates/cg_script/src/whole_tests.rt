@@ -214,54 +214,345 @@ macro_rules! assert_last {
 }
 
 #[test]
-fn each_command(rt: HostRuntime) -> Result<(), Fail> {
+fn values(rt: HostRuntime) -> Result<(), Fail> {
+    assert_last!(
+        rt,
+        "x = ref",
+        Item::Run(Command::Bind {
+            name: 0,
+            value: Operand::WeakLocal
+        })
+    );
+    assert_last!(
+        rt,
+        "x = none",
+        Item::Run(Command::Bind {
+            name: 0,
+            value: Operand::None
+        })
+    );
+    assert_last!(
+        rt,
+        "x = self",
+        Item::Run(Command::Bind {
+            name: 0,
+            value: Operand::SelfLocal
+        })
+    );
+    assert_last!(
+        rt,
+        "x = garbage",
+        Item::Run(Command::Bind {
+            name: 0,
+            value: Operand::Garbage
+        })
+    );
+    assert_last!(
+        rt,
+        "x = c7",
+        Item::Run(Command::Bind {
+            name: 0,
+            value: Operand::Cell(7)
+        })
+    );
+    assert_last!(
+        rt,
+        "x = 'x",
+        Item::Run(Command::Bind {
+            name: 0,
+            value: Operand::Str(0)
+        })
+    );
+    Ok(())
+}
+
+#[test]
+fn values_2(rt: HostRuntime) -> Result<(), Fail> {
+    assert_last!(
+        rt,
+        "x = '",
+        Item::Run(Command::Bind {
+            name: 0,
+            value: Operand::Str(1)
+        })
+    );
+    assert_last!(
+        rt,
+        "x = -9223372036854775808",
+        Item::Run(Command::Bind {
+            name: 0,
+            value: Operand::Int(-9223372036854775808)
+        })
+    );
+    assert_last!(
+        rt,
+        "x = -007",
+        Item::Run(Command::Bind {
+            name: 0,
+            value: Operand::Int(-7)
+        })
+    );
+    Ok(())
+}
+
+#[test]
+fn references_and_classes(rt: HostRuntime) -> Result<(), Fail> {
     assert_last!(rt, "x = dict", Item::Run(Command::MakeDict { name: 0 }));
-    assert_last!(rt, "class C\nx = new C", Item::Run(Command::MakeInst { name: 1, class: 0 }));
-    assert_last!(rt, "x = ref y", Item::Run(Command::MakeRef { name: 0, target: Operand::Name(1), callback: Operand::None }));
-    assert_last!(rt, "x = ref x none", Item::Run(Command::MakeRef { name: 0, target: Operand::Name(0), callback: Operand::None }));
-    assert_last!(rt, "x = ref y f", Item::Run(Command::MakeRef { name: 0, target: Operand::Name(1), callback: Operand::Name(2) }));
-    assert_last!(rt, "x = ref", Item::Run(Command::Bind { name: 0, value: Operand::WeakLocal }));
-    assert_last!(rt, "x = none", Item::Run(Command::Bind { name: 0, value: Operand::None }));
-    assert_last!(rt, "x = self", Item::Run(Command::Bind { name: 0, value: Operand::SelfLocal }));
-    assert_last!(rt, "x = garbage", Item::Run(Command::Bind { name: 0, value: Operand::Garbage }));
-    assert_last!(rt, "x = c7", Item::Run(Command::Bind { name: 0, value: Operand::Cell(7) }));
-    assert_last!(rt, "x = 'x", Item::Run(Command::Bind { name: 0, value: Operand::Str(0) }));
-    assert_last!(rt, "x = '", Item::Run(Command::Bind { name: 0, value: Operand::Str(1) }));
-    assert_last!(rt, "x = -9223372036854775808", Item::Run(Command::Bind { name: 0, value: Operand::Int(-9223372036854775808) }));
-    assert_last!(rt, "x = -007", Item::Run(Command::Bind { name: 0, value: Operand::Int(-7) }));
+    assert_last!(
+        rt,
+        "class C\nx = new C",
+        Item::Run(Command::MakeInst { name: 1, class: 0 })
+    );
+    assert_last!(
+        rt,
+        "x = ref y",
+        Item::Run(Command::MakeRef {
+            name: 0,
+            target: Operand::Name(1),
+            callback: Operand::None
+        })
+    );
+    assert_last!(
+        rt,
+        "x = ref x none",
+        Item::Run(Command::MakeRef {
+            name: 0,
+            target: Operand::Name(0),
+            callback: Operand::None
+        })
+    );
+    assert_last!(
+        rt,
+        "x = ref y f",
+        Item::Run(Command::MakeRef {
+            name: 0,
+            target: Operand::Name(1),
+            callback: Operand::Name(2)
+        })
+    );
+    Ok(())
+}
+
+#[test]
+fn changes(rt: HostRuntime) -> Result<(), Fail> {
     assert_last!(rt, "del x", Item::Run(Command::Del { name: 0 }));
-    assert_last!(rt, "append x 1", Item::Run(Command::Append { list: Operand::Name(0), value: Operand::Int(1) }));
-    assert_last!(rt, "setitem x -1 y", Item::Run(Command::SetItem { list: Operand::Name(0), index: -1, value: Operand::Name(1) }));
-    assert_last!(rt, "delitem x 3", Item::Run(Command::DelItem { list: Operand::Name(0), index: 3 }));
-    assert_last!(rt, "put x 'k y", Item::Run(Command::Put { dict: Operand::Name(0), key: Operand::Str(1), value: Operand::Name(2) }));
-    assert_last!(rt, "drop x k", Item::Run(Command::Remove { dict: Operand::Name(0), key: Operand::Name(1) }));
-    assert_last!(rt, "setattr x n y", Item::Run(Command::SetAttr { object: Operand::Name(0), attr: 1, value: Operand::Name(2) }));
-    assert_last!(rt, "delattr x x", Item::Run(Command::DelAttr { object: Operand::Name(0), attr: 0 }));
-    assert_last!(rt, "x = item y 4", Item::Run(Command::Item { name: 0, list: Operand::Name(1), index: 4 }));
-    assert_last!(rt, "x = get y 'y", Item::Run(Command::Get { name: 0, dict: Operand::Name(1), key: Operand::Str(1) }));
-    assert_last!(rt, "x = attr y n", Item::Run(Command::Attr { name: 0, object: Operand::Name(1), attr: 2 }));
-    assert_last!(rt, "x = deref w", Item::Run(Command::Deref { name: 0, weak: Operand::Name(1) }));
-    assert_last!(rt, "call f", Item::Run(Command::Call { func: Operand::Name(0) }));
-    assert_last!(rt, "quit none", Item::Run(Command::Quit { value: Operand::None }));
+    assert_last!(
+        rt,
+        "append x 1",
+        Item::Run(Command::Append {
+            list: Operand::Name(0),
+            value: Operand::Int(1)
+        })
+    );
+    assert_last!(
+        rt,
+        "setitem x -1 y",
+        Item::Run(Command::SetItem {
+            list: Operand::Name(0),
+            index: -1,
+            value: Operand::Name(1)
+        })
+    );
+    assert_last!(
+        rt,
+        "delitem x 3",
+        Item::Run(Command::DelItem {
+            list: Operand::Name(0),
+            index: 3
+        })
+    );
+    assert_last!(
+        rt,
+        "put x 'k y",
+        Item::Run(Command::Put {
+            dict: Operand::Name(0),
+            key: Operand::Str(1),
+            value: Operand::Name(2)
+        })
+    );
+    assert_last!(
+        rt,
+        "drop x k",
+        Item::Run(Command::Remove {
+            dict: Operand::Name(0),
+            key: Operand::Name(1)
+        })
+    );
+    Ok(())
+}
+
+#[test]
+fn changes_2(rt: HostRuntime) -> Result<(), Fail> {
+    assert_last!(
+        rt,
+        "setattr x n y",
+        Item::Run(Command::SetAttr {
+            object: Operand::Name(0),
+            attr: 1,
+            value: Operand::Name(2)
+        })
+    );
+    assert_last!(
+        rt,
+        "delattr x x",
+        Item::Run(Command::DelAttr {
+            object: Operand::Name(0),
+            attr: 0
+        })
+    );
+    Ok(())
+}
+
+#[test]
+fn questions(rt: HostRuntime) -> Result<(), Fail> {
+    assert_last!(
+        rt,
+        "x = item y 4",
+        Item::Run(Command::Item {
+            name: 0,
+            list: Operand::Name(1),
+            index: 4
+        })
+    );
+    assert_last!(
+        rt,
+        "x = get y 'y",
+        Item::Run(Command::Get {
+            name: 0,
+            dict: Operand::Name(1),
+            key: Operand::Str(1)
+        })
+    );
+    assert_last!(
+        rt,
+        "x = attr y n",
+        Item::Run(Command::Attr {
+            name: 0,
+            object: Operand::Name(1),
+            attr: 2
+        })
+    );
+    assert_last!(
+        rt,
+        "x = deref w",
+        Item::Run(Command::Deref {
+            name: 0,
+            weak: Operand::Name(1)
+        })
+    );
+    assert_last!(
+        rt,
+        "print 5",
+        Item::Run(Command::Print {
+            value: Operand::Int(5)
+        })
+    );
+    assert_last!(
+        rt,
+        "refs garbage",
+        Item::Run(Command::Refs {
+            value: Operand::Garbage
+        })
+    );
+    Ok(())
+}
+
+#[test]
+fn questions_2(rt: HostRuntime) -> Result<(), Fail> {
+    assert_last!(
+        rt,
+        "tracked x",
+        Item::Run(Command::Tracked {
+            value: Operand::Name(0)
+        })
+    );
+    assert_last!(
+        rt,
+        "finalized x",
+        Item::Run(Command::Finalized {
+            value: Operand::Name(0)
+        })
+    );
+    Ok(())
+}
+
+#[test]
+fn flow_and_collections(rt: HostRuntime) -> Result<(), Fail> {
+    assert_last!(
+        rt,
+        "call f",
+        Item::Run(Command::Call {
+            func: Operand::Name(0)
+        })
+    );
+    assert_last!(
+        rt,
+        "quit none",
+        Item::Run(Command::Quit {
+            value: Operand::None
+        })
+    );
     assert_last!(rt, "collect", Item::Run(Command::Collect { generation: 2 }));
-    assert_last!(rt, "collect 07", Item::Run(Command::Collect { generation: 7 }));
+    assert_last!(
+        rt,
+        "collect 07",
+        Item::Run(Command::Collect { generation: 7 })
+    );
     assert_last!(rt, "enable", Item::Run(Command::Enable));
     assert_last!(rt, "disable", Item::Run(Command::Disable));
-    assert_last!(rt, "threshold 5", Item::Run(Command::Threshold { first: 5, second: None, third: None }));
-    assert_last!(rt, "threshold 5 6", Item::Run(Command::Threshold { first: 5, second: Some(6), third: None }));
-    assert_last!(rt, "threshold 5 6 007", Item::Run(Command::Threshold { first: 5, second: Some(6), third: Some(7) }));
-    assert_last!(rt, "debug", Item::Run(Command::Flags { bits: 0 }));
-    assert_last!(rt, "debug saveall stats stats", Item::Run(Command::Flags { bits: 33 }));
-    assert_last!(rt, "debug leak stats", Item::Run(Command::Flags { bits: 39 }));
+    Ok(())
+}
+
+#[test]
+fn flow_and_collections_2(rt: HostRuntime) -> Result<(), Fail> {
     assert_last!(rt, "freeze", Item::Run(Command::Freeze));
     assert_last!(rt, "unfreeze", Item::Run(Command::Unfreeze));
-    assert_last!(rt, "print 5", Item::Run(Command::Print { value: Operand::Int(5) }));
-    assert_last!(rt, "refs garbage", Item::Run(Command::Refs { value: Operand::Garbage }));
-    assert_last!(rt, "tracked x", Item::Run(Command::Tracked { value: Operand::Name(0) }));
-    assert_last!(rt, "finalized x", Item::Run(Command::Finalized { value: Operand::Name(0) }));
     assert_last!(rt, "count", Item::Run(Command::Count));
     assert_last!(rt, "gens", Item::Run(Command::Gens));
     assert_last!(rt, "budget 010", Item::Budget(10));
+    Ok(())
+}
+
+#[test]
+fn switches(rt: HostRuntime) -> Result<(), Fail> {
+    assert_last!(
+        rt,
+        "threshold 5",
+        Item::Run(Command::Threshold {
+            first: 5,
+            second: None,
+            third: None
+        })
+    );
+    assert_last!(
+        rt,
+        "threshold 5 6",
+        Item::Run(Command::Threshold {
+            first: 5,
+            second: Some(6),
+            third: None
+        })
+    );
+    assert_last!(
+        rt,
+        "threshold 5 6 007",
+        Item::Run(Command::Threshold {
+            first: 5,
+            second: Some(6),
+            third: Some(7)
+        })
+    );
+    assert_last!(rt, "debug", Item::Run(Command::Flags { bits: 0 }));
+    assert_last!(
+        rt,
+        "debug saveall stats stats",
+        Item::Run(Command::Flags { bits: 33 })
+    );
+    assert_last!(
+        rt,
+        "debug leak stats",
+        Item::Run(Command::Flags { bits: 39 })
+    );
     Ok(())
 }
 
@@ -273,25 +564,56 @@ fn commands_with_lists(rt: HostRuntime) -> Result<(), Fail> {
     )
     .expect(&rt, "a script");
     let items = script.items.as_slice();
-    assert!(rt; matches!(items, [_, _, Item::Run(Command::MakeList { name: 3, .. }), Item::Run(Command::MakeTuple { name: 4, .. }), Item::Run(Command::MakeFunc { name: 5, proc: 1, .. })]));
+    assert!(rt;
+        matches!(
+            items,
+            [
+                _,
+                _,
+                Item::Run(Command::MakeList { name: 3, .. }),
+                Item::Run(Command::MakeTuple { name: 4, .. }),
+                Item::Run(Command::MakeFunc {
+                    name: 5,
+                    proc: 1,
+                    ..
+                })
+            ]
+        )
+    );
     for item in items {
         match item {
             Item::Def(procedure) => {
                 let body = procedure.body.as_slice();
-                assert!(rt; match procedure.name {
-                    0 => body.is_empty(),
-                    1 => matches!(body, [Command::Del { name: 2 }, Command::Print { value: Operand::Int(1) }]),
-                    _ => false,
-                });
+                assert!(rt;
+                    match procedure.name {
+                        0 => body.is_empty(),
+                        1 => matches!(
+                            body,
+                            [
+                                Command::Del { name: 2 },
+                                Command::Print {
+                                    value: Operand::Int(1)
+                                }
+                            ]
+                        ),
+                        _ => false,
+                    }
+                );
             }
             Item::Run(Command::MakeList { items, .. }) => {
-                assert_eq!(rt; items.as_slice(), [Operand::Name(2), Operand::Int(1), Operand::Str(2)].as_slice());
+                assert_eq!(rt;
+                    items.as_slice(),
+                    [Operand::Name(2), Operand::Int(1), Operand::Str(2)].as_slice()
+                );
             }
             Item::Run(Command::MakeTuple { items, .. }) => {
                 assert_eq!(rt; items.as_slice(), [Operand::None].as_slice());
             }
             Item::Run(Command::MakeFunc { cells, .. }) => {
-                assert_eq!(rt; cells.as_slice(), [Operand::Cell(1), Operand::Name(3)].as_slice());
+                assert_eq!(rt;
+                    cells.as_slice(),
+                    [Operand::Cell(1), Operand::Name(3)].as_slice()
+                );
             }
             _ => {}
         }
@@ -310,10 +632,15 @@ fn classes(rt: HostRuntime) -> Result<(), Fail> {
     ] {
         let text = format!(in rt.alloc(); "def p\nend\ndef q\nend\n{line}")?;
         let script = read(rt.alloc(), text.as_str()).expect(&rt, "a script");
-        assert!(rt; match script.items.as_slice() {
-            [_, _, Item::Class(class)] => class.name == 2 && class.del == del && class.legacy == legacy,
-            _ => false,
-        }, "at {line:?}");
+        assert!(rt;
+            match script.items.as_slice() {
+                [_, _, Item::Class(class)] => class.name == 2
+                    && class.del == del
+                    && class.legacy == legacy,
+                _ => false,
+            },
+            "at {line:?}"
+        );
     }
     Ok(())
 }

@@ -12,4 +12,4 @@ returns-then-contains-clause-ok c = subst (λ ts. ts ≡ with_text ts c.args.nam
 pub returns-clause-ok : goal.returns-clause-ok
 returns-clause-ok c = subst (λ ts. map string_bytes c.insert.new.self.keys ≡ with_text ts c.args.name.now) c.self.view_is
     (fresh string_bytes c.self.inside.names.keys c.args.name.now string_eq c.in_ok-from_str.field-0 c.insert.new.self.keys
-        c.in_ok-from_str.ensures.ok (λ k. refl) (sym c.if-contains.false ∙ c.contains.ensures) c.in_ok-insert.ensures.keys).1
+    c.in_ok-from_str.ensures.ok (λ k. refl) (sym c.if-contains.false ∙ c.contains.ensures) c.in_ok-insert.ensures.keys).1
