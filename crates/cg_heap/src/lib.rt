@@ -14,6 +14,8 @@ mod boxes;
 mod counts;
 mod fault;
 mod heap;
+#[cfg(test)]
+mod tests;
 
 pub use fault::HeapFault;
 pub use heap::Heap;
