@@ -1,13 +1,14 @@
-//! The heap: objects, whose entries lie in six boxes of kinds, with their nodes, and the names that are bound to values.
+//! The heap: objects, whose entries lie in six boxes of kinds, with their nodes, the rows of weak references, and the names
+//! that are bound to values.
 //!
-//! The layers above see objects, entries, names and places, and nothing of nodes and boxes. They rest on one value
+//! The layers above see objects, entries, names, places and referents, and nothing of nodes and boxes. They rest on one value
 //! (`Store` of cg_graph) and on one fact: **a stored count is the number of references** from names, the garbage root,
 //! entries and outside holds.
 //!
 //! - `boxes`: the six boxes as one.
 //! - `counts`: the counts of the nodes.
-//! - `heap`: the type, and what it answers; `heap/holds`, `heap/bindings`, `heap/entries`, `heap/places` and
-//!   `heap/objects`: its other calls.
+//! - `heap`: the type, and what it answers; `heap/holds`, `heap/bindings`, `heap/entries`, `heap/places`,
+//!   `heap/objects` and `heap/weak`: its other calls.
 #![tactic(auto)]
 
 mod boxes;

@@ -409,99 +409,173 @@ fn six(alloc: Global, left: u32) -> Result<Vec<Box<dyn Kind>>, AllocError>
     Ok(kinds)
 }
 
-fn take_an_entry<B: Kind>(rt: &impl Abort, alloc: Global, kinds: Vec<B>) -> Result<(), Fail>
+#[derive(Clone, Copy, Debug, Drop)]
+enum Step {
+    List,
+    Dict,
+    Inst,
+    Weak(u64),
+    Put(u64, Val, Val),
+    Take(u64, usize),
+    GiveUp(u64),
+    Newest(u64),
+    Older(u64),
+    Referent(u64),
+    Clear(u64, bool),
+    Forget(u64),
+    Live,
+    Entries,
+    Size(Place),
+}
+
+#[derive(Clone, Copy, Debug, PartialEq, Drop)]
+enum Answer {
+    Nothing,
+    Made(Result<u64, HeapFault>),
+    Replaced(Result<Option<Val>, HeapFault>),
+    Taken(Entry),
+    Died(bool),
+    Object(Option<u64>),
+    Number(u64),
+}
+
+fn change<B: Kind>(
+    rt: &impl Abort,
+    holder: &mut Holder<B>,
+    step: Step,
+) -> Result<Answer, AllocError> {
+    match step {
+        Step::List => Ok(Answer::Made(holder.make(rt, KindCode::List, None, None))),
+        Step::Dict => Ok(Answer::Made(holder.make(rt, KindCode::Dict, None, None))),
+        Step::Inst => Ok(Answer::Made(holder.make(rt, KindCode::Inst, Some(4), None))),
+        Step::Weak(object) => Ok(Answer::Made(holder.make(rt, KindCode::Weak, None, Some(object)))),
+        Step::Put(object, key, val) => Ok(Answer::Replaced(holder.put(rt, object, key, val))),
+        Step::Take(object, i) => {
+            let entry = holder.take(rt, object, i)?;
+            Ok(Answer::Taken(entry))
+        }
+        Step::GiveUp(object) => Ok(Answer::Died(holder.give_up(rt, object))),
+        Step::Clear(weak, wait) => {
+            holder.clear_weak(rt, weak, wait);
+            Ok(Answer::Nothing)
+        }
+        Step::Forget(object) => Ok(Answer::Object(holder.forget_newest(rt, object))),
+        _ => Ok(look(rt, holder, step)),
+    }
+}
+
+fn look<B: Kind>(rt: &impl Abort, holder: &Holder<B>, step: Step) -> Answer {
+    match step {
+        Step::Newest(object) => Answer::Object(holder.newest_of(rt, object)),
+        Step::Older(weak) => Answer::Object(holder.older_of(rt, weak)),
+        Step::Referent(weak) => Answer::Object(holder.referent_of(rt, weak)),
+        Step::Live => Answer::Number(holder.heap.live()),
+        Step::Entries => Answer::Number(holder.heap.entries()),
+        Step::Size(Place::Untracked) => Answer::Number(holder.heap.size(Place::Untracked)),
+        Step::Size(_) => Answer::Number(holder.heap.size(Place::Gen(0))),
+        _ => Answer::Nothing,
+    }
+}
+
+/// Takes a new heap through the steps.
+fn drive<B: Kind>(
+    rt: &impl Abort,
+    alloc: Global,
+    kinds: Vec<B>,
+    rows: &[(Step, Answer)],
+) -> Result<(), Fail>
     requires kinds { map B.kind kinds.items ≡ six_kinds }
     requires empty { map B.bodies kinds.items ≡ replicate 6 fin.empty }
 {
     let mut holder = Holder::new(alloc, kinds, 0)?;
-    let list = holder.make(rt, KindCode::List, None, None)?;
-    let key = holder.make(rt, KindCode::Inst, Some(4), None)?;
-    let dict = holder.make(rt, KindCode::Dict, None, None)?;
-    assert_eq!(rt; [list, key, dict], [2, 3, 4]);
-    assert_eq!(rt; holder.put(rt, dict, Val::Ref(key), Val::Ref(list))?, None);
-    // The entry holds both.
-    assert!(rt; !holder.give_up(rt, list));
-    assert!(rt; !holder.give_up(rt, key));
-    assert_eq!(rt; holder.heap.live(), 3);
-    assert_eq!(rt; holder.heap.entries(), 1);
-    let taken = Entry {
-        key: Val::Ref(key),
-        val: Val::Ref(list),
-    };
-    assert_eq!(rt; holder.take(rt, dict, 0)?, taken);
-    // The dictionary was tracked when it was given the list.
-    assert_eq!(rt; holder.heap.size(Place::Gen(0)), 3);
-    assert!(rt; holder.give_up(rt, list));
-    assert!(rt; holder.give_up(rt, key));
-    assert!(rt; holder.give_up(rt, dict));
-    assert_eq!(rt; holder.heap.live(), 0);
-    assert_eq!(rt; holder.heap.entries(), 0);
-    assert_eq!(rt; holder.heap.size(Place::Gen(0)), 0);
+    'rows: for (step, answer) in rows {
+        assert_eq!(rt; change(rt, &mut holder, *step)?, *answer, "at {step:?}");
+    }
     Ok(())
 }
+
+const LIST: Val = Val::Ref(2);
+
+const INST: Val = Val::Ref(3);
+
+const YOUNG: Place = Place::Gen(0);
 
 #[test]
 fn an_entry_that_is_taken_holds_value_and_key_from_outside(rt: HostRuntime) -> Result<(), Fail> {
     let alloc = rt.alloc();
-    take_an_entry(&rt, alloc, six(alloc, 10)?)
-}
-
-fn refuse_a_list<B: Kind>(rt: &impl Abort, alloc: Global, kinds: Vec<B>) -> Result<(), Fail>
-    requires kinds { map B.kind kinds.items ≡ six_kinds }
-    requires empty { map B.bodies kinds.items ≡ replicate 6 fin.empty }
-{
-    let mut holder = Holder::new(alloc, kinds, 0)?;
-    let refused = Err(HeapFault::OutOfMemory);
-    assert_eq!(rt; holder.make(rt, KindCode::List, None, None), refused);
-    assert_eq!(rt; holder.heap.live(), 0);
-    assert_eq!(rt; holder.heap.size(Place::Gen(0)), 0);
-    // The refusal used no serial, and the other kinds go on.
-    assert_eq!(rt; holder.make(rt, KindCode::Tuple, None, None), Ok(2));
-    assert_eq!(rt; holder.make(rt, KindCode::List, None, None), refused);
-    assert_eq!(rt; holder.heap.first(Place::Gen(0)), Some(2));
-    assert_eq!(rt; holder.heap.live(), 1);
-    Ok(())
+    let taken = Entry {
+        key: INST,
+        val: LIST,
+    };
+    let rows = [
+        (Step::List, Answer::Made(Ok(2))),
+        (Step::Inst, Answer::Made(Ok(3))),
+        (Step::Dict, Answer::Made(Ok(4))),
+        // A dictionary is untracked, as the garbage list is, until it holds what may be tracked.
+        (Step::Size(Place::Untracked), Answer::Number(2)),
+        (Step::Put(4, INST, LIST), Answer::Replaced(Ok(None))),
+        (Step::Size(YOUNG), Answer::Number(3)),
+        // The entry holds both.
+        (Step::GiveUp(2), Answer::Died(false)),
+        (Step::GiveUp(3), Answer::Died(false)),
+        (Step::Entries, Answer::Number(1)),
+        (Step::Take(4, 0), Answer::Taken(taken)),
+        (Step::Live, Answer::Number(3)),
+        // And now nothing but its taker does.
+        (Step::GiveUp(2), Answer::Died(true)),
+        (Step::GiveUp(3), Answer::Died(true)),
+        (Step::GiveUp(4), Answer::Died(true)),
+        (Step::Live, Answer::Number(0)),
+        (Step::Entries, Answer::Number(0)),
+        (Step::Size(YOUNG), Answer::Number(0)),
+    ];
+    drive(&rt, alloc, six(alloc, 10)?, &rows)
 }
 
 #[test]
 fn a_list_that_is_refused_changes_nothing(rt: HostRuntime) -> Result<(), Fail> {
     let alloc = rt.alloc();
+    let refused = Answer::Made(Err(HeapFault::OutOfMemory));
+    let rows = [
+        (Step::List, refused),
+        (Step::Live, Answer::Number(0)),
+        (Step::Size(YOUNG), Answer::Number(0)),
+        // The refusal used no serial, and the other kinds go on.
+        (Step::Inst, Answer::Made(Ok(2))),
+        (Step::List, refused),
+        (Step::Size(YOUNG), Answer::Number(1)),
+        (Step::Live, Answer::Number(1)),
+    ];
     // The garbage list is the one that is made.
-    refuse_a_list(&rt, alloc, six(alloc, 1)?)
-}
-
-fn clear_weak_references<B: Kind>(rt: &impl Abort, alloc: Global, kinds: Vec<B>) -> Result<(), Fail>
-    requires kinds { map B.kind kinds.items ≡ six_kinds }
-    requires empty { map B.bodies kinds.items ≡ replicate 6 fin.empty }
-{
-    let mut holder = Holder::new(alloc, kinds, 0)?;
-    let list = holder.make(rt, KindCode::List, None, None)?;
-    let old = holder.make(rt, KindCode::Weak, None, Some(list))?;
-    let middle = holder.make(rt, KindCode::Weak, None, Some(list))?;
-    let new = holder.make(rt, KindCode::Weak, None, Some(list))?;
-    // A weak reference does not hold its referent.
-    assert_eq!(rt; holder.newest_of(rt, list), Some(new));
-    assert_eq!(rt; holder.older_of(rt, new), Some(middle));
-    assert_eq!(rt; holder.older_of(rt, middle), Some(old));
-    assert_eq!(rt; holder.older_of(rt, old), None);
-    holder.clear_weak(rt, middle, false);
-    assert_eq!(rt; holder.referent_of(rt, middle), None);
-    assert_eq!(rt; holder.older_of(rt, new), Some(old));
-    holder.clear_weak(rt, old, true);
-    assert_eq!(rt; holder.referent_of(rt, old), None);
-    assert_eq!(rt; holder.referent_of(rt, new), Some(list));
-    assert_eq!(rt; holder.older_of(rt, new), None);
-    holder.clear_weak(rt, new, true);
-    assert_eq!(rt; holder.newest_of(rt, list), None);
-    assert_eq!(rt; holder.forget_newest(rt, list), Some(new));
-    assert_eq!(rt; holder.forget_newest(rt, list), Some(old));
-    assert_eq!(rt; holder.forget_newest(rt, list), None);
-    assert!(rt; holder.give_up(rt, list));
-    Ok(())
+    drive(&rt, alloc, six(alloc, 1)?, &rows)
 }
 
 #[test]
 fn weak_references_are_cleared_and_forgotten(rt: HostRuntime) -> Result<(), Fail> {
     let alloc = rt.alloc();
-    clear_weak_references(&rt, alloc, six(alloc, 10)?)
+    let rows = [
+        (Step::List, Answer::Made(Ok(2))),
+        (Step::Weak(2), Answer::Made(Ok(3))),
+        (Step::Weak(2), Answer::Made(Ok(4))),
+        (Step::Weak(2), Answer::Made(Ok(5))),
+        (Step::Newest(2), Answer::Object(Some(5))),
+        (Step::Older(5), Answer::Object(Some(4))),
+        (Step::Older(4), Answer::Object(Some(3))),
+        (Step::Older(3), Answer::Object(None)),
+        (Step::Clear(4, false), Answer::Nothing),
+        (Step::Referent(4), Answer::Object(None)),
+        (Step::Older(5), Answer::Object(Some(3))),
+        (Step::Clear(3, true), Answer::Nothing),
+        (Step::Referent(3), Answer::Object(None)),
+        (Step::Referent(5), Answer::Object(Some(2))),
+        (Step::Clear(5, true), Answer::Nothing),
+        (Step::Newest(2), Answer::Object(None)),
+        // What waits is met from the newest on; what was cleared without waiting is not.
+        (Step::Forget(2), Answer::Object(Some(5))),
+        (Step::Forget(2), Answer::Object(Some(3))),
+        (Step::Forget(2), Answer::Object(None)),
+        // A weak reference does not hold its referent.
+        (Step::GiveUp(2), Answer::Died(true)),
+    ];
+    drive(&rt, alloc, six(alloc, 10)?, &rows)
 }
