@@ -206,15 +206,17 @@ pub total-unheld_one : (o : ℕ) (store : Store) → 0 < outside_of store o → 
 total-unheld_one o store has = known (fin.get store.nodes o) refl has
   where
     one_less : unheld (o ∷ []) store ≡ with_node (less 1) o store
-    one_less i = record store { nodes = same_map (unheld (o ∷ []) store).nodes (changed (less 1) o store.nodes) (λ q.
-        get-mapped (λ s n. less (occurrences s (o ∷ [])) n) store.nodes q ∙ elim (cases_eq q o) [
-          | inl same ↦
-              let one : occurrences q (o ∷ []) ≡ 1 = occurrences-one q o ∙ ap one_if (eq-eqb o q (sym same)) in
-              ap (λ k. option_map (less k) (fin.get store.nodes q)) one ∙ sym (get-changed_same (less 1) o store.nodes q same)
-          | inr differs ↦
-              let none : occurrences q (o ∷ []) ≡ 0 = occurrences-one q o ∙ ap one_if (ne_eqb o q (λ e. differs (sym e))) in
-              ap (λ k. option_map (less k) (fin.get store.nodes q)) none ∙ as_it_is (fin.get store.nodes q) ∙ sym (get-changed_other (less 1) o store.nodes q differs)
-        ]) i }
+    one_less i = record store {
+      nodes = same_map (unheld (o ∷ []) store).nodes (changed (less 1) o store.nodes) (λ q.
+          get-mapped (λ s n. less (occurrences s (o ∷ [])) n) store.nodes q ∙ elim (cases_eq q o) [
+            | inl same ↦
+                let one : occurrences q (o ∷ []) ≡ 1 = occurrences-one q o ∙ ap one_if (eq-eqb o q (sym same)) in
+                ap (λ k. option_map (less k) (fin.get store.nodes q)) one ∙ sym (get-changed_same (less 1) o store.nodes q same)
+            | inr differs ↦
+                let none : occurrences q (o ∷ []) ≡ 0 = occurrences-one q o ∙ ap one_if (ne_eqb o q (λ e. differs (sym e))) in
+                ap (λ k. option_map (less k) (fin.get store.nodes q)) none ∙ as_it_is (fin.get store.nodes q) ∙ sym (get-changed_other (less 1) o store.nodes q differs)
+          ]) i;
+    }
       where
         as_it_is : (x : Option Node) → option_map (less 0) x ≡ x
         as_it_is None = refl

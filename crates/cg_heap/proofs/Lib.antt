@@ -18,3 +18,4 @@ mod SeatCalls
 mod WeakCalls
 mod Tracks
 mod Saves
+mod TestLemmas

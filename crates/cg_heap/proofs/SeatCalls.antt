@@ -32,7 +32,6 @@ use Rattle.cg_heap.specs.Keeps.{outside_total}
 use Rattle.cg_heap.proofs.CallerLemmas.{KeepsKinds, kinds-held, kinds-rewritten, total-held, total-rewritten}
 use Rattle.cg_heap.proofs.RowsAndHolds.{kept, kept-gone}
 use Rattle.std.proofs.lemmas.List.Elements.{All-take}
-
 use Rattle.cg_heap.proofs.Calls.{has_node, total_is, holds_fit, keeps-aside, held-none, takes}
 
 module _ {all : List Bodies} {v : Nodes} {names : List (Option Val)} {last : ℕ} {rows : List Row} {objects number : ℕ} {old : Store} (h : Closed all v names last rows objects number old) where

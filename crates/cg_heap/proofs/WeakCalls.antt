@@ -17,8 +17,6 @@ use Rattle.cg_heap.specs.Weak.{HasReferent, with_new_row, attached, cleared_weak
 use Rattle.cg_heap.proofs.CallerLemmas.{lives_on, live_of_kind, kinds-made, made_kind}
 use Rattle.cg_heap.proofs.RowsAndHolds.{kept-attached, kept-cleared, kept-forgotten}
 use Rattle.std.proofs.lemmas.List.Elements.{All-weaker}
-
-
 use Rattle.cg_heap.proofs.Calls.{keeps-aside}
 
 module _ {all : List Bodies} {v : Nodes} {names : List (Option Val)} {last : ℕ} {rows : List Row} {objects number : ℕ} {old : Store} (h : Closed all v names last rows objects number old) where

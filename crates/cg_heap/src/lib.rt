@@ -1,13 +1,14 @@
-//! The heap: objects, whose entries lie in six boxes of kinds, with their nodes, and the names that are bound to values.
+//! The heap: objects, whose entries lie in six boxes of kinds, with their nodes, the rows of weak references, and the names
+//! that are bound to values.
 //!
-//! The layers above see objects, entries, names and places, and nothing of nodes and boxes. They rest on one value
+//! The layers above see objects, entries, names, places and referents, and nothing of nodes and boxes. They rest on one value
 //! (`Store` of cg_graph) and on one fact: **a stored count is the number of references** from names, the garbage root,
 //! entries and outside holds.
 //!
 //! - `boxes`: the six boxes as one.
 //! - `counts`: the counts of the nodes.
 //! - `heap`: the type, and what it answers; `heap/holds`, `heap/bindings`, `heap/entries`, `heap/places`,
-//!   `heap/objects` and `heap/look`: its other calls.
+//!   `heap/objects`, `heap/weak` and `heap/look`: its other calls.
 //! - `steps`: the counter of looks at entries.
 #![tactic(auto)]
 
@@ -16,6 +17,8 @@ mod counts;
 mod fault;
 mod heap;
 mod steps;
+#[cfg(test)]
+mod tests;
 
 pub use fault::HeapFault;
 pub use heap::Heap;
