@@ -13,4 +13,5 @@ pub mod Due
 pub mod Run
 pub mod Lines
 pub mod Laws
+pub mod Bounds
 pub mod Represents
