@@ -39,4 +39,6 @@ pub mod LeftRuns
 pub mod Rooms
 pub mod RoomsOfRuns
 pub mod Heights
+pub mod Origins
+pub mod OriginsOfRuns
 pub mod Representing

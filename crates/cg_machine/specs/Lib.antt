@@ -14,4 +14,5 @@ pub mod Run
 pub mod Lines
 pub mod Laws
 pub mod Bounds
+pub mod Origins
 pub mod Represents
