@@ -47,7 +47,7 @@ moved_quiet o p places objects tracked q = test_quiet o (λ x. with_place (place
   refers_to_none = k.refers_to_none;
 }) objects q
 
-moved_alters : (p : Place) (places : Object → Place) (objects : List Object) → Alters objects (map (λ x. if is_at p x then with_place (places x) x else x) objects)
+pub moved_alters : (p : Place) (places : Object → Place) (objects : List Object) → Alters objects (map (λ x. if is_at p x then with_place (places x) x else x) objects)
 moved_alters p places objects = if_alters (λ x. with_place (places x) x) (λ x. place_later (places x) x) (is_at p) objects
 
 -- an object is appended to the garbage list
@@ -58,14 +58,14 @@ saved_quiet o s objects apart q = test_quiet o (λ x. with_entries (x.entries ++
   refers_to_none = k.refers_to_none;
 }) objects q
 
-saved_alters : (s : ℕ) (objects : List Object) → Alters objects (saved s objects)
+pub saved_alters : (s : ℕ) (objects : List Object) → Alters objects (saved s objects)
 saved_alters s objects = change_alters (λ x. with_entries (x.entries ++ item (Ref s) ∷ []) x) (λ x. record { serial = refl; code = refl; class = refl; referent = inl refl }) 1 objects
 
 all_saved_quiet : (o : ℕ) (keeps : List ℕ) (objects : List Object) → ¬ Includes keeps o → AreQuiet o objects → AreQuiet o (all_saved keeps objects)
 all_saved_quiet o [] objects apart q = q
 all_saved_quiet o (s ∷ keeps) objects apart q = all_saved_quiet o keeps (saved s objects) (λ m. apart (inr m)) (saved_quiet o s objects (λ e. apart (inl e)) q)
 
-all_saved_alters : (keeps : List ℕ) (objects : List Object) → Alters objects (all_saved keeps objects)
+pub all_saved_alters : (keeps : List ℕ) (objects : List Object) → Alters objects (all_saved keeps objects)
 all_saved_alters [] objects = alters_refl objects
 all_saved_alters (s ∷ keeps) objects = alters_trans objects (saved s objects) (all_saved keeps (saved s objects)) (saved_alters s objects) (all_saved_alters keeps (saved s objects))
 

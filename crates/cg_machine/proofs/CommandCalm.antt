@@ -50,6 +50,14 @@ instance_code x t e = let no : false ≡ true = sym (ap (λ (k : KindCode). elim
 no_referent : {P : Type 0} (r : ℕ) → None ≡ Some r → P
 no_referent r e = absurd (cc)
 
+-- a dictionary that becomes tracked is the same object
+pub tracked_later : (w : World) (key v : Val) (x : Object) → IsLater x (tracked_by w key v x)
+tracked_later w key v x = go (is_dict x && not (is_tracked x) && (may_track w key || may_track w v))
+  where
+    go : (b : Bool) → IsLater x (if b then with_place (Gen 0) x else x)
+    go true = record { serial = refl; code = refl; class = refl; referent = inl refl }
+    go false = record { serial = refl; code = refl; class = refl; referent = inl refl }
+
 module _ (script : Script) (w : World) (rises : Rises 1 w.next_serial w.objects) (over : AreOver w.stack) where
   -- a list of references to be given up, and a referent, are of no forgotten object
   abbrev AreGiven : List ℕ → Type 0
@@ -139,13 +147,6 @@ module _ (script : Script) (w : World) (rises : Rises 1 w.next_serial w.objects)
   keyed_given : (x : Object) (key : Val) (e : Entry) → Includes w.objects x → entry_at x.entries key ≡ Some e → AreGiven (entry_references e)
   keyed_given x key e m at o f = entry_at_free x.entries key e o at (own_free x m o f)
 
-  tracked_later : (key v : Val) (x : Object) → IsLater x (tracked_by w key v x)
-  tracked_later key v x = go (is_dict x && not (is_tracked x) && (may_track w key || may_track w v))
-    where
-      go : (b : Bool) → IsLater x (if b then with_place (Gen 0) x else x)
-      go true = record { serial = refl; code = refl; class = refl; referent = inl refl }
-      go false = record { serial = refl; code = refl; class = refl; referent = inl refl }
-
   tracked_condemned : (key v : Val) (x : Object) → is_condemned (tracked_by w key v x) ≡ true → is_condemned x ≡ true
   tracked_condemned key v x = go (is_dict x && not (is_tracked x) && (may_track w key || may_track w v))
     where
@@ -181,7 +182,7 @@ module _ (script : Script) (w : World) (rises : Rises 1 w.next_serial w.objects)
       put_in y = tracked_by w key v (with_entries (put x.entries key v) y)
 
       put_later : (y : Object) → IsLater y (put_in y)
-      put_later y = let t = tracked_later key v (with_entries (put x.entries key v) y) in record { serial = t.serial; code = t.code; class = t.class; referent = t.referent }
+      put_later y = let t = tracked_later w key v (with_entries (put x.entries key v) y) in record { serial = t.serial; code = t.code; class = t.class; referent = t.referent }
 
       put_place : (y : Object) → IsOfCollection (put_in y).place → y.place ≡ (put_in y).place
       put_place y = tracked_place key v (with_entries (put x.entries key v) y)

@@ -36,4 +36,9 @@ pub mod Left
 pub mod LeftDeaths
 pub mod LeftCollections
 pub mod LeftRuns
+pub mod Rooms
+pub mod RoomsOfRuns
+pub mod Heights
+pub mod Origins
+pub mod OriginsOfRuns
 pub mod Representing

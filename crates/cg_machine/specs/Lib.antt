@@ -13,4 +13,6 @@ pub mod Due
 pub mod Run
 pub mod Lines
 pub mod Laws
+pub mod Bounds
+pub mod Origins
 pub mod Represents

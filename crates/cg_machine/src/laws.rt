@@ -1,4 +1,6 @@
 //! What holds in every run of the machine. Each law is the contract of a function that does nothing.
+ghost use Rattle.cg_machine.specs.Bounds.{StacksAreBounded};
+ghost use Rattle.cg_machine.specs.Origins.{WorldsHaveOrigins};
 ghost use Rattle.cg_machine.specs.Laws.{DyingIsUnheld, NoRunIsStuck, FrontsBeginWholeTexts, StepsLeaveWhatIsBelow, WorldsAreOrderly};
 
 /// No run is stuck: each is the beginning of a whole run, whatever choices it took.
@@ -25,4 +27,16 @@ pub fn worlds_are_orderly()
 /// A step of a run leaves the activities below the one that takes it, and the entries of what is dying or waits there.
 pub fn steps_leave_what_is_below()
     ensures { StepsLeaveWhatIsBelow }
+{}
+
+/// In every world of a run the stack has at most as many frames as the budget allows, at most as many deaths as there are
+/// objects, and releases and collections only between these; so its height and what it holds are bounded by both.
+pub fn stacks_are_bounded()
+    ensures { StacksAreBounded }
+{}
+
+/// In every world of a run the commands that are left are of the script, and a command of it names the class of each
+/// instance and the procedure of each function.
+pub fn worlds_have_origins()
+    ensures { WorldsHaveOrigins }
 {}
