@@ -1,8 +1,7 @@
 -- What holds of each line of a script, and with it of its items.
-use Rattle.std.proofs.Common.{◌≡◌, ℕ, ◌+◌, ◌<◌, ◌≤◌, List, [], ◌∷◌, ◌++◌, length, Bool, true, false, cond, Option, None, Some, refl, sym, ap, subst, ◌∙◌, arith}
-use Rattle.std.specs.Prelude.{flat_map, is_some}
+use Rattle.std.proofs.Common.{◌≡◌, ℕ, ◌+◌, ◌<◌, ◌≤◌, List, [], ◌∷◌, length, Bool, true, false, cond, Option, None, Some, refl, sym, ap, subst, ◌∙◌, arith}
+use Rattle.std.specs.Prelude.{flat_map}
 use Rattle.std.specs.List.{All}
-use Rattle.cg_script.specs.declared.command.Command.{Command}
 use Rattle.cg_script.specs.declared.item.Item.{Item}
 use Rattle.cg_script.specs.declared.form.Form.{Form}
 use Rattle.cg_script.specs.declared.form.Grammar.{Grammar}
@@ -13,10 +12,10 @@ use Rattle.cg_script.specs.Pieces.{lines_of}
 use Rattle.cg_script.specs.Meanings.{Meaning, passed, says, bad, meaning}
 use Rattle.cg_script.specs.Parts.{Known, parts_of, texts_from}
 use Rattle.cg_script.specs.Commands.{said}
-use Rattle.cg_script.specs.Reading.{nothing_known, fault_in, says_or_bad, checked, meant, known_after, Lines, good, spoilt, also_said, with_later, lines_from, body_of, items_of, Reading, spells, faulty, script_of, reading_by}
-use Rattle.cg_script.proofs.Below.{Below, below-append, below_front, below_back, below_all}
-use Rattle.cg_script.proofs.Says.{Fitting, says_fits}
-use Rattle.cg_script.proofs.Known.{EachPart, is_text, said_texts, said_below, parts_below, each_more, text_below, texts_grow}
+use Rattle.cg_script.specs.Reading.{nothing_known, fault_in, says_or_bad, checked, meant, known_after, Lines, good, spoilt, also_said, with_later, lines_from, body_of, items_of, spells, script_of, reading_by}
+use Rattle.cg_script.proofs.Below.{Below, below-append, below_all}
+use Rattle.cg_script.proofs.Says.{says_fits}
+use Rattle.cg_script.proofs.Known.{is_text, said_texts, said_below, parts_below, each_more, text_below, texts_grow}
 use Rattle.cg_script.specs.Forms.{sort_at}
 
 abbrev pub EachSaid : (Said → Type 0) → List Said → Type 0

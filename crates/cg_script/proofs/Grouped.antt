@@ -1,5 +1,5 @@
 -- What a line adds to the items of a draft.
-use Rattle.std.proofs.Common.{◌≡◌, ℕ, List, [], ◌∷◌, ◌++◌, Bool, true, false, Option, Some, None, refl, sym, ap, ◌∙◌, append_assoc, append-nil}
+use Rattle.std.proofs.Common.{◌≡◌, ℕ, List, [], ◌∷◌, ◌++◌, Bool, true, false, refl, sym, ap, ◌∙◌, append_assoc, append-nil}
 use Rattle.cg_script.specs.declared.command.Command.{Command}
 use Rattle.cg_script.specs.declared.item.Item.{Item}
 use Rattle.cg_script.specs.declared.item.Item.TheVariants as variants
@@ -7,7 +7,7 @@ use Rattle.cg_script.specs.declared.form.Form.{Form}
 use Rattle.cg_script.specs.declared.form.Form.TheVariants as forms
 use Rattle.cg_script.specs.declared.part.Part.{Part}
 use Rattle.cg_script.specs.declared.part.Said.{Said}
-use Rattle.cg_script.specs.declared.part.Said.TheVariants.{Declares, Begins, Ends, Does}
+use Rattle.cg_script.specs.declared.part.Said.TheVariants.{Ends, Does}
 use Rattle.cg_script.specs.Commands.{said}
 use Rattle.cg_script.specs.Reading.{items_of, body_of, is_misplaced, inside_after}
 use Rattle.cg_script.specs.Views.{is_placed, inside_behind}

@@ -1,8 +1,8 @@
 -- Each text that a script names is one of its texts.
-use Rattle.std.proofs.Common.{◌≡◌, ℕ, zero, suc, ◌+◌, ◌<◌, ◌≤◌, List, [], ◌∷◌, ◌++◌, length, map, drop, Bool, true, false, cond, if◌then◌else◌, Option, None, Some, refl, sym, ap, subst, ◌∙◌, arith, codes, position}
-use Rattle.std.specs.Prelude.{flat_map, slice_get, slice_index, unwrap_or}
+use Rattle.std.proofs.Common.{◌≡◌, ℕ, zero, suc, ◌+◌, ◌<◌, ◌≤◌, List, [], ◌∷◌, ◌++◌, length, map, drop, Bool, true, false, if◌then◌else◌, Option, None, Some, refl, sym, ap, ◌∙◌, arith, codes}
+use Rattle.std.specs.Prelude.{slice_index}
 use Rattle.std.specs.Str.{bytes_eq}
-use Rattle.cg_value.specs.Texts.{place_of, with_text}
+use Rattle.cg_value.specs.Texts.{place_of}
 use Rattle.cg_script.specs.declared.command.Operand.{Operand}
 use Rattle.cg_script.specs.declared.command.Operand.TheVariants as operands
 use Rattle.cg_script.specs.declared.form.Form.{Form}

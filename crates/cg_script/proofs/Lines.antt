@@ -1,5 +1,5 @@
 -- The reading of a script line by line, from any line on.
-use Rattle.std.proofs.Common.{◌≡◌, ℕ, ◌+◌, ◌≤◌, ◌<◌, List, [], ◌∷◌, ◌++◌, length, refl, sym, ap, subst, ◌∙◌, append-nil, arith, Bool, true, false, not, ◌||◌, ◌==◌, if◌then◌else◌, cond, Option, Some, None}
+use Rattle.std.proofs.Common.{◌≡◌, ℕ, ◌+◌, ◌≤◌, List, [], ◌∷◌, ◌++◌, length, refl, sym, ap, ◌∙◌, append-nil, arith, Bool, true, false, ◌||◌, ◌==◌, if◌then◌else◌, cond, Some, None}
 use Rattle.std.proofs.lemmas.Bool.Decides.{nat_tests}
 use Rattle.std.specs.Prelude.{is_some}
 use Rattle.cg_script.specs.declared.form.Form.{Form}
@@ -9,10 +9,10 @@ use Rattle.cg_script.specs.declared.part.Said.{Said}
 use Rattle.cg_script.specs.declared.draft.Draft.{Draft}
 use Rattle.cg_script.specs.Meanings.{Meaning, passed, says, bad, meaning}
 use Rattle.cg_script.specs.Pieces.{lines_of, word_at}
-use Rattle.cg_script.specs.Parts.{Known, parts_of}
+use Rattle.cg_script.specs.Parts.{parts_of}
 use Rattle.cg_script.proofs.Places.{length-with_text}
 use Rattle.cg_script.specs.Commands.{said}
-use Rattle.cg_script.specs.Reading.{nothing_known, procs_after, classes_after, fault_in, says_or_bad, checked, meant, known_after, Lines, good, spoilt, also_said, with_later, lines_from, items_of, Reading, spells, faulty, script_of}
+use Rattle.cg_script.specs.Reading.{nothing_known, procs_after, classes_after, fault_in, says_or_bad, checked, meant, Lines, good, spoilt, also_said, with_later, lines_from, items_of, Reading, spells, faulty, script_of}
 use Rattle.cg_script.specs.Views.{known_of, grouped, Takes, script_after, reading_after}
 
 -- the reading behind a draft, by the meaning of the first line

@@ -1,8 +1,7 @@
 -- What a line says in a script: how the parts of each form become a command or a declaration. (Ours.)
-use Rattle.std.specs.Prelude.{ℕ, List, [], ◌∷◌, map, drop, Option, None, Some, slice_get, bit_or, ℤ, pos}
+use Rattle.std.specs.Prelude.{ℕ, List, map, drop, Option, None, Some, slice_get, bit_or, ℤ, pos}
 use Rattle.cg_script.specs.declared.command.Operand.{Operand}
 use Rattle.cg_script.specs.declared.command.Operand.TheVariants as operands
-use Rattle.cg_script.specs.declared.command.Command.{Command}
 use Rattle.cg_script.specs.declared.command.Command.TheVariants as commands
 use Rattle.cg_script.specs.declared.item.Item.TheVariants as items
 use Rattle.cg_script.specs.declared.form.Form.{Form}

@@ -2,9 +2,8 @@
 --
 -- The codes of bad lines: 1 a byte that is not printable, 2 no form that is built, 3 the number of words, 4 the form of a word, 5 a
 -- line that is too long, has too many words, or is one too many.
-use Rattle.std.specs.Prelude.{ℕ, ◌+◌, List, [], ◌∷◌, Bool, true, false, not, ◌&&◌, ◌||◌, length, codes, ◌==◌, nat_lt, nat_le, slice_index, if◌then◌else◌, Option, None, Some, is_some, unwrap_or}
+use Rattle.std.specs.Prelude.{ℕ, ◌+◌, List, [], ◌∷◌, Bool, true, false, not, ◌&&◌, ◌||◌, length, codes, ◌==◌, nat_lt, slice_index, if◌then◌else◌, Option, None, Some, is_some, unwrap_or}
 use Rattle.std.specs.List.{list_all}
-use Rattle.std.specs.Str.{bytes_eq}
 use Rattle.cg_script.specs.declared.form.Form.{Form}
 use Rattle.cg_script.specs.declared.form.Form.TheVariants as forms
 use Rattle.cg_script.specs.declared.form.Sort.{Sort}

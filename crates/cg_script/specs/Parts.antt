@@ -1,5 +1,5 @@
 -- What the words of a line stand for in a script: texts, procedures and classes by number. (Ours.)
-use Rattle.std.specs.Prelude.{ℕ, ◌+◌, List, [], ◌∷◌, Bool, true, false, codes, slice_index, if◌then◌else◌, Option, None, Some, is_some, unwrap_or, position}
+use Rattle.std.specs.Prelude.{ℕ, ◌+◌, List, [], ◌∷◌, Bool, true, false, codes, slice_index, if◌then◌else◌, Option, None, Some, unwrap_or, position}
 use Rattle.std.specs.List.{list_any}
 use Rattle.std.specs.Str.{bytes_eq}
 use Rattle.cg_value.specs.Texts.{place_of, with_text}

@@ -2,7 +2,7 @@
 --
 -- Beside the codes of `Meanings`: 6 a procedure or class that no earlier line defines, 7 a declaration in the wrong place, 8 a second
 -- definition.
-use Rattle.std.specs.Prelude.{ℕ, ◌+◌, List, [], ◌∷◌, Bool, true, false, not, ◌||◌, if◌then◌else◌, Option, None, Some}
+use Rattle.std.specs.Prelude.{ℕ, ◌+◌, List, [], ◌∷◌, Bool, true, false, not, if◌then◌else◌, Option, None, Some}
 use Rattle.cg_value.specs.Texts.{has_text, with_text}
 use Rattle.cg_script.specs.declared.command.Command.{Command}
 use Rattle.cg_script.specs.declared.item.Item.{Item}

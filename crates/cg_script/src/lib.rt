@@ -1,8 +1,8 @@
-//! Scripts as data: the commands and declarations that a script has. Reading and printing them comes with the whole
-//! script language; until then this crate is its types.
+//! Scripts as data, and how bytes are read as one.
 //!
-//! The machine and the interpreter rest on the fields: what a `Script` says is its items in order, and each text is
-//! named by its position in `names`.
+//! `parse` is what the layer above uses: it answers the script that the bytes spell by `specs/Reading`, or their first bad
+//! line. The machine and the interpreter rest on the fields: what a `Script` says is its items in order, and each text
+//! is named by its position in `names`. Printing a script is not here yet.
 #![tactic(auto)]
 
 mod command;

@@ -1,8 +1,6 @@
-use Rattle.std.proofs.Common.{◌≡◌, Bor, ◌+◌, ◌≤◌, ℕ, List, length, map, arith, sym, ap, subst, ◌∙◌, Ok, Some, None}
-use Rattle.cg_script.specs.Meanings.{says, meaning, all_fit}
+use Rattle.std.proofs.Common.{◌≡◌, Bor, ℕ, List, length, map, arith, sym, ap, ◌∙◌, Ok}
+use Rattle.cg_script.specs.Meanings.{says, meaning}
 use Rattle.cg_script.specs.Parts.{Known}
-use Rattle.cg_script.specs.Views.{known_of, IsSmall}
-use Rattle.cg_script.specs.Reading.{procs_after, classes_after}
 use Rattle.std.proofs.lemmas.List.{length-map}
 use Rattle.cg_script.proofs.Says.{says_fits}
 use Rattle.cg_script.proofs.Lines.{line_passed, line_bad, line_faulty, line_taken, passed_before_last, says_before_last, one_proc_more, one_class_more}

@@ -1,4 +1,4 @@
-use Rattle.std.proofs.Common.{◌≡◌, ◌+◌, ◌∷◌, [], ℕ, arith, sym, ap, subst, ◌∙◌, length}
+use Rattle.std.proofs.Common.{sym, ap, subst, ◌∙◌}
 use Rattle.cg_script.specs.Pieces.{lines_of}
 use Rattle.cg_script.specs.Faults.{IsFault}
 use Rattle.cg_script.specs.Reading.{Reading}

@@ -1,4 +1,4 @@
-use Rattle.std.proofs.Common.{◌≡◌, ◌+◌, ◌∙◌, sym, ap, ◌++◌, map, drop}
+use Rattle.std.proofs.Common.{◌+◌, ◌∙◌, ap, ◌++◌, map, drop}
 use Rattle.cg_script.proofs.Places.{value_of_part, values_more, values_end}
 use Rattle.cg_script.proofs.said.values_from.Goals as goal
 

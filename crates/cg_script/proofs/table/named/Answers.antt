@@ -1,4 +1,4 @@
-use Rattle.std.proofs.Common.{◌≡◌, sym, ◌∙◌, refl, List, ℕ, Bor}
+use Rattle.std.proofs.Common.{sym, ◌∙◌, refl, List, ℕ, Bor}
 use Rattle.cg_script.proofs.Tables.{named_more, named_found, named_nowhere}
 use Rattle.cg_script.proofs.table.named.Goals as goal
 

@@ -1,5 +1,4 @@
-use Rattle.std.proofs.Common.{◌≡◌, ◌+◌, ◌*◌, ◌-◌, ◌^◌, ◌≤◌, ◌<◌, sym, ap, ◌∙◌, subst, refl, arith, length}
-use Rattle.cg_script.specs.Words.{decimal_after, decimal_value}
+use Rattle.std.proofs.Common.{◌<◌, refl, arith}
 use Rattle.cg_script.proofs.Digits.{digit_at, digits_behind, value_step, small_step, fits_bits, value_at_end}
 use Rattle.cg_script.proofs.word.decimal.Goals as goal
 
