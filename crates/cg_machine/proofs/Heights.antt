@@ -1,24 +1,22 @@
 -- How high the stack of a run is, and how much it holds: what stands there is counted, sort by sort.
-use Rattle.std.proofs.Common.{◌≡◌, refl, sym, ◌∙◌, ap, subst, ℕ, zero, suc, ◌+◌, ◌*◌, ◌≤◌, Bool, true, false, cond, inl, inr, ◌⊎◌, List, [], ◌∷◌, ◌++◌, Option, length, length-append, arith}
+use Rattle.std.proofs.Common.{◌≡◌, refl, sym, ◌∙◌, ap, subst, ℕ, zero, suc, ◌+◌, ◌*◌, ◌≤◌, Bool, true, false, cond, inl, inr, List, [], ◌∷◌, ◌++◌, Option, length, length-append, arith}
 use Rattle.std.specs.Prelude.{◌==◌, flat_map, count_by}
 use Rattle.std.proofs.lemmas.List.Sums.{sum_by-cons}
 use Rattle.std.proofs.lemmas.Bool.{eqb-true}
 use Rattle.std.proofs.lemmas.List.{length-map}
-use Rattle.cg_script.specs.declared.Script.{Script}
-use Rattle.cg_script.specs.declared.Command.{Command}
 use Rattle.cg_graph.specs.Member.{Includes, includes}
 use Rattle.cg_graph.specs.Object.{Object, serials}
 use Rattle.cg_graph.specs.Holdings.{name_holdings, occurrences, graph_of, entry_holdings}
-use Rattle.cg_graph.proofs.Members.{either, Includes-of, includes-of, Includes-append_right}
+use Rattle.cg_graph.proofs.Members.{Includes-of, includes-of, Includes-append_right}
 use Rattle.cg_machine.specs.declared.event.FrameSort.{FrameSort}
 use Rattle.cg_machine.specs.declared.event.FrameSort.TheVariants.{Del, Legacy, Callback, Call}
-use Rattle.cg_machine.specs.World.{World, Activity, TopLevel, Framed, Releasing, Dying, Collecting, Death, DyingPhase, Finalizer, AfterFinalizer, Clearing, Calling, AfterCall, LegacyFinalizer, AfterLegacy, Detaching, Emptying, CollectPhase, Start, WeakClearing, WeakCalling, AfterCallback, AfterRelease, Finalizing, AfterFinalizing, Split, Turns, Turn, AfterTurn, Ending, opening}
-use Rattle.cg_machine.specs.Holdings.{holds, call_holds, dying_holds, collect_holds, holdings, is_collection}
+use Rattle.cg_machine.specs.World.{World, Activity, TopLevel, Framed, Releasing, Dying, Collecting, Death, DyingPhase, Clearing, Calling, AfterCall, CollectPhase, WeakClearing, WeakCalling, AfterCallback, AfterRelease, opening}
+use Rattle.cg_machine.specs.Holdings.{holds, call_holds, dying_holds, collect_holds, is_collection}
 use Rattle.cg_machine.specs.Represents.{death_waits}
-use Rattle.cg_machine.specs.Run.{StepTaken, Run, last_world}
-use Rattle.cg_machine.specs.Laws.{collection_waits, waits_of, all_waits, AreDeathsOfOthers, IsOrderly}
+use Rattle.cg_machine.specs.Run.{last_world}
+use Rattle.cg_machine.specs.Laws.{collection_waits, all_waits, AreDeathsOfOthers, IsOrderly}
 use Rattle.cg_machine.specs.Bounds.{is_top_level, is_frame, is_release, is_death, IsOverTopLevel, HasNoRelease, AreReleasesApart, IsBounded, StacksAreBounded}
-use Rattle.cg_machine.proofs.Tally.{tally, bit, tally-le}
+use Rattle.cg_machine.proofs.Tally.{bit, tally-le}
 use Rattle.cg_machine.proofs.Saving.{count_cons, fewer_times}
 use Rattle.cg_machine.proofs.Sound.{HasBottom, Sound, collections_in, opening_sound}
 use Rattle.cg_machine.proofs.Ending.{sound_after}
@@ -155,12 +153,21 @@ one_collection _ = omega arith
 -- a world that has the invariants
 module _ (b : ℕ) (w : World) (sound : Sound w) (h : IsOrderly w) (room : Room b w.budget w.stack) where
   deaths_fit : how_many is_death w.stack ≤ length w.objects
-  deaths_fit = omega (arith, dying_count w.stack, length-map w.objects (λ (x : Object). x.serial), others_fit (dying_on w.stack) (serials w.objects) (dying_once w.stack h.others)
-      (λ o m. let found = death_on w.stack o m in subst (Includes (serials w.objects)) found.2 (h.deaths found.0 found.1).lives))
+  deaths_fit = omega (
+    arith,
+    dying_count w.stack,
+    length-map w.objects (λ (x : Object). x.serial),
+    others_fit (dying_on w.stack) (serials w.objects) (dying_once w.stack h.others)
+        (λ o m. let found = death_on w.stack o m in subst (Includes (serials w.objects)) found.2 (h.deaths found.0 found.1).lives),
+  )
 
   waiting_fit : length (all_waits w.stack) ≤ length w.objects
-  waiting_fit = omega (arith, length-map w.objects (λ (x : Object). x.serial), others_fit (all_waits w.stack) (serials w.objects) h.once
-      (λ o m. h.held_live o (Includes-append_right (name_holdings w.names ++ (1 ∷ []) ++ entry_holdings (graph_of w.objects)) (flat_map holds w.stack) o (waits_held w.stack o m))))
+  waiting_fit = omega (
+    arith,
+    length-map w.objects (λ (x : Object). x.serial),
+    others_fit (all_waits w.stack) (serials w.objects) h.once
+        (λ o m. h.held_live o (Includes-append_right (name_holdings w.names ++ (1 ∷ []) ++ entry_holdings (graph_of w.objects)) (flat_map holds w.stack) o (waits_held w.stack o m))),
+  )
 
   single : how_many is_collection w.stack ≤ 1
   single = omega (arith, sound.single, tally-le (λ a. bit (is_collection a)) collections_in one_collection w.stack)

@@ -1,7 +1,7 @@
 -- Releases, deaths and collections leave what a world has of its script: they make no object, and a frame gets the body of
 -- a procedure.
 use Rattle.std.proofs.Common.{◌≡◌, refl, sym, ◌∙◌, subst, ℕ, zero, suc, ◌+◌, ◌-◌, Bool, true, false, not, inl, inr, List, [], ◌∷◌, ◌++◌, length, Option, Some, None}
-use Rattle.std.specs.Prelude.{◌==◌, ◌&&◌, if◌then◌else◌, is_some, flat_map, option_map, option_and_then, option_to_list, slice_get, unwrap_or}
+use Rattle.std.specs.Prelude.{◌==◌, ◌&&◌, if◌then◌else◌, is_some, flat_map, option_map, option_and_then, slice_get, unwrap_or}
 use Rattle.cg_value.specs.declared.Entry.{Entry}
 use Rattle.cg_value.specs.declared.Place.TheVariants.{Cand, Gen, Legacy, Pend, Seen, Untracked}
 use Rattle.cg_script.specs.declared.Script.{Script}
@@ -9,7 +9,7 @@ use Rattle.cg_script.specs.declared.Proc.{Proc}
 use Rattle.cg_script.specs.declared.Command.{Command}
 use Rattle.cg_graph.specs.Member.{Includes, includes}
 use Rattle.cg_graph.specs.Value.{entry_references, last_entry, without_last}
-use Rattle.cg_graph.specs.Object.{Object, change, without, object_at, entries_of, is_at, is_in_map, is_tuple, marked, serials_at, with_entries, with_place, with_referent}
+use Rattle.cg_graph.specs.Object.{Object, change, object_at, entries_of, is_in_map, is_tuple, marked, serials_at, with_entries, with_place, with_referent}
 use Rattle.cg_graph.proofs.Members.{either, Includes-append_left, Includes-append_right, Includes-append_cases, Includes-filter_cases}
 use Rattle.cg_machine.specs.declared.event.Event.{Event}
 use Rattle.cg_machine.specs.declared.event.Event.TheVariants.{Alive, BudgetSpent, Enter, GcSaved}
@@ -17,14 +17,14 @@ use Rattle.cg_machine.specs.declared.event.FrameSort.{FrameSort}
 use Rattle.cg_machine.specs.declared.event.FrameSort.TheVariants.{Del, Legacy as LegacyFrame, Callback, Call}
 use Rattle.cg_machine.specs.declared.event.FrameSpec.{FrameSpec}
 use Rattle.cg_machine.specs.Program.{body_of, commands_of, legacy_of, procedures}
-use Rattle.cg_machine.specs.World.{World, Activity, TopLevel, Framed, Releasing, Dying, Collecting, Frame, DyingPhase, Finalizer, AfterFinalizer, Clearing, Calling, AfterCall, LegacyFinalizer, AfterLegacy, Detaching, Emptying, Collection, CollectPhase, Start, WeakClearing, WeakCalling, AfterCallback, AfterRelease, Finalizing, AfterFinalizing, Split, Turns, Turn, AfterTurn, Ending, BudgetIsSpent, push, with_stack, with_change, with_objects}
+use Rattle.cg_machine.specs.World.{World, Activity, Framed, Releasing, Dying, Collecting, Frame, DyingPhase, Finalizer, AfterFinalizer, Clearing, Calling, AfterCall, LegacyFinalizer, AfterLegacy, Detaching, Emptying, Collection, CollectPhase, Start, WeakClearing, WeakCalling, AfterCallback, AfterRelease, Finalizing, AfterFinalizing, Split, Turns, Turn, AfterTurn, Ending, BudgetIsSpent, with_stack, with_change, with_objects}
 use Rattle.cg_machine.specs.Holdings.{in_degree, is_dying}
 use Rattle.cg_machine.specs.Frame.{Transition, start_frame, frame_end, gives_up_function, begin_death, released, procedure_of}
 use Rattle.cg_machine.specs.Weak.{has_weak_references, weak_references_if, loses_referent, callback_of}
 use Rattle.cg_machine.specs.Dying.{death_at, has_finalizers, finalizer_to_run, run_finalizer, run_legacy, after_frame, clear_one, call_one, detach_one, empty_one, dying}
 use Rattle.cg_machine.specs.Collect.{collection_at, merged, merged_place, sorted, older, get_older, loses_at_split, saved, all_saved, StartStep, WeakClearingStep, calls_back, after_release, looks_at, FinalizingStep, SplitStep, takes_turn, TurnsStep, has_flag, save_all, empties, EndStep, PhaseStep, waits}
 use Rattle.cg_machine.specs.Origins.{all_commands, commands_on, IsOfScript}
-use Rattle.cg_machine.proofs.Forgotten.{IsLater, later_refl, Alters, alters_refl, alters_trans, map_alters, if_alters, change_alters, place_later, lost_alters, entries_alter, place_alters}
+use Rattle.cg_machine.proofs.Forgotten.{IsLater, later_refl, alters_trans, map_alters, if_alters, change_alters, place_later, lost_alters, entries_alter, place_alters}
 use Rattle.cg_machine.proofs.CollectCalm.{moved_alters, saved_alters, all_saved_alters, all_lose_alters}
 
 -- what is left to do and what is there are of the script

@@ -1,5 +1,5 @@
 -- Every step of a run leaves what a world has of its script: a command that makes an object names its class or procedure.
-use Rattle.std.proofs.Common.{◌≡◌, refl, sym, ◌∙◌, ap, subst, ℕ, Bool, true, false, inl, inr, ◌⊎◌, List, [], ◌∷◌, ◌++◌, length, replicate, map, Option, Some, None, Result, Ok, Err}
+use Rattle.std.proofs.Common.{◌≡◌, refl, sym, subst, ℕ, Bool, true, false, inl, inr, ◌⊎◌, List, [], ◌∷◌, ◌++◌, map, Option, Some, None, Result, Ok, Err}
 use Rattle.std.specs.Prelude.{if◌then◌else◌, is_some, flat_map}
 use Rattle.cg_value.specs.declared.Val.{Val}
 use Rattle.cg_value.specs.declared.Val.TheVariants.{None as Nothing, Int, Str, Ref}
@@ -14,19 +14,19 @@ use Rattle.cg_script.specs.declared.Command.TheVariants.{MakeList, MakeTuple, Ma
 use Rattle.cg_graph.specs.Member.{Includes}
 use Rattle.cg_graph.specs.Value.{value_at, item, put}
 use Rattle.cg_graph.specs.Object.{Object, with_entries, with_place, first_place}
-use Rattle.cg_graph.proofs.Members.{either, Includes-append_left, Includes-append_right, Includes-append_cases}
+use Rattle.cg_graph.proofs.Members.{either, Includes-append_left, Includes-append_cases}
 use Rattle.cg_machine.specs.declared.event.Event.{Event}
 use Rattle.cg_machine.specs.declared.event.Event.TheVariants.{Collected}
 use Rattle.cg_machine.specs.declared.event.FrameSort.TheVariants.{Call as CallFrame}
 use Rattle.cg_machine.specs.Program.{commands_of, procedures}
-use Rattle.cg_machine.specs.World.{World, Numbers, Activity, TopLevel, Framed, Releasing, Dying, Collecting, Frame, opening, garbage_list, push, with_stack, with_change}
+use Rattle.cg_machine.specs.World.{World, Activity, TopLevel, Framed, Releasing, Dying, Collecting, Frame, opening, push, with_stack, with_change}
 use Rattle.cg_machine.specs.Holdings.{is_collecting}
-use Rattle.cg_machine.specs.Frame.{Transition, procedure_of}
+use Rattle.cg_machine.specs.Frame.{procedure_of}
 use Rattle.cg_machine.specs.Effects.{Effect, Changes, Calls, Collects, Quits, makes, puts, has_room, replaced, frozen, unfrozen, tracked_by}
 use Rattle.cg_machine.specs.Commands.{effect, stopped_frame, without_commands, new_collection, DoesEffect}
 use Rattle.cg_machine.specs.Due.{due}
 use Rattle.cg_machine.specs.Run.{StepTaken, StepOf, Run, TopLevelStep, CommandInFrame, FrameStep, last_world}
-use Rattle.cg_machine.specs.Origins.{all_commands, commands_on, IsOfScript, HasOrigins, WorldsHaveOrigins}
+use Rattle.cg_machine.specs.Origins.{all_commands, commands_on, IsOfScript, WorldsHaveOrigins}
 use Rattle.cg_machine.proofs.CommandLaws.{Each, LeavesStack, checked, effect_leaves}
 use Rattle.cg_machine.proofs.CommandCalm.{tracked_later}
 use Rattle.cg_machine.proofs.Forgotten.{IsLater, later_refl, Alters, change_alters, map_alters, place_later}

@@ -1,5 +1,5 @@
 -- Every step of a run leaves room, commands among them: no command gives up more than an entry.
-use Rattle.std.proofs.Common.{◌≡◌, refl, sym, subst, ℕ, ◌≤◌, Bool, true, false, inl, inr, List, [], ◌∷◌, length, map, Option, Some, None, Result, Ok, Err, arith}
+use Rattle.std.proofs.Common.{◌≡◌, sym, subst, ℕ, ◌≤◌, Bool, true, false, inl, inr, List, [], ◌∷◌, length, map, Option, Some, None, Result, Ok, Err, arith}
 use Rattle.std.specs.Prelude.{if◌then◌else◌, is_some, option_and_then, slice_get}
 use Rattle.cg_value.specs.declared.Val.{Val}
 use Rattle.cg_value.specs.declared.Val.TheVariants.{None as Nothing, Int, Str, Ref}
@@ -16,7 +16,7 @@ use Rattle.cg_machine.specs.declared.event.Event.TheVariants.{Collected}
 use Rattle.cg_machine.specs.declared.event.FrameSort.TheVariants.{Call as CallFrame}
 use Rattle.cg_machine.specs.World.{World, Activity, TopLevel, Framed, Releasing, Dying, Collecting, Frame, opening, push, with_stack}
 use Rattle.cg_machine.specs.Holdings.{is_collecting}
-use Rattle.cg_machine.specs.Frame.{Transition, procedure_of}
+use Rattle.cg_machine.specs.Frame.{procedure_of}
 use Rattle.cg_machine.specs.Effects.{Effect, Changes, Calls, Collects, Quits, makes, puts, has_room, given_up_by}
 use Rattle.cg_machine.specs.Commands.{effect, stopped_frame, without_commands, new_collection, DoesEffect}
 use Rattle.cg_machine.specs.Due.{due}

@@ -29,8 +29,9 @@ pub fn steps_leave_what_is_below()
     ensures { StepsLeaveWhatIsBelow }
 {}
 
-/// In every world of a run the stack has at most as many frames as the budget allows, at most as many deaths as there are
-/// objects, and releases and collections only between these; so its height and what it holds are bounded by both.
+/// In every world of a run the frames and the budget that is left are within the budget of the run; the deaths, and the
+/// weak references that wait, are no more than the objects; a release has at most two references, and only a death stands
+/// on one. So the height of the stack and what it holds are bounded by the budget and the number of objects.
 pub fn stacks_are_bounded()
     ensures { StacksAreBounded }
 {}
