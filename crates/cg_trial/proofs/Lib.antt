@@ -10,3 +10,4 @@ mod Counted
 mod Objects
 mod Ends
 pub mod Worlds
+mod Scenes

@@ -1,0 +1,543 @@
+//! Small graphs in a heap over six boxes, split. What is to be left is found by hand, and what is kept by the plain search.
+ghost use Rattle.std.specs.Prelude.{◌≡◌, ◌<◌, ◌++◌, ◌∷◌, [], OnOk, map, replicate, slice_get, IfOk, IfSome, None};
+ghost use Rattle.std.specs.List.{All};
+ghost use Rattle.std.specs.FinMap as fin;
+ghost use Rattle.cg_value.specs.declared.Val.{Val};
+ghost use Rattle.cg_value.specs.declared.KindCode.TheVariants as code;
+ghost use Rattle.cg_graph.specs.Store.{IsLive, HasCode, list_at};
+ghost use Rattle.cg_arena.specs.Nodes.{IsPlace};
+ghost use Rattle.cg_heap.specs.Boxes.{six_kinds};
+ghost use Rattle.cg_heap.specs.Keeps.{HasClass};
+ghost use Rattle.cg_heap.specs.Weak.{HasReferent};
+ghost use Rattle.cg_heap.specs.Calls.{CanPutIn};
+ghost use Rattle.cg_trial.specs.Split.{IsSplitPlace};
+
+use crate::split;
+use cg_graph::{Edge, reach_plain};
+use cg_heap::{Heap, HeapFault, Steps};
+use cg_kind::Kind;
+use cg_kinds::{DictKind, FuncKind, InstKind, ListKind, TupleKind, WeakKind};
+use cg_value::{Entry, KindCode, Place, Val};
+use std::alloc::{AllocError, Global};
+use std::marker::{Brand, Model};
+use std::process::Abort;
+use std::sync::ledger::{Blank, Ledger};
+use std::test::Fail;
+
+/// A heap, and the holds that a test has. No more than `count` holds and objects were given.
+#[derive(Drop)]
+struct Scene<B: Kind> {
+    heap: Heap<B>,
+    held: Vec<u64>,
+    count: u64,
+}
+
+impl<B: Kind> Model for Scene<B> {
+    ghost use Rattle.std.specs.Prelude.{ℕ, ◌+◌, ◌≤◌};
+    ghost use Rattle.cg_graph.specs.Holdings.{occurrences};
+    ghost use Rattle.cg_graph.specs.Store.{Store, outside_of};
+    ghost use Rattle.cg_heap.specs.Codes.{store_code};
+    ghost use Rattle.cg_heap.specs.Keeps.{outside_total};
+
+    ghost Value = { Store };
+
+    ghost coded = { store_code };
+
+    ghost view = { λ a. a.heap };
+
+    ghost invariant = { λ a. ((s : ℕ) → occurrences s a.held.items ≤ outside_of a.heap s)
+        × (outside_total a.heap ≤ a.count) × (a.heap.last ≤ a.count + 1) };
+}
+
+/// Where a hold stands.
+fn place_of_hold(held: &[u64], object: u64) -> Option<usize>
+    ensures { IfSome result (λ i. slice_get held.now i ≡ Some object) }
+{
+    held.iter().position(|hold| *hold == object)
+}
+
+impl<B: Kind> Scene<B> {
+    fn new(alloc: Global, kinds: Vec<B>) -> Result<Self, AllocError>
+        requires kinds { map B.kind kinds.items ≡ six_kinds }
+        requires empty { map B.bodies kinds.items ≡ replicate 6 fin.empty }
+    {
+        let heap = Heap::new(alloc, kinds, 0)?;
+        Ok(Scene {
+            heap,
+            held: Vec::new(alloc),
+            count: 0,
+        })
+    }
+
+    /// It stops where the object is not held.
+    fn assert_held(&self, rt: &impl Abort, object: u64)
+        ensures { IsLive self.now object }
+    {
+        match place_of_hold(&self.held, object) {
+            Some(_) => {}
+            None => panic!(rt; "#{object} is not held"),
+        }
+    }
+
+    fn make(
+        &mut self,
+        rt: &impl Abort,
+        code: KindCode,
+        class: Option<u32>,
+    ) -> Result<u64, HeapFault>
+        requires class { HasClass code class }
+        requires referent { HasReferent code None }
+    {
+        assert!(rt; self.count < 1000);
+        self.heap.sound();
+        let made = self.heap.make(code, class, &[], None)?;
+        self.count += 1;
+        match self.held.push(made) {
+            Ok(()) => Ok(made),
+            Err(_) => Err(HeapFault::OutOfMemory),
+        }
+    }
+
+    /// Gives a hold up.
+    fn release(&mut self, rt: &impl Abort, object: u64) {
+        let Some(i) = place_of_hold(&self.held, object) else {
+            panic!(rt; "#{object} is not held");
+        };
+        self.held.remove(i);
+        self.heap.unhold(object);
+    }
+
+    /// Appends an object to a list.
+    fn append(&mut self, rt: &impl Abort, list: u64, object: u64) -> Result<(), HeapFault> {
+        assert!(rt; list != 1);
+        self.assert_held(rt, list);
+        self.assert_held(rt, object);
+        match self.heap.kind_of(list) {
+            KindCode::List => {}
+            _ => panic!(rt; "#{list} is no list"),
+        }
+        self.heap.append(list, Val::Ref(object))
+    }
+
+    /// Puts an object under a key that is an object, into a dictionary.
+    fn put(&mut self, rt: &impl Abort, dict: u64, key: u64, object: u64) -> Result<(), HeapFault> {
+        assert!(rt; dict != 1 && self.count < 1000);
+        self.assert_held(rt, dict);
+        self.assert_held(rt, key);
+        self.assert_held(rt, object);
+        match self.heap.kind_of(dict) {
+            KindCode::Dict => {}
+            _ => panic!(rt; "#{dict} is no dictionary"),
+        }
+        self.heap.put(dict, Val::Ref(key), Val::Ref(object))?;
+        self.count += 1;
+        Ok(())
+    }
+
+    /// Makes a function with one cell.
+    fn closure(&mut self, rt: &impl Abort, cell: u64) -> Result<u64, HeapFault> {
+        assert!(rt; self.count < 1000);
+        self.assert_held(rt, cell);
+        self.heap.sound();
+        let entry = Entry {
+            key: Val::None,
+            val: Val::Ref(cell),
+        };
+        let made = self.heap.make(KindCode::Func, Some(0), &[entry], None)?;
+        self.count += 1;
+        match self.held.push(made) {
+            Ok(()) => Ok(made),
+            Err(_) => Err(HeapFault::OutOfMemory),
+        }
+    }
+
+    fn list(&mut self, rt: &impl Abort) -> Result<u64, HeapFault> {
+        self.make(rt, KindCode::List, None)
+    }
+}
+
+/// The graphs of the table.
+#[derive(Clone, Copy, Debug, PartialEq, Eq, Drop)]
+enum Graph {
+    /// #2 holds itself twice.
+    HoldsItselfTwice,
+    /// #2 holds itself three times.
+    HoldsItselfThrice,
+    /// #2 and #3 hold each other, so do #4 and #5, and #3 holds #4.
+    RingsWithBridge,
+    /// #2 holds #3, which holds #4, which holds #2; #5 stands alone.
+    RingOfThree,
+    /// #2 and #3 hold each other, #4 holds #2, and #5 holds #4.
+    ChainIntoRing,
+    /// The dictionary #2 has the object #4 under the object #3, and the function #5 has the dictionary as a cell.
+    KeyAndCell,
+}
+
+/// A graph, the objects that stay held from outside, whether all objects are candidates before, and what is unreachable.
+#[derive(Clone, Copy, Drop)]
+struct Row {
+    graph: Graph,
+    held: &'static [u64],
+    among_candidates: bool,
+    left: &'static [u64],
+}
+
+fn build<B: Kind>(scene: &mut Scene<B>, rt: &impl Abort, graph: Graph) -> Result<(), HeapFault> {
+    match graph {
+        Graph::HoldsItselfTwice => build_self(scene, rt, 2),
+        Graph::HoldsItselfThrice => build_self(scene, rt, 3),
+        Graph::RingsWithBridge => build_links(scene, rt, &[(2, 3), (3, 2), (4, 5), (5, 4), (3, 4)]),
+        Graph::RingOfThree => build_links(scene, rt, &[(2, 3), (3, 4), (4, 2)]),
+        Graph::ChainIntoRing => build_links(scene, rt, &[(2, 3), (3, 2), (4, 2), (5, 4)]),
+        Graph::KeyAndCell => build_key_and_cell(scene, rt),
+    }
+}
+
+fn build_self<B: Kind>(scene: &mut Scene<B>, rt: &impl Abort, times: u32) -> Result<(), HeapFault> {
+    let list = scene.list(rt)?;
+    for _ in 0..times {
+        scene.append(rt, list, list)?;
+    }
+    Ok(())
+}
+
+/// Four lists, and the items that they get.
+fn build_links<B: Kind>(
+    scene: &mut Scene<B>,
+    rt: &impl Abort,
+    links: &[(u64, u64)],
+) -> Result<(), HeapFault> {
+    for _ in 0..4u32 {
+        scene.list(rt)?;
+    }
+    for (list, object) in links {
+        scene.append(rt, *list, *object)?;
+    }
+    Ok(())
+}
+
+fn build_key_and_cell<B: Kind>(scene: &mut Scene<B>, rt: &impl Abort) -> Result<(), HeapFault> {
+    let dict = scene.make(rt, KindCode::Dict, None)?;
+    let key = scene.make(rt, KindCode::Inst, Some(0))?;
+    let value = scene.list(rt)?;
+    scene.put(rt, dict, key, value)?;
+    scene.closure(rt, dict)?;
+    Ok(())
+}
+
+/// All holds but some are given up.
+fn release_others<B: Kind>(
+    scene: &mut Scene<B>,
+    rt: &impl Abort,
+    alloc: Global,
+    kept: &[u64],
+) -> Result<(), AllocError> {
+    let held = Vec::from_slice(alloc, &scene.held)?;
+    for object in held.iter() {
+        if !kept.contains(object) {
+            scene.release(rt, *object);
+        }
+    }
+    Ok(())
+}
+
+/// The objects of a place, in order.
+fn serials_in<B: Kind>(alloc: Global, heap: &Heap<B>, place: Place) -> Result<Vec<u64>, AllocError>
+    requires { IsPlace place }
+    ensures { IfOk result (λ serials. serials.items ≡ list_at heap.now place) }
+{
+    heap.sound();
+    let mut serials = Vec::new(alloc);
+    let mut cursor = heap.first(place);
+    'objects: while let Some(object) = cursor {
+        serials.push(object)?;
+        cursor = heap.next(object);
+    }
+    Ok(serials)
+}
+
+fn push_edge(edges: &mut Vec<Edge>, from: u64, val: Val) -> Result<(), AllocError> {
+    if let Val::Ref(to) = val {
+        edges.push(Edge { from, to })?;
+    }
+    Ok(())
+}
+
+/// One edge for each reference of the object's entries.
+fn push_edges<B: Kind>(edges: &mut Vec<Edge>, heap: &Heap<B>, object: u64) -> Result<(), AllocError>
+    requires { IsLive heap.now object }
+{
+    for i in 0..heap.len(object) {
+        let entry = heap.entry_at(object, i);
+        push_edge(edges, object, entry.val)?;
+        push_edge(edges, object, entry.key)?;
+    }
+    Ok(())
+}
+
+/// The members that are held more often than edges lead to them.
+fn held_beyond<B: Kind>(
+    alloc: Global,
+    heap: &Heap<B>,
+    members: &[u64],
+    edges: &[Edge],
+) -> Result<Vec<u64>, AllocError>
+    requires { All (λ o. IsLive heap.now o) members.now }
+{
+    let mut held = Vec::new(alloc);
+    for member in members {
+        if heap.refs(*member) > edges.iter().filter(|edge| edge.to == *member).count() as u64 {
+            held.push(*member)?;
+        }
+    }
+    Ok(held)
+}
+
+/// What the plain search finds among the members.
+fn reached_plainly<B: Kind>(
+    alloc: Global,
+    heap: &Heap<B>,
+    members: &[u64],
+) -> Result<Vec<u64>, AllocError>
+    requires { All (λ o. IsLive heap.now o) members.now }
+{
+    let mut edges = Vec::new(alloc);
+    for member in members {
+        push_edges(&mut edges, heap, *member)?;
+    }
+    let held = held_beyond(alloc, heap, members, &edges)?;
+    reach_plain(alloc, &edges, members, &held)
+}
+
+/// Splits the place. It answers what is left, what is kept, and what the plain search finds, each rising.
+fn split_place<B: Kind, L: Ledger>(
+    rt: &impl Abort,
+    alloc: Global,
+    heap: &mut Heap<B>,
+    from: Place,
+    steps: &mut Steps<L>,
+) -> Result<(Vec<u64>, Vec<u64>, Vec<u64>), AllocError>
+    requires { IsSplitPlace from }
+{
+    let kept_place = match from {
+        Place::Cand => Place::Back,
+        place => place,
+    };
+    let members = serials_in(alloc, heap, from)?;
+    heap.sound();
+    let reached = reached_plainly(alloc, heap, &members)?;
+    assert!(rt; heap.size(Place::Back) == 0);
+    assert!(rt; from == Place::Cand || heap.size(Place::Cand) == 0);
+    split(heap, from, steps);
+    let mut left = serials_in(alloc, heap, Place::Cand)?;
+    let mut kept = serials_in(alloc, heap, kept_place)?;
+    left.sort()?;
+    kept.sort()?;
+    Ok((left, kept, reached))
+}
+
+/// Splits the place of a row, and compares what is kept with the plain search, and what is left with the row.
+fn check_row<B: Kind, L: Ledger>(
+    rt: &impl Abort,
+    alloc: Global,
+    kinds: Vec<B>,
+    blank: Blank,
+    row: Row,
+) -> Result<(), Fail>
+    requires kinds { map B.kind kinds.items ≡ six_kinds }
+    requires empty { map B.bodies kinds.items ≡ replicate 6 fin.empty }
+    requires name { blank.name ≡ L.name }
+    requires parts { blank.parts ≡ L.parts }
+    requires some { 0 < blank.parts }
+{
+    let mut scene = Scene::new(alloc, kinds)?;
+    build(&mut scene, rt, row.graph)?;
+    release_others(&mut scene, rt, alloc, row.held)?;
+    let mut steps = Steps::<L>::new(blank);
+    let Scene { mut heap, .. } = scene;
+    let from = if row.among_candidates {
+        heap.merge(Place::Gen(0), Place::Cand);
+        Place::Cand
+    } else {
+        Place::Gen(0)
+    };
+    let (left, kept, reached) = split_place(rt, alloc, &mut heap, from, &mut steps)?;
+    assert_eq!(rt; kept.as_slice(), reached.as_slice(), "{:?}", row.graph);
+    assert_eq!(rt; left.as_slice(), row.left, "{:?}", row.graph);
+    Ok(())
+}
+
+fn table_row(graph: Graph, held: &'static [u64], left: &'static [u64]) -> Row {
+    Row {
+        graph,
+        held,
+        among_candidates: false,
+        left,
+    }
+}
+
+/// A kind in a struct of the test's own.
+#[derive(Drop)]
+struct Own<K: Kind> {
+    kind: K,
+}
+
+impl<K: Kind> Kind for Own<K> {
+    ghost kind = { λ f. K.kind f.kind };
+
+    ghost bodies = { λ f. K.bodies f.kind };
+
+    fn code(&self) -> KindCode {
+        self.kind.code()
+    }
+
+    fn make(&mut self, parts: &[Entry]) -> Result<usize, AllocError> {
+        self.kind.make(parts)
+    }
+
+    fn len(&self, at: usize) -> usize {
+        self.kind.len(at)
+    }
+
+    fn entry_at(&self, at: usize, i: usize) -> Entry {
+        self.kind.entry_at(at, i)
+    }
+
+    fn find(&self, at: usize, key: Val) -> Option<usize> {
+        self.kind.find(at, key)
+    }
+
+    fn put(&mut self, at: usize, key: Val, val: Val) -> Result<Option<Val>, AllocError> {
+        self.kind.put(at, key, val)
+    }
+
+    fn take(&mut self, at: usize, i: usize) -> Entry {
+        self.kind.take(at, i)
+    }
+
+    fn detach(&mut self, at: usize) -> Option<Entry> {
+        self.kind.detach(at)
+    }
+
+    fn reserve(&mut self, at: usize, n: usize) -> Result<(), AllocError> {
+        self.kind.reserve(at, n)
+    }
+
+    fn append_reserved(&mut self, at: usize, val: Val) {
+        self.kind.append_reserved(at, val);
+    }
+
+    fn free(&mut self, at: usize) {
+        self.kind.free(at);
+    }
+}
+
+fn lists(alloc: Global) -> Result<Box<dyn Kind>, AllocError>
+    ensures kind { IfOk result (λ b. kind b ≡ code.List) }
+    ensures empty { IfOk result (λ b. bodies b ≡ fin.empty) }
+{
+    let kind = ListKind::new(alloc);
+    let boxed: Box<dyn Kind> = Box::new(alloc, Own { kind })?;
+    Ok(boxed)
+}
+
+fn tuples(alloc: Global) -> Result<Box<dyn Kind>, AllocError>
+    ensures kind { IfOk result (λ b. kind b ≡ code.Tuple) }
+    ensures empty { IfOk result (λ b. bodies b ≡ fin.empty) }
+{
+    let kind = TupleKind::new(alloc);
+    let boxed: Box<dyn Kind> = Box::new(alloc, Own { kind })?;
+    Ok(boxed)
+}
+
+fn dicts(alloc: Global) -> Result<Box<dyn Kind>, AllocError>
+    ensures kind { IfOk result (λ b. kind b ≡ code.Dict) }
+    ensures empty { IfOk result (λ b. bodies b ≡ fin.empty) }
+{
+    let kind = DictKind::new(alloc);
+    let boxed: Box<dyn Kind> = Box::new(alloc, Own { kind })?;
+    Ok(boxed)
+}
+
+fn instances(alloc: Global) -> Result<Box<dyn Kind>, AllocError>
+    ensures kind { IfOk result (λ b. kind b ≡ code.Inst) }
+    ensures empty { IfOk result (λ b. bodies b ≡ fin.empty) }
+{
+    let kind = InstKind::new(alloc);
+    let boxed: Box<dyn Kind> = Box::new(alloc, Own { kind })?;
+    Ok(boxed)
+}
+
+fn functions(alloc: Global) -> Result<Box<dyn Kind>, AllocError>
+    ensures kind { IfOk result (λ b. kind b ≡ code.Func) }
+    ensures empty { IfOk result (λ b. bodies b ≡ fin.empty) }
+{
+    let kind = FuncKind::new(alloc);
+    let boxed: Box<dyn Kind> = Box::new(alloc, Own { kind })?;
+    Ok(boxed)
+}
+
+fn weak_references(alloc: Global) -> Result<Box<dyn Kind>, AllocError>
+    ensures kind { IfOk result (λ b. kind b ≡ code.Weak) }
+    ensures empty { IfOk result (λ b. bodies b ≡ fin.empty) }
+{
+    let kind = WeakKind::new(alloc);
+    let boxed: Box<dyn Kind> = Box::new(alloc, Own { kind })?;
+    Ok(boxed)
+}
+
+/// One box more.
+fn push(kinds: &mut Vec<Box<dyn Kind>>, made: Box<dyn Kind>) -> Result<(), AllocError>
+    ensures codes { OnOk result (map (λ b. kind b) kinds.new.items ≡
+        map (λ b. kind b) kinds.old.items ++ kind made ∷ []) }
+    ensures bodies { OnOk result (map (λ b. bodies b) kinds.new.items ≡
+        map (λ b. bodies b) kinds.old.items ++ bodies made ∷ []) }
+{
+    kinds.push(made)?;
+    Ok(())
+}
+
+/// Six empty kinds.
+fn six(alloc: Global) -> Result<Vec<Box<dyn Kind>>, AllocError>
+    ensures kinds { IfOk result (λ kinds. map (λ b. kind b) kinds.items ≡ six_kinds) }
+    ensures empty { IfOk result (λ kinds. map (λ b. bodies b) kinds.items ≡ replicate 6 fin.empty) }
+{
+    let mut kinds: Vec<Box<dyn Kind>> = Vec::new(alloc);
+    push(&mut kinds, lists(alloc)?)?;
+    push(&mut kinds, tuples(alloc)?)?;
+    push(&mut kinds, dicts(alloc)?)?;
+    push(&mut kinds, instances(alloc)?)?;
+    push(&mut kinds, functions(alloc)?)?;
+    push(&mut kinds, weak_references(alloc)?)?;
+    Ok(kinds)
+}
+
+#[test]
+fn what_no_path_reaches_is_left(rt: HostRuntime) -> Result<(), Fail> {
+    let alloc = rt.alloc();
+    let rows = [
+        table_row(Graph::HoldsItselfTwice, &[], &[2]),
+        table_row(Graph::HoldsItselfTwice, &[2], &[]),
+        table_row(Graph::HoldsItselfThrice, &[], &[2]),
+        table_row(Graph::RingsWithBridge, &[], &[2, 3, 4, 5]),
+        table_row(Graph::RingsWithBridge, &[3], &[]),
+        table_row(Graph::RingsWithBridge, &[4], &[2, 3]),
+        table_row(Graph::RingOfThree, &[3], &[5]),
+        table_row(Graph::ChainIntoRing, &[5], &[]),
+        table_row(Graph::ChainIntoRing, &[4], &[5]),
+        table_row(Graph::ChainIntoRing, &[], &[2, 3, 4, 5]),
+        table_row(Graph::KeyAndCell, &[5], &[]),
+        table_row(Graph::KeyAndCell, &[2], &[5]),
+        table_row(Graph::KeyAndCell, &[], &[2, 3, 4, 5]),
+        Row {
+            graph: Graph::RingsWithBridge,
+            held: &[4],
+            among_candidates: true,
+            left: &[2, 3],
+        },
+    ];
+    for row in rows {
+        check_row::<Box<dyn Kind>, Brand>(&rt, alloc, six(alloc)?, Blank::new(1), row)?;
+    }
+    Ok(())
+}
