@@ -1,0 +1,2 @@
+pub mod Activities
+pub mod Answers
