@@ -1,5 +1,5 @@
 -- What the steps of releases and deaths may answer, in every world that the heap stands for. (Ours.)
-use Rattle.std.specs.Prelude.{◌≡◌, ℕ, ◌≤◌, ◌-◌, List, [], ◌∷◌, count_by}
+use Rattle.std.specs.Prelude.{◌≡◌, ℕ, ◌≤◌, ◌-◌, List, [], ◌∷◌, ◌++◌, None, count_by}
 use Rattle.cg_script.specs.declared.Script.{Script}
 use Rattle.cg_graph.specs.Member.{Includes}
 use Rattle.cg_graph.specs.Store.{Store}
@@ -10,6 +10,9 @@ use Rattle.cg_machine.specs.World.{World, Activity, Releasing, Dying, Death, Num
 use Rattle.cg_machine.specs.Holdings.{holdings, is_death_of}
 use Rattle.cg_machine.specs.Laws.{IsHeldByItsDeathAlone}
 use Rattle.cg_machine.specs.Represents.{Represents, GoesOn, HandsOutDeath, HandsOutFrame}
+use Rattle.cg_death.specs.declared.phase.Phase.{Phase}
+use Rattle.cg_death.specs.declared.phase.Turn.{Turn}
+use Rattle.cg_death.specs.Activities.{activities}
 use Rattle.cg_death.specs.declared.answer.DeathStep.{DeathStep}
 use Rattle.cg_death.specs.declared.answer.DeathStep.TheVariants as answer_of
 
@@ -55,3 +58,24 @@ ReleaseAnswer script w below store left answer_of.Gone = WentOn script w [] w.nu
 abbrev pub ReleaseSteps : Store → List ℕ → Store → List ℕ → DeathStep → Type 0
 ReleaseSteps old left new left_after answer =
     (script : Script) (w : World) (below : List Activity) → Stands old w (Releasing left ∷ below) → ReleaseAnswer script w below new left_after answer
+
+-- the numbers after a line: that an object is freed lowers count 0 (developer guide, "optimization: generations")
+abbrev pub numbers_after : Event → Numbers → Numbers
+numbers_after (Free o) numbers = record numbers { zero_count = numbers.zero_count - 1 }
+numbers_after event numbers = numbers
+
+-- what a step of a death answers; the stack is what the death stands for then, over what lies below
+abbrev pub DeathAnswer : Script → World → Store → List Activity → DeathStep → Type 0
+DeathAnswer script w store stack answer_of.Continue = WentOn script w [] w.numbers store stack
+DeathAnswer script w store stack (answer_of.Emit event) = WentOn script w (event ∷ []) (numbers_after event w.numbers) store stack
+DeathAnswer script w store stack (answer_of.Frame spec) = GaveFrame script w spec store stack
+DeathAnswer script w store stack (answer_of.Died o) = GaveDeath script w o store stack
+DeathAnswer script w store stack answer_of.Gone = WentOn script w [] w.numbers store stack
+
+-- The answer is right in every world for which the heap stood before the call.
+abbrev pub DeathSteps : Script → Store → List Activity → Store → List Activity → DeathStep → Type 0
+DeathSteps script old tops new tops_after answer = (w : World) (below : List Activity) → Stands old w (tops ++ below) → DeathAnswer script w new (tops_after ++ below) answer
+
+-- the same for a turn of a phase
+abbrev pub TurnSteps : Script → Store → ℕ → Phase → Store → Turn → Type 0
+TurnSteps script old o phase new turn = DeathSteps script old (activities o phase None old) new (activities o turn.phase turn.release new) turn.answer

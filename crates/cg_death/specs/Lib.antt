@@ -1,2 +1,3 @@
 pub mod Activities
 pub mod Answers
+pub mod Falls

@@ -5,9 +5,14 @@
 //!
 //! - `answer`: what a step answers.
 //! - `release`: references that are given up one after the other.
+//! - `phase`: where a death stands.
+//! - `finalizers`, `contents`: its phases.
 #![tactic(auto)]
 
 mod answer;
+mod contents;
+mod finalizers;
+mod phase;
 mod release;
 
 pub use answer::DeathStep;

@@ -1,0 +1,37 @@
+use Rattle.std.proofs.Common.{◌≡◌, refl, [], ◌∷◌, subst, sym, ap, ◌∙◌, None, Some}
+use Rattle.cg_value.specs.declared.Place.TheVariants.{Gen}
+use Rattle.cg_graph.specs.Changes.{held, with_place}
+use Rattle.cg_graph.specs.Store.{Store}
+use Rattle.cg_heap.specs.Calls.{with_node, marked}
+use Rattle.cg_machine.specs.declared.event.FrameSort.TheVariants.{Del}
+use Rattle.cg_death.specs.declared.answer.DeathStep.TheVariants as answer_of
+use Rattle.cg_death.specs.declared.phase.Phase.TheVariants as phase_of
+use Rattle.cg_death.specs.declared.phase.Turn.{Turn}
+use Rattle.cg_death.specs.Answers.{TurnSteps}
+use Rattle.cg_death.proofs.Places.{few-changed, live-changed}
+use Rattle.cg_death.proofs.Finalizing.{running, turn-no_finalizer, turn-finalizer}
+use Rattle.cg_death.proofs.finalizers.run_finalizer.Goals as goal
+
+pub set_finalized-requires : goal.set_finalized-requires
+set_finalized-requires g c = live-changed c.args.heap.now c.move_to.new.self (with_place (Gen 0)) c.args.object (ap (λ (st : Store). st.nodes) c.move_to.ensures) c.args.object c.requires.unheld.live
+
+pub hold-requires-clause-live : goal.hold-requires-clause-live
+hold-requires-clause-live g c =
+    live-changed c.move_to.new.self c.set_finalized.new.self marked c.args.object (ap (λ (st : Store). st.nodes) c.set_finalized.ensures) c.args.object
+    (live-changed c.args.heap.now c.move_to.new.self (with_place (Gen 0)) c.args.object (ap (λ (st : Store). st.nodes) c.move_to.ensures) c.args.object c.requires.unheld.live)
+
+pub hold-requires-clause-few : goal.hold-requires-clause-few
+hold-requires-clause-few g c =
+    few-changed c.move_to.new.self c.set_finalized.new.self marked c.args.object (λ n. refl) (ap (λ (st : Store). st.nodes) c.set_finalized.ensures)
+    (few-changed c.args.heap.now c.move_to.new.self (with_place (Gen 0)) c.args.object (λ n. refl) (ap (λ (st : Store). st.nodes) c.move_to.ensures) c.requires.few)
+
+pub returns-in-None-clause-steps : goal.returns-in-None-clause-steps
+returns-in-None-clause-steps g c =
+    subst (λ (turn : Turn). TurnSteps c.args.script.now c.args.heap.now c.args.object phase_of.Finalizer c.args.heap.now turn) (sym c.to.ensures)
+    (turn-no_finalizer c.args.script.now c.args.heap.now c.args.heap.now c.args.object (sym c.in-None.ensures))
+
+pub returns-in-Some-clause-steps : goal.returns-in-Some-clause-steps
+returns-in-Some-clause-steps g c =
+    subst (λ (turn : Turn). TurnSteps c.args.script.now c.args.heap.now c.args.object phase_of.Finalizer c.hold.new.self turn) (sym (c.runs.ensures ∙ ap (running phase_of.AfterFinalizer) c.frame.ensures))
+    (turn-finalizer c.args.script.now c.args.heap.now c.hold.new.self c.args.object c.in-Some.proc (sym c.in-Some.ensures) c.requires.unheld.live c.requires.unheld.none
+    (c.hold.ensures ∙ ap (λ st. held (c.args.object ∷ []) st) (c.set_finalized.ensures ∙ ap (with_node marked c.args.object) c.move_to.ensures)))
