@@ -30,7 +30,10 @@ use Rattle.cg_death.specs.Activities.{death_of, activities, references_left}
 use Rattle.cg_death.specs.Answers.{Stands, WentOn, DeathSteps, numbers_after}
 use Rattle.cg_death.proofs.Worlds.{Matches, matches, represents, pushed, steps_at}
 use Rattle.cg_death.proofs.Turns.{here, ended, waits_are, steps_to}
-use Rattle.cg_death.proofs.Places.{held-outside, matches-held, outside-changed, live-mapped, left-cases, still-waits}
+use Rattle.cg_heap.proofs.ReferenceLemmas.{references-append}
+use Rattle.cg_heap.proofs.HoldLemmas.{entries_hold, outside-held, outside-rewritten}
+use Rattle.cg_heap.proofs.CallerLemmas.{lives_on, kinds-rewritten}
+use Rattle.cg_death.proofs.Places.{matches-held, left-cases, still-waits}
 
 -- the object of a serial in the store has the entries that it has in the world
 pub entries-agree : (store : Store) (o : ℕ) → object_entries_of (objects_of store) o ≡ entries_of store o
@@ -39,22 +42,6 @@ entries-agree store o = ap (λ x. unwrap_or (option_map (λ (x : Object). x.entr
     known : (x : Option Node) → unwrap_or (option_map (λ (x : Object). x.entries) (option_map (object_from store.rows o) x)) [] ≡ entries_in x
     known None = refl
     known (Some n) = refl
-
--- what the entries of an object hold is held inside the heap
-pub entries-hold : (store : Store) (o q : ℕ) → occurrences q (references (entries_of store o)) ≤ inner store q
-unfolding held_within
-entries-hold store o q =
-    let split = total-remove (held_by q) store.nodes o in
-    let here : part (held_by q) (fin.get store.nodes o) ≡ occurrences q (references (entries_of store o)) = known (fin.get store.nodes o) in
-    omega (arith, split, here)
-  where
-    known : (x : Option Node) → part (held_by q) x ≡ occurrences q (references (entries_in x))
-    known None = refl
-    known (Some n) = refl
-
-references-append : (q : ℕ) (xs ys : List Entry) → occurrences q (references (xs ++ ys)) ≡ occurrences q (references xs) + occurrences q (references ys)
-references-append q [] ys = omega arith
-references-append q (x ∷ xs) ys = omega (arith, references-append q xs ys, occurrences-append q (entry_references x) (references (xs ++ ys)), occurrences-append q (entry_references x) (references xs))
 
 -- the last entry of a list that is spelled so
 last-of : (xs : List Entry) (e : Entry) → last_entry (xs ++ e ∷ []) ≡ Some e
@@ -97,11 +84,11 @@ module _ (script : Script) (store : Store) (v : World) (o : ℕ) (below : List A
     refs-live : (q : ℕ) → 0 < occurrences q (entry_references e) → IsLive (rewritten o rest store) q
     refs-live q there =
         let split : occurrences q (references (entries_of store o)) ≡ occurrences q (references (rest ++ e ∷ [])) = ap (λ es. occurrences q (references es)) last in
-        live-mapped (λ q x. if q == o then with_entries rest x else x) store.nodes q
-        (sound q (omega (arith, entries-hold store o q, split, references-append q rest (e ∷ []), occurrences-append q (entry_references e) [], there)))
+        lives_on store (rewritten o rest store) (kinds-rewritten o rest store) q
+        (sound q (omega (arith, entries_hold store o q, split, references-append q rest (e ∷ []), occurrences-append q (entry_references e) [], there)))
 
     outside-are : (q : ℕ) → outside_of left q ≡ occurrences q (entry_references e ++ flat_map holds below)
-    outside-are q = omega (arith, held-outside (entry_references e) (rewritten o rest store) q (refs-live q), outside-changed (with_entries rest) (λ n. refl) o store.nodes q, was q, occurrences-append q (entry_references e) (flat_map holds below))
+    outside-are q = omega (arith, outside-held (entry_references e) (rewritten o rest store) q (refs-live q), outside-rewritten o rest store q, was q, occurrences-append q (entry_references e) (flat_map holds below))
 
     matches-rewritten : Matches (rewritten o rest store) (with_stack (death_of o Emptying ∷ below) after)
     matches-rewritten = record {

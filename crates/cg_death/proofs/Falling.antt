@@ -8,6 +8,7 @@ use Rattle.cg_graph.specs.Holdings.{occurrences}
 use Rattle.cg_graph.specs.Store.{Store, Node, IsLive, entries_of, entries_in, waiting_for}
 use Rattle.cg_graph.specs.Changes.{held, rewritten, more, with_entries, unheld, less}
 use Rattle.cg_graph.proofs.Maps.{get-mapped, get-changed_same}
+use Rattle.cg_heap.proofs.ReferenceLemmas.{entry-le}
 use Rattle.cg_death.specs.declared.release.Release.{Release}
 use Rattle.cg_death.specs.declared.phase.Phase.{Phase}
 use Rattle.cg_death.specs.declared.phase.Phase.TheVariants as phase_of
@@ -37,13 +38,6 @@ entries-rewritten store o entries live = ap entries_in (get-changed_same (with_e
     known None h = cc
     known (Some n) h = refl
 
-pub at_most_two : (e : Entry) → length (entry_references e) ≤ 2
-at_most_two e = omega (arith, length-append (option_to_list (reference_in e.val)) (option_to_list (reference_in e.key)), one (reference_in e.val), one (reference_in e.key))
-  where
-    one : (r : Option ℕ) → length (option_to_list r) ≤ 1
-    one None = omega arith
-    one (Some o) = omega arith
-
 -- an entry was taken out, and its references are to be given up
 pub falls-taken : (store : Store) (o : ℕ) (e : Entry) (release : Release) → IsLive store o → entries_of store o ≡ without_last (entries_of store o) ++ e ∷ [] → references_left release ≡ entry_references e
     → Falls o store phase_of.Emptying None (held (entry_references e) (rewritten o (without_last (entries_of store o)) store)) phase_of.Emptying (Some release)
@@ -53,4 +47,4 @@ falls-taken store o e release live last refs =
     let fewer : length (entries_of (held (entry_references e) (rewritten o (without_last (entries_of store o)) store)) o) ≡ length (without_last (entries_of store o)) = ap length new in
     let one_more : length (entries_of store o) ≡ length (without_last (entries_of store o) ++ e ∷ []) = ap length last in
     let few : length (references_left release) ≡ length (entry_references e) = ap length refs in
-    inr (refl, omega (arith, fewer, one_more, few, at_most_two e, length-append (without_last (entries_of store o)) (e ∷ [])))
+    inr (refl, omega (arith, fewer, one_more, few, entry-le e, length-append (without_last (entries_of store o)) (e ∷ [])))

@@ -26,9 +26,11 @@ use Rattle.cg_death.specs.declared.phase.Turn.{Turn}
 use Rattle.cg_death.specs.Activities.{death_of, activities}
 use Rattle.cg_death.specs.Answers.{Stands, WentOn, GaveFrame, DeathAnswer, DeathSteps}
 use Rattle.cg_death.proofs.Worlds.{Matches, matches, represents, steps_at, occurrences-cons, count-in_degree}
-use Rattle.cg_death.proofs.Releases.{unheld-outside, matches-unheld}
+use Rattle.cg_heap.proofs.HoldLemmas.{outside-unheld, outside-held, outside-moved, outside-with_node}
+use Rattle.cg_heap.proofs.CallerLemmas.{lives_on, kinds-moved, kinds-with_node}
+use Rattle.cg_death.proofs.Releases.{matches-unheld}
 use Rattle.cg_death.proofs.Turns.{here, rephased, ended, waits_are, steps_to, only_phase}
-use Rattle.cg_death.proofs.Places.{held-outside, matches-held, outside-changed, live-mapped, matches-moved, matches-marked, only-one}
+use Rattle.cg_death.proofs.Places.{matches-held, matches-moved, matches-marked, only-one}
 
 -- A frame of its own is due: the object is tracked and held.
 module _ (script : Script) (store : Store) (v : World) (o : ℕ) (below : List Activity) (live : IsLive store o) (none : count_of store o ≡ 0) where
@@ -38,11 +40,11 @@ module _ (script : Script) (store : Store) (v : World) (o : ℕ) (below : List A
   -- once more held than before it was tracked, and marked or not
   held-once : (phase : DyingPhase) → Stands store (here store v o phase below) (death_of o phase ∷ below) → (q : ℕ) → occurrences q (dying_holds o phase) ≡ 0 → (ready : Store) → IsLive ready o → outside_of ready q ≡ outside_of tracked q → outside_of (held (o ∷ []) ready) q ≡ occurrences q (o ∷ flat_map holds below)
   held-once phase s q nothing ready lives same =
-      let more = held-outside (o ∷ []) ready q (λ h. subst (IsLive ready) (sym (only-one o q h)) lives) in
-      omega (arith, more, same, outside-changed (with_place (Gen 0)) (λ n. refl) o store.nodes q, s.represents.outside q, nothing, occurrences-append q (dying_holds o phase) (flat_map holds below), occurrences-cons q o (flat_map holds below), occurrences-cons q o [])
+      let more = outside-held (o ∷ []) ready q (λ h. subst (IsLive ready) (sym (only-one o q h)) lives) in
+      omega (arith, more, same, outside-moved o (Gen 0) store q, s.represents.outside q, nothing, occurrences-append q (dying_holds o phase) (flat_map holds below), occurrences-cons q o (flat_map holds below), occurrences-cons q o [])
 
   tracked_live : IsLive tracked o
-  tracked_live = live-mapped (λ q x. if q == o then with_place (Gen 0) x else x) store.nodes o live
+  tracked_live = lives_on store tracked (kinds-moved o (Gen 0) store) o live
 
   module _ (s : Stands store (here store v o Finalizer below) (death_of o Finalizer ∷ below)) (p : ℕ) (due : option_and_then (finalizer_to_run script) (object_at (objects_of store) o) ≡ Some p) where
     abbrev before : World
@@ -67,7 +69,7 @@ module _ (script : Script) (store : Store) (v : World) (o : ℕ) (below : List A
             (rephased ready before o Finalizer below AfterFinalizer (waits_are store v o Finalizer below (matches store (here store v o Finalizer below) s.represents))
             (matches-marked tracked (here store v o Finalizer below) o (Gen 0)
             (matches-moved store (here store v o Finalizer below) o (Gen 0) (λ e. absurd (omega (arith, e))) s.represents none))))
-            (λ q. held-once Finalizer s q refl ready (live-mapped (λ q x. if q == o then marked x else x) tracked.nodes o tracked_live) (outside-changed marked (λ n. refl) o tracked.nodes q));
+            (λ q. held-once Finalizer s q refl ready (lives_on tracked ready (kinds-with_node marked (λ n. refl) o tracked) o tracked_live) (outside-with_node marked (λ n. refl) o tracked q));
       };
       keeps = record { numbers = refl; budget = refl; outcome = refl };
     }
@@ -116,7 +118,7 @@ module _ (script : Script) (store : Store) (v : World) (o : ℕ) (below : List A
   outside-let_off : (q : ℕ) → outside_of let_off q ≡ occurrences q (flat_map holds below)
   outside-let_off q =
       let was : outside_of store q ≡ occurrences q (o ∷ flat_map holds below) = s.represents.outside q ∙ ap (λ hs. occurrences q (hs ++ flat_map holds below)) held_once in
-      omega (arith, was, unheld-outside (o ∷ []) store q, occurrences-cons q o (flat_map holds below), occurrences-cons q o [])
+      omega (arith, was, outside-unheld (o ∷ []) store q, occurrences-cons q o (flat_map holds below), occurrences-cons q o [])
 
   represents-let_off : Represents let_off goes_on
   represents-let_off =
@@ -139,7 +141,7 @@ module _ (script : Script) (store : Store) (v : World) (o : ℕ) (below : List A
       top = refl;
       represents = represents (moved o Untracked let_off) (with_change (object_placed Untracked) o goes_on)
           (matches-moved let_off goes_on o Untracked (λ e. absurd (omega (arith, e))) represents-let_off none)
-          (λ q. outside-changed (with_place Untracked) (λ n. refl) o let_off.nodes q ∙ represents-let_off.outside q);
+          (λ q. outside-moved o Untracked let_off q ∙ represents-let_off.outside q);
     };
     keeps = record { numbers = refl; budget = refl; outcome = refl };
   }

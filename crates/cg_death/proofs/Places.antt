@@ -78,39 +78,6 @@ pub still-waits : (store : Store) (w : World) → Represents store w → (o : �
 still-waits store w r o none new (inl e) c m = subst (CollectionWaits c.phase) (sym e) (r.collection c m)
 still-waits store w r o none new (inr e) c m = subst (CollectionWaits c.phase) (sym e) (waits-without o c.phase (list_at store Pend) (unheld_by store w r o none c m) (r.collection c m))
 
--- what a change of nodes leaves of outside holds and of life
-pub outside-mapped : (g : ℕ → Node → Node) → ((s : ℕ) (n : Node) → (g s n).outside ≡ n.outside) → (m : fin.FinMap nat_cmp Node) (q : ℕ) → outside_in (fin.get (mapped g m) q) ≡ outside_in (fin.get m q)
-outside-mapped g same m q = ap outside_in (get-mapped g m q) ∙ known (fin.get m q)
-  where
-    known : (x : Option Node) → outside_in (option_map (g q) x) ≡ outside_in x
-    known None = refl
-    known (Some n) = same q n
-
-pub live-mapped : (g : ℕ → Node → Node) (m : fin.FinMap nat_cmp Node) (q : ℕ) → IsSome (fin.get m q) → IsSome (fin.get (mapped g m) q)
-live-mapped g m q live = subst IsSome (sym (get-mapped g m q)) (known (fin.get m q) live)
-  where
-    known : (x : Option Node) → IsSome x → IsSome (option_map (g q) x)
-    known None h = h
-    known (Some n) h = refl
-
-pub outside-changed : (f : Node → Node) → ((n : Node) → (f n).outside ≡ n.outside) → (o : ℕ) (m : fin.FinMap nat_cmp Node) (q : ℕ) → outside_in (fin.get (changed f o m) q) ≡ outside_in (fin.get m q)
-outside-changed f same o m q = outside-mapped (λ s n. if s == o then f n else n) (λ s n. each (s == o) n) m q
-  where
-    each : (b : Bool) (n : Node) → (if b then f n else n).outside ≡ n.outside
-    each true n = same n
-    each false n = refl
-
--- holds more
-pub held-outside : (refs : List ℕ) (store : Store) (q : ℕ) → (0 < occurrences q refs → IsLive store q) → outside_of (held refs store) q ≡ outside_of store q + occurrences q refs
-held-outside refs store q live = ap outside_in (get-mapped (λ s n. more (occurrences s refs) n) store.nodes q) ∙ known (fin.get store.nodes q) live
-  where
-    known : (x : Option Node) → (0 < occurrences q refs → IsSome x) → outside_in (option_map (more (occurrences q refs)) x) ≡ outside_in x + occurrences q refs
-    known (Some n) h = refl
-    known None h = elim (cases_eq (occurrences q refs) 0) [
-      | inl none ↦ omega (arith, none)
-      | inr there ↦ let live = h (omega (arith, there)) in cc
-    ]
-
 pub matches-held : (refs : List ℕ) (store : Store) (w : World) → Matches store w → Matches (held refs store) w
 matches-held refs store w m = record {
   objects = objects-same store (λ s n. more (occurrences s refs) n) (λ s n. refl) ∙ m.objects;
@@ -168,22 +135,3 @@ only-one o q there = elim (cases_eq o q) [
   where
     none : o ≢ q → cond {A = ℕ} (o == q) 1 0 ≡ 0
     none differs = ap (λ b. cond {A = ℕ} b 1 0) (ne_eqb o q differs)
-
--- a change that leaves each number of outside holds
-pub few-changed : (store new : Store) (f : Node → Node) (o : ℕ) → ((n : Node) → (f n).outside ≡ n.outside) → new.nodes ≡ changed f o store.nodes → HasFewHolds store → HasFewHolds new
-few-changed store new f o same is few = subst (λ m. total (λ (n : Node). n.outside) m < 2147483646) (sym is) (subst (λ k. k < 2147483646) (sym (total-mapped (λ s n. if s == o then f n else n) (λ n. n.outside) (λ n. n.outside) store.nodes (λ s n. each (s == o) n))) few)
-  where
-    each : (b : Bool) (n : Node) → (if b then f n else n).outside ≡ n.outside
-    each true n = same n
-    each false n = refl
-
-pub live-changed : (store new : Store) (f : Node → Node) (o : ℕ) → new.nodes ≡ changed f o store.nodes → (q : ℕ) → IsLive store q → IsLive new q
-live-changed store new f o is q live = subst (λ m. IsSome (fin.get m q)) (sym is) (live-mapped (λ s n. if s == o then f n else n) store.nodes q live)
-
--- what is held from outside is live
-pub outside-live : (store : Store) (o : ℕ) → 0 < outside_of store o → IsLive store o
-outside-live store o held = known (fin.get store.nodes o) held
-  where
-    known : (x : Option Node) → 0 < outside_in x → IsSome x
-    known None h = absurd (omega (arith, h))
-    known (Some n) h = refl

@@ -12,6 +12,7 @@ use Rattle.cg_graph.specs.Changes.{unheld, less}
 use Rattle.cg_graph.proofs.Maps.{get-mapped}
 use Rattle.cg_graph.proofs.Objects.{objects-same, occurrences-append}
 use Rattle.cg_graph.proofs.Members.{either}
+use Rattle.cg_heap.proofs.HoldLemmas.{outside-unheld}
 use Rattle.cg_machine.specs.World.{World, Activity, Releasing, Dying, Death, DyingPhase, Finalizer, AfterFinalizer, Clearing, Calling, AfterCall, LegacyFinalizer, AfterLegacy, Detaching, Emptying, Running, with_stack}
 use Rattle.cg_machine.specs.Holdings.{holdings, holds, in_degree, is_dying, dying_holds}
 use Rattle.cg_machine.specs.Frame.{Transition, released, begin_death}
@@ -21,14 +22,6 @@ use Rattle.cg_death.specs.declared.answer.DeathStep.{DeathStep}
 use Rattle.cg_death.specs.declared.answer.DeathStep.TheVariants as answer_of
 use Rattle.cg_death.specs.Answers.{Stands, WentOn, GaveDeath, ReleaseAnswer, ReleaseSteps}
 use Rattle.cg_death.proofs.Worlds.{at_stack, spelled, in_one, occurrences-cons, occurrences-one, count-in_degree, held_by_one, held_by_stack, death_found, Matches, matches, represents, popped, pushed}
-
--- one hold less
-pub unheld-outside : (refs : List ℕ) (store : Store) (s : ℕ) → outside_of (unheld refs store) s ≡ outside_of store s - occurrences s refs
-unheld-outside refs store s = ap outside_in (get-mapped (λ s n. less (occurrences s refs) n) store.nodes s) ∙ known (fin.get store.nodes s)
-  where
-    known : (x : Option Node) → outside_in (option_map (less (occurrences s refs)) x) ≡ outside_in x - occurrences s refs
-    known None = omega arith
-    known (Some n) = refl
 
 pub matches-unheld : (refs : List ℕ) (store : Store) (w : World) → Matches store w → Matches (unheld refs store) w
 matches-unheld refs store w m = record {
@@ -65,7 +58,7 @@ module _ (script : Script) (store : Store) (v : World) (o : ℕ) (references : L
     represents-after =
         represents (unheld (o ∷ []) store) after
         (matches-unheld (o ∷ []) store after (pushed store v references below (popped store v (o ∷ references) below (matches store before s.represents))))
-        (λ q. omega (arith, unheld-outside (o ∷ []) store q, s.represents.outside q, occurrences-cons q o (references ++ flat_map holds below), occurrences-cons q o []))
+        (λ q. omega (arith, outside-unheld (o ∷ []) store q, s.represents.outside q, occurrences-cons q o (references ++ flat_map holds below), occurrences-cons q o []))
 
     is_held : 0 < occurrences o (holdings before)
     is_held =

@@ -1,21 +1,24 @@
-use Rattle.std.proofs.Common.{◌≡◌, refl, [], ◌∷◌, subst, sym, ap, ◌∙◌, None, Some}
+use Rattle.std.proofs.Common.{◌≡◌, refl, [], ◌∷◌, subst, sym, ap, ◌∙◌, None, Some, arith}
 use Rattle.cg_value.specs.declared.Place.TheVariants.{Gen}
-use Rattle.cg_graph.specs.Changes.{held, with_place}
-use Rattle.cg_graph.specs.Store.{Store}
+use Rattle.cg_graph.specs.Changes.{held, moved}
+use Rattle.cg_graph.specs.Store.{IsLive}
+use Rattle.cg_heap.specs.Calls.{HasFewHolds}
 use Rattle.cg_machine.specs.declared.event.FrameSort.TheVariants.{Legacy}
 use Rattle.cg_death.specs.declared.answer.DeathStep.TheVariants as answer_of
 use Rattle.cg_death.specs.declared.phase.Phase.TheVariants as phase_of
 use Rattle.cg_death.specs.declared.phase.Turn.{Turn}
 use Rattle.cg_death.specs.Answers.{TurnSteps}
-use Rattle.cg_death.proofs.Places.{few-changed, live-changed}
+use Rattle.cg_heap.proofs.CallerLemmas.{lives_on, kinds-moved, total-moved}
 use Rattle.cg_death.proofs.Finalizing.{running, turn-no_legacy, turn-legacy}
 use Rattle.cg_death.proofs.finalizers.run_legacy.Goals as goal
 
 pub hold-requires-clause-live : goal.hold-requires-clause-live
-hold-requires-clause-live g c = live-changed c.args.heap.now c.move_to.new.self (with_place (Gen 0)) c.args.object (ap (λ (st : Store). st.nodes) c.move_to.ensures) c.args.object c.requires.unheld.live
+hold-requires-clause-live g c =
+    subst (λ st. IsLive st c.args.object) (sym c.move_to.ensures)
+    (lives_on c.args.heap.now (moved c.args.object (Gen 0) c.args.heap.now) (kinds-moved c.args.object (Gen 0) c.args.heap.now) c.args.object c.requires.unheld.live)
 
 pub hold-requires-clause-few : goal.hold-requires-clause-few
-hold-requires-clause-few g c = few-changed c.args.heap.now c.move_to.new.self (with_place (Gen 0)) c.args.object (λ n. refl) (ap (λ (st : Store). st.nodes) c.move_to.ensures) c.requires.few
+hold-requires-clause-few g c = subst HasFewHolds (sym c.move_to.ensures) (omega (arith, c.requires.few, total-moved c.args.object (Gen 0) c.args.heap.now))
 
 pub returns-in-None-clause-steps : goal.returns-in-None-clause-steps
 returns-in-None-clause-steps g c =
