@@ -48,3 +48,17 @@ falls-taken store o e release live last refs =
     let one_more : length (entries_of store o) ≡ length (without_last (entries_of store o) ++ e ∷ []) = ap length last in
     let few : length (references_left release) ≡ length (entry_references e) = ap length refs in
     inr (refl, omega (arith, fewer, one_more, few, entry-le e, length-append (without_last (entries_of store o)) (e ∷ [])))
+
+-- a callback was given up, and its weak reference is to be
+pub falls-call_ended : (store : Store) (o weak callback : ℕ) (release : Release) → references_left release ≡ weak ∷ [] → Falls o store (phase_of.AfterCall weak callback) None (unheld (callback ∷ []) store) phase_of.Calling (Some release)
+falls-call_ended store o weak callback release left =
+    let one : length (references_left release) ≡ 1 = ap length left in
+    let same : length (entries_of (unheld (callback ∷ []) store) o) ≡ length (entries_of store o) = ap length (entries-unheld (callback ∷ []) store o) in
+    inr (refl, omega (arith, one, same))
+
+-- a reference was given up
+pub falls-given_up : (store : Store) (o : ℕ) (phase : Phase) (q : ℕ) (before after : Release) → references_left before ≡ q ∷ references_left after → Falls o store phase (Some before) (unheld (q ∷ []) store) phase (Some after)
+falls-given_up store o phase q before after taken =
+    let fewer : length (references_left before) ≡ length (q ∷ references_left after) = ap length taken in
+    let same : length (entries_of (unheld (q ∷ []) store) o) ≡ length (entries_of store o) = ap length (entries-unheld (q ∷ []) store o) in
+    inr (refl, omega (arith, fewer, same))

@@ -6,3 +6,10 @@ mod Falling
 mod Classes
 mod Finalizing
 mod Emptying
+mod RowSplits
+mod WeakObjects
+mod Clearing
+mod ClearingTurns
+mod Steps
+mod Calling
+mod Querying

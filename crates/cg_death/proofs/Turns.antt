@@ -34,10 +34,10 @@ not_waiting Y store o none row m waits e =
     none_there : (rs : List Row) → Includes rs row → reverse (map (λ r. r.weak) rs) ≡ [] → Y
     none_there rs m e = no_reverse (map (λ r. r.weak) rs) row.weak (Includes-map (λ (r : Row). r.weak) rs row m) e
 
-abbrev death : ℕ → DyingPhase → Death
+abbrev pub death : ℕ → DyingPhase → Death
 death o phase = record { object = o; phase = phase }
 
-own_object : (o : ℕ) (phase : DyingPhase) (d : Death) → death_of o phase ≡ Dying d → o ≡ d.object
+pub own_object : (o : ℕ) (phase : DyingPhase) (d : Death) → death_of o phase ≡ Dying d → o ≡ d.object
 own_object o phase d e = let same : death o phase ≡ d = cc in ap (λ (x : Death). x.object) same
 
 module _ (store : Store) (v : World) (o : ℕ) (phase : DyingPhase) (below : List Activity) where

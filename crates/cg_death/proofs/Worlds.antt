@@ -33,9 +33,9 @@ pub steps_at : (script : Script) (old : Store) (tops : List Activity) (new : Sto
     → DeathSteps script old tops new tops_after answer
 steps_at script old tops new tops_after answer each w below s = at_stack (λ u. DeathAnswer script u new (tops_after ++ below) answer) w (tops ++ below) s.top (each w below (spelled old w (tops ++ below) s))
 
-append_none : (events : List Event) → events ++ [] ≡ events
+pub append_none : {X : Type 0} (xs : List X) → xs ++ [] ≡ xs
 append_none [] = refl
-append_none (e ∷ events) = ap (λ l. e ∷ l) (append_none events)
+append_none (x ∷ xs) = ap (λ l. x ∷ l) (append_none xs)
 
 -- one step
 pub in_one : (script : Script) (w : World) (events : List Event) (after : World) → w.outcome ≡ Running → StepOf script w w.stack events after → Goes script w events after

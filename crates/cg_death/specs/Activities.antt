@@ -1,7 +1,11 @@
 -- What a release and a death stand for among the activities of the machine, and what they hold. (Ours.)
-use Rattle.std.specs.Prelude.{◌≡◌, ℕ, ◌≤◌, ◌++◌, List, [], ◌∷◌, Option, Some, None, option_to_list, flat_map}
+use Rattle.std.specs.Prelude.{◌≡◌, ℕ, ◌≤◌, ◌<◌, ◌++◌, List, [], ◌∷◌, Option, Some, None, option_to_list, flat_map}
+use Rattle.cg_value.specs.declared.Val.TheVariants.{Ref}
+use Rattle.cg_graph.specs.Member.{Includes}
+use Rattle.cg_graph.specs.Value.{item}
 use Rattle.cg_graph.specs.Holdings.{occurrences}
-use Rattle.cg_graph.specs.Store.{Store, IsLive, outside_of, count_of, waiting_for}
+use Rattle.cg_graph.specs.Rows.{weak_references_in}
+use Rattle.cg_graph.specs.Store.{Store, IsLive, entries_of, outside_of, count_of, waiting_for}
 use Rattle.cg_machine.specs.World as machine
 use Rattle.cg_machine.specs.World.{Activity, Releasing, Dying}
 use Rattle.cg_machine.specs.Holdings.{holds}
@@ -43,3 +47,17 @@ HasHolds store references = (s : ℕ) → occurrences s references ≤ outside_o
 pub record IsUnheld (store : Store) (o : ℕ) : Type 0 where
   pub live : IsLive store o
   pub none : count_of store o ≡ 0
+
+-- Weak references lose an object the newest first: those that wait with it are newer than those that still have it as
+-- referent. (`weakref` manual: callbacks are called from the most recently registered on. That they lose it in this order
+-- is ours.)
+abbrev pub AreNewer : Store → ℕ → Type 0
+AreNewer store o = (v w : ℕ) → Includes (waiting_for store o) v → Includes (weak_references_in store.rows o) w → w < v
+
+-- a weak reference has a callback: its one entry
+abbrev pub HasCallback : Store → ℕ → Type 0
+HasCallback store weak = (f : ℕ) × (entries_of store weak ≡ item (Ref f) ∷ [])
+
+-- each weak reference that waits with an object has one
+abbrev pub HaveCallbacks : Store → ℕ → Type 0
+HaveCallbacks store o = (w : ℕ) → Includes (waiting_for store o) w → HasCallback store w

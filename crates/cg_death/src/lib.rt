@@ -14,6 +14,7 @@ mod contents;
 mod finalizers;
 mod phase;
 mod release;
+mod weak;
 
 pub use answer::DeathStep;
 pub use release::Release;

@@ -31,6 +31,16 @@ impl Release {
         }
     }
 
+    /// Gives up a hold of one object.
+    pub(crate) fn of(object: u64) -> Release
+        ensures { references_left result ≡ object ∷ [] }
+    {
+        Release {
+            first: Some(object),
+            second: None,
+        }
+    }
+
     /// Gives up the next reference.
     ///
     /// `Died` comes exactly where nothing then holds its object, and `Gone` exactly where no reference was left. It
@@ -72,7 +82,7 @@ impl Release {
 }
 
 /// The reference in a value, if there is one.
-fn reference(val: Val) -> Option<u64>
+pub(crate) fn reference(val: Val) -> Option<u64>
     ensures { result ≡ reference_in val }
 {
     match val {
