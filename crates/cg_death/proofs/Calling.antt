@@ -1,6 +1,6 @@
 -- What a heap does when the callback of a weak reference that waits is taken out and called is the step of the machine.
-use Rattle.std.proofs.Common.{◌≡◌, ◌≢◌, refl, sym, ◌∙◌, ap, subst, ℕ, ◌+◌, ◌<◌, ◌≤◌, Bool, true, false, inl, inr, List, [], ◌∷◌, ◌++◌, Option, Some, None, IsSome, arith}
-use Rattle.std.specs.Prelude.{◌==◌, ◌&&◌, IfSome, flat_map, if◌then◌else◌, unwrap_or, option_map, option_and_then, slice_get}
+use Rattle.std.proofs.Common.{◌≡◌, refl, sym, ◌∙◌, ap, subst, ℕ, ◌<◌, Bool, true, false, inl, List, [], ◌∷◌, ◌++◌, Option, Some, None, IsSome, arith}
+use Rattle.std.specs.Prelude.{◌==◌, IfSome, flat_map, if◌then◌else◌, unwrap_or, option_map, option_and_then, slice_get}
 use Rattle.std.proofs.lemmas.Bool.{eqb-true}
 use Rattle.std.specs.FinMap as fin
 use Rattle.cg_value.specs.declared.Entry.{Entry}
@@ -8,9 +8,9 @@ use Rattle.cg_value.specs.declared.Val.TheVariants.{Ref}
 use Rattle.cg_script.specs.declared.Script.{Script}
 use Rattle.cg_graph.specs.Member.{Includes}
 use Rattle.cg_graph.specs.Holdings.{occurrences}
-use Rattle.cg_graph.specs.Value.{item, references, entry_references}
+use Rattle.cg_graph.specs.Value.{item, references}
 use Rattle.cg_graph.specs.Object.{Object, object_at, change, with_entries as object_entries}
-use Rattle.cg_graph.specs.Rows.{Row, waits_with, waited_in, waiting_in, without_row}
+use Rattle.cg_graph.specs.Rows.{Row, waits_with, waiting_in, without_row}
 use Rattle.cg_graph.specs.Store.{Store, Node, objects_of, object_from, outside_of, inner, IsLive, entries_of, entries_in, waiting_for}
 use Rattle.cg_graph.specs.Changes.{held, more, rewritten, with_entries}
 use Rattle.cg_graph.proofs.Maps.{get-mapped}
@@ -18,7 +18,7 @@ use Rattle.cg_graph.proofs.Members.{true_and}
 use Rattle.cg_graph.proofs.Objects.{object-at, objects-same, objects-changed, occurrences-append}
 use Rattle.cg_machine.specs.declared.event.FrameSort.TheVariants.{Callback}
 use Rattle.cg_machine.specs.declared.event.FrameSpec.{FrameSpec}
-use Rattle.cg_machine.specs.World.{World, Activity, Calling, AfterCall, LegacyFinalizer, with_stack, with_change}
+use Rattle.cg_machine.specs.World.{World, Activity, Calling, AfterCall, LegacyFinalizer, with_change}
 use Rattle.cg_machine.specs.Holdings.{holds}
 use Rattle.cg_machine.specs.Frame.{start_frame, procedure_of}
 use Rattle.cg_machine.specs.Weak.{callback_of, callback_in}
@@ -30,9 +30,8 @@ use Rattle.cg_death.specs.declared.answer.DeathStep.TheVariants as answer_of
 use Rattle.cg_death.specs.declared.phase.Phase.TheVariants as phase_of
 use Rattle.cg_death.specs.Activities.{death_of, activities}
 use Rattle.cg_death.specs.Answers.{Stands, GaveFrame, DeathSteps}
-use Rattle.cg_death.proofs.Worlds.{Matches, matches, represents, steps_at, occurrences-cons}
+use Rattle.cg_death.proofs.Worlds.{Matches, represents, steps_at, occurrences-cons}
 use Rattle.cg_death.proofs.Turns.{here, steps_to, only_phase}
-use Rattle.cg_death.proofs.Places.{only-one}
 use Rattle.cg_death.proofs.RowSplits.{head_in, row_of_one, split_at, referent-forgotten, waiting-other, waiting-first, left-in}
 use Rattle.cg_death.proofs.WeakObjects.{objects-alike}
 use Rattle.cg_death.proofs.Clearing.{none_first, matches-rows}
@@ -163,9 +162,15 @@ module _ (script : Script) (store : Store) (r : Row) (ok : AreRows store) (insid
     outside-called q =
         let was : occurrences q ws ≡ occurrences q (r.weak ∷ rest) = ap (occurrences q) ws-are in
         omega (
-          arith, was, s.represents.outside q, outside-held (f ∷ []) (rewritten r.weak [] store) q (lives q), outside-rewritten r.weak [] store q,
-          occurrences-append q ws (flat_map holds below), occurrences-append q (f ∷ r.weak ∷ rest) (flat_map holds below),
-          occurrences-cons q f (r.weak ∷ rest), occurrences-cons q f [],
+          arith,
+          was,
+          s.represents.outside q,
+          outside-held (f ∷ []) (rewritten r.weak [] store) q (lives q),
+          outside-rewritten r.weak [] store q,
+          occurrences-append q ws (flat_map holds below),
+          occurrences-append q (f ∷ r.weak ∷ rest) (flat_map holds below),
+          occurrences-cons q f (r.weak ∷ rest),
+          occurrences-cons q f [],
         )
 
     callback-is : callback_of w.objects r.weak ≡ Some f

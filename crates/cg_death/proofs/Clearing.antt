@@ -1,36 +1,32 @@
 -- What a heap does when a weak reference loses a dying object is the step of the machine.
-use Rattle.std.proofs.Common.{◌≡◌, ◌≢◌, refl, sym, ◌∙◌, ap, subst, ℕ, ◌+◌, ◌-◌, ◌<◌, ◌≤◌, Bool, true, false, cond, not, inl, inr, List, [], ◌∷◌, ◌++◌, Option, Some, None, IsSome, arith}
-use Rattle.std.specs.Prelude.{◌⊎◌, ◌==◌, ◌&&◌, count_by, flat_map, if◌then◌else◌, is_some, unwrap_or, option_map, slice_get}
-use Rattle.std.proofs.lemmas.Bool.{eq-eqb, eqb-true, cases_Bool}
+use Rattle.std.proofs.Common.{◌≡◌, ◌≢◌, refl, sym, ◌∙◌, ap, subst, ℕ, ◌+◌, ◌<◌, ◌≤◌, true, false, cond, not, inl, inr, List, [], ◌∷◌, ◌++◌, Some, None, arith}
+use Rattle.std.specs.Prelude.{◌⊎◌, ◌==◌, ◌&&◌, count_by, flat_map, slice_get}
+use Rattle.std.proofs.lemmas.Bool.{eq-eqb}
 use Rattle.std.proofs.lemmas.List.Sums.{sum_by-cons}
 use Rattle.cg_script.specs.declared.Script.{Script}
 use Rattle.cg_graph.specs.Member.{Includes}
 use Rattle.cg_graph.specs.Holdings.{occurrences}
-use Rattle.cg_graph.specs.Object.{Object, object_at}
-use Rattle.cg_graph.specs.Rows.{Row, referent_in, refers_to, weak_references_in, waiting_in, with_row_waiting, without_row}
+use Rattle.cg_graph.specs.Rows.{Row, refers_to, waiting_in, with_row_waiting, without_row}
 use Rattle.cg_graph.specs.Store.{Store, objects_of, outside_of, IsLive, waiting_for}
 use Rattle.cg_graph.specs.Changes.{held}
 use Rattle.cg_graph.proofs.Members.{either, true_and}
 use Rattle.cg_graph.proofs.Objects.{occurrences-append}
-use Rattle.cg_machine.specs.declared.event.Event.TheVariants.{Cleared}
-use Rattle.cg_machine.specs.World.{World, Activity, TopLevel, Framed, Releasing, Dying, Collecting, Death, DyingPhase, Clearing, Calling, Detaching, Emptying, with_stack}
+use Rattle.cg_machine.specs.World.{World, Activity, Dying, Death, DyingPhase, Clearing, with_stack}
 use Rattle.cg_machine.specs.Holdings.{holds, is_death_of, dying_holds}
-use Rattle.cg_machine.specs.Weak.{weak_references_if, has_weak_references, loses_referent, callback_of}
-use Rattle.cg_machine.specs.Dying.{death_at, clear_one, detach_one, has_finalizers}
+use Rattle.cg_machine.specs.Weak.{loses_referent}
+use Rattle.cg_machine.specs.Dying.{death_at}
 use Rattle.cg_machine.specs.Represents.{Represents, death_waits}
-use Rattle.cg_heap.specs.Weak.{AreRows, cleared_weak}
+use Rattle.cg_heap.specs.Weak.{AreRows}
 use Rattle.cg_heap.proofs.HoldLemmas.{outside-held}
 use Rattle.cg_heap.proofs.CallerLemmas.{live_of_kind}
 use Rattle.cg_value.specs.declared.KindCode.TheVariants.{Weak}
-use Rattle.cg_death.specs.declared.answer.DeathStep.TheVariants as answer_of
-use Rattle.cg_death.specs.declared.phase.Phase.TheVariants as phase_of
-use Rattle.cg_death.specs.Activities.{death_of, activities, AreNewer}
-use Rattle.cg_death.specs.Answers.{Stands, WentOn, DeathSteps}
-use Rattle.cg_death.proofs.Worlds.{Matches, matches, represents, steps_at, occurrences-cons}
-use Rattle.cg_death.proofs.Turns.{here, waits_are, steps_to, only_phase, own_object, death}
+use Rattle.cg_death.specs.Activities.{death_of, AreNewer}
+use Rattle.cg_death.specs.Answers.{Stands}
+use Rattle.cg_death.proofs.Worlds.{Matches, matches, represents}
+use Rattle.cg_death.proofs.Turns.{here, waits_are, own_object, death}
 use Rattle.cg_death.proofs.Places.{matches-held, only-one}
 use Rattle.cg_death.proofs.RowSplits.{all_in, split_at, one_of_row, referent-without, referent-waiting, waiting-without, waiting-other, waiting-more, left-in, waiting-in}
-use Rattle.cg_death.proofs.WeakObjects.{row_there, objects-cleared}
+use Rattle.cg_death.proofs.WeakObjects.{objects-cleared}
 
 -- the first of a list
 pub none_first : (xs : List ℕ) → slice_get xs 0 ≡ None → xs ≡ []

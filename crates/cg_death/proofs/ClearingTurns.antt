@@ -1,6 +1,6 @@
 -- The turns of the phases in which weak references lose a dying object.
-use Rattle.std.proofs.Common.{◌≡◌, ◌≢◌, refl, sym, ◌∙◌, ap, subst, ℕ, Bool, true, false, not, inl, inr, List, [], ◌∷◌, ◌++◌, Option, Some, None, IsSome}
-use Rattle.std.specs.Prelude.{◌==◌, ◌&&◌, if◌then◌else◌, is_some, slice_get}
+use Rattle.std.proofs.Common.{◌≡◌, refl, sym, ◌∙◌, ap, subst, ℕ, Bool, true, false, not, inl, List, [], ◌∷◌, ◌++◌, Some, None}
+use Rattle.std.specs.Prelude.{◌==◌, if◌then◌else◌, is_some, slice_get}
 use Rattle.std.proofs.lemmas.Bool.{eqb-true}
 use Rattle.cg_script.specs.declared.Script.{Script}
 use Rattle.cg_graph.specs.Member.{Includes}
@@ -8,7 +8,6 @@ use Rattle.cg_graph.specs.Rows.{Row, referent_in}
 use Rattle.cg_graph.specs.Store.{Store, objects_of, waiting_for}
 use Rattle.cg_graph.specs.Changes.{held}
 use Rattle.cg_graph.proofs.Members.{true_and}
-use Rattle.cg_machine.specs.declared.event.Event.{Event}
 use Rattle.cg_machine.specs.declared.event.Event.TheVariants.{Cleared}
 use Rattle.cg_machine.specs.World.{World, Activity, Clearing, Calling, Detaching, Emptying}
 use Rattle.cg_machine.specs.Weak.{weak_references_if, has_weak_references, loses_referent, callback_of}

@@ -13,3 +13,4 @@ mod ClearingTurns
 mod Steps
 mod Calling
 mod Querying
+mod Beginning

@@ -1,13 +1,13 @@
 -- Rows split at one of them, and what the rows say once that one waits or is gone.
-use Rattle.std.proofs.Common.{◌≡◌, ◌≢◌, refl, sym, ◌∙◌, ap, subst, ℕ, ◌+◌, ◌<◌, ◌≤◌, Bool, true, false, cond, not, inl, inr, List, [], ◌∷◌, ◌++◌, map, reverse, Option, Some, None, IsSome, append_assoc, arith}
+use Rattle.std.proofs.Common.{◌≡◌, ◌≢◌, refl, sym, ◌∙◌, ap, subst, ℕ, ◌<◌, Bool, true, false, cond, not, inl, inr, List, [], ◌∷◌, ◌++◌, map, reverse, Some, None, append_assoc, arith}
 use Rattle.std.specs.Prelude.{◌⊎◌, ◌==◌, ◌&&◌, filter, find, option_map, slice_get, if◌then◌else◌}
 use Rattle.std.specs.List.{All}
 use Rattle.std.proofs.lemmas.Bool.{cases_eq, eq-eqb, ne_eqb, eqb-true}
 use Rattle.std.proofs.lemmas.List.{reverse-append}
 use Rattle.std.proofs.lemmas.List.Elements.{All-head, All-tail}
 use Rattle.cg_graph.specs.Member.{Includes}
-use Rattle.cg_graph.specs.Rows.{Row, IsRising, referent_in, waited_in, refers_to, waits_with, newest_first, weak_references_in, waiting_in, waiting_row, with_row_waiting, without_row}
-use Rattle.cg_graph.proofs.Members.{either, true_and, Includes-append_left, Includes-append_right, Includes-append_cases, Includes-map, Includes-map_cases, Includes-filter, Includes-filter_cases}
+use Rattle.cg_graph.specs.Rows.{Row, IsRising, referent_in, waited_in, waits_with, newest_first, waiting_in, waiting_row, with_row_waiting, without_row}
+use Rattle.cg_graph.proofs.Members.{either, Includes-append_left, Includes-append_right, Includes-append_cases, Includes-map, Includes-map_cases, Includes-filter, Includes-filter_cases}
 
 pub all_in : {X : Type 0} (P : X → Type 0) (xs : List X) (x : X) → All P xs → Includes xs x → P x
 all_in P [] x all m = absurd m

@@ -1,9 +1,8 @@
 -- Steps of the machine put one after the other, and what is given up above a death.
-use Rattle.std.proofs.Common.{◌≡◌, ◌≢◌, refl, sym, ◌∙◌, ap, subst, ℕ, ◌+◌, ◌≤◌, Bool, true, false, cond, inl, inr, List, [], ◌∷◌, ◌++◌, Option, Some, None, arith}
-use Rattle.std.specs.Prelude.{◌==◌, count_by, flat_map, if◌then◌else◌}
+use Rattle.std.proofs.Common.{◌≡◌, refl, sym, ◌∙◌, ap, subst, ℕ, ◌+◌, Bool, true, false, cond, inl, inr, List, [], ◌∷◌, ◌++◌, Option, Some, None, arith}
+use Rattle.std.specs.Prelude.{◌==◌, count_by, if◌then◌else◌}
 use Rattle.std.proofs.lemmas.List.Sums.{sum_by-cons}
 use Rattle.cg_script.specs.declared.Script.{Script}
-use Rattle.cg_graph.specs.Member.{Includes}
 use Rattle.cg_graph.specs.Store.{Store, count_of, waiting_for}
 use Rattle.cg_graph.specs.Changes.{unheld}
 use Rattle.cg_graph.proofs.Members.{either}
@@ -11,17 +10,17 @@ use Rattle.cg_machine.specs.World.{World, Activity, Releasing, Dying, Death, Aft
 use Rattle.cg_machine.specs.Holdings.{holdings, is_death_of}
 use Rattle.cg_machine.specs.Laws.{IsHeldByItsDeathAlone}
 use Rattle.cg_machine.specs.Run.{StepOf}
-use Rattle.cg_machine.specs.Represents.{Represents}
 use Rattle.cg_death.specs.declared.answer.DeathStep.{DeathStep}
 use Rattle.cg_death.specs.declared.answer.DeathStep.TheVariants as answer_of
 use Rattle.cg_death.specs.declared.phase.Phase.{Phase}
 use Rattle.cg_death.specs.declared.phase.Phase.TheVariants as phase_of
 use Rattle.cg_death.specs.declared.release.Release.{Release}
 use Rattle.cg_death.specs.Activities.{death_of, death_activities, activities, references_left}
-use Rattle.cg_death.specs.Answers.{Stands, WentOn, GaveDeath, GaveFrame, ReleaseAnswer, DeathAnswer, DeathSteps}
+use Rattle.cg_death.specs.Deaths.{TakesNext}
+use Rattle.cg_death.specs.Answers.{Stands, WentOn, ReleaseAnswer, DeathAnswer, DeathSteps}
 use Rattle.cg_death.proofs.Worlds.{steps_at, and_then, matches, represents, pushed, popped}
 use Rattle.cg_death.proofs.Releases.{given_up}
-use Rattle.cg_death.proofs.Turns.{here, rephased, waits_are, own_object, death}
+use Rattle.cg_death.proofs.Turns.{here, rephased, death}
 
 -- A step that prints nothing and changes the stack alone, and then an answer.
 module _ (script : Script) (v : World) (before between : List Activity) (step : StepOf script (with_stack before v) before [] (with_stack between v)) (new : Store) (stack : List Activity) where
@@ -126,3 +125,34 @@ module _ (script : Script) (store : Store) (o weak callback : ℕ) where
       (first_then script v (death_of o (AfterCall weak callback ws) ∷ below) (Releasing (callback ∷ weak ∷ []) ∷ death_of o (Calling ws) ∷ below) (refl, refl) new (Releasing (weak ∷ []) ∷ death_of o (Calling ws) ∷ below) (if count_of new callback == 0 then answer_of.Died callback else answer_of.Continue) s.running
       (of_release script (with_stack (Releasing (callback ∷ weak ∷ []) ∷ death_of o (Calling ws) ∷ below) v) (death_of o (Calling ws) ∷ below) new (weak ∷ []) callback (count_of new callback == 0)
       (given_up script store v callback (weak ∷ []) (death_of o (Calling ws) ∷ below) (stands-pushed v below s) new is)))))
+
+-- What is given up above a death: one reference, or none is left.
+pub step-given_up : (script : Script) (store new : Store) (o q : ℕ) (phase : Phase) (before after : Option Release) → TakesNext before (Some q) after → new ≡ unheld (q ∷ []) store
+    → DeathSteps script store (activities o phase before store) new (activities o phase after new) (if count_of new q == 0 then answer_of.Died q else answer_of.Continue)
+step-given_up script store new o q phase None after takes is = absurd takes
+step-given_up script store new o q phase (Some release) None takes is = absurd takes
+step-given_up script store new o q phase (Some release) (Some left) takes is =
+    subst (λ st. DeathSteps script store (Releasing (references_left release) ∷ death_activities o phase (waiting_for store o)) new (Releasing (references_left left) ∷ death_activities o phase (waiting_for st o)) (if count_of new q == 0 then answer_of.Died q else answer_of.Continue)) (sym is)
+    (subst (λ refs. DeathSteps script store (Releasing refs ∷ death_activities o phase (waiting_for store o)) new (Releasing (references_left left) ∷ death_activities o phase (waiting_for store o)) (if count_of new q == 0 then answer_of.Died q else answer_of.Continue)) (sym takes)
+    (gives_up_above script store new q (references_left left) (death_activities o phase (waiting_for store o)) is))
+
+pub step-turned : (script : Script) (store new : Store) (o : ℕ) (phase : Phase) (before after : Option Release) (tops : List Activity) (answer : DeathStep) → TakesNext before None after
+    → DeathSteps script store (activities o phase None store) new tops answer → DeathSteps script store (activities o phase before store) new tops answer
+step-turned script store new o phase None after tops answer takes steps = steps
+step-turned script store new o phase (Some release) after tops answer takes steps =
+    subst (λ refs. DeathSteps script store (Releasing refs ∷ death_activities o phase (waiting_for store o)) new tops answer) (sym takes)
+    (after_pop script store (death_activities o phase (waiting_for store o)) new tops answer steps)
+
+-- a death that is over stays so
+pub turn-over : (script : Script) (store : Store) (o : ℕ) → DeathSteps script store (activities o phase_of.Over None store) store (activities o phase_of.Over None store) answer_of.Gone
+turn-over script store o =
+    steps_at script store [] store [] answer_of.Gone
+    (λ v below s. record {
+      goes = record {
+        after = with_stack below v;
+        goes = record { steps = []; run = tt; prints = refl; ends = refl };
+        top = refl;
+        represents = s.represents;
+      };
+      keeps = record { numbers = refl; budget = refl; outcome = refl };
+    })

@@ -1,9 +1,8 @@
 -- The weak references of an object in a heap's rows are those of the world, in the same order.
-use Rattle.std.proofs.Common.{◌≡◌, ◌≢◌, refl, sym, ◌∙◌, ap, subst, ℕ, ◌+◌, ◌<◌, ◌≤◌, Bool, true, false, cond, T, not, inl, inr, List, [], ◌∷◌, ◌++◌, map, reverse, Option, Some, None, IsSome, arith}
-use Rattle.std.specs.Prelude.{◌⊎◌, ◌==◌, ◌&&◌, filter, find, option_map, unwrap_or, slice_get, if◌then◌else◌}
-use Rattle.std.specs.List.{All}
+use Rattle.std.proofs.Common.{◌≡◌, refl, sym, ◌∙◌, ap, subst, ℕ, ◌<◌, Bool, true, false, cond, T, not, inl, inr, List, [], ◌∷◌, map, reverse, Option, Some, None, arith}
+use Rattle.std.specs.Prelude.{◌==◌, ◌&&◌, filter, find, option_map, unwrap_or, if◌then◌else◌}
 use Rattle.std.proofs.lemmas.Bool.{cases_eq, cases_lt, eq-eqb, ne_eqb, eqb-true}
-use Rattle.std.specs.declared.cmp.Ordering.TheVariants.{Less, Equal, Greater}
+use Rattle.std.specs.declared.cmp.Ordering.TheVariants.{Equal, Greater}
 use Rattle.std.specs.Ordering.{nat_cmp, is_lt}
 use Rattle.std.specs.Cmp.{nat_cmp_is, unsigned_tied}
 use Rattle.std.specs.FinMap as fin
@@ -31,8 +30,8 @@ same_ascending (x ∷ xs) [] a b into back = absurd (into x (inl refl))
 same_ascending (x ∷ xs) (y ∷ ys) a b into back =
     let heads : x ≡ y = first (into x (inl refl)) (back y (inl refl)) in
     let tails : xs ≡ ys = same_ascending xs ys a.1 b.1
-        (λ n m. either (into n (inr m)) (λ e. let low = a.0 n m in absurd (omega (arith, low, heads, e))) (λ k. k))
-        (λ n m. either (back n (inr m)) (λ e. let low = b.0 n m in absurd (omega (arith, low, heads, e))) (λ k. k)) in
+    (λ n m. either (into n (inr m)) (λ e. let low = a.0 n m in absurd (omega (arith, low, heads, e))) (λ k. k))
+    (λ n m. either (back n (inr m)) (λ e. let low = b.0 n m in absurd (omega (arith, low, heads, e))) (λ k. k)) in
     λ i. heads i ∷ tails i
   where
     first : Includes (y ∷ ys) x → Includes (x ∷ xs) y → x ≡ y

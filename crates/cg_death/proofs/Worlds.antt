@@ -1,5 +1,5 @@
 -- Steps of the machine from a world whose stack is spelled out, and what of a heap stands for such a world.
-use Rattle.std.proofs.Common.{◌≡◌, refl, sym, ◌∙◌, ap, subst, ℕ, ◌+◌, ◌<◌, ◌≤◌, Bool, true, false, cond, inl, inr, List, [], ◌∷◌, ◌++◌, arith}
+use Rattle.std.proofs.Common.{◌≡◌, refl, sym, ◌∙◌, ap, subst, ℕ, ◌+◌, ◌≤◌, true, cond, inl, inr, List, [], ◌∷◌, ◌++◌, arith}
 use Rattle.std.specs.Prelude.{flat_map, ◌==◌}
 use Rattle.std.specs.List.{list_any}
 use Rattle.std.proofs.lemmas.Bool.{eqb-true, eq-eqb}
@@ -15,7 +15,7 @@ use Rattle.cg_graph.proofs.Members.{either, true_or}
 use Rattle.cg_machine.specs.declared.event.Event.{Event}
 use Rattle.cg_machine.specs.World.{World, Activity, TopLevel, Framed, Releasing, Dying, Collecting, Death, Collection, Running, with_stack}
 use Rattle.cg_machine.specs.Holdings.{holdings, holds, in_degree, is_death_of}
-use Rattle.cg_machine.specs.Run.{Step, StepOf}
+use Rattle.cg_machine.specs.Run.{StepOf}
 use Rattle.cg_machine.specs.Represents.{Represents, Goes, death_waits, CollectionWaits}
 use Rattle.cg_death.specs.declared.answer.DeathStep.{DeathStep}
 use Rattle.cg_death.specs.Answers.{Stands, DeathAnswer, DeathSteps}

@@ -1,8 +1,8 @@
 -- What the steps of releases and deaths may answer, in every world that the heap stands for. (Ours.)
-use Rattle.std.specs.Prelude.{◌≡◌, ℕ, ◌≤◌, ◌-◌, List, [], ◌∷◌, ◌++◌, None, count_by}
+use Rattle.std.specs.Prelude.{◌≡◌, ◌≢◌, ℕ, ◌≤◌, ◌-◌, List, [], ◌∷◌, ◌++◌, None, count_by}
 use Rattle.cg_script.specs.declared.Script.{Script}
 use Rattle.cg_graph.specs.Member.{Includes}
-use Rattle.cg_graph.specs.Store.{Store}
+use Rattle.cg_graph.specs.Store.{Store, count_of}
 use Rattle.cg_machine.specs.declared.event.Event.{Event}
 use Rattle.cg_machine.specs.declared.event.Event.TheVariants.{Free}
 use Rattle.cg_machine.specs.declared.event.FrameSpec.{FrameSpec}
@@ -11,6 +11,7 @@ use Rattle.cg_machine.specs.Holdings.{holdings, is_death_of}
 use Rattle.cg_machine.specs.Laws.{IsHeldByItsDeathAlone}
 use Rattle.cg_machine.specs.Represents.{Represents, GoesOn, HandsOutDeath, HandsOutFrame}
 use Rattle.cg_death.specs.declared.phase.Phase.{Phase}
+use Rattle.cg_death.specs.declared.phase.Phase.TheVariants as phase_of
 use Rattle.cg_death.specs.declared.phase.Turn.{Turn}
 use Rattle.cg_death.specs.Activities.{activities}
 use Rattle.cg_death.specs.declared.answer.DeathStep.{DeathStep}
@@ -79,3 +80,14 @@ DeathSteps script old tops new tops_after answer = (w : World) (below : List Act
 -- the same for a turn of a phase
 abbrev pub TurnSteps : Script → Store → ℕ → Phase → Store → Turn → Type 0
 TurnSteps script old o phase new turn = DeathSteps script old (activities o phase None old) new (activities o turn.phase turn.release new) turn.answer
+
+-- Another object's death comes where nothing holds that object; the end comes only where the death is over.
+abbrev pub AnswerIsCaused : ℕ → Phase → Store → DeathStep → Type 0
+AnswerIsCaused o phase new answer_of.Continue = Unit {0}
+AnswerIsCaused o phase new (answer_of.Emit event) = Unit {0}
+AnswerIsCaused o phase new (answer_of.Frame spec) = Unit {0}
+AnswerIsCaused o phase new (answer_of.Died q) = (count_of new q ≡ 0) × (q ≢ o)
+AnswerIsCaused o phase new answer_of.Gone = phase ≡ phase_of.Over
+
+abbrev pub TurnAnswers : ℕ → Phase → Store → Turn → Type 0
+TurnAnswers o phase new turn = AnswerIsCaused o phase new turn.answer

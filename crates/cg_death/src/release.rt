@@ -63,7 +63,7 @@ impl Release {
     }
 
     /// Takes the first reference.
-    fn take_first(&mut self) -> Option<u64>
+    pub(crate) fn take_first(&mut self) -> Option<u64>
         ensures taken { references_left self.old ≡ option_to_list result ++ references_left self.new }
         ensures none { IfNone result (references_left self.new ≡ []) }
     {

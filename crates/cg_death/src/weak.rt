@@ -13,7 +13,7 @@ ghost use Rattle.cg_heap.specs.Calls.{HasFewHolds};
 ghost use Rattle.cg_heap.specs.Weak.{cleared_weak};
 ghost use Rattle.cg_death.specs.declared.phase.Phase.TheVariants as phase_of;
 ghost use Rattle.cg_death.specs.Activities.{IsUnheld, HasHolds, AreNewer, HasCallback, HaveCallbacks};
-ghost use Rattle.cg_death.specs.Answers.{TurnSteps};
+ghost use Rattle.cg_death.specs.Answers.{TurnSteps, TurnAnswers};
 ghost use Rattle.cg_death.specs.Falls.{TurnFalls};
 
 use crate::finalizers::finalizers_of;
@@ -33,6 +33,7 @@ pub fn clear_one<B: Kind>(object: u64, heap: &mut Heap<B>) -> Turn
     ensures steps { (script : Script) →
         TurnSteps script heap.old object phase_of.Clearing heap.new result }
     ensures falls { TurnFalls heap.old object phase_of.Clearing heap.new result }
+    ensures answers { TurnAnswers object phase_of.Clearing heap.new result }
 {
     heap.sound();
     match newest_to_clear(object, heap) {
@@ -94,6 +95,7 @@ pub fn call_one<B: Kind>(object: u64, heap: &mut Heap<B>) -> Turn
     ensures steps { (script : Script) →
         TurnSteps script heap.old object phase_of.Calling heap.new result }
     ensures falls { TurnFalls heap.old object phase_of.Calling heap.new result }
+    ensures answers { TurnAnswers object phase_of.Calling heap.new result }
 {
     match heap.newest_waiting(object) {
         None => Turn::to(Phase::LegacyFinalizer),
@@ -109,6 +111,7 @@ fn call_back<B: Kind>(object: u64, weak: u64, heap: &mut Heap<B>) -> Turn
     ensures steps { (script : Script) →
         TurnSteps script heap.old object phase_of.Calling heap.new result }
     ensures falls { TurnFalls heap.old object phase_of.Calling heap.new result }
+    ensures answers { TurnAnswers object phase_of.Calling heap.new result }
 {
     heap.sound();
     let callback = take_callback(weak, heap);
@@ -136,10 +139,12 @@ fn take_callback<B: Kind>(weak: u64, heap: &mut Heap<B>) -> u64
 
 /// The frame of a callback has ended: the callback is given up, and then the weak reference.
 pub fn end_call<B: Kind>(object: u64, weak: u64, callback: u64, heap: &mut Heap<B>) -> Turn
+    requires unheld { IsUnheld heap.old object }
     requires held { HasHolds heap.old (callback ∷ weak ∷ []) }
     ensures steps { (script : Script) →
         TurnSteps script heap.old object (phase_of.AfterCall weak callback) heap.new result }
     ensures falls { TurnFalls heap.old object (phase_of.AfterCall weak callback) heap.new result }
+    ensures answers { TurnAnswers object (phase_of.AfterCall weak callback) heap.new result }
 {
     let answer = give_up(heap, callback);
     Turn {
@@ -154,6 +159,7 @@ pub fn detach_one<B: Kind>(object: u64, heap: &mut Heap<B>, script: &Script) -> 
     requires { IsLive heap.old object }
     ensures steps { TurnSteps script.now heap.old object phase_of.Detaching heap.new result }
     ensures falls { TurnFalls heap.old object phase_of.Detaching heap.new result }
+    ensures answers { TurnAnswers object phase_of.Detaching heap.new result }
 {
     heap.sound();
     match newest_to_detach(object, heap, script) {

@@ -1,11 +1,10 @@
-use Rattle.std.proofs.Common.{◌≡◌, ◌∙◌, [], ◌∷◌, Option, Some, None, IsSome, subst, sym, ap, ℕ}
+use Rattle.std.proofs.Common.{◌≡◌, ◌∙◌, [], ◌∷◌, Some, IsSome, subst, sym, ap, ℕ}
 use Rattle.std.specs.Prelude.{IfSome, unwrap_or}
 use Rattle.std.specs.FinMap as fin
 use Rattle.cg_graph.specs.Rows.{waiting_in, waited_in}
 use Rattle.cg_graph.specs.Store.{Store, IsLive}
 use Rattle.cg_graph.specs.Changes.{held, rewritten}
 use Rattle.cg_machine.specs.declared.event.FrameSort.TheVariants.{Callback}
-use Rattle.cg_machine.specs.declared.event.FrameSpec.{FrameSpec}
 use Rattle.cg_heap.specs.Weak.{forgotten_weak}
 use Rattle.cg_heap.proofs.CallerLemmas.{lives_on, kinds-held, kinds-rewritten}
 use Rattle.cg_death.specs.declared.phase.Phase.TheVariants as phase_of
@@ -45,8 +44,8 @@ returns-clause-steps g c = λ script.
     let f : ℕ = c.take_callback-callback.result in
     let new_is : c.forget_weak.new.self ≡ forgotten_weak c.args.weak (held (f ∷ []) (rewritten c.args.weak [] c.args.heap.now)) = c.forget_weak.ensures ∙ ap (forgotten_weak c.args.weak) c.take_callback-callback.ensures.rest in
     let class_is = class-after c.args.heap.now c.args.weak f [] (f ∷ []) c.class_of.result
-        (callback-lives c.args.heap.now c.args.weak f c.sound.ensures.live c.take_callback-callback.ensures.callback)
-        (subst (λ (st : Store). IfSome (fin.get st.nodes f) (λ n. c.class_of.result ≡ n.class)) new_is c.class_of.ensures) in
+    (callback-lives c.args.heap.now c.args.weak f c.sound.ensures.live c.take_callback-callback.ensures.callback)
+    (subst (λ (st : Store). IfSome (fin.get st.nodes f) (λ n. c.class_of.result ≡ n.class)) new_is c.class_of.ensures) in
     let proc_is = c.unwrap_or.ensures ∙ ap (λ k. unwrap_or k 0) class_is in
     subst (λ (turn : Turn). TurnSteps script c.args.heap.now c.args.object phase_of.Calling c.forget_weak.new.self turn)
     (sym (c.runs.ensures ∙ ap (λ p. running (phase_of.AfterCall c.args.weak f) (record { sort = Callback; proc = p; subject = c.args.weak; func = Some f })) proc_is))

@@ -1,4 +1,4 @@
-use Rattle.std.proofs.Common.{◌≡◌, ◌∙◌, [], ◌∷◌, subst, sym, Some}
+use Rattle.std.proofs.Common.{subst, sym}
 use Rattle.cg_death.specs.declared.phase.Phase.TheVariants as phase_of
 use Rattle.cg_death.specs.declared.phase.Turn.{Turn}
 use Rattle.cg_death.specs.Answers.{TurnSteps}

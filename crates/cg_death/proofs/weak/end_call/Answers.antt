@@ -1,4 +1,4 @@
-use Rattle.std.proofs.Common.{◌≡◌, [], ◌∷◌, subst, sym, Some, None}
+use Rattle.std.proofs.Common.{subst, sym, Some, None}
 use Rattle.cg_death.specs.declared.phase.Phase.TheVariants as phase_of
 use Rattle.cg_death.specs.Activities.{activities}
 use Rattle.cg_death.specs.Answers.{DeathSteps}

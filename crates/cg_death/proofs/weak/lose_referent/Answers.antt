@@ -1,4 +1,4 @@
-use Rattle.std.proofs.Common.{◌≡◌, [], ◌∷◌, subst, sym}
+use Rattle.std.proofs.Common.{[], ◌∷◌, subst, sym}
 use Rattle.cg_graph.specs.Store.{IsLive}
 use Rattle.cg_graph.specs.Changes.{held}
 use Rattle.cg_heap.proofs.CallerLemmas.{lives_on, kinds-held}
