@@ -1,3 +1,4 @@
+pub mod CallerLemmas
 mod Worlds
 mod Releases
 mod Turns

@@ -14,7 +14,7 @@ ghost use Rattle.cg_death.specs.declared.phase.Phase.TheVariants as phase_of;
 ghost use Rattle.cg_death.specs.Activities.{IsUnheld, HasHolds, IsReadyAt, own_holds_at, death_of};
 ghost use Rattle.cg_death.specs.Answers.{DeathSteps, TurnSteps, TurnAnswers};
 ghost use Rattle.cg_death.specs.Falls.{TurnFalls};
-ghost use Rattle.cg_death.specs.Deaths.{object_of, on_stack, held_by, IsReady, IsOver, DeathFalls, TakesNext};
+ghost use Rattle.cg_death.specs.Deaths.{object_of, on_stack, held_by, IsReady, IsOver, DeathFalls, HasCause, TakesNext, forgets_referent};
 
 use crate::answer::DeathStep;
 use crate::contents::empty_one;
@@ -42,6 +42,7 @@ impl Death {
     pub fn begin<B: Kind>(heap: &mut Heap<B>, object: u64) -> Death
         requires unheld { IsUnheld heap.old object }
         requires none_waits { waiting_in heap.old.rows object ≡ [] }
+        ensures rest { heap.new ≡ forgets_referent object (moved object place_of.Untracked heap.old) }
         ensures begins { (w : machine.World) → Represents heap.old w → Represents heap.new (begin_death object w) }
         ensures stack { on_stack result heap.new ≡ death_of object machine.Finalizer ∷ [] }
         ensures object { object_of result ≡ object }
@@ -69,8 +70,7 @@ impl Death {
             (on_stack self.new heap.new) result }
 
         ensures falls { result ≡ answer_of.Continue → DeathFalls self.old heap.old self.new heap.new }
-        ensures died { (o : ℕ) → result ≡ answer_of.Died o →
-            (count_of heap.new o ≡ 0) × (o ≢ object_of self.old) }
+        ensures cause { HasCause self.old heap.new result }
         ensures gone { (result ≡ answer_of.Gone) ↔ IsOver self.old }
         ensures object { object_of self.new ≡ object_of self.old }
     {
@@ -97,8 +97,7 @@ fn next_reference(release: &mut Option<Release>) -> Option<u64>
 /// If an object is a weak reference, it loses its referent.
 fn lose_own_referent<B: Kind>(object: u64, heap: &mut Heap<B>)
     requires { IsLive heap.old object }
-    ensures { heap.new ≡ (if is_some (referent_in heap.old.rows object)
-        then cleared_weak object false heap.old else heap.old) }
+    ensures { heap.new ≡ forgets_referent object heap.old }
 {
     if heap.referent_of(object).is_some() {
         heap.clear_weak(object, false);
