@@ -13,14 +13,16 @@ use Rattle.cg_graph.specs.Object.{same_place}
 use Rattle.cg_graph.specs.Value.{references_of_value}
 use Rattle.cg_graph.specs.Holdings.{occurrences}
 use Rattle.cg_graph.specs.Places.{place_number, list_of, merge_lists}
-use Rattle.cg_graph.specs.Store.{Store, Node, IsLive, entries_of, inner}
+use Rattle.cg_graph.specs.Store.{Store, Node, IsLive, entries_of, inner, count_of}
 use Rattle.cg_graph.specs.Changes.{held, rewritten, moved, with_place}
 use Rattle.cg_arena.specs.Nodes.{count_in_list}
-use Rattle.cg_heap.specs.Keeps.{size, one, IsWellMadeAt, IsGarbage}
+use Rattle.cg_heap.specs.Keeps.{size, one, IsWellMadeAt, IsGarbage, outside_total}
+use Rattle.cg_heap.specs.Weak.{AreRows}
 
--- All objects together have fewer than 2^31 - 2 outside holds. So no count passes 2^32 - 1.
+-- All objects together have fewer than 2^31 - 2 outside holds, so that a call may give two more. (Ours: so no count passes
+-- 2^32 - 1.)
 abbrev pub HasFewHolds : Store → Type 0
-HasFewHolds store = total (λ n. n.outside) store.nodes < 2147483646
+HasFewHolds store = outside_total store < 2147483646
 
 -- the number of live objects, and of their entries, the garbage list aside
 abbrev pub object_number : Store → ℕ
@@ -134,10 +136,12 @@ pub record IsListed (store : Store) : Type 0 where
 pub record IsSound (store : Store) : Type 0 where
   -- what names, the garbage root and entries hold is live
   pub live : (s : ℕ) → 0 < inner store s → IsLive store s
+  pub fits : (s : ℕ) → count_of store s < 4294967296
   pub below : (s : ℕ) → IsLive store s → s ≤ store.last
   -- the items of a list have no keys, a weak reference has at most one entry, and instances and functions have a number
   pub well : (s : ℕ) → IsWellMadeAt (fin.get store.nodes s)
   pub listed : IsListed store
   pub garbage : IsGarbage (entries_of store 1)
+  pub rows : AreRows store
   pub objects : object_number store ≤ 1000000
   pub entries : entry_number store ≤ 4000000

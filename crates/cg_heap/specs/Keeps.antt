@@ -16,6 +16,7 @@ use Rattle.cg_value.specs.declared.Val.TheVariants.{Ref}
 use Rattle.cg_value.specs.declared.Entry.{Entry}
 use Rattle.cg_graph.specs.Value.{item, references}
 use Rattle.cg_graph.specs.Holdings.{occurrences}
+use Rattle.cg_heap.specs.Weak.{AreRows}
 
 -- what a node stands for, with a number of outside holds
 abbrev pub node_from : List Bodies → ArenaNode → ℕ → Node
@@ -114,3 +115,12 @@ pub record Keeps (all : List Bodies) (nodes : fin.FinMap nat_cmp ArenaNode) (obj
   pub root : HasRoomToSave all nodes objects store
   pub garbage : length (entries_of store 1) ≤ 1000000
   pub names : length store.names < 1073741824
+
+-- the number of outside holds of all objects together
+abbrev pub outside_total : Store → ℕ
+outside_total store = total (λ n. n.outside) store.nodes
+
+-- What a heap keeps besides: what is true of its rows, and few enough outside holds that every count fits.
+pub record RowsAndHolds (store : Store) : Type 0 where
+  pub rows : AreRows store
+  pub holds : outside_total store < 2147483648

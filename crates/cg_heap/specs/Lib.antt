@@ -1,4 +1,5 @@
 pub mod Boxes
 pub mod Codes
+pub mod Weak
 pub mod Keeps
 pub mod Calls

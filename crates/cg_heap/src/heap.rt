@@ -13,12 +13,14 @@ mod entries;
 mod holds;
 mod objects;
 mod places;
+mod weak;
 
 use crate::boxes::Boxes;
 use crate::counts::{seat_of, unbound};
 use cg_arena::Arena;
 use cg_kind::Kind;
 use cg_value::{Entry, KindCode, Place, Val};
+use cg_weak::WeakTable;
 use std::alloc::{AllocError, Global};
 use std::marker::Model;
 
@@ -36,6 +38,7 @@ use std::marker::Model;
 pub struct Heap<B: Kind> {
     boxes: Boxes<B>,
     arena: Arena,
+    weak: WeakTable,
     names: Vec<Option<Val>>,
     last: u64,
     objects: u64,
@@ -43,19 +46,19 @@ pub struct Heap<B: Kind> {
 }
 
 impl<B: Kind> Model for Heap<B> {
-    ghost use Rattle.std.specs.Prelude.{[]};
     ghost use Rattle.cg_graph.specs.Store.{Store};
     ghost use Rattle.cg_heap.specs.Codes.{store_code};
-    ghost use Rattle.cg_heap.specs.Keeps.{store_of, Keeps};
+    ghost use Rattle.cg_heap.specs.Keeps.{store_of, Keeps, RowsAndHolds};
 
     ghost Value = { Store };
 
     ghost coded = { store_code };
 
-    ghost view = { λ a. store_of a.boxes a.arena a.names.items a.last [] };
+    ghost view = { λ a. store_of a.boxes a.arena a.names.items a.last a.weak.rows };
 
     ghost invariant = { λ a. Keeps a.boxes a.arena.nodes a.objects a.entries
-        (store_of a.boxes a.arena a.names.items a.last []) };
+        (store_of a.boxes a.arena a.names.items a.last a.weak.rows)
+        × RowsAndHolds (store_of a.boxes a.arena a.names.items a.last a.weak.rows) };
 }
 
 impl<B: Kind> Heap<B> {
@@ -77,6 +80,7 @@ impl<B: Kind> Heap<B> {
         Ok(Heap {
             boxes,
             arena,
+            weak: WeakTable::new(alloc),
             names,
             last: 1,
             objects: 0,
@@ -85,8 +89,9 @@ impl<B: Kind> Heap<B> {
     }
 
     /// It changes nothing, and tells what is true of every heap: what names, the garbage root and entries hold is live, no
-    /// live serial is above the last, each object stands once in the list of its place and in no other, the garbage list
-    /// names each object at most once and never itself, and there are at most 1,000,000 objects and 4,000,000 entries.
+    /// live serial is above the last, each in-degree is below 2^32, each object stands once in the list of its place and
+    /// in no other, the garbage list names each object at most once and never itself, each row is that of a live weak
+    /// reference with a live referent, and there are at most 1,000,000 objects and 4,000,000 entries.
     pub fn sound(&self)
         ensures { IsSound self.now }
     {

@@ -27,6 +27,7 @@ impl<B: Kind> Heap<B> {
     /// Takes the value of a name, `None` where it was unbound. Its reference is now an outside hold.
     pub fn unbind(&mut self, name: u32) -> Option<Val>
         requires name { name < length self.old.names }
+        requires few { HasFewHolds self.old }
         ensures old { slice_get self.old.names name ≡ Some result }
         ensures rest { self.new ≡ held (references_of_value result) (named name None self.old) }
     {

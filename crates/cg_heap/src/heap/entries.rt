@@ -21,6 +21,7 @@ impl<B: Kind> Heap<B> {
     pub fn take(&mut self, object: u64, i: usize) -> Entry
         requires can { CanTake self.old object }
         requires within { i < length (entries_of self.old object) }
+        requires few { HasFewHolds self.old }
         ensures entry { slice_get (entries_of self.old object) i ≡ Some result }
         ensures rest { self.new ≡ held (entry_references result)
             (rewritten object (remove (entries_of self.old object) i) self.old) }
@@ -34,7 +35,8 @@ impl<B: Kind> Heap<B> {
     /// Takes the last entry off, whatever the kind. `None` comes exactly where there is none. The references of the
     /// entry are now outside holds.
     pub fn detach(&mut self, object: u64) -> Option<Entry>
-        requires { IsLive self.old object }
+        requires live { IsLive self.old object }
+        requires few { HasFewHolds self.old }
         ensures last { IfSome result (λ e. entries_of self.old object ≡
             without_last (entries_of self.old object) ++ e ∷ []) }
         ensures rest { IfSome result (λ e. self.new ≡ held (entry_references e)
@@ -60,7 +62,6 @@ impl<B: Kind> Heap<B> {
         requires list { HasCode self.old list code.List }
         requires other { list ≢ 1 }
         requires live { IsLiveValue self.old val }
-        requires few { HasFewHolds self.old }
         ensures ok { OnOk result (self.new ≡
             rewritten list (entries_of self.old list ++ item val ∷ []) self.old) }
         ensures limit { (result ≡ Err fault.EntryLimit) ↔ (4000000 ≤ entry_number self.old) }
@@ -172,7 +173,6 @@ impl<B: Kind> Heap<B> {
         requires new { value_in self.old object key ≡ None }
         requires live_key { IsLiveValue self.old key }
         requires live_val { IsLiveValue self.old val }
-        requires few { HasFewHolds self.old }
         ensures ok { OnOk result (self.new ≡ with_put self.old object key val) }
         ensures limit { (result ≡ Err fault.EntryLimit) ↔ (4000000 ≤ entry_number self.old) }
         ensures objects { result ≢ Err fault.ObjectLimit }

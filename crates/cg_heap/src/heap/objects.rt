@@ -1,5 +1,6 @@
 //! Objects that come and go.
-ghost use Rattle.std.specs.Prelude.{◌≡◌, ◌≢◌, ◌<◌, ◌≤◌, ◌+◌, ◌++◌, ◌∷◌, ◌↔◌, [], ℕ, IfOk, OnOk, OnErr, Err, length};
+ghost use Rattle.std.specs.List.{All};
+ghost use Rattle.std.specs.Prelude.{◌≡◌, ◌≢◌, ◌<◌, ◌≤◌, ◌+◌, ◌++◌, ◌∷◌, ◌↔◌, [], ℕ, IfOk, IfSome, IsSome, OnOk, OnErr, Err, length};
 ghost use Rattle.cg_kind.specs.Calls.{IsParts};
 ghost use Rattle.cg_value.specs.declared.Val.TheVariants as val_of;
 ghost use Rattle.cg_graph.specs.Value.{references, item};
@@ -9,18 +10,23 @@ ghost use Rattle.cg_graph.specs.Changes.{made, gone, rewritten};
 ghost use Rattle.cg_heap.specs.declared.fault.HeapFault.TheVariants as fault;
 ghost use Rattle.cg_heap.specs.Calls.{HasFewHolds, object_number, entry_number};
 ghost use Rattle.cg_heap.specs.Keeps.{HasClass};
+ghost use Rattle.cg_graph.specs.Rows.{Row};
+ghost use Rattle.cg_heap.specs.Weak.{HasReferent, IsInNoRow, attached, with_new_row};
 
 use super::Heap;
 use crate::counts::{add_object, seat_of};
 use crate::fault::HeapFault;
 use cg_kind::Kind;
 use cg_value::{Entry, KindCode, Val};
+use cg_weak::WeakTable;
+use std::alloc::AllocError;
 
 impl<B: Kind> Heap<B> {
     /// Makes an object of these entries, held once from outside, and answers its serial, which is one above the last.
     ///
-    /// `class` is the class of an instance or the procedure of a function; other objects have none. Each object stands
-    /// last in the list of generation 0, but a dictionary, which is untracked. (`gc` manual, `gc.is_tracked`.)
+    /// `class` is the class of an instance or the procedure of a function; other objects have none. `referent` is that of
+    /// a weak reference, whose row goes last; other objects have none. Each object stands last in the list of generation
+    /// 0, but a dictionary, which is untracked. (`gc` manual, `gc.is_tracked`.)
     ///
     /// `ObjectLimit` comes exactly where 1,000,000 objects are live, else `EntryLimit` exactly where entries and parts
     /// pass 4,000,000, and `OutOfMemory` for want of memory alone. A refusal changes nothing.
@@ -29,14 +35,18 @@ impl<B: Kind> Heap<B> {
         code: KindCode,
         class: Option<u32>,
         parts: &[Entry],
+        referent: Option<u64>,
     ) -> Result<u64, HeapFault>
         requires parts { IsParts code parts.now }
         requires class { HasClass code class }
+        requires referent { HasReferent code referent }
         requires live { (s : ℕ) → 0 < occurrences s (references parts.now) → IsLive self.old s }
+        requires live_referent { IfSome referent (λ s. IsLive self.old s) }
         requires few { HasFewHolds self.old }
         requires last { self.old.last < 9223372036854775808 }
         ensures serial { IfOk result (λ s. s ≡ self.old.last + 1) }
-        ensures ok { OnOk result (self.new ≡ made code class parts.now self.old) }
+        ensures ok { OnOk result (self.new ≡
+            attached (self.old.last + 1) referent (made code class parts.now self.old)) }
         ensures object_limit { (result ≡ Err fault.ObjectLimit) ↔ (1000000 ≤ object_number self.old) }
         ensures entry_limit { (result ≡ Err fault.EntryLimit)
             ↔ ((object_number self.old < 1000000) × (4000000 < entry_number self.old + length parts.now)) }
@@ -48,27 +58,48 @@ impl<B: Kind> Heap<B> {
         if parts.len() as u64 > 4_000_000 - self.entries {
             return Err(HeapFault::EntryLimit);
         }
-        match self.arena.reserve() {
-            Ok(()) => {}
-            Err(_) => return Err(HeapFault::OutOfMemory),
-        }
-        // Each live object that the garbage list does not name is to have room there.
-        let garbage = self.arena.body_of(1);
-        match self.boxes.reserve_total(garbage, self.objects as usize + 1) {
-            Ok(()) => {}
-            Err(_) => return Err(HeapFault::OutOfMemory),
-        }
-        match self.boxes.make(code, parts) {
-            Ok(body) => {
-                let serial = self.last + 1;
-                add_object(&mut self.arena, serial, code, class, body, parts);
-                self.last = serial;
-                self.objects += 1;
-                self.entries += parts.len() as u64;
-                Ok(serial)
-            }
+        match self.make_within(code, class, parts, referent) {
+            Ok(serial) => Ok(serial),
             Err(_) => Err(HeapFault::OutOfMemory),
         }
+    }
+
+    // `make`, below the limits. All room is made before anything changes.
+    fn make_within(
+        &mut self,
+        code: KindCode,
+        class: Option<u32>,
+        parts: &[Entry],
+        referent: Option<u64>,
+    ) -> Result<u64, AllocError>
+        requires parts { IsParts code parts.now }
+        requires class { HasClass code class }
+        requires referent { HasReferent code referent }
+        requires live { (s : ℕ) → 0 < occurrences s (references parts.now) → IsLive self.old s }
+        requires live_referent { IfSome referent (λ s. IsLive self.old s) }
+        requires few { HasFewHolds self.old }
+        requires last { self.old.last < 9223372036854775808 }
+        requires objects { object_number self.old < 1000000 }
+        requires entries { entry_number self.old + length parts.now ≤ 4000000 }
+        ensures serial { IfOk result (λ s. s ≡ self.old.last + 1) }
+        ensures ok { OnOk result (self.new ≡
+            attached (self.old.last + 1) referent (made code class parts.now self.old)) }
+        ensures err { OnErr result (self.new ≡ self.old) }
+    {
+        self.arena.reserve()?;
+        reserve_row(&mut self.weak, referent)?;
+        // Each live object that the garbage list does not name is to have room there.
+        let garbage = self.arena.body_of(1);
+        self.boxes
+            .reserve_total(garbage, self.objects as usize + 1)?;
+        let body = self.boxes.make(code, parts)?;
+        let serial = self.last + 1;
+        add_object(&mut self.arena, serial, code, class, body, parts);
+        add_row(&mut self.weak, serial, referent);
+        self.last = serial;
+        self.objects += 1;
+        self.entries += parts.len() as u64;
+        Ok(serial)
     }
 
     /// Appends an object to the garbage list, which does not name it yet. It takes no memory. (`gc` manual, `gc.garbage`.)
@@ -76,7 +107,6 @@ impl<B: Kind> Heap<B> {
         requires live { IsLive self.old object }
         requires other { object ≢ 1 }
         requires new { occurrences object (references (entries_of self.old 1)) ≡ 0 }
-        requires few { HasFewHolds self.old }
         ensures { self.new ≡ rewritten 1 (entries_of self.old 1 ++ item (val_of.Ref object) ∷ []) self.old }
     {
         let garbage = self.arena.body_of(1);
@@ -84,16 +114,39 @@ impl<B: Kind> Heap<B> {
         self.arena.inc(object);
     }
 
-    /// Lets an object go that nothing holds and that has no entries.
+    /// Lets an object go that nothing holds, that has no entries, and that is in no row.
     pub fn free(&mut self, object: u64)
         requires live { IsLive self.old object }
         requires unheld { count_of self.old object ≡ 0 }
         requires empty { entries_of self.old object ≡ [] }
+        requires no_row { IsInNoRow object self.old.rows }
         ensures { self.new ≡ gone object self.old }
     {
         let seat = seat_of(&self.arena, object);
         self.boxes.free(seat);
         self.arena.drop_node(object);
         self.objects -= 1;
+    }
+}
+
+/// Makes room for the row of an object, if it is to have one.
+fn reserve_row(weak: &mut WeakTable, referent: Option<u64>) -> Result<(), AllocError>
+    ensures ok { OnOk result (IsSome referent → 0 < weak.new.room) }
+    ensures rows { weak.new.rows ≡ weak.old.rows }
+{
+    match referent {
+        Some(_) => weak.reserve(),
+        None => Ok(()),
+    }
+}
+
+/// The row of a new object, if it has one. There is room for it.
+fn add_row(weak: &mut WeakTable, serial: u64, referent: Option<u64>)
+    requires newest { All (λ r. r.weak < serial) weak.old.rows }
+    requires room { IsSome referent → 0 < weak.old.room }
+    ensures { weak.new.rows ≡ with_new_row serial referent weak.old.rows }
+{
+    if let Some(object) = referent {
+        weak.attach_reserved(serial, object);
     }
 }

@@ -1,0 +1,63 @@
+//! Weak references: which has which referent, and which wait for their callback with the one that they had.
+ghost use Rattle.std.specs.Prelude.{◌≡◌, IsSome, slice_get};
+ghost use Rattle.cg_graph.specs.Rows.{referent_in, waited_in, weak_references_in, waiting_in, next_older_in};
+ghost use Rattle.cg_graph.specs.Store.{IsLive};
+ghost use Rattle.cg_heap.specs.Weak.{cleared_weak, forgotten_weak};
+
+use super::Heap;
+use cg_kind::Kind;
+
+impl<B: Kind> Heap<B> {
+    /// The referent of a weak reference. `None` comes exactly where the object has no row or waits. (`weakref` manual: a
+    /// reference object that is called gives its referent, or None once that is no longer alive.)
+    pub fn referent_of(&self, weak: u64) -> Option<u64>
+        requires { IsLive self.now weak }
+        ensures { result ≡ referent_in self.now.rows weak }
+    {
+        self.weak.referent_of(weak)
+    }
+
+    /// The newest weak reference to an object, `None` exactly where it has none that does not wait. (`weakref` manual:
+    /// the most recently registered callback is called first.)
+    pub fn newest_of(&self, object: u64) -> Option<u64>
+        requires { IsLive self.now object }
+        ensures { result ≡ slice_get (weak_references_in self.now.rows object) 0 }
+    {
+        self.weak.newest_of(object)
+    }
+
+    /// The newest weak reference that waits with an object, `None` exactly where none does. (Ours.)
+    pub fn newest_waiting(&self, object: u64) -> Option<u64>
+        requires { IsLive self.now object }
+        ensures { result ≡ slice_get (waiting_in self.now.rows object) 0 }
+    {
+        self.weak.newest_waiting(object)
+    }
+
+    /// The next older weak reference to the same object, `None` exactly where there is none that does not wait. (Ours.)
+    pub fn older_of(&self, weak: u64) -> Option<u64>
+        requires live { IsLive self.now weak }
+        requires refers { IsSome (referent_in self.now.rows weak) }
+        ensures { result ≡ next_older_in self.now.rows weak }
+    {
+        self.weak.older_of(weak)
+    }
+
+    /// A weak reference loses its referent: its row waits with it from now on, or is gone. It takes no memory.
+    pub fn clear_weak(&mut self, weak: u64, wait: bool)
+        requires live { IsLive self.old weak }
+        requires refers { IsSome (referent_in self.old.rows weak) }
+        ensures { self.new ≡ cleared_weak weak wait self.old }
+    {
+        self.weak.clear(weak, wait);
+    }
+
+    /// A weak reference that waits does so no longer: its row is gone. It takes no memory. (Ours.)
+    pub fn forget_weak(&mut self, weak: u64)
+        requires live { IsLive self.old weak }
+        requires waits { IsSome (waited_in self.old.rows weak) }
+        ensures { self.new ≡ forgotten_weak weak self.old }
+    {
+        self.weak.forget(weak);
+    }
+}
