@@ -14,10 +14,9 @@ use Rattle.cg_arena.specs.Nodes.{ArenaNode, Nodes, count_in, counted_up, node_co
 use Rattle.cg_value.specs.declared.KindCode.{KindCode}
 use Rattle.cg_value.specs.declared.KindCode.TheVariants.{List as ListKind, Tuple, Dict, Inst, Func, Weak}
 use Rattle.cg_graph.specs.Object.{first_place}
+use Rattle.cg_heap.proofs.ReferenceLemmas.{occurrences-append, references-append, occurrences-le, occurrences-one, one_if}
 use Rattle.cg_heap.specs.Keeps.{seat_in}
 use Rattle.cg_heap.proofs.Stands.{live-mapped}
-use Rattle.cg_heap.proofs.Room.{occurrences-le, occurrences-one, one_if}
-use Rattle.cg_heap.proofs.Takes.{occurrences-append, references-append}
 
 counts-more : (j k : ℕ) (a : Option ArenaNode) (m : ℕ) → m ≡ j + k → option_map (node_counted_up k) (option_map (node_counted_up j) a) ≡ option_map (node_counted_up m) a
 counts-more j k None m e = refl

@@ -1,6 +1,11 @@
 mod BoxLemmas
+pub mod ReferenceLemmas
+pub mod CallerLemmas
+pub mod HoldLemmas
+pub mod RowLemmas
 mod Stands
 mod Room
+mod RowsAndHolds
 mod Rewrites
 mod Takes
 mod Puts
@@ -9,5 +14,7 @@ mod CountAll
 mod Makes
 mod Opens
 mod Calls
+mod SeatCalls
+mod WeakCalls
 mod Tracks
 mod Saves

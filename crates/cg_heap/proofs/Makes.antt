@@ -16,11 +16,12 @@ use Rattle.cg_graph.specs.Store.{Store, Node, held_within, held_by, inner, count
 use Rattle.cg_graph.specs.Changes.{made, new_node, with_entries}
 use Rattle.cg_graph.proofs.Maps.{total-insert, get-insert_same, get-insert_other}
 use Rattle.cg_arena.specs.Nodes.{ArenaNode, Nodes, count_in, counted_up, node_counted_up, with_node, new_node as new_arena_node}
+use Rattle.cg_heap.proofs.ReferenceLemmas.{occurrences-one, one_if}
 use Rattle.cg_heap.specs.Boxes.{code_index, bodies_at, HasBody, spare_in_box}
 use Rattle.cg_heap.specs.Keeps.{Keeps, Shape, Alike, size, one, node_from, seat_in, HasClass, IsWellMadeAt, IsGarbage}
 use Rattle.cg_heap.proofs.BoxLemmas.{code_index-below}
 use Rattle.cg_heap.proofs.Stands.{shape-up, up-counts, live-mapped, seat-up}
-use Rattle.cg_heap.proofs.Room.{live-node, occurrences-one, one_if}
+use Rattle.cg_heap.proofs.Room.{live-node}
 use Rattle.cg_heap.proofs.Rewrites.{same_code, node_seated, object-of}
 use Rattle.cg_heap.proofs.Takes.{held-live}
 use Rattle.cg_value.specs.declared.KindCode.TheVariants.{List as ListKind}

@@ -1,9 +1,9 @@
 -- Names bound, objects moved and changed, and objects gone.
-use Rattle.std.proofs.Common.{◌≡◌, ◌≢◌, ℕ, ◌+◌, ◌-◌, ◌<◌, ◌≤◌, Bool, true, false, List, [], ◌∷◌, length, get_or, set, Option, Some, None, IsSome, refl, sym, ap, ◌∙◌, subst, inl, inr, arith, sum_by}
+use Rattle.std.proofs.Common.{◌≡◌, ◌≢◌, ℕ, ◌+◌, ◌-◌, ◌<◌, ◌≤◌, Bool, true, false, List, [], length, get_or, set, Option, Some, None, IsSome, refl, sym, ap, ◌∙◌, subst, inl, inr, arith}
 use Rattle.std.specs.Prelude.{◌==◌, if◌then◌else◌, slice_get}
 use Rattle.std.proofs.lemmas.Bool.{cases_eq}
 use Rattle.std.proofs.lemmas.List.{length-set}
-use Rattle.std.proofs.lemmas.List.Sums.{sum_by-cons, sum_by-set}
+use Rattle.std.proofs.lemmas.List.Sums.{sum_by-set}
 use Rattle.std.proofs.lemmas.Option.{slice_get_within, get_or_from_slice_get}
 use Rattle.std.specs.FinMap as fin
 use Rattle.cg_value.specs.declared.Val.{Val}
@@ -11,25 +11,22 @@ use Rattle.cg_value.specs.declared.Place.{Place}
 use Rattle.cg_value.specs.declared.KindCode.{KindCode}
 use Rattle.cg_kind.specs.Bodies.{Bodies}
 use Rattle.cg_graph.specs.Maps.{mapped, changed, total, part}
-use Rattle.cg_graph.specs.Holdings.{occurrences, name_holdings}
+use Rattle.cg_graph.specs.Holdings.{occurrences}
 use Rattle.cg_graph.specs.Value.{references, references_of_value}
 use Rattle.cg_graph.specs.Places.{place_number}
 use Rattle.cg_graph.specs.Store.{Store, Node, held_within, held_by, inner, count_of, IsLive, entries_of, entries_in, outside_in, place_of, place_in}
 use Rattle.cg_graph.specs.Changes.{held, named, with_place}
 use Rattle.cg_graph.proofs.Maps.{total-remove, get-remove_same, get-remove_other}
 use Rattle.cg_arena.specs.Nodes.{ArenaNode, Nodes, count_in, counted_up, node_placed, node_finalized, node_numbered, place_of as arena_place_of, place_in as arena_place_in, place_merged as arena_place_merged}
+use Rattle.cg_heap.proofs.HoldLemmas.{outside-held, name-sum, name_holds}
 use Rattle.cg_heap.specs.Boxes.{code_index, bodies_at, HasBody, spare_in_box}
 use Rattle.cg_heap.specs.Keeps.{Keeps, Alike, size, one, node_from, seat_in, IsWellMade, IsWellMadeAt, IsGarbage}
 use Rattle.cg_heap.specs.Calls.{place_merged, marked, with_number}
-use Rattle.cg_heap.proofs.Stands.{shape-up, shape-held, up-counts, held-outside, held-inner, held-ones, held-well, held-sizes, held-entries, keeps-counts, seat-up}
+use Rattle.cg_heap.proofs.Stands.{shape-up, shape-held, up-counts, held-inner, held-ones, held-well, held-sizes, held-entries, keeps-counts, seat-up}
 use Rattle.cg_heap.proofs.Rewrites.{object-of, bodies_gone, spare-left}
-use Rattle.cg_heap.proofs.Takes.{held-live, occurrences-append}
+use Rattle.cg_heap.proofs.Takes.{held-live}
 use Rattle.cg_value.specs.declared.Entry.{Entry}
 use Rattle.cg_value.specs.declared.KindCode.TheVariants.{List as ListKind}
-
-name-sum : (s : ℕ) (names : List (Option Val)) → occurrences s (name_holdings names) ≡ sum_by (λ v. occurrences s (references_of_value v)) names
-name-sum s [] = refl
-name-sum s (v ∷ names) = omega (arith, occurrences-append s (references_of_value v) (name_holdings names), name-sum s names, sum_by-cons {X = Option Val} (λ v. occurrences s (references_of_value v)) v names)
 
 module _ (all : List Bodies) (v : Nodes) (objects number : ℕ) (store : Store) (ok : Keeps all v.nodes objects number store) where
   -- a name has another value
@@ -47,21 +44,14 @@ module _ (all : List Bodies) (v : Nodes) (objects number : ℕ) (store : Store) 
         let here : occurrences s (references_of_value (get_or store.names i old)) ≡ occurrences s (references_of_value old) = ap (λ v. occurrences s (references_of_value v)) at in
         omega (arith, name-sum s (set store.names i new), name-sum s store.names, sum_by-set (λ v. occurrences s (references_of_value v)) store.names i new old within, here)
 
-    inner-back : (s : ℕ) → occurrences s (references_of_value old) ≤ inner store s
-    unfolding held_within
-    inner-back s =
-        let at : get_or store.names i old ≡ old = get_or_from_slice_get store.names i old old was in
-        let here : occurrences s (references_of_value (get_or store.names i old)) ≡ occurrences s (references_of_value old) = ap (λ v. occurrences s (references_of_value v)) at in
-        omega (arith, name-sum s store.names, sum_by-set (λ v. occurrences s (references_of_value v)) store.names i None old within, here)
-
     old_live : (s : ℕ) → 0 < occurrences s (references_of_value old) → IsLive (named i new store) s
-    old_live s there = held-live all v.nodes objects number store ok s (omega (arith, inner-back s, there))
+    old_live s there = held-live all v.nodes objects number store ok s (omega (arith, name_holds store i old was s, there))
 
     pub keeps-named : Keeps all (counted_up (references_of_value new) v).nodes objects number bound
     keeps-named =
         record {
           shape = shape-up all v.nodes bound (shape-held all v.nodes (named i new store) (record { six = ok.shape.six; alike = ok.shape.alike; apart = ok.shape.apart; below = ok.shape.below }) (references_of_value old)) (references_of_value new);
-          counted = λ s. omega (arith, ok.counted s, inner-named s, held-inner (references_of_value old) (named i new store) s, held-outside (references_of_value old) (named i new store) s (old_live s), up-counts (references_of_value new) v.nodes s (live s));
+          counted = λ s. omega (arith, ok.counted s, inner-named s, held-inner (references_of_value old) (named i new store) s, outside-held (references_of_value old) (named i new store) s (old_live s), up-counts (references_of_value new) v.nodes s (live s));
           well = held-well (references_of_value old) (named i new store) ok.well;
           numbered = held-ones (references_of_value old) (named i new store) ∙ ok.numbered;
           sized = omega (arith, held-sizes (references_of_value old) (named i new store), ap length (held-entries (references_of_value old) (named i new store) 1), ok.sized);

@@ -1,5 +1,5 @@
 -- A heap with the garbage list alone.
-use Rattle.std.proofs.Common.{◌≡◌, ◌≢◌, ℕ, zero, suc, ◌<◌, List, [], ◌∷◌, length, replicate, Option, Some, None, IsSome, refl, sym, ap, ◌∙◌, subst, inl, inr, arith, sum_by}
+use Rattle.std.proofs.Common.{◌≡◌, ◌≢◌, ℕ, zero, suc, ◌<◌, List, [], ◌∷◌, length, replicate, Option, Some, None, IsSome, refl, sym, ap, ◌∙◌, subst, inl, inr, arith}
 use Rattle.std.specs.Prelude.{◌==◌}
 use Rattle.std.proofs.lemmas.Bool.{cases_eq, ne_eqb}
 use Rattle.std.proofs.lemmas.List.Elements.{All-nil}
@@ -9,18 +9,22 @@ use Rattle.cg_value.specs.declared.Val.{Val}
 use Rattle.cg_value.specs.declared.Val.TheVariants as val
 use Rattle.cg_value.specs.declared.Entry.{Entry}
 use Rattle.cg_value.specs.declared.Place.TheVariants.{Untracked}
-use Rattle.cg_value.specs.declared.KindCode.TheVariants.{List as ListKind}
+use Rattle.cg_graph.specs.Rows.{Row}
+use Rattle.cg_graph.specs.Store.{IsLive, HasCode}
+use Rattle.cg_heap.proofs.ReferenceLemmas.{occurrences-one, one_if, occurrences-le}
+use Rattle.cg_heap.specs.Keeps.{RowsAndHolds}
+use Rattle.cg_heap.proofs.CallerLemmas.{total-empty, opening_total}
+use Rattle.cg_value.specs.declared.KindCode.TheVariants.{List as ListKind, Weak}
 use Rattle.cg_kind.specs.Bodies.{Bodies, body_of, entries_of as body_entries}
-use Rattle.cg_graph.specs.Maps.{total, part}
+use Rattle.cg_graph.specs.Maps.{part}
 use Rattle.cg_graph.specs.Holdings.{occurrences, name_holdings}
-use Rattle.cg_graph.specs.Store.{Node, held_within, held_by, inner, count_of, entries_of, entries_in, outside_in}
+use Rattle.cg_graph.specs.Store.{held_within, held_by, inner, count_of, entries_of, entries_in, outside_in}
 use Rattle.cg_graph.specs.Changes.{opening_store, garbage_node, with_entries}
 use Rattle.cg_graph.proofs.Maps.{total-insert, get-insert_same, get-insert_other}
 use Rattle.cg_arena.specs.Nodes.{ArenaNode, Nodes, count_in, counted_up, with_node, with_room, new_node, no_nodes}
 use Rattle.cg_heap.specs.Boxes.{bodies_at, boxes_with_body, spare_in_box}
 use Rattle.cg_heap.specs.Keeps.{Keeps, Shape, size, one, seat_in, IsWellMadeAt, IsGarbage, IsSaved}
 use Rattle.cg_heap.proofs.Stands.{Closed, closed, shape-up, up-counts, seat-up}
-use Rattle.cg_heap.proofs.Room.{occurrences-one, one_if, occurrences-le}
 
 abbrev empties : List Bodies
 empties = replicate 6 fin.empty
@@ -36,13 +40,6 @@ length_replicate (suc n) x = ap suc (length_replicate n x)
 none_live : {X : Type 0} {Y : Type 0} (y : Option X) → y ≡ None → IsSome y → Y
 none_live None e h = absurd (cc)
 none_live (Some x) e h = absurd (cc)
-
-total-empty : (f : Node → ℕ) → total f fin.empty ≡ 0
-total-empty f = known (fin.entries fin.empty) (sym (fin.len-entries fin.empty) ∙ fin.len-empty nat_cmp Node)
-  where
-    known : (es : List (ℕ × Node)) → length es ≡ 0 → sum_by (λ (e : ℕ × Node). f e.1) es ≡ 0
-    known [] e = refl
-    known (x ∷ es) e = absurd (omega (arith, e))
 
 module _ (n body spare room : ℕ) where
   abbrev boxes : List Bodies
@@ -140,15 +137,22 @@ module _ (n body spare room : ℕ) where
     names = omega (arith, length_replicate n None, few);
   }
 
+kept-opening : (n : ℕ) → RowsAndHolds (opening_store n)
+kept-opening n = record {
+  rows = record { rise = tt; weak = All-nil (λ r. HasCode (opening_store n) r.weak Weak); referent = All-nil (λ r. IsLive (opening_store n) r.referent) };
+  holds = omega (arith, opening_total n);
+}
+
 -- the fields of a new heap
 pub opened : (n body room : ℕ) → n < 1073741824 → (all : List Bodies) → all ≡ boxes_with_body empties ListKind body [] (spare_in_box all ListKind body)
-    → (v w x : Nodes) → v ≡ no_nodes v.room → w ≡ with_node 1 (new_node ListKind None body Untracked) (with_room room v) → x ≡ counted_up (1 ∷ []) w → (names : List (Option Val)) → names ≡ replicate n None
-    → Closed all x names 1 [] 0 0 (opening_store n)
-opened n body room few all made v w x none added counted names unbound =
-    subst (λ bs. Closed bs x names 1 [] 0 0 (opening_store n)) (sym made)
+    → (v w x : Nodes) → v ≡ no_nodes v.room → w ≡ with_node 1 (new_node ListKind None body Untracked) (with_room room v) → x ≡ counted_up (1 ∷ []) w → (names : List (Option Val)) → names ≡ replicate n None → (rows : List Row) → rows ≡ []
+    → Closed all x names 1 rows 0 0 (opening_store n)
+opened n body room few all made v w x none added counted names unbound rows empty =
+    subst (λ rs. Closed all x names 1 rs 0 0 (opening_store n)) (sym empty)
+    (subst (λ bs. Closed bs x names 1 [] 0 0 (opening_store n)) (sym made)
     (subst (λ z. Closed (boxes n body (spare_in_box all ListKind body) room) z names 1 [] 0 0 (opening_store n)) (sym (counted ∙ ap (counted_up (1 ∷ [])) (added ∙ ap (λ u. with_node 1 (new_node ListKind None body Untracked) (with_room room u)) none)))
     (subst (λ ns. Closed (boxes n body (spare_in_box all ListKind body) room) (counted_up (1 ∷ []) (first_nodes n body (spare_in_box all ListKind body) room)) ns 1 [] 0 0 (opening_store n)) (sym unbound)
-    (closed (boxes n body (spare_in_box all ListKind body) room) (counted_up (1 ∷ []) (first_nodes n body (spare_in_box all ListKind body) room)) 0 0 (opening_store n) (keeps-opening n body (spare_in_box all ListKind body) room few) refl)))
+    (closed (boxes n body (spare_in_box all ListKind body) room) (counted_up (1 ∷ []) (first_nodes n body (spare_in_box all ListKind body) room)) 0 0 (opening_store n) (keeps-opening n body (spare_in_box all ListKind body) room few) (kept-opening n) refl))))
 
 pub first-added : (body room : ℕ) (v w : Nodes) → w ≡ with_node 1 (new_node ListKind None body Untracked) (with_room room v) → fin.get w.nodes 1 ≡ Some (new_node ListKind None body Untracked)
 first-added body room v w e = ap (λ (u : Nodes). fin.get u.nodes 1) e ∙ get-insert_same v.nodes 1 1 (new_node ListKind None body Untracked) refl

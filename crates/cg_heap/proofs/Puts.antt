@@ -16,11 +16,13 @@ use Rattle.cg_graph.specs.Value.{references, entry_references, references_of_val
 use Rattle.cg_graph.specs.Store.{Store, Node, IsLive, entries_of, entries_in}
 use Rattle.cg_graph.specs.Changes.{held, rewritten, with_entries}
 use Rattle.cg_arena.specs.Nodes.{ArenaNode, Nodes, counted_up}
+use Rattle.cg_heap.proofs.HoldLemmas.{outside-held, outside-rewritten}
+use Rattle.cg_heap.proofs.ReferenceLemmas.{occurrences-append, references-append}
 use Rattle.cg_heap.specs.Keeps.{Keeps, IsWellMade, IsGarbage}
 use Rattle.cg_heap.specs.Calls.{IsMutable}
-use Rattle.cg_heap.proofs.Stands.{shape-up, shape-held, up-counts, held-outside, held-inner, held-ones, held-well, held-sizes, held-entries, live-mapped, seat-up}
-use Rattle.cg_heap.proofs.Rewrites.{all_after, object-of, shape-written, inner-written, ones-written, well-written, sizes-written, outside-written, entries-written_other, spare-kept}
-use Rattle.cg_heap.proofs.Takes.{held-live, occurrences-append, references-append}
+use Rattle.cg_heap.proofs.Stands.{shape-up, shape-held, up-counts, held-inner, held-ones, held-well, held-sizes, held-entries, live-mapped, seat-up}
+use Rattle.cg_heap.proofs.Rewrites.{all_after, object-of, shape-written, inner-written, ones-written, well-written, sizes-written, entries-written_other, spare-kept}
+use Rattle.cg_heap.proofs.Takes.{held-live}
 use Rattle.cg_heap.specs.Boxes.{spare_in_box}
 
 -- Entries other than before: what comes is counted, what leaves is held.
@@ -38,7 +40,7 @@ keeps-put all v objects number store ok o n found es spare ups outs balance were
       shape = shape-up _ v.nodes (held outs (rewritten o es store)) (shape-held _ v.nodes (rewritten o es store) (shape-written all v.nodes store ok.shape o n found es spare) outs) ups;
       counted = λ s.
           let was : occurrences s (references x.entries) ≡ occurrences s (references (entries_of store o)) = ap (λ y. occurrences s (references (entries_in y))) (sym at) in
-          omega (arith, ok.counted s, inner-written store o x at es s, was, balance s, outside-written store o x at es s, held-inner outs (rewritten o es store) s, held-outside outs (rewritten o es store) s (out_live x at s), up-counts ups v.nodes s (live s));
+          omega (arith, ok.counted s, inner-written store o x at es s, was, balance s, outside-rewritten o es store s, held-inner outs (rewritten o es store) s, outside-held outs (rewritten o es store) s (out_live x at s), up-counts ups v.nodes s (live s));
       well = held-well outs (rewritten o es store) (well-written store o x at es ok.well (well x at));
       numbered = held-ones outs (rewritten o es store) ∙ ones-written store o x at es ∙ ok.numbered;
       sized = omega (arith, held-sizes outs (rewritten o es store), sizes-written store o x at es, len, root, ok.sized, sizes);

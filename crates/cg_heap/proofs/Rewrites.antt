@@ -1,5 +1,5 @@
 -- What one body written, or one gone, leaves.
-use Rattle.std.proofs.Common.{◌≡◌, ◌≢◌, ℕ, zero, suc, ◌+◌, ◌≤◌, Bool, true, false, List, length, set, Option, Some, None, refl, sym, ap, ◌∙◌, subst, inl, inr, arith}
+use Rattle.std.proofs.Common.{◌≡◌, ◌≢◌, ℕ, zero, suc, ◌+◌, ◌≤◌, List, length, set, Option, Some, None, refl, sym, ap, ◌∙◌, subst, inl, inr, arith}
 use Rattle.std.specs.Prelude.{◌==◌, option_map, if◌then◌else◌}
 use Rattle.std.proofs.lemmas.Bool.{cases_eq}
 use Rattle.std.proofs.lemmas.List.{get_or-set_same, get_or-set_other, length-set}
@@ -12,9 +12,9 @@ use Rattle.cg_kind.specs.Bodies.{Bodies, with_body, body_of, entries_of as body_
 use Rattle.cg_graph.specs.Maps.{changed, total, part}
 use Rattle.cg_graph.specs.Holdings.{occurrences}
 use Rattle.cg_graph.specs.Value.{references}
-use Rattle.cg_graph.specs.Store.{Store, Node, held_within, held_by, inner, entries_of, entries_in, outside_of, outside_in}
+use Rattle.cg_graph.specs.Store.{Store, Node, held_within, held_by, inner, entries_of, entries_in}
 use Rattle.cg_graph.specs.Changes.{with_entries, rewritten}
-use Rattle.cg_graph.proofs.Maps.{get-mapped, total-mapped, total-changed, get-changed_same, get-changed_other, get-insert_same, get-insert_other, total-remove, get-remove_other, get-remove_same, same_map}
+use Rattle.cg_graph.proofs.Maps.{total-mapped, total-changed, get-changed_same, get-changed_other, get-insert_same, get-insert_other, total-remove, get-remove_other, get-remove_same, same_map}
 use Rattle.cg_arena.specs.Nodes.{ArenaNode}
 use Rattle.cg_heap.specs.Boxes.{code_index, bodies_at, HasBody, spare_in_box}
 use Rattle.cg_heap.specs.Keeps.{Shape, Alike, node_from, seat_in, size, one, IsWellMade, IsWellMadeAt}
@@ -159,14 +159,6 @@ module _ (store : Store) (o : ℕ) (x : Node) (found : fin.get store.nodes o ≡
 
   pub sizes-written : total size (rewritten o es store).nodes + length x.entries ≡ total size store.nodes + length es
   sizes-written = total-changed size (with_entries es) store.nodes o x found
-
-  pub outside-written : (s : ℕ) → outside_of (rewritten o es store) s ≡ outside_of store s
-  outside-written s = ap outside_in (get-mapped (λ s x. if s == o then with_entries es x else x) store.nodes s) ∙ known (s == o) (fin.get store.nodes s)
-    where
-      known : (b : Bool) (y : Option Node) → outside_in (option_map (λ x. if b then with_entries es x else x) y) ≡ outside_in y
-      known b None = refl
-      known true (Some y) = refl
-      known false (Some y) = refl
 
   pub entries-written : entries_of (rewritten o es store) o ≡ es
   entries-written = ap entries_in (get-changed_same (with_entries es) o store.nodes o refl ∙ ap (option_map (with_entries es)) found)

@@ -1,51 +1,19 @@
 -- No count is too large.
-use Rattle.std.proofs.Common.{◌≡◌, ℕ, ◌+◌, ◌*◌, ◌<◌, ◌≤◌, Bool, List, [], ◌∷◌, length, Option, Some, None, IsSome, cond, refl, ap, inl, inr, arith, sum_by, length-append}
-use Rattle.std.specs.Prelude.{◌==◌, option_to_list}
+use Rattle.std.proofs.Common.{◌≡◌, ℕ, ◌+◌, ◌*◌, ◌<◌, ◌≤◌, List, [], ◌∷◌, length, Option, Some, None, IsSome, refl, ap, inl, inr, arith, sum_by}
+use Rattle.std.specs.Prelude.{◌==◌}
 use Rattle.std.proofs.lemmas.Bool.{cases_eq, eq-eqb, ne_eqb}
-use Rattle.std.proofs.lemmas.List.Sums.{sum_by-cons, count_by-le-length}
+use Rattle.std.proofs.lemmas.List.Sums.{sum_by-cons}
 use Rattle.std.specs.Ordering.{nat_cmp}
 use Rattle.std.specs.FinMap as fin
-use Rattle.cg_value.specs.declared.Val.{Val}
-use Rattle.cg_value.specs.declared.Val.TheVariants as val
-use Rattle.cg_value.specs.declared.Entry.{Entry}
 use Rattle.cg_kind.specs.Bodies.{Bodies}
 use Rattle.cg_graph.specs.Maps.{total, part}
 use Rattle.cg_graph.specs.Holdings.{occurrences, name_holdings}
-use Rattle.cg_graph.specs.Value.{references, entry_references, reference_in, references_of_value}
+use Rattle.cg_graph.specs.Value.{references}
 use Rattle.cg_graph.specs.Store.{Store, Node, held_within, held_by, inner, outside_of, outside_in, IsLive}
 use Rattle.cg_graph.proofs.Maps.{total-remove}
 use Rattle.cg_arena.specs.Nodes.{ArenaNode, count_in}
-use Rattle.cg_heap.specs.Calls.{HasFewHolds}
-use Rattle.cg_heap.specs.Keeps.{Keeps, Alike, size}
-
-pub reference-le : (v : Val) → length (option_to_list (reference_in v)) ≤ 1
-reference-le val.None = omega arith
-reference-le (val.Int n) = omega arith
-reference-le (val.Str n) = omega arith
-reference-le (val.Ref n) = omega arith
-
-name-le : (v : Option Val) → length (references_of_value v) ≤ 1
-name-le None = omega arith
-name-le (Some v) = reference-le v
-
-names-le : (names : List (Option Val)) → length (name_holdings names) ≤ length names
-names-le [] = omega arith
-names-le (v ∷ names) = omega (arith, length-append (references_of_value v) (name_holdings names), name-le v, names-le names)
-
-pub references-le : (es : List Entry) → length (references es) ≤ 2 * length es
-references-le [] = omega arith
-references-le (e ∷ es) =
-    omega (
-      arith,
-      length-append (entry_references e) (references es),
-      length-append (option_to_list (reference_in e.val)) (option_to_list (reference_in e.key)),
-      reference-le e.val,
-      reference-le e.key,
-      references-le es,
-    )
-
-pub occurrences-le : (s : ℕ) (xs : List ℕ) → occurrences s xs ≤ length xs
-occurrences-le s xs = count_by-le-length (λ r. r == s) xs
+use Rattle.cg_heap.proofs.ReferenceLemmas.{names-le, occurrences-le, occurrences-one, one_if, references-le}
+use Rattle.cg_heap.specs.Keeps.{Keeps, Alike, size, RowsAndHolds}
 
 sum-le : (s : ℕ) (es : List (ℕ × Node)) → sum_by (λ e. held_by s e.1) es ≤ 2 * sum_by (λ e. size e.1) es
 sum-le s [] = omega arith
@@ -70,10 +38,9 @@ pub inner-le : (store : Store) (s : ℕ) → inner store s ≤ length store.name
 unfolding held_within
 inner-le store s = omega (arith, occurrences-le s (name_holdings store.names), names-le store.names, occurrences-le s (1 ∷ []), sum-le s (fin.entries store.nodes))
 
-pub room-below : (all : List Bodies) (nodes : fin.FinMap nat_cmp ArenaNode) (objects number : ℕ) (store : Store) → Keeps all nodes objects number store → HasFewHolds store → (s : ℕ) → count_in (fin.get nodes s) < 4000000000
-room-below all nodes objects number store ok few s =
-    let holds : total (λ (n : Node). n.outside) store.nodes < 2147483646 = few in
-    omega (arith, ok.counted s, inner-le store s, outside-le store s, ok.sized, ok.entry_limit, ok.garbage, ok.names, holds)
+pub room-below : (all : List Bodies) (nodes : fin.FinMap nat_cmp ArenaNode) (objects number : ℕ) (store : Store) → Keeps all nodes objects number store → RowsAndHolds store → (s : ℕ) → count_in (fin.get nodes s) < 4000000000
+room-below all nodes objects number store ok rest s =
+    omega (arith, ok.counted s, inner-le store s, outside-le store s, ok.sized, ok.entry_limit, ok.garbage, ok.names, rest.holds)
 
 -- what the nodes and the store have is the same
 pub live-node : (all : List Bodies) (nodes : fin.FinMap nat_cmp ArenaNode) (objects number : ℕ) (store : Store) → Keeps all nodes objects number store → (s : ℕ) → IsLive store s → IsSome (fin.get nodes s)
@@ -83,13 +50,6 @@ live-node all nodes objects number store ok s live = known (fin.get nodes s) (fi
     known None None h l = l
     known None (Some x) h l = absurd h
     known (Some n) x h l = refl
-
-abbrev pub one_if : Bool → ℕ
-one_if b = cond b 1 0
-
--- one reference
-pub occurrences-one : (s o : ℕ) → occurrences s (o ∷ []) ≡ one_if (o == s)
-occurrences-one s o = omega (arith, sum_by-cons {X = ℕ} (λ r. cond (r == s) 1 0) o [])
 
 pub one-enough : (store : Store) (o : ℕ) → 0 < outside_of store o → (s : ℕ) → occurrences s (o ∷ []) ≤ outside_of store s
 one-enough store o has s =

@@ -19,14 +19,19 @@ use Rattle.cg_graph.specs.Store.{Store, Node, IsLive, entries_of, entries_in}
 use Rattle.cg_graph.specs.Changes.{rewritten, with_entries}
 use Rattle.cg_graph.proofs.Maps.{total-remove, get-remove_other}
 use Rattle.cg_arena.specs.Nodes.{ArenaNode, Nodes, counted_up}
+use Rattle.cg_heap.proofs.HoldLemmas.{outside-rewritten}
+use Rattle.cg_heap.proofs.ReferenceLemmas.{occurrences-append, push-item, occurrences-le, occurrences-one, one_if}
 use Rattle.cg_heap.specs.Boxes.{HasBody, entries_in_box, spare_in_box, boxes_with_body}
 use Rattle.cg_heap.specs.Keeps.{Keeps, Shape, store_of, one, IsSaved, IsGarbage, IsWellMade}
 use Rattle.cg_heap.proofs.Stands.{Closed, closed, shape-up, seat-up, up-counts}
-use Rattle.cg_heap.proofs.Room.{live-node, occurrences-le, occurrences-one, one_if}
-use Rattle.cg_heap.proofs.Rewrites.{node_seated, object-of, rewritten-same, shape-written, spare-written, inner-written, ones-written, well-written, sizes-written, outside-written, entries-written}
-use Rattle.cg_heap.proofs.Takes.{held-live, occurrences-append, push-item}
+use Rattle.cg_heap.proofs.Room.{live-node}
+use Rattle.cg_heap.proofs.Rewrites.{node_seated, object-of, rewritten-same, shape-written, spare-written, inner-written, ones-written, well-written, sizes-written, entries-written}
+use Rattle.cg_heap.proofs.Takes.{held-live}
 use Rattle.cg_heap.proofs.Puts.{well-append}
-use Rattle.cg_heap.proofs.Calls.{garbage_is, garbage_seat, has_body, entries_are}
+use Rattle.cg_heap.proofs.CallerLemmas.{kinds-rewritten, total-rewritten}
+use Rattle.cg_heap.proofs.RowsAndHolds.{kept}
+use Rattle.cg_heap.proofs.Calls.{garbage_is, garbage_seat}
+use Rattle.cg_heap.proofs.SeatCalls.{has_body, entries_are}
 
 one_there : (y : Option Node) → IsSome y → part one y ≡ 1
 one_there None h = absurd (cc)
@@ -123,7 +128,7 @@ module _ (all : List Bodies) (v : Nodes) (objects number : ℕ) (store : Store) 
                 inner-written store 1 x at es s,
                 was,
                 push-item s (entries_of store 1) (val.Ref o),
-                outside-written store 1 x at es s,
+                outside-rewritten 1 es store s,
                 up-counts (o ∷ []) v.nodes s (λ has. elim (cases_eq s o) [
                   | inl same ↦ subst (λ k. IsSome (fin.get v.nodes k)) (sym same) (live-node all v.nodes objects number store ok o live)
                   | inr differs ↦
@@ -182,7 +187,7 @@ module _ {all : List Bodies} {v : Nodes} {names : List (Option Val)} {last : ℕ
   abbrev root : (n : ArenaNode) × (fin.get v.nodes 1 ≡ Some n) × (n.code ≡ ListKind) × (n.body ≡ body)
   root = node_seated (fin.get v.nodes 1) ListKind body (garbage_seat h body told)
 
-  at_root : root.0.body ≡ h.keeps.root.body
+  at_root : root.0.body ≡ h.keeps.0.root.body
   at_root = root.3 ∙ garbage_is h body told
 
   pub garbage_held : HasBody all ListKind body
@@ -197,7 +202,7 @@ module _ {all : List Bodies} {v : Nodes} {names : List (Option Val)} {last : ℕ
   pub garbage_fits : length (entries_in_box all ListKind body) ≤ objects
   garbage_fits =
       let len : length (entries_in_box all ListKind body) ≡ length (entries_of was 1) = ap length (garbage_entries ∙ entries_was) in
-      omega (arith, len, saved_fit all v objects number was h.keeps root.0 root.1)
+      omega (arith, len, saved_fit all v objects number was h.keeps.0 root.0 root.1)
 
   -- room was made
   pub after_reserve : (spare : ℕ) → spare_in_box all ListKind body ≤ spare → (all' : List Bodies) → all' ≡ boxes_with_body all ListKind body (entries_in_box all ListKind body) spare → Closed all' v names last rows objects number old
@@ -205,9 +210,9 @@ module _ {all : List Bodies} {v : Nodes} {names : List (Option Val)} {last : ℕ
       subst (λ s. Closed all' v names last rows objects number s) h.is
       (subst (λ bs. Closed bs v names last rows objects number was) (sym (is ∙ (λ i. boxes_with_body all (sym root.2 i) (sym root.3 i) ((garbage_entries ∙ entries_was) i) spare)))
       (closed (boxes_with_body all root.0.code root.0.body (entries_of was 1) spare) v objects number was
-      (keeps-reserved all v objects number was h.keeps root.0 root.1 root.2 at_root spare
+      (keeps-reserved all v objects number was h.keeps.0 root.0 root.1 root.2 at_root spare
       (subst (λ (q : KindCode × ℕ). spare_in_box all q.0 q.1 ≤ spare) (λ i. (sym root.2 i, sym root.3 i)) more))
-      refl))
+      h.keeps.1 refl))
 
   pub ready_after : (all' : List Bodies) → objects + 1 ≤ length (entries_in_box all ListKind body) + spare_in_box all' ListKind body → objects < length (entries_of old 1) + spare_in_box all' ListKind body
   ready_after all' room = let len = ap length garbage_entries in omega (arith, room, len)
@@ -222,9 +227,9 @@ module _ {all : List Bodies} {v : Nodes} {names : List (Option Val)} {last : ℕ
 
     pub room_to_save : 0 < spare_in_box all ListKind body
     room_to_save =
-        let fewer = saved_fewer all v objects number was h.keeps root.0 root.1 o live_was other new_was in
-        let is : spare_in_box all ListKind body ≡ spare_in_box all ListKind h.keeps.root.body = ap (spare_in_box all ListKind) (garbage_is h body told) in
-        omega (arith, fewer, is, h.keeps.root.ready)
+        let fewer = saved_fewer all v objects number was h.keeps.0 root.0 root.1 o live_was other new_was in
+        let is : spare_in_box all ListKind body ≡ spare_in_box all ListKind h.keeps.0.root.body = ap (spare_in_box all ListKind) (garbage_is h body told) in
+        omega (arith, fewer, is, h.keeps.0.root.ready)
 
     pub after_save : (all' : List Bodies) → all' ≡ boxes_with_body all ListKind body (entries_in_box all ListKind body ++ item (val.Ref o) ∷ []) (spare_in_box all ListKind body - 1) → (v' : Nodes) → v' ≡ counted_up (o ∷ []) v
         → Closed all' v' names last rows objects number (rewritten 1 (entries_of old 1 ++ item (val.Ref o) ∷ []) old)
@@ -233,6 +238,7 @@ module _ {all : List Bodies} {v : Nodes} {names : List (Option Val)} {last : ℕ
         (subst (λ bs. Closed bs v' names last rows objects number (rewritten 1 (entries_of was 1 ++ item (val.Ref o) ∷ []) was)) (sym (is ∙ (λ i. boxes_with_body all (sym root.2 i) (sym root.3 i) ((garbage_entries ∙ entries_was) i ++ item (val.Ref o) ∷ []) (spare_in_box all ListKind body - 1))))
         (subst (λ w. Closed (boxes_with_body all root.0.code root.0.body (entries_of was 1 ++ item (val.Ref o) ∷ []) (spare_in_box all ListKind body - 1)) w names last rows objects number (rewritten 1 (entries_of was 1 ++ item (val.Ref o) ∷ []) was)) (sym counts)
         (closed (boxes_with_body all root.0.code root.0.body (entries_of was 1 ++ item (val.Ref o) ∷ []) (spare_in_box all ListKind body - 1)) (counted_up (o ∷ []) v) objects number (rewritten 1 (entries_of was 1 ++ item (val.Ref o) ∷ []) was)
-        (keeps-saved all v objects number was h.keeps root.0 root.1 o live_was other new_was root.2 at_root (spare_in_box all ListKind body - 1)
+        (keeps-saved all v objects number was h.keeps.0 root.0 root.1 o live_was other new_was root.2 at_root (spare_in_box all ListKind body - 1)
         (let same : spare_in_box all root.0.code root.0.body ≡ spare_in_box all ListKind body = (λ i. spare_in_box all (root.2 i) (root.3 i)) in omega (arith, same)))
+        (kept was (rewritten 1 (entries_of was 1 ++ item (val.Ref o) ∷ []) was) (kinds-rewritten 1 (entries_of was 1 ++ item (val.Ref o) ∷ []) was) refl (omega (arith, total-rewritten 1 (entries_of was 1 ++ item (val.Ref o) ∷ []) was, h.keeps.1.holds)) h.keeps.1)
         refl)))

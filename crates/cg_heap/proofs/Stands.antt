@@ -11,12 +11,12 @@ use Rattle.cg_graph.specs.Maps.{mapped, total}
 use Rattle.cg_graph.specs.Holdings.{occurrences, name_holdings}
 use Rattle.cg_graph.specs.Value.{references}
 use Rattle.cg_graph.specs.Rows.{Row}
-use Rattle.cg_graph.specs.Store.{Store, Node, held_within, held_by, inner, count_of, IsLive, entries_of, entries_in, outside_of, outside_in}
+use Rattle.cg_graph.specs.Store.{Store, Node, held_within, held_by, inner, count_of, entries_of, entries_in, outside_of, outside_in}
 use Rattle.cg_graph.specs.Changes.{more, less, held, unheld}
 use Rattle.cg_graph.proofs.Maps.{get-mapped, total-mapped, same_map}
 use Rattle.cg_arena.specs.Nodes.{ArenaNode, Nodes, count_in, counted_up, counted_down, node_counted_up, node_counted_down}
 use Rattle.cg_heap.specs.Boxes.{HasBody, spare_in_box}
-use Rattle.cg_heap.specs.Keeps.{Keeps, Shape, Alike, node_from, bare_nodes, nodes_from, store_of, seat_in, size, one, IsWellMade, IsWellMadeAt, IsGarbage}
+use Rattle.cg_heap.specs.Keeps.{Keeps, Shape, Alike, node_from, bare_nodes, nodes_from, store_of, seat_in, size, one, IsWellMade, IsWellMadeAt, IsGarbage, RowsAndHolds}
 use Rattle.cg_value.specs.declared.Entry.{Entry}
 use Rattle.cg_value.specs.declared.KindCode.TheVariants.{List as ListKind}
 
@@ -63,13 +63,13 @@ nodes-are all names nodes m alike counted =
 
 -- The fields stand for the store, and the struct may close over them.
 pub record Closed (all : List Bodies) (v : Nodes) (names : List (Option Val)) (last : ℕ) (rows : List Row) (objects number : ℕ) (store : Store) : Type 0 where
-  pub keeps : Keeps all v.nodes objects number (store_of all v names last rows)
+  pub keeps : Keeps all v.nodes objects number (store_of all v names last rows) × RowsAndHolds (store_of all v names last rows)
   pub is : store_of all v names last rows ≡ store
 
-pub closed : (all : List Bodies) (v : Nodes) (objects number : ℕ) (store : Store) → Keeps all v.nodes objects number store → v.lists ≡ store.lists → Closed all v store.names store.last store.rows objects number store
-closed all v objects number store ok lists =
+pub closed : (all : List Bodies) (v : Nodes) (objects number : ℕ) (store : Store) → Keeps all v.nodes objects number store → RowsAndHolds store → v.lists ≡ store.lists → Closed all v store.names store.last store.rows objects number store
+closed all v objects number store ok rest lists =
     record {
-      keeps = subst (λ s. Keeps all v.nodes objects number s) (sym is) ok;
+      keeps = subst (λ s. Keeps all v.nodes objects number s × RowsAndHolds s) (sym is) (ok, rest);
       is = is;
     }
   where
@@ -177,16 +177,6 @@ pub up-counts : (refs : List ℕ) (nodes : fin.FinMap nat_cmp ArenaNode) (s : �
 up-counts refs nodes s live = ap count_in (get-mapped (λ s n. node_counted_up (occurrences s refs) n) nodes s) ∙ known (fin.get nodes s) live
   where
     known : (a : Option ArenaNode) → (0 < occurrences s refs → IsSome a) → count_in (option_map (node_counted_up (occurrences s refs)) a) ≡ count_in a + occurrences s refs
-    known (Some n) h = refl
-    known None h = elim (cases_eq (occurrences s refs) 0) [
-      | inl none ↦ omega (arith, none)
-      | inr there ↦ let live = h (omega (arith, there)) in cc
-    ]
-
-pub held-outside : (refs : List ℕ) (store : Store) (s : ℕ) → (0 < occurrences s refs → IsLive store s) → outside_of (held refs store) s ≡ outside_of store s + occurrences s refs
-held-outside refs store s live = ap outside_in (get-mapped (λ s n. more (occurrences s refs) n) store.nodes s) ∙ known (fin.get store.nodes s) live
-  where
-    known : (a : Option Node) → (0 < occurrences s refs → IsSome a) → outside_in (option_map (more (occurrences s refs)) a) ≡ outside_in a + occurrences s refs
     known (Some n) h = refl
     known None h = elim (cases_eq (occurrences s refs) 0) [
       | inl none ↦ omega (arith, none)

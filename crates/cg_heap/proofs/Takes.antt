@@ -1,31 +1,26 @@
 -- An entry goes.
-use Rattle.std.proofs.Common.{◌≡◌, ◌≢◌, ℕ, zero, suc, ◌+◌, ◌-◌, ◌<◌, ◌≤◌, List, [], ◌∷◌, ◌++◌, length, Option, Some, None, IsSome, cond, refl, sym, ap, ◌∙◌, inl, inr, arith, length-append, remove, take, subst}
-use Rattle.std.specs.Prelude.{◌==◌, if◌then◌else◌, slice_get, All}
+use Rattle.std.proofs.Common.{◌≡◌, ◌≢◌, ℕ, suc, ◌+◌, ◌-◌, ◌<◌, ◌≤◌, List, [], ◌∷◌, length, Option, Some, None, IsSome, refl, sym, ap, ◌∙◌, inl, inr, arith, subst}
+use Rattle.std.specs.Prelude.{◌==◌, if◌then◌else◌, All}
 use Rattle.std.proofs.lemmas.Bool.{cases_eq, eq-eqb, ne_eqb}
-use Rattle.std.proofs.lemmas.List.Sums.{sum_by-append}
 use Rattle.std.specs.Ordering.{nat_cmp}
 use Rattle.std.specs.FinMap as fin
-use Rattle.cg_value.specs.declared.Val.{Val}
-use Rattle.cg_value.specs.declared.Val.TheVariants as val
 use Rattle.cg_value.specs.declared.Entry.{Entry}
 use Rattle.cg_kind.specs.Bodies.{Bodies}
 use Rattle.cg_graph.specs.Maps.{total}
 use Rattle.cg_graph.specs.Holdings.{occurrences}
-use Rattle.cg_graph.specs.Value.{references, entry_references, references_of_value, item, without_last}
+use Rattle.cg_graph.specs.Value.{references}
 use Rattle.cg_graph.specs.Store.{Store, Node, inner, count_of, IsLive, entries_of, entries_in}
 use Rattle.cg_graph.specs.Changes.{held, rewritten, with_entries}
 use Rattle.cg_arena.specs.Nodes.{ArenaNode, Nodes, count_in}
+use Rattle.cg_heap.proofs.HoldLemmas.{outside-held, outside-rewritten}
+use Rattle.cg_heap.proofs.ReferenceLemmas.{occurrences-append}
 use Rattle.cg_heap.specs.Keeps.{Keeps, Alike, size, IsWellMade, IsGarbage, IsSaved, seat_in}
 use Rattle.cg_heap.specs.Calls.{number_less}
-use Rattle.cg_heap.proofs.Stands.{shape-held, held-outside, held-inner, held-ones, held-well, held-sizes, held-entries, live-mapped}
-use Rattle.cg_heap.proofs.Room.{one_if, occurrences-one}
-use Rattle.cg_heap.proofs.Rewrites.{all_after, object-of, shape-written, inner-written, ones-written, well-written, sizes-written, outside-written, entries-written, entries-written_other, two-sizes, spare-kept, spare-written}
+use Rattle.cg_heap.proofs.Stands.{shape-held, held-inner, held-ones, held-well, held-sizes, held-entries, live-mapped}
+use Rattle.cg_heap.proofs.Rewrites.{all_after, object-of, shape-written, inner-written, ones-written, well-written, sizes-written, entries-written, entries-written_other, two-sizes, spare-kept, spare-written}
 use Rattle.cg_heap.specs.Boxes.{spare_in_box}
 use Rattle.std.proofs.lemmas.Option.{some_pair_parts}
 use Rattle.cg_value.specs.declared.KindCode.TheVariants.{List as ListKind}
-
-pub occurrences-append : (s : ℕ) (xs ys : List ℕ) → occurrences s (xs ++ ys) ≡ occurrences s xs + occurrences s ys
-occurrences-append s xs ys = sum_by-append (λ r. cond (r == s) 1 0) xs ys
 
 -- what is held is live
 pub held-live : (all : List Bodies) (nodes : fin.FinMap nat_cmp ArenaNode) (objects number : ℕ) (store : Store) → Keeps all nodes objects number store → (s : ℕ) → 0 < inner store s → IsLive store s
@@ -85,7 +80,7 @@ module _ (all : List Bodies) (v : Nodes) (objects number : ℕ) (store : Store) 
         counted : (x : Node) → fin.get store.nodes o ≡ Some x → (s : ℕ) → count_in (fin.get v.nodes s) ≡ count_of taken s
         counted x at s =
             let was : occurrences s (references x.entries) ≡ occurrences s (references (entries_of store o)) = ap (λ l. occurrences s (references l)) (entries-now x at) in
-            omega (arith, ok.counted s, inner-written store o x at es s, was, split s, outside-written store o x at es s, held-inner refs (rewritten o es store) s, held-outside refs (rewritten o es store) s (refs_live x at s))
+            omega (arith, ok.counted s, inner-written store o x at es s, was, split s, outside-rewritten o es store s, held-inner refs (rewritten o es store) s, outside-held refs (rewritten o es store) s (refs_live x at s))
 
         -- of the garbage list too
         entries_root : (x : Node) → fin.get store.nodes o ≡ Some x → o ≡ 1 → entries_of taken 1 ≡ es
@@ -146,58 +141,3 @@ module _ (all : List Bodies) (v : Nodes) (objects number : ℕ) (store : Store) 
                     omega (arith, here, now, ok.garbage),
                   )
             ]
-
--- the references of a list with an entry at the end, and of one without an entry
-pub references-append : (s : ℕ) (xs ys : List Entry) → occurrences s (references (xs ++ ys)) ≡ occurrences s (references xs) + occurrences s (references ys)
-references-append s [] ys = omega arith
-references-append s (x ∷ xs) ys =
-    omega (arith, occurrences-append s (entry_references x) (references (xs ++ ys)), occurrences-append s (entry_references x) (references xs), references-append s xs ys)
-
-some_same : (x y : Entry) → Some x ≡ Some y → x ≡ y
-some_same x y e = cc
-
-pub references-remove : (s : ℕ) (es : List Entry) (i : ℕ) (e : Entry) → slice_get es i ≡ Some e → occurrences s (references es) ≡ occurrences s (references (remove es i)) + occurrences s (entry_references e)
-references-remove s [] i e at = absurd (cc)
-references-remove s (x ∷ es) zero e at =
-    let is : x ≡ e = some_same x e at in
-    occurrences-append s (entry_references x) (references es) ∙ ap (λ y. occurrences s (entry_references y) + occurrences s (references es)) is ∙ omega arith
-references-remove s (x ∷ es) (suc i) e at =
-    omega (arith, occurrences-append s (entry_references x) (references es), occurrences-append s (entry_references x) (references (remove es i)), references-remove s es i e at)
-
-pub length-remove : (es : List Entry) (i : ℕ) (e : Entry) → slice_get es i ≡ Some e → length es ≡ suc (length (remove es i))
-length-remove [] i e at = absurd (cc)
-length-remove (x ∷ es) zero e at = refl
-length-remove (x ∷ es) (suc i) e at = ap suc (length-remove es i e at)
-
--- the last entry taken off
-pub last-remove : (es rest : List Entry) (e : Entry) → es ≡ rest ++ e ∷ [] → (without_last es ≡ rest) × ((s : ℕ) → occurrences s (references es) ≡ occurrences s (references rest) + occurrences s (entry_references e)) × (length es ≡ suc (length rest))
-last-remove es rest e is =
-    let len : length es ≡ length rest + 1 = ap length is ∙ length-append rest (e ∷ []) in
-    let before : length es - 1 ≡ length rest = omega (arith, len) in (
-      (λ i. take (before i) (is i)) ∙ front rest,
-      λ s. ap (λ l. occurrences s (references l)) is ∙ references-append s rest (e ∷ []) ∙ omega (arith, occurrences-append s (entry_references e) []),
-      omega (arith, len),
-    )
-  where
-    front : (xs : List Entry) → take (length xs) (xs ++ e ∷ []) ≡ xs
-    front [] = refl
-    front (x ∷ xs) = ap (λ l. x ∷ l) (front xs)
-
-pub occurrences-item : (s : ℕ) (v : Val) → occurrences s (entry_references (item v)) ≡ occurrences s (references_of_value (Some v))
-occurrences-item s v = omega (arith, occurrences-append s (references_of_value (Some v)) [])
-
-pub push-item : (s : ℕ) (es : List Entry) (v : Val) → occurrences s (references (es ++ item v ∷ [])) ≡ occurrences s (references es) + occurrences s (references_of_value (Some v))
-push-item s es v = omega (arith, references-append s es (item v ∷ []), occurrences-append s (entry_references (item v)) [], occurrences-item s v)
-
--- what a value refers to
-pub refs-are : (v : Val) (s : ℕ) → 0 < occurrences s (references_of_value (Some v)) → v ≡ val.Ref s
-refs-are val.None s h = absurd (omega (arith, h))
-refs-are (val.Int n) s h = absurd (omega (arith, h))
-refs-are (val.Str n) s h = absurd (omega (arith, h))
-refs-are (val.Ref o) s h =
-    elim (cases_eq o s) [
-      | inl same ↦ ap val.Ref same
-      | inr differs ↦
-          let none : one_if (o == s) ≡ 0 = ap one_if (ne_eqb o s differs) in
-          absurd (omega (arith, h, none, occurrences-one s o))
-    ]

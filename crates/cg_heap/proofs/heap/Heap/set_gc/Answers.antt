@@ -1,12 +1,11 @@
-use Rattle.std.proofs.Common.{[]}
 use Rattle.cg_heap.proofs.Calls.{stands, has_node, after_number}
 use Rattle.cg_heap.proofs.heap.Heap.set_gc.Goals as goal
 
 pub set_gc-requires : goal.set_gc-requires
-set_gc-requires g c = has_node (stands c.self.inside.boxes c.self.inside.arena c.self.inside.names.items c.self.inside.last [] c.self.inside.objects c.self.inside.entries _ c.self.invariant c.self.view_is) c.args.object c.requires
+set_gc-requires g c = has_node (stands c.self.inside.boxes c.self.inside.arena c.self.inside.names.items c.self.inside.last c.self.inside.weak.rows c.self.inside.objects c.self.inside.entries _ c.self.invariant c.self.view_is) c.args.object c.requires
 
 pub invariant_of-self : goal.invariant_of-self
-invariant_of-self g c = (after_number (stands c.self.inside.boxes c.self.inside.arena c.self.inside.names.items c.self.inside.last [] c.self.inside.objects c.self.inside.entries _ c.self.invariant c.self.view_is) c.args.object c.args.number _ c.set_gc.ensures).keeps
+invariant_of-self g c = (after_number (stands c.self.inside.boxes c.self.inside.arena c.self.inside.names.items c.self.inside.last c.self.inside.weak.rows c.self.inside.objects c.self.inside.entries _ c.self.invariant c.self.view_is) c.args.object c.args.number _ c.set_gc.ensures).keeps
 
 pub returns : goal.returns
-returns g c = (after_number (stands c.self.inside.boxes c.self.inside.arena c.self.inside.names.items c.self.inside.last [] c.self.inside.objects c.self.inside.entries _ c.self.invariant c.self.view_is) c.args.object c.args.number _ c.set_gc.ensures).is
+returns g c = (after_number (stands c.self.inside.boxes c.self.inside.arena c.self.inside.names.items c.self.inside.last c.self.inside.weak.rows c.self.inside.objects c.self.inside.entries _ c.self.invariant c.self.view_is) c.args.object c.args.number _ c.set_gc.ensures).is
