@@ -17,7 +17,7 @@ use Rattle.cg_graph.specs.Holdings.{occurrences}
 use Rattle.cg_graph.specs.Value.{references, references_of_value}
 use Rattle.cg_graph.specs.Places.{place_number, list_of, move_between}
 use Rattle.cg_graph.specs.Rows.{Row}
-use Rattle.cg_graph.specs.Store.{Store, Node, outside_of, count_of, IsLive, entries_of, place_of, held_within}
+use Rattle.cg_graph.specs.Store.{Store, Node, outside_of, count_of, IsLive, HasCode, entries_of, place_of, held_within}
 use Rattle.cg_graph.specs.Changes.{held, unheld, rewritten, named, moved, made, more}
 use Rattle.cg_graph.proofs.Maps.{same_map, get-mapped}
 use Rattle.cg_arena.specs.Nodes.{ArenaNode, Nodes, count_in, counted_up, counted_down, node_counted_up, new_node as new_arena_node, with_room, with_node as with_arena_node, with_node_changed, with_node_moved, with_lists_merged, node_finalized, node_numbered, following, IsListed as IsArenaListed, count_in_list, place_of as arena_place_of, place_in as arena_place_in}
@@ -241,6 +241,15 @@ module _ {all : List Bodies} {v : Nodes} {names : List (Option Val)} {last : ℕ
           some_place : {q r : Place} → Some q ≡ Some r → q ≡ r
           some_place e = cc
 
+  -- the garbage list is a list
+  root_kind : HasCode was 1 ListKind
+  root_kind = known (fin.get v.nodes 1) (fin.get was.nodes 1) h.keeps.0.root.seat (h.keeps.0.shape.alike 1) refl
+    where
+      known : (a : Option ArenaNode) (x : Option Node) → seat_in a ≡ Some (ListKind, h.keeps.0.root.body) → Alike all a x → fin.get was.nodes 1 ≡ x → HasCode was 1 ListKind
+      known None x e same at = absurd (cc)
+      known (Some n) None e same at = absurd same
+      known (Some n) (Some x) e same at = (x, at, ap (λ (y : Node). y.code) same.0 ∙ (some_pair_parts n.code ListKind n.body h.keeps.0.root.body e).0)
+
   -- what every heap tells
   pub is_sound : IsArenaListed v → IsSound old
   is_sound listed = subst IsSound h.is (record {
@@ -249,6 +258,7 @@ module _ {all : List Bodies} {v : Nodes} {names : List (Option Val)} {last : ℕ
     below = h.keeps.0.shape.below;
     well = h.keeps.0.well;
     listed = is_listed listed;
+    root = root_kind;
     garbage = h.keeps.0.saves;
     rows = h.keeps.1.rows;
     objects = omega (arith, h.keeps.0.numbered, h.keeps.0.object_limit);

@@ -13,7 +13,7 @@ use Rattle.cg_graph.specs.Object.{same_place}
 use Rattle.cg_graph.specs.Value.{references_of_value}
 use Rattle.cg_graph.specs.Holdings.{occurrences}
 use Rattle.cg_graph.specs.Places.{place_number, list_of, merge_lists}
-use Rattle.cg_graph.specs.Store.{Store, Node, IsLive, entries_of, inner, count_of}
+use Rattle.cg_graph.specs.Store.{Store, Node, IsLive, HasCode, entries_of, inner, count_of}
 use Rattle.cg_graph.specs.Changes.{held, rewritten, moved, with_place}
 use Rattle.cg_arena.specs.Nodes.{count_in_list}
 use Rattle.cg_heap.specs.Keeps.{size, one, IsWellMadeAt, IsGarbage, outside_total}
@@ -141,6 +141,7 @@ pub record IsSound (store : Store) : Type 0 where
   -- the items of a list have no keys, a weak reference has at most one entry, and instances and functions have a number
   pub well : (s : ℕ) → IsWellMadeAt (fin.get store.nodes s)
   pub listed : IsListed store
+  pub root : HasCode store 1 ListKind  -- the garbage list lives
   pub garbage : IsGarbage (entries_of store 1)
   pub rows : AreRows store
   pub objects : object_number store ≤ 1000000
