@@ -1,3 +1,4 @@
 mod Chains
 mod Reading
 mod Bridges
+mod BindingLemmas

@@ -12,6 +12,7 @@ use Rattle.cg_graph.specs.Value.{entry_references, reference_in, references_of_v
 use Rattle.cg_graph.specs.Object.{Object, object_at, entries_of as entries_in_world}
 use Rattle.cg_graph.specs.Store.{Store, Node, IsLive, object_from, objects_of, entries_of, entries_in, inner}
 use Rattle.cg_graph.proofs.Objects.{object-at, occurrences-append}
+use Rattle.cg_script.specs.declared.command.Operand.{Operand}
 use Rattle.cg_script.specs.declared.command.Operand.TheVariants as operand
 use Rattle.cg_heap.specs.Calls.{IsSound, IsLiveValue}
 use Rattle.cg_heap.proofs.ReferenceLemmas.{occurrences-one, one_if}
@@ -25,7 +26,9 @@ use Rattle.cg_commands.specs.declared.done.Refusal.{Refusal}
 use Rattle.cg_commands.specs.declared.locals.Locals.{Locals}
 use Rattle.cg_commands.specs.Refusals.{number_of, Declines}
 use Rattle.cg_commands.specs.Stands.{StandsFor, locals_of, ReadsValue}
-use Rattle.cg_commands.specs.Objects.{RefersTo, HasNoObject}
+use Rattle.cg_commands.specs.declared.operands.Wanted.{Wanted}
+use Rattle.cg_commands.specs.declared.operands.Wanted.TheVariants as wanted
+use Rattle.cg_commands.specs.Objects.{RefersTo, HasNoObject, test_of, refusal_of, bare}
 
 -- the object of a serial in the world
 pub object-at_node : (store : Store) (w : World) → Represents store w → (o : ℕ) → object_at w.objects o ≡ option_map (object_from store.rows o) (fin.get store.nodes o)
@@ -52,10 +55,12 @@ reads-self store locals w s = ap (option_map val.Ref) (of_locals (λ sort subjec
 pub reads-weak : (store : Store) (locals : Option Locals) → ReadsValue store locals operand.WeakLocal (option_map val.Ref (option_and_then (λ l. weak_in l.sort l.subject) locals))
 reads-weak store locals w s = ap (option_map val.Ref) (of_locals (λ sort subject f. weak_in sort subject) (frame_on w.stack) locals s.locals_are)
 
-pub reads-cell : (store : Store) (locals : Option Locals) (i : ℕ) → ReadsValue store locals (operand.Cell i) (option_and_then (λ l. option_and_then (λ f. option_map (λ e. e.val) (slice_get (entries_of store f) i)) l.func) locals)
-reads-cell store locals i w s =
-    of_locals (λ sort subject f. option_and_then (λ o. option_map (λ e. e.val) (slice_get (entries_in_world w.objects o) i)) f) (frame_on w.stack) locals s.locals_are
+pub reads-cell : (store : Store) (locals : Option Locals) (i : ℕ) (word : Operand) (v : Option Val) → word ≡ operand.Cell i → v ≡ option_and_then (λ l. option_and_then (λ f. option_map (λ e. e.val) (slice_get (entries_of store f) i)) l.func) locals → ReadsValue store locals word v
+reads-cell store locals i word v is told w s =
+    ap (value_of w) is
+    ∙ of_locals (λ sort subject f. option_and_then (λ o. option_map (λ e. e.val) (slice_get (entries_in_world w.objects o) i)) f) (frame_on w.stack) locals s.locals_are
     ∙ each locals
+    ∙ sym told
   where
     cell : (f : Option ℕ) → option_and_then (λ o. option_map (λ e. e.val) (slice_get (entries_in_world w.objects o) i)) f ≡ option_and_then (λ o. option_map (λ e. e.val) (slice_get (entries_of store o) i)) f
     cell None = refl
@@ -90,3 +95,60 @@ object-found store w r test k v o there =
     ap (λ v. object w test k v) there.refers
     ∙ ap (λ x. ok_or x k >>= tested test k) (object-at_node store w r o ∙ ap (option_map (object_from store.rows o)) there.found)
     ∙ ap (λ b. if b then Ok (object_from store.rows o there.node) else Err k) there.passes
+
+-- a value that refers to no object, or to one that does not pass, is refused
+declined : {A : Type 0} (kind : Wanted) (r : Result A ℕ) → r ≡ Err (number_of (refusal_of kind)) → Declines (refusal_of kind) r
+declined wanted.Any r is = is
+declined wanted.List r is = is
+declined wanted.ScriptList r is = is
+declined wanted.Sequence r is = is
+declined wanted.Dict r is = is
+declined wanted.Inst r is = is
+declined wanted.Func r is = is
+declined wanted.Referable r is = is
+declined wanted.Weak r is = is
+
+no_reference : (v : Val) → ((o : ℕ) → v ≡ val.Ref o → ⊥) → reference_in v ≡ None
+no_reference val.None none = refl
+no_reference (val.Int n) none = refl
+no_reference (val.Str n) none = refl
+no_reference (val.Ref o) none = absurd (none o refl)
+
+pub object-none : (store : Store) (kind : Wanted) (v : Val) → ((o : ℕ) → v ≡ val.Ref o → ⊥) → HasNoObject store (test_of kind) (number_of (refusal_of kind)) v (refusal_of kind)
+unfolding ◌>>=◌
+object-none store kind v none w r = declined kind _ (ap (λ x. ok_or (option_and_then (object_at w.objects) x) (number_of (refusal_of kind)) >>= tested (test_of kind) (number_of (refusal_of kind))) (no_reference v none))
+
+-- the tests ask for the kind and the serial alone
+pub test-bare : (kind : Wanted) (x : Object) → test_of kind x ≡ test_of kind (bare x.code x.serial)
+test-bare wanted.Any x = refl
+test-bare wanted.List x = refl
+test-bare wanted.ScriptList x = refl
+test-bare wanted.Sequence x = refl
+test-bare wanted.Dict x = refl
+test-bare wanted.Inst x = refl
+test-bare wanted.Func x = refl
+test-bare wanted.Referable x = refl
+test-bare wanted.Weak x = refl
+
+-- a live object passes, or not
+pub object-admitted : (store : Store) (kind : Wanted) (o : ℕ) (code : KindCode) → IsLive store o → IfSome (fin.get store.nodes o) (λ n. code ≡ n.code) → test_of kind (bare code o) ≡ true → RefersTo store (test_of kind) (val.Ref o) o
+object-admitted store kind o code live told passes = known (fin.get store.nodes o) refl live told
+  where
+    known : (x : Option Node) → fin.get store.nodes o ≡ x → IsSome x → IfSome x (λ n. code ≡ n.code) → RefersTo store (test_of kind) (val.Ref o) o
+    known None at live told = absurd (cc)
+    known (Some n) at live told = record {
+      node = n;
+      refers = refl;
+      found = at;
+      passes = test-bare kind (object_from store.rows o n) ∙ ap (λ c. test_of kind (bare c o)) (sym told) ∙ passes;
+    }
+
+pub object-other : (store : Store) (kind : Wanted) (o : ℕ) (code : KindCode) → IsLive store o → IfSome (fin.get store.nodes o) (λ n. code ≡ n.code) → test_of kind (bare code o) ≡ false → HasNoObject store (test_of kind) (number_of (refusal_of kind)) (val.Ref o) (refusal_of kind)
+unfolding ◌>>=◌
+object-other store kind o code live told fails w r = declined kind _ (known (fin.get store.nodes o) refl live told)
+  where
+    known : (x : Option Node) → fin.get store.nodes o ≡ x → IsSome x → IfSome x (λ n. code ≡ n.code) → object w (test_of kind) (number_of (refusal_of kind)) (val.Ref o) ≡ Err (number_of (refusal_of kind))
+    known None at live told = absurd (cc)
+    known (Some n) at live told =
+        ap (λ x. ok_or x (number_of (refusal_of kind)) >>= tested (test_of kind) (number_of (refusal_of kind))) (object-at_node store w r o ∙ ap (option_map (object_from store.rows o)) at)
+        ∙ ap (λ b. if b then Ok (object_from store.rows o n) else Err (number_of (refusal_of kind))) (test-bare kind (object_from store.rows o n) ∙ ap (λ c. test_of kind (bare c o)) (sym told) ∙ fails)

@@ -40,6 +40,7 @@ pub(crate) fn unbind<B: Kind>(heap: &mut Heap<B>, locals: Option<Locals>, name: 
     requires few { HasFewHolds heap.old }
     ensures { Performs heap.old locals (λ w. effect w (command.Del name)) heap.new result }
 {
+    heap.sound();
     match heap.unbind(name) {
         Some(val) => Ok(Done::Changed {
             line: None,
@@ -61,6 +62,7 @@ pub(crate) fn bind_to<B: Kind>(
     requires few { HasFewHolds heap.old }
     ensures { Performs heap.old locals (λ w. binds w name val) heap.new result }
 {
+    heap.sound();
     let old = heap.bind(name, val);
     Ok(Done::Changed {
         line: None,

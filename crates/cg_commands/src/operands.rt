@@ -45,8 +45,8 @@ impl Wanted {
             KindCode::List => self.admits_list(object),
             KindCode::Tuple => matches!(self, Wanted::Any | Wanted::Sequence),
             KindCode::Dict => matches!(self, Wanted::Any | Wanted::Dict),
-            KindCode::Inst => matches!(self, Wanted::Any | Wanted::Inst | Wanted::Referable),
-            KindCode::Func => matches!(self, Wanted::Any | Wanted::Func | Wanted::Referable),
+            KindCode::Inst => self.admits_instance(object),
+            KindCode::Func => self.admits_function(object),
             KindCode::Weak => matches!(self, Wanted::Any | Wanted::Weak),
         }
     }
@@ -60,6 +60,22 @@ impl Wanted {
             Wanted::ScriptList => object != 1,
             _ => false,
         }
+    }
+
+    /// Whether an instance is wanted.
+    fn admits_instance(self, object: u64) -> bool
+        ensures { result ≡ test_of self (bare code.Inst object) }
+    {
+        let _ = object;
+        matches!(self, Wanted::Any | Wanted::Inst | Wanted::Referable)
+    }
+
+    /// Whether a function is wanted.
+    fn admits_function(self, object: u64) -> bool
+        ensures { result ≡ test_of self (bare code.Func object) }
+    {
+        let _ = object;
+        matches!(self, Wanted::Any | Wanted::Func | Wanted::Referable)
     }
 
     /// Why an object of another kind is refused.
@@ -137,9 +153,11 @@ fn weak_in(locals: Option<Locals>) -> Option<Val>
 /// A cell of the function whose frame runs.
 fn cell_in<B: Kind>(heap: &Heap<B>, locals: Option<Locals>, i: u8) -> Option<Val>
     requires { LocalsLive heap.now locals }
-    ensures { result ≡ option_and_then (λ l. option_and_then
+    ensures value { result ≡ option_and_then (λ l. option_and_then
         (λ f. option_map (λ e. e.val) (slice_get (entries_of heap.now f) i)) l.func) locals }
+    ensures live { IfSome result (λ v. IsLiveValue heap.now v) }
 {
+    heap.sound();
     let Some(frame) = locals else { return None };
     let Some(func) = frame.func else { return None };
     let i = usize::from(i);
