@@ -12,8 +12,12 @@
 
 mod bindings;
 mod done;
+mod entries;
+mod frames;
 mod locals;
+mod lookups;
 mod operands;
+mod queries;
 
 pub use done::{Done, Refusal};
 pub use locals::Locals;
