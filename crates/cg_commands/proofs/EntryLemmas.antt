@@ -1,6 +1,8 @@
 -- Commands that put entries in, take them out, and replace them.
 use Rattle.std.proofs.Common.{◌≡◌, ◌≢◌, refl, sym, ◌∙◌, ap, subst, ℕ, ◌+◌, ◌<◌, ◌≤◌, Bool, true, false, not, ◌&&◌, List, [], ◌∷◌, ◌++◌, length, Option, Some, None, IsSome, Result, Ok, Err, arith, remove}
-use Rattle.std.specs.Prelude.{◌==◌, slice_get, ◌↔◌}
+use Rattle.std.specs.Prelude.{◌==◌, slice_get, ◌↔◌, ℤ, pos}
+use Rattle.cg_value.specs.declared.Val.TheVariants as val
+use Rattle.cg_kind.specs.Calls.{CanPut}
 use Rattle.std.proofs.lemmas.Bool.{eq-eqb}
 use Rattle.std.specs.FinMap as fin
 use Rattle.cg_value.specs.declared.Val.{Val}
@@ -14,7 +16,7 @@ use Rattle.cg_graph.specs.Store.{Store, Node, IsLive, HasCode, object_from, entr
 use Rattle.cg_graph.specs.Changes.{held, rewritten}
 use Rattle.cg_graph.proofs.Members.{true_and}
 use Rattle.cg_heap.specs.declared.fault.HeapFault.TheVariants as fault
-use Rattle.cg_heap.specs.Calls.{IsSound, IsMutable, CanTake, code_of, entry_number}
+use Rattle.cg_heap.specs.Calls.{IsSound, IsMutable, CanTake, CanPutIn, code_of, entry_number}
 use Rattle.cg_heap.proofs.CallerLemmas.{kinds-rewritten, lives_on}
 use Rattle.cg_heap.proofs.HoldLemmas.{entry_holds}
 use Rattle.cg_machine.specs.World.{World, with_change}
@@ -84,6 +86,9 @@ kind-passes wanted.Inst c x h = is_instance_code x.code h
 pub has_code : (store : Store) (what : Wanted) → IsChanging what → (v : Val) (o : ℕ) → RefersTo store (test_of what) v o → HasCode store o (kind_of what)
 has_code store what c v o there = (there.node, there.found, kind-passes what c (object_from store.rows o there.node) there.passes)
 
+pub code_passes : (store : Store) (what : Wanted) → IsChanging what → (v : Val) (o : ℕ) (there : RefersTo store (test_of what) v o) → there.node.code ≡ kind_of what
+code_passes store what c v o there = kind-passes what c (object_from store.rows o there.node) there.passes
+
 mutable : (what : Wanted) → IsChanging what → IsMutable (kind_of what)
 mutable wanted.Any c = absurd c
 mutable wanted.Sequence c = absurd c
@@ -131,3 +136,46 @@ module _ (store : Store) (sound : IsSound store) (locals : Option Locals) (test 
       (is ∙ ap (λ l. held (entry_references e) (rewritten o l store)) (ap (λ l. remove l i) entries-here ∙ sym gone))
       (refilled store w s.represents o es)
       (λ q some. lives_on store (rewritten o es store) (kinds-rewritten o es store) q (sound.live q (omega (arith, some, entry_holds store o i e at q))))
+
+-- a dictionary or an instance
+abbrev pub IsKeyedTest : Wanted → Type 0
+IsKeyedTest wanted.Dict = Unit {0}
+IsKeyedTest wanted.Inst = Unit {0}
+IsKeyedTest other = ⊥
+
+changing : (what : Wanted) → IsKeyedTest what → IsChanging what
+changing wanted.Dict is = tt
+changing wanted.Inst is = tt
+changing wanted.Any is = absurd is
+changing wanted.List is = absurd is
+changing wanted.ScriptList is = absurd is
+changing wanted.Sequence is = absurd is
+changing wanted.Func is = absurd is
+changing wanted.Referable is = absurd is
+changing wanted.Weak is = absurd is
+
+-- what may be put
+pub can_put_item : (store : Store) (v : Val) (o : ℕ) → RefersTo store (test_of wanted.ScriptList) v o → (z : ℤ) (i : ℕ) → z ≡ pos i → i < length (entries_of store o) → CanPutIn store o (val.Int z)
+can_put_item store v o there z i at within =
+    let can = can_take store wanted.ScriptList tt v o there in
+    (can.0, can.1, subst (λ c. CanPut c (entries_of store o) (val.Int z)) (sym (code-here store o kind.List (has_code store wanted.ScriptList tt v o there))) (i, ap val.Int at, within))
+
+pub can_put_key : (store : Store) (what : Wanted) → IsKeyedTest what → (v : Val) (o : ℕ) → RefersTo store (test_of what) v o → (key : Val) → CanPutIn store o key
+can_put_key store what is v o there key =
+    let can = can_take store what (changing what is) v o there in
+    (can.0, can.1, subst (λ c. CanPut c (entries_of store o) key) (sym (code-here store o (kind_of what) (has_code store what (changing what is) v o there))) (any what is))
+  where
+    any : (what : Wanted) → IsKeyedTest what → CanPut (kind_of what) (entries_of store o) key
+    any wanted.Dict is = tt
+    any wanted.Inst is = tt
+    any wanted.Any is = absurd is
+    any wanted.List is = absurd is
+    any wanted.ScriptList is = absurd is
+    any wanted.Sequence is = absurd is
+    any wanted.Func is = absurd is
+    any wanted.Referable is = absurd is
+    any wanted.Weak is = absurd is
+
+-- a list is no dictionary and no instance
+pub keyed_other : (store : Store) → IsSound store → (o : ℕ) (c : KindCode) → HasCode store o c → (c ≡ kind.List → ⊥) → o ≢ 1
+keyed_other store sound o c has other is = absurd (other (sym (code-here store o c has) ∙ ap (code_of store) is ∙ code-here store 1 kind.List sound.root))

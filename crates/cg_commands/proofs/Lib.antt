@@ -9,3 +9,7 @@ mod LookupLemmas
 mod Limits
 mod EntryLemmas
 mod PutLemmas
+mod TextLemmas
+mod PartLemmas
+mod NewObjects
+mod MakeLemmas

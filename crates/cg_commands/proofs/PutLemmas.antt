@@ -1,6 +1,6 @@
 -- A put: an item replaced, or a key that gets a value.
-use Rattle.std.proofs.Common.{◌≡◌, ◌≢◌, refl, sym, ◌∙◌, ap, subst, ℕ, ◌+◌, ◌<◌, ◌≤◌, Bool, true, false, not, ◌&&◌, ◌||◌, cond, List, [], ◌∷◌, ◌++◌, map, length, get_or, set, Option, Some, None, IsSome, Result, Ok, Err, inl, inr, arith}
-use Rattle.std.specs.Prelude.{◌⊎◌, ◌==◌, slice_get, ◌↔◌, ℤ, pos, negsuc, nat_lt, if◌then◌else◌, is_some, is_none, option_map, option_and_then, option_to_list, IsOk}
+use Rattle.std.proofs.Common.{◌≡◌, ◌≢◌, refl, sym, ◌∙◌, ap, subst, ℕ, suc, ◌+◌, ◌<◌, ◌≤◌, Bool, true, false, not, ◌&&◌, ◌||◌, cond, List, [], ◌∷◌, ◌++◌, map, length, get_or, set, Option, Some, None, IsSome, Result, Ok, Err, inl, inr, arith}
+use Rattle.std.specs.Prelude.{◌⊎◌, ◌==◌, slice_get, ◌↔◌, ℤ, pos, negsuc, nat_lt, if◌then◌else◌, is_some, is_none, is_ok, option_map, option_and_then, option_to_list, IsOk}
 use Rattle.std.proofs.lemmas.Bool.Decides.{leb_tells}
 use Rattle.std.proofs.lemmas.List.{append-nil}
 use Rattle.std.proofs.lemmas.Option.{slice_get-get_or}
@@ -47,9 +47,9 @@ use Rattle.cg_commands.proofs.EntryLemmas.{code-here}
 -- an index that is a position
 pub index_is : (z : ℤ) (len i : ℕ) → place_of_index z len ≡ Some i → (z ≡ pos i) × (i < len)
 index_is (negsuc n) len i h = cc
-index_is (pos n) len i h = known (nat_lt n len) (leb_tells (n + 1) len) h
+index_is (pos n) len i h = known (nat_lt n len) (leb_tells (suc n) len) h
   where
-    known : (b : Bool) → ((b ≡ true) × (n + 1 ≤ len)) ⊎ ((b ≡ false) × (len < n + 1)) → (if b then Some n else None) ≡ Some i → (pos n ≡ pos i) × (i < len)
+    known : (b : Bool) → ((b ≡ true) × (suc n ≤ len)) ⊎ ((b ≡ false) × (len < suc n)) → (if b then Some n else None) ≡ Some i → (pos n ≡ pos i) × (i < len)
     known true (inl t) h = let same : n ≡ i = cc in (ap pos same, omega (arith, t.1, same))
     known true (inr t) h = cc
     known false t h = cc
@@ -112,6 +112,13 @@ module _ (store : Store) (sound : IsSound store) (locals : Option Locals) (test 
   pub sets-there : there.node.code ≡ kind.List → (z : ℤ) (i : ℕ) (e : Entry) → z ≡ pos i → slice_get (entries_of store o) i ≡ Some e → IsSome (value_in store o (val.Int z))
   sets-there list z i e at here = subst IsSome (sym ((λ j. value_under ((code-is ∙ list) j) (entries_of store o) (val.Int (at j))) ∙ ap (option_map (λ e. e.val)) here)) refl
 
+-- a refusal is not Ok
+pub never_ok : {X : Type 0} (r : Result X HeapFault) (f : HeapFault) → r ≡ Err f → IsOk r → ⊥
+never_ok r f is ok = not_both (ap is_ok (sym is) ∙ ok)
+  where
+    not_both : false ≡ true → ⊥
+    not_both e = cc
+
 -- dictionaries and instances have keys
 abbrev pub IsKeyed : KindCode → Type 0
 IsKeyed c = (c ≡ kind.Dict) ⊎ (c ≡ kind.Inst)
@@ -119,11 +126,11 @@ IsKeyed c = (c ≡ kind.Dict) ⊎ (c ≡ kind.Inst)
 -- the value under a key is held by the entries
 value_at-le : (s : ℕ) (es : List Entry) (key : Val) → occurrences s (references_of_value (value_at es key)) ≤ occurrences s (references es)
 value_at-le s [] key = omega arith
-value_at-le s (e ∷ es) key = go (same_value e.key key)
+value_at-le s (e ∷ es) key = go (value_at-le s es key) (same_value e.key key)
   where
-    go : (b : Bool) → occurrences s (references_of_value (if b then Some e.val else value_at es key)) ≤ occurrences s (references (e ∷ es))
-    go true = omega (arith, occurrences-append s (entry_references e) (references es), occurrences-append s (option_to_list (reference_in e.val)) (option_to_list (reference_in e.key)))
-    go false = omega (arith, occurrences-append s (entry_references e) (references es), value_at-le s es key)
+    go : occurrences s (references_of_value (value_at es key)) ≤ occurrences s (references es) → (b : Bool) → occurrences s (references_of_value (if b then Some e.val else value_at es key)) ≤ occurrences s (references (e ∷ es))
+    go rest true = omega (arith, occurrences-append s (entry_references e) (references es), occurrences-append s (option_to_list (reference_in e.val)) (option_to_list (reference_in e.key)))
+    go rest false = omega (arith, occurrences-append s (entry_references e) (references es), rest)
 
 -- whether a value may be tracked
 abbrev node_of : KindCode → Place → Node
@@ -176,13 +183,13 @@ module _ (store : Store) (sound : IsSound store) (locals : Option Locals) (test 
   puts_with old w = (if is_some old then Ok tt else has_room w 1) >>= (λ _. Ok (Changes (is_none old) [] (references_of_value old) (changed_world w)))
 
   -- refused for want of room or memory, where the key is new
-  pub puts-refused : (f : HeapFault) → ((Err f ≡ Err fault.EntryLimit) ↔ ((value_in store o key ≡ None) × (4000000 ≤ entry_number store))) → Err f ≢ Err fault.ObjectLimit → (IsSome (value_in store o key) → IsOk (Err f)) → (new : Store) → new ≡ store → Performs store locals (λ w. puts w (object_from store.rows o n) key value) new (Err (refusal_by f))
-  puts-refused f limit objects present new same = subst (λ old. Performs store locals (λ w. puts_with old w) new (Err (refusal_by f))) (sym none ∙ under)
-      (fault-refused store locals f [] [] changed_world (Err f) refl (λ h. (limit.0 h).1, λ h. limit.1 (none, h)) objects new same)
+  pub puts-refused : {X : Type 0} (f : HeapFault) (r : Result X HeapFault) → r ≡ Err f → ((r ≡ Err fault.EntryLimit) ↔ ((value_in store o key ≡ None) × (4000000 ≤ entry_number store))) → r ≢ Err fault.ObjectLimit → (IsSome (value_in store o key) → IsOk r) → (new : Store) → new ≡ store → Performs store locals (λ w. puts w (object_from store.rows o n) key value) new (Err (refusal_by f))
+  puts-refused f r is limit objects present new same = subst (λ old. Performs store locals (λ w. puts_with old w) new (Err (refusal_by f))) (sym none ∙ under)
+      (fault-refused store locals f [] [] changed_world r is (λ h. (limit.0 h).1, λ h. limit.1 (none, h)) objects new same)
     where
       absent : (x : Option Val) → value_in store o key ≡ x → x ≡ None
       absent None is = refl
-      absent (Some x) is = let ok : IsOk (Err f) = present (subst IsSome (sym is) refl) in cc
+      absent (Some x) at = absurd (never_ok r f is (present (subst IsSome (sym at) refl)))
 
       none : value_in store o key ≡ None
       none = absent (value_in store o key) refl
