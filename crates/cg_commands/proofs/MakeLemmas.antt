@@ -57,10 +57,13 @@ module _ (store : Store) (sound : IsSound store) (locals : Option Locals) (name 
   made_store = attached serial referent (made code class parts store)
 
   -- it is held once from outside
-  pub made_held : 0 < outside_of made_store serial
+  made_held : 0 < outside_of made_store serial
   made_held =
       let one : one_if (serial == serial) ≡ 1 = ap one_if (eq-eqb serial serial refl) in
       omega (arith, outside-made code class parts store sound.below serial, occurrences-one serial serial, one)
+
+  pub held_at : (mid : Store) (n : ℕ) → mid ≡ made_store → n ≡ serial → 0 < outside_of mid n
+  held_at mid n is same = let here : outside_of mid n ≡ outside_of made_store serial = (λ i. outside_of (is i) (same i)) in omega (arith, here, made_held)
 
   pub made_total : HasFewHolds store → outside_total made_store ≤ 2147483646
   made_total holds = let low : outside_total store < 2147483646 = holds in omega (arith, total-made code class parts store, low)

@@ -4,14 +4,12 @@ use Rattle.cg_graph.specs.Store.{outside_of}
 use Rattle.cg_heap.specs.Keeps.{outside_total}
 use Rattle.cg_machine.specs.Effects.{makes}
 use Rattle.cg_commands.specs.Answers.{Performs}
-use Rattle.cg_commands.proofs.MakeLemmas.{makes-performs, makes-refused, made_held, made_total}
+use Rattle.cg_commands.proofs.MakeLemmas.{makes-performs, makes-refused, held_at, made_total}
 use Rattle.cg_commands.proofs.makes.make_bound.Goals as goal
 
 pub bind_new-old-requires-clause-held : goal.bind_new-old-requires-clause-held
 bind_new-old-requires-clause-held g c =
-    subst (λ st. 0 < outside_of st c.in-Ok.serial) (sym c.in-Ok.ensures.ok)
-    (subst (λ n. 0 < outside_of _ n) (sym c.in-Ok.ensures.serial)
-    (made_held c.args.heap.now c.sound.ensures c.args.locals c.args.name c.args.code c.args.class c.args.parts.now c.args.referent))
+    held_at c.args.heap.now c.sound.ensures c.args.locals c.args.name c.args.code c.args.class c.args.parts.now c.args.referent c.make.new.self c.in-Ok.serial c.in-Ok.ensures.ok c.in-Ok.ensures.serial
 
 pub bind_new-old-requires-clause-few : goal.bind_new-old-requires-clause-few
 bind_new-old-requires-clause-few g c =

@@ -21,6 +21,7 @@ use Rattle.cg_commands.specs.declared.operands.Wanted.TheVariants as wanted
 use Rattle.cg_commands.specs.Refusals.{number_of}
 use Rattle.cg_commands.specs.Objects.{test_of, refusal_of}
 use Rattle.cg_commands.proofs.Chains.{stops, goes_on}
+use Rattle.std.proofs.lemmas.List.Elements.{All-tail}
 use Rattle.cg_commands.proofs.Steps.{reads-object}
 use Rattle.cg_commands.proofs.PartLemmas.{items-are}
 use Rattle.cg_commands.proofs.TextLemmas.{all_left, all_right}
@@ -34,6 +35,10 @@ pub returns-in_err-parts : goal.returns-in_err-parts
 returns-in_err-parts g c =
     let p = err_from_is_err_and c.from_residual.result c.from_residual.ensures.1 in rw (p.1, p.2)
     (stops c.args.heap.now c.args.locals (λ w. values w c.args.items.now) _ c.in_err-parts.field-0.0 c.in_err-parts.ensures.err)
+
+pub gather-requires-clause-known : goal.gather-requires-clause-known
+gather-requires-clause-known g c =
+    All-tail (λ n. n < length c.args.heap.now.names) c.args.name (operands_texts c.args.items.now) c.requires.known
 
 pub make_bound-requires-clause-name : goal.make_bound-requires-clause-name
 make_bound-requires-clause-name g c =

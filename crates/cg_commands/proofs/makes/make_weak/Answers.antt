@@ -21,6 +21,7 @@ use Rattle.cg_commands.specs.declared.operands.Wanted.TheVariants as wanted
 use Rattle.cg_commands.specs.Refusals.{number_of}
 use Rattle.cg_commands.specs.Objects.{test_of, refusal_of}
 use Rattle.cg_commands.proofs.Chains.{stops, goes_on}
+use Rattle.std.proofs.lemmas.List.Elements.{All-tail}
 use Rattle.cg_commands.proofs.Steps.{reads-object}
 use Rattle.cg_commands.proofs.PartLemmas.{items-are}
 use Rattle.cg_commands.proofs.TextLemmas.{all_left, all_right}
