@@ -1,0 +1,18 @@
+use Rattle.std.proofs.Common.{Ok}
+use Rattle.std.proofs.lemmas.Result.{err_from_is_err_and}
+use Rattle.cg_machine.specs.Operands.{value}
+use Rattle.cg_machine.specs.declared.event.Event.TheVariants as event
+use Rattle.cg_graph.specs.Object.{is_tracked}
+use Rattle.cg_commands.proofs.Chains.{stops, goes_on}
+use Rattle.cg_commands.proofs.QueryLemmas.{prints-told}
+use Rattle.cg_commands.proofs.queries.tracked.Goals as goal
+
+pub returns-in_err-val : goal.returns-in_err-val
+returns-in_err-val g c =
+    let p = err_from_is_err_and c.from_residual.result c.from_residual.ensures.1 in rw (p.1, p.2)
+    (stops c.args.heap.now c.args.locals (λ w. value w c.args.operand) _ c.in_err-val.field-0.0 c.in_err-val.ensures.err)
+
+pub returns : goal.returns
+returns g c =
+    (goes_on c.args.heap.now c.args.heap.now c.args.locals (λ w. value w c.args.operand) c.in_ok-val.val _ (Ok c.printed.result) c.in_ok-val.ensures.ok
+    (prints-told c.args.heap.now c.args.locals event.Tracked is_tracked c.in_ok-val.val c.is_tracked-answer.result c.is_tracked-answer.ensures c.printed.result c.printed.ensures))

@@ -1,0 +1,6 @@
+pub mod Refusals
+pub mod Stands
+pub mod Spelled
+pub mod Objects
+pub mod Answers
+pub mod Parts
