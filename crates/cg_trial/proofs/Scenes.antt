@@ -1,5 +1,5 @@
 -- Scenes of tests: a heap whose outside holds are at least those that the test has.
-use Rattle.std.proofs.Common.{◌≡◌, ℕ, zero, suc, ◌+◌, ◌-◌, ◌<◌, ◌≤◌, Bool, true, false, cond, inl, inr, List, [], ◌∷◌, ◌++◌, length, remove, Option, Some, None, refl, sym, ◌∙◌, ap, subst, arith, append_assoc}
+use Rattle.std.proofs.Common.{◌≡◌, ℕ, zero, suc, ◌+◌, ◌<◌, ◌≤◌, Bool, true, false, cond, inl, inr, List, [], ◌∷◌, ◌++◌, length, remove, Option, Some, None, refl, sym, ◌∙◌, ap, subst, arith, append_assoc}
 use Rattle.std.specs.Prelude.{slice_get, ◌==◌, if◌then◌else◌}
 use Rattle.cg_graph.specs.Member.{Includes}
 use Rattle.cg_value.specs.declared.Entry.{Entry}
@@ -24,7 +24,7 @@ use Rattle.cg_heap.specs.Calls.{IsListed, tracked_if, with_put, value_in, code_o
 use Rattle.cg_heap.specs.Weak.{attached}
 use Rattle.cg_heap.proofs.CallerLemmas.{opening_total, total-made, total-unheld, total-rewritten, total-held, total-moved}
 use Rattle.cg_heap.proofs.HoldLemmas.{outside_live, outside-made, outside-unheld, outside-rewritten, outside-moved, outside_grows}
-use Rattle.cg_heap.proofs.ReferenceLemmas.{occurrences-append, occurrences-one, name-le}
+use Rattle.cg_heap.proofs.ReferenceLemmas.{occurrences-append, name-le}
 use Rattle.cg_trial.proofs.Lists.{occurs, occurrences-cons, IsAt, head_is, ahead}
 
 abbrev pub Backed : Store → List ℕ → ℕ → Type 0

@@ -1,4 +1,4 @@
-use Rattle.std.proofs.Common.{List, ℕ, Option, Some, ◌≡◌, subst, ap, sym, ◌∙◌}
+use Rattle.std.proofs.Common.{List, ℕ, Some, ◌≡◌, subst}
 use Rattle.std.specs.Prelude.{slice_get}
 use Rattle.cg_graph.specs.Store.{Store, IsLive}
 use Rattle.cg_trial.proofs.Scenes.{held_live}
