@@ -42,9 +42,9 @@ lines_built n number known line form words m below =
     let few = fitting.few in
     built_form form n (parts_of known form words) (omega arith) (omega arith)
     (λ i h t.
-      let w : 0 + i ≡ i = omega arith in
-      let k = text_below known.procs known.classes form words known.texts 0 i (omega arith) (ap (λ j. is_text (sort_at form j)) w ∙ t) in
-      omega arith)
+    let w : 0 + i ≡ i = omega arith in
+    let k = text_below known.procs known.classes form words known.texts 0 i (omega arith) (ap (λ j. is_text (sort_at form j)) w ∙ t) in
+    omega arith)
 
 items_built : (n : ℕ) (saids : List Said) → EachSaid (IsBuiltSaid n) saids → All (IsBuiltItem n) (items_of false saids)
 unfolding IsBuiltSaid
