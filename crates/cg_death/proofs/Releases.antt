@@ -1,0 +1,148 @@
+-- A hold that the heap gives up is the release step of the machine.
+use Rattle.std.proofs.Common.{◌≡◌, ◌≢◌, ◌-◌, Option, None, Some, refl, sym, ◌∙◌, ap, subst, ℕ, ◌+◌, ◌<◌, ◌≤◌, Bool, true, false, cond, not, inl, inr, List, [], ◌∷◌, ◌++◌, arith}
+use Rattle.std.specs.Prelude.{◌==◌, ◌&&◌, flat_map, if◌then◌else◌, option_map, option_to_list}
+use Rattle.std.proofs.lemmas.Bool.{cases_Bool, cases_eq, eq-eqb, ne_eqb, and_from, and_right}
+use Rattle.cg_script.specs.declared.Script.{Script}
+use Rattle.cg_graph.specs.Member.{Includes}
+use Rattle.cg_graph.specs.Holdings.{occurrences}
+use Rattle.std.specs.Ordering.{nat_cmp}
+use Rattle.std.specs.FinMap as fin
+use Rattle.cg_graph.specs.Store.{Store, Node, objects_of, count_of, outside_of, outside_in}
+use Rattle.cg_graph.specs.Changes.{unheld, less}
+use Rattle.cg_graph.proofs.Maps.{get-mapped}
+use Rattle.cg_graph.proofs.Objects.{objects-same, occurrences-append}
+use Rattle.cg_graph.proofs.Members.{either}
+use Rattle.cg_heap.proofs.HoldLemmas.{outside-unheld}
+use Rattle.cg_machine.specs.World.{World, Activity, Releasing, Dying, Death, DyingPhase, Finalizer, AfterFinalizer, Clearing, Calling, AfterCall, LegacyFinalizer, AfterLegacy, Detaching, Emptying, Running, with_stack}
+use Rattle.cg_machine.specs.Holdings.{holdings, holds, in_degree, is_dying, dying_holds}
+use Rattle.cg_machine.specs.Frame.{Transition, released, begin_death}
+use Rattle.cg_machine.specs.Laws.{IsHeldByItsDeathAlone}
+use Rattle.cg_machine.specs.Represents.{Represents, Goes}
+use Rattle.cg_death.specs.declared.answer.DeathStep.{DeathStep}
+use Rattle.cg_death.specs.declared.answer.DeathStep.TheVariants as answer_of
+use Rattle.cg_death.specs.Answers.{Stands, WentOn, GaveDeath, ReleaseAnswer, ReleaseSteps}
+use Rattle.cg_death.proofs.Worlds.{at_stack, spelled, in_one, occurrences-cons, occurrences-one, count-in_degree, held_by_one, held_by_stack, death_found, Matches, matches, represents, popped, pushed}
+
+pub matches-unheld : (refs : List ℕ) (store : Store) (w : World) → Matches store w → Matches (unheld refs store) w
+matches-unheld refs store w m = record {
+  objects = objects-same store (λ s n. less (occurrences s refs) n) (λ s n. refl) ∙ m.objects;
+  next_serial = m.next_serial;
+  names = m.names;
+  deaths = m.deaths;
+  no_others = m.no_others;
+  collection = m.collection;
+}
+
+-- a dying object that is held is held by its own death, once
+held_by_death : (o : ℕ) (phase : DyingPhase) (held : List ℕ) → IsHeldByItsDeathAlone o phase held → 0 < occurrences o held → occurrences o (dying_holds o phase) ≡ 1
+held_by_death o Finalizer held h m = absurd (omega (arith, h, m))
+held_by_death o AfterFinalizer held h m = occurrences-one o
+held_by_death o (Clearing waiting) held h m = absurd (omega (arith, h, m))
+held_by_death o (Calling waiting) held h m = absurd (omega (arith, h, m))
+held_by_death o (AfterCall weak callback waiting) held h m = absurd (omega (arith, h, m))
+held_by_death o LegacyFinalizer held h m = absurd (omega (arith, h, m))
+held_by_death o AfterLegacy held h m = occurrences-one o
+held_by_death o Detaching held h m = absurd (omega (arith, h, m))
+held_by_death o Emptying held h m = absurd (omega (arith, h, m))
+
+-- A reference given up: its object begins to die exactly where its count is now 0.
+module _ (script : Script) (store : Store) (v : World) (o : ℕ) (references : List ℕ) (below : List Activity) where
+  abbrev before : World
+  before = with_stack (Releasing (o ∷ references) ∷ below) v
+
+  abbrev after : World
+  after = with_stack (Releasing references ∷ below) v
+
+  module _ (s : Stands store before (Releasing (o ∷ references) ∷ below)) where
+    represents-after : Represents (unheld (o ∷ []) store) after
+    represents-after =
+        represents (unheld (o ∷ []) store) after
+        (matches-unheld (o ∷ []) store after (pushed store v references below (popped store v (o ∷ references) below (matches store before s.represents))))
+        (λ q. omega (arith, outside-unheld (o ∷ []) store q, s.represents.outside q, occurrences-cons q o (references ++ flat_map holds below), occurrences-cons q o []))
+
+    is_held : 0 < occurrences o (holdings before)
+    is_held =
+        let first : occurrences o (o ∷ references) ≡ 1 + occurrences o references = occurrences-cons o o references ∙ ap (λ b. cond b 1 0 + occurrences o references) (eq-eqb o o refl) in
+        let there : occurrences o (o ∷ references) ≤ occurrences o (flat_map holds before.stack) = held_by_one o before.stack (Releasing (o ∷ references)) (inl refl) in
+        omega (arith, first, there, held_by_stack o before)
+
+    not_dying : in_degree after o ≡ 0 → is_dying after o ≡ false
+    not_dying none = either (cases_Bool (is_dying after o)) (λ yes'. absurd (no' (death_found o (Releasing references ∷ below) yes'))) (λ e. e)
+      where
+        no' : (d : Death) × Includes (Releasing references ∷ below) (Dying d) × (d.object ≡ o) → ⊥
+        no' (d, m, e) =
+            let own : occurrences d.object (dying_holds d.object d.phase) ≡ 1 = held_by_death d.object d.phase (holdings before) (s.unheld d (either m (λ i. cc) (λ k. inr k))) (subst (λ q. 0 < occurrences q (holdings before)) (sym e) is_held) in
+            let there : occurrences d.object (dying_holds d.object d.phase) ≤ occurrences d.object (flat_map holds (Releasing references ∷ below)) = held_by_one d.object (Releasing references ∷ below) (Dying d) m in
+            let all : occurrences d.object (flat_map holds (Releasing references ∷ below)) ≤ in_degree after d.object = held_by_stack d.object after in
+            let none_there : in_degree after d.object ≡ 0 = ap (in_degree after) e ∙ none in
+            omega (arith, own, there, all, none_there)
+
+    choice : Bool → Transition
+    choice b = if b then ([], begin_death o after) else ([], after)
+
+    by_choice : (b : Bool) → (not (is_dying after o) && (in_degree after o == 0)) ≡ b → Goes script before (choice b).0 (choice b).1
+    unfolding choice
+    by_choice b e =
+        in_one script before (choice b).0 (choice b).1 s.running
+        (sym (ap (λ c. (choice c).0) e), sym (ap (λ c. (choice c).1) e))
+
+    died : in_degree after o ≡ 0 → GaveDeath script before o (unheld (o ∷ []) store) (Releasing references ∷ below)
+    unfolding choice
+    died none = record {
+      hands = record {
+        before = after;
+        goes = by_choice true (and_from (not (is_dying after o)) _ (ap not (not_dying none)) (eq-eqb _ 0 none));
+        top = refl;
+        represents = represents-after;
+      };
+      keeps = record { numbers = refl; budget = refl; outcome = refl };
+    }
+
+    lives : in_degree after o ≢ 0 → WentOn script before [] before.numbers (unheld (o ∷ []) store) (Releasing references ∷ below)
+    unfolding choice
+    lives held = record {
+      goes = record {
+        after = after;
+        goes = by_choice false (and_right (not (is_dying after o)) _ (ne_eqb _ 0 held));
+        top = refl;
+        represents = represents-after;
+      };
+      keeps = record { numbers = refl; budget = refl; outcome = refl };
+    }
+
+    -- the answer that the count gives
+    pub given_up : (new : Store) → new ≡ unheld (o ∷ []) store → ReleaseAnswer script before below new references (if count_of new o == 0 then answer_of.Died o else answer_of.Continue)
+    given_up new is = subst (λ st. ReleaseAnswer script before below st references (if count_of st o == 0 then answer_of.Died o else answer_of.Continue)) (sym is) here
+      where
+        count : count_of (unheld (o ∷ []) store) o ≡ in_degree after o
+        count = count-in_degree (unheld (o ∷ []) store) after represents-after o
+
+        here : ReleaseAnswer script before below (unheld (o ∷ []) store) references (if count_of (unheld (o ∷ []) store) o == 0 then answer_of.Died o else answer_of.Continue)
+        here =
+            elim (cases_eq (count_of (unheld (o ∷ []) store) o) 0) [
+              | inl none ↦ subst (λ b. ReleaseAnswer script before below (unheld (o ∷ []) store) references (if b then answer_of.Died o else answer_of.Continue)) (sym (eq-eqb _ 0 none)) (died (sym count ∙ none))
+              | inr some ↦ subst (λ b. ReleaseAnswer script before below (unheld (o ∷ []) store) references (if b then answer_of.Died o else answer_of.Continue)) (sym (ne_eqb _ 0 some)) (lives (λ z. some (count ∙ z)))
+            ]
+
+-- the step of a release with a reference left
+pub gives_up : (store new : Store) (o : ℕ) (left : List ℕ) → new ≡ unheld (o ∷ []) store → ReleaseSteps store (o ∷ left) new left (if count_of new o == 0 then answer_of.Died o else answer_of.Continue)
+gives_up store new o left is script w below s =
+    at_stack (λ u. ReleaseAnswer script u below new left (if count_of new o == 0 then answer_of.Died o else answer_of.Continue)) w (Releasing (o ∷ left) ∷ below) s.top
+    (given_up script store w o left below (spelled store w (Releasing (o ∷ left) ∷ below) s) new is)
+
+-- a release with nothing left ends
+pub pops : (store : Store) → ReleaseSteps store [] store [] answer_of.Gone
+pops store script w below s =
+    at_stack (λ u. ReleaseAnswer script u below store [] answer_of.Gone) w (Releasing [] ∷ below) s.top
+    (here (spelled store w (Releasing [] ∷ below) s))
+  where
+    here : Stands store (with_stack (Releasing [] ∷ below) w) (Releasing [] ∷ below) → ReleaseAnswer script (with_stack (Releasing [] ∷ below) w) below store [] answer_of.Gone
+    here t = record {
+      goes = record {
+        after = with_stack below w;
+        goes = in_one script (with_stack (Releasing [] ∷ below) w) [] (with_stack below w) t.running (refl, refl);
+        top = refl;
+        represents = represents store (with_stack below w) (popped store w [] below (matches store (with_stack (Releasing [] ∷ below) w) t.represents)) t.represents.outside;
+      };
+      keeps = record { numbers = refl; budget = refl; outcome = refl };
+    }

@@ -1,0 +1,27 @@
+use Rattle.std.proofs.Common.{◌≡◌, refl, [], ◌∷◌, subst, sym, ap, ◌∙◌, None, Some}
+use Rattle.cg_graph.specs.Changes.{gone}
+use Rattle.cg_script.specs.declared.Script.{Script}
+use Rattle.cg_death.specs.declared.phase.Phase.TheVariants as phase_of
+use Rattle.cg_death.specs.declared.phase.Turn.{Turn}
+use Rattle.cg_death.specs.Answers.{TurnSteps}
+use Rattle.cg_death.specs.Falls.{Falls, TurnFalls}
+use Rattle.cg_death.proofs.Emptying.{turn-taken, turn-gone}
+use Rattle.cg_death.proofs.Falling.{falls-taken}
+use Rattle.cg_death.proofs.contents.empty_one.Goals as goal
+
+pub returns-in-Some-clause-steps : goal.returns-in-Some-clause-steps
+returns-in-Some-clause-steps g c = λ script. turn-taken script c.args.heap.now c.detach.new.self c.args.object c.in-Some.entry c.new.result c.sound.ensures.live c.in-Some.ensures.last c.in-Some.ensures.rest c.new.ensures
+
+pub returns-in-Some-clause-falls : goal.returns-in-Some-clause-falls
+returns-in-Some-clause-falls g c = λ e.
+    subst (λ st. Falls c.args.object c.args.heap.now phase_of.Emptying None st phase_of.Emptying (Some c.new.result)) (sym c.in-Some.ensures.rest)
+    (falls-taken c.args.heap.now c.args.object c.in-Some.entry c.new.result c.requires.unheld.live c.in-Some.ensures.last c.new.ensures)
+
+pub returns-in-None-clause-steps : goal.returns-in-None-clause-steps
+returns-in-None-clause-steps g c = λ script.
+    subst (λ (turn : Turn). TurnSteps script c.args.heap.now c.args.object phase_of.Emptying c.free.new.self turn) (sym c.tells.ensures)
+    (turn-gone script c.args.heap.now c.free.new.self c.args.object c.requires.unheld.none (c.in-None.ensures.empty.0 refl) (c.free.ensures ∙ ap (gone c.args.object) c.in-None.ensures.none))
+
+pub returns-in-None-clause-falls : goal.returns-in-None-clause-falls
+returns-in-None-clause-falls g c =
+    subst (λ (turn : Turn). TurnFalls c.args.heap.now c.args.object phase_of.Emptying c.free.new.self turn) (sym c.tells.ensures) (λ e. absurd (cc))

@@ -1,0 +1,25 @@
+use Rattle.std.proofs.Common.{◌≡◌, [], ◌∷◌, subst, sym, ap, ◌∙◌, Bool, true, false, IsTrue}
+use Rattle.std.specs.Prelude.{if◌then◌else◌}
+use Rattle.cg_value.specs.declared.Place.TheVariants.{Untracked}
+use Rattle.cg_graph.specs.Changes.{unheld, moved}
+use Rattle.cg_death.specs.declared.phase.Phase.TheVariants as phase_of
+use Rattle.cg_death.specs.declared.phase.Turn.{Turn}
+use Rattle.cg_death.specs.Answers.{TurnSteps}
+use Rattle.cg_death.proofs.Finalizing.{turn-unheld_again, turn-brought_back}
+use Rattle.cg_death.proofs.finalizers.end_finalizer.Goals as goal
+
+pub returns-then-is_unheld_now-clause-steps : goal.returns-then-is_unheld_now-clause-steps
+returns-then-is_unheld_now-clause-steps g c = λ script.
+    subst (λ (turn : Turn). TurnSteps script c.args.heap.now c.args.object phase_of.AfterFinalizer c.is_unheld_now.new.heap turn) (sym c.to.ensures)
+    (turn-unheld_again script c.args.heap.now c.is_unheld_now.new.heap c.args.object (c.is_unheld_now.ensures.answer.0 c.if-is_unheld_now.true)
+    (c.is_unheld_now.ensures.rest ∙ ap (λ b. if b then moved c.args.object Untracked (unheld (c.args.object ∷ []) c.args.heap.now) else unheld (c.args.object ∷ []) c.args.heap.now) c.if-is_unheld_now.true))
+
+no : (b : Bool) → b ≡ false → IsTrue b → ⊥
+no true e t = cc
+no false e t = cc
+
+pub returns-else-is_unheld_now-clause-steps : goal.returns-else-is_unheld_now-clause-steps
+returns-else-is_unheld_now-clause-steps g c = λ script.
+    subst (λ (turn : Turn). TurnSteps script c.args.heap.now c.args.object phase_of.AfterFinalizer c.is_unheld_now.new.heap turn) (sym c.tells.ensures)
+    (turn-brought_back script c.args.heap.now c.is_unheld_now.new.heap c.args.object (λ z. no c.is_unheld_now.result c.if-is_unheld_now.false (c.is_unheld_now.ensures.answer.1 z))
+    (c.is_unheld_now.ensures.rest ∙ ap (λ b. if b then moved c.args.object Untracked (unheld (c.args.object ∷ []) c.args.heap.now) else unheld (c.args.object ∷ []) c.args.heap.now) c.if-is_unheld_now.false))

@@ -1,0 +1,32 @@
+use Rattle.std.proofs.Common.{◌≡◌, refl, [], ◌∷◌, subst, sym, ap, ◌∙◌, None, Some, arith}
+use Rattle.cg_value.specs.declared.Place.TheVariants.{Gen}
+use Rattle.cg_graph.specs.Changes.{held, moved}
+use Rattle.cg_graph.specs.Store.{IsLive}
+use Rattle.cg_heap.specs.Calls.{HasFewHolds}
+use Rattle.cg_machine.specs.declared.event.FrameSort.TheVariants.{Legacy}
+use Rattle.cg_death.specs.declared.answer.DeathStep.TheVariants as answer_of
+use Rattle.cg_death.specs.declared.phase.Phase.TheVariants as phase_of
+use Rattle.cg_death.specs.declared.phase.Turn.{Turn}
+use Rattle.cg_death.specs.Answers.{TurnSteps}
+use Rattle.cg_heap.proofs.CallerLemmas.{lives_on, kinds-moved, total-moved}
+use Rattle.cg_death.proofs.Finalizing.{running, turn-no_legacy, turn-legacy}
+use Rattle.cg_death.proofs.finalizers.run_legacy.Goals as goal
+
+pub hold-requires-clause-live : goal.hold-requires-clause-live
+hold-requires-clause-live g c =
+    subst (λ st. IsLive st c.args.object) (sym c.move_to.ensures)
+    (lives_on c.args.heap.now (moved c.args.object (Gen 0) c.args.heap.now) (kinds-moved c.args.object (Gen 0) c.args.heap.now) c.args.object c.requires.unheld.live)
+
+pub hold-requires-clause-few : goal.hold-requires-clause-few
+hold-requires-clause-few g c = subst HasFewHolds (sym c.move_to.ensures) (omega (arith, c.requires.few, total-moved c.args.object (Gen 0) c.args.heap.now))
+
+pub returns-in-None-clause-steps : goal.returns-in-None-clause-steps
+returns-in-None-clause-steps g c =
+    subst (λ (turn : Turn). TurnSteps c.args.script.now c.args.heap.now c.args.object phase_of.LegacyFinalizer c.args.heap.now turn) (sym c.to.ensures)
+    (turn-no_legacy c.args.script.now c.args.heap.now c.args.heap.now c.args.object (sym c.finalizers_of.ensures.legacy ∙ c.in-None.is))
+
+pub returns-in-Some-clause-steps : goal.returns-in-Some-clause-steps
+returns-in-Some-clause-steps g c =
+    subst (λ (turn : Turn). TurnSteps c.args.script.now c.args.heap.now c.args.object phase_of.LegacyFinalizer c.hold.new.self turn) (sym (c.runs.ensures ∙ ap (running phase_of.AfterLegacy) c.frame.ensures))
+    (turn-legacy c.args.script.now c.args.heap.now c.hold.new.self c.args.object c.in-Some.proc (sym c.finalizers_of.ensures.legacy ∙ c.in-Some.is) c.requires.unheld.live c.requires.unheld.none
+    (c.hold.ensures ∙ ap (λ st. held (c.args.object ∷ []) st) c.move_to.ensures))

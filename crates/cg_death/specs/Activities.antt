@@ -1,0 +1,45 @@
+-- What a release and a death stand for among the activities of the machine, and what they hold. (Ours.)
+use Rattle.std.specs.Prelude.{◌≡◌, ℕ, ◌≤◌, ◌++◌, List, [], ◌∷◌, Option, Some, None, option_to_list, flat_map}
+use Rattle.cg_graph.specs.Holdings.{occurrences}
+use Rattle.cg_graph.specs.Store.{Store, IsLive, outside_of, count_of, waiting_for}
+use Rattle.cg_machine.specs.World as machine
+use Rattle.cg_machine.specs.World.{Activity, Releasing, Dying}
+use Rattle.cg_machine.specs.Holdings.{holds}
+use Rattle.cg_death.specs.declared.release.Release.{Release}
+use Rattle.cg_death.specs.declared.phase.Phase.{Phase}
+use Rattle.cg_death.specs.declared.phase.Phase.TheVariants as phase_of
+
+-- the references that a release is still to give up
+abbrev pub references_left : Release → List ℕ
+references_left release = option_to_list release.first ++ option_to_list release.second
+
+-- the death of an object at a phase of the machine
+abbrev pub death_of : ℕ → machine.DyingPhase → Activity
+death_of o phase = Dying (record { object = o; phase = phase })
+
+-- A death as an activity, by the weak references that wait with its object. One that is over is none.
+abbrev pub death_activities : ℕ → Phase → List ℕ → List Activity
+death_activities o phase_of.Finalizer waiting = death_of o machine.Finalizer ∷ []
+death_activities o phase_of.AfterFinalizer waiting = death_of o machine.AfterFinalizer ∷ []
+death_activities o phase_of.Clearing waiting = death_of o (machine.Clearing waiting) ∷ []
+death_activities o phase_of.Calling waiting = death_of o (machine.Calling waiting) ∷ []
+death_activities o (phase_of.AfterCall weak callback) waiting = death_of o (machine.AfterCall weak callback waiting) ∷ []
+death_activities o phase_of.LegacyFinalizer waiting = death_of o machine.LegacyFinalizer ∷ []
+death_activities o phase_of.AfterLegacy waiting = death_of o machine.AfterLegacy ∷ []
+death_activities o phase_of.Detaching waiting = death_of o machine.Detaching ∷ []
+death_activities o phase_of.Emptying waiting = death_of o machine.Emptying ∷ []
+death_activities o phase_of.Over waiting = []
+
+-- What it gives up stands above it.
+abbrev pub activities : ℕ → Phase → Option Release → Store → List Activity
+activities o phase None store = death_activities o phase (waiting_for store o)
+activities o phase (Some release) store = Releasing (references_left release) ∷ death_activities o phase (waiting_for store o)
+
+-- Each reference of a list is an outside hold of its object.
+abbrev pub HasHolds : Store → List ℕ → Type 0
+HasHolds store references = (s : ℕ) → occurrences s references ≤ outside_of store s
+
+-- an object that nothing holds
+pub record IsUnheld (store : Store) (o : ℕ) : Type 0 where
+  pub live : IsLive store o
+  pub none : count_of store o ≡ 0

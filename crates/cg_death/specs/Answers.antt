@@ -1,0 +1,81 @@
+-- What the steps of releases and deaths may answer, in every world that the heap stands for. (Ours.)
+use Rattle.std.specs.Prelude.{◌≡◌, ℕ, ◌≤◌, ◌-◌, List, [], ◌∷◌, ◌++◌, None, count_by}
+use Rattle.cg_script.specs.declared.Script.{Script}
+use Rattle.cg_graph.specs.Member.{Includes}
+use Rattle.cg_graph.specs.Store.{Store}
+use Rattle.cg_machine.specs.declared.event.Event.{Event}
+use Rattle.cg_machine.specs.declared.event.Event.TheVariants.{Free}
+use Rattle.cg_machine.specs.declared.event.FrameSpec.{FrameSpec}
+use Rattle.cg_machine.specs.World.{World, Activity, Releasing, Dying, Death, Numbers, Running}
+use Rattle.cg_machine.specs.Holdings.{holdings, is_death_of}
+use Rattle.cg_machine.specs.Laws.{IsHeldByItsDeathAlone}
+use Rattle.cg_machine.specs.Represents.{Represents, GoesOn, HandsOutDeath, HandsOutFrame}
+use Rattle.cg_death.specs.declared.phase.Phase.{Phase}
+use Rattle.cg_death.specs.declared.phase.Turn.{Turn}
+use Rattle.cg_death.specs.Activities.{activities}
+use Rattle.cg_death.specs.declared.answer.DeathStep.{DeathStep}
+use Rattle.cg_death.specs.declared.answer.DeathStep.TheVariants as answer_of
+
+-- The heap stands for a world that runs, with these activities. What holds of the deaths of every run holds there: a
+-- dying object is held by nothing but its own death, and is dying once.
+pub record Stands (store : Store) (w : World) (stack : List Activity) : Type 0 where
+  pub represents : Represents store w
+  pub top : w.stack ≡ stack
+  pub running : w.outcome ≡ Running
+  pub unheld : (d : Death) → Includes w.stack (Dying d) → IsHeldByItsDeathAlone d.object d.phase (holdings w)
+  pub once : (o : ℕ) → count_by (is_death_of o) w.stack ≤ 1
+
+-- what no step of a death or a release changes, the numbers aside: it starts no frame itself, and ends no run
+pub record Keeps (w : World) (wanted : Numbers) (after : World) : Type 0 where
+  pub numbers : after.numbers ≡ wanted
+  pub budget : after.budget ≡ w.budget
+  pub outcome : after.outcome ≡ w.outcome
+
+-- It went on, and printed these lines, perhaps none.
+pub record WentOn (script : Script) (w : World) (events : List Event) (numbers : Numbers) (store : Store) (stack : List Activity) : Type 0 where
+  pub goes : GoesOn script w events store stack
+  pub keeps : Keeps w numbers goes.after
+
+-- It hands out an object whose death is to begin.
+pub record GaveDeath (script : Script) (w : World) (o : ℕ) (store : Store) (stack : List Activity) : Type 0 where
+  pub hands : HandsOutDeath script w o store stack
+  pub keeps : Keeps w w.numbers hands.before
+
+-- It hands out a frame.
+pub record GaveFrame (script : Script) (w : World) (spec : FrameSpec) (store : Store) (stack : List Activity) : Type 0 where
+  pub hands : HandsOutFrame script w spec store stack
+  pub keeps : Keeps w w.numbers hands.before
+
+-- what a step of a release answers
+abbrev pub ReleaseAnswer : Script → World → List Activity → Store → List ℕ → DeathStep → Type 0
+ReleaseAnswer script w below store left answer_of.Continue = WentOn script w [] w.numbers store (Releasing left ∷ below)
+ReleaseAnswer script w below store left (answer_of.Emit event) = ⊥
+ReleaseAnswer script w below store left (answer_of.Frame spec) = ⊥
+ReleaseAnswer script w below store left (answer_of.Died o) = GaveDeath script w o store (Releasing left ∷ below)
+ReleaseAnswer script w below store left answer_of.Gone = WentOn script w [] w.numbers store below
+
+-- The answer is right in every world for which the heap stood before the call.
+abbrev pub ReleaseSteps : Store → List ℕ → Store → List ℕ → DeathStep → Type 0
+ReleaseSteps old left new left_after answer =
+    (script : Script) (w : World) (below : List Activity) → Stands old w (Releasing left ∷ below) → ReleaseAnswer script w below new left_after answer
+
+-- the numbers after a line: that an object is freed lowers count 0 (developer guide, "optimization: generations")
+abbrev pub numbers_after : Event → Numbers → Numbers
+numbers_after (Free o) numbers = record numbers { zero_count = numbers.zero_count - 1 }
+numbers_after event numbers = numbers
+
+-- what a step of a death answers; the stack is what the death stands for then, over what lies below
+abbrev pub DeathAnswer : Script → World → Store → List Activity → DeathStep → Type 0
+DeathAnswer script w store stack answer_of.Continue = WentOn script w [] w.numbers store stack
+DeathAnswer script w store stack (answer_of.Emit event) = WentOn script w (event ∷ []) (numbers_after event w.numbers) store stack
+DeathAnswer script w store stack (answer_of.Frame spec) = GaveFrame script w spec store stack
+DeathAnswer script w store stack (answer_of.Died o) = GaveDeath script w o store stack
+DeathAnswer script w store stack answer_of.Gone = WentOn script w [] w.numbers store stack
+
+-- The answer is right in every world for which the heap stood before the call.
+abbrev pub DeathSteps : Script → Store → List Activity → Store → List Activity → DeathStep → Type 0
+DeathSteps script old tops new tops_after answer = (w : World) (below : List Activity) → Stands old w (tops ++ below) → DeathAnswer script w new (tops_after ++ below) answer
+
+-- the same for a turn of a phase
+abbrev pub TurnSteps : Script → Store → ℕ → Phase → Store → Turn → Type 0
+TurnSteps script old o phase new turn = DeathSteps script old (activities o phase None old) new (activities o turn.phase turn.release new) turn.answer

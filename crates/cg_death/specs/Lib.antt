@@ -1,0 +1,3 @@
+pub mod Activities
+pub mod Answers
+pub mod Falls

@@ -1,0 +1,39 @@
+//! The last phase: the entries are taken out, and the object goes.
+ghost use Rattle.std.specs.Prelude.{◌≡◌};
+ghost use Rattle.cg_script.specs.declared.Script.{Script};
+ghost use Rattle.cg_heap.specs.Calls.{HasFewHolds};
+ghost use Rattle.cg_heap.specs.Weak.{IsInNoRow};
+ghost use Rattle.cg_death.specs.declared.phase.Phase.TheVariants as phase_of;
+ghost use Rattle.cg_death.specs.Activities.{IsUnheld};
+ghost use Rattle.cg_death.specs.Answers.{TurnSteps};
+ghost use Rattle.cg_death.specs.Falls.{TurnFalls};
+
+use crate::answer::DeathStep;
+use crate::phase::{Phase, Turn};
+use crate::release::Release;
+use cg_heap::Heap;
+use cg_kind::Kind;
+use cg_machine::Event;
+
+/// Takes the last entry out, to give up its references next; or lets the object go.
+pub fn empty_one<B: Kind>(object: u64, heap: &mut Heap<B>) -> Turn
+    requires few { HasFewHolds heap.old }
+    requires unheld { IsUnheld heap.old object }
+    requires no_row { IsInNoRow object heap.old.rows }
+    ensures steps { (script : Script) →
+        TurnSteps script heap.old object phase_of.Emptying heap.new result }
+    ensures falls { TurnFalls heap.old object phase_of.Emptying heap.new result }
+{
+    heap.sound();
+    match heap.detach(object) {
+        Some(entry) => Turn {
+            phase: Phase::Emptying,
+            release: Some(Release::new(entry)),
+            answer: DeathStep::Continue,
+        },
+        None => {
+            heap.free(object);
+            Turn::tells(Event::Free(object), Phase::Over)
+        }
+    }
+}

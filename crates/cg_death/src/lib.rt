@@ -1,0 +1,19 @@
+//! Deaths by count, and releases: how references are given up, and what happens to an object that nothing holds.
+//!
+//! The layer above rests on one contract: in every world of the machine that the heap stands for, a step of a release or
+//! a death goes on as the machine does, and tells what is due: a line, a frame, or another object's death.
+//!
+//! - `answer`: what a step answers.
+//! - `release`: references that are given up one after the other.
+//! - `phase`: where a death stands.
+//! - `finalizers`, `contents`: its phases.
+#![tactic(auto)]
+
+mod answer;
+mod contents;
+mod finalizers;
+mod phase;
+mod release;
+
+pub use answer::DeathStep;
+pub use release::Release;

@@ -1,0 +1,96 @@
+//! References that are given up one after the other.
+ghost use Rattle.std.specs.Prelude.{◌≡◌, ◌<◌, ◌++◌, ◌∷◌, [], ℕ, option_to_list, if◌then◌else◌, ◌==◌, ◌↔◌, IfNone, length};
+ghost use Rattle.cg_value.specs.declared.Val.TheVariants as val_of;
+ghost use Rattle.cg_graph.specs.Value.{entry_references, reference_in};
+ghost use Rattle.cg_graph.specs.Store.{outside_of, count_of};
+ghost use Rattle.cg_graph.specs.Changes.{unheld};
+ghost use Rattle.cg_death.specs.declared.answer.DeathStep.TheVariants as answer_of;
+ghost use Rattle.cg_death.specs.Activities.{references_left, HasHolds};
+ghost use Rattle.cg_death.specs.Answers.{ReleaseSteps};
+
+use crate::answer::DeathStep;
+use cg_heap::Heap;
+use cg_kind::Kind;
+use cg_value::{Entry, Val};
+
+/// References that are to be given up, at most two. Each is an outside hold of its object.
+#[derive(Drop)]
+pub struct Release {
+    first: Option<u64>,
+    second: Option<u64>,
+}
+
+impl Release {
+    /// Gives up the references of an entry: the one in its value, and then the one in its key. (Ours.)
+    pub fn new(entry: Entry) -> Release
+        ensures { references_left result ≡ entry_references entry }
+    {
+        Release {
+            first: reference(entry.val),
+            second: reference(entry.key),
+        }
+    }
+
+    /// Gives up the next reference.
+    ///
+    /// `Died` comes exactly where nothing then holds its object, and `Gone` exactly where no reference was left. It
+    /// never answers `Frame` or `Emit`. (Developer guide, "Reference counting": an object whose count reaches 0 is
+    /// deallocated.)
+    pub fn step<B: Kind>(&mut self, heap: &mut Heap<B>) -> DeathStep
+        requires { HasHolds heap.old (references_left self.old) }
+        ensures steps { ReleaseSteps heap.old (references_left self.old) heap.new
+            (references_left self.new) result }
+
+        ensures fewer { result ≡ answer_of.Continue →
+            length (references_left self.new) < length (references_left self.old) }
+        ensures died { (o : ℕ) → result ≡ answer_of.Died o → count_of heap.new o ≡ 0 }
+        ensures gone { (result ≡ answer_of.Gone) ↔ (references_left self.old ≡ []) }
+    {
+        match self.take_first() {
+            Some(object) => give_up(heap, object),
+            None => DeathStep::Gone,
+        }
+    }
+
+    /// Takes the first reference.
+    fn take_first(&mut self) -> Option<u64>
+        ensures taken { references_left self.old ≡ option_to_list result ++ references_left self.new }
+        ensures none { IfNone result (references_left self.new ≡ []) }
+    {
+        match self.first {
+            Some(object) => {
+                self.first = None;
+                Some(object)
+            }
+            None => {
+                let object = self.second;
+                self.second = None;
+                object
+            }
+        }
+    }
+}
+
+/// The reference in a value, if there is one.
+fn reference(val: Val) -> Option<u64>
+    ensures { result ≡ reference_in val }
+{
+    match val {
+        Val::Ref(object) => Some(object),
+        _ => None,
+    }
+}
+
+/// Gives up one outside hold of an object.
+pub(crate) fn give_up<B: Kind>(heap: &mut Heap<B>, object: u64) -> DeathStep
+    requires { 0 < outside_of heap.old object }
+    ensures rest { heap.new ≡ unheld (object ∷ []) heap.old }
+    ensures answer { result ≡ (if count_of heap.new object == 0 then answer_of.Died object
+        else answer_of.Continue) }
+{
+    if heap.unhold(object) {
+        DeathStep::Died(object)
+    } else {
+        DeathStep::Continue
+    }
+}
