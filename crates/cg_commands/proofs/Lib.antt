@@ -1,0 +1,4 @@
+mod Chains
+mod Reading
+mod Bridges
+mod BindingLemmas

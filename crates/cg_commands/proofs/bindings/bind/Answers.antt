@@ -1,0 +1,11 @@
+use Rattle.std.proofs.lemmas.Result.{err_from_is_err_and}
+use Rattle.cg_machine.specs.Operands.{value}
+use Rattle.cg_machine.specs.Effects.{binds}
+use Rattle.cg_commands.proofs.Chains.{stops, goes_on}
+use Rattle.cg_commands.proofs.bindings.bind.Goals as goal
+
+pub returns-in_err-val : goal.returns-in_err-val
+returns-in_err-val g c = let p = err_from_is_err_and c.from_residual.result c.from_residual.ensures.1 in rw (p.1, p.2) ?
+
+pub returns : goal.returns
+returns g c = goes_on c.args.heap.now c.bind_to.new.heap c.args.locals (λ w. value w c.args.operand) c.in_ok-val.val _ c.bind_to.result c.in_ok-val.ensures.ok c.bind_to.ensures

@@ -1,0 +1,18 @@
+use Rattle.std.proofs.Common.{◌≡◌, sym, ◌∙◌, subst}
+use Rattle.cg_commands.specs.Refusals.{number_of}
+use Rattle.cg_commands.specs.Objects.{test_of, refusal_of, RefersTo, HasNoObject}
+use Rattle.cg_commands.proofs.Reading.{object-none, object-admitted, object-other}
+use Rattle.cg_commands.proofs.operands.object.Goals as goal
+
+pub returns-in_default : goal.returns-in_default
+returns-in_default g c = record {
+  ok = tt;
+  err = subst (λ r. HasNoObject c.args.heap.now (test_of c.args.wanted) (number_of (refusal_of c.args.wanted)) c.args.val r) (sym c.refusal.ensures)
+      (object-none c.args.heap.now c.args.wanted c.args.val c.in_default.not-Ref);
+}
+
+pub returns-else-admits-clause-err : goal.returns-else-admits-clause-err
+returns-else-admits-clause-err g c =
+    subst (λ r. HasNoObject c.args.heap.now (test_of c.args.wanted) (number_of (refusal_of c.args.wanted)) c.args.val r) (sym c.refusal-else-admits.ensures)
+    (subst (λ v. HasNoObject c.args.heap.now (test_of c.args.wanted) (number_of (refusal_of c.args.wanted)) v (refusal_of c.args.wanted)) (sym c.in-Ref.is)
+    (object-other c.args.heap.now c.args.wanted c.in-Ref.object c.kind_of.result (c.requires c.in-Ref.object c.in-Ref.is) c.kind_of.ensures (sym c.admits.ensures ∙ c.if-admits.false)))

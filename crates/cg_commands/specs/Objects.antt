@@ -1,0 +1,51 @@
+-- The objects that values refer to, and the kind that a command asks of them. (Ours.)
+use Rattle.std.specs.Prelude.{◌≡◌, ℕ, Bool, true, false, [], Some, None}
+use Rattle.std.specs.FinMap as fin
+use Rattle.cg_value.specs.declared.Val.{Val}
+use Rattle.cg_value.specs.declared.Val.TheVariants.{Ref}
+use Rattle.cg_value.specs.declared.KindCode.{KindCode}
+use Rattle.cg_value.specs.declared.Place.TheVariants.{Untracked}
+use Rattle.cg_graph.specs.Object.{Object}
+use Rattle.cg_graph.specs.Store.{Store, Node, object_from}
+use Rattle.cg_machine.specs.World.{World}
+use Rattle.cg_machine.specs.Represents.{Represents}
+use Rattle.cg_machine.specs.Operands.{object, any_object, is_list, is_script_list, is_sequence, is_dict, is_weak}
+use Rattle.cg_machine.specs.Weak.{is_instance, is_function, has_weak_references}
+use Rattle.cg_commands.specs.declared.done.Refusal.{Refusal}
+use Rattle.cg_commands.specs.declared.done.Refusal.TheVariants.{WrongKind, NotWeak, NotCallable}
+use Rattle.cg_commands.specs.Refusals.{Declines}
+use Rattle.cg_commands.specs.declared.operands.Wanted.{Wanted}
+use Rattle.cg_commands.specs.declared.operands.Wanted.TheVariants as wanted
+
+-- the machine's test of each kind
+abbrev pub test_of : Wanted → Object → Bool
+test_of wanted.Any = any_object
+test_of wanted.List = is_list
+test_of wanted.ScriptList = is_script_list
+test_of wanted.Sequence = is_sequence
+test_of wanted.Dict = is_dict
+test_of wanted.Inst = is_instance
+test_of wanted.Func = is_function
+test_of wanted.Referable = has_weak_references
+test_of wanted.Weak = is_weak
+
+-- why an object of another kind is refused
+abbrev pub refusal_of : Wanted → Refusal
+refusal_of wanted.Weak = NotWeak
+refusal_of wanted.Func = NotCallable
+refusal_of other = WrongKind
+
+-- The value refers to this live object, which passes the test.
+pub record RefersTo (store : Store) (test : Object → Bool) (v : Val) (o : ℕ) : Type 0 where
+  pub node : Node
+  pub refers : v ≡ Ref o
+  pub found : fin.get store.nodes o ≡ Some node
+  pub passes : test (object_from store.rows o node) ≡ true
+
+-- It refers to no object that passes: in every world for which the heap stands the machine gives this refusal.
+abbrev pub HasNoObject : Store → (Object → Bool) → ℕ → Val → Refusal → Type 0
+HasNoObject store test number v refusal = (w : World) → Represents store w → Declines refusal (object w test number v)
+
+-- an object of which only the kind and the serial are known: the tests ask no more
+abbrev pub bare : KindCode → ℕ → Object
+bare code o = record { serial = o; code = code; class = None; entries = []; place = Untracked; finalized = false; referent = None }

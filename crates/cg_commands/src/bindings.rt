@@ -1,0 +1,81 @@
+//! `x = v` and `del x`.
+ghost use Rattle.std.specs.Prelude.{◌≡◌, ◌<◌, ◌∷◌, [], length, Some, slice_get};
+ghost use Rattle.std.specs.List.{All};
+ghost use Rattle.cg_graph.specs.Value.{references_of_value, entry_references};
+ghost use Rattle.cg_script.specs.Texts.{operand_texts};
+ghost use Rattle.cg_script.specs.declared.command.Command.TheVariants as command;
+ghost use Rattle.cg_heap.specs.Calls.{HasFewHolds, IsLiveValue};
+ghost use Rattle.cg_machine.specs.Commands.{effect};
+ghost use Rattle.cg_machine.specs.Effects.{binds};
+ghost use Rattle.cg_commands.specs.Answers.{Performs};
+ghost use Rattle.cg_commands.specs.Stands.{LocalsLive};
+
+use crate::done::{Done, Refusal};
+use crate::locals::Locals;
+use crate::operands::value;
+use cg_heap::Heap;
+use cg_kind::Kind;
+use cg_script::Operand;
+use cg_value::{Entry, Val};
+
+/// `x = v`: the name is bound to the value.
+pub(crate) fn bind<B: Kind>(
+    heap: &mut Heap<B>,
+    locals: Option<Locals>,
+    name: u32,
+    operand: Operand,
+) -> Result<Done, Refusal>
+    requires known { All (λ n. n < length heap.old.names) (name ∷ operand_texts operand) }
+    requires locals { LocalsLive heap.old locals }
+    requires few { HasFewHolds heap.old }
+    ensures { Performs heap.old locals (λ w. effect w (command.Bind name operand)) heap.new result }
+{
+    let val = value(heap, locals, operand)?;
+    bind_to(heap, locals, name, val)
+}
+
+/// `del x`: the name is unbound.
+pub(crate) fn unbind<B: Kind>(heap: &mut Heap<B>, locals: Option<Locals>, name: u32) -> Result<Done, Refusal>
+    requires known { All (λ n. n < length heap.old.names) (name ∷ []) }
+    requires few { HasFewHolds heap.old }
+    ensures { Performs heap.old locals (λ w. effect w (command.Del name)) heap.new result }
+{
+    heap.sound();
+    match heap.unbind(name) {
+        Some(val) => Ok(Done::Changed {
+            line: None,
+            given_up: given_up(Some(val)),
+        }),
+        None => Err(Refusal::NoName),
+    }
+}
+
+/// Binds a name to a value. What it had is to be given up.
+pub(crate) fn bind_to<B: Kind>(
+    heap: &mut Heap<B>,
+    locals: Option<Locals>,
+    name: u32,
+    val: Val,
+) -> Result<Done, Refusal>
+    requires name { name < length heap.old.names }
+    requires live { IsLiveValue heap.old val }
+    requires few { HasFewHolds heap.old }
+    ensures { Performs heap.old locals (λ w. binds w name val) heap.new result }
+{
+    heap.sound();
+    let old = heap.bind(name, val);
+    Ok(Done::Changed {
+        line: None,
+        given_up: given_up(old),
+    })
+}
+
+/// An entry with the reference of a value, if there is one.
+pub(crate) fn given_up(val: Option<Val>) -> Entry
+    ensures { entry_references result ≡ references_of_value val }
+{
+    Entry {
+        key: Val::None,
+        val: val.unwrap_or(Val::None),
+    }
+}

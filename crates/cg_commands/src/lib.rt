@@ -1,0 +1,19 @@
+//! What each command of a script does to the heap.
+//!
+//! The layer above rests on one contract: in every world of the machine that the heap stands for, `perform` does what the
+//! machine's own definition of effects says of the command, or refuses it for the machine's own reason.
+//!
+//! - `done`: what a command did, and why one is refused.
+//! - `locals`: the locals of a frame.
+//! - `operands`: the values of operands, and the objects that they refer to.
+//! - `bindings`, `queries`, `lookups`, `entries`, `makes`: the commands, by family.
+//! - `perform`: any of them.
+#![tactic(auto)]
+
+mod bindings;
+mod done;
+mod locals;
+mod operands;
+
+pub use done::{Done, Refusal};
+pub use locals::Locals;

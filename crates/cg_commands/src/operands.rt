@@ -1,0 +1,185 @@
+//! The values of operands, and the objects that they refer to.
+ghost use Rattle.std.specs.Prelude.{◌≡◌, ◌<◌, IfOk, IfErr, IfSome, length, option_and_then, option_map, slice_get};
+ghost use Rattle.std.specs.List.{All};
+ghost use Rattle.cg_value.specs.declared.KindCode.TheVariants as code;
+ghost use Rattle.cg_value.specs.declared.Val.TheVariants as val_of;
+ghost use Rattle.cg_script.specs.Texts.{operand_texts};
+ghost use Rattle.cg_graph.specs.Store.{entries_of};
+ghost use Rattle.cg_heap.specs.Calls.{IsLiveValue};
+ghost use Rattle.cg_machine.specs.Operands as machine;
+ghost use Rattle.cg_commands.specs.Refusals.{number_of};
+ghost use Rattle.cg_commands.specs.Stands.{LocalsLive, Reads, IsRefused, ReadsValue};
+ghost use Rattle.cg_commands.specs.Objects.{test_of, refusal_of, bare, RefersTo, HasNoObject};
+
+use crate::done::Refusal;
+use crate::locals::Locals;
+use cg_heap::Heap;
+use cg_kind::Kind;
+use cg_machine::FrameSort;
+use cg_script::Operand;
+use cg_value::{KindCode, Val};
+
+/// The kind of object that a command asks.
+#[derive(Clone, Copy, Debug, PartialEq, Eq, Drop)]
+pub(crate) enum Wanted {
+    Any,
+    List,
+    /// A list other than the garbage list.
+    ScriptList,
+    /// A list or a tuple.
+    Sequence,
+    Dict,
+    Inst,
+    Func,
+    /// An instance or a function: what may have weak references, and be a key.
+    Referable,
+    Weak,
+}
+
+impl Wanted {
+    /// Whether an object of this kind and serial is wanted.
+    fn admits(self, code: KindCode, object: u64) -> bool
+        ensures { result ≡ test_of self (bare code object) }
+    {
+        match code {
+            KindCode::List => self.admits_list(object),
+            KindCode::Tuple => matches!(self, Wanted::Any | Wanted::Sequence),
+            KindCode::Dict => matches!(self, Wanted::Any | Wanted::Dict),
+            KindCode::Inst => self.admits_instance(object),
+            KindCode::Func => self.admits_function(object),
+            KindCode::Weak => matches!(self, Wanted::Any | Wanted::Weak),
+        }
+    }
+
+    /// Whether a list is wanted.
+    fn admits_list(self, object: u64) -> bool
+        ensures { result ≡ test_of self (bare code.List object) }
+    {
+        match self {
+            Wanted::Any | Wanted::List | Wanted::Sequence => true,
+            Wanted::ScriptList => object != 1,
+            _ => false,
+        }
+    }
+
+    /// Whether an instance is wanted.
+    fn admits_instance(self, object: u64) -> bool
+        ensures { result ≡ test_of self (bare code.Inst object) }
+    {
+        let _ = object;
+        matches!(self, Wanted::Any | Wanted::Inst | Wanted::Referable)
+    }
+
+    /// Whether a function is wanted.
+    fn admits_function(self, object: u64) -> bool
+        ensures { result ≡ test_of self (bare code.Func object) }
+    {
+        let _ = object;
+        matches!(self, Wanted::Any | Wanted::Func | Wanted::Referable)
+    }
+
+    /// Why an object of another kind is refused.
+    fn refusal(self) -> Refusal
+        ensures { result ≡ refusal_of self }
+    {
+        match self {
+            Wanted::Weak => Refusal::NotWeak,
+            Wanted::Func => Refusal::NotCallable,
+            _ => Refusal::WrongKind,
+        }
+    }
+}
+
+/// The value of an operand. A name that is unbound, and a local that the frame does not have, are refused.
+pub(crate) fn value<B: Kind>(
+    heap: &Heap<B>,
+    locals: Option<Locals>,
+    operand: Operand,
+) -> Result<Val, Refusal>
+    requires known { All (λ n. n < length heap.now.names) (operand_texts operand) }
+    requires locals { LocalsLive heap.now locals }
+    ensures ok { IfOk result (λ v. Reads heap.now locals (λ w. machine.value w operand) v) }
+    ensures live { IfOk result (λ v. IsLiveValue heap.now v) }
+    ensures err { IfErr result (λ r. IsRefused heap.now locals (λ w. machine.value w operand) r) }
+{
+    match value_of(heap, locals, operand) {
+        Some(value) => Ok(value),
+        None => Err(Refusal::NoName),
+    }
+}
+
+/// The value of an operand, if it has one.
+fn value_of<B: Kind>(heap: &Heap<B>, locals: Option<Locals>, operand: Operand) -> Option<Val>
+    requires known { All (λ n. n < length heap.now.names) (operand_texts operand) }
+    requires locals { LocalsLive heap.now locals }
+    ensures value { ReadsValue heap.now locals operand result }
+    ensures live { IfSome result (λ v. IsLiveValue heap.now v) }
+{
+    heap.sound();
+    match operand {
+        Operand::None => Some(Val::None),
+        Operand::Int(number) => Some(Val::Int(number)),
+        Operand::Str(text) => Some(Val::Str(text)),
+        Operand::Name(name) => heap.name(name),
+        Operand::SelfLocal => finalized_in(locals),
+        Operand::WeakLocal => weak_in(locals),
+        Operand::Cell(i) => cell_in(heap, locals, i),
+        Operand::Garbage => Some(Val::Ref(1)),
+    }
+}
+
+/// The object whose finalizer or legacy finalizer runs.
+fn finalized_in(locals: Option<Locals>) -> Option<Val>
+    ensures { result ≡ option_map val_of.Ref (option_and_then (λ l. machine.self_in l.sort l.subject) locals) }
+{
+    let Some(frame) = locals else { return None };
+    match frame.sort {
+        FrameSort::Del | FrameSort::Legacy => Some(Val::Ref(frame.subject)),
+        FrameSort::Callback | FrameSort::Call => None,
+    }
+}
+
+/// The weak reference whose callback runs.
+fn weak_in(locals: Option<Locals>) -> Option<Val>
+    ensures { result ≡ option_map val_of.Ref (option_and_then (λ l. machine.weak_in l.sort l.subject) locals) }
+{
+    let Some(frame) = locals else { return None };
+    match frame.sort {
+        FrameSort::Callback => Some(Val::Ref(frame.subject)),
+        FrameSort::Del | FrameSort::Legacy | FrameSort::Call => None,
+    }
+}
+
+/// A cell of the function whose frame runs.
+fn cell_in<B: Kind>(heap: &Heap<B>, locals: Option<Locals>, i: u8) -> Option<Val>
+    requires { LocalsLive heap.now locals }
+    ensures value { result ≡ option_and_then (λ l. option_and_then
+        (λ f. option_map (λ e. e.val) (slice_get (entries_of heap.now f) i)) l.func) locals }
+    ensures live { IfSome result (λ v. IsLiveValue heap.now v) }
+{
+    heap.sound();
+    let Some(frame) = locals else { return None };
+    let Some(func) = frame.func else { return None };
+    let i = usize::from(i);
+    if i < heap.len(func) {
+        Some(heap.entry_at(func, i).val)
+    } else {
+        None
+    }
+}
+
+/// The object that a value refers to, if it is of the kind.
+pub(crate) fn object<B: Kind>(heap: &Heap<B>, val: Val, wanted: Wanted) -> Result<u64, Refusal>
+    requires { IsLiveValue heap.now val }
+    ensures ok { IfOk result (λ o. RefersTo heap.now (test_of wanted) val o) }
+    ensures err { IfErr result (λ r. HasNoObject heap.now (test_of wanted) (number_of (refusal_of wanted)) val r) }
+{
+    let Val::Ref(object) = val else {
+        return Err(wanted.refusal());
+    };
+    if wanted.admits(heap.kind_of(object), object) {
+        Ok(object)
+    } else {
+        Err(wanted.refusal())
+    }
+}
