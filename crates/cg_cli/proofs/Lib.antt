@@ -1,7 +1,3 @@
-pub mod Ascii
-pub mod Cuts
-pub mod Known
-pub mod Lines
 pub mod Bare
 pub mod Death
 pub mod Moves

@@ -8,7 +8,7 @@ use Rattle.cg_script.specs.declared.Item.TheVariants.{Budget, Class, Def, Run as
 use Rattle.cg_machine.specs.World.{Outcome}
 use Rattle.cg_machine.specs.Run.{StepTaken, IsWholeRun}
 use Rattle.cg_machine.specs.Lines.{text_of}
-use Rattle.cg_cli.specs.Reading.{Reading, reading, spells, faulty}
+use Rattle.cg_script.specs.Reading.{Reading, reading, spells, faulty}
 use Rattle.cg_cli.specs.Headline.{WroteRun}
 use Rattle.cg_cli.specs.declared.status.Status.{Status}
 use Rattle.cg_cli.specs.declared.status.Status.TheVariants.{Done, BadScript, TooLarge, ReadFault, WriteFault, OutOfMemory}

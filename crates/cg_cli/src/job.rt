@@ -5,17 +5,16 @@ ghost use Rattle.std.specs.Io.KnownBytes.{Appends, Keeps, IsAtEnd};
 ghost use Rattle.cg_io.specs.Causes.{AppendsFront, Rose};
 ghost use Rattle.cg_machine.specs.World.{Ended};
 ghost use Rattle.cg_cli.specs.Engine.{IsBuiltItem};
-ghost use Rattle.cg_cli.specs.Reading.{reading};
+ghost use Rattle.cg_script.specs.Reading.{reading};
 ghost use Rattle.cg_cli.specs.Headline.{WroteRun, WrotePart};
 ghost use Rattle.cg_cli.specs.Statuses.{RanWhole, RanBad, WroteFront, Answers, IsCutShort, answer_to_reading, budget_of};
 
 use crate::input::{InputFault, LIMIT, read_all};
-use crate::reader::parse;
 use crate::run::{RunEnd, run_script};
 use crate::status::Status;
 use crate::tell::{tell_bad_script, tell_large};
 use cg_io::{Sink, Source};
-use cg_script::{Script, ScriptFault};
+use cg_script::{Script, ScriptFault, parse};
 use std::alloc::Global;
 
 /// Runs a script that was read.

@@ -6,14 +6,29 @@
 #![tactic(auto)]
 
 mod command;
+mod draft;
 mod fault;
+mod form;
 mod item;
+mod line;
 mod members;
+
+mod part;
+mod pieces;
+mod reader;
+mod said;
+mod table;
+mod word;
 
 pub use command::{Command, Operand};
 pub use fault::ScriptFault;
 pub use item::{ClassDef, Item, Proc, Script};
+pub use reader::parse;
 pub use members::{Commands, Items, Operands};
 
 #[cfg(test)]
 mod tests;
+#[cfg(test)]
+mod reader_tests;
+#[cfg(test)]
+mod whole_tests;

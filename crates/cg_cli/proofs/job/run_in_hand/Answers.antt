@@ -3,7 +3,7 @@ use Rattle.cg_cli.proofs.Built.{built_items}
 use Rattle.cg_cli.proofs.job.run_in_hand.Goals as goal
 
 pub run_parsed-requires-clause-built : goal.run_parsed-requires-clause-built
-run_parsed-requires-clause-built g c = built_items c.args.bytes.now c.in-Ok.script.names c.in-Ok.script.items c.in-Ok.ensures.ok c.in-Ok.ensures.known
+run_parsed-requires-clause-built g c = built_items c.args.bytes.now c.in-Ok.script.names c.in-Ok.script.items c.in-Ok.ensures.ok
 
 pub returns-in-Ok-clause-write : goal.returns-in-Ok-clause-write
 returns-in-Ok-clause-write g c = λ e.

@@ -1,0 +1,36 @@
+-- Printable bytes are text.
+use Rattle.std.proofs.Common.{◌≡◌, ℕ, zero, suc, ◌<◌, List, [], ◌∷◌, Bool, true, false, ◌&&◌, get_or, arith, refl}
+use Rattle.std.specs.List.{list_all}
+use Rattle.std.specs.Str.{IsUtf8}
+use Rattle.std.proofs.lemmas.Str.{IsUtf8-from_ascii}
+use Rattle.std.proofs.lemmas.Bool.Decides.{nat_tests}
+use Rattle.cg_script.specs.Words.{is_printable, is_name_byte, is_identifier}
+
+pub both : (a b : Bool) → (a && b) ≡ true → (a ≡ true) × (b ≡ true)
+both true b e = (refl, e)
+both false b e = absurd (cc)
+
+small : (b : ℕ) → is_printable b ≡ true → b < 128
+small b e = grind (arith, nat_tests)
+
+all_small : (bs : List ℕ) → list_all is_printable bs ≡ true → (i : ℕ) → get_or bs i 0 < 128
+all_small [] e i = omega arith
+all_small (b ∷ bs) e zero = small b (both (is_printable b) _ e).0
+all_small (b ∷ bs) e (suc i) = all_small bs (both (is_printable b) _ e).1 i
+
+pub printable_is_text : (word : List ℕ) → list_all is_printable word ≡ true → IsUtf8 word
+printable_is_text word e = IsUtf8-from_ascii word (all_small word e)
+
+name_byte_is_printable : (b : ℕ) → is_name_byte b ≡ true → is_printable b ≡ true
+name_byte_is_printable b e = grind (arith, nat_tests)
+
+joined : (a b : Bool) → a ≡ true → b ≡ true → (a && b) ≡ true
+joined true b e f = f
+joined false b e f = absurd (cc)
+
+names_are_printable : (bs : List ℕ) → list_all is_name_byte bs ≡ true → list_all is_printable bs ≡ true
+names_are_printable [] e = refl
+names_are_printable (b ∷ bs) e = let h = both (is_name_byte b) _ e in joined (is_printable b) _ (name_byte_is_printable b h.0) (names_are_printable bs h.1)
+
+pub identifier_is_printable : (word : List ℕ) → is_identifier word ≡ true → list_all is_printable word ≡ true
+identifier_is_printable word e = names_are_printable word (both _ (list_all is_name_byte word) e).1

@@ -1,0 +1,49 @@
+-- What a line adds to the items of a draft.
+use Rattle.std.proofs.Common.{◌≡◌, ℕ, List, [], ◌∷◌, ◌++◌, Bool, true, false, Option, Some, None, refl, sym, ap, ◌∙◌, append_assoc, append-nil}
+use Rattle.cg_script.specs.declared.command.Command.{Command}
+use Rattle.cg_script.specs.declared.item.Item.{Item}
+use Rattle.cg_script.specs.declared.item.Item.TheVariants as variants
+use Rattle.cg_script.specs.declared.form.Form.{Form}
+use Rattle.cg_script.specs.declared.form.Form.TheVariants as forms
+use Rattle.cg_script.specs.declared.part.Part.{Part}
+use Rattle.cg_script.specs.declared.part.Said.{Said}
+use Rattle.cg_script.specs.declared.part.Said.TheVariants.{Declares, Begins, Ends, Does}
+use Rattle.cg_script.specs.Commands.{said}
+use Rattle.cg_script.specs.Reading.{items_of, body_of, is_misplaced, inside_after}
+use Rattle.cg_script.specs.Views.{is_placed, inside_behind}
+
+-- one item more
+pub item_more : (items : List Item) (item : Item) (rest : List Item) → (items ++ item ∷ []) ++ rest ≡ items ++ item ∷ rest
+item_more items item rest = append_assoc items (item ∷ []) rest
+
+-- one command more in the body of a procedure
+pub body_more : (items : List Item) (name : ℕ) (body : List Command) (command : Command) (later : List Said)
+    → items ++ variants.Def (record { name = name; body = (body ++ command ∷ []) ++ body_of later }) ∷ items_of true later
+    ≡ items ++ variants.Def (record { name = name; body = body ++ body_of (Does command ∷ later) }) ∷ items_of true (Does command ∷ later)
+body_more items name body command later = ap (λ b. items ++ variants.Def (record { name = name; body = b }) ∷ items_of true later) (append_assoc body (command ∷ []) (body_of later))
+
+-- the procedure is ended
+pub body_ends : (items : List Item) (name : ℕ) (body : List Command) (later : List Said)
+    → (items ++ variants.Def (record { name = name; body = body }) ∷ []) ++ items_of false later
+    ≡ items ++ variants.Def (record { name = name; body = body ++ body_of (Ends ∷ later) }) ∷ items_of true (Ends ∷ later)
+body_ends items name body later =
+    append_assoc items (variants.Def (record { name = name; body = body }) ∷ []) (items_of false later)
+    ∙ ap (λ b. items ++ variants.Def (record { name = name; body = b }) ∷ items_of false later) (sym (append-nil body))
+
+-- what a line of a form says stands where the form may stand
+pub placed : (form : Form) (parts : List Part) (inside : Bool) → is_misplaced form inside ≡ false → is_placed (said form parts) inside ≡ true
+placed forms.Budget parts true e = absurd (cc)
+placed forms.Budget parts false e = refl
+placed forms.Class parts true e = absurd (cc)
+placed forms.Class parts false e = refl
+placed forms.Def parts true e = absurd (cc)
+placed forms.Def parts false e = refl
+placed forms.End parts true e = refl
+placed forms.End parts false e = absurd (cc)
+placed form parts inside e = refl
+
+-- a procedure is open behind what a line says where one is open behind its form
+pub inside_said : (form : Form) (parts : List Part) (inside : Bool) → inside_behind (said form parts) inside ≡ inside_after inside form
+inside_said forms.Def parts inside = refl
+inside_said forms.End parts inside = refl
+inside_said form parts inside = refl

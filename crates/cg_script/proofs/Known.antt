@@ -1,0 +1,256 @@
+-- Each text that a script names is one of its texts.
+use Rattle.std.proofs.Common.{◌≡◌, ℕ, zero, suc, ◌+◌, ◌<◌, ◌≤◌, List, [], ◌∷◌, ◌++◌, length, map, drop, Bool, true, false, cond, if◌then◌else◌, Option, None, Some, refl, sym, ap, subst, ◌∙◌, arith, codes, position}
+use Rattle.std.specs.Prelude.{flat_map, slice_get, slice_index, unwrap_or}
+use Rattle.std.specs.Str.{bytes_eq}
+use Rattle.cg_value.specs.Texts.{place_of, with_text}
+use Rattle.cg_script.specs.declared.command.Operand.{Operand}
+use Rattle.cg_script.specs.declared.command.Operand.TheVariants as operands
+use Rattle.cg_script.specs.declared.form.Form.{Form}
+use Rattle.cg_script.specs.declared.form.Form.TheVariants as forms
+use Rattle.cg_script.specs.declared.form.Sort.{Sort}
+use Rattle.cg_script.specs.declared.form.Sort.TheVariants.{Key, Variable, Name, Class, Proc, Finalizer, Value, Number, Budget, Count, Flag}
+use Rattle.cg_script.specs.declared.part.Part.{Part}
+use Rattle.cg_script.specs.declared.part.Part.TheVariants as parts
+use Rattle.cg_script.specs.declared.part.Said.{Said}
+use Rattle.cg_script.specs.declared.part.Said.TheVariants.{Declares, Begins, Ends, Does}
+use Rattle.cg_script.specs.Texts.{operand_texts, operands_texts, command_texts, item_texts}
+use Rattle.cg_script.specs.Tables.{named}
+use Rattle.cg_script.specs.Words.{begins_name, is_quoted, string_text, number_of, after_prefix, atoms}
+use Rattle.cg_script.specs.Forms.{row, sort_at}
+use Rattle.cg_script.specs.Parts.{with_text_if, text_in, value_text, operand_or, numbered, place_in, finalizer, legacy, legacy_of, finalizer_of, part_of, parts_from, texts_from}
+use Rattle.cg_script.specs.Commands.{text_or, value_or, text_at, value_at, values_from, said}
+use Rattle.cg_script.proofs.Below.{Below, below-append, below_more, place_below, grows_if}
+
+-- a part names texts below a number
+abbrev pub PartBelow : ℕ → Part → Type 0
+PartBelow n (parts.Text k) = k < n
+PartBelow n (parts.Value operand) = Below n (operand_texts operand)
+PartBelow n parts.Bare = Unit {0}
+PartBelow n (parts.Number k) = Unit {0}
+PartBelow n (parts.Count k) = Unit {0}
+PartBelow n (parts.Finalizer k) = Unit {0}
+PartBelow n (parts.Legacy k) = Unit {0}
+PartBelow n parts.Unknown = Unit {0}
+
+abbrev pub EachPart : ℕ → List Part → Type 0
+EachPart n [] = Unit {0}
+EachPart n (p ∷ ps) = PartBelow n p × EachPart n ps
+
+part_more : (n m : ℕ) (p : Part) → n ≤ m → PartBelow n p → PartBelow m p
+part_more n m (parts.Text k) h b = omega arith
+part_more n m (parts.Value operand) h b = below_more n m (operand_texts operand) h b
+part_more n m parts.Bare h b = tt
+part_more n m (parts.Number k) h b = tt
+part_more n m (parts.Count k) h b = tt
+part_more n m (parts.Finalizer k) h b = tt
+part_more n m (parts.Legacy k) h b = tt
+part_more n m parts.Unknown h b = tt
+
+NoTexts : List (List ℕ × Operand) → Type 0
+NoTexts [] = Unit {0}
+NoTexts (row ∷ rows) = (operand_texts row.1 ≡ []) × NoTexts rows
+
+first_without : (b : Bool) (first operand : Operand) (later : Option Operand) → operand_texts first ≡ [] → (later ≡ Some operand → operand_texts operand ≡ [])
+    → (if b then Some first else later) ≡ Some operand → operand_texts operand ≡ []
+first_without true first operand later none rest e = let s : first ≡ operand = cc in ap operand_texts (sym s) ∙ none
+first_without false first operand later none rest e = rest e
+
+named_without : (rows : List (List ℕ × Operand)) (word : List ℕ) (operand : Operand) → NoTexts rows → named rows word ≡ Some operand → operand_texts operand ≡ []
+unfolding NoTexts
+named_without [] word operand none e = absurd (cc)
+named_without (row ∷ rows) word operand none e = first_without (bytes_eq word row.0) row.1 operand (named rows word) none.0 (named_without rows word operand none.1) e
+
+atoms_without : NoTexts atoms
+unfolding NoTexts atoms
+atoms_without = (refl, (refl, (refl, (refl, (refl, (refl, (refl, (refl, (refl, (refl, (refl, (refl, tt))))))))))))
+
+value_below : (texts : List (List ℕ)) (word : List ℕ) (found : Option Operand) → named atoms word ≡ found → Below (length (with_text_if texts (value_text found word))) (operand_texts (operand_or found texts word))
+value_below texts word (Some operand) e = rw (named_without atoms word operand atoms_without e) tt
+value_below texts word None e = by (is_quoted word) (begins_name (slice_index word 0))
+  where
+    by : (q b : Bool) → Below (length (with_text_if texts (if q then Some (string_text word) else if b then Some word else None)))
+        (operand_texts (if q then operands.Str (place_of texts (string_text word)) else if b then operands.Name (place_of texts word) else operands.Int (number_of word)))
+    by true b = (place_below texts (string_text word), tt)
+    by false true = (place_below texts word, tt)
+    by false false = tt
+
+numbered_below : (n : ℕ) (found : Option ℕ) → PartBelow n (numbered found)
+numbered_below n None = tt
+numbered_below n (Some k) = tt
+
+legacy_below : (n : ℕ) (found : Option ℕ) → PartBelow n (legacy found)
+legacy_below n None = tt
+legacy_below n (Some k) = tt
+
+legacy_of_below : (n : ℕ) (procs : List (List ℕ)) (name : Option (List ℕ)) → PartBelow n (legacy_of procs name)
+legacy_of_below n procs None = tt
+legacy_of_below n procs (Some name) = legacy_below n (place_in procs name)
+
+finalizer_below : (n : ℕ) (found : Option ℕ) → PartBelow n (finalizer found)
+finalizer_below n None = tt
+finalizer_below n (Some k) = tt
+
+finalizer_of_below : (n : ℕ) (procs : List (List ℕ)) (name : Option (List ℕ)) (word : List ℕ) → PartBelow n (finalizer_of procs name word)
+finalizer_of_below n procs None word = legacy_of_below n procs (after_prefix (codes "legacy=") word)
+finalizer_of_below n procs (Some name) word = finalizer_below n (place_in procs name)
+
+part_below : (procs classes texts : List (List ℕ)) (sort : Sort) (word : List ℕ) → PartBelow (length (with_text_if texts (text_in sort word))) (part_of procs classes texts sort word)
+part_below procs classes texts Key word = tt
+part_below procs classes texts Variable word = place_below texts word
+part_below procs classes texts Name word = place_below texts word
+part_below procs classes texts Class word = numbered_below _ (place_in classes word)
+part_below procs classes texts Proc word = numbered_below _ (place_in procs word)
+part_below procs classes texts Finalizer word = finalizer_of_below _ procs (after_prefix (codes "del=") word) word
+part_below procs classes texts Value word = value_below texts word (named atoms word) refl
+part_below procs classes texts Number word = tt
+part_below procs classes texts Budget word = tt
+part_below procs classes texts Count word = tt
+part_below procs classes texts Flag word = tt
+
+pub texts_grow : (form : Form) (words texts : List (List ℕ)) (place : ℕ) → length texts ≤ length (texts_from texts form place words)
+texts_grow form [] texts place = omega arith
+texts_grow form (word ∷ words) texts place =
+    let more = with_text_if texts (text_in (sort_at form place) word) in
+    omega (arith, grows_if texts (text_in (sort_at form place) word), texts_grow form words more (place + 1))
+
+pub parts_below : (procs classes : List (List ℕ)) (form : Form) (words texts : List (List ℕ)) (place : ℕ) → EachPart (length (texts_from texts form place words)) (parts_from procs classes texts form place words)
+parts_below procs classes form [] texts place = tt
+parts_below procs classes form (word ∷ words) texts place =
+    let more = with_text_if texts (text_in (sort_at form place) word) in (
+      part_more _ _ (part_of procs classes texts (sort_at form place) word) (texts_grow form words more (place + 1)) (part_below procs classes texts (sort_at form place) word),
+      parts_below procs classes form words more (place + 1),
+    )
+
+pub each_more : (n m : ℕ) (ps : List Part) → n ≤ m → EachPart n ps → EachPart m ps
+each_more n m [] h e = tt
+each_more n m (p ∷ ps) h e = (part_more n m p h e.0, each_more n m ps h e.1)
+
+value_of_below : (n : ℕ) (p : Part) → PartBelow n p → Below n (operand_texts (value_or (Some p)))
+value_of_below n (parts.Value operand) b = b
+value_of_below n (parts.Text k) b = tt
+value_of_below n parts.Bare b = tt
+value_of_below n (parts.Number k) b = tt
+value_of_below n (parts.Count k) b = tt
+value_of_below n (parts.Finalizer k) b = tt
+value_of_below n (parts.Legacy k) b = tt
+value_of_below n parts.Unknown b = tt
+
+value_at_below : (n : ℕ) (ps : List Part) (i : ℕ) → EachPart n ps → Below n (operand_texts (value_at ps i))
+value_at_below n [] i e = tt
+value_at_below n (p ∷ ps) zero e = value_of_below n p e.0
+value_at_below n (p ∷ ps) (suc i) e = value_at_below n ps i e.1
+
+all_values_below : (n : ℕ) (ps : List Part) → EachPart n ps → Below n (operands_texts (map (λ part. value_or (Some part)) ps))
+all_values_below n [] e = tt
+all_values_below n (p ∷ ps) e = below-append n (operand_texts (value_or (Some p))) (operands_texts (map (λ part. value_or (Some part)) ps)) (value_of_below n p e.0) (all_values_below n ps e.1)
+
+drop_each : (n : ℕ) (ps : List Part) (i : ℕ) → EachPart n ps → EachPart n (drop i ps)
+drop_each n ps zero e = e
+drop_each n [] (suc i) e = tt
+drop_each n (p ∷ ps) (suc i) e = drop_each n ps i e.1
+
+values_below : (n : ℕ) (ps : List Part) (i : ℕ) → EachPart n ps → Below n (operands_texts (values_from ps i))
+values_below n ps i e = all_values_below n (drop i ps) (drop_each n ps i e)
+
+-- the places that ask for a text
+abbrev pub is_text : Sort → Bool
+is_text Variable = true
+is_text Name = true
+is_text Key = false
+is_text Class = false
+is_text Proc = false
+is_text Finalizer = false
+is_text Value = false
+is_text Number = false
+is_text Budget = false
+is_text Count = false
+is_text Flag = false
+
+text_part : (procs classes texts : List (List ℕ)) (sort : Sort) (word : List ℕ) → is_text sort ≡ true → text_or (Some (part_of procs classes texts sort word)) < length (with_text_if texts (text_in sort word))
+text_part procs classes texts Variable word e = place_below texts word
+text_part procs classes texts Name word e = place_below texts word
+text_part procs classes texts Key word e = absurd (cc)
+text_part procs classes texts Class word e = absurd (cc)
+text_part procs classes texts Proc word e = absurd (cc)
+text_part procs classes texts Finalizer word e = absurd (cc)
+text_part procs classes texts Value word e = absurd (cc)
+text_part procs classes texts Number word e = absurd (cc)
+text_part procs classes texts Budget word e = absurd (cc)
+text_part procs classes texts Count word e = absurd (cc)
+text_part procs classes texts Flag word e = absurd (cc)
+
+pub text_below : (procs classes : List (List ℕ)) (form : Form) (words texts : List (List ℕ)) (place i : ℕ) → i < length words → is_text (sort_at form (place + i)) ≡ true
+    → text_at (parts_from procs classes texts form place words) i < length (texts_from texts form place words)
+text_below procs classes form [] texts place i h e = absurd (omega arith)
+text_below procs classes form (word ∷ words) texts place zero h e =
+    let more = with_text_if texts (text_in (sort_at form place) word) in
+    let z : place + 0 ≡ place = omega arith in
+    let s : is_text (sort_at form place) ≡ true = ap (λ k. is_text (sort_at form k)) (sym z) ∙ e in
+    let here = text_part procs classes texts (sort_at form place) word s in
+    let there = texts_grow form words more (place + 1) in
+    omega arith
+text_below procs classes form (word ∷ words) texts place (suc i) h e =
+    let more = with_text_if texts (text_in (sort_at form place) word) in
+    let z : place + suc i ≡ (place + 1) + i = omega arith in
+    text_below procs classes form words more (place + 1) i (omega arith) (ap (λ k. is_text (sort_at form k)) (sym z) ∙ e)
+
+-- the texts of what a line says
+abbrev pub said_texts : Said → List ℕ
+said_texts (Declares item) = item_texts item
+said_texts (Begins name) = name ∷ []
+said_texts Ends = []
+said_texts (Does command) = command_texts command
+
+-- what a line of a form says names texts below a number
+module _ (n : ℕ) (ps : List Part) (each : EachPart n ps) where
+  v : (i : ℕ) → Below n (operand_texts (value_at ps i))
+  v i = value_at_below n ps i each
+
+  vv : (i j : ℕ) → Below n (operand_texts (value_at ps i) ++ operand_texts (value_at ps j))
+  vv i j = below-append n (operand_texts (value_at ps i)) (operand_texts (value_at ps j)) (v i) (v j)
+
+  pub said_below : (form : Form) → ((i : ℕ) → i < (row form).fewest → is_text (sort_at form i) ≡ true → text_at ps i < n) → Below n (said_texts (said form ps))
+  said_below forms.MakeList t = (t 0 (omega arith) refl, values_below n ps 3 each)
+  said_below forms.MakeTuple t = (t 0 (omega arith) refl, values_below n ps 3 each)
+  said_below forms.MakeDict t = (t 0 (omega arith) refl, tt)
+  said_below forms.MakeInst t = (t 0 (omega arith) refl, tt)
+  said_below forms.MakeFunc t = (t 0 (omega arith) refl, values_below n ps 4 each)
+  said_below forms.MakeRef t = (t 0 (omega arith) refl, vv 3 4)
+  said_below forms.Bind t = (t 0 (omega arith) refl, v 2)
+  said_below forms.Del t = (t 1 (omega arith) refl, tt)
+  said_below forms.Append t = vv 1 2
+  said_below forms.SetItem t = vv 1 3
+  said_below forms.DelItem t = v 1
+  said_below forms.Put t = below-append n (operand_texts (value_at ps 1) ++ operand_texts (value_at ps 2)) (operand_texts (value_at ps 3)) (vv 1 2) (v 3)
+  said_below forms.Remove t = vv 1 2
+  said_below forms.SetAttr t = below-append n (operand_texts (value_at ps 1)) (text_at ps 2 ∷ operand_texts (value_at ps 3)) (v 1) (t 2 (omega arith) refl, v 3)
+  said_below forms.DelAttr t = below-append n (operand_texts (value_at ps 1)) (text_at ps 2 ∷ []) (v 1) (t 2 (omega arith) refl, tt)
+  said_below forms.Item t = (t 0 (omega arith) refl, v 3)
+  said_below forms.Get t = (t 0 (omega arith) refl, vv 3 4)
+  said_below forms.Attr t = (t 0 (omega arith) refl, below-append n (operand_texts (value_at ps 3)) (text_at ps 4 ∷ []) (v 3) (t 4 (omega arith) refl, tt))
+  said_below forms.Deref t = (t 0 (omega arith) refl, v 3)
+  said_below forms.Call t = v 1
+  said_below forms.Quit t = v 1
+  said_below forms.Collect t = tt
+  said_below forms.Enable t = tt
+  said_below forms.Disable t = tt
+  said_below forms.Threshold t = tt
+  said_below forms.Flags t = tt
+  said_below forms.Freeze t = tt
+  said_below forms.Unfreeze t = tt
+  said_below forms.Print t = v 1
+  said_below forms.Refs t = v 1
+  said_below forms.Tracked t = v 1
+  said_below forms.Finalized t = v 1
+  said_below forms.Count t = tt
+  said_below forms.Gens t = tt
+  said_below forms.Budget t = tt
+  said_below forms.Class t = (t 1 (omega arith) refl, tt)
+  said_below forms.Def t = (t 1 (omega arith) refl, tt)
+  said_below forms.End t = tt
+
+-- as many parts as words
+pub length-parts_from : (procs classes : List (List ℕ)) (form : Form) (words texts : List (List ℕ)) (place : ℕ) → length (parts_from procs classes texts form place words) ≡ length words
+length-parts_from procs classes form [] texts place = refl
+length-parts_from procs classes form (word ∷ words) texts place =
+    let rest = length-parts_from procs classes form words (with_text_if texts (text_in (sort_at form place) word)) (place + 1) in omega arith

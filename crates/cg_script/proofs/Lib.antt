@@ -1,0 +1,11 @@
+pub mod Ascii
+pub mod Cuts
+pub mod Tables
+pub mod Digits
+pub mod Places
+pub mod Grouped
+pub mod Says
+pub mod Lines
+pub mod Below
+pub mod Known
+pub mod Each

@@ -1,0 +1,69 @@
+-- The words of a line that is good by its words alone.
+use Rattle.std.proofs.Common.{◌≡◌, ℕ, ◌≤◌, List, length, Bool, true, false, not, ◌&&◌, ◌||◌, ◌==◌, if◌then◌else◌, Option, Some, None, refl, ap, sym, ◌∙◌, arith, nat_lt, codes}
+use Rattle.std.proofs.lemmas.Bool.Decides.{nat_tests}
+use Rattle.std.specs.List.{list_all}
+use Rattle.cg_script.specs.declared.form.Form.{Form}
+use Rattle.cg_script.specs.declared.form.Grammar.{Grammar}
+use Rattle.cg_script.specs.Pieces.{words_of, word_at, word_is}
+use Rattle.cg_script.specs.Tables.{named}
+use Rattle.cg_script.specs.Words.{is_printable}
+use Rattle.cg_script.specs.Forms.{row, openers, most_read}
+use Rattle.cg_script.specs.Meanings.{Meaning, passed, says, bad, all_fit, repeats_finalizer, formed, formed_if, binding_form, worded, is_passed, meaning}
+
+-- the words fit their places, and their number is one that is read
+pub record Fitting (grammar : Grammar) (form : Form) (words : List (List ℕ)) : Type 0 where
+  pub fit : all_fit form 0 words ≡ true
+  pub enough : (row form).fewest ≤ length words
+  pub few : length words ≤ most_read grammar form
+
+not_bad : (b : Bool) (code : ℕ) (rest : Meaning) (form : Form) (words : List (List ℕ)) → says form words ≡ (if b then bad code else rest) → (b ≡ false) × (says form words ≡ rest)
+not_bad true code rest form words e = absurd (cc)
+not_bad false code rest form words e = (refl, e)
+
+not_passed : (b : Bool) (rest : Meaning) (form : Form) (words : List (List ℕ)) → says form words ≡ (if b then passed else rest) → says form words ≡ rest
+not_passed true rest form words e = absurd (cc)
+not_passed false rest form words e = e
+
+neither : (a b : Bool) → (not a || b) ≡ false → a ≡ true
+neither true b e = refl
+neither false b e = absurd (cc)
+
+enough_words : (n fewest most : ℕ) → (nat_lt n fewest || nat_lt most n) ≡ false → fewest ≤ n
+enough_words n fewest most e = grind (arith, nat_tests)
+
+not_more : (n most : ℕ) → nat_lt most n ≡ false → n ≤ most
+not_more n most e = grind (arith, nat_tests)
+
+fitting_as : (grammar : Grammar) (form other : Form) (words others : List (List ℕ)) → says form words ≡ says other others → Fitting grammar other others → Fitting grammar form words
+fitting_as grammar form other words others e f =
+    let same_form : other ≡ form = cc in
+    let same_words : others ≡ words = cc in
+    record { fit = rw (same_form, same_words) at f.fit; enough = rw (same_form, same_words) at f.enough; few = rw (same_form, same_words) at f.few }
+
+formed_fits : (grammar : Grammar) (other : Form) (others : List (List ℕ)) (form : Form) (words : List (List ℕ)) → says form words ≡ formed grammar other others → Fitting grammar form words
+formed_fits grammar other others form words e =
+    let a = not_bad (most_read grammar other == 0) 2 _ form words e in
+    let b = not_bad (nat_lt (length others) (row other).fewest || nat_lt (row other).most (length others)) 3 _ form words a.1 in
+    let c = not_bad (nat_lt (most_read grammar other) (length others)) 2 _ form words b.1 in
+    let d = not_bad (not (all_fit other 0 others) || repeats_finalizer other others) 4 _ form words c.1 in
+    fitting_as grammar form other words others d.1 (record { fit = neither _ _ d.0; enough = enough_words _ _ _ b.0; few = not_more _ _ c.0 })
+
+opened_fits : (grammar : Grammar) (found : Option Form) (others : List (List ℕ)) (form : Form) (words : List (List ℕ)) → says form words ≡ formed_if grammar found others → Fitting grammar form words
+opened_fits grammar None others form words e = absurd (cc)
+opened_fits grammar (Some other) others form words e = formed_fits grammar other others form words e
+
+worded_fits : (grammar : Grammar) (others : List (List ℕ)) (form : Form) (words : List (List ℕ)) → says form words ≡ worded grammar others → Fitting grammar form words
+worded_fits grammar others form words e = by (not (word_is others 1 (codes "="))) e
+  where
+    by : (b : Bool)
+        → says form words ≡ (if b then formed_if grammar (named openers (word_at others 0)) others else if length others == 2 then bad 3 else formed grammar (binding_form others) others)
+        → Fitting grammar form words
+    by true e = opened_fits grammar (named openers (word_at others 0)) others form words e
+    by false e = formed_fits grammar (binding_form others) others form words (not_bad (length others == 2) 3 _ form words e).1
+
+pub says_fits : (grammar : Grammar) (number : ℕ) (line : List ℕ) (form : Form) (words : List (List ℕ)) → says form words ≡ meaning grammar number line → Fitting grammar form words
+unfolding meaning
+says_fits grammar number line form words e =
+    let a = not_bad (not (list_all is_printable line)) 1 _ form words e in
+    let b = not_bad (nat_lt 1024 (length line) || nat_lt 64 (length (words_of line)) || (number == 400001)) 5 _ form words a.1 in
+    worded_fits grammar (words_of line) form words (not_passed (is_passed (words_of line)) _ form words b.1)

@@ -1,0 +1,211 @@
+//! A script that is being read.
+ghost use Rattle.std.specs.Prelude.{◌≡◌, ◌+◌, ◌-◌, ◌^◌, ◌<◌, ◌≤◌, List, [], ◌∷◌, true, false, length, map, IfOk, OnOk, is_some, Ok, None};
+ghost use Rattle.cg_script.specs.declared.part.Said.{Said as AnySaid};
+ghost use Rattle.cg_script.specs.declared.part.Said.TheVariants.{Does, Ends};
+ghost use Rattle.cg_script.specs.Forms.{row};
+ghost use Rattle.cg_script.specs.Meanings.{all_fit};
+ghost use Rattle.cg_script.specs.Reading.{nothing_known, is_misplaced, is_repeated, fault_in, procs_after, classes_after, budget_after, inside_after};
+ghost use Rattle.cg_script.specs.Views.{known_of, grouped, is_placed, inside_behind, Takes};
+
+use crate::command::Command;
+use crate::form::Form;
+use crate::item::{Item, Proc};
+use crate::members::Commands;
+use crate::part::{Said, names_unknown, read_parts};
+use crate::said::said_of;
+use crate::table::Table;
+use crate::word::text_of_identifier;
+use cg_value::Names;
+use std::alloc::{AllocError, Global};
+
+/// A procedure that is begun.
+#[derive(Drop)]
+pub(crate) struct Begun {
+    pub name: u32,
+    pub body: Vec<Command>,
+}
+
+/// What the lines so far say.
+#[derive(Drop)]
+pub(crate) struct Draft {
+    pub alloc: Global,
+    pub names: Names,
+    pub procs: Table,
+    pub classes: Table,
+    pub budget: bool,
+    pub items: Vec<Item>,
+    pub begun: Option<Begun>,
+}
+
+/// No line yet.
+pub(crate) fn empty(alloc: Global) -> Draft
+    ensures known { known_of result ≡ nothing_known }
+    ensures items { result.items.items ≡ [] }
+    ensures begun { result.begun ≡ None }
+{
+    Draft {
+        alloc,
+        names: Names::new(alloc),
+        procs: Table::new(alloc),
+        classes: Table::new(alloc),
+        budget: false,
+        items: Vec::new(alloc),
+        begun: None,
+    }
+}
+
+/// Whether a declaration stands inside a procedure, or `end` outside one.
+fn stands_wrong(form: Form, inside: bool) -> bool
+    ensures { result ≡ is_misplaced form inside }
+{
+    match form {
+        Form::End => !inside,
+        Form::Def | Form::Class | Form::Budget => inside,
+        _ => false,
+    }
+}
+
+/// Whether a procedure or class is defined already, or a budget set.
+fn defines_again(draft: &Draft, form: Form, words: &[&[u8]]) -> bool
+    requires fit { all_fit form 0 (map (λ w. w.now) words.now) ≡ true }
+    requires enough { (row form).fewest ≤ length words.now }
+    ensures { result ≡ is_repeated (known_of draft.now) form (map (λ w. w.now) words.now) }
+{
+    match form {
+        Form::Def => draft.procs.has(text_of_identifier(words[1])),
+        Form::Class => draft.classes.has(text_of_identifier(words[1])),
+        Form::Budget => draft.budget,
+        _ => false,
+    }
+}
+
+/// What the line defines is known from now on.
+fn define(draft: &mut Draft, form: Form, words: &[&[u8]]) -> Result<(), AllocError>
+    requires fit { all_fit form 0 (map (λ w. w.now) words.now) ≡ true }
+    requires enough { (row form).fewest ≤ length words.now }
+    requires procs { length draft.old.procs < 2 ^ 32 - 1 }
+    requires classes { length draft.old.classes < 2 ^ 32 - 1 }
+    ensures procs { OnOk result (draft.new.procs ≡ procs_after draft.old.procs form (map (λ w. w.now) words.now)) }
+    ensures classes { OnOk result (draft.new.classes ≡ classes_after draft.old.classes form (map (λ w. w.now) words.now)) }
+    ensures budget { OnOk result (draft.new.budget ≡ budget_after draft.old.budget form) }
+    ensures names { OnOk result (draft.new.names ≡ draft.old.names) }
+    ensures items { OnOk result (draft.new.items ≡ draft.old.items) }
+    ensures begun { OnOk result (draft.new.begun ≡ draft.old.begun) }
+{
+    match form {
+        Form::Def => draft.procs.add(text_of_identifier(words[1])),
+        Form::Class => draft.classes.add(text_of_identifier(words[1])),
+        Form::Budget => {
+            draft.budget = true;
+            Ok(())
+        }
+        _ => Ok(()),
+    }
+}
+
+/// A command goes to the procedure that is begun, or else to the items.
+fn push_command(
+    items: &mut Vec<Item>,
+    begun: &mut Option<Begun>,
+    command: Command,
+) -> Result<(), AllocError>
+    ensures grouped { OnOk result ((later : List AnySaid) → grouped items.new.items begun.new later ≡ grouped items.old.items begun.old (Does command ∷ later)) }
+    ensures inside { is_some begun.new ≡ is_some begun.old }
+    ensures few { length items.new.items ≤ length items.old.items + 1 }
+{
+    match begun {
+        Some(procedure) => procedure.body.push(command)?,
+        None => items.push(Item::Run(command))?,
+    }
+    Ok(())
+}
+
+/// The procedure that is begun goes to the items.
+fn close(items: &mut Vec<Item>, begun: &mut Option<Begun>) -> Result<(), AllocError>
+    requires { is_some begun.old ≡ true }
+    ensures grouped { OnOk result ((later : List AnySaid) → grouped items.new.items begun.new later ≡ grouped items.old.items begun.old (Ends ∷ later)) }
+    ensures outside { OnOk result (begun.new ≡ None) }
+    ensures few { length items.new.items ≤ length items.old.items + 1 }
+{
+    match begun.take() {
+        Some(procedure) => {
+            items.push(Item::Def(Proc {
+                name: procedure.name,
+                body: Commands::new(procedure.body),
+            }))?;
+            Ok(())
+        }
+        None => unreachable!(),
+    }
+}
+
+/// What a line says goes to the items, or to the procedure that is begun.
+fn push(
+    alloc: Global,
+    items: &mut Vec<Item>,
+    begun: &mut Option<Begun>,
+    what: Said,
+) -> Result<(), AllocError>
+    requires { is_placed what (is_some begun.old) ≡ true }
+    ensures grouped { OnOk result ((later : List AnySaid) → grouped items.new.items begun.new later ≡ grouped items.old.items begun.old (what ∷ later)) }
+    ensures inside { OnOk result (is_some begun.new ≡ inside_behind what (is_some begun.old)) }
+    ensures few { length items.new.items ≤ length items.old.items + 1 }
+{
+    match what {
+        Said::Declares(item) => {
+            items.push(item)?;
+            Ok(())
+        }
+        Said::Begins(name) => {
+            *begun = Some(Begun {
+                name,
+                body: Vec::new(alloc),
+            });
+            Ok(())
+        }
+        Said::Ends => close(items, begun),
+        Said::Does(command) => push_command(items, begun, command),
+    }
+}
+
+/// A declaration in the wrong place.
+const WRONG_PLACE: u8 = 7;
+
+/// A second definition.
+const DEFINED_TWICE: u8 = 8;
+
+/// A procedure or class that no earlier line defines.
+const NOT_DEFINED: u8 = 6;
+
+/// Takes words of a form, or answers the code of what is wrong with them.
+pub(crate) fn take_words(
+    draft: &mut Draft,
+    form: Form,
+    words: &[&[u8]],
+) -> Result<Option<u8>, AllocError>
+    requires fit { all_fit form 0 (map (λ w. w.now) words.now) ≡ true }
+    requires enough { (row form).fewest ≤ length words.now }
+    requires few { length words.now ≤ 64 }
+    requires names { length draft.old.names + 64 < 2 ^ 32 - 1 }
+    requires procs { length draft.old.procs < 2 ^ 32 - 1 }
+    requires classes { length draft.old.classes < 2 ^ 32 - 1 }
+    ensures fault { IfOk result (λ code. code ≡ fault_in (known_of draft.old) form (map (λ w. w.now) words.now)) }
+    ensures takes { result ≡ Ok None → Takes draft.old form (map (λ w. w.now) words.now) draft.new }
+    ensures few_names { result ≡ Ok None → length draft.new.names ≤ length draft.old.names + 64 }
+    ensures few_items { result ≡ Ok None → length draft.new.items.items ≤ length draft.old.items.items + 1 }
+{
+    if stands_wrong(form, draft.begun.is_some()) {
+        return Ok(Some(WRONG_PLACE));
+    }
+    if defines_again(draft, form, words) {
+        return Ok(Some(DEFINED_TWICE));
+    }
+    let parts = read_parts(form, words, &mut draft.names, &draft.procs, &draft.classes)?;
+    if names_unknown(&parts) {
+        return Ok(Some(NOT_DEFINED));
+    }
+    let what = said_of(draft.alloc, form, &parts)?;
+    define(draft, form, words)?;
+    push(draft.alloc, &mut draft.items, &mut draft.begun, what)?;
+    Ok(None)
+}

@@ -1,0 +1,170 @@
+//! What a line means by its words alone.
+ghost use Rattle.std.specs.Prelude.{◌≡◌, ◌<◌, ◌≤◌, ◌+◌, length, map, codes, drop, true};
+ghost use Rattle.cg_script.specs.Pieces.{word_is, word_at};
+ghost use Rattle.cg_script.specs.Meanings.{fits, all_fit, repeats_finalizer, formed, binding_form, worded, is_passed, meaning};
+ghost use Rattle.cg_script.specs.Views.{meaning_of};
+
+use crate::form::{Form, Grammar, Sort, binding_named, most_read, opener_named, row_for, sort_at};
+use crate::pieces::{Words, words};
+use crate::word::{flag, is_count_word, is_identifier_word, is_number_word, is_printable_text, is_value_word, is_variable_word, names_finalizer_word, names_legacy_word};
+
+/// What a line means.
+pub(crate) enum Line<'a> {
+    /// Nothing: it is passed over.
+    Passed,
+    /// Words of a form.
+    Says(Form, Words<'a>),
+    /// Nothing that is read: the code of what is wrong with it.
+    Bad(u8),
+}
+
+/// The number of the first line past the most that a script may have.
+const FIRST_LINE_TOO_MANY: u32 = 400_001;
+
+const MOST_LINE_BYTES: usize = 1024;
+
+// What is wrong with a bad line.
+const NOT_PRINTABLE: u8 = 1;
+
+const UNKNOWN_FORM: u8 = 2;
+
+const WORD_COUNT: u8 = 3;
+
+const WORD_FORM: u8 = 4;
+
+const TOO_LONG: u8 = 5;
+
+const MOST_BUDGET: u32 = 100_000;
+
+const MOST_COUNT: u32 = 2_147_483_647;
+
+/// Whether a word has the form that its place asks for.
+fn fits_place(sort: Sort, word: &[u8]) -> bool
+    ensures { result ≡ fits sort word.now }
+{
+    match sort {
+        Sort::Key => true,
+        Sort::Variable => is_variable_word(word),
+        Sort::Name | Sort::Class | Sort::Proc => is_identifier_word(word),
+        Sort::Finalizer => names_finalizer_word(word) || names_legacy_word(word),
+        Sort::Value => is_value_word(word),
+        Sort::Number => is_number_word(word),
+        Sort::Budget => is_count_word(word, MOST_BUDGET),
+        Sort::Count => is_count_word(word, MOST_COUNT),
+        Sort::Flag => flag(word).is_some(),
+    }
+}
+
+/// Whether all words have the forms that their places ask for.
+fn all_words_fit(form: Form, words: &[&[u8]]) -> bool
+    ensures { result ≡ all_fit form 0 (map (λ w. w.now) words.now) }
+{
+    'places: for place in 0..words.len() {
+        if !fits_place(sort_at(form, place), words[place]) {
+            return false;
+        }
+    }
+    true
+}
+
+/// Whether the word at this place is this text.
+fn has_word(words: &[&[u8]], place: usize, text: &[u8]) -> bool
+    requires { place < length words.now }
+    ensures { result ≡ word_is (map (λ w. w.now) words.now) place text.now }
+{
+    words[place] == text
+}
+
+/// Whether a class has two finalizers, or two legacy finalizers.
+fn has_two_alike(form: Form, words: &[&[u8]]) -> bool
+    ensures { result ≡ repeats_finalizer form (map (λ w. w.now) words.now) }
+{
+    match form {
+        Form::Class => words.len() == 4
+            && ((names_finalizer_word(words[2]) && names_finalizer_word(words[3]))
+                || (names_legacy_word(words[2]) && names_legacy_word(words[3]))),
+        _ => false,
+    }
+}
+
+/// The words of a line of this form.
+fn formed_line<'a>(grammar: Grammar, form: Form, words: Words<'a>) -> Line<'a>
+    ensures { meaning_of result ≡ formed grammar form (map (λ w. w.now) words.entry.items) }
+{
+    let row = row_for(form);
+    let read = most_read(grammar, form);
+    if read == 0 {
+        return Line::Bad(UNKNOWN_FORM);
+    }
+    if words.len() < row.fewest || row.most < words.len() {
+        return Line::Bad(WORD_COUNT);
+    }
+    if read < words.len() {
+        return Line::Bad(UNKNOWN_FORM);
+    }
+    if !all_words_fit(form, &words) || has_two_alike(form, &words) {
+        return Line::Bad(WORD_FORM);
+    }
+    Line::Says(form, words)
+}
+
+/// The form of a line `x = ..` with a third word.
+fn form_of_binding(words: &[&[u8]]) -> Form
+    requires { 3 ≤ length words.now }
+    ensures { result ≡ binding_form (map (λ w. w.now) words.now) }
+{
+    if has_word(words, 2, b"ref") && words.len() == 3 {
+        return Form::Bind;
+    }
+    match binding_named(words[2]) {
+        Some(form) => form,
+        None => Form::Bind,
+    }
+}
+
+/// A line of these words, which is not passed over.
+fn line_of_words<'a>(grammar: Grammar, words: Words<'a>) -> Line<'a>
+    requires { 1 ≤ length words.items }
+    ensures { meaning_of result ≡ worded grammar (map (λ w. w.now) words.entry.items) }
+{
+    if words.len() >= 2 && has_word(&words, 1, b"=") {
+        if words.len() == 2 {
+            return Line::Bad(WORD_COUNT);
+        }
+        return formed_line(grammar, form_of_binding(&words), words);
+    }
+    match opener_named(words[0]) {
+        Some(form) => formed_line(grammar, form, words),
+        None => Line::Bad(UNKNOWN_FORM),
+    }
+}
+
+/// Whether a line of these words is passed over: it has none, or it is a comment.
+fn is_passed_over(words: &[&[u8]]) -> bool
+    ensures { result ≡ is_passed (map (λ w. w.now) words.now) }
+{
+    match words.first() {
+        None => true,
+        Some(word) => word.first() == Some(&b'#'),
+    }
+}
+
+/// What the line of this number means.
+#[tactic(auto, unfolding(crate::specs::Meanings::meaning))]
+pub(crate) fn read_line(grammar: Grammar, number: u32, line: &[u8]) -> Line<'_>
+    ensures { meaning_of result ≡ meaning grammar number line.now }
+{
+    if !is_printable_text(line) {
+        return Line::Bad(NOT_PRINTABLE);
+    }
+    if line.len() > MOST_LINE_BYTES || number == FIRST_LINE_TOO_MANY {
+        return Line::Bad(TOO_LONG);
+    }
+    let Some(words) = words(line) else {
+        return Line::Bad(TOO_LONG);
+    };
+    if is_passed_over(&words) {
+        return Line::Passed;
+    }
+    line_of_words(grammar, words)
+}

@@ -1,0 +1,51 @@
+//! Bytes between separators.
+ghost use Rattle.std.specs.Prelude.{◌≡◌, ◌<◌, ◌∷◌, ◌==◌, length, map, position, MatchOption};
+ghost use Rattle.cg_script.specs.Pieces.{pieces, words_of};
+
+use arrayvec::ArrayVec;
+
+/// The most words that a line may have.
+pub(crate) const MOST_WORDS: usize = 64;
+
+/// The words of a line, each a part of it.
+pub(crate) type Words<'a> = ArrayVec<&'a [u8], MOST_WORDS>;
+
+/// The first place of a byte.
+fn place_of_byte(bytes: &[u8], byte: u8) -> Option<usize>
+    ensures place { result ≡ position (λ b. b == byte) bytes.now }
+{
+    bytes.iter().position(|b| *b == byte)
+}
+
+/// The first piece, and what follows its separator.
+#[tactic(auto, using(crate::proofs::Cuts::cut_at, crate::proofs::Cuts::cut_none))]
+pub(crate) fn cut(bytes: &[u8], separator: u8) -> (&[u8], &[u8])
+    requires { 0 < length bytes.now }
+    ensures pieces { pieces separator bytes.now ≡ result.0.now ∷ pieces separator result.1.now }
+    ensures shorter { length result.1.now < length bytes.now }
+{
+    match place_of_byte(bytes, separator) {
+        Some(i) => (&bytes[..i], &bytes[i + 1..]),
+        None => (bytes, &bytes[bytes.len()..]),
+    }
+}
+
+/// The words of a line in order, unless there are too many.
+pub(crate) fn words(line: &[u8]) -> Option<Words<'_>>
+    ensures { MatchOption result (MOST_WORDS < length (words_of line.now))
+        (λ words. map (λ w. w.now) words.items ≡ words_of line.now) }
+{
+    let mut words = ArrayVec::new();
+    let mut rest = line;
+    'pieces: while !rest.is_empty() {
+        let (word, after) = cut(rest, b' ');
+        if !word.is_empty() {
+            if words.is_full() {
+                return None;
+            }
+            words.push(word);
+        }
+        rest = after;
+    }
+    Some(words)
+}

@@ -1,0 +1,124 @@
+//! A whole script, line by line.
+ghost use Rattle.std.specs.Prelude.{◌≡◌, ◌+◌, ◌<◌, ◌≤◌, [], ◌∷◌, ℕ, List, length, IfOk, IfErr, OnOk, OnErr};
+ghost use Rattle.cg_script.specs.Texts.{TextsAreKnown};
+ghost use Rattle.cg_script.specs.Pieces.{lines_of};
+ghost use Rattle.cg_script.specs.Reading.{reading, reading_by, spells};
+ghost use Rattle.cg_script.specs.declared.form.Grammar.{Grammar as AnyGrammar};
+ghost use Rattle.cg_script.specs.Views.{reading_after, IsSmall};
+ghost use Rattle.cg_script.specs.Faults.{IsFault};
+
+use crate::draft::{Draft, empty, take_words};
+use crate::fault::ScriptFault;
+use crate::form::Grammar;
+use crate::item::Script;
+use crate::line::{Line, read_line};
+use crate::members::Items;
+use crate::pieces::cut;
+use std::alloc::Global;
+
+/// A procedure that is begun and not ended.
+const NO_END: u8 = 7;
+
+/// Takes the line of this number.
+fn take_line(
+    draft: &mut Draft,
+    grammar: Grammar,
+    number: u32,
+    line: &[u8],
+) -> Result<(), ScriptFault>
+    requires { IsSmall draft.old number }
+    ensures ok { OnOk result ((lines : List (List ℕ)) → reading_after grammar draft.new (number + 1) lines ≡ reading_after grammar draft.old number (line.now ∷ lines)) }
+    ensures small { OnOk result (IsSmall draft.new (number + 1)) }
+    ensures fault { IfErr result (λ fault. (lines : List (List ℕ)) → IsFault fault (reading_after grammar draft.old number (line.now ∷ lines))) }
+{
+    match read_line(grammar, number, line) {
+        Line::Passed => Ok(()),
+        Line::Bad(code) => Err(ScriptFault::Bad { line: number, code }),
+        Line::Says(form, words) => match take_words(draft, form, &words) {
+            Ok(None) => Ok(()),
+            Ok(Some(code)) => Err(ScriptFault::Bad { line: number, code }),
+            Err(_) => Err(ScriptFault::OutOfMemory),
+        },
+    }
+}
+
+/// Takes all lines, and answers the number that the line behind them would have.
+fn take_lines(draft: &mut Draft, grammar: Grammar, bytes: &[u8]) -> Result<u32, ScriptFault>
+    requires { IsSmall draft.old 1 }
+    ensures ok { IfOk result (λ number. reading_after grammar draft.new number [] ≡ reading_after grammar draft.old 1 (lines_of bytes.now)) }
+    ensures small { IfOk result (λ number. IsSmall draft.new number) }
+    ensures fault { IfErr result (λ fault. IsFault fault (reading_after grammar draft.old 1 (lines_of bytes.now))) }
+{
+    let mut number: u32 = 1;
+    let mut rest = bytes;
+    'lines: while !rest.is_empty() {
+        let (line, after) = cut(rest, b'\n');
+        match take_line(draft, grammar, number, line) {
+            Ok(()) => {
+                number += 1;
+                rest = after;
+            }
+            Err(fault) => return Err(fault),
+        }
+    }
+    Ok(number)
+}
+
+/// The script, unless a procedure is not ended.
+fn finish(draft: Draft, number: u32) -> Result<Script, ScriptFault>
+    requires { IsSmall draft number }
+    ensures ok { IfOk result (λ script. (grammar : AnyGrammar) → reading_after grammar draft number [] ≡ spells script.names script.items) }
+    ensures fault { IfErr result (λ fault. (grammar : AnyGrammar) → IsFault fault (reading_after grammar draft number [])) }
+    ensures few_texts { IfOk result (λ script. length script.names ≤ 25600000) }
+    ensures few_items { IfOk result (λ script. length script.items ≤ 400000) }
+{
+    if draft.begun.is_some() {
+        return Err(ScriptFault::Bad {
+            line: number,
+            code: NO_END,
+        });
+    }
+    Ok(Script {
+        names: draft.names,
+        items: Items::new(draft.items),
+    })
+}
+
+/// The script that the bytes spell by one of the grammars.
+pub(crate) fn parse_by(
+    alloc: Global,
+    grammar: Grammar,
+    bytes: &[u8],
+) -> Result<Script, ScriptFault>
+    ensures ok { IfOk result (λ script. reading_by grammar bytes.now ≡ spells script.names script.items) }
+    ensures fault { IfErr result (λ fault. IsFault fault (reading_by grammar bytes.now)) }
+    ensures known { IfOk result TextsAreKnown }
+    ensures few_texts { IfOk result (λ script. length script.names ≤ 25600000) }
+    ensures few_items { IfOk result (λ script. length script.items ≤ 400000) }
+{
+    let mut draft = empty(alloc);
+    match take_lines(&mut draft, grammar, bytes) {
+        Ok(number) => finish(draft, number),
+        Err(fault) => Err(fault),
+    }
+}
+
+/// The script that the bytes spell. Lines end with line feeds, and are counted from 1.
+///
+/// `Bad` has the first bad line and its code: 1 where the line has a byte that is not printable ASCII, 5 where it is longer
+/// than 1,024 bytes, has more than 64 words or the number 400,001, 2 where its form is unknown or not built, 3 where the
+/// number of its words is wrong, 4 where a word has not the form that its place asks, 7 where a declaration stands in the
+/// wrong place or a procedure is open at the end, 8 where a procedure, a class or the budget is there already, 6 where no
+/// earlier line defines a procedure or class. `OutOfMemory` may come for any bytes. (Ours.)
+pub fn parse(alloc: Global, bytes: &[u8]) -> Result<Script, ScriptFault>
+    // The script is exactly the one that the bytes spell, and the fault is that of their first bad line.
+    ensures ok { IfOk result (λ script. reading bytes.now ≡ spells script.names script.items) }
+    ensures fault { IfErr result (λ fault. IsFault fault (reading bytes.now)) }
+
+    // What the layers above rest on.
+    ensures known { IfOk result TextsAreKnown }
+    ensures few_texts { IfOk result (λ script. length script.names ≤ 25600000) }
+    ensures few_items { IfOk result (λ script. length script.items ≤ 400000) }
+{
+    parse_by(alloc, Grammar::Built, bytes)
+}

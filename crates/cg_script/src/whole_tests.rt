@@ -1,0 +1,349 @@
+//! Reading by the whole grammar.
+use crate::form::Grammar;
+use crate::reader::parse_by;
+use crate::{Command, Item, Operand, Script, ScriptFault};
+use std::alloc::{AllocError, Global};
+use std::test::Fail;
+
+/// Whether the bytes spell a script, or else the number and the code of their first bad line.
+fn told(alloc: Global, bytes: &[u8]) -> Result<String, AllocError> {
+    match parse_by(alloc, Grammar::Whole, bytes) {
+        Ok(_) => String::from_str(alloc, "good"),
+        Err(ScriptFault::Bad { line, code }) => format!(in alloc; "bad {line} {code}"),
+        Err(ScriptFault::OutOfMemory) => Err(AllocError),
+    }
+}
+
+#[test]
+fn worked_scripts(rt: HostRuntime) -> Result<(), Fail> {
+    for (script, want) in [
+        ("", "good"),
+        ("a = list\nappend a a\ndel a\ncollect 2", "good"),
+        (
+            "def d\nx = self\nend\nclass C del=d\na = new C\nsetattr a me a\ndel a\ncollect 2\ndel x\ncollect 2",
+            "good",
+        ),
+        (
+            "budget 1\ndef d\nend\nclass C del=d\na = new C\ndel a\nb = new C\ndel b",
+            "good",
+        ),
+        ("a = list\nb = list\ndel a\nappend a", "bad 4 3"),
+        ("def p\nprint 1", "bad 3 7"),
+        (
+            "class C\na = list 1\nx = item a 1\nappend 3 a\nput a 1 2\ncollect 7\nx = deref a\ncall a\nd = dict\nput d a 1\nx = get d 5\no = new C\nx = attr o n\nappend garbage 1\ndel x",
+            "good",
+        ),
+        // A procedure is defined inside its own body.
+        ("def p\nf = func p\nend", "good"),
+        ("def p\nclass C\nend", "bad 2 7"),
+        ("def p\n\n# end\nend", "good"),
+    ] {
+        assert_eq!(rt;
+            told(rt.alloc(), script.as_bytes())?.as_str(),
+            want,
+            "at {script:?}"
+        );
+    }
+    Ok(())
+}
+
+#[test]
+fn words(rt: HostRuntime) -> Result<(), Fail> {
+    for (line, want) in [
+        // Numbers.
+        ("x = -0", "good"),
+        ("x = 007", "good"),
+        ("x = 9223372036854775807", "good"),
+        ("x = 9223372036854775808", "bad 1 4"),
+        ("x = -9223372036854775808", "good"),
+        ("x = -9223372036854775809", "bad 1 4"),
+        ("x = 0000000000000000001", "good"),
+        ("x = 00000000000000000001", "bad 1 4"),
+        ("x = -", "bad 1 4"),
+        ("x = --1", "bad 1 4"),
+        ("x = +1", "bad 1 4"),
+        ("x = 1a", "bad 1 4"),
+        // Identifiers.
+        ("x = a234567890123456789012345678901_", "good"),
+        ("x = a234567890123456789012345678901_2", "bad 1 4"),
+        ("x = a-b", "bad 1 4"),
+        ("x = c7", "good"),
+        ("x = c8", "good"),
+        ("x = listen", "good"),
+        ("x = del", "bad 1 4"),
+        ("c0 = 1", "bad 1 4"),
+        ("self = 1", "bad 1 4"),
+        // Strings.
+        ("x = '", "good"),
+        ("x = '#'~", "good"),
+        ("x = 'a b", "bad 1 3"),
+        // Counts.
+        ("budget 100000", "good"),
+        ("budget 0000100000", "good"),
+        ("budget 00000100000", "bad 1 4"),
+        ("budget 100001", "bad 1 4"),
+        ("budget -1", "bad 1 4"),
+        ("threshold 2147483647 0", "good"),
+        ("threshold 2147483648", "bad 1 4"),
+        ("threshold 1 2 x", "bad 1 4"),
+        // Flags.
+        ("debug", "good"),
+        ("debug leak stats leak saveall leak", "good"),
+        ("debug leak stats leak saveall leak leak", "bad 1 3"),
+        ("debug Leak", "bad 1 4"),
+        // Names of procedures, classes and attributes may be reserved words.
+        ("class end\nx = new end", "good"),
+        ("setattr x list 1", "good"),
+        ("setattr x 9 1", "bad 1 4"),
+        ("delattr x", "bad 1 3"),
+    ] {
+        assert_eq!(rt;
+            told(rt.alloc(), line.as_bytes())?.as_str(),
+            want,
+            "at {line:?}"
+        );
+    }
+    Ok(())
+}
+
+#[test]
+fn bad_lines_by_their_first_code(rt: HostRuntime) -> Result<(), Fail> {
+    for (script, want) in [
+        // 1 before 5, 5 before 2.
+        ("nonsense\t", "bad 1 1"),
+        // 2 before all else.
+        ("nonsense", "bad 1 2"),
+        ("x", "bad 1 2"),
+        ("def p\nnonsense", "bad 2 2"),
+        // 3 before 4.
+        ("x =", "bad 1 3"),
+        ("9 =", "bad 1 3"),
+        ("9 = 1 2", "bad 1 3"),
+        ("9 = tuple", "bad 1 3"),
+        ("x = tuple", "bad 1 3"),
+        ("x = dict 1", "bad 1 3"),
+        ("x = new", "bad 1 3"),
+        ("x = ref", "good"),
+        ("x = ref y f g", "bad 1 3"),
+        ("x = item a", "bad 1 3"),
+        ("append 9a", "bad 1 3"),
+        ("collect 1 2", "bad 1 3"),
+        ("enable 1", "bad 1 3"),
+        ("threshold", "bad 1 3"),
+        ("threshold 1 2 3 4", "bad 1 3"),
+        ("end end", "bad 1 3"),
+        ("def", "bad 1 3"),
+        ("class", "bad 1 3"),
+        ("class C del=p legacy=p del=p", "bad 1 3"),
+        ("budget", "bad 1 3"),
+        // 3 before 7.
+        ("def p\ndef", "bad 2 3"),
+        ("end 1", "bad 1 3"),
+        // 4 before 7, 8 and 6.
+        ("9 = list", "bad 1 4"),
+        ("del 9", "bad 1 4"),
+        ("item = list", "bad 1 4"),
+        ("append a 9a", "bad 1 4"),
+        ("setitem a b 1", "bad 1 4"),
+        ("collect x", "bad 1 4"),
+        ("def p\ndef 9", "bad 2 4"),
+        ("budget 1\nbudget x", "bad 2 4"),
+        ("class C\nclass 9", "bad 2 4"),
+        ("x = new 9", "bad 1 4"),
+        ("9 = new C", "bad 1 4"),
+        ("class C del", "bad 1 4"),
+        ("class C del=", "bad 1 4"),
+        ("class C del=9", "bad 1 4"),
+        ("class C legacy=", "bad 1 4"),
+        ("class C dell=p", "bad 1 4"),
+        ("class C del=p del=p", "bad 1 4"),
+        ("class C legacy=p legacy=p", "bad 1 4"),
+        // 7 before 8 and 6.
+        ("end", "bad 1 7"),
+        ("def p\ndef q", "bad 2 7"),
+        ("def p\ndef p", "bad 2 7"),
+        ("def p\nbudget 1", "bad 2 7"),
+        ("budget 1\ndef p\nbudget 1", "bad 3 7"),
+        ("class C\ndef p\nclass C", "bad 3 7"),
+        ("def p\nclass C del=q", "bad 2 7"),
+        ("def p", "bad 2 7"),
+        ("def p\n", "bad 2 7"),
+        ("def p\n\n", "bad 3 7"),
+        ("def p\nend\nend", "bad 3 7"),
+        // 8 before 6.
+        ("budget 1\nbudget 2", "bad 2 8"),
+        ("def p\nend\ndef p\nend", "bad 3 8"),
+        ("class C\nclass C", "bad 2 8"),
+        ("class C\nclass C del=q", "bad 2 8"),
+        // 6.
+        ("x = new C", "bad 1 6"),
+        ("x = new C\nclass C", "bad 1 6"),
+        ("f = func p", "bad 1 6"),
+        ("f = func p\ndef p\nend", "bad 1 6"),
+        ("class p\nf = func p", "bad 2 6"),
+        ("def C\nend\nx = new C", "bad 3 6"),
+        ("class C del=p", "bad 1 6"),
+        ("class C legacy=p", "bad 1 6"),
+        ("def p\nend\nclass C del=p legacy=q", "bad 3 6"),
+        ("def p\nend\nclass C legacy=p del=p", "good"),
+        // The least bad line.
+        ("x = 1\n\nx = new C\nnonsense", "bad 3 6"),
+        // A comment is tested for nothing but its bytes and its length.
+        ("#x = new C\n # end", "good"),
+        ("# \x7f", "bad 1 1"),
+    ] {
+        assert_eq!(rt;
+            told(rt.alloc(), script.as_bytes())?.as_str(),
+            want,
+            "at {script:?}"
+        );
+    }
+    Ok(())
+}
+
+fn read(alloc: Global, text: &str) -> Result<Script, ScriptFault> {
+    parse_by(alloc, Grammar::Whole, text.as_bytes())
+}
+
+/// Reads lines behind a procedure `p` and a class `C`, and tells whether the last item is as the pattern says.
+macro_rules! assert_last {
+    ($rt:expr, $text:expr, $pattern:pat) => {
+        let script = read($rt.alloc(), $text).expect(&$rt, "a script");
+        assert!($rt; matches!(script.items.as_slice().last(), Some($pattern)));
+    };
+}
+
+#[test]
+fn each_command(rt: HostRuntime) -> Result<(), Fail> {
+    assert_last!(rt, "x = dict", Item::Run(Command::MakeDict { name: 0 }));
+    assert_last!(rt, "class C\nx = new C", Item::Run(Command::MakeInst { name: 1, class: 0 }));
+    assert_last!(rt, "x = ref y", Item::Run(Command::MakeRef { name: 0, target: Operand::Name(1), callback: Operand::None }));
+    assert_last!(rt, "x = ref x none", Item::Run(Command::MakeRef { name: 0, target: Operand::Name(0), callback: Operand::None }));
+    assert_last!(rt, "x = ref y f", Item::Run(Command::MakeRef { name: 0, target: Operand::Name(1), callback: Operand::Name(2) }));
+    assert_last!(rt, "x = ref", Item::Run(Command::Bind { name: 0, value: Operand::WeakLocal }));
+    assert_last!(rt, "x = none", Item::Run(Command::Bind { name: 0, value: Operand::None }));
+    assert_last!(rt, "x = self", Item::Run(Command::Bind { name: 0, value: Operand::SelfLocal }));
+    assert_last!(rt, "x = garbage", Item::Run(Command::Bind { name: 0, value: Operand::Garbage }));
+    assert_last!(rt, "x = c7", Item::Run(Command::Bind { name: 0, value: Operand::Cell(7) }));
+    assert_last!(rt, "x = 'x", Item::Run(Command::Bind { name: 0, value: Operand::Str(0) }));
+    assert_last!(rt, "x = '", Item::Run(Command::Bind { name: 0, value: Operand::Str(1) }));
+    assert_last!(rt, "x = -9223372036854775808", Item::Run(Command::Bind { name: 0, value: Operand::Int(-9223372036854775808) }));
+    assert_last!(rt, "x = -007", Item::Run(Command::Bind { name: 0, value: Operand::Int(-7) }));
+    assert_last!(rt, "del x", Item::Run(Command::Del { name: 0 }));
+    assert_last!(rt, "append x 1", Item::Run(Command::Append { list: Operand::Name(0), value: Operand::Int(1) }));
+    assert_last!(rt, "setitem x -1 y", Item::Run(Command::SetItem { list: Operand::Name(0), index: -1, value: Operand::Name(1) }));
+    assert_last!(rt, "delitem x 3", Item::Run(Command::DelItem { list: Operand::Name(0), index: 3 }));
+    assert_last!(rt, "put x 'k y", Item::Run(Command::Put { dict: Operand::Name(0), key: Operand::Str(1), value: Operand::Name(2) }));
+    assert_last!(rt, "drop x k", Item::Run(Command::Remove { dict: Operand::Name(0), key: Operand::Name(1) }));
+    assert_last!(rt, "setattr x n y", Item::Run(Command::SetAttr { object: Operand::Name(0), attr: 1, value: Operand::Name(2) }));
+    assert_last!(rt, "delattr x x", Item::Run(Command::DelAttr { object: Operand::Name(0), attr: 0 }));
+    assert_last!(rt, "x = item y 4", Item::Run(Command::Item { name: 0, list: Operand::Name(1), index: 4 }));
+    assert_last!(rt, "x = get y 'y", Item::Run(Command::Get { name: 0, dict: Operand::Name(1), key: Operand::Str(1) }));
+    assert_last!(rt, "x = attr y n", Item::Run(Command::Attr { name: 0, object: Operand::Name(1), attr: 2 }));
+    assert_last!(rt, "x = deref w", Item::Run(Command::Deref { name: 0, weak: Operand::Name(1) }));
+    assert_last!(rt, "call f", Item::Run(Command::Call { func: Operand::Name(0) }));
+    assert_last!(rt, "quit none", Item::Run(Command::Quit { value: Operand::None }));
+    assert_last!(rt, "collect", Item::Run(Command::Collect { generation: 2 }));
+    assert_last!(rt, "collect 07", Item::Run(Command::Collect { generation: 7 }));
+    assert_last!(rt, "enable", Item::Run(Command::Enable));
+    assert_last!(rt, "disable", Item::Run(Command::Disable));
+    assert_last!(rt, "threshold 5", Item::Run(Command::Threshold { first: 5, second: None, third: None }));
+    assert_last!(rt, "threshold 5 6", Item::Run(Command::Threshold { first: 5, second: Some(6), third: None }));
+    assert_last!(rt, "threshold 5 6 007", Item::Run(Command::Threshold { first: 5, second: Some(6), third: Some(7) }));
+    assert_last!(rt, "debug", Item::Run(Command::Flags { bits: 0 }));
+    assert_last!(rt, "debug saveall stats stats", Item::Run(Command::Flags { bits: 33 }));
+    assert_last!(rt, "debug leak stats", Item::Run(Command::Flags { bits: 39 }));
+    assert_last!(rt, "freeze", Item::Run(Command::Freeze));
+    assert_last!(rt, "unfreeze", Item::Run(Command::Unfreeze));
+    assert_last!(rt, "print 5", Item::Run(Command::Print { value: Operand::Int(5) }));
+    assert_last!(rt, "refs garbage", Item::Run(Command::Refs { value: Operand::Garbage }));
+    assert_last!(rt, "tracked x", Item::Run(Command::Tracked { value: Operand::Name(0) }));
+    assert_last!(rt, "finalized x", Item::Run(Command::Finalized { value: Operand::Name(0) }));
+    assert_last!(rt, "count", Item::Run(Command::Count));
+    assert_last!(rt, "gens", Item::Run(Command::Gens));
+    assert_last!(rt, "budget 010", Item::Budget(10));
+    Ok(())
+}
+
+#[test]
+fn commands_with_lists(rt: HostRuntime) -> Result<(), Fail> {
+    let script = read(
+        rt.alloc(),
+        "def q\nend\ndef p\ndel a\nprint 1\nend\nx = list a 1 'a\ny = tuple none\nf = func p c1 x",
+    )
+    .expect(&rt, "a script");
+    let items = script.items.as_slice();
+    assert!(rt; matches!(items, [_, _, Item::Run(Command::MakeList { name: 3, .. }), Item::Run(Command::MakeTuple { name: 4, .. }), Item::Run(Command::MakeFunc { name: 5, proc: 1, .. })]));
+    for item in items {
+        match item {
+            Item::Def(procedure) => {
+                let body = procedure.body.as_slice();
+                assert!(rt; match procedure.name {
+                    0 => body.is_empty(),
+                    1 => matches!(body, [Command::Del { name: 2 }, Command::Print { value: Operand::Int(1) }]),
+                    _ => false,
+                });
+            }
+            Item::Run(Command::MakeList { items, .. }) => {
+                assert_eq!(rt; items.as_slice(), [Operand::Name(2), Operand::Int(1), Operand::Str(2)].as_slice());
+            }
+            Item::Run(Command::MakeTuple { items, .. }) => {
+                assert_eq!(rt; items.as_slice(), [Operand::None].as_slice());
+            }
+            Item::Run(Command::MakeFunc { cells, .. }) => {
+                assert_eq!(rt; cells.as_slice(), [Operand::Cell(1), Operand::Name(3)].as_slice());
+            }
+            _ => {}
+        }
+    }
+    Ok(())
+}
+
+#[test]
+fn classes(rt: HostRuntime) -> Result<(), Fail> {
+    for (line, del, legacy) in [
+        ("class C", None, None),
+        ("class C del=p", Some(0), None),
+        ("class C legacy=q", None, Some(1)),
+        ("class C del=q legacy=p", Some(1), Some(0)),
+        ("class C legacy=p del=q", Some(1), Some(0)),
+    ] {
+        let text = format!(in rt.alloc(); "def p\nend\ndef q\nend\n{line}")?;
+        let script = read(rt.alloc(), text.as_str()).expect(&rt, "a script");
+        assert!(rt; match script.items.as_slice() {
+            [_, _, Item::Class(class)] => class.name == 2 && class.del == del && class.legacy == legacy,
+            _ => false,
+        }, "at {line:?}");
+    }
+    Ok(())
+}
+
+/// A line with this front, and then so many words.
+fn line_of(alloc: Global, front: &str, count: usize) -> Result<String, AllocError> {
+    let mut line = String::from_str(alloc, front)?;
+    for _ in 0..count {
+        line.push_str(" 1")?;
+    }
+    Ok(line)
+}
+
+#[test]
+fn numbers_of_words(rt: HostRuntime) -> Result<(), Fail> {
+    for (front, count, want) in [
+        ("x = list", 61, "good"),
+        ("x = list", 62, "bad 1 5"),
+        ("x = tuple", 0, "bad 1 3"),
+        ("x = tuple", 61, "good"),
+        ("def p\nend\nf = func p", 8, "good"),
+        ("def p\nend\nf = func p", 9, "bad 3 3"),
+        ("nonsense", 63, "bad 1 2"),
+        ("nonsense", 64, "bad 1 5"),
+    ] {
+        assert_eq!(rt;
+            told(rt.alloc(), line_of(rt.alloc(), front, count)?.as_bytes())?.as_str(),
+            want,
+            "at {front:?} and {count}"
+        );
+    }
+    Ok(())
+}

@@ -1,0 +1,343 @@
+//! The forms of words.
+ghost use Rattle.std.specs.Prelude.{◌≡◌, ◌≤◌, true, map, length, slice_index, drop, codes, take, option_map, pos, neg_ℤ};
+ghost use Rattle.std.specs.List.{list_all, list_any};
+ghost use Rattle.std.specs.Str.{bytes_eq};
+ghost use Rattle.cg_script.specs.Tables.{named as named_in};
+ghost use Rattle.cg_script.specs.Words.{is_printable, is_digit, is_letter, is_name_byte, begins_name, is_identifier, is_reserved, is_variable, is_quoted, has_minus, are_digits, decimal_value, is_number, number_of, is_count, is_value, atoms, after_prefix, is_identifier_after, names_finalizer, names_legacy, flags};
+
+use crate::command::Operand;
+use crate::table::named;
+
+/// The words that no variable may be: those with a meaning of their own somewhere in the language.
+static RESERVED: [&[u8]; 48] = [
+    b"none",
+    b"self",
+    b"ref",
+    b"garbage",
+    b"c0",
+    b"c1",
+    b"c2",
+    b"c3",
+    b"c4",
+    b"c5",
+    b"c6",
+    b"c7",
+    b"list",
+    b"tuple",
+    b"dict",
+    b"new",
+    b"func",
+    b"item",
+    b"get",
+    b"attr",
+    b"deref",
+    b"del",
+    b"append",
+    b"setitem",
+    b"delitem",
+    b"put",
+    b"drop",
+    b"setattr",
+    b"delattr",
+    b"call",
+    b"quit",
+    b"collect",
+    b"enable",
+    b"disable",
+    b"threshold",
+    b"debug",
+    b"freeze",
+    b"unfreeze",
+    b"print",
+    b"refs",
+    b"tracked",
+    b"finalized",
+    b"count",
+    b"gens",
+    b"budget",
+    b"class",
+    b"def",
+    b"end",
+];
+
+/// The most bytes of an identifier.
+const MOST_NAME_BYTES: usize = 32;
+
+fn may_begin_name(byte: u8) -> bool
+    ensures { result ≡ begins_name byte }
+{
+    matches!(byte, b'A'..=b'Z' | b'a'..=b'z' | b'_')
+}
+
+fn may_stand_in_name(byte: u8) -> bool
+    ensures { result ≡ is_name_byte byte }
+{
+    may_begin_name(byte) || byte.is_ascii_digit()
+}
+
+fn has_name_bytes(word: &[u8]) -> bool
+    ensures { result ≡ list_all is_name_byte word.now }
+{
+    word.iter().all(|byte| may_stand_in_name(*byte))
+}
+
+pub(crate) fn is_identifier_word(word: &[u8]) -> bool
+    ensures { result ≡ is_identifier word.now }
+{
+    match word.first() {
+        Some(first) => word.len() <= MOST_NAME_BYTES
+            && may_begin_name(*first)
+            && has_name_bytes(word),
+        None => false,
+    }
+}
+
+/// Whether a word is one of these.
+fn is_one_of(word: &[u8], all: &[&[u8]]) -> bool
+    ensures { result ≡ list_any (λ w. bytes_eq word.now w.now) all.now }
+{
+    all.iter().any(|other| word == *other)
+}
+
+#[tactic(auto, unfolding(crate::specs::Words::reserved_words))]
+fn is_reserved_word(word: &[u8]) -> bool
+    ensures { result ≡ is_reserved word.now }
+{
+    is_one_of(word, &RESERVED)
+}
+
+pub(crate) fn is_variable_word(word: &[u8]) -> bool
+    ensures { result ≡ is_variable word.now }
+{
+    is_identifier_word(word) && !is_reserved_word(word)
+}
+
+pub(crate) fn is_printable_text(bytes: &[u8]) -> bool
+    ensures { result ≡ list_all is_printable bytes.now }
+{
+    bytes.iter().all(|byte| (32..=126).contains(byte))
+}
+
+/// Printable bytes as text.
+#[tactic(auto, using(crate::proofs::Ascii::printable_is_text))]
+pub(crate) fn text_of(word: &[u8]) -> &str
+    requires { list_all is_printable word.now ≡ true }
+    ensures { result.now ≡ word.now }
+{
+    match str::from_utf8(word) {
+        Ok(text) => text,
+        Err(_) => unreachable!(),
+    }
+}
+
+/// A variable or another identifier as text.
+#[tactic(auto, using(crate::proofs::Ascii::identifier_is_printable))]
+pub(crate) fn text_of_identifier(word: &[u8]) -> &str
+    requires { is_identifier word.now ≡ true }
+    ensures { result.now ≡ word.now }
+{
+    text_of(word)
+}
+
+/// Whether the word is a string.
+pub(crate) fn is_quoted_word(word: &[u8]) -> bool
+    ensures { result ≡ is_quoted word.now }
+{
+    word.first() == Some(&b'\'')
+}
+
+pub(crate) fn begins_as_name(word: &[u8]) -> bool
+    ensures { result ≡ begins_name (slice_index word.now 0) }
+{
+    match word.first() {
+        Some(first) => may_begin_name(*first),
+        None => false,
+    }
+}
+
+fn is_digit_byte(byte: u8) -> bool
+    ensures { result ≡ is_digit byte }
+{
+    byte.is_ascii_digit()
+}
+
+fn has_digits_alone(word: &[u8]) -> bool
+    ensures { result ≡ list_all is_digit word.now }
+{
+    word.iter().all(|byte| is_digit_byte(*byte))
+}
+
+fn are_digits_word(word: &[u8], most: usize) -> bool
+    ensures { result ≡ are_digits most word.now }
+{
+    !word.is_empty() && word.len() <= most && has_digits_alone(word)
+}
+
+/// The most digits of a number.
+const MOST_DIGITS: usize = 19;
+
+/// The most digits of a count.
+const MOST_COUNT_DIGITS: usize = 10;
+
+/// The number that digits write.
+fn decimal(digits: &[u8]) -> u64
+    requires few { length digits.now ≤ MOST_DIGITS }
+    requires all { list_all is_digit digits.now ≡ true }
+    ensures { result ≡ decimal_value digits.now }
+{
+    let mut value: u64 = 0;
+    'digits: for digit in digits {
+        value = value * 10 + u64::from(*digit - b'0');
+    }
+    value
+}
+
+fn has_minus_sign(word: &[u8]) -> bool
+    ensures { result ≡ has_minus word.now }
+{
+    word.first() == Some(&b'-')
+}
+
+pub(crate) fn is_number_word(word: &[u8]) -> bool
+    ensures { result ≡ is_number word.now }
+{
+    if has_minus_sign(word) {
+        let digits = &word[1..];
+        are_digits_word(digits, MOST_DIGITS) && decimal(digits) <= 9_223_372_036_854_775_808
+    } else {
+        are_digits_word(word, MOST_DIGITS) && decimal(word) <= 9_223_372_036_854_775_807
+    }
+}
+
+/// The number that a word writes.
+pub(crate) fn number_of_word(word: &[u8]) -> i64
+    requires { is_number word.now ≡ true }
+    ensures { result ≡ number_of word.now }
+{
+    if has_minus_sign(word) {
+        negative(decimal(&word[1..]))
+    } else {
+        decimal(word) as i64
+    }
+}
+
+/// A number with the sign changed.
+fn negative(number: u64) -> i64
+    requires { number ≤ 9223372036854775808 }
+    ensures { result ≡ neg_ℤ (pos number) }
+{
+    if number == 9_223_372_036_854_775_808 {
+        i64::MIN
+    } else {
+        -(number as i64)
+    }
+}
+
+pub(crate) fn is_count_word(word: &[u8], most: u32) -> bool
+    ensures { result ≡ is_count most word.now }
+{
+    are_digits_word(word, MOST_COUNT_DIGITS) && decimal(word) <= u64::from(most)
+}
+
+/// The count that a word writes.
+pub(crate) fn count_of_word(word: &[u8]) -> u32
+    requires digits { are_digits 10 word.now ≡ true }
+    requires fits { decimal_value word.now ≤ 2147483647 }
+    ensures { result ≡ decimal_value word.now }
+{
+    decimal(word) as u32
+}
+
+/// The values with a word of their own.
+static ATOMS: [(&[u8], Operand); 12] = [
+    (b"none", Operand::None),
+    (b"self", Operand::SelfLocal),
+    (b"ref", Operand::WeakLocal),
+    (b"garbage", Operand::Garbage),
+    (b"c0", Operand::Cell(0)),
+    (b"c1", Operand::Cell(1)),
+    (b"c2", Operand::Cell(2)),
+    (b"c3", Operand::Cell(3)),
+    (b"c4", Operand::Cell(4)),
+    (b"c5", Operand::Cell(5)),
+    (b"c6", Operand::Cell(6)),
+    (b"c7", Operand::Cell(7)),
+];
+
+#[tactic(auto, unfolding(crate::specs::Words::atoms))]
+pub(crate) fn atom(word: &[u8]) -> Option<Operand>
+    ensures { result ≡ named_in atoms word.now }
+{
+    named(&ATOMS, word)
+}
+
+pub(crate) fn is_value_word(word: &[u8]) -> bool
+    ensures { result ≡ is_value word.now }
+{
+    if atom(word).is_some() {
+        return true;
+    }
+    if is_quoted_word(word) {
+        return is_printable_text(word);
+    }
+    if begins_as_name(word) {
+        return is_variable_word(word);
+    }
+    is_number_word(word)
+}
+
+/// What follows some bytes that a word begins with.
+fn after<'a>(prefix: &[u8], word: &'a [u8]) -> Option<&'a [u8]>
+    ensures { option_map (λ rest. rest.now) result ≡ after_prefix prefix.now word.now }
+{
+    word.strip_prefix(prefix)
+}
+
+/// The procedure in `del=P`.
+pub(crate) fn after_del(word: &[u8]) -> Option<&[u8]>
+    ensures { option_map (λ rest. rest.now) result ≡ after_prefix (codes "del=") word.now }
+{
+    after(b"del=", word)
+}
+
+/// The procedure in `legacy=P`.
+pub(crate) fn after_legacy(word: &[u8]) -> Option<&[u8]>
+    ensures { option_map (λ rest. rest.now) result ≡ after_prefix (codes "legacy=") word.now }
+{
+    after(b"legacy=", word)
+}
+
+pub(crate) fn names_finalizer_word(word: &[u8]) -> bool
+    ensures { result ≡ names_finalizer word.now }
+{
+    match after_del(word) {
+        Some(rest) => is_identifier_word(rest),
+        None => false,
+    }
+}
+
+pub(crate) fn names_legacy_word(word: &[u8]) -> bool
+    ensures { result ≡ names_legacy word.now }
+{
+    match after_legacy(word) {
+        Some(rest) => is_identifier_word(rest),
+        None => false,
+    }
+}
+
+/// The flags of `debug`, with their bits.
+static FLAGS: [(&[u8], u32); 5] = [
+    (b"stats", 1),
+    (b"collectable", 2),
+    (b"uncollectable", 4),
+    (b"saveall", 32),
+    (b"leak", 38),
+];
+
+/// The bits of a flag.
+#[tactic(auto, unfolding(crate::specs::Words::flags))]
+pub(crate) fn flag(word: &[u8]) -> Option<u32>
+    ensures { result ≡ named_in flags word.now }
+{
+    named(&FLAGS, word)
+}
