@@ -1,0 +1,3 @@
+mod Positions
+mod Standing
+mod FrameLemmas

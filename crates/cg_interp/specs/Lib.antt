@@ -1,0 +1,5 @@
+pub mod Stacks
+pub mod Tables
+pub mod Engines
+pub mod Releases
+pub mod Turns

@@ -1,0 +1,38 @@
+-- What a turn of an engine answers: what the machine does. (Ours.)
+use Rattle.std.specs.Prelude.{◌≡◌, List, [], ◌∷◌}
+use Rattle.cg_script.specs.declared.Script.{Script}
+use Rattle.cg_machine.specs.declared.event.Event.{Event}
+use Rattle.cg_machine.specs.declared.event.Event.TheVariants.{End, BudgetSpent}
+use Rattle.cg_machine.specs.World.{World, Outcome, Ended, BudgetIsSpent}
+use Rattle.cg_machine.specs.Frame.{Transition}
+use Rattle.cg_machine.specs.Represents.{Goes}
+use Rattle.cg_interp.specs.declared.turned.Turned.{Turned}
+use Rattle.cg_interp.specs.declared.turned.Turned.TheVariants as turned
+use Rattle.cg_interp.specs.Engines.{State, StandsFor}
+
+-- A transition of the machine was made: its lines are those that were answered, and the engine stands for its world, or
+-- the run has ended.
+abbrev pub Makes : Script → Transition → State → Turned → Type 0
+Makes script transition e turned.Quiet = (transition.0 ≡ []) × StandsFor script e transition.1
+Makes script transition e (turned.Line event) = (transition.0 ≡ event ∷ []) × StandsFor script e transition.1
+Makes script transition e turned.Ended = (transition.0 ≡ End ∷ []) × (transition.1.outcome ≡ Ended)
+Makes script transition e turned.Spent = (transition.0 ≡ BudgetSpent ∷ []) × (transition.1.outcome ≡ BudgetIsSpent)
+
+-- The machine goes on, with these lines, to a world for which the engine stands.
+pub record GoesTo (script : Script) (w : World) (events : List Event) (e : State) : Type 0 where
+  pub after : World
+  pub goes : Goes script w events after
+  pub stands : StandsFor script e after
+
+-- The run ends so, with this line.
+pub record EndsWith (script : Script) (w : World) (event : Event) (outcome : Outcome) : Type 0 where
+  pub after : World
+  pub goes : Goes script w (event ∷ []) after
+  pub ended : after.outcome ≡ outcome
+
+-- what a turn answers
+abbrev pub Turns : Script → World → State → Turned → Type 0
+Turns script w e turned.Quiet = GoesTo script w [] e
+Turns script w e (turned.Line event) = GoesTo script w (event ∷ []) e
+Turns script w e turned.Ended = EndsWith script w End Ended
+Turns script w e turned.Spent = EndsWith script w BudgetSpent BudgetIsSpent
