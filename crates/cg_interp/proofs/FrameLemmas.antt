@@ -16,7 +16,6 @@ use Rattle.cg_machine.specs.Holdings.{holds, call_holds}
 use Rattle.cg_machine.specs.Frame.{Transition, start_frame, frame_end, gives_up_function}
 use Rattle.cg_machine.specs.Represents.{Represents, Goes}
 use Rattle.cg_machine.specs.Run.{StepOf, FrameStep}
-use Rattle.cg_machine.proofs.Representing.{in_one}
 use Rattle.cg_death.specs.declared.release.Release.{Release}
 use Rattle.cg_death.specs.Activities.{references_left}
 use Rattle.cg_interp.specs.Releases.{released_by, with_release, with_release_on}
@@ -25,7 +24,7 @@ use Rattle.cg_interp.specs.declared.activity.Activity.TheVariants as activity
 use Rattle.cg_interp.specs.declared.turned.Turned.TheVariants as turned
 use Rattle.cg_interp.specs.Engines.{State, StandsFor, ShowsAll, ShowsTop, frame_of, commands_from, under}
 use Rattle.cg_interp.specs.Turns.{Makes, Turns}
-use Rattle.cg_interp.proofs.Standing.{plain_frame, plain_release, holding, taken, replaced, spelled}
+use Rattle.cg_interp.proofs.Standing.{plain_frame, plain_release, holding, taken, replaced, spelled, one_step}
 
 -- the function that a frame holds lives
 called_live : (store : Store) (o : Option ℕ) → IfSome o (λ f. IsLive store f) → (s : ℕ) → 0 < occurrences s (option_to_list o) → IsLive store s
@@ -119,7 +118,8 @@ module _ (script : Script) (old new : State) (locals : Locals) (procedure : ℕ)
       → new.activities ≡ with_release_on release old.activities → new.store ≡ old.store → new.budget ≡ old.budget → Turns script w new (turned.Line Leave)
   leaves release is holds top same left = record {
     after = after release;
-    goes = in_one script w (Leave ∷ []) (after release) stands.running (steps release is);
+    goes = one_step script w (Leave ∷ []) (after release) stands.running (steps release is);
+    moves = λ e. absurd (cc);
     stands = record {
       represents = subst (λ st. Represents st (after release)) (sym same) (represents-after release holds);
       shows = subst (λ l. ShowsAll script l (after release).stack) (sym top) (shows-after release);

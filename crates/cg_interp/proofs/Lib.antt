@@ -1,3 +1,5 @@
 mod Positions
 mod Standing
 mod FrameLemmas
+mod CallerLemmas
+mod ReleaseLemmas

@@ -1,5 +1,5 @@
 -- What a heap stands for, where an activity is put on top of the stack, taken from it, or replaced.
-use Rattle.std.proofs.Common.{◌≡◌, refl, sym, ◌∙◌, ap, subst, ℕ, ◌+◌, ◌<◌, inl, inr, List, [], ◌∷◌, ◌++◌, Option, None, Some, arith, true}
+use Rattle.std.proofs.Common.{◌≡◌, refl, sym, ◌∙◌, ap, subst, ℕ, ◌+◌, ◌<◌, inl, inr, List, [], ◌∷◌, ◌++◌, Option, None, Some, arith, true, append-nil}
 use Rattle.std.specs.Prelude.{flat_map, option_map}
 use Rattle.std.specs.Ordering.{nat_cmp}
 use Rattle.std.specs.FinMap as fin
@@ -14,9 +14,12 @@ use Rattle.cg_graph.proofs.Maps.{same_map, get-mapped}
 use Rattle.cg_graph.proofs.Objects.{objects-same, occurrences-append}
 use Rattle.cg_graph.proofs.Members.{either}
 use Rattle.cg_heap.proofs.HoldLemmas.{outside-held}
-use Rattle.cg_machine.specs.World.{World, Activity, TopLevel, Framed, Releasing, Dying, Collecting, Frame, Death, Collection, push, with_stack}
+use Rattle.cg_machine.specs.World.{World, Activity, TopLevel, Framed, Releasing, Dying, Collecting, Frame, Death, Collection, Running, push, with_stack}
 use Rattle.cg_machine.specs.Holdings.{holds}
-use Rattle.cg_machine.specs.Represents.{Represents}
+use Rattle.cg_script.specs.declared.Script.{Script}
+use Rattle.cg_machine.specs.declared.event.Event.{Event}
+use Rattle.cg_machine.specs.Run.{StepOf}
+use Rattle.cg_machine.specs.Represents.{Represents, Goes}
 use Rattle.cg_machine.proofs.Representing.{Matches, matches, represents}
 
 -- nothing is held by no references
@@ -97,3 +100,12 @@ at_stack P w stack top p = subst (λ s. P (with_stack s w)) (sym top) p
 
 pub spelled : (P : World → Type 0) (w : World) (stack : List Activity) → w.stack ≡ stack → P w → P (with_stack stack w)
 spelled P w stack top p = subst (λ s. P (with_stack s w)) top p
+
+-- one step of the machine
+abbrev pub one_step : (script : Script) (w : World) (events : List Event) (after : World) → w.outcome ≡ Running → StepOf script w w.stack events after → Goes script w events after
+one_step script w events after running step = record {
+  steps = record { events = events; world = after } ∷ [];
+  run = (record { running = running; step = step }, tt);
+  prints = append-nil events;
+  ends = refl;
+}

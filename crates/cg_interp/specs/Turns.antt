@@ -1,10 +1,13 @@
 -- What a turn of an engine answers: what the machine does. (Ours.)
-use Rattle.std.specs.Prelude.{◌≡◌, List, [], ◌∷◌}
+use Rattle.std.specs.Prelude.{◌≡◌, ◌≢◌, ℕ, ◌≤◌, List, [], ◌∷◌, Option, None, Some, count_by}
 use Rattle.cg_script.specs.declared.Script.{Script}
 use Rattle.cg_machine.specs.declared.event.Event.{Event}
 use Rattle.cg_machine.specs.declared.event.Event.TheVariants.{End, BudgetSpent}
-use Rattle.cg_machine.specs.World.{World, Outcome, Ended, BudgetIsSpent}
-use Rattle.cg_machine.specs.Frame.{Transition}
+use Rattle.cg_machine.specs.World.{World, Outcome, Ended, BudgetIsSpent, Dying, Death}
+use Rattle.cg_graph.specs.Member.{Includes}
+use Rattle.cg_machine.specs.Holdings.{holdings, is_death_of}
+use Rattle.cg_machine.specs.Laws.{IsHeldByItsDeathAlone}
+use Rattle.cg_machine.specs.Frame.{Transition, begin_death}
 use Rattle.cg_machine.specs.Represents.{Goes}
 use Rattle.cg_interp.specs.declared.turned.Turned.{Turned}
 use Rattle.cg_interp.specs.declared.turned.Turned.TheVariants as turned
@@ -22,6 +25,7 @@ Makes script transition e turned.Spent = (transition.0 ≡ BudgetSpent ∷ []) �
 pub record GoesTo (script : Script) (w : World) (events : List Event) (e : State) : Type 0 where
   pub after : World
   pub goes : Goes script w events after
+  pub moves : goes.steps ≢ []
   pub stands : StandsFor script e after
 
 -- The run ends so, with this line.
@@ -36,3 +40,21 @@ Turns script w e turned.Quiet = GoesTo script w [] e
 Turns script w e (turned.Line event) = GoesTo script w (event ∷ []) e
 Turns script w e turned.Ended = EndsWith script w End Ended
 Turns script w e turned.Spent = EndsWith script w BudgetSpent BudgetIsSpent
+
+-- The machine goes on, without a line, to a world in which the death of an object has begun: the engine stands for the
+-- world just before that.
+pub record GivesDeath (script : Script) (w : World) (o : ℕ) (e : State) : Type 0 where
+  pub before : World
+  pub goes : Goes script w [] (begin_death o before)
+  pub moves : goes.steps ≢ []
+  pub stands : StandsFor script e before
+
+-- what a release answers: the object whose death is to begin, if there is one
+abbrev pub Releases : Script → World → State → Option ℕ → Type 0
+Releases script w e None = GoesTo script w [] e
+Releases script w e (Some o) = GivesDeath script w o e
+
+-- What holds of the deaths of every run: a dying object is held by nothing but its own death, and is dying once.
+pub record DyingIsSound (w : World) : Type 0 where
+  pub unheld : (d : Death) → Includes w.stack (Dying d) → IsHeldByItsDeathAlone d.object d.phase (holdings w)
+  pub once : (o : ℕ) → count_by (is_death_of o) w.stack ≤ 1

@@ -2,8 +2,10 @@
 #![tactic(auto)]
 
 mod activity;
+mod commands;
 mod engine;
 mod frames;
+mod releases;
 mod stack;
 mod table;
 mod turned;

@@ -1,0 +1,43 @@
+-- The activities that have commands, and what a command leaves. (Ours.)
+use Rattle.std.specs.Prelude.{◌≡◌, ℕ, List, ◌∷◌, Option, None, option_to_list}
+use Rattle.cg_value.specs.declared.Entry.{Entry}
+use Rattle.cg_script.specs.declared.Script.{Script}
+use Rattle.cg_graph.specs.Value.{entry_references}
+use Rattle.cg_machine.specs.declared.event.Event.{Event}
+use Rattle.cg_machine.specs.World.{World, Releasing, Running, push}
+use Rattle.cg_machine.specs.Frame.{Transition}
+use Rattle.cg_machine.specs.Represents.{Represents}
+use Rattle.cg_interp.specs.declared.activity.Activity.{Activity}
+use Rattle.cg_interp.specs.declared.activity.Activity.TheVariants as activity
+use Rattle.cg_interp.specs.Engines.{State, ShowsAll}
+
+-- the script, or a frame
+abbrev pub IsCaller : Activity → Type 0
+IsCaller (activity.Script next) = Unit {0}
+IsCaller (activity.Frame locals procedure next) = Unit {0}
+IsCaller (activity.Releasing release) = ⊥
+
+-- a frame that has no command left
+abbrev pub without_rest_in_frame : Activity → Activity
+without_rest_in_frame (activity.Script next) = activity.Script next
+without_rest_in_frame (activity.Frame locals procedure next) = activity.Frame locals procedure None
+without_rest_in_frame (activity.Releasing release) = activity.Releasing release
+
+-- the same of the script too
+abbrev pub without_rest : Activity → Activity
+without_rest (activity.Script next) = activity.Script None
+without_rest (activity.Frame locals procedure next) = activity.Frame locals procedure None
+without_rest (activity.Releasing release) = activity.Releasing release
+
+-- A command left this world: the heap stands for it with the release of what was given up on top, and the activities for
+-- the rest of its stack.
+pub record Changes (script : Script) (top : Activity) (e : State) (given_up : Entry) (after : World) : Type 0 where
+  pub represents : Represents e.store (push (Releasing (entry_references given_up)) after)
+  pub shows : ShowsAll script (top ∷ e.activities) after.stack
+  pub budget : after.budget ≡ e.budget
+  pub running : after.outcome ≡ Running
+  pub threshold : after.numbers.zero_threshold ≡ 0
+
+-- its line, and that world
+abbrev pub transition_of_change : Option Event → Entry → World → Transition
+transition_of_change line given_up after = (option_to_list line, push (Releasing (entry_references given_up)) after)
