@@ -1,12 +1,11 @@
 -- The class of an object in a heap, and its finalizers.
-use Rattle.std.proofs.Common.{◌≡◌, ◌≢◌, refl, sym, ◌∙◌, ap, subst, ℕ, Bool, true, false, Option, Some, None, IsSome}
+use Rattle.std.proofs.Common.{◌≡◌, ◌≢◌, refl, sym, ◌∙◌, ap, ℕ, Bool, Option, Some, None, IsSome}
 use Rattle.std.specs.Prelude.{IfSome, if◌then◌else◌, option_map, option_and_then, slice_get}
 use Rattle.std.specs.FinMap as fin
 use Rattle.cg_value.specs.declared.KindCode.{KindCode}
 use Rattle.cg_value.specs.declared.KindCode.TheVariants.{List as ListKind, Tuple, Dict, Inst, Func, Weak}
 use Rattle.cg_script.specs.declared.Script.{Script}
-use Rattle.cg_graph.specs.Object.{Object, object_at}
-use Rattle.cg_graph.specs.Rows.{Row}
+use Rattle.cg_graph.specs.Object.{object_at}
 use Rattle.cg_graph.specs.Store.{Store, Node, IsLive, objects_of, object_from}
 use Rattle.cg_graph.proofs.Objects.{object-at}
 use Rattle.cg_machine.specs.Program.{classes, class_number, finalizer_of, legacy_of}

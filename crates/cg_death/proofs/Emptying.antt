@@ -1,28 +1,22 @@
 -- What a heap does in the last phase of a death is the step of the machine.
-use Rattle.std.proofs.Common.{◌≡◌, ◌≢◌, refl, sym, ◌∙◌, ap, subst, ℕ, suc, ◌+◌, ◌-◌, ◌<◌, ◌≤◌, Bool, true, false, inl, inr, List, [], ◌∷◌, ◌++◌, length, take, length-append, Option, Some, None, IsSome, arith}
-use Rattle.std.specs.Prelude.{◌==◌, flat_map, if◌then◌else◌, unwrap_or, option_map, slice_get}
+use Rattle.std.proofs.Common.{◌≡◌, refl, sym, ◌∙◌, ap, subst, ℕ, suc, ◌-◌, ◌<◌, inl, inr, List, [], ◌∷◌, ◌++◌, length, length-append, Option, Some, None, arith}
+use Rattle.std.specs.Prelude.{flat_map, unwrap_or, option_map, slice_get}
 use Rattle.std.proofs.lemmas.Bool.{cases_eq}
-use Rattle.std.specs.Ordering.{nat_cmp}
 use Rattle.std.specs.FinMap as fin
 use Rattle.cg_value.specs.declared.Entry.{Entry}
-use Rattle.cg_value.specs.declared.Place.TheVariants.{Pend}
 use Rattle.cg_script.specs.declared.Script.{Script}
-use Rattle.cg_graph.specs.Member.{Includes}
-use Rattle.cg_graph.specs.Maps.{total, part}
 use Rattle.cg_graph.specs.Value.{references, entry_references, last_entry, without_last}
 use Rattle.cg_graph.specs.Holdings.{occurrences}
-use Rattle.cg_graph.specs.Object.{Object, object_at, change, without, with_entries as object_entries, entries_of as object_entries_of}
+use Rattle.cg_graph.specs.Object.{Object, change, without, with_entries as object_entries, entries_of as object_entries_of}
 use Rattle.cg_graph.specs.Places.{place_number}
-use Rattle.cg_graph.specs.Store.{Store, Node, objects_of, object_from, outside_of, outside_in, inner, held_within, held_by, count_of, IsLive, entries_of, entries_in, place_of, waiting_for}
-use Rattle.cg_graph.specs.Changes.{held, rewritten, gone, more, with_entries}
-use Rattle.cg_graph.proofs.Maps.{get-remove_same, get-remove_other, total-remove}
-use Rattle.cg_graph.proofs.Objects.{objects-same, objects-changed, objects-remove, object-at, occurrences-append}
-use Rattle.cg_machine.specs.World.{World, Activity, Releasing, Dying, Emptying, push, with_stack, with_change}
-use Rattle.cg_machine.specs.declared.event.Event.{Event}
+use Rattle.cg_graph.specs.Store.{Store, Node, objects_of, object_from, outside_of, outside_in, inner, count_of, IsLive, entries_of, entries_in, place_of}
+use Rattle.cg_graph.specs.Changes.{held, rewritten, gone, with_entries}
+use Rattle.cg_graph.proofs.Maps.{get-remove_same, get-remove_other}
+use Rattle.cg_graph.proofs.Objects.{objects-changed, objects-remove, object-at, occurrences-append}
+use Rattle.cg_machine.specs.World.{World, Activity, Releasing, Emptying, push, with_stack, with_change}
 use Rattle.cg_machine.specs.declared.event.Event.TheVariants.{Free}
 use Rattle.cg_machine.specs.Holdings.{holds}
 use Rattle.cg_machine.specs.Dying.{empty_one, death_at}
-use Rattle.cg_machine.specs.Represents.{Represents}
 use Rattle.cg_death.specs.declared.release.Release.{Release}
 use Rattle.cg_death.specs.declared.answer.DeathStep.TheVariants as answer_of
 use Rattle.cg_death.specs.declared.phase.Phase.TheVariants as phase_of

@@ -1,11 +1,11 @@
 -- What is left to be done in a death becomes less.
-use Rattle.std.proofs.Common.{◌≡◌, refl, sym, ◌∙◌, ap, subst, ℕ, ◌+◌, ◌*◌, ◌-◌, ◌<◌, ◌≤◌, inl, inr, List, [], ◌∷◌, ◌++◌, length, length-append, Option, Some, None, IsSome, arith}
-use Rattle.std.specs.Prelude.{◌==◌, if◌then◌else◌, option_map, option_to_list}
+use Rattle.std.proofs.Common.{◌≡◌, refl, ◌∙◌, ap, ℕ, inr, List, [], ◌∷◌, ◌++◌, length, length-append, Option, Some, None, IsSome, arith}
+use Rattle.std.specs.Prelude.{option_map}
 use Rattle.std.specs.FinMap as fin
 use Rattle.cg_value.specs.declared.Entry.{Entry}
-use Rattle.cg_graph.specs.Value.{entry_references, without_last, reference_in}
+use Rattle.cg_graph.specs.Value.{entry_references, without_last}
 use Rattle.cg_graph.specs.Holdings.{occurrences}
-use Rattle.cg_graph.specs.Store.{Store, Node, IsLive, entries_of, entries_in, waiting_for}
+use Rattle.cg_graph.specs.Store.{Store, Node, IsLive, entries_of, entries_in}
 use Rattle.cg_graph.specs.Changes.{held, rewritten, more, with_entries, unheld, less}
 use Rattle.cg_graph.proofs.Maps.{get-mapped, get-changed_same}
 use Rattle.cg_heap.proofs.ReferenceLemmas.{entry-le}
@@ -13,7 +13,8 @@ use Rattle.cg_death.specs.declared.release.Release.{Release}
 use Rattle.cg_death.specs.declared.phase.Phase.{Phase}
 use Rattle.cg_death.specs.declared.phase.Phase.TheVariants as phase_of
 use Rattle.cg_death.specs.Activities.{references_left}
-use Rattle.cg_death.specs.Falls.{Falls, number_left}
+use Rattle.cg_death.specs.Falls.{Falls}
+use Rattle.cg_death.specs.Deaths.{TakesNext}
 
 -- holds leave entries as they are
 pub entries-held : (refs : List ℕ) (store : Store) (q : ℕ) → entries_of (held refs store) q ≡ entries_of store q
@@ -48,3 +49,22 @@ falls-taken store o e release live last refs =
     let one_more : length (entries_of store o) ≡ length (without_last (entries_of store o) ++ e ∷ []) = ap length last in
     let few : length (references_left release) ≡ length (entry_references e) = ap length refs in
     inr (refl, omega (arith, fewer, one_more, few, entry-le e, length-append (without_last (entries_of store o)) (e ∷ [])))
+
+-- a callback was given up, and its weak reference is to be
+pub falls-call_ended : (store : Store) (o weak callback : ℕ) (release : Release) → references_left release ≡ weak ∷ [] → Falls o store (phase_of.AfterCall weak callback) None (unheld (callback ∷ []) store) phase_of.Calling (Some release)
+falls-call_ended store o weak callback release left =
+    let one : length (references_left release) ≡ 1 = ap length left in
+    let same : length (entries_of (unheld (callback ∷ []) store) o) ≡ length (entries_of store o) = ap length (entries-unheld (callback ∷ []) store o) in
+    inr (refl, omega (arith, one, same))
+
+-- a reference was given up
+pub falls-given_up : (store : Store) (o : ℕ) (phase : Phase) (q : ℕ) (before after : Release) → references_left before ≡ q ∷ references_left after → Falls o store phase (Some before) (unheld (q ∷ []) store) phase (Some after)
+falls-given_up store o phase q before after taken =
+    let fewer : length (references_left before) ≡ length (q ∷ references_left after) = ap length taken in
+    let same : length (entries_of (unheld (q ∷ []) store) o) ≡ length (entries_of store o) = ap length (entries-unheld (q ∷ []) store o) in
+    inr (refl, omega (arith, fewer, same))
+
+pub falls-step : (store : Store) (o q : ℕ) (phase : Phase) (before after : Option Release) → TakesNext before (Some q) after → Falls o store phase before (unheld (q ∷ []) store) phase after
+falls-step store o q phase None after takes = absurd takes
+falls-step store o q phase (Some release) None takes = absurd takes
+falls-step store o q phase (Some release) (Some left) takes = falls-given_up store o phase q release left takes

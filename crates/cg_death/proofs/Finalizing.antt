@@ -1,14 +1,14 @@
 -- What a heap does in the phases that call finalizers is the step of the machine.
-use Rattle.std.proofs.Common.{◌≡◌, ◌≢◌, refl, sym, ◌∙◌, ap, subst, ℕ, ◌+◌, ◌-◌, ◌<◌, ◌≤◌, Bool, true, false, inl, inr, List, [], ◌∷◌, ◌++◌, Option, Some, None, IsSome, arith}
-use Rattle.std.specs.Prelude.{◌==◌, flat_map, if◌then◌else◌, option_and_then}
+use Rattle.std.proofs.Common.{◌≡◌, ◌≢◌, refl, sym, ◌∙◌, ap, subst, ℕ, Bool, List, [], ◌∷◌, ◌++◌, Some, None, arith}
+use Rattle.std.specs.Prelude.{flat_map, if◌then◌else◌, option_and_then}
 use Rattle.std.proofs.lemmas.Bool.{eq-eqb, ne_eqb}
 use Rattle.cg_value.specs.declared.Place.TheVariants.{Untracked, Gen}
 use Rattle.cg_script.specs.declared.Script.{Script}
 use Rattle.cg_graph.specs.Holdings.{occurrences}
-use Rattle.cg_graph.specs.Object.{Object, object_at, with_place as object_placed, marked as object_marked}
+use Rattle.cg_graph.specs.Object.{object_at, with_place as object_placed, marked as object_marked}
 use Rattle.cg_graph.proofs.Objects.{occurrences-append}
 use Rattle.cg_graph.specs.Store.{Store, objects_of, outside_of, count_of, IsLive, waiting_for}
-use Rattle.cg_graph.specs.Changes.{held, unheld, moved, with_place}
+use Rattle.cg_graph.specs.Changes.{held, unheld, moved}
 use Rattle.cg_machine.specs.declared.event.Event.TheVariants.{Alive}
 use Rattle.cg_machine.specs.declared.event.FrameSort.TheVariants.{Del, Legacy}
 use Rattle.cg_machine.specs.declared.event.FrameSpec.{FrameSpec}
@@ -24,8 +24,8 @@ use Rattle.cg_death.specs.declared.phase.Phase.{Phase}
 use Rattle.cg_death.specs.declared.phase.Phase.TheVariants as phase_of
 use Rattle.cg_death.specs.declared.phase.Turn.{Turn}
 use Rattle.cg_death.specs.Activities.{death_of, activities}
-use Rattle.cg_death.specs.Answers.{Stands, WentOn, GaveFrame, DeathAnswer, DeathSteps}
-use Rattle.cg_death.proofs.Worlds.{Matches, matches, represents, steps_at, occurrences-cons, count-in_degree}
+use Rattle.cg_death.specs.Answers.{Stands, WentOn, GaveFrame, DeathSteps}
+use Rattle.cg_death.proofs.Worlds.{matches, represents, steps_at, occurrences-cons, count-in_degree}
 use Rattle.cg_heap.proofs.HoldLemmas.{outside-unheld, outside-held, outside-moved, outside-with_node}
 use Rattle.cg_heap.proofs.CallerLemmas.{lives_on, kinds-moved, kinds-with_node}
 use Rattle.cg_death.proofs.Releases.{matches-unheld}

@@ -1,3 +1,4 @@
+pub mod CallerLemmas
 mod Worlds
 mod Releases
 mod Turns
@@ -6,3 +7,11 @@ mod Falling
 mod Classes
 mod Finalizing
 mod Emptying
+mod RowSplits
+mod WeakObjects
+mod Clearing
+mod ClearingTurns
+mod Steps
+mod Calling
+mod Querying
+mod Beginning

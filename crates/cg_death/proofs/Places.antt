@@ -1,26 +1,22 @@
 -- What a change of place, a mark or a hold does to a heap that stands for a world.
-use Rattle.std.proofs.Common.{◌≡◌, ◌≢◌, refl, sym, ◌∙◌, ap, subst, ℕ, ◌+◌, ◌<◌, ◌≤◌, Bool, true, false, cond, not, inl, inr, List, [], ◌∷◌, ◌++◌, map, length, get_or, set, Option, Some, None, IsSome, arith}
-use Rattle.std.specs.Prelude.{◌⊎◌, ◌==◌, flat_map, filter, if◌then◌else◌, option_map, nat_eq}
+use Rattle.std.proofs.Common.{◌≡◌, ◌≢◌, refl, sym, ◌∙◌, ap, subst, ℕ, ◌<◌, Bool, true, false, cond, not, inl, inr, List, [], ◌∷◌, ◌++◌, length, set, arith}
+use Rattle.std.specs.Prelude.{◌⊎◌, ◌==◌, if◌then◌else◌}
 use Rattle.std.proofs.lemmas.Bool.{cases_eq, cases_lt, eq-eqb, ne_eqb}
 use Rattle.std.proofs.lemmas.List.{get_or-set_same, get_or-set_other, get_or_past, length-set}
-use Rattle.std.specs.Ordering.{nat_cmp}
-use Rattle.std.specs.FinMap as fin
 use Rattle.cg_value.specs.declared.Place.{Place}
 use Rattle.cg_value.specs.declared.Place.TheVariants.{Pend}
 use Rattle.cg_graph.specs.Member.{Includes}
-use Rattle.cg_graph.specs.Maps.{mapped, changed, total}
 use Rattle.cg_graph.specs.Holdings.{occurrences}
 use Rattle.cg_graph.specs.Object.{Object, change, with_place as object_placed, marked as object_marked}
-use Rattle.cg_graph.specs.Places.{place_number, list_of, without_serial, leaves_list, move_between}
-use Rattle.cg_graph.specs.Store.{Store, Node, objects_of, outside_of, outside_in, count_of, IsLive, list_at, place_of}
-use Rattle.cg_graph.specs.Changes.{held, more, moved, with_place, gone}
-use Rattle.cg_graph.proofs.Maps.{get-mapped, total-mapped}
-use Rattle.cg_graph.proofs.Objects.{objects-same, objects-changed, occurrences-append}
+use Rattle.cg_graph.specs.Places.{place_number, list_of, without_serial, leaves_list}
+use Rattle.cg_graph.specs.Store.{Store, count_of, list_at, place_of}
+use Rattle.cg_graph.specs.Changes.{held, more, moved, with_place}
+use Rattle.cg_graph.proofs.Objects.{objects-same, objects-changed}
 use Rattle.cg_graph.proofs.Members.{either}
-use Rattle.cg_machine.specs.World.{World, Activity, Collecting, Collection, CollectPhase, Start, WeakClearing, WeakCalling, AfterCallback, AfterRelease, Finalizing, AfterFinalizing, Split, Turns, Turn, AfterTurn, Ending, with_change}
-use Rattle.cg_machine.specs.Holdings.{holds, collect_holds}
+use Rattle.cg_machine.specs.World.{World, Collecting, Collection, CollectPhase, Start, WeakClearing, WeakCalling, AfterCallback, AfterRelease, Finalizing, AfterFinalizing, Split, Turns, Turn, AfterTurn, Ending, with_change}
+use Rattle.cg_machine.specs.Holdings.{collect_holds}
 use Rattle.cg_machine.specs.Represents.{Represents, CollectionWaits}
-use Rattle.cg_heap.specs.Calls.{HasFewHolds, with_node, marked}
+use Rattle.cg_heap.specs.Calls.{with_node, marked}
 use Rattle.cg_death.proofs.Worlds.{occurrences-cons, held_by_one, Matches}
 
 -- a list without a serial that does not stand in it
@@ -62,8 +58,8 @@ pub left-cases : (lists : List (List ℕ)) (o p q : ℕ) → (list_of (leaves_li
 left-cases lists o p q =
     either (cases_eq q p)
     (λ same. either (cases_lt q (length lists))
-      (λ within. inr (ap (λ k. list_of (leaves_list lists o k) q) (sym same) ∙ get_or-set_same lists q (without_serial o (list_of lists q)) [] within))
-      (λ past. inl (ap (λ k. list_of (leaves_list lists o k) q) (sym same) ∙ get_or_past (set lists q (without_serial o (list_of lists q))) q [] (omega (arith, past, length-set lists q (without_serial o (list_of lists q)))) ∙ sym (get_or_past lists q [] past))))
+    (λ within. inr (ap (λ k. list_of (leaves_list lists o k) q) (sym same) ∙ get_or-set_same lists q (without_serial o (list_of lists q)) [] within))
+    (λ past. inl (ap (λ k. list_of (leaves_list lists o k) q) (sym same) ∙ get_or_past (set lists q (without_serial o (list_of lists q))) q [] (omega (arith, past, length-set lists q (without_serial o (list_of lists q)))) ∙ sym (get_or_past lists q [] past))))
     (λ differs. inl (get_or-set_other lists p q (without_serial o (list_of lists p)) [] differs))
 
 -- an object that nothing holds is held by no collection
@@ -96,7 +92,7 @@ moved-cases store o q differs =
     either (left-cases store.lists o (place_number (place_of store o)) 6) (λ e. inl (kept ∙ e)) (λ e. inr (kept ∙ e))
 
 -- an object changed twice
-change-change : (f g : Object → Object) → ((x : Object) → (g x).serial ≡ x.serial) → (o : ℕ) (objects : List Object) → change f o (change g o objects) ≡ change (λ x. f (g x)) o objects
+pub change-change : (f g : Object → Object) → ((x : Object) → (g x).serial ≡ x.serial) → (o : ℕ) (objects : List Object) → change f o (change g o objects) ≡ change (λ x. f (g x)) o objects
 change-change f g same o [] = refl
 change-change f g same o (x ∷ objects) = λ i. each (x.serial == o) refl i ∷ change-change f g same o objects i
   where

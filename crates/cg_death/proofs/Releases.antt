@@ -1,24 +1,20 @@
 -- A hold that the heap gives up is the release step of the machine.
-use Rattle.std.proofs.Common.{◌≡◌, ◌≢◌, ◌-◌, Option, None, Some, refl, sym, ◌∙◌, ap, subst, ℕ, ◌+◌, ◌<◌, ◌≤◌, Bool, true, false, cond, not, inl, inr, List, [], ◌∷◌, ◌++◌, arith}
-use Rattle.std.specs.Prelude.{◌==◌, ◌&&◌, flat_map, if◌then◌else◌, option_map, option_to_list}
+use Rattle.std.proofs.Common.{◌≡◌, ◌≢◌, refl, sym, ◌∙◌, ap, subst, ℕ, ◌+◌, ◌<◌, ◌≤◌, Bool, true, false, cond, not, inl, inr, List, [], ◌∷◌, ◌++◌, arith}
+use Rattle.std.specs.Prelude.{◌==◌, ◌&&◌, flat_map, if◌then◌else◌}
 use Rattle.std.proofs.lemmas.Bool.{cases_Bool, cases_eq, eq-eqb, ne_eqb, and_from, and_right}
 use Rattle.cg_script.specs.declared.Script.{Script}
 use Rattle.cg_graph.specs.Member.{Includes}
 use Rattle.cg_graph.specs.Holdings.{occurrences}
-use Rattle.std.specs.Ordering.{nat_cmp}
-use Rattle.std.specs.FinMap as fin
-use Rattle.cg_graph.specs.Store.{Store, Node, objects_of, count_of, outside_of, outside_in}
+use Rattle.cg_graph.specs.Store.{Store, count_of}
 use Rattle.cg_graph.specs.Changes.{unheld, less}
-use Rattle.cg_graph.proofs.Maps.{get-mapped}
-use Rattle.cg_graph.proofs.Objects.{objects-same, occurrences-append}
+use Rattle.cg_graph.proofs.Objects.{objects-same}
 use Rattle.cg_graph.proofs.Members.{either}
 use Rattle.cg_heap.proofs.HoldLemmas.{outside-unheld}
-use Rattle.cg_machine.specs.World.{World, Activity, Releasing, Dying, Death, DyingPhase, Finalizer, AfterFinalizer, Clearing, Calling, AfterCall, LegacyFinalizer, AfterLegacy, Detaching, Emptying, Running, with_stack}
+use Rattle.cg_machine.specs.World.{World, Activity, Releasing, Dying, Death, DyingPhase, Finalizer, AfterFinalizer, Clearing, Calling, AfterCall, LegacyFinalizer, AfterLegacy, Detaching, Emptying, with_stack}
 use Rattle.cg_machine.specs.Holdings.{holdings, holds, in_degree, is_dying, dying_holds}
-use Rattle.cg_machine.specs.Frame.{Transition, released, begin_death}
+use Rattle.cg_machine.specs.Frame.{Transition, begin_death}
 use Rattle.cg_machine.specs.Laws.{IsHeldByItsDeathAlone}
 use Rattle.cg_machine.specs.Represents.{Represents, Goes}
-use Rattle.cg_death.specs.declared.answer.DeathStep.{DeathStep}
 use Rattle.cg_death.specs.declared.answer.DeathStep.TheVariants as answer_of
 use Rattle.cg_death.specs.Answers.{Stands, WentOn, GaveDeath, ReleaseAnswer, ReleaseSteps}
 use Rattle.cg_death.proofs.Worlds.{at_stack, spelled, in_one, occurrences-cons, occurrences-one, count-in_degree, held_by_one, held_by_stack, death_found, Matches, matches, represents, popped, pushed}

@@ -1,5 +1,5 @@
 -- A death that goes on to another phase, or that ends, while the heap stays as it is.
-use Rattle.std.proofs.Common.{length, ◌≡◌, refl, sym, ◌∙◌, ap, subst, ℕ, ◌+◌, ◌<◌, ◌≤◌, Bool, true, false, inl, inr, List, [], ◌∷◌, ◌++◌, map, reverse, arith}
+use Rattle.std.proofs.Common.{length, ◌≡◌, refl, sym, ◌∙◌, ap, subst, ℕ, true, inl, inr, List, [], ◌∷◌, ◌++◌, map, reverse, arith}
 use Rattle.std.specs.Prelude.{flat_map, ◌==◌, ◌&&◌, filter}
 use Rattle.std.proofs.lemmas.Bool.{eq-eqb}
 use Rattle.std.proofs.lemmas.List.{length-reverse}
@@ -7,11 +7,11 @@ use Rattle.cg_script.specs.declared.Script.{Script}
 use Rattle.cg_graph.specs.Member.{Includes}
 use Rattle.cg_graph.specs.Holdings.{occurrences}
 use Rattle.cg_graph.specs.Rows.{Row}
-use Rattle.cg_graph.specs.Store.{Store, outside_of, waiting_for}
+use Rattle.cg_graph.specs.Store.{Store, waiting_for}
 use Rattle.cg_graph.proofs.Members.{either, Includes-map, Includes-filter}
 use Rattle.cg_graph.proofs.Objects.{occurrences-append}
 use Rattle.cg_machine.specs.declared.event.Event.{Event}
-use Rattle.cg_machine.specs.World.{World, Activity, Dying, Collecting, Death, DyingPhase, with_stack}
+use Rattle.cg_machine.specs.World.{World, Activity, Dying, Death, DyingPhase, with_stack}
 use Rattle.cg_machine.specs.Holdings.{holds, dying_holds}
 use Rattle.cg_machine.specs.Frame.{Transition}
 use Rattle.cg_machine.specs.Dying.{dying, death_at}
@@ -34,10 +34,10 @@ not_waiting Y store o none row m waits e =
     none_there : (rs : List Row) → Includes rs row → reverse (map (λ r. r.weak) rs) ≡ [] → Y
     none_there rs m e = no_reverse (map (λ r. r.weak) rs) row.weak (Includes-map (λ (r : Row). r.weak) rs row m) e
 
-abbrev death : ℕ → DyingPhase → Death
+abbrev pub death : ℕ → DyingPhase → Death
 death o phase = record { object = o; phase = phase }
 
-own_object : (o : ℕ) (phase : DyingPhase) (d : Death) → death_of o phase ≡ Dying d → o ≡ d.object
+pub own_object : (o : ℕ) (phase : DyingPhase) (d : Death) → death_of o phase ≡ Dying d → o ≡ d.object
 own_object o phase d e = let same : death o phase ≡ d = cc in ap (λ (x : Death). x.object) same
 
 module _ (store : Store) (v : World) (o : ℕ) (phase : DyingPhase) (below : List Activity) where

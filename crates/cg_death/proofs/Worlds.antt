@@ -1,5 +1,5 @@
 -- Steps of the machine from a world whose stack is spelled out, and what of a heap stands for such a world.
-use Rattle.std.proofs.Common.{◌≡◌, refl, sym, ◌∙◌, ap, subst, ℕ, ◌+◌, ◌<◌, ◌≤◌, Bool, true, false, cond, inl, inr, List, [], ◌∷◌, ◌++◌, arith}
+use Rattle.std.proofs.Common.{◌≡◌, refl, sym, ◌∙◌, ap, subst, ℕ, ◌+◌, ◌≤◌, true, cond, inl, inr, List, [], ◌∷◌, ◌++◌, arith}
 use Rattle.std.specs.Prelude.{flat_map, ◌==◌}
 use Rattle.std.specs.List.{list_any}
 use Rattle.std.proofs.lemmas.Bool.{eqb-true, eq-eqb}
@@ -15,7 +15,7 @@ use Rattle.cg_graph.proofs.Members.{either, true_or}
 use Rattle.cg_machine.specs.declared.event.Event.{Event}
 use Rattle.cg_machine.specs.World.{World, Activity, TopLevel, Framed, Releasing, Dying, Collecting, Death, Collection, Running, with_stack}
 use Rattle.cg_machine.specs.Holdings.{holdings, holds, in_degree, is_death_of}
-use Rattle.cg_machine.specs.Run.{Step, StepOf}
+use Rattle.cg_machine.specs.Run.{StepOf}
 use Rattle.cg_machine.specs.Represents.{Represents, Goes, death_waits, CollectionWaits}
 use Rattle.cg_death.specs.declared.answer.DeathStep.{DeathStep}
 use Rattle.cg_death.specs.Answers.{Stands, DeathAnswer, DeathSteps}
@@ -33,9 +33,9 @@ pub steps_at : (script : Script) (old : Store) (tops : List Activity) (new : Sto
     → DeathSteps script old tops new tops_after answer
 steps_at script old tops new tops_after answer each w below s = at_stack (λ u. DeathAnswer script u new (tops_after ++ below) answer) w (tops ++ below) s.top (each w below (spelled old w (tops ++ below) s))
 
-append_none : (events : List Event) → events ++ [] ≡ events
+pub append_none : {X : Type 0} (xs : List X) → xs ++ [] ≡ xs
 append_none [] = refl
-append_none (e ∷ events) = ap (λ l. e ∷ l) (append_none events)
+append_none (x ∷ xs) = ap (λ l. x ∷ l) (append_none xs)
 
 -- one step
 pub in_one : (script : Script) (w : World) (events : List Event) (after : World) → w.outcome ≡ Running → StepOf script w w.stack events after → Goes script w events after

@@ -1,10 +1,14 @@
 -- What a release and a death stand for among the activities of the machine, and what they hold. (Ours.)
-use Rattle.std.specs.Prelude.{◌≡◌, ℕ, ◌≤◌, ◌++◌, List, [], ◌∷◌, Option, Some, None, option_to_list, flat_map}
+use Rattle.std.specs.Prelude.{◌≡◌, ℕ, ◌≤◌, ◌<◌, ◌++◌, List, [], ◌∷◌, Option, Some, None, option_to_list}
+use Rattle.cg_value.specs.declared.Val.TheVariants.{Ref}
+use Rattle.cg_graph.specs.Member.{Includes}
+use Rattle.cg_graph.specs.Value.{item}
 use Rattle.cg_graph.specs.Holdings.{occurrences}
-use Rattle.cg_graph.specs.Store.{Store, IsLive, outside_of, count_of, waiting_for}
+use Rattle.cg_graph.specs.Rows.{weak_references_in}
+use Rattle.cg_graph.specs.Store.{Store, IsLive, entries_of, outside_of, count_of, waiting_for}
 use Rattle.cg_machine.specs.World as machine
 use Rattle.cg_machine.specs.World.{Activity, Releasing, Dying}
-use Rattle.cg_machine.specs.Holdings.{holds}
+use Rattle.cg_heap.specs.Weak.{IsInNoRow}
 use Rattle.cg_death.specs.declared.release.Release.{Release}
 use Rattle.cg_death.specs.declared.phase.Phase.{Phase}
 use Rattle.cg_death.specs.declared.phase.Phase.TheVariants as phase_of
@@ -43,3 +47,38 @@ HasHolds store references = (s : ℕ) → occurrences s references ≤ outside_o
 pub record IsUnheld (store : Store) (o : ℕ) : Type 0 where
   pub live : IsLive store o
   pub none : count_of store o ≡ 0
+
+-- Weak references lose an object the newest first: those that wait with it are newer than those that still have it as
+-- referent. (`weakref` manual: callbacks are called from the most recently registered on. That they lose it in this order
+-- is ours.)
+abbrev pub AreNewer : Store → ℕ → Type 0
+AreNewer store o = (v w : ℕ) → Includes (waiting_for store o) v → Includes (weak_references_in store.rows o) w → w < v
+
+-- a weak reference has a callback: its one entry
+abbrev pub HasCallback : Store → ℕ → Type 0
+HasCallback store weak = (f : ℕ) × (entries_of store weak ≡ item (Ref f) ∷ [])
+
+-- each weak reference that waits with an object has one
+abbrev pub HaveCallbacks : Store → ℕ → Type 0
+HaveCallbacks store o = (w : ℕ) → Includes (waiting_for store o) w → HasCallback store w
+
+-- what a death itself holds at a phase, the weak references that wait aside
+abbrev pub own_holds_at : ℕ → Phase → List ℕ
+own_holds_at o phase_of.AfterFinalizer = o ∷ []
+own_holds_at o (phase_of.AfterCall weak callback) = callback ∷ weak ∷ []
+own_holds_at o phase_of.AfterLegacy = o ∷ []
+own_holds_at o phase = []
+
+-- What an action of a phase needs of the heap: of its object, which nothing holds but at the end of its own frames, and
+-- of its weak references. (PEP 442: while a finalizer of its own runs an object is held.)
+abbrev pub IsReadyAt : Store → ℕ → Phase → Type 0
+IsReadyAt store o phase_of.Finalizer = IsUnheld store o
+IsReadyAt store o phase_of.AfterFinalizer = Unit {0}
+IsReadyAt store o phase_of.Clearing = IsUnheld store o × AreNewer store o
+IsReadyAt store o phase_of.Calling = IsUnheld store o × HaveCallbacks store o
+IsReadyAt store o (phase_of.AfterCall weak callback) = IsUnheld store o
+IsReadyAt store o phase_of.LegacyFinalizer = IsUnheld store o
+IsReadyAt store o phase_of.AfterLegacy = Unit {0}
+IsReadyAt store o phase_of.Detaching = IsUnheld store o
+IsReadyAt store o phase_of.Emptying = IsUnheld store o × IsInNoRow o store.rows
+IsReadyAt store o phase_of.Over = Unit {0}

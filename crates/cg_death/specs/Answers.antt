@@ -1,16 +1,20 @@
 -- What the steps of releases and deaths may answer, in every world that the heap stands for. (Ours.)
-use Rattle.std.specs.Prelude.{◌≡◌, ℕ, ◌≤◌, ◌-◌, List, [], ◌∷◌, ◌++◌, None, count_by}
+use Rattle.std.specs.Prelude.{◌≡◌, ◌≢◌, ℕ, ◌≤◌, ◌-◌, List, [], ◌∷◌, ◌++◌, None, count_by, ◌==◌, if◌then◌else◌}
 use Rattle.cg_script.specs.declared.Script.{Script}
 use Rattle.cg_graph.specs.Member.{Includes}
-use Rattle.cg_graph.specs.Store.{Store}
+use Rattle.cg_graph.specs.Store.{Store, count_of}
+use Rattle.cg_graph.specs.Changes.{unheld}
 use Rattle.cg_machine.specs.declared.event.Event.{Event}
-use Rattle.cg_machine.specs.declared.event.Event.TheVariants.{Free}
+use Rattle.cg_machine.specs.declared.event.Event.TheVariants.{Free, Alive, Cleared}
+use Rattle.cg_machine.specs.declared.event.FrameSort.{FrameSort}
+use Rattle.cg_machine.specs.declared.event.FrameSort.TheVariants as sort_of
 use Rattle.cg_machine.specs.declared.event.FrameSpec.{FrameSpec}
 use Rattle.cg_machine.specs.World.{World, Activity, Releasing, Dying, Death, Numbers, Running}
 use Rattle.cg_machine.specs.Holdings.{holdings, is_death_of}
 use Rattle.cg_machine.specs.Laws.{IsHeldByItsDeathAlone}
 use Rattle.cg_machine.specs.Represents.{Represents, GoesOn, HandsOutDeath, HandsOutFrame}
 use Rattle.cg_death.specs.declared.phase.Phase.{Phase}
+use Rattle.cg_death.specs.declared.phase.Phase.TheVariants as phase_of
 use Rattle.cg_death.specs.declared.phase.Turn.{Turn}
 use Rattle.cg_death.specs.Activities.{activities}
 use Rattle.cg_death.specs.declared.answer.DeathStep.{DeathStep}
@@ -46,7 +50,17 @@ pub record GaveFrame (script : Script) (w : World) (spec : FrameSpec) (store : S
   pub hands : HandsOutFrame script w spec store stack
   pub keeps : Keeps w w.numbers hands.before
 
--- what a step of a release answers
+-- what a step of a release leaves of a heap, where these references were left
+abbrev pub once_released : List ℕ → Store → Store
+once_released [] store = store
+once_released (o ∷ references) store = unheld (o ∷ []) store
+
+-- and what it answers, by the in-degree that the object of the first one has then
+abbrev pub release_answer : List ℕ → Store → DeathStep
+release_answer [] new = answer_of.Gone
+release_answer (o ∷ references) new = if count_of new o == 0 then answer_of.Died o else answer_of.Continue
+
+-- what it may answer in a world of the machine
 abbrev pub ReleaseAnswer : Script → World → List Activity → Store → List ℕ → DeathStep → Type 0
 ReleaseAnswer script w below store left answer_of.Continue = WentOn script w [] w.numbers store (Releasing left ∷ below)
 ReleaseAnswer script w below store left (answer_of.Emit event) = ⊥
@@ -79,3 +93,31 @@ DeathSteps script old tops new tops_after answer = (w : World) (below : List Act
 -- the same for a turn of a phase
 abbrev pub TurnSteps : Script → Store → ℕ → Phase → Store → Turn → Type 0
 TurnSteps script old o phase new turn = DeathSteps script old (activities o phase None old) new (activities o turn.phase turn.release new) turn.answer
+
+-- which frames a phase hands out (PEP 442: a finalizer; `weakref` manual: callbacks)
+abbrev pub CallsAt : Phase → FrameSort → Type 0
+CallsAt phase_of.Finalizer sort = sort ≡ sort_of.Del
+CallsAt phase_of.Calling sort = sort ≡ sort_of.Callback
+CallsAt phase_of.LegacyFinalizer sort = sort ≡ sort_of.Legacy
+CallsAt phase sort = ⊥
+
+-- which lines it prints
+abbrev pub TellsAt : ℕ → Phase → Event → Type 0
+TellsAt o phase_of.AfterFinalizer event = event ≡ Alive o
+TellsAt o phase_of.Clearing event = (w : ℕ) × (event ≡ Cleared w)
+TellsAt o phase_of.AfterLegacy event = event ≡ Alive o
+TellsAt o phase_of.Detaching event = (w : ℕ) × (event ≡ Cleared w)
+TellsAt o phase_of.Emptying event = event ≡ Free o
+TellsAt o phase event = ⊥
+
+-- The cause of each answer: lines and frames come in their phases, another object's death where nothing holds that object,
+-- and the end only where the death is over.
+abbrev pub IsCaused : ℕ → Phase → Store → DeathStep → Type 0
+IsCaused o phase new answer_of.Continue = Unit {0}
+IsCaused o phase new (answer_of.Emit event) = TellsAt o phase event
+IsCaused o phase new (answer_of.Frame spec) = CallsAt phase spec.sort
+IsCaused o phase new (answer_of.Died q) = (count_of new q ≡ 0) × (q ≢ o)
+IsCaused o phase new answer_of.Gone = phase ≡ phase_of.Over
+
+abbrev pub TurnAnswers : ℕ → Phase → Store → Turn → Type 0
+TurnAnswers o phase new turn = IsCaused o phase new turn.answer

@@ -1,5 +1,5 @@
 -- How a death that goes on without a line, a frame or another death comes nearer to its end. (Ours.)
-use Rattle.std.specs.Prelude.{◌≡◌, ℕ, ◌+◌, ◌*◌, ◌<◌, List, length, ◌⊎◌, Option, Some, None}
+use Rattle.std.specs.Prelude.{◌≡◌, ℕ, ◌+◌, ◌*◌, ◌<◌, length, ◌⊎◌, Option, Some, None}
 use Rattle.cg_graph.specs.Rows.{weak_references_in}
 use Rattle.cg_graph.specs.Store.{Store, entries_of, waiting_for}
 use Rattle.cg_death.specs.declared.answer.DeathStep.TheVariants as answer_of

@@ -1,3 +1,4 @@
 pub mod Activities
 pub mod Answers
 pub mod Falls
+pub mod Deaths

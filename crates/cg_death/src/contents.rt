@@ -5,7 +5,7 @@ ghost use Rattle.cg_heap.specs.Calls.{HasFewHolds};
 ghost use Rattle.cg_heap.specs.Weak.{IsInNoRow};
 ghost use Rattle.cg_death.specs.declared.phase.Phase.TheVariants as phase_of;
 ghost use Rattle.cg_death.specs.Activities.{IsUnheld};
-ghost use Rattle.cg_death.specs.Answers.{TurnSteps};
+ghost use Rattle.cg_death.specs.Answers.{TurnSteps, TurnAnswers};
 ghost use Rattle.cg_death.specs.Falls.{TurnFalls};
 
 use crate::answer::DeathStep;
@@ -23,6 +23,7 @@ pub fn empty_one<B: Kind>(object: u64, heap: &mut Heap<B>) -> Turn
     ensures steps { (script : Script) →
         TurnSteps script heap.old object phase_of.Emptying heap.new result }
     ensures falls { TurnFalls heap.old object phase_of.Emptying heap.new result }
+    ensures answers { TurnAnswers object phase_of.Emptying heap.new result }
 {
     heap.sound();
     match heap.detach(object) {

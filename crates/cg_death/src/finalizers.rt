@@ -10,7 +10,7 @@ ghost use Rattle.cg_script.specs.declared.Script.{Script};
 ghost use Rattle.cg_heap.specs.Calls.{HasFewHolds};
 ghost use Rattle.cg_death.specs.declared.phase.Phase.TheVariants as phase_of;
 ghost use Rattle.cg_death.specs.Activities.{IsUnheld};
-ghost use Rattle.cg_death.specs.Answers.{TurnSteps};
+ghost use Rattle.cg_death.specs.Answers.{TurnSteps, TurnAnswers};
 ghost use Rattle.cg_death.specs.Falls.{TurnFalls};
 
 use crate::phase::{Phase, Turn};
@@ -89,6 +89,7 @@ pub fn run_finalizer<B: Kind>(object: u64, heap: &mut Heap<B>, script: &Script) 
     requires unheld { IsUnheld heap.old object }
     ensures steps { TurnSteps script.now heap.old object phase_of.Finalizer heap.new result }
     ensures falls { TurnFalls heap.old object phase_of.Finalizer heap.new result }
+    ensures answers { TurnAnswers object phase_of.Finalizer heap.new result }
 {
     match finalizer_to_run(heap, script, object) {
         None => Turn::to(Phase::Clearing),
@@ -107,6 +108,7 @@ pub fn run_legacy<B: Kind>(object: u64, heap: &mut Heap<B>, script: &Script) -> 
     requires unheld { IsUnheld heap.old object }
     ensures steps { TurnSteps script.now heap.old object phase_of.LegacyFinalizer heap.new result }
     ensures falls { TurnFalls heap.old object phase_of.LegacyFinalizer heap.new result }
+    ensures answers { TurnAnswers object phase_of.LegacyFinalizer heap.new result }
 {
     match finalizers_of(heap, script, object).legacy {
         None => Turn::to(Phase::Detaching),
@@ -137,6 +139,7 @@ pub fn end_finalizer<B: Kind>(object: u64, heap: &mut Heap<B>) -> Turn
     ensures steps { (script : Script) →
         TurnSteps script heap.old object phase_of.AfterFinalizer heap.new result }
     ensures falls { TurnFalls heap.old object phase_of.AfterFinalizer heap.new result }
+    ensures answers { TurnAnswers object phase_of.AfterFinalizer heap.new result }
 {
     if is_unheld_now(object, heap) {
         Turn::to(Phase::Clearing)
@@ -151,6 +154,7 @@ pub fn end_legacy<B: Kind>(object: u64, heap: &mut Heap<B>) -> Turn
     ensures steps { (script : Script) →
         TurnSteps script heap.old object phase_of.AfterLegacy heap.new result }
     ensures falls { TurnFalls heap.old object phase_of.AfterLegacy heap.new result }
+    ensures answers { TurnAnswers object phase_of.AfterLegacy heap.new result }
 {
     if is_unheld_now(object, heap) {
         Turn::to(Phase::Detaching)

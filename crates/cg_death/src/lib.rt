@@ -5,15 +5,18 @@
 //!
 //! - `answer`: what a step answers.
 //! - `release`: references that are given up one after the other.
-//! - `phase`: where a death stands.
-//! - `finalizers`, `contents`: its phases.
+//! - `death`: the death of an object; `phase`: where it stands.
+//! - `finalizers`, `weak`, `contents`: its phases.
 #![tactic(auto)]
 
 mod answer;
 mod contents;
+mod death;
 mod finalizers;
 mod phase;
 mod release;
+mod weak;
 
 pub use answer::DeathStep;
+pub use death::Death;
 pub use release::Release;

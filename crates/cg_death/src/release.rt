@@ -1,12 +1,12 @@
 //! References that are given up one after the other.
-ghost use Rattle.std.specs.Prelude.{◌≡◌, ◌<◌, ◌++◌, ◌∷◌, [], ℕ, option_to_list, if◌then◌else◌, ◌==◌, ◌↔◌, IfNone, length};
+ghost use Rattle.std.specs.Prelude.{◌≡◌, ◌<◌, ◌++◌, ◌∷◌, [], ℕ, option_to_list, if◌then◌else◌, ◌==◌, IfNone, drop};
 ghost use Rattle.cg_value.specs.declared.Val.TheVariants as val_of;
 ghost use Rattle.cg_graph.specs.Value.{entry_references, reference_in};
 ghost use Rattle.cg_graph.specs.Store.{outside_of, count_of};
 ghost use Rattle.cg_graph.specs.Changes.{unheld};
 ghost use Rattle.cg_death.specs.declared.answer.DeathStep.TheVariants as answer_of;
 ghost use Rattle.cg_death.specs.Activities.{references_left, HasHolds};
-ghost use Rattle.cg_death.specs.Answers.{ReleaseSteps};
+ghost use Rattle.cg_death.specs.Answers.{ReleaseSteps, once_released, release_answer};
 
 use crate::answer::DeathStep;
 use cg_heap::Heap;
@@ -31,6 +31,16 @@ impl Release {
         }
     }
 
+    /// Gives up a hold of one object.
+    pub(crate) fn of(object: u64) -> Release
+        ensures { references_left result ≡ object ∷ [] }
+    {
+        Release {
+            first: Some(object),
+            second: None,
+        }
+    }
+
     /// Gives up the next reference.
     ///
     /// `Died` comes exactly where nothing then holds its object, and `Gone` exactly where no reference was left. It
@@ -38,13 +48,11 @@ impl Release {
     /// deallocated.)
     pub fn step<B: Kind>(&mut self, heap: &mut Heap<B>) -> DeathStep
         requires { HasHolds heap.old (references_left self.old) }
+        ensures left { references_left self.new ≡ drop 1 (references_left self.old) }
+        ensures rest { heap.new ≡ once_released (references_left self.old) heap.old }
+        ensures answer { result ≡ release_answer (references_left self.old) heap.new }
         ensures steps { ReleaseSteps heap.old (references_left self.old) heap.new
             (references_left self.new) result }
-
-        ensures fewer { result ≡ answer_of.Continue →
-            length (references_left self.new) < length (references_left self.old) }
-        ensures died { (o : ℕ) → result ≡ answer_of.Died o → count_of heap.new o ≡ 0 }
-        ensures gone { (result ≡ answer_of.Gone) ↔ (references_left self.old ≡ []) }
     {
         match self.take_first() {
             Some(object) => give_up(heap, object),
@@ -53,7 +61,7 @@ impl Release {
     }
 
     /// Takes the first reference.
-    fn take_first(&mut self) -> Option<u64>
+    pub(crate) fn take_first(&mut self) -> Option<u64>
         ensures taken { references_left self.old ≡ option_to_list result ++ references_left self.new }
         ensures none { IfNone result (references_left self.new ≡ []) }
     {
@@ -72,7 +80,7 @@ impl Release {
 }
 
 /// The reference in a value, if there is one.
-fn reference(val: Val) -> Option<u64>
+pub(crate) fn reference(val: Val) -> Option<u64>
     ensures { result ≡ reference_in val }
 {
     match val {

@@ -1,6 +1,5 @@
-use Rattle.std.proofs.Common.{◌≡◌, refl, [], ◌∷◌, subst, sym, ap, ◌∙◌, None, Some}
+use Rattle.std.proofs.Common.{refl, subst, sym, ap, ◌∙◌, None, Some}
 use Rattle.cg_graph.specs.Changes.{gone}
-use Rattle.cg_script.specs.declared.Script.{Script}
 use Rattle.cg_death.specs.declared.phase.Phase.TheVariants as phase_of
 use Rattle.cg_death.specs.declared.phase.Turn.{Turn}
 use Rattle.cg_death.specs.Answers.{TurnSteps}

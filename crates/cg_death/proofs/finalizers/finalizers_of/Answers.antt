@@ -1,11 +1,8 @@
-use Rattle.std.proofs.Common.{◌≡◌, ◌∙◌, sym, ap, Option, Some, None, ℕ, List}
+use Rattle.std.proofs.Common.{◌∙◌, sym, ap}
 use Rattle.std.specs.Prelude.{option_and_then, slice_get}
-use Rattle.cg_value.specs.declared.KindCode.{KindCode}
-use Rattle.cg_script.specs.declared.Item.{Item}
 use Rattle.cg_machine.specs.Program.{classes, class_number}
 use Rattle.cg_death.proofs.Classes.{finalizer-at, legacy-at, none-at}
 use Rattle.cg_death.proofs.finalizers.finalizers_of.Goals as goal
-
 
 pub returns-in-Some-clause-del : goal.returns-in-Some-clause-del
 returns-in-Some-clause-del g c =

@@ -1,4 +1,4 @@
-use Rattle.std.proofs.Common.{◌≡◌, [], ◌∷◌, subst, sym}
+use Rattle.std.proofs.Common.{[], ◌∷◌, subst, sym}
 use Rattle.cg_graph.specs.Store.{IsLive}
 use Rattle.cg_graph.specs.Changes.{unheld}
 use Rattle.cg_heap.proofs.HoldLemmas.{outside_live}

@@ -1,10 +1,8 @@
-use Rattle.std.proofs.Common.{◌≡◌, refl, [], ◌∷◌, subst, sym, ap, ◌∙◌, None, Some, arith}
+use Rattle.std.proofs.Common.{[], ◌∷◌, subst, sym, ap, ◌∙◌, arith}
 use Rattle.cg_value.specs.declared.Place.TheVariants.{Gen}
 use Rattle.cg_graph.specs.Changes.{held, moved}
 use Rattle.cg_graph.specs.Store.{IsLive}
 use Rattle.cg_heap.specs.Calls.{HasFewHolds}
-use Rattle.cg_machine.specs.declared.event.FrameSort.TheVariants.{Legacy}
-use Rattle.cg_death.specs.declared.answer.DeathStep.TheVariants as answer_of
 use Rattle.cg_death.specs.declared.phase.Phase.TheVariants as phase_of
 use Rattle.cg_death.specs.declared.phase.Turn.{Turn}
 use Rattle.cg_death.specs.Answers.{TurnSteps}

@@ -1,0 +1,40 @@
+use Rattle.std.proofs.Common.{subst, sym, None}
+use Rattle.cg_death.specs.declared.answer.DeathStep.TheVariants as answer_of
+use Rattle.cg_death.specs.declared.phase.Phase.{Phase}
+use Rattle.cg_death.specs.declared.phase.Phase.TheVariants as phase_of
+use Rattle.cg_death.specs.Activities.{activities}
+use Rattle.cg_death.specs.Answers.{TurnSteps, DeathSteps}
+use Rattle.cg_death.proofs.Steps.{turn-over}
+use Rattle.cg_death.proofs.death.turn.Goals as goal
+
+pub returns-in-Finalizer-clause-steps : goal.returns-in-Finalizer-clause-steps
+returns-in-Finalizer-clause-steps g c = subst (λ (p : Phase). TurnSteps c.args.script.now c.args.heap.now c.args.object p c.run_finalizer.new.heap c.run_finalizer.result) (sym c.in-Finalizer.is) (c.run_finalizer.ensures.steps)
+
+pub returns-in-AfterFinalizer-clause-steps : goal.returns-in-AfterFinalizer-clause-steps
+returns-in-AfterFinalizer-clause-steps g c = subst (λ (p : Phase). TurnSteps c.args.script.now c.args.heap.now c.args.object p c.end_finalizer.new.heap c.end_finalizer.result) (sym c.in-AfterFinalizer.is) (c.end_finalizer.ensures.steps c.args.script.now)
+
+pub returns-in-Clearing-clause-steps : goal.returns-in-Clearing-clause-steps
+returns-in-Clearing-clause-steps g c = subst (λ (p : Phase). TurnSteps c.args.script.now c.args.heap.now c.args.object p c.clear_one.new.heap c.clear_one.result) (sym c.in-Clearing.is) (c.clear_one.ensures.steps c.args.script.now)
+
+pub returns-in-Calling-clause-steps : goal.returns-in-Calling-clause-steps
+returns-in-Calling-clause-steps g c = subst (λ (p : Phase). TurnSteps c.args.script.now c.args.heap.now c.args.object p c.call_one.new.heap c.call_one.result) (sym c.in-Calling.is) (c.call_one.ensures.steps c.args.script.now)
+
+pub returns-in-AfterCall-clause-steps : goal.returns-in-AfterCall-clause-steps
+returns-in-AfterCall-clause-steps g c = subst (λ (p : Phase). TurnSteps c.args.script.now c.args.heap.now c.args.object p c.end_call.new.heap c.end_call.result) (sym c.in-AfterCall.is) (c.end_call.ensures.steps c.args.script.now)
+
+pub returns-in-LegacyFinalizer-clause-steps : goal.returns-in-LegacyFinalizer-clause-steps
+returns-in-LegacyFinalizer-clause-steps g c = subst (λ (p : Phase). TurnSteps c.args.script.now c.args.heap.now c.args.object p c.run_legacy.new.heap c.run_legacy.result) (sym c.in-LegacyFinalizer.is) (c.run_legacy.ensures.steps)
+
+pub returns-in-AfterLegacy-clause-steps : goal.returns-in-AfterLegacy-clause-steps
+returns-in-AfterLegacy-clause-steps g c = subst (λ (p : Phase). TurnSteps c.args.script.now c.args.heap.now c.args.object p c.end_legacy.new.heap c.end_legacy.result) (sym c.in-AfterLegacy.is) (c.end_legacy.ensures.steps c.args.script.now)
+
+pub returns-in-Detaching-clause-steps : goal.returns-in-Detaching-clause-steps
+returns-in-Detaching-clause-steps g c = subst (λ (p : Phase). TurnSteps c.args.script.now c.args.heap.now c.args.object p c.detach_one.new.heap c.detach_one.result) (sym c.in-Detaching.is) (c.detach_one.ensures.steps)
+
+pub returns-in-Emptying-clause-steps : goal.returns-in-Emptying-clause-steps
+returns-in-Emptying-clause-steps g c = subst (λ (p : Phase). TurnSteps c.args.script.now c.args.heap.now c.args.object p c.empty_one.new.heap c.empty_one.result) (sym c.in-Emptying.is) (c.empty_one.ensures.steps c.args.script.now)
+
+pub returns-in-Over-clause-steps : goal.returns-in-Over-clause-steps
+returns-in-Over-clause-steps g c =
+    subst (λ (p : Phase). DeathSteps c.args.script.now c.args.heap.now (activities c.args.object p None c.args.heap.now) c.args.heap.now (activities c.args.object phase_of.Over None c.args.heap.now) answer_of.Gone) (sym c.in-Over.is)
+    (turn-over c.args.script.now c.args.heap.now c.args.object)

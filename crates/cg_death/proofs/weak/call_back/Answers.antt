@@ -1,0 +1,52 @@
+use Rattle.std.proofs.Common.{◌≡◌, ◌∙◌, [], ◌∷◌, Some, IsSome, subst, sym, ap, ℕ}
+use Rattle.std.specs.Prelude.{IfSome, unwrap_or}
+use Rattle.std.specs.FinMap as fin
+use Rattle.cg_graph.specs.Rows.{waiting_in, waited_in}
+use Rattle.cg_graph.specs.Store.{Store, IsLive}
+use Rattle.cg_graph.specs.Changes.{held, rewritten}
+use Rattle.cg_machine.specs.declared.event.FrameSort.TheVariants.{Callback}
+use Rattle.cg_heap.specs.Weak.{forgotten_weak}
+use Rattle.cg_heap.proofs.CallerLemmas.{lives_on, kinds-held, kinds-rewritten}
+use Rattle.cg_death.specs.declared.phase.Phase.TheVariants as phase_of
+use Rattle.cg_death.specs.declared.phase.Turn.{Turn}
+use Rattle.cg_death.specs.Answers.{TurnSteps}
+use Rattle.cg_death.proofs.RowSplits.{head_in}
+use Rattle.cg_death.proofs.Finalizing.{running}
+use Rattle.cg_death.proofs.Calling.{turn-called, class-after}
+use Rattle.cg_death.proofs.Querying.{newest-waits, callback-lives}
+use Rattle.cg_death.proofs.weak.call_back.Goals as goal
+
+pub take_callback-callback-requires-clause-live : goal.take_callback-callback-requires-clause-live
+take_callback-callback-requires-clause-live g c = (newest-waits c.args.heap.now c.args.object c.args.weak c.sound.ensures.rows c.requires.newest).1
+
+pub take_callback-callback-requires-clause-callback : goal.take_callback-callback-requires-clause-callback
+take_callback-callback-requires-clause-callback g c = c.requires.callbacks c.args.weak (head_in (waiting_in c.args.heap.now.rows c.args.object) c.args.weak c.requires.newest)
+
+pub forget_weak-requires-clause-live : goal.forget_weak-requires-clause-live
+forget_weak-requires-clause-live g c =
+    subst (λ st. IsLive st c.args.weak) (sym c.take_callback-callback.ensures.rest)
+    (lives_on (rewritten c.args.weak [] c.args.heap.now) (held (c.take_callback-callback.result ∷ []) (rewritten c.args.weak [] c.args.heap.now)) (kinds-held (c.take_callback-callback.result ∷ []) (rewritten c.args.weak [] c.args.heap.now)) c.args.weak
+    (lives_on c.args.heap.now (rewritten c.args.weak [] c.args.heap.now) (kinds-rewritten c.args.weak [] c.args.heap.now) c.args.weak
+    (newest-waits c.args.heap.now c.args.object c.args.weak c.sound.ensures.rows c.requires.newest).1))
+
+pub forget_weak-requires-clause-waits : goal.forget_weak-requires-clause-waits
+forget_weak-requires-clause-waits g c =
+    subst (λ (st : Store). IsSome (waited_in st.rows c.args.weak)) (sym c.take_callback-callback.ensures.rest)
+    (newest-waits c.args.heap.now c.args.object c.args.weak c.sound.ensures.rows c.requires.newest).0
+
+pub class_of-requires : goal.class_of-requires
+class_of-requires g c =
+    subst (λ (st : Store). IsSome (fin.get st.nodes c.take_callback-callback.result)) (sym (c.forget_weak.ensures ∙ ap (forgotten_weak c.args.weak) c.take_callback-callback.ensures.rest))
+    (callback-lives c.args.heap.now c.args.weak c.take_callback-callback.result c.sound.ensures.live c.take_callback-callback.ensures.callback)
+
+pub returns-clause-steps : goal.returns-clause-steps
+returns-clause-steps g c = λ script.
+    let f : ℕ = c.take_callback-callback.result in
+    let new_is : c.forget_weak.new.self ≡ forgotten_weak c.args.weak (held (f ∷ []) (rewritten c.args.weak [] c.args.heap.now)) = c.forget_weak.ensures ∙ ap (forgotten_weak c.args.weak) c.take_callback-callback.ensures.rest in
+    let class_is = class-after c.args.heap.now c.args.weak f [] (f ∷ []) c.class_of.result
+    (callback-lives c.args.heap.now c.args.weak f c.sound.ensures.live c.take_callback-callback.ensures.callback)
+    (subst (λ (st : Store). IfSome (fin.get st.nodes f) (λ n. c.class_of.result ≡ n.class)) new_is c.class_of.ensures) in
+    let proc_is = c.unwrap_or.ensures ∙ ap (λ k. unwrap_or k 0) class_is in
+    subst (λ (turn : Turn). TurnSteps script c.args.heap.now c.args.object phase_of.Calling c.forget_weak.new.self turn)
+    (sym (c.runs.ensures ∙ ap (λ p. running (phase_of.AfterCall c.args.weak f) (record { sort = Callback; proc = p; subject = c.args.weak; func = Some f })) proc_is))
+    (turn-called script c.args.heap.now c.forget_weak.new.self c.args.object c.args.weak f c.sound.ensures.rows c.requires.newest c.sound.ensures.live c.take_callback-callback.ensures.callback new_is)

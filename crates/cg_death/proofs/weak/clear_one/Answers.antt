@@ -1,0 +1,16 @@
+use Rattle.std.proofs.Common.{subst, sym}
+use Rattle.cg_death.specs.declared.phase.Phase.TheVariants as phase_of
+use Rattle.cg_death.specs.declared.phase.Turn.{Turn}
+use Rattle.cg_death.specs.Answers.{TurnSteps}
+use Rattle.cg_death.proofs.ClearingTurns.{turn-all_cleared, turn-cleared}
+use Rattle.cg_death.proofs.weak.clear_one.Goals as goal
+
+pub returns-in-None-clause-steps : goal.returns-in-None-clause-steps
+returns-in-None-clause-steps g c = λ script.
+    subst (λ (turn : Turn). TurnSteps script c.args.heap.now c.args.object phase_of.Clearing c.args.heap.now turn) (sym c.to.ensures)
+    (turn-all_cleared script c.args.heap.now c.args.object (sym c.in-None.ensures.newest))
+
+pub returns-in-Some-clause-steps : goal.returns-in-Some-clause-steps
+returns-in-Some-clause-steps g c = λ script.
+    subst (λ (turn : Turn). TurnSteps script c.args.heap.now c.args.object phase_of.Clearing c.lose_referent.new.heap turn) (sym c.tells.ensures)
+    (turn-cleared script c.args.heap.now c.lose_referent.new.heap c.args.object c.in-Some.weak c.sound.ensures.rows c.in-Some.ensures.refers c.requires.newer (sym c.in-Some.ensures.newest) c.lose_referent.ensures)

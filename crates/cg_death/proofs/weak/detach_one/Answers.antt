@@ -1,0 +1,16 @@
+use Rattle.std.proofs.Common.{subst, sym}
+use Rattle.cg_death.specs.declared.phase.Phase.TheVariants as phase_of
+use Rattle.cg_death.specs.declared.phase.Turn.{Turn}
+use Rattle.cg_death.specs.Answers.{TurnSteps}
+use Rattle.cg_death.proofs.ClearingTurns.{turn-all_detached, turn-detached}
+use Rattle.cg_death.proofs.weak.detach_one.Goals as goal
+
+pub returns-in-None-clause-steps : goal.returns-in-None-clause-steps
+returns-in-None-clause-steps g c =
+    subst (λ (turn : Turn). TurnSteps c.args.script.now c.args.heap.now c.args.object phase_of.Detaching c.args.heap.now turn) (sym c.to.ensures)
+    (turn-all_detached c.args.script.now c.args.heap.now c.args.object (sym c.in-None.ensures.newest))
+
+pub returns-in-Some-clause-steps : goal.returns-in-Some-clause-steps
+returns-in-Some-clause-steps g c =
+    subst (λ (turn : Turn). TurnSteps c.args.script.now c.args.heap.now c.args.object phase_of.Detaching c.clear_weak.new.self turn) (sym c.tells.ensures)
+    (turn-detached c.args.script.now c.args.heap.now c.clear_weak.new.self c.args.object c.in-Some.weak c.sound.ensures.rows c.in-Some.ensures.refers (sym c.in-Some.ensures.newest) c.clear_weak.ensures)

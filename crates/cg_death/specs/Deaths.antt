@@ -1,0 +1,59 @@
+-- A death as its callers see it. (Ours.)
+use Rattle.std.specs.Prelude.{◌≡◌, ℕ, List, [], ◌∷◌, Option, Some, None, flat_map, false, is_some, if◌then◌else◌}
+use Rattle.cg_graph.specs.Rows.{referent_in}
+use Rattle.cg_graph.specs.Store.{Store}
+use Rattle.cg_machine.specs.World.{Activity}
+use Rattle.cg_machine.specs.Holdings.{holds}
+use Rattle.cg_heap.specs.Weak.{cleared_weak}
+use Rattle.cg_death.specs.declared.release.Release.{Release}
+use Rattle.cg_death.specs.declared.phase.Phase.TheVariants as phase_of
+use Rattle.cg_death.specs.declared.death.Death.{Death}
+use Rattle.cg_death.specs.Activities.{activities, references_left, IsUnheld, IsReadyAt}
+use Rattle.cg_death.specs.declared.answer.DeathStep.{DeathStep}
+use Rattle.cg_death.specs.Answers.{IsCaused}
+use Rattle.cg_death.specs.Falls.{Falls, still_released}
+
+-- the object that dies
+abbrev pub object_of : Death → ℕ
+object_of d = d.object
+
+-- what a death stands for on top of the stack of the machine
+abbrev pub on_stack : Death → Store → List Activity
+on_stack d store = activities d.object d.phase d.release store
+
+-- what it holds: references that it still gives up, and what its phase holds
+abbrev pub held_by : Death → Store → List ℕ
+held_by d store = flat_map holds (on_stack d store)
+
+-- while references are given up nothing holds the object
+abbrev pub IsUnheldDuring : Store → ℕ → Option Release → Type 0
+IsUnheldDuring store o None = Unit {0}
+IsUnheldDuring store o (Some release) = IsUnheld store o
+
+-- What a step needs of the heap, which commands, frames and other deaths may have changed since the step before.
+abbrev pub IsReady : Death → Store → Type 0
+IsReady d store = IsReadyAt store d.object d.phase × IsUnheldDuring store d.object d.release
+
+-- the object is gone, or was brought back
+abbrev pub IsOver : Death → Type 0
+IsOver d = (d.phase ≡ phase_of.Over) × (still_released d.release ≡ 0)
+
+-- A step that went on without an answer reached a later pass, or in the same pass less is left.
+abbrev pub DeathFalls : Death → Store → Death → Store → Type 0
+DeathFalls old store new after = Falls old.object store old.phase old.release after new.phase new.release
+
+-- the cause of an answer
+abbrev pub HasCause : Death → Store → DeathStep → Type 0
+HasCause d new answer = IsCaused d.object d.phase new answer
+
+-- The first reference of what is still given up is taken, or there is none.
+abbrev pub TakesNext : Option Release → Option ℕ → Option Release → Type 0
+TakesNext None None after = Unit {0}
+TakesNext None (Some o) after = ⊥
+TakesNext (Some release) None after = references_left release ≡ []
+TakesNext (Some release) (Some o) None = ⊥
+TakesNext (Some release) (Some o) (Some left) = references_left release ≡ o ∷ references_left left
+
+-- A weak reference that has a referent loses it. (`weakref` manual: a weak reference that is gone calls nothing.)
+abbrev pub forgets_referent : ℕ → Store → Store
+forgets_referent o store = if is_some (referent_in store.rows o) then cleared_weak o false store else store

@@ -1,0 +1,133 @@
+//! The death of an object that nothing holds.
+ghost use Rattle.std.specs.Prelude.{◌≡◌, ◌≢◌, ◌↔◌, ◌∷◌, ◌++◌, [], ℕ, None, false, is_some, if◌then◌else◌};
+ghost use Rattle.cg_value.specs.declared.Place.TheVariants as place_of;
+ghost use Rattle.cg_graph.specs.Rows.{referent_in, waiting_in};
+ghost use Rattle.cg_graph.specs.Store.{IsLive, count_of};
+ghost use Rattle.cg_graph.specs.Changes.{moved};
+ghost use Rattle.cg_machine.specs.World as machine;
+ghost use Rattle.cg_machine.specs.Frame.{begin_death};
+ghost use Rattle.cg_machine.specs.Represents.{Represents};
+ghost use Rattle.cg_heap.specs.Calls.{HasFewHolds};
+ghost use Rattle.cg_heap.specs.Weak.{cleared_weak};
+ghost use Rattle.cg_death.specs.declared.answer.DeathStep.TheVariants as answer_of;
+ghost use Rattle.cg_death.specs.declared.phase.Phase.TheVariants as phase_of;
+ghost use Rattle.cg_death.specs.Activities.{IsUnheld, HasHolds, IsReadyAt, own_holds_at, death_of};
+ghost use Rattle.cg_death.specs.Answers.{DeathSteps, TurnSteps, TurnAnswers};
+ghost use Rattle.cg_death.specs.Falls.{TurnFalls};
+ghost use Rattle.cg_death.specs.Deaths.{object_of, on_stack, held_by, IsReady, IsOver, DeathFalls, HasCause, TakesNext, forgets_referent};
+
+use crate::answer::DeathStep;
+use crate::contents::empty_one;
+use crate::finalizers::{end_finalizer, end_legacy, run_finalizer, run_legacy};
+use crate::phase::{Phase, Turn};
+use crate::release::{Release, give_up};
+use crate::weak::{call_one, clear_one, detach_one, end_call};
+use cg_heap::Heap;
+use cg_kind::Kind;
+use cg_script::Script;
+use cg_value::Place;
+
+/// The death of an object, phase by phase. (PEP 442, "Disposal of regular objects"; developer guide, "Reference
+/// counting".)
+#[derive(Drop)]
+pub struct Death {
+    object: u64,
+    phase: Phase,
+    release: Option<Release>,
+}
+
+impl Death {
+    /// The death of an object begins: it is untracked, and if it is a weak reference it loses its referent without a line.
+    /// No weak reference waits with it.
+    pub fn begin<B: Kind>(heap: &mut Heap<B>, object: u64) -> Death
+        requires unheld { IsUnheld heap.old object }
+        requires none_waits { waiting_in heap.old.rows object ≡ [] }
+        ensures rest { heap.new ≡ forgets_referent object (moved object place_of.Untracked heap.old) }
+        ensures begins { (w : machine.World) → Represents heap.old w → Represents heap.new (begin_death object w) }
+        ensures stack { on_stack result heap.new ≡ death_of object machine.Finalizer ∷ [] }
+        ensures object { object_of result ≡ object }
+    {
+        heap.sound();
+        heap.move_to(object, Place::Untracked);
+        lose_own_referent(object, heap);
+        Death {
+            object,
+            phase: Phase::Finalizer,
+            release: None,
+        }
+    }
+
+    /// One action of the death.
+    ///
+    /// `Frame` comes where a finalizer or a callback is to be called, and the holds that it takes are given back by the
+    /// next steps. `Died` comes exactly where a reference was given up and nothing holds its object any more; it is never
+    /// the dying object. `Gone` comes exactly where the death is over: the object is gone, or was brought back.
+    pub fn step<B: Kind>(&mut self, heap: &mut Heap<B>, script: &Script) -> DeathStep
+        requires few { HasFewHolds heap.old }
+        requires held { HasHolds heap.old (held_by self.old heap.old) }
+        requires ready { IsReady self.old heap.old }
+        ensures steps { DeathSteps script.now heap.old (on_stack self.old heap.old) heap.new
+            (on_stack self.new heap.new) result }
+
+        ensures falls { result ≡ answer_of.Continue → DeathFalls self.old heap.old self.new heap.new }
+        ensures cause { HasCause self.old heap.new result }
+        ensures gone { (result ≡ answer_of.Gone) ↔ IsOver self.old }
+        ensures object { object_of self.new ≡ object_of self.old }
+    {
+        if let Some(object) = next_reference(&mut self.release) {
+            return give_up(heap, object);
+        }
+        let turn = turn(self.object, self.phase, heap, script);
+        self.phase = turn.phase;
+        self.release = turn.release;
+        turn.answer
+    }
+}
+
+/// Takes the first of the references that are still to be given up, if one is left.
+fn next_reference(release: &mut Option<Release>) -> Option<u64>
+    ensures { TakesNext release.old result release.new }
+{
+    match release {
+        Some(release) => release.take_first(),
+        None => None,
+    }
+}
+
+/// If an object is a weak reference, it loses its referent.
+fn lose_own_referent<B: Kind>(object: u64, heap: &mut Heap<B>)
+    requires { IsLive heap.old object }
+    ensures { heap.new ≡ forgets_referent object heap.old }
+{
+    if heap.referent_of(object).is_some() {
+        heap.clear_weak(object, false);
+    }
+}
+
+/// One action of a phase.
+fn turn<B: Kind>(object: u64, phase: Phase, heap: &mut Heap<B>, script: &Script) -> Turn
+    requires few { HasFewHolds heap.old }
+    requires held { HasHolds heap.old (own_holds_at object phase) }
+    requires ready { IsReadyAt heap.old object phase }
+    ensures steps { TurnSteps script.now heap.old object phase heap.new result }
+    ensures falls { TurnFalls heap.old object phase heap.new result }
+    ensures answers { TurnAnswers object phase heap.new result }
+    ensures over { phase ≡ phase_of.Over → result.answer ≡ answer_of.Gone }
+{
+    match phase {
+        Phase::Finalizer => run_finalizer(object, heap, script),
+        Phase::AfterFinalizer => end_finalizer(object, heap),
+        Phase::Clearing => clear_one(object, heap),
+        Phase::Calling => call_one(object, heap),
+        Phase::AfterCall { weak, callback } => end_call(object, weak, callback, heap),
+        Phase::LegacyFinalizer => run_legacy(object, heap, script),
+        Phase::AfterLegacy => end_legacy(object, heap),
+        Phase::Detaching => detach_one(object, heap, script),
+        Phase::Emptying => empty_one(object, heap),
+        Phase::Over => Turn {
+            phase: Phase::Over,
+            release: None,
+            answer: DeathStep::Gone,
+        },
+    }
+}

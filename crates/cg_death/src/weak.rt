@@ -1,0 +1,198 @@
+//! The phases on weak references: they lose the object, and the callbacks of those that waited are called.
+ghost use Rattle.std.specs.Prelude.{◌≡◌, ◌<◌, ◌∷◌, [], ℕ, Some, None, true, false, IfSome, IsSome, slice_get, option_map, if◌then◌else◌, is_some, unwrap_or};
+ghost use Rattle.cg_script.specs.declared.Script.{Script};
+ghost use Rattle.cg_value.specs.declared.Val.TheVariants as val_of;
+ghost use Rattle.cg_graph.specs.Value.{item};
+ghost use Rattle.cg_graph.specs.Object.{object_at};
+ghost use Rattle.cg_graph.specs.Rows.{referent_in, waiting_in};
+ghost use Rattle.cg_graph.specs.Store.{IsLive, entries_of, objects_of};
+ghost use Rattle.cg_graph.specs.Changes.{held, rewritten};
+ghost use Rattle.cg_machine.specs.Weak.{weak_references_if, has_weak_references, callback_of};
+ghost use Rattle.cg_machine.specs.Dying.{has_finalizers};
+ghost use Rattle.cg_heap.specs.Calls.{HasFewHolds};
+ghost use Rattle.cg_heap.specs.Weak.{cleared_weak};
+ghost use Rattle.cg_death.specs.declared.phase.Phase.TheVariants as phase_of;
+ghost use Rattle.cg_death.specs.Activities.{IsUnheld, HasHolds, AreNewer, HasCallback, HaveCallbacks};
+ghost use Rattle.cg_death.specs.Answers.{TurnSteps, TurnAnswers};
+ghost use Rattle.cg_death.specs.Falls.{TurnFalls};
+
+use crate::finalizers::finalizers_of;
+use crate::phase::{Phase, Turn};
+use crate::release::{Release, give_up, reference};
+use cg_heap::Heap;
+use cg_kind::Kind;
+use cg_machine::{Event, FrameSort, FrameSpec};
+use cg_script::Script;
+use cg_value::KindCode;
+
+/// The newest weak reference to a dying instance or function loses it. With a callback it waits, and is held.
+pub fn clear_one<B: Kind>(object: u64, heap: &mut Heap<B>) -> Turn
+    requires few { HasFewHolds heap.old }
+    requires unheld { IsUnheld heap.old object }
+    requires newer { AreNewer heap.old object }
+    ensures steps { (script : Script) →
+        TurnSteps script heap.old object phase_of.Clearing heap.new result }
+    ensures falls { TurnFalls heap.old object phase_of.Clearing heap.new result }
+    ensures answers { TurnAnswers object phase_of.Clearing heap.new result }
+{
+    heap.sound();
+    match newest_to_clear(object, heap) {
+        None => Turn::to(Phase::Calling),
+        Some(weak) => {
+            lose_referent(weak, heap);
+            Turn::tells(Event::Cleared(weak), Phase::Clearing)
+        }
+    }
+}
+
+/// The newest weak reference to an object that may have some: to an instance or a function. (`weakref` manual.)
+fn newest_to_clear<B: Kind>(object: u64, heap: &Heap<B>) -> Option<u64>
+    requires { IsLive heap.now object }
+    ensures newest { result ≡
+        slice_get (weak_references_if has_weak_references (objects_of heap.now) object) 0 }
+    ensures refers { IfSome result (λ w. referent_in heap.now.rows w ≡ Some object) }
+    ensures live { IfSome result (λ w. IsLive heap.now w) }
+{
+    heap.sound();
+    match heap.kind_of(object) {
+        KindCode::Inst | KindCode::Func => heap.newest_of(object),
+        _ => None,
+    }
+}
+
+/// A weak reference loses its referent. With a callback it waits, and is held.
+fn lose_referent<B: Kind>(weak: u64, heap: &mut Heap<B>)
+    requires few { HasFewHolds heap.old }
+    requires live { IsLive heap.old weak }
+    requires refers { IsSome (referent_in heap.old.rows weak) }
+    ensures { heap.new ≡ (if is_some (callback_of (objects_of heap.old) weak)
+        then cleared_weak weak true (held (weak ∷ []) heap.old) else cleared_weak weak false heap.old) }
+{
+    if has_callback(weak, heap) {
+        heap.hold(weak);
+        heap.clear_weak(weak, true);
+    } else {
+        heap.clear_weak(weak, false);
+    }
+}
+
+/// Whether a weak reference has a callback.
+fn has_callback<B: Kind>(weak: u64, heap: &Heap<B>) -> bool
+    requires { IsLive heap.now weak }
+    ensures { result ≡ is_some (callback_of (objects_of heap.now) weak) }
+{
+    if heap.len(weak) == 0 {
+        return false;
+    }
+    reference(heap.entry_at(weak, 0).val).is_some()
+}
+
+/// The newest weak reference that waits has its callback taken out and called; both are held.
+pub fn call_one<B: Kind>(object: u64, heap: &mut Heap<B>) -> Turn
+    requires few { HasFewHolds heap.old }
+    requires live { IsLive heap.old object }
+    requires callbacks { HaveCallbacks heap.old object }
+    ensures steps { (script : Script) →
+        TurnSteps script heap.old object phase_of.Calling heap.new result }
+    ensures falls { TurnFalls heap.old object phase_of.Calling heap.new result }
+    ensures answers { TurnAnswers object phase_of.Calling heap.new result }
+{
+    match heap.newest_waiting(object) {
+        None => Turn::to(Phase::LegacyFinalizer),
+        Some(weak) => call_back(object, weak, heap),
+    }
+}
+
+/// Calls the callback of a weak reference that waits.
+fn call_back<B: Kind>(object: u64, weak: u64, heap: &mut Heap<B>) -> Turn
+    requires few { HasFewHolds heap.old }
+    requires callbacks { HaveCallbacks heap.old object }
+    requires newest { slice_get (waiting_in heap.old.rows object) 0 ≡ Some weak }
+    ensures steps { (script : Script) →
+        TurnSteps script heap.old object phase_of.Calling heap.new result }
+    ensures falls { TurnFalls heap.old object phase_of.Calling heap.new result }
+    ensures answers { TurnAnswers object phase_of.Calling heap.new result }
+{
+    heap.sound();
+    let callback = take_callback(weak, heap);
+    heap.forget_weak(weak);
+    let frame = FrameSpec {
+        sort: FrameSort::Callback,
+        proc: heap.class_of(callback).unwrap_or(0),
+        subject: weak,
+        func: Some(callback),
+    };
+    Turn::runs(frame, Phase::AfterCall { weak, callback })
+}
+
+/// Takes the callback of a weak reference out of it. It is held from outside then.
+fn take_callback<B: Kind>(weak: u64, heap: &mut Heap<B>) -> u64
+    requires few { HasFewHolds heap.old }
+    requires live { IsLive heap.old weak }
+    requires callback { HasCallback heap.old weak }
+    ensures callback { entries_of heap.old weak ≡ item (val_of.Ref result) ∷ [] }
+    ensures rest { heap.new ≡ held (result ∷ []) (rewritten weak [] heap.old) }
+{
+    let entry = heap.detach(weak).unwrap();
+    reference(entry.val).unwrap()
+}
+
+/// The frame of a callback has ended: the callback is given up, and then the weak reference.
+pub fn end_call<B: Kind>(object: u64, weak: u64, callback: u64, heap: &mut Heap<B>) -> Turn
+    requires unheld { IsUnheld heap.old object }
+    requires held { HasHolds heap.old (callback ∷ weak ∷ []) }
+    ensures steps { (script : Script) →
+        TurnSteps script heap.old object (phase_of.AfterCall weak callback) heap.new result }
+    ensures falls { TurnFalls heap.old object (phase_of.AfterCall weak callback) heap.new result }
+    ensures answers { TurnAnswers object (phase_of.AfterCall weak callback) heap.new result }
+{
+    let answer = give_up(heap, callback);
+    Turn {
+        phase: Phase::Calling,
+        release: Some(Release::of(weak)),
+        answer,
+    }
+}
+
+/// The newest weak reference that the object's own frames made loses it, without callback.
+pub fn detach_one<B: Kind>(object: u64, heap: &mut Heap<B>, script: &Script) -> Turn
+    requires { IsLive heap.old object }
+    ensures steps { TurnSteps script.now heap.old object phase_of.Detaching heap.new result }
+    ensures falls { TurnFalls heap.old object phase_of.Detaching heap.new result }
+    ensures answers { TurnAnswers object phase_of.Detaching heap.new result }
+{
+    heap.sound();
+    match newest_to_detach(object, heap, script) {
+        None => Turn::to(Phase::Emptying),
+        Some(weak) => {
+            heap.clear_weak(weak, false);
+            Turn::tells(Event::Cleared(weak), Phase::Detaching)
+        }
+    }
+}
+
+/// The newest weak reference to an object whose class has a finalizer or a legacy finalizer.
+fn newest_to_detach<B: Kind>(object: u64, heap: &Heap<B>, script: &Script) -> Option<u64>
+    requires { IsLive heap.now object }
+    ensures newest { result ≡
+        slice_get (weak_references_if (has_finalizers script.now) (objects_of heap.now) object) 0 }
+    ensures refers { IfSome result (λ w. referent_in heap.now.rows w ≡ Some object) }
+    ensures live { IfSome result (λ w. IsLive heap.now w) }
+{
+    heap.sound();
+    if has_finalizers(object, heap, script) {
+        heap.newest_of(object)
+    } else {
+        None
+    }
+}
+
+/// Whether the class of an object has a finalizer or a legacy finalizer.
+fn has_finalizers<B: Kind>(object: u64, heap: &Heap<B>, script: &Script) -> bool
+    requires { IsLive heap.now object }
+    ensures { result ≡
+        unwrap_or (option_map (has_finalizers script.now) (object_at (objects_of heap.now) object)) false }
+{
+    let finalizers = finalizers_of(heap, script, object);
+    finalizers.del.is_some() || finalizers.legacy.is_some()
+}
