@@ -1,5 +1,5 @@
 -- A command asks for one thing after the other: what comes first decides, where it is refused.
-use Rattle.std.proofs.Common.{◌≡◌, refl, sym, subst, ℕ, Option, Result, Ok, Err}
+use Rattle.std.proofs.Common.{◌≡◌, refl, sym, ap, subst, ℕ, Option, Result, Ok, Err}
 use Rattle.cg_graph.specs.Store.{Store}
 use Rattle.cg_machine.specs.World.{World}
 use Rattle.cg_machine.specs.Effects.{Effect}
@@ -10,27 +10,44 @@ use Rattle.cg_commands.specs.declared.done.Refusal.TheVariants.{NoName, WrongKin
 use Rattle.cg_commands.specs.Refusals.{number_of, Declines}
 use Rattle.cg_commands.specs.declared.locals.Locals.{Locals}
 use Rattle.cg_commands.specs.Stands.{Reads, IsRefused}
-use Rattle.cg_commands.specs.Answers.{Answers, Performs}
+use Rattle.cg_commands.specs.Answers.{Answers, Refuses, Performs}
 
 -- it goes on where the first thing is there
 pub next : {A : Type 0} (r : Result A ℕ) (x : A) (f : A → Result Effect ℕ) (old new : Store) (answer : Result Done Refusal) → r ≡ Ok x → Answers answer (f x) old new → Answers answer (r >>= f) old new
 unfolding ◌>>=◌
 next r x f old new answer is rest = subst (λ q. Answers answer (q >>= f) old new) (sym is) rest
 
+-- what is refused is refused whatever comes after it
+pub declines_then : {A B : Type 0} (refusal : Refusal) (r : Result A ℕ) (f : A → Result B ℕ) → Declines refusal r → Declines refusal (r >>= f)
+unfolding ◌>>=◌
+declines_then NoName r f is = ap (λ q. q >>= f) is
+declines_then WrongKind r f is = ap (λ q. q >>= f) is
+declines_then NoIndex r f is = ap (λ q. q >>= f) is
+declines_then NoKey r f is = ap (λ q. q >>= f) is
+declines_then NoAttribute r f is = ap (λ q. q >>= f) is
+declines_then NotWeak r f is = ap (λ q. q >>= f) is
+declines_then NotCallable r f is = ap (λ q. q >>= f) is
+declines_then Unhashable r f is = ap (λ q. q >>= f) is
+declines_then OutOfMemory r f is = absurd is
+declines_then ObjectLimit r f is = ap (λ q. q >>= f) is
+declines_then EntryLimit r f is = ap (λ q. q >>= f) is
+
 -- and is refused where it is not
 pub refused : {A : Type 0} (refusal : Refusal) (r : Result A ℕ) (f : A → Result Effect ℕ) (old : Store) → Declines refusal r → Answers (Err refusal) (r >>= f) old old
-unfolding ◌>>=◌
-refused NoName r f old is = (subst (λ q. (q >>= f) ≡ Err (number_of NoName)) (sym is) refl, refl)
-refused WrongKind r f old is = (subst (λ q. (q >>= f) ≡ Err (number_of WrongKind)) (sym is) refl, refl)
-refused NoIndex r f old is = (subst (λ q. (q >>= f) ≡ Err (number_of NoIndex)) (sym is) refl, refl)
-refused NoKey r f old is = (subst (λ q. (q >>= f) ≡ Err (number_of NoKey)) (sym is) refl, refl)
-refused NoAttribute r f old is = (subst (λ q. (q >>= f) ≡ Err (number_of NoAttribute)) (sym is) refl, refl)
-refused NotWeak r f old is = (subst (λ q. (q >>= f) ≡ Err (number_of NotWeak)) (sym is) refl, refl)
-refused NotCallable r f old is = (subst (λ q. (q >>= f) ≡ Err (number_of NotCallable)) (sym is) refl, refl)
-refused Unhashable r f old is = (subst (λ q. (q >>= f) ≡ Err (number_of Unhashable)) (sym is) refl, refl)
-refused OutOfMemory r f old is = absurd is
-refused ObjectLimit r f old is = (subst (λ q. (q >>= f) ≡ Err (number_of ObjectLimit)) (sym is) refl, refl)
-refused EntryLimit r f old is = (subst (λ q. (q >>= f) ≡ Err (number_of EntryLimit)) (sym is) refl, refl)
+refused refusal r f old is = (told refusal (r >>= f) (declines_then refusal r f is), refl)
+  where
+    told : (refusal : Refusal) (effect : Result Effect ℕ) → Declines refusal effect → Refuses refusal effect
+    told NoName effect is = is
+    told WrongKind effect is = is
+    told NoIndex effect is = is
+    told NoKey effect is = is
+    told NoAttribute effect is = is
+    told NotWeak effect is = is
+    told NotCallable effect is = is
+    told Unhashable effect is = is
+    told OutOfMemory effect is = absurd is
+    told ObjectLimit effect is = is
+    told EntryLimit effect is = is
 
 -- In every world at once: what was read decides where it is refused,
 pub stops : {A : Type 0} (store : Store) (locals : Option Locals) (read : World → Result A ℕ) (k : World → A → Result Effect ℕ) (refusal : Refusal) → IsRefused store locals read refusal → Performs store locals (λ w. read w >>= k w) store (Err refusal)

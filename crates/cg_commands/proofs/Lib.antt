@@ -2,3 +2,14 @@ mod Chains
 mod Reading
 mod Bridges
 mod BindingLemmas
+mod KeyLemmas
+mod Steps
+mod QueryLemmas
+mod LookupLemmas
+mod Limits
+mod EntryLemmas
+mod PutLemmas
+mod TextLemmas
+mod PartLemmas
+mod NewObjects
+mod MakeLemmas

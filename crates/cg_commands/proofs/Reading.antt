@@ -108,7 +108,7 @@ declined wanted.Func r is = is
 declined wanted.Referable r is = is
 declined wanted.Weak r is = is
 
-no_reference : (v : Val) → ((o : ℕ) → v ≡ val.Ref o → ⊥) → reference_in v ≡ None
+pub no_reference : (v : Val) → ((o : ℕ) → v ≡ val.Ref o → ⊥) → reference_in v ≡ None
 no_reference val.None none = refl
 no_reference (val.Int n) none = refl
 no_reference (val.Str n) none = refl
@@ -152,3 +152,7 @@ object-other store kind o code live told fails w r = declined kind _ (known (fin
     known (Some n) at live told =
         ap (λ x. ok_or x (number_of (refusal_of kind)) >>= tested (test_of kind) (number_of (refusal_of kind))) (object-at_node store w r o ∙ ap (option_map (object_from store.rows o)) at)
         ∙ ap (λ b. if b then Ok (object_from store.rows o n) else Err (number_of (refusal_of kind))) (test-bare kind (object_from store.rows o n) ∙ ap (λ c. test_of kind (bare c o)) (sym told) ∙ fails)
+
+-- what a value refers to lives
+pub refers_live : (store : Store) (test : Object → Bool) (v : Val) (o : ℕ) → RefersTo store test v o → IsLive store o
+refers_live store test v o there = subst IsSome (sym there.found) refl

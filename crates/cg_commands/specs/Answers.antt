@@ -1,5 +1,6 @@
 -- What a command may answer, in every world that the heap stands for. (Ours.)
-use Rattle.std.specs.Prelude.{◌≡◌, ℕ, Bool, true, List, Option, option_to_list, Result, Ok, Err}
+use Rattle.cg_value.specs.declared.Entry.{Entry}
+use Rattle.std.specs.Prelude.{◌≡◌, ℕ, Bool, true, List, Option, None, option_to_list, Result, Ok, Err}
 use Rattle.cg_graph.specs.Store.{Store}
 use Rattle.cg_graph.specs.Value.{entry_references}
 use Rattle.cg_machine.specs.declared.event.Event.{Event}
@@ -48,3 +49,7 @@ Answers (Err refusal) effect old new = Refuses refusal effect × (new ≡ old)
 -- The answer is that of the machine, in every world for which the heap and the locals stood before.
 abbrev pub Performs : Store → Option Locals → (World → Result Effect ℕ) → Store → Result Done Refusal → Type 0
 Performs old locals effect new answer = (w : World) → StandsFor old locals w → Answers answer (effect w) old new
+
+-- a change without a line that gives up these references
+abbrev pub GivesUp : List ℕ → Done → Type 0
+GivesUp references done = (e : Entry) × (done ≡ Changed None e) × (entry_references e ≡ references)

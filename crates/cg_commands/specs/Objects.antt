@@ -9,7 +9,8 @@ use Rattle.cg_graph.specs.Object.{Object}
 use Rattle.cg_graph.specs.Store.{Store, Node, object_from}
 use Rattle.cg_machine.specs.World.{World}
 use Rattle.cg_machine.specs.Represents.{Represents}
-use Rattle.cg_machine.specs.Operands.{object, any_object, is_list, is_script_list, is_sequence, is_dict, is_weak}
+use Rattle.cg_machine.specs.Effects.{is_hashable}
+use Rattle.cg_machine.specs.Operands.{object, object_of, any_object, is_list, is_script_list, is_sequence, is_dict, is_weak}
 use Rattle.cg_machine.specs.Weak.{is_instance, is_function, has_weak_references}
 use Rattle.cg_commands.specs.declared.done.Refusal.{Refusal}
 use Rattle.cg_commands.specs.declared.done.Refusal.TheVariants.{WrongKind, NotWeak, NotCallable}
@@ -49,3 +50,12 @@ HasNoObject store test number v refusal = (w : World) → Represents store w →
 -- an object of which only the kind and the serial are known: the tests ask no more
 abbrev pub bare : KindCode → ℕ → Object
 bare code o = record { serial = o; code = code; class = None; entries = []; place = Untracked; finalized = false; referent = None }
+
+-- What a question answers of the object that a value refers to, in every world for which the heap stands; where it refers
+-- to none, it answers no.
+abbrev pub Tells : Store → (Object → Bool) → Val → Bool → Type 0
+Tells store question v answer = (w : World) → Represents store w → elim (object_of w v) [ None ↦ false | Some x ↦ question x ] ≡ answer
+
+-- whether the value may be a key, in every such world
+abbrev pub IsKey : Store → Val → Bool → Type 0
+IsKey store v answer = (w : World) → Represents store w → is_hashable w v ≡ answer

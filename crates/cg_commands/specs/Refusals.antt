@@ -1,6 +1,8 @@
 -- Refusals by the numbers of the machine, and what a refusal says. (Ours.)
 use Rattle.std.specs.Prelude.{◌≡◌, ℕ, Result, Err}
 use Rattle.cg_machine.specs.Refusals.{no_name, wrong_kind, no_index, no_key, no_attribute, not_weak, not_callable, unhashable, no_memory, object_limit, entry_limit}
+use Rattle.cg_heap.specs.declared.fault.HeapFault.{HeapFault}
+use Rattle.cg_heap.specs.declared.fault.HeapFault.TheVariants as fault
 use Rattle.cg_commands.specs.declared.done.Refusal.{Refusal}
 use Rattle.cg_commands.specs.declared.done.Refusal.TheVariants.{NoName, WrongKind, NoIndex, NoKey, NoAttribute, NotWeak, NotCallable, Unhashable, OutOfMemory, ObjectLimit, EntryLimit}
 
@@ -17,6 +19,12 @@ number_of Unhashable = unhashable
 number_of OutOfMemory = no_memory
 number_of ObjectLimit = object_limit
 number_of EntryLimit = entry_limit
+
+-- the refusal that a fault of the heap is
+abbrev pub refusal_by : HeapFault → Refusal
+refusal_by fault.ObjectLimit = ObjectLimit
+refusal_by fault.EntryLimit = EntryLimit
+refusal_by fault.OutOfMemory = OutOfMemory
 
 -- The machine gives this refusal. It never refuses for want of memory, which no rule ties to anything.
 abbrev pub Declines : {A : Type 0} → Refusal → Result A ℕ → Type 0

@@ -1,7 +1,8 @@
 //! What a command did, and why one is refused.
 ghost use Rattle.std.specs.Prelude.{◌≡◌};
-ghost use Rattle.cg_commands.specs.Refusals.{number_of};
+ghost use Rattle.cg_commands.specs.Refusals.{number_of, refusal_by};
 
+use cg_heap::HeapFault;
 use cg_machine::Event;
 use cg_value::Entry;
 
@@ -65,5 +66,16 @@ impl Refusal {
             Refusal::ObjectLimit => 11,
             Refusal::EntryLimit => 12,
         }
+    }
+}
+
+/// The refusal that a fault of the heap is.
+pub(crate) fn refusal_by(fault: HeapFault) -> Refusal
+    ensures { result ≡ refusal_by fault }
+{
+    match fault {
+        HeapFault::ObjectLimit => Refusal::ObjectLimit,
+        HeapFault::EntryLimit => Refusal::EntryLimit,
+        HeapFault::OutOfMemory => Refusal::OutOfMemory,
     }
 }

@@ -7,13 +7,21 @@
 //! - `locals`: the locals of a frame.
 //! - `operands`: the values of operands, and the objects that they refer to.
 //! - `bindings`, `queries`, `lookups`, `entries`, `makes`: the commands, by family.
-//! - `perform`: any of them.
+//! - `dispatch`: any of them.
 #![tactic(auto)]
 
 mod bindings;
+mod dispatch;
 mod done;
+mod entries;
+mod frames;
 mod locals;
+mod lookups;
+mod makes;
 mod operands;
+mod parts;
+mod queries;
 
 pub use done::{Done, Refusal};
 pub use locals::Locals;
+pub use dispatch::perform;

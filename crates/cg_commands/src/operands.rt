@@ -38,7 +38,7 @@ pub(crate) enum Wanted {
 
 impl Wanted {
     /// Whether an object of this kind and serial is wanted.
-    fn admits(self, code: KindCode, object: u64) -> bool
+    pub(crate) fn admits(self, code: KindCode, object: u64) -> bool
         ensures { result ≡ test_of self (bare code object) }
     {
         match code {

@@ -1,0 +1,56 @@
+-- The first position of a key, and what stands there.
+use Rattle.std.proofs.Common.{◌≡◌, refl, sym, ◌∙◌, ap, subst, ℕ, zero, suc, ◌+◌, Bool, true, false, cond, List, [], ◌∷◌, Option, Some, None, arith, remove}
+use Rattle.std.specs.Prelude.{if◌then◌else◌, slice_get, position}
+use Rattle.std.specs.List.{position_from}
+use Rattle.std.proofs.lemmas.Iterator.Adapters.{position_from-zero}
+use Rattle.cg_value.specs.declared.Val.{Val}
+use Rattle.cg_value.specs.declared.Entry.{Entry}
+use Rattle.cg_kind.specs.Calls.{has_key}
+use Rattle.cg_graph.specs.Value.{same_value, value_at, entry_at, without_key}
+
+-- the entry of a key, at its first position
+pub record Stands (es : List Entry) (key : Val) (i : ℕ) (e : Entry) : Type 0 where
+  pub here : slice_get es i ≡ Some e
+  pub entry : entry_at es key ≡ Some e
+  pub value : value_at es key ≡ Some e.val
+  pub rest : without_key es key ≡ remove es i
+
+some_is : (m n : ℕ) → Some m ≡ Some n → m ≡ n
+some_is m n h = cc
+
+found_from : (key : Val) (k i : ℕ) (es : List Entry) → position_from (has_key key) k es ≡ Some i → (j : ℕ) × (i ≡ k + j) × ((e : Entry) × Stands es key j e)
+found_from key k i [] at = absurd (cc)
+found_from key k i (x ∷ es) at =
+    let (j, is, (e, here, entry, value, rest)) = go (same_value x.key key) at (found_from key (k + 1) i es) in
+    (j, is, (e, record { here = here; entry = entry; value = value; rest = rest }))
+  where
+    go : (b : Bool) → cond b (Some k) (position_from (has_key key) (k + 1) es) ≡ Some i
+        → (position_from (has_key key) (k + 1) es ≡ Some i → (j : ℕ) × (i ≡ (k + 1) + j) × ((e : Entry) × Stands es key j e))
+        → (j : ℕ) × (i ≡ k + j) × ((e : Entry) × (slice_get (x ∷ es) j ≡ Some e) × ((if b then Some x else entry_at es key) ≡ Some e) × ((if b then Some x.val else value_at es key) ≡ Some e.val) × ((if b then es else x ∷ without_key es key) ≡ remove (x ∷ es) j))
+    go true at next = let is = some_is k i at in (0, omega (arith, is), (x, refl, refl, refl, refl))
+    go false at next =
+        let (j, is, (e, there)) = next at in (suc j, omega (arith, is), (e, there.here, there.entry, there.value, ap (λ l. x ∷ l) there.rest))
+
+pub key_found : (es : List Entry) (key : Val) (i : ℕ) (e : Entry) → position (has_key key) es ≡ Some i → slice_get es i ≡ Some e → Stands es key i e
+key_found es key i e at here =
+    let (j, is, (d, there)) = found_from key 0 i es (sym (position_from-zero (has_key key) es) ∙ at) in
+    let same : j ≡ i = omega (arith, is) in
+    let there_i : Stands es key i d = subst (λ n. Stands es key n d) same there in
+    let both : d ≡ e = some_entry d e (sym there_i.here ∙ here) in
+    subst (λ x. Stands es key i x) both there_i
+  where
+    some_entry : (x y : Entry) → Some x ≡ Some y → x ≡ y
+    some_entry x y h = cc
+
+-- there is none
+none_from : (key : Val) (k : ℕ) (es : List Entry) → position_from (has_key key) k es ≡ None → (entry_at es key ≡ None) × (value_at es key ≡ None)
+none_from key k [] at = (refl, refl)
+none_from key k (x ∷ es) at = go (same_value x.key key) at (none_from key (k + 1) es)
+  where
+    go : (b : Bool) → cond b (Some k) (position_from (has_key key) (k + 1) es) ≡ None → (position_from (has_key key) (k + 1) es ≡ None → (entry_at es key ≡ None) × (value_at es key ≡ None))
+        → ((if b then Some x else entry_at es key) ≡ None) × ((if b then Some x.val else value_at es key) ≡ None)
+    go true at next = absurd (cc)
+    go false at next = next at
+
+pub key_missing : (es : List Entry) (key : Val) → position (has_key key) es ≡ None → (entry_at es key ≡ None) × (value_at es key ≡ None)
+key_missing es key at = none_from key 0 es (sym (position_from-zero (has_key key) es) ∙ at)

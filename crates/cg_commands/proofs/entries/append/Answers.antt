@@ -1,0 +1,74 @@
+use Rattle.std.proofs.Common.{◌≡◌, refl, sym, ◌∙◌, ap, subst, ℕ, ◌<◌, ◌++◌, length, Option, Some, None, Ok, Err, true, false, arith}
+use Rattle.std.proofs.Common.{w64}
+use mir.Val.{to_z, of_z}
+use Rattle.std.proofs.Math.Facts.{to_z-of_z}
+use Rattle.std.proofs.lemmas.List.Elements.{All-head}
+use Rattle.cg_script.specs.Texts.{operand_texts}
+use Rattle.std.specs.Prelude.{slice_get, ok_or}
+use Rattle.std.proofs.lemmas.Result.{err_from_is_err_and}
+use Rattle.cg_value.specs.declared.Val.TheVariants as val
+use Rattle.cg_graph.specs.Store.{object_from, entries_of}
+use Rattle.cg_graph.specs.Value.{value_at, entry_at}
+use Rattle.cg_machine.specs.Operands.{value, values, object}
+use Rattle.cg_machine.specs.Effects.{place_of_index, is_hashable, binds}
+use Rattle.cg_machine.specs.Refusals.{no_index, no_key, no_attribute, unhashable, unless}
+use Rattle.cg_commands.specs.declared.done.Refusal.TheVariants as refusal
+use Rattle.cg_commands.specs.declared.done.Done.TheVariants as done
+use Rattle.cg_machine.specs.declared.event.Event.TheVariants as event
+use Rattle.cg_graph.specs.Value.{item}
+use Rattle.cg_graph.specs.Object.{Object, is_tracked, same_place}
+use Rattle.cg_commands.specs.declared.operands.Wanted.TheVariants as wanted
+use Rattle.cg_commands.specs.Refusals.{number_of}
+use Rattle.cg_commands.specs.Objects.{test_of, refusal_of}
+use Rattle.cg_commands.proofs.Chains.{stops, goes_on}
+use Rattle.cg_commands.proofs.Steps.{reads-object, reads-index, no-index, reads-entry, reads-entry_at, no-entry_at, reads-key, no-hash, key-here}
+use Rattle.cg_commands.proofs.EntryLemmas.{appends, takes, can_take, has_code, not_garbage}
+use Rattle.cg_commands.proofs.Limits.{fault-refused}
+use Rattle.cg_commands.specs.Answers.{Performs}
+use Rattle.cg_script.specs.declared.command.Command.TheVariants as command
+use Rattle.cg_machine.specs.Commands.{effect}
+use Rattle.cg_machine.specs.World.{with_change}
+use Rattle.cg_graph.specs.Object.{with_entries}
+use Rattle.std.proofs.Common.{remove, [], ◌∷◌}
+use Rattle.cg_commands.proofs.entries.append.Goals as goal
+
+pub returns-in_err-list : goal.returns-in_err-list
+returns-in_err-list g c =
+    let p = err_from_is_err_and c.from_residual.result c.from_residual.ensures.1 in rw (p.1, p.2)
+    (stops c.args.heap.now c.args.locals (λ w. value w c.args.list) _ c.in_err-list.field-0.0 c.in_err-list.ensures.err)
+
+pub returns-in_err-val : goal.returns-in_err-val
+returns-in_err-val g c =
+    let p = err_from_is_err_and c.from_residual-in_err-val.result c.from_residual-in_err-val.ensures.1 in rw (p.1, p.2)
+    (goes_on c.args.heap.now c.args.heap.now c.args.locals (λ w. value w c.args.list) c.in_ok-list.list _ (Err c.in_err-val.field-0.0) c.in_ok-list.ensures.ok
+    (stops c.args.heap.now c.args.locals (λ w. value w c.args.operand) _ c.in_err-val.field-0.0 c.in_err-val.ensures.err))
+
+pub returns-in_err-target : goal.returns-in_err-target
+returns-in_err-target g c =
+    let p = err_from_is_err_and c.from_residual-in_err-target.result c.from_residual-in_err-target.ensures.1 in rw (p.1, p.2)
+    (goes_on c.args.heap.now c.args.heap.now c.args.locals (λ w. value w c.args.list) c.in_ok-list.list _ (Err c.in_err-target.field-0.0) c.in_ok-list.ensures.ok
+    (goes_on c.args.heap.now c.args.heap.now c.args.locals (λ w. value w c.args.operand) c.in_ok-val.val _ (Err c.in_err-target.field-0.0) c.in_ok-val.ensures.ok
+    (stops c.args.heap.now c.args.locals (λ w. object w (test_of wanted.ScriptList) (number_of (refusal_of wanted.ScriptList)) c.in_ok-list.list) _ c.in_err-target.field-0.0 (λ w s. c.in_err-target.ensures.err w s.represents))))
+
+pub append-requires-clause-list : goal.append-requires-clause-list
+append-requires-clause-list g c =
+    has_code c.args.heap.now wanted.ScriptList tt c.in_ok-list.list c.in_ok-target.target c.in_ok-target.ensures.ok
+
+pub append-requires-clause-other : goal.append-requires-clause-other
+append-requires-clause-other g c =
+    not_garbage c.args.heap.now c.in_ok-list.list c.in_ok-target.target c.in_ok-target.ensures.ok
+
+pub returns-in-Ok : goal.returns-in-Ok
+returns-in-Ok g c =
+    (goes_on c.args.heap.now c.append.new.self c.args.locals (λ w. value w c.args.list) c.in_ok-list.list _ (Ok c.changed.result) c.in_ok-list.ensures.ok
+    (goes_on c.args.heap.now c.append.new.self c.args.locals (λ w. value w c.args.operand) c.in_ok-val.val _ (Ok c.changed.result) c.in_ok-val.ensures.ok
+    (goes_on c.args.heap.now c.append.new.self c.args.locals (λ w. object w (test_of wanted.ScriptList) (number_of (refusal_of wanted.ScriptList)) c.in_ok-list.list) (object_from c.args.heap.now.rows c.in_ok-target.target c.in_ok-target.ensures.ok.node) _ (Ok c.changed.result) (reads-object c.args.heap.now c.args.locals (test_of wanted.ScriptList) c.in_ok-list.list c.in_ok-target.target c.in_ok-target.ensures.ok (number_of (refusal_of wanted.ScriptList)))
+    (appends c.args.heap.now c.sound.ensures c.args.locals (test_of wanted.ScriptList) c.in_ok-list.list c.in_ok-target.target c.in_ok-target.ensures.ok _ c.in_ok-val.val c.changed.result c.append.new.self c.in-Ok.ensures.ok c.changed.ensures c.in-Ok.ensures.limit))))
+
+pub returns-in-Err : goal.returns-in-Err
+returns-in-Err g c =
+    subst (λ r. Performs c.args.heap.now c.args.locals (λ w. effect w (command.Append c.args.list c.args.operand)) c.append.new.self (Err r)) (sym c.refusal_by.ensures)
+    (goes_on c.args.heap.now c.append.new.self c.args.locals (λ w. value w c.args.list) c.in_ok-list.list _ (Err _) c.in_ok-list.ensures.ok
+    (goes_on c.args.heap.now c.append.new.self c.args.locals (λ w. value w c.args.operand) c.in_ok-val.val _ (Err _) c.in_ok-val.ensures.ok
+    (goes_on c.args.heap.now c.append.new.self c.args.locals (λ w. object w (test_of wanted.ScriptList) (number_of (refusal_of wanted.ScriptList)) c.in_ok-list.list) (object_from c.args.heap.now.rows c.in_ok-target.target c.in_ok-target.ensures.ok.node) _ (Err _) (reads-object c.args.heap.now c.args.locals (test_of wanted.ScriptList) c.in_ok-list.list c.in_ok-target.target c.in_ok-target.ensures.ok (number_of (refusal_of wanted.ScriptList)))
+    (fault-refused c.args.heap.now c.args.locals c.in-Err.fault [] [] (λ w. with_change (with_entries (c.in_ok-target.ensures.ok.node.entries ++ item c.in_ok-val.val ∷ [])) c.in_ok-target.target w) (Err c.in-Err.fault) refl c.in-Err.ensures.limit c.in-Err.ensures.objects c.append.new.self c.in-Err.ensures.err))))

@@ -1,0 +1,89 @@
+use Rattle.std.proofs.Common.{◌≡◌, refl, sym, ◌∙◌, ap, subst, ℕ, ◌<◌, ◌++◌, length, Option, Some, None, Ok, Err, true, false, arith}
+use Rattle.std.proofs.Common.{w64}
+use mir.Val.{to_z, of_z}
+use Rattle.std.proofs.Math.Facts.{to_z-of_z}
+use Rattle.std.proofs.lemmas.List.Elements.{All-head}
+use Rattle.cg_script.specs.Texts.{operand_texts}
+use Rattle.std.specs.Prelude.{slice_get, ok_or}
+use Rattle.std.proofs.lemmas.Result.{err_from_is_err_and}
+use Rattle.cg_value.specs.declared.Val.TheVariants as val
+use Rattle.cg_graph.specs.Store.{object_from, entries_of}
+use Rattle.cg_graph.specs.Value.{value_at, entry_at}
+use Rattle.cg_machine.specs.Operands.{value, values, object}
+use Rattle.cg_machine.specs.Effects.{place_of_index, is_hashable, binds}
+use Rattle.cg_machine.specs.Refusals.{no_index, no_key, no_attribute, unhashable, unless}
+use Rattle.cg_commands.specs.declared.done.Refusal.TheVariants as refusal
+use Rattle.cg_commands.specs.declared.done.Done.TheVariants as done
+use Rattle.cg_machine.specs.declared.event.Event.TheVariants as event
+use Rattle.cg_graph.specs.Value.{item}
+use Rattle.cg_graph.specs.Object.{Object, is_tracked, same_place}
+use Rattle.cg_commands.specs.declared.operands.Wanted.TheVariants as wanted
+use Rattle.cg_commands.specs.Refusals.{number_of}
+use Rattle.cg_commands.specs.Objects.{test_of, refusal_of}
+use Rattle.cg_commands.proofs.Chains.{stops, goes_on}
+use Rattle.cg_commands.proofs.Steps.{reads-object, reads-index, no-index, reads-entry, reads-entry_at, no-entry_at, reads-key, no-hash, key-here}
+use Rattle.cg_commands.proofs.EntryLemmas.{appends, takes, can_take, has_code, not_garbage}
+use Rattle.cg_commands.proofs.Limits.{fault-refused}
+use Rattle.cg_commands.specs.Answers.{Performs}
+use Rattle.cg_script.specs.declared.command.Command.TheVariants as command
+use Rattle.cg_machine.specs.Commands.{effect}
+use Rattle.cg_machine.specs.World.{with_change}
+use Rattle.cg_graph.specs.Object.{with_entries}
+use Rattle.std.proofs.Common.{remove, [], ◌∷◌}
+use Rattle.cg_commands.proofs.PutLemmas.{never_ok, index_is, sets, sets-there, puts-performs, puts-refused}
+use Rattle.cg_commands.proofs.EntryLemmas.{can_put_item, can_put_key, keyed_other}
+use Rattle.cg_commands.specs.Refusals.{refusal_by}
+use Rattle.std.specs.Prelude.{IsOk}
+use Rattle.std.proofs.Common.{inl, inr}
+use Rattle.cg_commands.proofs.EntryLemmas.{code_passes}
+use Rattle.cg_commands.proofs.TextLemmas.{all_left, all_right}
+use Rattle.std.proofs.Common.{get_or, set}
+use Rattle.std.proofs.lemmas.Option.{slice_get-get_or}
+use Rattle.cg_commands.proofs.entries.set_item.Goals as goal
+
+pub returns-in_err-list : goal.returns-in_err-list
+returns-in_err-list g c =
+    let p = err_from_is_err_and c.from_residual.result c.from_residual.ensures.1 in rw (p.1, p.2)
+    (stops c.args.heap.now c.args.locals (λ w. value w c.args.list) _ c.in_err-list.field-0.0 c.in_err-list.ensures.err)
+
+pub returns-in_err-val : goal.returns-in_err-val
+returns-in_err-val g c =
+    let p = err_from_is_err_and c.from_residual-in_err-val.result c.from_residual-in_err-val.ensures.1 in rw (p.1, p.2)
+    (goes_on c.args.heap.now c.args.heap.now c.args.locals (λ w. value w c.args.list) c.in_ok-list.list _ (Err c.in_err-val.field-0.0) c.in_ok-list.ensures.ok
+    (stops c.args.heap.now c.args.locals (λ w. value w c.args.operand) _ c.in_err-val.field-0.0 c.in_err-val.ensures.err))
+
+pub returns-in_err-target : goal.returns-in_err-target
+returns-in_err-target g c =
+    let p = err_from_is_err_and c.from_residual-in_err-target.result c.from_residual-in_err-target.ensures.1 in rw (p.1, p.2)
+    (goes_on c.args.heap.now c.args.heap.now c.args.locals (λ w. value w c.args.list) c.in_ok-list.list _ (Err c.in_err-target.field-0.0) c.in_ok-list.ensures.ok
+    (goes_on c.args.heap.now c.args.heap.now c.args.locals (λ w. value w c.args.operand) c.in_ok-val.val _ (Err c.in_err-target.field-0.0) c.in_ok-val.ensures.ok
+    (stops c.args.heap.now c.args.locals (λ w. object w (test_of wanted.ScriptList) (number_of (refusal_of wanted.ScriptList)) c.in_ok-list.list) _ c.in_err-target.field-0.0 (λ w s. c.in_err-target.ensures.err w s.represents))))
+
+pub returns-in_err-_i : goal.returns-in_err-_i
+returns-in_err-_i g c =
+    let p = err_from_is_err_and c.from_residual-in_err-_i.result c.from_residual-in_err-_i.ensures.1 in rw (p.1, p.2)
+    (goes_on c.args.heap.now c.args.heap.now c.args.locals (λ w. value w c.args.list) c.in_ok-list.list _ (Err c.in_err-_i.field-0.0) c.in_ok-list.ensures.ok
+    (goes_on c.args.heap.now c.args.heap.now c.args.locals (λ w. value w c.args.operand) c.in_ok-val.val _ (Err c.in_err-_i.field-0.0) c.in_ok-val.ensures.ok
+    (goes_on c.args.heap.now c.args.heap.now c.args.locals (λ w. object w (test_of wanted.ScriptList) (number_of (refusal_of wanted.ScriptList)) c.in_ok-list.list) (object_from c.args.heap.now.rows c.in_ok-target.target c.in_ok-target.ensures.ok.node) _ (Err c.in_err-_i.field-0.0) (reads-object c.args.heap.now c.args.locals (test_of wanted.ScriptList) c.in_ok-list.list c.in_ok-target.target c.in_ok-target.ensures.ok (number_of (refusal_of wanted.ScriptList)))
+    (stops c.args.heap.now c.args.locals (λ w. ok_or (place_of_index c.args.index (length c.in_ok-target.ensures.ok.node.entries)) no_index) _ c.in_err-_i.field-0.0 (no-index c.args.heap.now c.args.locals (test_of wanted.ScriptList) c.in_ok-list.list c.in_ok-target.target c.in_ok-target.ensures.ok c.args.index (to_z w64 (of_z w64 c.args.index)) (to_z-of_z c.ranges.index) c.in_err-_i.field-0.0 c.in_err-_i.ensures.err c.in_err-_i.ensures.none)))))
+
+pub put-requires-clause-other : goal.put-requires-clause-other
+put-requires-clause-other g c =
+    not_garbage c.args.heap.now c.in_ok-list.list c.in_ok-target.target c.in_ok-target.ensures.ok
+
+pub put-requires-clause-can : goal.put-requires-clause-can
+put-requires-clause-can g c =
+    can_put_item c.args.heap.now c.in_ok-list.list c.in_ok-target.target c.in_ok-target.ensures.ok (to_z w64 (of_z w64 c.args.index)) c.in_ok-_i._i ((index_is (to_z w64 (of_z w64 c.args.index)) (length (entries_of c.args.heap.now c.in_ok-target.target)) c.in_ok-_i._i c.in_ok-_i.ensures.ok).0) c.in_ok-_i.ensures.below
+
+pub returns-in-Ok : goal.returns-in-Ok
+returns-in-Ok g c =
+    (goes_on c.args.heap.now c.put.new.self c.args.locals (λ w. value w c.args.list) c.in_ok-list.list _ (Ok c.changed.result) c.in_ok-list.ensures.ok
+    (goes_on c.args.heap.now c.put.new.self c.args.locals (λ w. value w c.args.operand) c.in_ok-val.val _ (Ok c.changed.result) c.in_ok-val.ensures.ok
+    (goes_on c.args.heap.now c.put.new.self c.args.locals (λ w. object w (test_of wanted.ScriptList) (number_of (refusal_of wanted.ScriptList)) c.in_ok-list.list) (object_from c.args.heap.now.rows c.in_ok-target.target c.in_ok-target.ensures.ok.node) _ (Ok c.changed.result) (reads-object c.args.heap.now c.args.locals (test_of wanted.ScriptList) c.in_ok-list.list c.in_ok-target.target c.in_ok-target.ensures.ok (number_of (refusal_of wanted.ScriptList)))
+    (goes_on c.args.heap.now c.put.new.self c.args.locals (λ w. ok_or (place_of_index c.args.index (length c.in_ok-target.ensures.ok.node.entries)) no_index) c.in_ok-_i._i _ (Ok c.changed.result) (reads-index c.args.heap.now c.args.locals (test_of wanted.ScriptList) c.in_ok-list.list c.in_ok-target.target c.in_ok-target.ensures.ok c.args.index (to_z w64 (of_z w64 c.args.index)) (to_z-of_z c.ranges.index) c.in_ok-_i._i c.in_ok-_i.ensures.ok)
+    (goes_on c.args.heap.now c.put.new.self c.args.locals (λ w. ok_or (slice_get c.in_ok-target.ensures.ok.node.entries c.in_ok-_i._i) no_index) (get_or (entries_of c.args.heap.now c.in_ok-target.target) c.in_ok-_i._i (item c.in_ok-val.val)) _ (Ok c.changed.result) (reads-entry c.args.heap.now c.args.locals (test_of wanted.ScriptList) c.in_ok-list.list c.in_ok-target.target c.in_ok-target.ensures.ok c.in_ok-_i._i (get_or (entries_of c.args.heap.now c.in_ok-target.target) c.in_ok-_i._i (item c.in_ok-val.val)) (slice_get-get_or (entries_of c.args.heap.now c.in_ok-target.target) c.in_ok-_i._i (item c.in_ok-val.val) c.in_ok-_i.ensures.below) no_index)
+    (sets c.args.heap.now c.sound.ensures c.args.locals (test_of wanted.ScriptList) c.in_ok-list.list c.in_ok-target.target c.in_ok-target.ensures.ok (code_passes c.args.heap.now wanted.ScriptList tt c.in_ok-list.list c.in_ok-target.target c.in_ok-target.ensures.ok) (to_z w64 (of_z w64 c.args.index)) c.in_ok-_i._i (get_or (entries_of c.args.heap.now c.in_ok-target.target) c.in_ok-_i._i (item c.in_ok-val.val)) c.in_ok-val.val c.in-Ok.old c.changed.result c.put.new.self ((index_is (to_z w64 (of_z w64 c.args.index)) (length (entries_of c.args.heap.now c.in_ok-target.target)) c.in_ok-_i._i c.in_ok-_i.ensures.ok).0) c.in_ok-_i.ensures.below (slice_get-get_or (entries_of c.args.heap.now c.in_ok-target.target) c.in_ok-_i._i (item c.in_ok-val.val) c.in_ok-_i.ensures.below) c.in-Ok.ensures.ok c.in-Ok.ensures.replaced c.changed.ensures))))))
+
+pub returns-in-Err : goal.returns-in-Err
+returns-in-Err g c =
+    absurd (never_ok c.put.result c.in-Err.fault c.in-Err.is (c.put.ensures.present (sets-there c.args.heap.now c.sound.ensures c.args.locals (test_of wanted.ScriptList) c.in_ok-list.list c.in_ok-target.target c.in_ok-target.ensures.ok (code_passes c.args.heap.now wanted.ScriptList tt c.in_ok-list.list c.in_ok-target.target c.in_ok-target.ensures.ok) (to_z w64 (of_z w64 c.args.index)) c.in_ok-_i._i (get_or (entries_of c.args.heap.now c.in_ok-target.target) c.in_ok-_i._i (item c.in_ok-val.val)) ((index_is (to_z w64 (of_z w64 c.args.index)) (length (entries_of c.args.heap.now c.in_ok-target.target)) c.in_ok-_i._i c.in_ok-_i.ensures.ok).0) (slice_get-get_or (entries_of c.args.heap.now c.in_ok-target.target) c.in_ok-_i._i (item c.in_ok-val.val) c.in_ok-_i.ensures.below))))

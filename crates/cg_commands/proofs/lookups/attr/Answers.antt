@@ -1,0 +1,54 @@
+use Rattle.std.proofs.Common.{◌≡◌, refl, sym, ◌∙◌, ap, subst, ℕ, ◌<◌, ◌++◌, length, Option, Some, None, Ok, Err, true, false, arith}
+use Rattle.std.proofs.Common.{w64}
+use mir.Val.{to_z, of_z}
+use Rattle.std.proofs.Math.Facts.{to_z-of_z}
+use Rattle.std.proofs.lemmas.List.Elements.{All-head}
+use Rattle.cg_script.specs.Texts.{operand_texts}
+use Rattle.std.specs.Prelude.{slice_get, ok_or}
+use Rattle.std.proofs.lemmas.Result.{err_from_is_err_and}
+use Rattle.cg_value.specs.declared.Val.TheVariants as val
+use Rattle.cg_graph.specs.Store.{object_from, entries_of}
+use Rattle.cg_graph.specs.Value.{value_at, entry_at}
+use Rattle.cg_machine.specs.Operands.{value, values, object}
+use Rattle.cg_machine.specs.Effects.{place_of_index, is_hashable, binds}
+use Rattle.cg_machine.specs.Refusals.{no_index, no_key, no_attribute, unhashable, unless}
+use Rattle.cg_commands.specs.declared.done.Refusal.TheVariants as refusal
+use Rattle.cg_commands.specs.declared.done.Done.TheVariants as done
+use Rattle.cg_machine.specs.declared.event.Event.TheVariants as event
+use Rattle.cg_graph.specs.Value.{item}
+use Rattle.cg_graph.specs.Object.{Object, is_tracked, same_place}
+use Rattle.cg_commands.specs.declared.operands.Wanted.TheVariants as wanted
+use Rattle.cg_commands.specs.Refusals.{number_of}
+use Rattle.cg_commands.specs.Objects.{test_of, refusal_of}
+use Rattle.cg_commands.proofs.Chains.{stops, goes_on}
+use Rattle.cg_commands.proofs.Steps.{reads-object, reads-index, no-index, reads-entry, reads-value_at, no-value_at, reads-key, no-hash}
+use Rattle.cg_commands.proofs.Reading.{live-value_in, refers_live}
+use Rattle.cg_commands.proofs.lookups.attr.Goals as goal
+
+pub returns-in_err-val : goal.returns-in_err-val
+returns-in_err-val g c =
+    let p = err_from_is_err_and c.from_residual.result c.from_residual.ensures.1 in rw (p.1, p.2)
+    (stops c.args.heap.now c.args.locals (λ w. value w c.args.instance) _ c.in_err-val.field-0.0 c.in_err-val.ensures.err)
+
+pub returns-in_err-target : goal.returns-in_err-target
+returns-in_err-target g c =
+    let p = err_from_is_err_and c.from_residual-in_err-target.result c.from_residual-in_err-target.ensures.1 in rw (p.1, p.2)
+    (goes_on c.args.heap.now c.args.heap.now c.args.locals (λ w. value w c.args.instance) c.in_ok-val.val _ (Err c.in_err-target.field-0.0) c.in_ok-val.ensures.ok
+    (stops c.args.heap.now c.args.locals (λ w. object w (test_of wanted.Inst) (number_of (refusal_of wanted.Inst)) c.in_ok-val.val) _ c.in_err-target.field-0.0 (λ w s. c.in_err-target.ensures.err w s.represents)))
+
+pub bind_to-requires-clause-live : goal.bind_to-requires-clause-live
+bind_to-requires-clause-live g c =
+    live-value_in c.args.heap.now c.sound.ensures c.in_ok-target.target c.in-Some.i c.entry_at-entry.result c.entry_at-entry.ensures
+
+pub returns-in-Some : goal.returns-in-Some
+returns-in-Some g c =
+    (goes_on c.args.heap.now c.bind_to.new.heap c.args.locals (λ w. value w c.args.instance) c.in_ok-val.val _ c.bind_to.result c.in_ok-val.ensures.ok
+    (goes_on c.args.heap.now c.bind_to.new.heap c.args.locals (λ w. object w (test_of wanted.Inst) (number_of (refusal_of wanted.Inst)) c.in_ok-val.val) (object_from c.args.heap.now.rows c.in_ok-target.target c.in_ok-target.ensures.ok.node) _ c.bind_to.result (reads-object c.args.heap.now c.args.locals (test_of wanted.Inst) c.in_ok-val.val c.in_ok-target.target c.in_ok-target.ensures.ok (number_of (refusal_of wanted.Inst)))
+    (goes_on c.args.heap.now c.bind_to.new.heap c.args.locals (λ w. ok_or (value_at c.in_ok-target.ensures.ok.node.entries (val.Str c.args.attr)) no_attribute) c.entry_at-entry.result.val _ c.bind_to.result (reads-value_at c.args.heap.now c.args.locals (test_of wanted.Inst) c.in_ok-val.val c.in_ok-target.target c.in_ok-target.ensures.ok (val.Str c.args.attr) c.in-Some.i c.entry_at-entry.result c.in-Some.ensures c.entry_at-entry.ensures no_attribute)
+    c.bind_to.ensures)))
+
+pub returns-in-None : goal.returns-in-None
+returns-in-None g c =
+    (goes_on c.args.heap.now c.args.heap.now c.args.locals (λ w. value w c.args.instance) c.in_ok-val.val _ (Err refusal.NoAttribute) c.in_ok-val.ensures.ok
+    (goes_on c.args.heap.now c.args.heap.now c.args.locals (λ w. object w (test_of wanted.Inst) (number_of (refusal_of wanted.Inst)) c.in_ok-val.val) (object_from c.args.heap.now.rows c.in_ok-target.target c.in_ok-target.ensures.ok.node) _ (Err refusal.NoAttribute) (reads-object c.args.heap.now c.args.locals (test_of wanted.Inst) c.in_ok-val.val c.in_ok-target.target c.in_ok-target.ensures.ok (number_of (refusal_of wanted.Inst)))
+    (stops c.args.heap.now c.args.locals (λ w. ok_or (value_at c.in_ok-target.ensures.ok.node.entries (val.Str c.args.attr)) no_attribute) _ refusal.NoAttribute (no-value_at c.args.heap.now c.args.locals (test_of wanted.Inst) c.in_ok-val.val c.in_ok-target.target c.in_ok-target.ensures.ok (val.Str c.args.attr) c.in-None.ensures no_attribute))))

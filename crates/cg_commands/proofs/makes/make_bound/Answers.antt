@@ -1,0 +1,28 @@
+use Rattle.std.proofs.Common.{◌≡◌, refl, sym, ◌∙◌, ap, subst, ◌<◌, ◌≤◌, Err}
+use Rattle.std.specs.Prelude.{slice_get}
+use Rattle.cg_graph.specs.Store.{outside_of}
+use Rattle.cg_heap.specs.Keeps.{outside_total}
+use Rattle.cg_machine.specs.Effects.{makes}
+use Rattle.cg_commands.specs.Answers.{Performs}
+use Rattle.cg_commands.proofs.MakeLemmas.{makes-performs, makes-refused, held_at, made_total}
+use Rattle.cg_commands.proofs.makes.make_bound.Goals as goal
+
+pub bind_new-old-requires-clause-held : goal.bind_new-old-requires-clause-held
+bind_new-old-requires-clause-held g c =
+    held_at c.args.heap.now c.sound.ensures c.args.locals c.args.name c.args.code c.args.class c.args.parts.now c.args.referent c.make.new.self c.in-Ok.serial c.in-Ok.ensures.ok c.in-Ok.ensures.serial
+
+pub bind_new-old-requires-clause-few : goal.bind_new-old-requires-clause-few
+bind_new-old-requires-clause-few g c =
+    subst (λ st. outside_total st ≤ 2147483646) (sym c.in-Ok.ensures.ok)
+    (made_total c.args.heap.now c.sound.ensures c.args.locals c.args.name c.args.code c.args.class c.args.parts.now c.args.referent c.requires.few)
+
+pub returns-in-Ok : goal.returns-in-Ok
+returns-in-Ok g c =
+    makes-performs c.args.heap.now c.sound.ensures c.args.locals c.args.name c.args.code c.args.class c.args.parts.now c.args.referent c.in-Ok.serial c.in-Ok.ensures.serial
+    c.bind_new-old.result (sym (ap (λ st. slice_get st.names c.args.name) c.in-Ok.ensures.ok) ∙ c.bind_new-old.ensures.old)
+    c.given_up.result c.given_up.ensures c.make.new.self c.bind_new-old.new.heap c.in-Ok.ensures.ok c.bind_new-old.ensures.rest c.in-Ok.ensures.object_limit c.in-Ok.ensures.entry_limit
+
+pub returns-in-Err : goal.returns-in-Err
+returns-in-Err g c =
+    subst (λ r. Performs c.args.heap.now c.args.locals (λ w. makes w c.args.name c.args.code c.args.class c.args.parts.now c.args.referent) c.make.new.self (Err r)) (sym c.refusal_by.ensures)
+    (makes-refused c.args.heap.now c.sound.ensures c.args.locals c.args.name c.args.code c.args.class c.args.parts.now c.args.referent c.in-Err.fault (Err c.in-Err.fault) refl c.in-Err.ensures.object_limit c.in-Err.ensures.entry_limit c.make.new.self c.in-Err.ensures.err)

@@ -1,0 +1,54 @@
+use Rattle.std.proofs.Common.{◌≡◌, refl, sym, ◌∙◌, ap, subst, ℕ, ◌<◌, ◌++◌, length, Option, Some, None, Ok, Err, true, false, arith}
+use Rattle.std.proofs.Common.{w64}
+use mir.Val.{to_z, of_z}
+use Rattle.std.proofs.Math.Facts.{to_z-of_z}
+use Rattle.std.proofs.lemmas.List.Elements.{All-head}
+use Rattle.cg_script.specs.Texts.{operand_texts}
+use Rattle.std.specs.Prelude.{slice_get, ok_or}
+use Rattle.std.proofs.lemmas.Result.{err_from_is_err_and}
+use Rattle.cg_value.specs.declared.Val.TheVariants as val
+use Rattle.cg_graph.specs.Store.{object_from, entries_of}
+use Rattle.cg_graph.specs.Value.{value_at, entry_at}
+use Rattle.cg_machine.specs.Operands.{value, values, object}
+use Rattle.cg_machine.specs.Effects.{place_of_index, is_hashable, binds}
+use Rattle.cg_machine.specs.Refusals.{no_index, no_key, no_attribute, unhashable, unless}
+use Rattle.cg_commands.specs.declared.done.Refusal.TheVariants as refusal
+use Rattle.cg_commands.specs.declared.done.Done.TheVariants as done
+use Rattle.cg_machine.specs.declared.event.Event.TheVariants as event
+use Rattle.cg_graph.specs.Value.{item}
+use Rattle.cg_graph.specs.Object.{Object, is_tracked, same_place}
+use Rattle.cg_commands.specs.declared.operands.Wanted.TheVariants as wanted
+use Rattle.cg_commands.specs.Refusals.{number_of}
+use Rattle.cg_commands.specs.Objects.{test_of, refusal_of}
+use Rattle.cg_commands.proofs.Chains.{stops, goes_on}
+use Rattle.std.proofs.lemmas.List.Elements.{All-tail}
+use Rattle.cg_commands.proofs.Steps.{reads-object}
+use Rattle.cg_commands.proofs.PartLemmas.{items-are}
+use Rattle.cg_commands.proofs.TextLemmas.{all_left, all_right}
+use Rattle.cg_commands.specs.Answers.{Performs}
+use Rattle.cg_machine.specs.Effects.{makes, callback_entries}
+use Rattle.cg_value.specs.declared.KindCode.TheVariants as kind
+use Rattle.cg_script.specs.Texts.{operands_texts}
+use Rattle.cg_commands.proofs.makes.make_tuple.Goals as goal
+
+pub returns-in_err-parts : goal.returns-in_err-parts
+returns-in_err-parts g c =
+    let p = err_from_is_err_and c.from_residual.result c.from_residual.ensures.1 in rw (p.1, p.2)
+    (stops c.args.heap.now c.args.locals (λ w. values w c.args.items.now) _ c.in_err-parts.field-0.0 c.in_err-parts.ensures.err)
+
+pub gather-requires-clause-known : goal.gather-requires-clause-known
+gather-requires-clause-known g c =
+    All-tail (λ n. n < length c.args.heap.now.names) c.args.name (operands_texts c.args.items.now) c.requires.known
+
+pub make_bound-requires-clause-name : goal.make_bound-requires-clause-name
+make_bound-requires-clause-name g c =
+    All-head (λ n. n < length c.args.heap.now.names) c.args.name (operands_texts c.args.items.now) c.requires.known
+
+pub make_bound-requires-clause-parts : goal.make_bound-requires-clause-parts
+make_bound-requires-clause-parts g c =
+    items-are c.in_ok-parts.ensures.ok.vals c.as_slice.result.now (c.as_slice.ensures ∙ c.in_ok-parts.ensures.ok.items)
+
+pub returns : goal.returns
+returns g c =
+    (goes_on c.args.heap.now c.make_bound.new.heap c.args.locals (λ w. values w c.args.items.now) c.in_ok-parts.ensures.ok.vals _ c.make_bound.result c.in_ok-parts.ensures.ok.reads
+    (subst (λ ps. Performs c.args.heap.now c.args.locals (λ w. makes w c.args.name kind.Tuple None ps None) c.make_bound.new.heap c.make_bound.result) (c.as_slice.ensures ∙ c.in_ok-parts.ensures.ok.items) c.make_bound.ensures))

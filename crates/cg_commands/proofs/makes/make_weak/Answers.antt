@@ -1,0 +1,77 @@
+use Rattle.std.proofs.Common.{◌≡◌, refl, sym, ◌∙◌, ap, subst, ℕ, ◌<◌, ◌≤◌, List, ◌++◌, length, Option, Some, None, Ok, Err, true, false, arith}
+use Rattle.std.proofs.Common.{w64}
+use mir.Val.{to_z, of_z}
+use Rattle.std.proofs.Math.Facts.{to_z-of_z}
+use Rattle.std.proofs.lemmas.List.Elements.{All-head}
+use Rattle.cg_script.specs.Texts.{operand_texts}
+use Rattle.std.specs.Prelude.{slice_get, ok_or}
+use Rattle.std.proofs.lemmas.Result.{err_from_is_err_and}
+use Rattle.cg_value.specs.declared.Val.TheVariants as val
+use Rattle.cg_graph.specs.Store.{object_from, entries_of}
+use Rattle.cg_graph.specs.Value.{value_at, entry_at}
+use Rattle.cg_machine.specs.Operands.{value, values, object}
+use Rattle.cg_machine.specs.Effects.{place_of_index, is_hashable, binds}
+use Rattle.cg_machine.specs.Refusals.{no_index, no_key, no_attribute, unhashable, unless}
+use Rattle.cg_commands.specs.declared.done.Refusal.TheVariants as refusal
+use Rattle.cg_commands.specs.declared.done.Done.TheVariants as done
+use Rattle.cg_machine.specs.declared.event.Event.TheVariants as event
+use Rattle.cg_graph.specs.Value.{item}
+use Rattle.cg_graph.specs.Object.{Object, is_tracked, same_place}
+use Rattle.cg_commands.specs.declared.operands.Wanted.TheVariants as wanted
+use Rattle.cg_commands.specs.Refusals.{number_of}
+use Rattle.cg_commands.specs.Objects.{test_of, refusal_of}
+use Rattle.cg_commands.proofs.Chains.{stops, goes_on}
+use Rattle.std.proofs.lemmas.List.Elements.{All-tail}
+use Rattle.cg_commands.proofs.Steps.{reads-object}
+use Rattle.cg_commands.proofs.PartLemmas.{items-are}
+use Rattle.cg_commands.proofs.TextLemmas.{all_left, all_right}
+use Rattle.cg_commands.specs.Answers.{Performs}
+use Rattle.cg_machine.specs.Effects.{makes, callback_entries}
+use Rattle.cg_value.specs.declared.KindCode.TheVariants as kind
+use Rattle.cg_script.specs.Texts.{operands_texts}
+use Rattle.cg_commands.proofs.makes.make_weak.Goals as goal
+
+few_cells : {X : Type 0} (xs ys : List X) → xs ≡ ys → {n k : ℕ} → length ys ≡ n → n ≤ k → length xs ≤ k
+few_cells xs ys same {n} {k} counted few = let is : length xs ≡ length ys = ap length same in omega (arith, is, counted, few)
+
+pub returns-in_err-val : goal.returns-in_err-val
+returns-in_err-val g c =
+    let p = err_from_is_err_and c.from_residual.result c.from_residual.ensures.1 in rw (p.1, p.2)
+    (stops c.args.heap.now c.args.locals (λ w. value w c.args.target) _ c.in_err-val.field-0.0 c.in_err-val.ensures.err)
+
+pub returns-in_err-callback : goal.returns-in_err-callback
+returns-in_err-callback g c =
+    let p = err_from_is_err_and c.from_residual-in_err-callback.result c.from_residual-in_err-callback.ensures.1 in rw (p.1, p.2)
+    (goes_on c.args.heap.now c.args.heap.now c.args.locals (λ w. value w c.args.target) c.in_ok-val.val _ (Err c.in_err-callback.field-0.0) c.in_ok-val.ensures.ok
+    (stops c.args.heap.now c.args.locals (λ w. value w c.args.callback) _ c.in_err-callback.field-0.0 c.in_err-callback.ensures.err))
+
+pub returns-in_err-referent : goal.returns-in_err-referent
+returns-in_err-referent g c =
+    let p = err_from_is_err_and c.from_residual-in_err-referent.result c.from_residual-in_err-referent.ensures.1 in rw (p.1, p.2)
+    (goes_on c.args.heap.now c.args.heap.now c.args.locals (λ w. value w c.args.target) c.in_ok-val.val _ (Err c.in_err-referent.field-0.0) c.in_ok-val.ensures.ok
+    (goes_on c.args.heap.now c.args.heap.now c.args.locals (λ w. value w c.args.callback) c.in_ok-callback.callback _ (Err c.in_err-referent.field-0.0) c.in_ok-callback.ensures.ok
+    (stops c.args.heap.now c.args.locals (λ w. object w (test_of wanted.Referable) (number_of (refusal_of wanted.Referable)) c.in_ok-val.val) _ c.in_err-referent.field-0.0 (λ w s. c.in_err-referent.ensures.err w s.represents))))
+
+pub returns-in_err-parts : goal.returns-in_err-parts
+returns-in_err-parts g c =
+    let p = err_from_is_err_and c.from_residual-in_err-parts.result c.from_residual-in_err-parts.ensures.1 in rw (p.1, p.2)
+    (goes_on c.args.heap.now c.args.heap.now c.args.locals (λ w. value w c.args.target) c.in_ok-val.val _ (Err c.in_err-parts.field-0.0) c.in_ok-val.ensures.ok
+    (goes_on c.args.heap.now c.args.heap.now c.args.locals (λ w. value w c.args.callback) c.in_ok-callback.callback _ (Err c.in_err-parts.field-0.0) c.in_ok-callback.ensures.ok
+    (goes_on c.args.heap.now c.args.heap.now c.args.locals (λ w. object w (test_of wanted.Referable) (number_of (refusal_of wanted.Referable)) c.in_ok-val.val) (object_from c.args.heap.now.rows c.in_ok-referent.referent c.in_ok-referent.ensures.ok.node) _ (Err c.in_err-parts.field-0.0) (reads-object c.args.heap.now c.args.locals (test_of wanted.Referable) c.in_ok-val.val c.in_ok-referent.referent c.in_ok-referent.ensures.ok (number_of (refusal_of wanted.Referable)))
+    (stops c.args.heap.now c.args.locals (λ w. callback_entries w c.in_ok-callback.callback) _ c.in_err-parts.field-0.0 c.in_err-parts.ensures.err))))
+
+pub make_bound-requires-clause-name : goal.make_bound-requires-clause-name
+make_bound-requires-clause-name g c =
+    All-head (λ n. n < length c.args.heap.now.names) c.args.name (operand_texts c.args.target ++ operand_texts c.args.callback) c.requires.known
+
+pub make_bound-requires-clause-parts : goal.make_bound-requires-clause-parts
+make_bound-requires-clause-parts g c =
+    (items-are c.in_ok-parts.ensures.ok.vals c.as_slice.result.now (c.as_slice.ensures ∙ c.in_ok-parts.ensures.ok.items), few_cells c.as_slice.result.now c.in_ok-parts.parts c.as_slice.ensures refl c.in_ok-parts.ensures.ok.single)
+
+pub returns : goal.returns
+returns g c =
+    (goes_on c.args.heap.now c.make_bound.new.heap c.args.locals (λ w. value w c.args.target) c.in_ok-val.val _ c.make_bound.result c.in_ok-val.ensures.ok
+    (goes_on c.args.heap.now c.make_bound.new.heap c.args.locals (λ w. value w c.args.callback) c.in_ok-callback.callback _ c.make_bound.result c.in_ok-callback.ensures.ok
+    (goes_on c.args.heap.now c.make_bound.new.heap c.args.locals (λ w. object w (test_of wanted.Referable) (number_of (refusal_of wanted.Referable)) c.in_ok-val.val) (object_from c.args.heap.now.rows c.in_ok-referent.referent c.in_ok-referent.ensures.ok.node) _ c.make_bound.result (reads-object c.args.heap.now c.args.locals (test_of wanted.Referable) c.in_ok-val.val c.in_ok-referent.referent c.in_ok-referent.ensures.ok (number_of (refusal_of wanted.Referable)))
+    (goes_on c.args.heap.now c.make_bound.new.heap c.args.locals (λ w. callback_entries w c.in_ok-callback.callback) c.in_ok-parts.parts _ c.make_bound.result c.in_ok-parts.ensures.ok.reads
+    (subst (λ ps. Performs c.args.heap.now c.args.locals (λ w. makes w c.args.name kind.Weak None ps (Some c.in_ok-referent.referent)) c.make_bound.new.heap c.make_bound.result) c.as_slice.ensures c.make_bound.ensures)))))

@@ -1,0 +1,85 @@
+//! Any command that is not the collector's.
+ghost use Rattle.std.specs.Prelude.{◌≡◌, ◌<◌, length};
+ghost use Rattle.cg_heap.specs.Calls.{HasFewHolds};
+ghost use Rattle.cg_machine.specs.Commands.{effect};
+ghost use Rattle.cg_commands.specs.Answers.{Performs};
+ghost use Rattle.cg_commands.specs.Spelled.{IsSpelledCommand, IsForObjects};
+ghost use Rattle.cg_commands.specs.Stands.{LocalsLive};
+
+use crate::bindings::{bind, unbind};
+use crate::done::{Done, Refusal};
+use crate::entries::{append, del_attr, del_item, put, remove, set_attr, set_item};
+use crate::frames::{call, quit};
+use crate::locals::Locals;
+use crate::lookups::{attr, deref, get, item};
+use crate::makes::{make_dict, make_function, make_instance, make_list, make_tuple, make_weak};
+use crate::queries::{finalized, print, refs, tracked};
+use cg_heap::Heap;
+use cg_kind::Kind;
+use cg_script::Command;
+
+/// Does a command that is not the collector's: what the machine's definition of effects says, in every world that the heap
+/// and the locals stand for. `locals` are those of the frame on top, if one is.
+///
+/// A refusal has changed nothing. `OutOfMemory` comes only where the effect may want memory and no other refusal holds.
+/// The command is one of a script that some bytes spell, the objects among the locals live, and fewer than 2^63 objects
+/// have been made.
+pub fn perform<B: Kind>(
+    heap: &mut Heap<B>,
+    locals: Option<Locals>,
+    command: &Command,
+) -> Result<Done, Refusal>
+    requires spelled { IsSpelledCommand (length heap.old.names) command.now }
+    requires objects { IsForObjects command.now }
+    requires locals { LocalsLive heap.old locals }
+    requires few { HasFewHolds heap.old }
+    requires last { heap.old.last < 9223372036854775808 }
+    ensures { Performs heap.old locals (λ w. effect w command.now) heap.new result }
+{
+    match command {
+        Command::MakeList { name, items } => make_list(heap, locals, *name, items.as_slice()),
+        Command::MakeTuple { name, items } => make_tuple(heap, locals, *name, items.as_slice()),
+        Command::MakeDict { name } => make_dict(heap, locals, *name),
+        Command::MakeInst { name, class } => make_instance(heap, locals, *name, *class),
+        Command::MakeFunc { name, proc, cells } => {
+            make_function(heap, locals, *name, *proc, cells.as_slice())
+        }
+        Command::MakeRef {
+            name,
+            target,
+            callback,
+        } => make_weak(heap, locals, *name, *target, *callback),
+        Command::Bind { name, value } => bind(heap, locals, *name, *value),
+        Command::Del { name } => unbind(heap, locals, *name),
+        Command::Append { list, value } => append(heap, locals, *list, *value),
+        Command::SetItem { list, index, value } => set_item(heap, locals, *list, *index, *value),
+        Command::DelItem { list, index } => del_item(heap, locals, *list, *index),
+        Command::Put { dict, key, value } => put(heap, locals, *dict, *key, *value),
+        Command::Remove { dict, key } => remove(heap, locals, *dict, *key),
+        Command::SetAttr {
+            object,
+            attr,
+            value,
+        } => set_attr(heap, locals, *object, *attr, *value),
+        Command::DelAttr { object, attr } => del_attr(heap, locals, *object, *attr),
+        Command::Item { name, list, index } => item(heap, locals, *name, *list, *index),
+        Command::Get { name, dict, key } => get(heap, locals, *name, *dict, *key),
+        Command::Attr { name, object, attr: named } => attr(heap, locals, *name, *object, *named),
+        Command::Deref { name, weak } => deref(heap, locals, *name, *weak),
+        Command::Call { func } => call(heap, locals, *func),
+        Command::Quit { value } => quit(heap, locals, *value),
+        Command::Print { value } => print(heap, locals, *value),
+        Command::Refs { value } => refs(heap, locals, *value),
+        Command::Tracked { value } => tracked(heap, locals, *value),
+        Command::Finalized { value } => finalized(heap, locals, *value),
+        Command::Collect { .. }
+        | Command::Enable
+        | Command::Disable
+        | Command::Threshold { .. }
+        | Command::Flags { .. }
+        | Command::Freeze
+        | Command::Unfreeze
+        | Command::Count
+        | Command::Gens => unreachable!(),
+    }
+}

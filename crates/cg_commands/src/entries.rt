@@ -1,0 +1,214 @@
+//! Entries that come, go, and change.
+ghost use Rattle.std.specs.Prelude.{◌≡◌, ◌<◌, ◌∷◌, ◌++◌, [], length};
+ghost use Rattle.std.specs.List.{All};
+ghost use Rattle.cg_script.specs.Texts.{operand_texts};
+ghost use Rattle.cg_script.specs.declared.command.Command.TheVariants as command;
+ghost use Rattle.cg_heap.specs.Calls.{HasFewHolds};
+ghost use Rattle.cg_machine.specs.Commands.{effect};
+ghost use Rattle.cg_graph.specs.Value.{references_of_value};
+ghost use Rattle.cg_commands.specs.Answers.{Performs, GivesUp};
+ghost use Rattle.cg_commands.specs.Stands.{LocalsLive};
+
+use crate::bindings::given_up;
+use crate::done::{Done, Refusal, refusal_by};
+use crate::locals::Locals;
+use crate::lookups::{index_in, is_hashable};
+use crate::operands::{Wanted, object, value};
+use cg_heap::Heap;
+use cg_kind::Kind;
+use cg_script::Operand;
+use cg_value::Val;
+
+/// `append L v`: the value goes last.
+#[tactic(auto, using(crate::proofs::Reading::refers_live))]
+pub(crate) fn append<B: Kind>(
+    heap: &mut Heap<B>,
+    locals: Option<Locals>,
+    list: Operand,
+    operand: Operand,
+) -> Result<Done, Refusal>
+    requires known { All (λ n. n < length heap.old.names) (operand_texts list ++ operand_texts operand) }
+    requires locals { LocalsLive heap.old locals }
+    ensures { Performs heap.old locals (λ w. effect w (command.Append list operand)) heap.new result }
+{
+    let list = value(heap, locals, list)?;
+    let val = value(heap, locals, operand)?;
+    let target = object(heap, list, Wanted::ScriptList)?;
+    heap.sound();
+    match heap.append(target, val) {
+        Ok(()) => Ok(changed(None)),
+        Err(fault) => Err(refusal_by(fault)),
+    }
+}
+
+/// `setitem L i v`: an item is replaced, and what it was is to be given up.
+#[tactic(auto, using(crate::proofs::Reading::refers_live))]
+pub(crate) fn set_item<B: Kind>(
+    heap: &mut Heap<B>,
+    locals: Option<Locals>,
+    list: Operand,
+    index: i64,
+    operand: Operand,
+) -> Result<Done, Refusal>
+    requires known { All (λ n. n < length heap.old.names) (operand_texts list ++ operand_texts operand) }
+    requires locals { LocalsLive heap.old locals }
+    requires few { HasFewHolds heap.old }
+    ensures { Performs heap.old locals (λ w. effect w (command.SetItem list index operand)) heap.new result }
+{
+    let list = value(heap, locals, list)?;
+    let val = value(heap, locals, operand)?;
+    let target = object(heap, list, Wanted::ScriptList)?;
+    let _i = index_in(heap, target, index)?;
+    heap.sound();
+    match heap.put(target, Val::Int(index), val) {
+        Ok(old) => Ok(changed(old)),
+        Err(fault) => Err(refusal_by(fault)),
+    }
+}
+
+/// `delitem L i`: an item is taken out, also of the garbage list.
+#[tactic(auto, using(crate::proofs::Reading::refers_live))]
+pub(crate) fn del_item<B: Kind>(
+    heap: &mut Heap<B>,
+    locals: Option<Locals>,
+    list: Operand,
+    index: i64,
+) -> Result<Done, Refusal>
+    requires known { All (λ n. n < length heap.old.names) (operand_texts list) }
+    requires locals { LocalsLive heap.old locals }
+    requires few { HasFewHolds heap.old }
+    ensures { Performs heap.old locals (λ w. effect w (command.DelItem list index)) heap.new result }
+{
+    let list = value(heap, locals, list)?;
+    let target = object(heap, list, Wanted::List)?;
+    let i = index_in(heap, target, index)?;
+    heap.sound();
+    let entry = heap.take(target, i);
+    Ok(Done::Changed {
+        line: None,
+        given_up: entry,
+    })
+}
+
+/// `put D K v`: the key gets the value, and what it had is to be given up.
+#[tactic(auto, using(crate::proofs::Reading::refers_live))]
+pub(crate) fn put<B: Kind>(
+    heap: &mut Heap<B>,
+    locals: Option<Locals>,
+    dict: Operand,
+    key: Operand,
+    operand: Operand,
+) -> Result<Done, Refusal>
+    requires known { All (λ n. n < length heap.old.names)
+        (operand_texts dict ++ operand_texts key ++ operand_texts operand) }
+    requires locals { LocalsLive heap.old locals }
+    requires few { HasFewHolds heap.old }
+    ensures { Performs heap.old locals (λ w. effect w (command.Put dict key operand)) heap.new result }
+{
+    let dict = value(heap, locals, dict)?;
+    let key = value(heap, locals, key)?;
+    let val = value(heap, locals, operand)?;
+    let target = object(heap, dict, Wanted::Dict)?;
+    if !is_hashable(heap, key) {
+        return Err(Refusal::Unhashable);
+    }
+    heap.sound();
+    match heap.put(target, key, val) {
+        Ok(old) => Ok(changed(old)),
+        Err(fault) => Err(refusal_by(fault)),
+    }
+}
+
+/// `drop D K`: the entry of the key is taken out.
+#[tactic(auto, using(crate::proofs::Reading::refers_live))]
+pub(crate) fn remove<B: Kind>(
+    heap: &mut Heap<B>,
+    locals: Option<Locals>,
+    dict: Operand,
+    key: Operand,
+) -> Result<Done, Refusal>
+    requires known { All (λ n. n < length heap.old.names) (operand_texts dict ++ operand_texts key) }
+    requires locals { LocalsLive heap.old locals }
+    requires few { HasFewHolds heap.old }
+    ensures { Performs heap.old locals (λ w. effect w (command.Remove dict key)) heap.new result }
+{
+    let dict = value(heap, locals, dict)?;
+    let key = value(heap, locals, key)?;
+    let target = object(heap, dict, Wanted::Dict)?;
+    if !is_hashable(heap, key) {
+        return Err(Refusal::Unhashable);
+    }
+    heap.sound();
+    match heap.find(target, key) {
+        Some(i) => {
+            let entry = heap.take(target, i);
+            Ok(Done::Changed {
+                line: None,
+                given_up: entry,
+            })
+        }
+        None => Err(Refusal::NoKey),
+    }
+}
+
+/// `setattr O n v`: the attribute gets the value, and what it had is to be given up.
+#[tactic(auto, using(crate::proofs::Reading::refers_live))]
+pub(crate) fn set_attr<B: Kind>(
+    heap: &mut Heap<B>,
+    locals: Option<Locals>,
+    instance: Operand,
+    attr: u32,
+    operand: Operand,
+) -> Result<Done, Refusal>
+    requires known { All (λ n. n < length heap.old.names) (operand_texts instance ++ attr ∷ operand_texts operand) }
+    requires locals { LocalsLive heap.old locals }
+    requires few { HasFewHolds heap.old }
+    ensures { Performs heap.old locals (λ w. effect w (command.SetAttr instance attr operand)) heap.new result }
+{
+    let instance = value(heap, locals, instance)?;
+    let val = value(heap, locals, operand)?;
+    let target = object(heap, instance, Wanted::Inst)?;
+    heap.sound();
+    match heap.put(target, Val::Str(attr), val) {
+        Ok(old) => Ok(changed(old)),
+        Err(fault) => Err(refusal_by(fault)),
+    }
+}
+
+/// `delattr O n`: the attribute is taken out.
+#[tactic(auto, using(crate::proofs::Reading::refers_live))]
+pub(crate) fn del_attr<B: Kind>(
+    heap: &mut Heap<B>,
+    locals: Option<Locals>,
+    instance: Operand,
+    attr: u32,
+) -> Result<Done, Refusal>
+    requires known { All (λ n. n < length heap.old.names) (operand_texts instance ++ attr ∷ []) }
+    requires locals { LocalsLive heap.old locals }
+    requires few { HasFewHolds heap.old }
+    ensures { Performs heap.old locals (λ w. effect w (command.DelAttr instance attr)) heap.new result }
+{
+    let instance = value(heap, locals, instance)?;
+    let target = object(heap, instance, Wanted::Inst)?;
+    heap.sound();
+    match heap.find(target, Val::Str(attr)) {
+        Some(i) => {
+            let entry = heap.take(target, i);
+            Ok(Done::Changed {
+                line: None,
+                given_up: entry,
+            })
+        }
+        None => Err(Refusal::NoAttribute),
+    }
+}
+
+/// A change without a line, after which a value is to be given up, if there was one.
+fn changed(old: Option<Val>) -> Done
+    ensures { GivesUp (references_of_value old) result }
+{
+    Done::Changed {
+        line: None,
+        given_up: given_up(old),
+    }
+}

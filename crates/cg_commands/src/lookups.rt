@@ -1,0 +1,150 @@
+//! Names that are bound to what an object holds.
+ghost use Rattle.std.specs.Prelude.{◌≡◌, ◌<◌, ◌∷◌, ◌++◌, [], IfOk, IfErr, length, Some, None};
+ghost use Rattle.std.specs.List.{All};
+ghost use Rattle.cg_graph.specs.Store.{IsLive, entries_of};
+ghost use Rattle.cg_script.specs.Texts.{operand_texts};
+ghost use Rattle.cg_script.specs.declared.command.Command.TheVariants as command;
+ghost use Rattle.cg_heap.specs.Calls.{HasFewHolds, IsLiveValue};
+ghost use Rattle.cg_machine.specs.Commands.{effect};
+ghost use Rattle.cg_machine.specs.Effects.{place_of_index};
+ghost use Rattle.cg_commands.specs.declared.done.Refusal.TheVariants as refusal;
+ghost use Rattle.cg_commands.specs.Answers.{Performs};
+ghost use Rattle.cg_commands.specs.Objects.{IsKey};
+ghost use Rattle.cg_commands.specs.Stands.{LocalsLive};
+
+use crate::bindings::bind_to;
+use crate::done::{Done, Refusal};
+use crate::locals::Locals;
+use crate::operands::{Wanted, object, value};
+use cg_heap::Heap;
+use cg_kind::Kind;
+use cg_script::Operand;
+use cg_value::Val;
+
+/// `x = item L i`: the name is bound to an item of a list or a tuple.
+#[tactic(auto, using(crate::proofs::Reading::refers_live))]
+pub(crate) fn item<B: Kind>(
+    heap: &mut Heap<B>,
+    locals: Option<Locals>,
+    name: u32,
+    list: Operand,
+    index: i64,
+) -> Result<Done, Refusal>
+    requires known { All (λ n. n < length heap.old.names) (name ∷ operand_texts list) }
+    requires locals { LocalsLive heap.old locals }
+    requires few { HasFewHolds heap.old }
+    ensures { Performs heap.old locals (λ w. effect w (command.Item name list index)) heap.new result }
+{
+    let val = value(heap, locals, list)?;
+    let target = object(heap, val, Wanted::Sequence)?;
+    let i = index_in(heap, target, index)?;
+    heap.sound();
+    let entry = heap.entry_at(target, i);
+    bind_to(heap, locals, name, entry.val)
+}
+
+/// `x = get D K`: the name is bound to the value under a key of a dictionary.
+#[tactic(auto, using(crate::proofs::Reading::refers_live))]
+pub(crate) fn get<B: Kind>(
+    heap: &mut Heap<B>,
+    locals: Option<Locals>,
+    name: u32,
+    dict: Operand,
+    key: Operand,
+) -> Result<Done, Refusal>
+    requires known { All (λ n. n < length heap.old.names) (name ∷ (operand_texts dict ++ operand_texts key)) }
+    requires locals { LocalsLive heap.old locals }
+    requires few { HasFewHolds heap.old }
+    ensures { Performs heap.old locals (λ w. effect w (command.Get name dict key)) heap.new result }
+{
+    let val = value(heap, locals, dict)?;
+    let key = value(heap, locals, key)?;
+    let target = object(heap, val, Wanted::Dict)?;
+    if !is_hashable(heap, key) {
+        return Err(Refusal::Unhashable);
+    }
+    heap.sound();
+    match heap.find(target, key) {
+        Some(i) => {
+            let entry = heap.entry_at(target, i);
+            bind_to(heap, locals, name, entry.val)
+        }
+        None => Err(Refusal::NoKey),
+    }
+}
+
+/// `x = attr O n`: the name is bound to an attribute of an instance.
+#[tactic(auto, using(crate::proofs::Reading::refers_live))]
+pub(crate) fn attr<B: Kind>(
+    heap: &mut Heap<B>,
+    locals: Option<Locals>,
+    name: u32,
+    instance: Operand,
+    attr: u32,
+) -> Result<Done, Refusal>
+    requires known { All (λ n. n < length heap.old.names) (name ∷ (operand_texts instance ++ attr ∷ [])) }
+    requires locals { LocalsLive heap.old locals }
+    requires few { HasFewHolds heap.old }
+    ensures { Performs heap.old locals (λ w. effect w (command.Attr name instance attr)) heap.new result }
+{
+    let val = value(heap, locals, instance)?;
+    let target = object(heap, val, Wanted::Inst)?;
+    heap.sound();
+    match heap.find(target, Val::Str(attr)) {
+        Some(i) => {
+            let entry = heap.entry_at(target, i);
+            bind_to(heap, locals, name, entry.val)
+        }
+        None => Err(Refusal::NoAttribute),
+    }
+}
+
+/// `x = deref w`: the name is bound to the referent, or to none where there is none or the callback waits.
+#[tactic(auto, using(crate::proofs::Reading::refers_live))]
+pub(crate) fn deref<B: Kind>(
+    heap: &mut Heap<B>,
+    locals: Option<Locals>,
+    name: u32,
+    weak: Operand,
+) -> Result<Done, Refusal>
+    requires known { All (λ n. n < length heap.old.names) (name ∷ operand_texts weak) }
+    requires locals { LocalsLive heap.old locals }
+    requires few { HasFewHolds heap.old }
+    ensures { Performs heap.old locals (λ w. effect w (command.Deref name weak)) heap.new result }
+{
+    let val = value(heap, locals, weak)?;
+    let target = object(heap, val, Wanted::Weak)?;
+    heap.sound();
+    match heap.referent_of(target) {
+        Some(referent) => bind_to(heap, locals, name, Val::Ref(referent)),
+        None => bind_to(heap, locals, name, Val::None),
+    }
+}
+
+/// An index below the length.
+pub(crate) fn index_in<B: Kind>(heap: &Heap<B>, target: u64, index: i64) -> Result<usize, Refusal>
+    requires { IsLive heap.now target }
+    ensures ok { IfOk result (λ i. place_of_index index (length (entries_of heap.now target)) ≡ Some i) }
+    ensures below { IfOk result (λ i. i < length (entries_of heap.now target)) }
+    ensures none { IfErr result (λ r. place_of_index index (length (entries_of heap.now target)) ≡ None) }
+    ensures err { IfErr result (λ r. r ≡ refusal.NoIndex) }
+{
+    if index < 0 {
+        return Err(Refusal::NoIndex);
+    }
+    let i = index as usize;
+    if i < heap.len(target) {
+        Ok(i)
+    } else {
+        Err(Refusal::NoIndex)
+    }
+}
+
+/// Whether a value may be a key: an atom, an instance or a function.
+pub(crate) fn is_hashable<B: Kind>(heap: &Heap<B>, key: Val) -> bool
+    requires { IsLiveValue heap.now key }
+    ensures { IsKey heap.now key result }
+{
+    let Val::Ref(target) = key else { return true };
+    Wanted::Referable.admits(heap.kind_of(target), target)
+}

@@ -1,0 +1,180 @@
+//! Objects that are made.
+ghost use Rattle.std.specs.Prelude.{◌≡◌, ◌<◌, ◌≤◌, ◌++◌, ◌∷◌, [], ℕ, IfSome, Some, None, length, slice_get};
+ghost use Rattle.std.specs.List.{All};
+ghost use Rattle.cg_value.specs.declared.KindCode.TheVariants as code;
+ghost use Rattle.cg_value.specs.declared.Val.TheVariants as val_of;
+ghost use Rattle.cg_kind.specs.Calls.{IsParts};
+ghost use Rattle.cg_graph.specs.Changes.{held, unheld, named};
+ghost use Rattle.cg_graph.specs.Value.{references_of_value};
+ghost use Rattle.cg_graph.specs.Store.{IsLive, outside_of};
+ghost use Rattle.cg_script.specs.Texts.{operand_texts, operands_texts};
+ghost use Rattle.cg_script.specs.declared.command.Command.TheVariants as command;
+ghost use Rattle.cg_heap.specs.Calls.{HasFewHolds};
+ghost use Rattle.cg_heap.specs.Keeps.{HasClass, outside_total};
+ghost use Rattle.cg_heap.specs.Weak.{HasReferent};
+ghost use Rattle.cg_machine.specs.Commands.{effect};
+ghost use Rattle.cg_machine.specs.Effects.{makes};
+ghost use Rattle.cg_commands.specs.Answers.{Performs};
+ghost use Rattle.cg_commands.specs.Parts.{AreLive};
+ghost use Rattle.cg_commands.specs.Stands.{LocalsLive};
+
+use crate::bindings::given_up;
+use crate::done::{Done, Refusal, refusal_by};
+use crate::locals::Locals;
+use crate::operands::{Wanted, object, value};
+use crate::parts::{callback_parts, gather};
+use cg_heap::Heap;
+use cg_kind::Kind;
+use cg_machine::Event;
+use cg_script::Operand;
+use cg_value::{Entry, KindCode, Val};
+
+/// `x = list v*`: a new list of the values is bound to the name.
+pub(crate) fn make_list<B: Kind>(
+    heap: &mut Heap<B>,
+    locals: Option<Locals>,
+    name: u32,
+    items: &[Operand],
+) -> Result<Done, Refusal>
+    requires known { All (λ n. n < length heap.old.names) (name ∷ operands_texts items.now) }
+    requires count { length items.now ≤ 64 }
+    requires locals { LocalsLive heap.old locals }
+    requires few { HasFewHolds heap.old }
+    requires last { heap.old.last < 9223372036854775808 }
+    ensures { Performs heap.old locals (λ w. effect w (command.MakeList name items.now)) heap.new result }
+{
+    let parts = gather(heap, locals, items)?;
+    make_bound(heap, locals, name, KindCode::List, None, parts.as_slice(), None)
+}
+
+/// `x = tuple v v*`: a new tuple.
+pub(crate) fn make_tuple<B: Kind>(
+    heap: &mut Heap<B>,
+    locals: Option<Locals>,
+    name: u32,
+    items: &[Operand],
+) -> Result<Done, Refusal>
+    requires known { All (λ n. n < length heap.old.names) (name ∷ operands_texts items.now) }
+    requires count { length items.now ≤ 64 }
+    requires locals { LocalsLive heap.old locals }
+    requires few { HasFewHolds heap.old }
+    requires last { heap.old.last < 9223372036854775808 }
+    ensures { Performs heap.old locals (λ w. effect w (command.MakeTuple name items.now)) heap.new result }
+{
+    let parts = gather(heap, locals, items)?;
+    make_bound(heap, locals, name, KindCode::Tuple, None, parts.as_slice(), None)
+}
+
+/// `x = dict`: a new empty dictionary.
+pub(crate) fn make_dict<B: Kind>(heap: &mut Heap<B>, locals: Option<Locals>, name: u32) -> Result<Done, Refusal>
+    requires known { All (λ n. n < length heap.old.names) (name ∷ []) }
+    requires few { HasFewHolds heap.old }
+    requires last { heap.old.last < 9223372036854775808 }
+    ensures { Performs heap.old locals (λ w. effect w (command.MakeDict name)) heap.new result }
+{
+    make_bound(heap, locals, name, KindCode::Dict, None, &[], None)
+}
+
+/// `x = new C`: a new instance of a class, without attributes.
+pub(crate) fn make_instance<B: Kind>(
+    heap: &mut Heap<B>,
+    locals: Option<Locals>,
+    name: u32,
+    class: u32,
+) -> Result<Done, Refusal>
+    requires known { All (λ n. n < length heap.old.names) (name ∷ []) }
+    requires few { HasFewHolds heap.old }
+    requires last { heap.old.last < 9223372036854775808 }
+    ensures { Performs heap.old locals (λ w. effect w (command.MakeInst name class)) heap.new result }
+{
+    make_bound(heap, locals, name, KindCode::Inst, Some(class), &[], None)
+}
+
+/// `x = func P v*`: a new function of a procedure, with at most 8 cells.
+pub(crate) fn make_function<B: Kind>(
+    heap: &mut Heap<B>,
+    locals: Option<Locals>,
+    name: u32,
+    proc: u32,
+    cells: &[Operand],
+) -> Result<Done, Refusal>
+    requires known { All (λ n. n < length heap.old.names) (name ∷ operands_texts cells.now) }
+    requires count { length cells.now ≤ 8 }
+    requires locals { LocalsLive heap.old locals }
+    requires few { HasFewHolds heap.old }
+    requires last { heap.old.last < 9223372036854775808 }
+    ensures { Performs heap.old locals (λ w. effect w (command.MakeFunc name proc cells.now)) heap.new result }
+{
+    let parts = gather(heap, locals, cells)?;
+    make_bound(heap, locals, name, KindCode::Func, Some(proc), parts.as_slice(), None)
+}
+
+/// `x = ref y [f]`: a new weak reference to an instance or a function, with a callback or none.
+#[tactic(auto, using(crate::proofs::Reading::refers_live))]
+pub(crate) fn make_weak<B: Kind>(
+    heap: &mut Heap<B>,
+    locals: Option<Locals>,
+    name: u32,
+    target: Operand,
+    callback: Operand,
+) -> Result<Done, Refusal>
+    requires known { All (λ n. n < length heap.old.names)
+        (name ∷ (operand_texts target ++ operand_texts callback)) }
+    requires locals { LocalsLive heap.old locals }
+    requires few { HasFewHolds heap.old }
+    requires last { heap.old.last < 9223372036854775808 }
+    ensures { Performs heap.old locals (λ w. effect w (command.MakeRef name target callback)) heap.new result }
+{
+    let val = value(heap, locals, target)?;
+    let callback = value(heap, locals, callback)?;
+    let referent = object(heap, val, Wanted::Referable)?;
+    let parts = callback_parts(heap, locals, callback)?;
+    make_bound(heap, locals, name, KindCode::Weak, None, parts.as_slice(), Some(referent))
+}
+
+/// Makes an object and binds it to a name. What the name had is to be given up.
+fn make_bound<B: Kind>(
+    heap: &mut Heap<B>,
+    locals: Option<Locals>,
+    name: u32,
+    code: KindCode,
+    class: Option<u32>,
+    parts: &[Entry],
+    referent: Option<u64>,
+) -> Result<Done, Refusal>
+    requires name { name < length heap.old.names }
+    requires parts { IsParts code parts.now }
+    requires class { HasClass code class }
+    requires referent { HasReferent code referent }
+    requires live { AreLive heap.old parts.now }
+    requires live_referent { IfSome referent (λ s. IsLive heap.old s) }
+    requires few { HasFewHolds heap.old }
+    requires last { heap.old.last < 9223372036854775808 }
+    ensures { Performs heap.old locals (λ w. makes w name code class parts.now referent) heap.new result }
+{
+    heap.sound();
+    match heap.make(code, class, parts, referent) {
+        Ok(serial) => {
+            let old = bind_new(heap, name, serial);
+            Ok(Done::Changed {
+                line: Some(Event::Made { code, serial }),
+                given_up: given_up(old),
+            })
+        }
+        Err(fault) => Err(refusal_by(fault)),
+    }
+}
+
+/// Binds a name to an object that has just been made: the name holds it in place of the caller. Answers what it had.
+fn bind_new<B: Kind>(heap: &mut Heap<B>, name: u32, serial: u64) -> Option<Val>
+    requires name { name < length heap.old.names }
+    requires held { 0 < outside_of heap.old serial }
+    requires few { outside_total heap.old ≤ 2147483646 }
+    ensures old { slice_get heap.old.names name ≡ Some result }
+    ensures rest { heap.new ≡ held (references_of_value result)
+        (named name (Some (val_of.Ref serial)) (unheld (serial ∷ []) heap.old)) }
+{
+    // For a moment nothing holds it. It dies only where the caller sees to that.
+    let _unheld = heap.unhold(serial);
+    heap.bind(name, Val::Ref(serial))
+}

@@ -1,0 +1,114 @@
+//! The entries that an object is made of.
+ghost use Rattle.std.specs.Prelude.{◌≡◌, ◌<◌, ◌≤◌, ◌++◌, ◌∷◌, [], IfOk, IfErr, length};
+ghost use Rattle.std.specs.List.{All};
+ghost use Rattle.cg_graph.specs.Value.{item};
+ghost use Rattle.cg_script.specs.Texts.{operands_texts};
+ghost use Rattle.cg_machine.specs.Operands as machine;
+ghost use Rattle.cg_machine.specs.Effects.{callback_entries};
+ghost use Rattle.cg_heap.specs.Calls.{IsLiveValue};
+ghost use Rattle.cg_commands.specs.Stands.{LocalsLive, IsRefused};
+ghost use Rattle.cg_commands.specs.Parts.{Gathers, IsCallback};
+
+use crate::done::Refusal;
+use crate::locals::Locals;
+use crate::operands::{Wanted, object, value};
+use cg_heap::Heap;
+use cg_kind::Kind;
+use cg_script::Operand;
+use cg_value::{Entry, Val};
+use std::marker::Model;
+
+/// Up to 64 entries. They take no memory but their own.
+#[derive(Drop)]
+pub(crate) struct Parts {
+    items: [Entry; 64],
+    len: usize,
+}
+
+impl Model for Parts {
+    ghost use Rattle.std.specs.Prelude.{List, ◌≤◌, take};
+    ghost use Rattle.cg_value.specs.declared.Entry.{Entry};
+
+    ghost Value = { List Entry };
+
+    ghost view = { λ p. take p.len p.items };
+
+    ghost invariant = { λ p. p.len ≤ 64 };
+}
+
+impl Parts {
+    /// No entries.
+    fn new() -> Parts
+        ensures { result ≡ [] }
+    {
+        let none = Entry {
+            key: Val::None,
+            val: Val::None,
+        };
+        Parts {
+            items: [none; 64],
+            len: 0,
+        }
+    }
+
+    /// One more item, whose key is none.
+    #[tactic(auto, using(std::proofs::lemmas::List::take_more_set))]
+    fn push(&mut self, val: Val)
+        requires { length self.old < 64 }
+        ensures { self.new ≡ self.old ++ item val ∷ [] }
+    {
+        self.items[self.len] = Entry {
+            key: Val::None,
+            val,
+        };
+        self.len += 1;
+    }
+
+    /// The entries in order.
+    pub(crate) fn as_slice(&self) -> &[Entry]
+        ensures { result.now ≡ self.now }
+    {
+        &self.items[..self.len]
+    }
+}
+
+/// The items that the values of operands make, in order. The first operand without a value is refused.
+pub(crate) fn gather<B: Kind>(
+    heap: &Heap<B>,
+    locals: Option<Locals>,
+    operands: &[Operand],
+) -> Result<Parts, Refusal>
+    requires known { All (λ n. n < length heap.now.names) (operands_texts operands.now) }
+    requires locals { LocalsLive heap.now locals }
+    requires few { length operands.now ≤ 64 }
+    ensures ok { IfOk result (λ parts. Gathers heap.now locals operands.now parts) }
+    ensures err { IfErr result (λ r. IsRefused heap.now locals (λ w. machine.values w operands.now) r) }
+{
+    let mut parts = Parts::new();
+    for operand in operands {
+        let val = value(heap, locals, *operand)?;
+        parts.push(val);
+    }
+    Ok(parts)
+}
+
+/// The entry of a weak reference with this callback: a function, or none for no callback.
+pub(crate) fn callback_parts<B: Kind>(
+    heap: &Heap<B>,
+    locals: Option<Locals>,
+    callback: Val,
+) -> Result<Parts, Refusal>
+    requires { IsLiveValue heap.now callback }
+    ensures ok { IfOk result (λ parts. IsCallback heap.now locals callback parts) }
+    ensures err { IfErr result (λ r. IsRefused heap.now locals (λ w. callback_entries w callback) r) }
+{
+    let mut parts = Parts::new();
+    match callback {
+        Val::None => Ok(parts),
+        _ => {
+            let _function = object(heap, callback, Wanted::Func)?;
+            parts.push(callback);
+            Ok(parts)
+        }
+    }
+}

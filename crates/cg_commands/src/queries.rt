@@ -1,0 +1,123 @@
+//! What prints a line and changes nothing.
+ghost use Rattle.std.specs.Prelude.{◌≡◌, ◌<◌, length, Some};
+ghost use Rattle.std.specs.List.{All};
+ghost use Rattle.cg_value.specs.declared.Val.TheVariants as val_of;
+ghost use Rattle.cg_value.specs.declared.Place.TheVariants as where_it_is;
+ghost use Rattle.cg_graph.specs.Value.{item};
+ghost use Rattle.cg_graph.specs.Object as machine_object;
+ghost use Rattle.cg_script.specs.Texts.{operand_texts};
+ghost use Rattle.cg_script.specs.declared.command.Command.TheVariants as command;
+ghost use Rattle.cg_heap.specs.Calls.{IsLiveValue};
+ghost use Rattle.cg_machine.specs.Commands.{effect};
+ghost use Rattle.cg_commands.specs.declared.done.Done.TheVariants as done;
+ghost use Rattle.cg_commands.specs.Answers.{Performs};
+ghost use Rattle.cg_commands.specs.Objects.{Tells};
+ghost use Rattle.cg_commands.specs.Stands.{LocalsLive};
+
+use crate::done::{Done, Refusal};
+use crate::locals::Locals;
+use crate::operands::{Wanted, object, value};
+use cg_heap::Heap;
+use cg_kind::Kind;
+use cg_machine::Event;
+use cg_script::Operand;
+use cg_value::{Entry, Place, Val};
+
+/// `print v`: the value.
+pub(crate) fn print<B: Kind>(
+    heap: &Heap<B>,
+    locals: Option<Locals>,
+    operand: Operand,
+) -> Result<Done, Refusal>
+    requires known { All (λ n. n < length heap.now.names) (operand_texts operand) }
+    requires locals { LocalsLive heap.now locals }
+    ensures { Performs heap.now locals (λ w. effect w (command.Print operand)) heap.now result }
+{
+    let val = value(heap, locals, operand)?;
+    Ok(printed(Event::Value(val)))
+}
+
+/// `refs v`: the in-degree of an object.
+#[tactic(auto, using(crate::proofs::Reading::refers_live))]
+pub(crate) fn refs<B: Kind>(
+    heap: &Heap<B>,
+    locals: Option<Locals>,
+    operand: Operand,
+) -> Result<Done, Refusal>
+    requires known { All (λ n. n < length heap.now.names) (operand_texts operand) }
+    requires locals { LocalsLive heap.now locals }
+    ensures { Performs heap.now locals (λ w. effect w (command.Refs operand)) heap.now result }
+{
+    let val = value(heap, locals, operand)?;
+    let target = object(heap, val, Wanted::Any)?;
+    let count = heap.refs(target);
+    Ok(printed(Event::RefCount(count)))
+}
+
+/// `tracked v`: whether the collector has the object.
+pub(crate) fn tracked<B: Kind>(
+    heap: &Heap<B>,
+    locals: Option<Locals>,
+    operand: Operand,
+) -> Result<Done, Refusal>
+    requires known { All (λ n. n < length heap.now.names) (operand_texts operand) }
+    requires locals { LocalsLive heap.now locals }
+    ensures { Performs heap.now locals (λ w. effect w (command.Tracked operand)) heap.now result }
+{
+    let val = value(heap, locals, operand)?;
+    let answer = is_tracked(heap, val);
+    Ok(printed(Event::Tracked(answer)))
+}
+
+/// `finalized v`: whether the finalizer of the object has been called.
+pub(crate) fn finalized<B: Kind>(
+    heap: &Heap<B>,
+    locals: Option<Locals>,
+    operand: Operand,
+) -> Result<Done, Refusal>
+    requires known { All (λ n. n < length heap.now.names) (operand_texts operand) }
+    requires locals { LocalsLive heap.now locals }
+    ensures { Performs heap.now locals (λ w. effect w (command.Finalized operand)) heap.now result }
+{
+    let val = value(heap, locals, operand)?;
+    let answer = is_finalized(heap, val);
+    Ok(printed(Event::Finalized(answer)))
+}
+
+/// A line, and nothing that is given up.
+fn printed(line: Event) -> Done
+    ensures { result ≡ done.Changed (Some line) (item val_of.None) }
+{
+    Done::Changed {
+        line: Some(line),
+        given_up: Entry {
+            key: Val::None,
+            val: Val::None,
+        },
+    }
+}
+
+/// Whether the value is a tracked object.
+fn is_tracked<B: Kind>(heap: &Heap<B>, val: Val) -> bool
+    requires { IsLiveValue heap.now val }
+    ensures { Tells heap.now machine_object.is_tracked val result }
+{
+    let Val::Ref(target) = val else { return false };
+    !is_untracked(heap.place_of(target))
+}
+
+/// Whether a place is that of untracked objects.
+fn is_untracked(place: Place) -> bool
+    ensures { result ≡ machine_object.same_place place where_it_is.Untracked }
+{
+    matches!(place, Place::Untracked)
+}
+
+/// Whether the value is an object marked as finalized.
+fn is_finalized<B: Kind>(heap: &Heap<B>, val: Val) -> bool
+    requires { IsLiveValue heap.now val }
+    ensures { Tells heap.now (λ x. x.finalized) val result }
+{
+    let Val::Ref(target) = val else { return false };
+    heap.is_finalized(target)
+}
