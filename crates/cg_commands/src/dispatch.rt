@@ -52,8 +52,8 @@ pub fn perform<B: Kind>(
         Command::Bind { name, value } => bind(heap, locals, *name, *value),
         Command::Del { name } => unbind(heap, locals, *name),
         Command::Append { list, value } => append(heap, locals, *list, *value),
-        Command::SetItem { list, index, value } => set_item(heap, locals, *list, *index, *value),
-        Command::DelItem { list, index } => del_item(heap, locals, *list, *index),
+        Command::SetItem { list, index, value } => set_item(heap, locals, *list, number(index), *value),
+        Command::DelItem { list, index } => del_item(heap, locals, *list, number(index)),
         Command::Put { dict, key, value } => put(heap, locals, *dict, *key, *value),
         Command::Remove { dict, key } => remove(heap, locals, *dict, *key),
         Command::SetAttr {
@@ -62,7 +62,7 @@ pub fn perform<B: Kind>(
             value,
         } => set_attr(heap, locals, *object, *attr, *value),
         Command::DelAttr { object, attr } => del_attr(heap, locals, *object, *attr),
-        Command::Item { name, list, index } => item(heap, locals, *name, *list, *index),
+        Command::Item { name, list, index } => item(heap, locals, *name, *list, number(index)),
         Command::Get { name, dict, key } => get(heap, locals, *name, *dict, *key),
         Command::Attr { name, object, attr: named } => attr(heap, locals, *name, *object, *named),
         Command::Deref { name, weak } => deref(heap, locals, *name, *weak),
@@ -82,4 +82,11 @@ pub fn perform<B: Kind>(
         | Command::Count
         | Command::Gens => unreachable!(),
     }
+}
+
+// By its type, what it gives is a number of 64 bits.
+fn number(index: &i64) -> i64
+    ensures { result ≡ index.now }
+{
+    *index
 }

@@ -105,3 +105,13 @@ procedure_known store w f class r live told =
     known : (x : Option Node) → IsSome x → IfSome x (λ n. class ≡ n.class) → unwrap_or (option_and_then (λ (x : Object). x.class) (option_map (object_from store.rows f) x)) 0 ≡ unwrap_or class 0
     known None there told = absurd (cc)
     known (Some n) there told = ap (λ k. unwrap_or k 0) (sym told)
+
+-- another engine with the same parts stands for the same worlds
+pub same_engine : (script : Script) (old new : State) (w : World) → StandsFor script old w → new.store ≡ old.store → new.activities ≡ old.activities → new.budget ≡ old.budget → StandsFor script new w
+same_engine script old new w stands store activities budget = record {
+  represents = subst (λ st. Represents st w) (sym store) stands.represents;
+  shows = subst (λ l. ShowsAll script l w.stack) (sym activities) stands.shows;
+  budget = stands.budget ∙ sym budget;
+  running = stands.running;
+  threshold = stands.threshold;
+}

@@ -3,3 +3,5 @@ mod Standing
 mod FrameLemmas
 mod CallerLemmas
 mod ReleaseLemmas
+mod EffectLemmas
+mod AnswerLemmas

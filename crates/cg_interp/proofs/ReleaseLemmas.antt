@@ -1,5 +1,5 @@
 -- A release on top: what it answers, as what the machine does.
-use Rattle.std.proofs.Common.{◌≡◌, ◌≢◌, refl, sym, ◌∙◌, ap, subst, ℕ, ◌<◌, ◌≤◌, List, [], ◌∷◌, ◌++◌, Option, None, Some, length, arith}
+use Rattle.std.proofs.Common.{◌≡◌, ◌≢◌, refl, sym, ◌∙◌, ap, subst, ℕ, ◌<◌, ◌≤◌, List, [], ◌∷◌, ◌++◌, Option, None, Some, length, arith, drop, length-drop}
 use Rattle.cg_script.specs.declared.Script.{Script}
 use Rattle.cg_graph.specs.Store.{Store}
 use Rattle.cg_machine.specs.World.{World, Activity, Releasing, Numbers}
@@ -10,7 +10,7 @@ use Rattle.cg_death.specs.declared.release.Release.{Release}
 use Rattle.cg_death.specs.declared.answer.DeathStep.{DeathStep}
 use Rattle.cg_death.specs.declared.answer.DeathStep.TheVariants as answer_of
 use Rattle.cg_death.specs.Activities.{references_left}
-use Rattle.cg_death.specs.Answers.{Stands, ReleaseSteps, ReleaseAnswer, WentOn, GaveDeath}
+use Rattle.cg_death.specs.Answers.{Stands, ReleaseSteps, ReleaseAnswer, release_answer, WentOn, GaveDeath}
 use Rattle.cg_interp.specs.declared.activity.Activity.TheVariants as activity
 use Rattle.cg_interp.specs.Engines.{State, StandsFor, ShowsAll, under}
 use Rattle.cg_interp.specs.Turns.{GoesTo, GivesDeath, DyingIsSound}
@@ -18,6 +18,11 @@ use Rattle.cg_interp.specs.Turns.{GoesTo, GivesDeath, DyingIsSound}
 -- a run to a world with another stack has a step
 pub stack_moves : (w after : World) (steps : List StepTaken) → last_world w steps ≡ after → (w.stack ≡ after.stack → ⊥) → steps ≢ []
 stack_moves w after steps ends other none = other (ap (λ (v : World). v.stack) (sym (ap (last_world w) none) ∙ ends))
+
+-- what goes on has given up a reference
+pub fewer : (left : List ℕ) (left_after : List ℕ) (store : Store) → left_after ≡ drop 1 left → answer_of.Continue ≡ release_answer left store → length left_after < length left
+fewer [] left_after store now is = let n : answer_of.Continue ≡ answer_of.Gone = is in absurd (cc)
+fewer (o ∷ left) left_after store now is = let same : length left_after ≡ length (drop 1 (o ∷ left)) = ap length now in omega (arith, same, length-drop 1 (o ∷ left))
 
 module _ (script : Script) (old new : State) (release after_release : Release) (answer : DeathStep) (w : World)
     (stands : StandsFor script (under (activity.Releasing release) old) w) (sound : DyingIsSound w) (steps : ReleaseSteps old.store (references_left release) new.store (references_left after_release) answer) (budget : new.budget ≡ old.budget) where

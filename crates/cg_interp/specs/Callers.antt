@@ -1,11 +1,17 @@
 -- The activities that have commands, and what a command leaves. (Ours.)
-use Rattle.std.specs.Prelude.{◌≡◌, ℕ, List, ◌∷◌, Option, None, option_to_list}
+use Rattle.std.specs.Prelude.{◌≡◌, ℕ, List, ◌∷◌, Option, None, Some, option_to_list}
 use Rattle.cg_value.specs.declared.Entry.{Entry}
 use Rattle.cg_script.specs.declared.Script.{Script}
 use Rattle.cg_graph.specs.Value.{entry_references}
 use Rattle.cg_machine.specs.declared.event.Event.{Event}
 use Rattle.cg_machine.specs.World.{World, Releasing, Running, push}
-use Rattle.cg_machine.specs.Frame.{Transition}
+use Rattle.cg_machine.specs.Frame.{Transition, procedure_of}
+use Rattle.cg_machine.specs.Commands.{CommandStep}
+use Rattle.cg_machine.specs.declared.event.FrameSpec.{FrameSpec}
+use Rattle.cg_machine.specs.declared.event.FrameSort.TheVariants.{Call}
+use Rattle.cg_script.specs.declared.Command.{Command}
+use Rattle.cg_interp.specs.declared.turned.Turned.{Turned}
+use Rattle.cg_interp.specs.Turns.{Makes}
 use Rattle.cg_machine.specs.Represents.{Represents}
 use Rattle.cg_interp.specs.declared.activity.Activity.{Activity}
 use Rattle.cg_interp.specs.declared.activity.Activity.TheVariants as activity
@@ -41,3 +47,13 @@ pub record Changes (script : Script) (top : Activity) (e : State) (given_up : En
 -- its line, and that world
 abbrev pub transition_of_change : Option Event → Entry → World → Transition
 transition_of_change line given_up after = (option_to_list line, push (Releasing (entry_references given_up)) after)
+
+-- the frame of a call
+abbrev pub call_of : ℕ → World → FrameSpec
+call_of f w = record { sort = Call; proc = procedure_of w f; subject = f; func = Some f }
+
+-- A command was done: the machine may make this transition, and the engine made it.
+pub record Does (script : Script) (w : World) (command : Command) (e : State) (answer : Turned) : Type 0 where
+  pub transition : Transition
+  pub may : CommandStep script w command transition.0 transition.1
+  pub makes : Makes script transition e answer

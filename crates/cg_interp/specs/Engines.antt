@@ -25,6 +25,10 @@ pub record State : Type 0 where
 abbrev pub under : Activity → State → State
 under top e = record e { activities = top ∷ e.activities }
 
+-- an engine with another heap
+abbrev pub over : Store → State → State
+over store e = record e { store = store }
+
 -- the commands from a number on, or none
 abbrev pub commands_from : Option ℕ → List Command → List Command
 commands_from None commands = []

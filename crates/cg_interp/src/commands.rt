@@ -1,21 +1,24 @@
 //! What the engine does once a command has been performed.
-ghost use Rattle.std.specs.Prelude.{◌≡◌, ◌<◌, ◌∷◌, [], ℕ, Option, Some, option_to_list, Ok, Result};
+ghost use Rattle.std.specs.Prelude.{◌≡◌, ◌<◌, ◌∷◌, [], ℕ, Ok};
 ghost use Rattle.cg_graph.specs.Store.{IsLive, Store};
-ghost use Rattle.cg_graph.specs.Value.{entry_references};
 ghost use Rattle.cg_heap.specs.Calls.{HasFewHolds};
 ghost use Rattle.cg_script.specs.declared.Script.{Script as AnyScript};
-ghost use Rattle.cg_machine.specs.declared.event.FrameSort.TheVariants as sort_of;
+ghost use Rattle.cg_script.specs.declared.Command.{Command as AnyCommand};
+ghost use Rattle.cg_commands.specs.declared.done.Done.TheVariants as done_of;
+ghost use Rattle.cg_commands.specs.Answers.{Answers, IsDone};
+ghost use Rattle.cg_commands.specs.Spelled.{IsForObjects};
 ghost use Rattle.cg_machine.specs.World.{World, with_stack};
 ghost use Rattle.cg_machine.specs.Frame.{start_frame, procedure_of};
 ghost use Rattle.cg_machine.specs.Represents.{Represents};
-ghost use Rattle.cg_machine.specs.Commands.{refused, without_commands};
-ghost use Rattle.cg_interp.specs.Engines.{StandsFor, under};
-ghost use Rattle.cg_interp.specs.Callers.{IsCaller, without_rest, without_rest_in_frame, Changes, transition_of_change};
+ghost use Rattle.cg_machine.specs.Commands.{refused, without_commands, effect};
+ghost use Rattle.cg_interp.specs.Engines.{StandsFor, under, over};
+ghost use Rattle.cg_interp.specs.Callers.{IsCaller, without_rest, without_rest_in_frame, Changes, transition_of_change, call_of, Does};
 ghost use Rattle.cg_interp.specs.Turns.{Makes};
 
 use crate::activity::Activity;
 use crate::engine::Engine;
 use crate::turned::Turned;
+use cg_commands::{Done, Refusal};
 use cg_death::Release;
 use cg_heap::Heap;
 use cg_kind::Kind;
@@ -61,20 +64,54 @@ impl<B: Kind> Engine<B> {
     }
 
     /// A command calls a function.
-    fn call(&mut self, function: u64) -> Turned
+    fn call(&mut self, top: Activity, function: u64) -> Turned
         requires few { HasFewHolds self.old.store }
         requires live { IsLive self.old.store function }
-        requires room { 0 < self.old.room }
-        ensures calls { (script : AnyScript) (w : World) → StandsFor script self.old w
-            → Makes script (start_frame script (record { sort = sort_of.Call; proc = procedure_of w function; subject = function; func = Some function }) w) self.new result }
+        requires room { 1 < self.old.room }
+        ensures calls { (script : AnyScript) (w : World) → StandsFor script (under top self.old) w
+            → Makes script (start_frame script (call_of function w) w) self.new result }
     {
         let proc = procedure_of(&self.heap, function);
+        self.stack.push(top);
         self.start(FrameSpec {
             sort: FrameSort::Call,
             proc,
             subject: function,
             func: Some(function),
         })
+    }
+
+    /// What the engine does once the command of the activity that was on top has been performed.
+    pub fn answer(&mut self, top: Activity, done: Result<Done, Refusal>) -> Turned
+        requires caller { IsCaller top }
+        requires few { HasFewHolds self.old.store }
+        requires live { (f : ℕ) → done ≡ Ok (done_of.Calls f) → IsLive self.old.store f }
+        requires room { 1 < self.old.room }
+        ensures does { (script : AnyScript) (w : World) (command : AnyCommand) (before : Store)
+            → StandsFor script (over before (under top self.old)) w → IsForObjects command
+            → Answers done (effect w command) before self.old.store → Does script w command self.new result }
+    {
+        match done {
+            Ok(done) => self.proceed(top, done),
+            Err(refusal) => self.refuse(top, refusal.number()),
+        }
+    }
+
+    /// The same once it has been done.
+    fn proceed(&mut self, top: Activity, done: Done) -> Turned
+        requires caller { IsCaller top }
+        requires few { HasFewHolds self.old.store }
+        requires live { (f : ℕ) → done ≡ done_of.Calls f → IsLive self.old.store f }
+        requires room { 1 < self.old.room }
+        ensures does { (script : AnyScript) (w : World) (command : AnyCommand) (before : Store)
+            → StandsFor script (over before (under top self.old)) w → IsForObjects command
+            → IsDone done (effect w command) before self.old.store → Does script w command self.new result }
+    {
+        match done {
+            Done::Changed { line, given_up } => self.change(top, line, given_up),
+            Done::Calls(function) => self.call(top, function),
+            Done::Quits => self.quit(top),
+        }
     }
 }
 

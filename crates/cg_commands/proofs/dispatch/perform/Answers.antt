@@ -21,6 +21,11 @@ use Rattle.cg_commands.specs.declared.operands.Wanted.TheVariants as wanted
 use Rattle.cg_commands.specs.Refusals.{number_of}
 use Rattle.cg_commands.specs.Objects.{test_of, refusal_of}
 use Rattle.cg_commands.proofs.Chains.{stops, goes_on}
+use Rattle.std.specs.Int.Signed.{mag}
+use Rattle.std.specs.Prelude.{ℤ}
+use Rattle.std.proofs.Common.{T}
+use Rattle.std.proofs.lemmas.Bool.{lt-ltb}
+use Rattle.std.proofs.Math.Facts.{sfits_lit}
 use Rattle.std.specs.List.{All}
 use Rattle.std.proofs.Common.{◌≤◌, ◌∷◌}
 use Rattle.cg_script.specs.Texts.{command_texts, operands_texts}
@@ -29,6 +34,10 @@ use Rattle.cg_machine.specs.Commands.{effect}
 use Rattle.cg_commands.specs.Spelled.{HasFewWords, IsForObjects}
 use Rattle.cg_commands.specs.Answers.{Performs}
 use Rattle.cg_commands.proofs.dispatch.perform.Goals as goal
+
+-- a number of 64 bits is read back as it was written
+read_back : (z : ℤ) → mag z < 9223372036854775808 → to_z w64 (of_z w64 z) ≡ z
+read_back z fits = to_z-of_z {w = w64} {z = z} (sfits_lit {w = w64} {z = z} (subst T (sym (lt-ltb (mag z) 9223372036854775808 fits)) tt))
 
 pub make_dict-requires-clause-known : goal.make_dict-requires-clause-known
 make_dict-requires-clause-known g c =
@@ -84,7 +93,8 @@ set_item-requires-clause-known g c =
 
 pub returns-in-SetItem : goal.returns-in-SetItem
 returns-in-SetItem g c =
-    subst (λ cmd. Performs c.args.heap.now c.args.locals (λ w. effect w cmd) c.set_item.new.heap c.set_item.result) (sym c.in-SetItem.is) c.set_item.ensures
+    subst (λ cmd. Performs c.args.heap.now c.args.locals (λ w. effect w cmd) c.set_item.new.heap c.set_item.result) (sym c.in-SetItem.is)
+    (subst (λ z. Performs c.args.heap.now c.args.locals (λ w. effect w (command.SetItem c.in-SetItem.list z c.in-SetItem.value)) c.set_item.new.heap c.set_item.result) (read_back c.number.result c.number.type_inv ∙ c.number.ensures) c.set_item.ensures)
 
 pub del_item-requires-clause-known : goal.del_item-requires-clause-known
 del_item-requires-clause-known g c =
@@ -92,7 +102,8 @@ del_item-requires-clause-known g c =
 
 pub returns-in-DelItem : goal.returns-in-DelItem
 returns-in-DelItem g c =
-    subst (λ cmd. Performs c.args.heap.now c.args.locals (λ w. effect w cmd) c.del_item.new.heap c.del_item.result) (sym c.in-DelItem.is) c.del_item.ensures
+    subst (λ cmd. Performs c.args.heap.now c.args.locals (λ w. effect w cmd) c.del_item.new.heap c.del_item.result) (sym c.in-DelItem.is)
+    (subst (λ z. Performs c.args.heap.now c.args.locals (λ w. effect w (command.DelItem c.in-DelItem.list z)) c.del_item.new.heap c.del_item.result) (read_back c.number-in-DelItem.result c.number-in-DelItem.type_inv ∙ c.number-in-DelItem.ensures) c.del_item.ensures)
 
 pub put-requires-clause-known : goal.put-requires-clause-known
 put-requires-clause-known g c =
@@ -132,7 +143,8 @@ item-requires-clause-known g c =
 
 pub returns-in-Item : goal.returns-in-Item
 returns-in-Item g c =
-    subst (λ cmd. Performs c.args.heap.now c.args.locals (λ w. effect w cmd) c.item.new.heap c.item.result) (sym c.in-Item.is) c.item.ensures
+    subst (λ cmd. Performs c.args.heap.now c.args.locals (λ w. effect w cmd) c.item.new.heap c.item.result) (sym c.in-Item.is)
+    (subst (λ z. Performs c.args.heap.now c.args.locals (λ w. effect w (command.Item c.in-Item.name c.in-Item.list z)) c.item.new.heap c.item.result) (read_back c.number-in-Item.result c.number-in-Item.type_inv ∙ c.number-in-Item.ensures) c.item.ensures)
 
 pub get-requires-clause-known : goal.get-requires-clause-known
 get-requires-clause-known g c =

@@ -1,7 +1,7 @@
-use Rattle.std.proofs.Common.{sym, subst, refl, []}
+use Rattle.std.proofs.Common.{sym, subst, refl, ◌∙◌, []}
 use Rattle.cg_interp.specs.declared.activity.Activity.TheVariants as activity_of
 use Rattle.cg_interp.specs.Engines.{StandsFor, under}
-use Rattle.cg_interp.proofs.ReleaseLemmas.{continues, ends, gives_death, no_line}
+use Rattle.cg_interp.proofs.ReleaseLemmas.{fewer, continues, ends, gives_death, no_line}
 use Rattle.cg_interp.proofs.engine.Engine.release.Goals as goal
 
 pub unreachable-requires : goal.unreachable-requires
@@ -12,7 +12,7 @@ unreachable-requires g c =
 
 pub returns-in-Continue : goal.returns-in-Continue
 returns-in-Continue g c = record { releases = λ script w stands sound.
-    continues script _ _ c.args.release c.step.new.self c.step.result w (subst (λ e. StandsFor script (under (activity_of.Releasing c.args.release) e) w) (sym c.self.view_is) stands) sound c.step.ensures.steps refl c.in-Continue.is (c.step.ensures.fewer c.in-Continue.is) c.push.ensures.top }
+    continues script _ _ c.args.release c.step.new.self c.step.result w (subst (λ e. StandsFor script (under (activity_of.Releasing c.args.release) e) w) (sym c.self.view_is) stands) sound c.step.ensures.steps refl c.in-Continue.is (fewer _ _ c.step.new.heap c.step.ensures.left (sym c.in-Continue.is ∙ c.step.ensures.answer)) c.push.ensures.top }
 
 pub returns-in-Died : goal.returns-in-Died
 returns-in-Died g c = record { releases = λ script w stands sound.
