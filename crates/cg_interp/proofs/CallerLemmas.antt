@@ -63,6 +63,7 @@ module _ (script : Script) (old new : State) (w : World) where
       (refl, retopped script old new (activity.Frame locals procedure next) (activity.Frame locals procedure None) (Framed (frame_of script locals procedure next)) (Framed (frame_of script locals procedure None)) stopped_frame w
       (plain_frame _) (plain_frame _) refl (λ below. refl) (λ tops e. e) refl stands store is budget)
   refuses (activity.Releasing release) number caller stands store is budget = absurd caller
+  refuses (activity.Dying death) number caller stands store is budget = absurd caller
 
   -- a command ends what it stands in
   pub quits : (top : Own) → IsCaller top → StandsFor script (under top old) w → new.store ≡ old.store → new.activities ≡ without_rest top ∷ old.activities → new.budget ≡ old.budget
@@ -74,6 +75,7 @@ module _ (script : Script) (old new : State) (w : World) where
       (refl, retopped script old new (activity.Frame locals procedure next) (activity.Frame locals procedure None) (Framed (frame_of script locals procedure next)) (Framed (frame_of script locals procedure None)) without_commands w
       (plain_frame _) (plain_frame _) refl (λ below. refl) (λ tops e. e) refl stands store is budget)
   quits (activity.Releasing release) caller stands store is budget = absurd caller
+  quits (activity.Dying death) caller stands store is budget = absurd caller
 
 -- a command changed what it had to
 module _ (script : Script) (old new : State) (top : Own) (given_up : Entry) (release : Release) (after : World) where

@@ -22,18 +22,21 @@ abbrev pub IsCaller : Activity → Type 0
 IsCaller (activity.Script next) = Unit {0}
 IsCaller (activity.Frame locals procedure next) = Unit {0}
 IsCaller (activity.Releasing release) = ⊥
+IsCaller (activity.Dying death) = ⊥
 
 -- a frame that has no command left
 abbrev pub without_rest_in_frame : Activity → Activity
 without_rest_in_frame (activity.Script next) = activity.Script next
 without_rest_in_frame (activity.Frame locals procedure next) = activity.Frame locals procedure None
 without_rest_in_frame (activity.Releasing release) = activity.Releasing release
+without_rest_in_frame (activity.Dying death) = activity.Dying death
 
 -- the same of the script too
 abbrev pub without_rest : Activity → Activity
 without_rest (activity.Script next) = activity.Script None
 without_rest (activity.Frame locals procedure next) = activity.Frame locals procedure None
 without_rest (activity.Releasing release) = activity.Releasing release
+without_rest (activity.Dying death) = activity.Dying death
 
 -- A command left this world: the heap stands for it with the release of what was given up on top, and the activities for
 -- the rest of its stack.

@@ -8,7 +8,9 @@ use Rattle.cg_machine.specs.World as machine
 use Rattle.cg_machine.specs.World.{World, TopLevel, Framed, Releasing, Running}
 use Rattle.cg_machine.specs.Represents.{Represents}
 use Rattle.cg_commands.specs.declared.locals.Locals.{Locals}
-use Rattle.cg_death.specs.Activities.{references_left}
+use Rattle.cg_death.specs.Activities.{references_left, death_activities}
+use Rattle.cg_death.specs.declared.release.Release.{Release}
+use Rattle.cg_death.specs.declared.death.Death.{Death}
 use Rattle.cg_interp.specs.declared.activity.Activity.{Activity}
 use Rattle.cg_interp.specs.declared.activity.Activity.TheVariants as activity
 
@@ -38,11 +40,22 @@ commands_from (Some next) commands = drop next commands
 abbrev pub frame_of : Script → Locals → ℕ → Option ℕ → machine.Frame
 frame_of script locals procedure next = record { sort = locals.sort; subject = locals.subject; function = locals.func; commands = commands_from next (body_of script procedure) }
 
--- what an activity stands for among those of the machine, the top first
+-- what is given up stands above the rest
+abbrev pub released_first : Option Release → List machine.Activity → List machine.Activity
+released_first None rest = rest
+released_first (Some release) rest = Releasing (references_left release) ∷ rest
+
+-- a death among the activities of the machine, by the weak references that wait with its object
+abbrev pub death_shown : Death → List ℕ → List machine.Activity
+death_shown death waiting = released_first death.release (death_activities death.object death.phase waiting)
+
+-- What an activity stands for among those of the machine, the top first. Which weak references wait with a dying object
+-- the world tells.
 abbrev pub Shows : Script → Activity → List machine.Activity → Type 0
 Shows script (activity.Script next) tops = tops ≡ TopLevel (commands_from next (commands_of script.items)) ∷ []
 Shows script (activity.Frame locals procedure next) tops = tops ≡ Framed (frame_of script locals procedure next) ∷ []
 Shows script (activity.Releasing release) tops = tops ≡ Releasing (references_left release) ∷ []
+Shows script (activity.Dying death) tops = (waiting : List ℕ) × (tops ≡ death_shown death waiting)
 
 -- an activity that stands for the top of a stack, over what lies below
 pub record ShowsTop (script : Script) (top : Activity) (rest : List machine.Activity → Type 0) (stack : List machine.Activity) : Type 0 where

@@ -1,6 +1,6 @@
 //! What is under way.
 use cg_commands::Locals;
-use cg_death::Release;
+use cg_death::{Death, Release};
 
 /// What is under way.
 #[derive(Drop)]
@@ -17,4 +17,6 @@ pub enum Activity {
     },
     /// References that are given up one after the other.
     Releasing(Release),
+    /// The death of an object.
+    Dying(Death),
 }
