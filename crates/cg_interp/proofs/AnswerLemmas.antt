@@ -4,8 +4,11 @@ use Rattle.cg_value.specs.declared.Entry.{Entry}
 use Rattle.cg_script.specs.declared.Script.{Script}
 use Rattle.cg_script.specs.declared.Command.{Command}
 use Rattle.cg_graph.specs.Member.{Includes}
-use Rattle.cg_graph.specs.Object.{serials}
-use Rattle.cg_graph.specs.Store.{Store}
+use Rattle.cg_graph.specs.Object.{is_in_map}
+use Rattle.cg_commands.specs.declared.locals.Locals.{Locals}
+use Rattle.cg_commands.specs.Stands.{StandsFor as StandsBefore}
+use Rattle.cg_death.proofs.CallerLemmas.{lives_in_heap}
+use Rattle.cg_graph.specs.Store.{Store, IsLive}
 use Rattle.cg_graph.specs.Value.{entry_references}
 use Rattle.cg_machine.specs.declared.event.Event.{Event}
 use Rattle.cg_machine.specs.World.{World, Releasing, push, with_stack}
@@ -20,7 +23,7 @@ use Rattle.cg_commands.specs.declared.done.Refusal.{Refusal}
 use Rattle.cg_commands.specs.declared.done.Refusal.TheVariants as refusal_of
 use Rattle.cg_commands.specs.Refusals.{number_of}
 use Rattle.cg_commands.specs.Spelled.{IsForObjects}
-use Rattle.cg_commands.specs.Answers.{Answers, Refuses, HasChanged}
+use Rattle.cg_commands.specs.Answers.{Answers, Performs, Refuses, HasChanged}
 use Rattle.cg_interp.specs.declared.activity.Activity.{Activity as Own}
 use Rattle.cg_interp.specs.declared.turned.Turned.{Turned}
 use Rattle.cg_interp.specs.Engines.{State, StandsFor, ShowsAll, under, over}
@@ -83,3 +86,10 @@ module _ (script : Script) (e : State) (top : Own) (w : World) (command : Comman
   -- it stands for the same world where the heap is as before
   pub as_before : e.store ≡ before → StandsFor script (under top e) w
   as_before same = same_engine script (over before (under top e)) (under top e) w stands same refl refl
+
+-- A command calls a function that lives, and leaves the heap.
+pub calls_known : (w : World) (command : Command) (locals : Option Locals) (old new : Store) (f : ℕ) → IsForObjects command → StandsBefore old locals w → Performs old locals (λ v. effect v command) new (Ok (done_of.Calls f)) → (new ≡ old) × IsLive old f
+calls_known w command locals old new f own stands performs =
+    let h = performs w stands in
+    let there = of_effect (HasFitted w) (effect w command) _ h.0 (effect_fits w command own) in
+    (h.1, lives_in_heap old w stands.represents f there)

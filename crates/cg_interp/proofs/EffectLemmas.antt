@@ -1,15 +1,13 @@
 -- What a command that is not the collector's leaves: threshold 0, and, where it calls, a function that lives.
-use Rattle.std.proofs.Common.{◌≡◌, refl, sym, ap, subst, ℕ, Bool, true, false, List, [], Option, Some, None, Result, Ok, Err, map}
+use Rattle.std.proofs.Common.{◌≡◌, refl, sym, ◌∙◌, ap, ℕ, Bool, true, false, List, [], Option, Some, None, Result, Ok, Err, map}
 use Rattle.std.specs.Prelude.{if◌then◌else◌, is_some, option_and_then, ok_or}
 use Rattle.cg_value.specs.declared.Val.{Val}
 use Rattle.cg_value.specs.declared.Val.TheVariants.{None as Nothing, Int, Str, Ref}
 use Rattle.cg_value.specs.declared.Entry.{Entry}
 use Rattle.cg_value.specs.declared.KindCode.{KindCode}
 use Rattle.cg_value.specs.declared.KindCode.TheVariants.{List as ListKind, Tuple, Dict, Inst, Func, Weak}
-use Rattle.cg_graph.specs.Member.{Includes}
-use Rattle.cg_graph.specs.Object.{Object, object_at, serials}
+use Rattle.cg_graph.specs.Object.{Object, object_at, is_in_map}
 use Rattle.cg_graph.specs.Value.{value_at, item, reference_in}
-use Rattle.cg_graph.proofs.Members.{Includes-map}
 use Rattle.cg_script.specs.declared.Command.{Command}
 use Rattle.cg_script.specs.declared.Command.TheVariants.{MakeList, MakeTuple, MakeDict, MakeInst, MakeFunc, MakeRef, Bind, Del, Append, SetItem, DelItem, Put, Remove, SetAttr, DelAttr, Item, Get, Attr, Deref, Call, Quit, Collect, Enable, Disable, Threshold, Flags, Freeze, Unfreeze, Print, Refs, Tracked, Finalized, Count, Gens}
 use Rattle.cg_machine.specs.World.{World}
@@ -25,19 +23,19 @@ use Rattle.cg_commands.specs.Spelled.{IsForObjects}
 
 abbrev pub HasFitted : World → Effect → Type 0
 HasFitted w (Changes wants_memory lines given_up after) = after.numbers.zero_threshold ≡ w.numbers.zero_threshold
-HasFitted w (Calls f) = Includes (serials w.objects) f
+HasFitted w (Calls f) = is_in_map w.objects f ≡ true
 HasFitted w (Collects g) = Unit {0}
 HasFitted w Quits = Unit {0}
 
 -- the object that a value refers to is one of the world
-object_found : (w : World) (test : Object → Bool) (refusal : ℕ) (v : Val) → Each (λ x. Includes w.objects x) (object w test refusal v)
-object_found w test refusal v = each_then (λ x. object_of w v ≡ Some x) (λ x. Includes w.objects x) (ok_or (object_of w v) refusal) (tested test refusal) (each_some (object_of w v) refusal) (λ x is. passes x (known (reference_in v) x is) (test x))
+object_found : (w : World) (test : Object → Bool) (refusal : ℕ) (v : Val) → Each (λ x. is_in_map w.objects x.serial ≡ true) (object w test refusal v)
+object_found w test refusal v = each_then (λ x. object_of w v ≡ Some x) (λ x. is_in_map w.objects x.serial ≡ true) (ok_or (object_of w v) refusal) (tested test refusal) (each_some (object_of w v) refusal) (λ x is. passes x (known (reference_in v) x is) (test x))
   where
-    known : (o : Option ℕ) (x : Object) → option_and_then (object_at w.objects) o ≡ Some x → Includes w.objects x
+    known : (o : Option ℕ) (x : Object) → option_and_then (object_at w.objects) o ≡ Some x → is_in_map w.objects x.serial ≡ true
     known None x is = absurd (cc)
-    known (Some o) x is = (found_at w.objects o x is).0
+    known (Some o) x is = ap (is_in_map w.objects) (found_at w.objects o x is).1 ∙ ap is_some is
 
-    passes : (x : Object) → Includes w.objects x → (b : Bool) → Each (λ x. Includes w.objects x) (if b then Ok x else Err refusal)
+    passes : (x : Object) → is_in_map w.objects x.serial ≡ true → (b : Bool) → Each (λ x. is_in_map w.objects x.serial ≡ true) (if b then Ok x else Err refusal)
     passes x m true = m
     passes x m false = tt
 
@@ -73,7 +71,7 @@ effect_fits w (Item name list index) own = checked (HasFitted w) _ _ (λ l. chec
 effect_fits w (Get name dict key) own = checked (HasFitted w) _ _ (λ d. checked (HasFitted w) _ _ (λ k. checked (HasFitted w) _ _ (λ x. checked (HasFitted w) _ _ (λ _. checked (HasFitted w) _ _ (λ v. refl)))))
 effect_fits w (Attr name instance attribute) own = checked (HasFitted w) _ _ (λ o. checked (HasFitted w) _ _ (λ x. checked (HasFitted w) _ _ (λ v. refl)))
 effect_fits w (Deref name weak) own = checked (HasFitted w) _ _ (λ v. checked (HasFitted w) _ _ (λ x. refl))
-effect_fits w (Call function) own = checked (HasFitted w) _ _ (λ v. each_then (λ x. Includes w.objects x) (HasFitted w) _ _ (object_found w is_function not_callable v) (λ x m. Includes-map (λ (x : Object). x.serial) w.objects x m))
+effect_fits w (Call function) own = checked (HasFitted w) _ _ (λ v. each_then (λ x. is_in_map w.objects x.serial ≡ true) (HasFitted w) _ _ (object_found w is_function not_callable v) (λ x m. m))
 effect_fits w (Quit operand) own = checked (HasFitted w) _ _ (λ v. quit_fits w v)
 effect_fits w (Collect generation) own = absurd own
 effect_fits w Enable own = absurd own

@@ -5,3 +5,4 @@ mod CallerLemmas
 mod ReleaseLemmas
 mod EffectLemmas
 mod AnswerLemmas
+mod StepLemmas

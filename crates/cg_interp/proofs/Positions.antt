@@ -1,8 +1,10 @@
 -- The positions of commands and procedures among the lines of a script: one line on, and how one is found by its number.
-use Rattle.std.proofs.Common.{◌≡◌, refl, sym, ◌∙◌, ap, ℕ, ◌+◌, ◌<◌, ◌≤◌, Bool, true, false, cond, inl, inr, List, [], ◌∷◌, ◌++◌, length, map, take, drop, get_or, Option, Some, None, arith, append_assoc}
+use Rattle.std.proofs.Common.{◌≡◌, refl, sym, ◌∙◌, ap, ℕ, ◌+◌, ◌<◌, ◌≤◌, Bool, true, false, cond, inl, inr, List, [], ◌∷◌, ◌++◌, length, map, take, drop, get_or, Option, Some, None, arith, append_assoc, ◌⊎◌}
 use Rattle.std.specs.Prelude.{slice_get, option_map, if◌then◌else◌}
-use Rattle.std.proofs.lemmas.Option.{slice_get-map, slice_get_read, slice_get_cases}
-use Rattle.std.proofs.lemmas.List.{map-append, take_more, take_all}
+use Rattle.std.proofs.lemmas.Option.{slice_get-map, slice_get_read, slice_get_cases, slice_get_within, get_or_from_slice_get}
+use Rattle.std.proofs.lemmas.List.{map-append, take_more, take_all, drop_more}
+use Rattle.std.proofs.Math.ListN.{drop_of_length-le}
+use Rattle.cg_interp.specs.Engines.{commands_from}
 use Rattle.cg_script.specs.declared.command.Command.{Command}
 use Rattle.cg_script.specs.declared.item.Proc.{Proc}
 use Rattle.cg_script.specs.declared.item.Item.{Item}
@@ -85,3 +87,17 @@ at_number items wrap ps xs n at e is = some_of (slice_get items) wrap (slice_get
 
 pub past_numbers : {A : Type 0} (items : List Item) (wrap : A → Option Item) (ps : List ℕ) (xs : List A) (n : ℕ) → map (slice_get items) ps ≡ map wrap xs → slice_get ps n ≡ None → slice_get xs n ≡ None
 past_numbers items wrap ps xs n e is = none_of (slice_get items) wrap (slice_get ps n) (slice_get xs n) is (sym (slice_get-map (slice_get items) ps n) ∙ ap (λ l. slice_get l n) e ∙ slice_get-map wrap xs n)
+
+-- the commands from one that is there on, and from past the end on
+pub next_found : (commands : List Command) (next : Option ℕ) (n : ℕ) (c : Command) → next ≡ Some n → slice_get commands n ≡ Some c → commands_from next commands ≡ c ∷ drop (n + 1) commands
+next_found commands next n c is there =
+    ap (λ k. commands_from k commands) is
+    ∙ drop_more commands n c (slice_get_within commands n c there)
+    ∙ ap (λ x. x ∷ drop (n + 1) commands) (get_or_from_slice_get commands n c c there)
+
+pub next_past : (commands : List Command) (next : Option ℕ) (n : ℕ) → next ≡ Some n → slice_get commands n ≡ None → commands_from next commands ≡ []
+next_past commands next n is there = ap (λ k. commands_from k commands) is ∙ by (slice_get_cases commands n).1
+  where
+    by : ((x : Command) × (n < length commands) × (slice_get commands n ≡ Some x) × (get_or commands n x ≡ x)) ⊎ ((length commands ≤ n) × (slice_get commands n ≡ None)) → drop n commands ≡ []
+    by (inl found) = absurd (let clash : None ≡ Some found.0 = sym there ∙ found.2 in cc)
+    by (inr past) = drop_of_length-le commands past.0

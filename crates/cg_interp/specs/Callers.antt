@@ -10,6 +10,8 @@ use Rattle.cg_machine.specs.Commands.{CommandStep}
 use Rattle.cg_machine.specs.declared.event.FrameSpec.{FrameSpec}
 use Rattle.cg_machine.specs.declared.event.FrameSort.TheVariants.{Call}
 use Rattle.cg_script.specs.declared.Command.{Command}
+use Rattle.cg_graph.specs.Member.{Includes}
+use Rattle.cg_commands.specs.Spelled.{IsSpelledCommand, IsForObjects}
 use Rattle.cg_interp.specs.declared.turned.Turned.{Turned}
 use Rattle.cg_interp.specs.Turns.{Makes}
 use Rattle.cg_machine.specs.Represents.{Represents}
@@ -60,3 +62,7 @@ pub record Does (script : Script) (w : World) (command : Command) (e : State) (a
   pub transition : Transition
   pub may : CommandStep script w command transition.0 transition.1
   pub makes : Makes script transition e answer
+
+-- Each of these commands is spelled by a script with so many texts, and is not the collector's.
+abbrev pub AreDoable : ℕ → List Command → Type 0
+AreDoable names commands = (c : Command) → Includes commands c → IsSpelledCommand names c × IsForObjects c

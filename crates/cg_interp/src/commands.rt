@@ -84,7 +84,7 @@ impl<B: Kind> Engine<B> {
     /// What the engine does once the command of the activity that was on top has been performed.
     pub fn answer(&mut self, top: Activity, done: Result<Done, Refusal>) -> Turned
         requires caller { IsCaller top }
-        requires few { HasFewHolds self.old.store }
+        requires few { (f : ℕ) → done ≡ Ok (done_of.Calls f) → HasFewHolds self.old.store }
         requires live { (f : ℕ) → done ≡ Ok (done_of.Calls f) → IsLive self.old.store f }
         requires room { 1 < self.old.room }
         ensures does { (script : AnyScript) (w : World) (command : AnyCommand) (before : Store)
@@ -100,7 +100,7 @@ impl<B: Kind> Engine<B> {
     /// The same once it has been done.
     fn proceed(&mut self, top: Activity, done: Done) -> Turned
         requires caller { IsCaller top }
-        requires few { HasFewHolds self.old.store }
+        requires few { (f : ℕ) → done ≡ done_of.Calls f → HasFewHolds self.old.store }
         requires live { (f : ℕ) → done ≡ done_of.Calls f → IsLive self.old.store f }
         requires room { 1 < self.old.room }
         ensures does { (script : AnyScript) (w : World) (command : AnyCommand) (before : Store)

@@ -2,6 +2,7 @@
 #![tactic(auto)]
 
 mod activity;
+mod callers;
 mod commands;
 mod engine;
 mod frames;

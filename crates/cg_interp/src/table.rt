@@ -1,9 +1,10 @@
 //! Where the commands and the procedures of a script stand among its lines, so that each is found by its number.
-ghost use Rattle.std.specs.Prelude.{◌≡◌, ◌<◌, ◌≤◌, length, IfOk, option_copied, slice_get, drop, ◌∷◌, [], Some, None, IfSome, IfNone, ◌+◌, ◌++◌, if◌then◌else◌, OnOk};
+ghost use Rattle.std.specs.Prelude.{◌≡◌, ◌<◌, ◌≤◌, length, IfOk, option_copied, slice_get, drop, ◌∷◌, [], Some, None, IfSome, IfNone, ◌+◌, ◌++◌, if◌then◌else◌, OnOk, OnSome};
 ghost use Rattle.cg_machine.specs.Program.{commands_of, body_of};
 ghost use Rattle.cg_script.specs.declared.command.Command.{Command as AnyCommand};
 ghost use Rattle.cg_script.specs.declared.item.Proc.{Proc as AnyProc};
 ghost use Rattle.cg_script.specs.declared.item.Item.TheVariants.{Run, Def};
+ghost use Rattle.cg_interp.specs.Engines.{commands_from};
 ghost use Rattle.cg_interp.specs.Tables.{AreCommands, AreProcedures, is_command, is_procedure};
 
 use cg_script::{Command, Item, Script};
@@ -30,10 +31,27 @@ impl Table {
         })
     }
 
-    /// A command outside procedures, by its number, if there is one.
-    pub fn command<'s>(&self, script: &'s Script, number: usize) -> Option<&'s Command>
+    /// The next command outside procedures, and the number of the one after it, if one is left.
+    pub fn next<'s>(&self, script: &'s Script, next: Option<usize>) -> Option<(&'s Command, usize)>
         requires { AreCommands script.now.items self.now.commands.items }
-        ensures { option_copied result ≡ slice_get (commands_of script.now.items) number }
+        ensures none { IfNone result (commands_from next (commands_of script.now.items) ≡ []) }
+        ensures some { IfSome result (λ r. commands_from next (commands_of script.now.items)
+            ≡ r.0.now ∷ commands_from (Some r.1) (commands_of script.now.items)) }
+    {
+        match next {
+            Some(number) => match self.command(script, number) {
+                Some(command) => Some((command, number + 1)),
+                None => None,
+            },
+            None => None,
+        }
+    }
+
+    /// A command outside procedures, by its number, if there is one.
+    fn command<'s>(&self, script: &'s Script, number: usize) -> Option<&'s Command>
+        requires { AreCommands script.now.items self.now.commands.items }
+        ensures found { option_copied result ≡ slice_get (commands_of script.now.items) number }
+        ensures few { OnSome result (number + 1 < 18446744073709551616) }
     {
         match position_in(&self.commands, number) {
             Some(at) => command_in(script.items.as_slice(), at),
@@ -53,9 +71,24 @@ impl Table {
     }
 }
 
+/// The next of some commands, and the number of the one after it, if one is left.
+pub fn next_of(commands: &[Command], next: Option<usize>) -> Option<(&Command, usize)>
+    ensures none { IfNone result (commands_from next commands.now ≡ []) }
+    ensures some { IfSome result (λ r. commands_from next commands.now ≡ r.0.now ∷ commands_from (Some r.1) commands.now) }
+{
+    match next {
+        Some(number) => match commands.get(number) {
+            Some(command) => Some((command, number + 1)),
+            None => None,
+        },
+        None => None,
+    }
+}
+
 /// The position at a number, if there is one.
 fn position_in(positions: &Vec<usize>, number: usize) -> Option<usize>
-    ensures { result ≡ slice_get positions.now.items number }
+    ensures found { result ≡ slice_get positions.now.items number }
+    ensures few { OnSome result (number + 1 < 18446744073709551616) }
 {
     positions.get(number).copied()
 }
