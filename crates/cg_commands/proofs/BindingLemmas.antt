@@ -1,5 +1,5 @@
 -- What binding a name, and unbinding it, does.
-use Rattle.std.proofs.Common.{◌≡◌, sym, ◌∙◌, ap, ℕ, zero, suc, ◌<◌, false, List, [], ◌∷◌, set, refl, Option, Some, None, Result, Ok, Err, arith}
+use Rattle.std.proofs.Common.{◌≡◌, sym, ◌∙◌, ap, ℕ, zero, suc, ◌<◌, false, List, [], ◌∷◌, set, refl, Option, Some, None, Ok, Err, arith}
 use Rattle.std.specs.Prelude.{slice_get, option_and_then, ok_or}
 use Rattle.cg_value.specs.declared.Val.{Val}
 use Rattle.cg_value.specs.declared.Entry.{Entry}
@@ -15,12 +15,11 @@ use Rattle.cg_machine.specs.World.{World}
 use Rattle.cg_machine.specs.Commands.{effect}
 use Rattle.cg_machine.specs.Effects.{Changes, binds, bound, given_up_by}
 use Rattle.cg_machine.specs.Operands.{value}
-use Rattle.cg_machine.specs.Refusals.{◌>>=◌, no_name}
+use Rattle.cg_machine.specs.Refusals.{no_name}
 use Rattle.cg_machine.specs.Represents.{Represents}
 use Rattle.cg_commands.specs.declared.done.Done.TheVariants.{Changed}
 use Rattle.cg_commands.specs.declared.done.Refusal.TheVariants.{NoName}
 use Rattle.cg_commands.specs.declared.locals.Locals.{Locals}
-use Rattle.cg_commands.specs.Stands.{StandsFor}
 use Rattle.cg_commands.specs.Answers.{Performs}
 use Rattle.cg_commands.proofs.Bridges.{gives_up, renamed, held-none}
 use Rattle.cg_commands.proofs.Reading.{reads-name}
@@ -44,7 +43,7 @@ pub unbinds-performs : (store : Store) → IsSound store → (locals : Option Lo
 unbinds-performs store sound locals name v at e new is entry w s =
     next (value w (operand.Name name)) v _ store new (Ok (Changed None e)) (ap (λ x. ok_or x no_name) (reads-name store locals name (Some v) at w s))
     (gives_up _ None e false (references_of_value (Some v)) (named name None store) (bound w name None) store new
-      (ap (λ rs. Ok (Changes false [] rs (bound w name None))) (given-up_by store sound locals name (Some v) at w s.represents)) entry is (renamed store w s.represents name None) (was_live store sound locals name (Some v) at))
+    (ap (λ rs. Ok (Changes false [] rs (bound w name None))) (given-up_by store sound locals name (Some v) at w s.represents)) entry is (renamed store w s.represents name None) (was_live store sound locals name (Some v) at))
 
 -- an unbound one is not
 pub unbinds-refused : (store : Store) (locals : Option Locals) (name : ℕ) → slice_get store.names name ≡ Some None → (new : Store) → new ≡ held (references_of_value None) (named name None store) → Performs store locals (λ w. effect w (command.Del name)) new (Err NoName)

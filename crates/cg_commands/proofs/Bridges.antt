@@ -1,22 +1,18 @@
 -- What the changes of a heap are in the world that it stands for.
-use Rattle.std.proofs.Common.{◌≡◌, ◌≢◌, refl, sym, ◌∙◌, ap, subst, ℕ, ◌+◌, ◌-◌, ◌<◌, ◌≤◌, Bool, true, false, not, ◌&&◌, cond, List, [], ◌∷◌, ◌++◌, map, Option, Some, None, IsSome, Result, Ok, option_to_list, get_or, set, arith}
-use Rattle.std.specs.Prelude.{◌==◌, if◌then◌else◌, flat_map, filter, find, option_map, reverse}
+use Rattle.std.proofs.Common.{◌≡◌, refl, sym, ◌∙◌, ap, subst, ℕ, ◌+◌, ◌<◌, Bool, List, [], ◌∷◌, ◌++◌, Option, Some, None, Result, Ok, option_to_list, set, arith}
+use Rattle.std.specs.Prelude.{flat_map, option_map}
 use Rattle.std.proofs.lemmas.List.{get_or-set_other}
-use Rattle.std.specs.Ordering.{nat_cmp}
 use Rattle.std.specs.FinMap as fin
 use Rattle.cg_value.specs.declared.Val.{Val}
 use Rattle.cg_value.specs.declared.Entry.{Entry}
-use Rattle.cg_value.specs.declared.KindCode.{KindCode}
-use Rattle.cg_value.specs.declared.KindCode.TheVariants as code_of
 use Rattle.cg_value.specs.declared.Place.TheVariants.{Untracked, Gen, Pend}
 use Rattle.cg_graph.specs.Value.{entry_references}
 use Rattle.cg_graph.specs.Holdings.{occurrences}
-use Rattle.cg_graph.specs.Maps.{changed}
 use Rattle.cg_graph.specs.Object.{Object, change, with_entries as object_with_entries, with_place as object_with_place}
-use Rattle.cg_graph.specs.Places.{place_number, list_of, move_between, leaves_list, joins_list}
+use Rattle.cg_graph.specs.Places.{place_number, list_of, move_between, leaves_list}
 use Rattle.cg_graph.specs.Store.{Store, Node, IsLive, objects_of, object_from, list_at, place_of}
 use Rattle.cg_graph.specs.Changes.{held, more, named, rewritten, with_entries, moved, with_place}
-use Rattle.cg_graph.proofs.Maps.{changed-insert, same_map, get-mapped, get-insert_same, get-insert_other}
+use Rattle.cg_graph.proofs.Maps.{changed-insert, same_map, get-mapped}
 use Rattle.cg_graph.proofs.Objects.{objects-same, objects-changed, occurrences-append}
 use Rattle.cg_heap.proofs.HoldLemmas.{outside-held, outside-rewritten, outside-moved}
 use Rattle.cg_machine.specs.World.{World, Releasing, push, with_change}
@@ -26,7 +22,7 @@ use Rattle.cg_machine.specs.Effects.{Effect, Changes, bound}
 use Rattle.cg_machine.specs.Represents.{Represents, CollectionWaits}
 use Rattle.cg_commands.specs.declared.done.Done.TheVariants.{Changed}
 use Rattle.cg_commands.specs.Answers.{Answers}
-use Rattle.cg_machine.proofs.Representing.{Matches, matches, represents, pushed}
+use Rattle.cg_machine.proofs.Representing.{matches, represents, pushed}
 
 -- nothing is held by no references
 pub held-none : (store : Store) → held [] store ≡ store

@@ -7,7 +7,7 @@ use Rattle.cg_machine.specs.Refusals.{◌>>=◌}
 use Rattle.cg_commands.specs.declared.done.Done.{Done}
 use Rattle.cg_commands.specs.declared.done.Refusal.{Refusal}
 use Rattle.cg_commands.specs.declared.done.Refusal.TheVariants.{NoName, WrongKind, NoIndex, NoKey, NoAttribute, NotWeak, NotCallable, Unhashable, OutOfMemory, ObjectLimit, EntryLimit}
-use Rattle.cg_commands.specs.Refusals.{number_of, Declines}
+use Rattle.cg_commands.specs.Refusals.{Declines}
 use Rattle.cg_commands.specs.declared.locals.Locals.{Locals}
 use Rattle.cg_commands.specs.Stands.{Reads, IsRefused}
 use Rattle.cg_commands.specs.Answers.{Answers, Refuses, Performs}

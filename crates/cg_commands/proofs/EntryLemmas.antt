@@ -1,25 +1,23 @@
 -- Commands that put entries in, take them out, and replace them.
-use Rattle.std.proofs.Common.{◌≡◌, ◌≢◌, refl, sym, ◌∙◌, ap, subst, ℕ, ◌+◌, ◌<◌, ◌≤◌, Bool, true, false, not, ◌&&◌, List, [], ◌∷◌, ◌++◌, length, Option, Some, None, IsSome, Result, Ok, Err, arith, remove}
+use Rattle.std.proofs.Common.{◌≡◌, ◌≢◌, refl, sym, ◌∙◌, ap, subst, ℕ, ◌<◌, ◌≤◌, Bool, true, false, not, List, [], ◌∷◌, ◌++◌, length, Option, Some, None, IsSome, Ok, Err, arith, remove}
 use Rattle.std.specs.Prelude.{◌==◌, slice_get, ◌↔◌, ℤ, pos}
 use Rattle.cg_value.specs.declared.Val.TheVariants as val
 use Rattle.cg_kind.specs.Calls.{CanPut}
 use Rattle.std.proofs.lemmas.Bool.{eq-eqb}
-use Rattle.std.specs.FinMap as fin
 use Rattle.cg_value.specs.declared.Val.{Val}
 use Rattle.cg_value.specs.declared.Entry.{Entry}
 use Rattle.cg_value.specs.declared.KindCode.{KindCode}
 use Rattle.cg_value.specs.declared.KindCode.TheVariants as kind
-use Rattle.cg_graph.specs.Holdings.{occurrences}
 use Rattle.cg_graph.specs.Value.{item, entry_references}
 use Rattle.cg_graph.specs.Object.{Object, with_entries}
-use Rattle.cg_graph.specs.Store.{Store, Node, IsLive, HasCode, object_from, entries_of}
+use Rattle.cg_graph.specs.Store.{Store, Node, HasCode, object_from, entries_of}
 use Rattle.cg_graph.specs.Changes.{held, rewritten}
 use Rattle.cg_graph.proofs.Members.{true_and}
 use Rattle.cg_heap.specs.declared.fault.HeapFault.TheVariants as fault
 use Rattle.cg_heap.specs.Calls.{IsSound, IsMutable, CanTake, CanPutIn, code_of, entry_number}
 use Rattle.cg_heap.proofs.CallerLemmas.{kinds-rewritten, lives_on}
 use Rattle.cg_heap.proofs.HoldLemmas.{entry_holds}
-use Rattle.cg_machine.specs.World.{World, with_change}
+use Rattle.cg_machine.specs.World.{with_change}
 use Rattle.cg_machine.specs.Effects.{Changes, has_room, sets_entries}
 use Rattle.cg_machine.specs.Refusals.{◌>>=◌}
 use Rattle.cg_machine.specs.Represents.{Represents}
@@ -28,7 +26,6 @@ use Rattle.cg_commands.specs.declared.done.Done.TheVariants.{Changed}
 use Rattle.cg_commands.specs.declared.locals.Locals.{Locals}
 use Rattle.cg_commands.specs.declared.operands.Wanted.{Wanted}
 use Rattle.cg_commands.specs.declared.operands.Wanted.TheVariants as wanted
-use Rattle.cg_commands.specs.Stands.{StandsFor}
 use Rattle.cg_commands.specs.Objects.{RefersTo, test_of}
 use Rattle.cg_commands.specs.Answers.{Performs, Answers, GivesUp}
 use Rattle.cg_commands.proofs.Bridges.{gives_up, gives_nothing, refilled}
@@ -125,8 +122,8 @@ module _ (store : Store) (sound : IsSound store) (locals : Option Locals) (test 
   appends u val done new is (e, made, none) limit w s =
       subst (λ d. Answers (Ok d) (has_room w 1 >>= (λ _. Ok (Changes true [] [] (with_change (with_entries (there.node.entries ++ item val ∷ [])) o w)))) store new) (sym made)
       (gives_nothing _ None e true (with_change (with_entries (there.node.entries ++ item val ∷ [])) o w) store new
-        (ap (λ q. q >>= (λ _. Ok (Changes true [] [] (with_change (with_entries (there.node.entries ++ item val ∷ [])) o w)))) (room store w s.represents 1 (one_fits store u limit))) none
-        (subst (λ st. Represents st (with_change (with_entries (there.node.entries ++ item val ∷ [])) o w)) (sym (is ∙ ap (λ es. rewritten o (es ++ item val ∷ []) store) entries-here)) (refilled store w s.represents o (there.node.entries ++ item val ∷ []))))
+      (ap (λ q. q >>= (λ _. Ok (Changes true [] [] (with_change (with_entries (there.node.entries ++ item val ∷ [])) o w)))) (room store w s.represents 1 (one_fits store u limit))) none
+      (subst (λ st. Represents st (with_change (with_entries (there.node.entries ++ item val ∷ [])) o w)) (sym (is ∙ ap (λ es. rewritten o (es ++ item val ∷ []) store) entries-here)) (refilled store w s.represents o (there.node.entries ++ item val ∷ []))))
 
   -- an entry is taken out
   pub takes : (i : ℕ) (e : Entry) (es : List Entry) (new : Store) → slice_get (entries_of store o) i ≡ Some e → new ≡ held (entry_references e) (rewritten o (remove (entries_of store o) i) store) → es ≡ remove there.node.entries i

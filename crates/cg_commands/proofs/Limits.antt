@@ -1,15 +1,13 @@
 -- The numbers of objects and entries that the heap keeps are those of the world, and so are the limits.
-use Rattle.std.proofs.Common.{◌≡◌, ◌≢◌, refl, sym, ◌∙◌, ap, subst, ℕ, ◌+◌, ◌-◌, ◌<◌, ◌≤◌, Bool, true, false, not, cond, List, [], ◌∷◌, length, map, filter, Option, Some, None, Result, Ok, Err, inl, inr, arith, sum_by}
-use Rattle.std.specs.Prelude.{◌⊎◌, ◌==◌, if◌then◌else◌, nat_lt, nat_le, count_by, ◌↔◌}
+use Rattle.std.proofs.Common.{◌≡◌, ◌≢◌, refl, sym, ◌∙◌, ap, ℕ, ◌+◌, ◌<◌, ◌≤◌, Bool, true, false, not, cond, List, [], ◌∷◌, length, map, filter, Option, Some, None, Result, Ok, Err, inl, inr, arith, sum_by}
+use Rattle.std.specs.Prelude.{◌⊎◌, ◌==◌, if◌then◌else◌, nat_le, ◌↔◌}
 use Rattle.std.proofs.lemmas.Bool.Decides.{leb_tells}
 use Rattle.std.proofs.lemmas.List.Sums.{sum_by-cons}
 use Rattle.std.specs.FinMap as fin
-use Rattle.std.specs.Ordering.{nat_cmp}
-use Rattle.cg_value.specs.declared.KindCode.TheVariants.{List as ListKind}
 use Rattle.cg_graph.specs.Maps.{total, part}
 use Rattle.cg_graph.specs.Object.{Object}
 use Rattle.cg_graph.specs.Rows.{Row}
-use Rattle.cg_graph.specs.Store.{Store, Node, HasCode, object_from, objects_of, entries_of, entries_in}
+use Rattle.cg_graph.specs.Store.{Store, Node, object_from, entries_of, entries_in}
 use Rattle.cg_graph.proofs.Maps.{total-remove}
 use Rattle.cg_graph.proofs.Objects.{entries-remove}
 use Rattle.cg_heap.specs.declared.fault.HeapFault.{HeapFault}
@@ -21,12 +19,9 @@ use Rattle.cg_machine.specs.World.{World}
 use Rattle.cg_machine.specs.Effects.{Changes, live, entry_count, has_room}
 use Rattle.cg_machine.specs.Refusals.{◌>>=◌, unless, most_entries, entry_limit}
 use Rattle.cg_machine.specs.Represents.{Represents}
-use Rattle.cg_commands.specs.declared.done.Refusal.TheVariants.{EntryLimit}
 use Rattle.cg_commands.specs.declared.locals.Locals.{Locals}
 use Rattle.cg_commands.specs.Refusals.{refusal_by}
-use Rattle.cg_commands.specs.Stands.{StandsFor}
 use Rattle.cg_commands.specs.Answers.{Performs}
-use Rattle.cg_commands.proofs.Chains.{refused}
 
 -- a sum over all objects but the garbage list
 module _ (rows : List Row) (F : Object → ℕ) (f : Node → ℕ) (same : (s : ℕ) (n : Node) → F (object_from rows s n) ≡ (if s == 1 then 0 else f n)) where

@@ -1,12 +1,11 @@
 -- A weak reference gives its referent.
-use Rattle.std.proofs.Common.{◌≡◌, refl, sym, ◌∙◌, ap, subst, ℕ, Option, Some, None, Result}
-use Rattle.cg_value.specs.declared.Val.{Val}
+use Rattle.std.proofs.Common.{◌≡◌, sym, subst, ℕ, Option, Some, None, Result}
 use Rattle.cg_value.specs.declared.Val.TheVariants as val
 use Rattle.cg_graph.specs.Rows.{referent_in}
 use Rattle.cg_graph.specs.Store.{Store, IsLive}
 use Rattle.cg_heap.specs.Calls.{IsSound, IsLiveValue}
 use Rattle.cg_heap.proofs.RowLemmas.{refers_live}
-use Rattle.cg_machine.specs.Effects.{Effect, binds}
+use Rattle.cg_machine.specs.Effects.{binds}
 use Rattle.cg_commands.specs.declared.done.Done.{Done}
 use Rattle.cg_commands.specs.declared.done.Refusal.{Refusal}
 use Rattle.cg_commands.specs.declared.locals.Locals.{Locals}

@@ -1,12 +1,11 @@
 -- Objects that are made and bound.
-use Rattle.std.proofs.Common.{◌≡◌, ◌≢◌, refl, sym, ◌∙◌, ap, subst, ℕ, suc, ◌+◌, ◌-◌, ◌<◌, ◌≤◌, Bool, true, false, List, [], ◌∷◌, ◌++◌, length, Option, Some, None, IsSome, Result, Ok, Err, inl, inr, arith}
-use Rattle.std.specs.Prelude.{◌⊎◌, ◌↔◌, ◌==◌, slice_get, nat_lt, option_to_list}
+use Rattle.std.proofs.Common.{◌≡◌, refl, sym, ◌∙◌, ap, subst, ℕ, suc, ◌+◌, ◌<◌, ◌≤◌, Bool, true, false, List, [], ◌∷◌, length, Option, Some, Result, Ok, Err, inl, inr, arith}
+use Rattle.std.specs.Prelude.{◌⊎◌, ◌↔◌, ◌==◌, slice_get, nat_lt}
 use Rattle.std.proofs.lemmas.Bool.Decides.{leb_tells}
 use Rattle.cg_value.specs.declared.Val.{Val}
 use Rattle.cg_value.specs.declared.Val.TheVariants as val
 use Rattle.cg_value.specs.declared.Entry.{Entry}
 use Rattle.cg_value.specs.declared.KindCode.{KindCode}
-use Rattle.cg_graph.specs.Holdings.{occurrences}
 use Rattle.cg_graph.specs.Value.{references_of_value, entry_references}
 use Rattle.cg_graph.specs.Store.{Store, IsLive, outside_of}
 use Rattle.cg_graph.specs.Changes.{made, held, unheld, named}
@@ -22,12 +21,11 @@ use Rattle.std.proofs.lemmas.Bool.{eq-eqb}
 use Rattle.cg_machine.specs.declared.event.Event.TheVariants.{Made}
 use Rattle.cg_machine.specs.World.{World}
 use Rattle.cg_machine.specs.Effects.{Effect, Changes, makes, with_new, bound, given_up_by, live, has_room}
-use Rattle.cg_machine.specs.Refusals.{◌>>=◌, unless, most_objects, object_limit, entry_limit}
+use Rattle.cg_machine.specs.Refusals.{◌>>=◌, unless, most_objects, object_limit}
 use Rattle.cg_machine.specs.Represents.{Represents}
 use Rattle.cg_commands.specs.declared.done.Done.TheVariants.{Changed}
 use Rattle.cg_commands.specs.declared.locals.Locals.{Locals}
 use Rattle.cg_commands.specs.Refusals.{refusal_by}
-use Rattle.cg_commands.specs.Stands.{StandsFor}
 use Rattle.cg_commands.specs.Answers.{Performs}
 use Rattle.cg_commands.proofs.Bridges.{gives_up, renamed}
 use Rattle.cg_commands.proofs.BindingLemmas.{given-up_by, was_live}
@@ -84,13 +82,13 @@ module _ (store : Store) (sound : IsSound store) (locals : Option Locals) (name 
   makes-performs n same was at e entry mid new is now objects entries w s =
       gives_up _ (Some (Made code n)) e true (references_of_value was) (named name (Some (val.Ref n)) (unheld (n ∷ []) mid)) (bound (with_new w code class parts referent) name (Some (val.Ref n))) store new
       (fits few_objects few_entries w s.represents
-        ∙ (λ i. Ok (Changes true (Made code (next i) ∷ []) (given-up_by store sound locals name was at w s.represents i) (bound (with_new w code class parts referent) name (Some (val.Ref (next i)))))))
+      ∙ (λ i. Ok (Changes true (Made code (next i) ∷ []) (given-up_by store sound locals name was at w s.represents i) (bound (with_new w code class parts referent) name (Some (val.Ref (next i)))))))
       entry now
       (renamed (unheld (n ∷ []) mid) (with_new w code class parts referent)
-        (subst (λ st. Represents st (with_new w code class parts referent)) (sym (λ i. unheld (same i ∷ []) (is i))) (represents-new store w s.represents sound code class parts referent)) name (Some (val.Ref n)))
+      (subst (λ st. Represents st (with_new w code class parts referent)) (sym (λ i. unheld (same i ∷ []) (is i))) (represents-new store w s.represents sound code class parts referent)) name (Some (val.Ref n)))
       (λ q some. subst (λ st. IsLive st q) (sym (λ i. named name (Some (val.Ref n)) (unheld (same i ∷ []) (is i))))
-        (lives_on made_store (unheld (serial ∷ []) made_store) (kinds-unheld (serial ∷ []) made_store) q
-          (lives_on store (made code class parts store) (kinds-made code class parts store sound.below) q (was_live store sound locals name was at q some))))
+      (lives_on made_store (unheld (serial ∷ []) made_store) (kinds-unheld (serial ∷ []) made_store) q
+      (lives_on store (made code class parts store) (kinds-made code class parts store sound.below) q (was_live store sound locals name was at q some))))
     where
       next : w.next_serial ≡ n
       next = s.represents.next_serial ∙ sym same
@@ -118,13 +116,15 @@ module _ (store : Store) (sound : IsSound store) (locals : Option Locals) (name 
   makes-refused fault.EntryLimit r is objects entries new same = λ w s.
       let both = entries.0 is in
       ((λ i. effect_with w (few store w s.represents sound both.0 i) (no_room store w s.represents (length parts) both.1 i)), same)
-  makes-refused fault.OutOfMemory r is objects entries new same = λ w s.
-      (record {
-        lines = Made code w.next_serial ∷ [];
-        given_up = given_up_by w name;
-        after = bound (with_new w code class parts referent) name (Some (val.Ref w.next_serial));
-        is = fits few_objects few_entries w s.represents;
-      }, same)
+  makes-refused fault.OutOfMemory r is objects entries new same = λ w s. (
+    record {
+      lines = Made code w.next_serial ∷ [];
+      given_up = given_up_by w name;
+      after = bound (with_new w code class parts referent) name (Some (val.Ref w.next_serial));
+      is = fits few_objects few_entries w s.represents;
+    },
+    same,
+  )
     where
       few_objects : object_number store < 1000000
       few_objects = known (leb_tells 1000000 (object_number store))

@@ -1,6 +1,6 @@
 -- An object that the heap makes is the new object of the world.
-use Rattle.std.proofs.Common.{◌≡◌, ◌≢◌, refl, sym, ◌∙◌, ap, subst, ℕ, ◌+◌, ◌-◌, ◌<◌, ◌≤◌, Bool, true, false, not, ◌&&◌, cond, List, [], ◌∷◌, ◌++◌, map, filter, reverse, Option, Some, None, IsSome, arith}
-use Rattle.std.specs.Prelude.{◌==◌, find, option_map, flat_map}
+use Rattle.std.proofs.Common.{◌≡◌, refl, sym, ◌∙◌, ap, subst, ℕ, ◌+◌, ◌<◌, Bool, true, false, not, ◌&&◌, cond, List, [], ◌∷◌, ◌++◌, map, filter, reverse, Option, Some, None, IsSome, arith}
+use Rattle.std.specs.Prelude.{◌==◌, find, option_map}
 use Rattle.std.specs.List.{All}
 use Rattle.std.proofs.lemmas.Bool.{eq-eqb, ne_eqb}
 use Rattle.std.proofs.lemmas.List.{get_or-set_other}
@@ -14,10 +14,10 @@ use Rattle.cg_value.specs.declared.KindCode.TheVariants as kind
 use Rattle.cg_value.specs.declared.Place.TheVariants.{Pend}
 use Rattle.cg_graph.specs.Member.{Includes}
 use Rattle.cg_graph.specs.Holdings.{occurrences}
-use Rattle.cg_graph.specs.Object.{Object, first_place}
+use Rattle.cg_graph.specs.Object.{first_place}
 use Rattle.cg_graph.specs.Places.{place_number, list_of, joins_list}
 use Rattle.cg_graph.specs.Rows.{Row, referent_in, waiting_in, waits_with, new_row}
-use Rattle.cg_graph.specs.Store.{Store, Node, IsLive, HasCode, object_from, objects_of, list_at, outside_of}
+use Rattle.cg_graph.specs.Store.{Store, Node, object_from, objects_of, list_at}
 use Rattle.cg_graph.specs.Changes.{made, new_node, unheld, less}
 use Rattle.cg_graph.proofs.Objects.{objects-same, objects-made}
 use Rattle.cg_graph.proofs.Members.{either, Includes-append_cases}
@@ -25,10 +25,9 @@ use Rattle.cg_heap.specs.Calls.{IsSound}
 use Rattle.cg_heap.specs.Weak.{attached, with_new_row}
 use Rattle.cg_heap.proofs.CallerLemmas.{live_of_kind}
 use Rattle.cg_heap.proofs.HoldLemmas.{outside-unheld, outside-made}
-use Rattle.cg_machine.specs.World.{World, Dying, Collecting, Death, Collection}
-use Rattle.cg_machine.specs.Holdings.{holds}
+use Rattle.cg_machine.specs.World.{World}
 use Rattle.cg_machine.specs.Effects.{with_new}
-use Rattle.cg_machine.specs.Represents.{Represents, death_waits, CollectionWaits}
+use Rattle.cg_machine.specs.Represents.{Represents, CollectionWaits}
 
 -- a search in a list with one more at the end
 find-keeps : (p : Row → Bool) (rows : List Row) (x : Row) → p x ≡ false → find p (rows ++ x ∷ []) ≡ find p rows

@@ -1,16 +1,14 @@
 -- The values of several operands, one after the other, and a callback.
-use Rattle.std.proofs.Common.{◌≡◌, refl, sym, ◌∙◌, ap, subst, ℕ, suc, ◌+◌, ◌<◌, ◌≤◌, List, [], ◌∷◌, ◌++◌, map, length, take, drop, get_or, Option, Some, Result, Ok, Err, inl, inr, arith, length-append}
+use Rattle.std.proofs.Common.{◌≡◌, refl, sym, ◌∙◌, ap, subst, ℕ, ◌+◌, ◌<◌, List, [], ◌∷◌, ◌++◌, map, Option, Some, Result, Ok, Err, inl, inr, arith, length-append}
 use Rattle.std.proofs.lemmas.Bool.{cases_eq}
 use Rattle.std.proofs.lemmas.List.Elements.{All-nil, All-cons}
 use Rattle.cg_value.specs.declared.Val.{Val}
 use Rattle.cg_value.specs.declared.Val.TheVariants as val
 use Rattle.cg_value.specs.declared.Entry.{Entry}
-use Rattle.cg_value.specs.declared.KindCode.{KindCode}
-use Rattle.cg_value.specs.declared.KindCode.TheVariants as kind
-use Rattle.cg_kind.specs.Calls.{AreItems, IsParts}
+use Rattle.cg_kind.specs.Calls.{AreItems}
 use Rattle.cg_script.specs.declared.command.Operand.{Operand}
 use Rattle.cg_graph.specs.Holdings.{occurrences}
-use Rattle.cg_graph.specs.Value.{item, references, references_of_value, entry_references}
+use Rattle.cg_graph.specs.Value.{item, references, references_of_value}
 use Rattle.cg_graph.specs.Store.{Store, IsLive}
 use Rattle.cg_heap.specs.Calls.{IsLiveValue}
 use Rattle.cg_heap.proofs.ReferenceLemmas.{push-item, refs-are}
@@ -22,9 +20,9 @@ use Rattle.cg_machine.specs.Refusals.{◌>>=◌, not_callable}
 use Rattle.cg_commands.specs.declared.done.Refusal.{Refusal}
 use Rattle.cg_commands.specs.declared.locals.Locals.{Locals}
 use Rattle.cg_commands.specs.Refusals.{Declines}
-use Rattle.cg_commands.specs.Stands.{StandsFor, Reads, IsRefused}
+use Rattle.cg_commands.specs.Stands.{Reads, IsRefused}
 use Rattle.cg_commands.specs.Objects.{RefersTo, HasNoObject}
-use Rattle.cg_commands.specs.Parts.{Gathers, IsCallback, AreLive}
+use Rattle.cg_commands.specs.Parts.{Gathers, IsCallback}
 use Rattle.cg_commands.proofs.Chains.{declines_then}
 use Rattle.cg_commands.proofs.Reading.{object-found}
 

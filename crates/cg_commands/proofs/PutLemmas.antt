@@ -1,6 +1,6 @@
 -- A put: an item replaced, or a key that gets a value.
-use Rattle.std.proofs.Common.{◌≡◌, ◌≢◌, refl, sym, ◌∙◌, ap, subst, ℕ, suc, ◌+◌, ◌<◌, ◌≤◌, Bool, true, false, not, ◌&&◌, ◌||◌, cond, List, [], ◌∷◌, ◌++◌, map, length, get_or, set, Option, Some, None, IsSome, Result, Ok, Err, inl, inr, arith}
-use Rattle.std.specs.Prelude.{◌⊎◌, ◌==◌, slice_get, ◌↔◌, ℤ, pos, negsuc, nat_lt, if◌then◌else◌, is_some, is_none, is_ok, option_map, option_and_then, option_to_list, IsOk}
+use Rattle.std.proofs.Common.{◌≡◌, ◌≢◌, refl, sym, ◌∙◌, ap, subst, ℕ, suc, ◌+◌, ◌<◌, ◌≤◌, Bool, true, false, not, ◌&&◌, ◌||◌, List, [], ◌∷◌, ◌++◌, length, get_or, set, Option, Some, None, IsSome, Result, Ok, Err, inl, inr, arith}
+use Rattle.std.specs.Prelude.{◌⊎◌, ◌==◌, slice_get, ◌↔◌, ℤ, pos, negsuc, nat_lt, if◌then◌else◌, is_some, is_none, is_ok, option_map, option_to_list, IsOk}
 use Rattle.std.proofs.lemmas.Bool.Decides.{leb_tells}
 use Rattle.std.proofs.lemmas.List.{append-nil}
 use Rattle.std.proofs.lemmas.Option.{slice_get-get_or}
@@ -15,34 +15,31 @@ use Rattle.cg_value.specs.declared.Place.TheVariants.{Untracked, Gen, Frozen, Ca
 use Rattle.cg_kind.specs.Calls.{value_under, after_put}
 use Rattle.cg_graph.specs.Holdings.{occurrences}
 use Rattle.cg_graph.specs.Value.{item, value_at, same_value, put as put_entries, references, references_of_value, reference_in, entry_references}
-use Rattle.cg_graph.specs.Object.{Object, change, object_at, with_entries, with_place as object_with_place, same_place, is_tracked, may_be_tracked as object_may_be_tracked}
-use Rattle.cg_graph.specs.Store.{Store, Node, IsLive, HasCode, object_from, objects_of, entries_of, place_of, place_in}
-use Rattle.cg_graph.specs.Changes.{more, held, rewritten, moved, with_place, with_entries as node_with_entries}
+use Rattle.cg_graph.specs.Object.{Object, change, with_entries, with_place as object_with_place, same_place, is_tracked, may_be_tracked as object_may_be_tracked}
+use Rattle.cg_graph.specs.Store.{Store, Node, IsLive, object_from, entries_of, place_of, place_in}
+use Rattle.cg_graph.specs.Changes.{more, held, rewritten, with_place, with_entries as node_with_entries}
 use Rattle.cg_graph.proofs.Maps.{get-mapped, get-changed_same}
 use Rattle.cg_graph.proofs.Members.{either}
 use Rattle.cg_heap.specs.declared.fault.HeapFault.{HeapFault}
 use Rattle.cg_heap.specs.declared.fault.HeapFault.TheVariants as fault
 use Rattle.cg_heap.specs.Keeps.{IsWellMade, IsWellMadeAt}
-use Rattle.cg_heap.specs.Calls.{IsSound, IsLiveValue, code_of, value_in, with_put, entry_number, may_be_tracked, node_may_be_tracked, is_dict_at, is_untracked_dict, becomes_tracked, tracked_if}
+use Rattle.cg_heap.specs.Calls.{IsSound, code_of, value_in, with_put, entry_number, may_be_tracked, node_may_be_tracked, is_dict_at, is_untracked_dict, becomes_tracked, tracked_if}
 use Rattle.cg_heap.proofs.CallerLemmas.{kinds-rewritten, lives_on}
 use Rattle.cg_heap.proofs.HoldLemmas.{entry_holds, entries_hold}
 use Rattle.cg_heap.proofs.ReferenceLemmas.{occurrences-append}
 use Rattle.cg_machine.specs.World.{World, Releasing, push, with_change}
 use Rattle.cg_machine.specs.Effects.{Effect, Changes, has_room, sets_entries, puts, tracked_by, may_track, place_of_index}
-use Rattle.cg_machine.specs.Operands.{object_of, is_dict}
+use Rattle.cg_machine.specs.Operands.{is_dict}
 use Rattle.cg_machine.specs.Refusals.{◌>>=◌}
 use Rattle.cg_machine.specs.Represents.{Represents}
 use Rattle.cg_commands.specs.declared.done.Done.{Done}
-use Rattle.cg_commands.specs.declared.done.Done.TheVariants.{Changed}
 use Rattle.cg_commands.specs.declared.locals.Locals.{Locals}
 use Rattle.cg_commands.specs.Refusals.{refusal_by}
-use Rattle.cg_commands.specs.Stands.{StandsFor}
 use Rattle.cg_commands.specs.Objects.{RefersTo}
 use Rattle.cg_commands.specs.Answers.{Performs, Answers, GivesUp}
 use Rattle.cg_commands.proofs.Bridges.{gives_up, released, refilled, tracked, change-alike}
 use Rattle.cg_commands.proofs.Reading.{object-at_node}
 use Rattle.cg_commands.proofs.Limits.{room, fault-refused}
-use Rattle.cg_commands.proofs.EntryLemmas.{code-here}
 
 -- an index that is a position
 pub index_is : (z : ℤ) (len i : ℕ) → place_of_index z len ≡ Some i → (z ≡ pos i) × (i < len)
@@ -79,10 +76,10 @@ module _ (store : Store) (sound : IsSound store) (locals : Option Locals) (test 
   sets list z i e value was done new at within here is told (e', made, refs) w s =
       subst (λ d. Answers (Ok d) (sets_entries w x (set there.node.entries i (item value)) (entry_references e)) store new) (sym made)
       (gives_up _ None e' false (entry_references e) (rewritten o (set there.node.entries i (item value)) store) (with_change (with_entries (set there.node.entries i (item value))) o w) store new refl
-        (refs ∙ ap references_of_value (told ∙ found_value) ∙ sym alone)
-        (is ∙ untouched ∙ (λ j. held (references_of_value (found_value j)) (rewritten o (after j) store)) ∙ ap (λ rs. held rs (rewritten o (set there.node.entries i (item value)) store)) (sym alone))
-        (refilled store w s.represents o (set there.node.entries i (item value)))
-        (λ q some. lives_on store (rewritten o (set there.node.entries i (item value)) store) (kinds-rewritten o (set there.node.entries i (item value)) store) q (sound.live q (omega (arith, some, entry_holds store o i e here q)))))
+      (refs ∙ ap references_of_value (told ∙ found_value) ∙ sym alone)
+      (is ∙ untouched ∙ (λ j. held (references_of_value (found_value j)) (rewritten o (after j) store)) ∙ ap (λ rs. held rs (rewritten o (set there.node.entries i (item value)) store)) (sym alone))
+      (refilled store w s.represents o (set there.node.entries i (item value)))
+      (λ q some. lives_on store (rewritten o (set there.node.entries i (item value)) store) (kinds-rewritten o (set there.node.entries i (item value)) store) q (sound.live q (omega (arith, some, entry_holds store o i e here q)))))
     where
       within_node : i < length there.node.entries
       within_node = subst (λ (es : List Entry). i < length es) entries-here within

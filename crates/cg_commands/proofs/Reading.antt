@@ -1,5 +1,5 @@
 -- What a heap tells of the world that it stands for: the values of operands, and the objects that values refer to.
-use Rattle.std.proofs.Common.{◌≡◌, refl, sym, ◌∙◌, ap, subst, ℕ, ◌<◌, ◌≤◌, Bool, true, false, List, [], ◌∷◌, Option, Some, None, IsSome, Result, Ok, Err, arith}
+use Rattle.std.proofs.Common.{◌≡◌, refl, sym, ◌∙◌, ap, subst, ℕ, ◌<◌, Bool, true, false, [], ◌∷◌, Option, Some, None, IsSome, Result, Ok, Err, arith}
 use Rattle.std.specs.Prelude.{◌==◌, option_map, option_and_then, unwrap_or, slice_get, ok_or, if◌then◌else◌, IfSome}
 use Rattle.std.proofs.lemmas.Bool.{eq-eqb}
 use Rattle.std.specs.FinMap as fin
@@ -8,9 +8,9 @@ use Rattle.cg_value.specs.declared.Val.TheVariants as val
 use Rattle.cg_value.specs.declared.Entry.{Entry}
 use Rattle.cg_value.specs.declared.KindCode.{KindCode}
 use Rattle.cg_graph.specs.Holdings.{occurrences}
-use Rattle.cg_graph.specs.Value.{entry_references, reference_in, references_of_value}
+use Rattle.cg_graph.specs.Value.{reference_in, references_of_value}
 use Rattle.cg_graph.specs.Object.{Object, object_at, entries_of as entries_in_world}
-use Rattle.cg_graph.specs.Store.{Store, Node, IsLive, object_from, objects_of, entries_of, entries_in, inner}
+use Rattle.cg_graph.specs.Store.{Store, Node, IsLive, object_from, entries_of, entries_in}
 use Rattle.cg_graph.proofs.Objects.{object-at, occurrences-append}
 use Rattle.cg_script.specs.declared.command.Operand.{Operand}
 use Rattle.cg_script.specs.declared.command.Operand.TheVariants as operand
@@ -19,13 +19,12 @@ use Rattle.cg_heap.proofs.ReferenceLemmas.{occurrences-one, one_if}
 use Rattle.cg_heap.proofs.HoldLemmas.{entry_holds, name_holds}
 use Rattle.cg_machine.specs.declared.event.FrameSort.{FrameSort}
 use Rattle.cg_machine.specs.World.{World, Frame}
-use Rattle.cg_machine.specs.Operands.{frame_on, value_of, self_in, weak_in, object, object_of, tested}
+use Rattle.cg_machine.specs.Operands.{frame_on, value_of, self_in, weak_in, object, tested}
 use Rattle.cg_machine.specs.Refusals.{◌>>=◌}
 use Rattle.cg_machine.specs.Represents.{Represents}
-use Rattle.cg_commands.specs.declared.done.Refusal.{Refusal}
 use Rattle.cg_commands.specs.declared.locals.Locals.{Locals}
 use Rattle.cg_commands.specs.Refusals.{number_of, Declines}
-use Rattle.cg_commands.specs.Stands.{StandsFor, locals_of, ReadsValue}
+use Rattle.cg_commands.specs.Stands.{locals_of, ReadsValue}
 use Rattle.cg_commands.specs.declared.operands.Wanted.{Wanted}
 use Rattle.cg_commands.specs.declared.operands.Wanted.TheVariants as wanted
 use Rattle.cg_commands.specs.Objects.{RefersTo, HasNoObject, test_of, refusal_of, bare}

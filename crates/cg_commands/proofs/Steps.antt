@@ -1,5 +1,5 @@
 -- What a command asks for after its operands, as the heap tells it: objects, indices, entries and keys.
-use Rattle.std.proofs.Common.{◌≡◌, refl, sym, ◌∙◌, ap, subst, ℕ, Bool, true, false, not, List, length, Option, Some, None, IsSome, Result, Ok, Err}
+use Rattle.std.proofs.Common.{◌≡◌, sym, ◌∙◌, ap, subst, ℕ, Bool, true, false, not, List, length, Option, Some, None, IsSome, Err}
 use Rattle.std.specs.Prelude.{slice_get, ok_or, ℤ, IfSome, option_map, option_and_then, position}
 use Rattle.std.specs.FinMap as fin
 use Rattle.cg_value.specs.declared.Val.{Val}
@@ -7,24 +7,23 @@ use Rattle.cg_value.specs.declared.Val.TheVariants as val
 use Rattle.cg_value.specs.declared.Entry.{Entry}
 use Rattle.cg_value.specs.declared.KindCode.{KindCode}
 use Rattle.cg_kind.specs.Calls.{has_key}
-use Rattle.cg_graph.specs.Value.{value_at, entry_at, reference_in}
+use Rattle.cg_graph.specs.Value.{value_at, entry_at}
 use Rattle.cg_value.specs.declared.Place.{Place}
 use Rattle.cg_value.specs.declared.Place.TheVariants.{Untracked}
 use Rattle.cg_graph.specs.Object.{Object, object_at, same_place, is_tracked}
 use Rattle.cg_graph.specs.Store.{Store, Node, IsLive, object_from, entries_of, entries_in, place_of, place_in}
 use Rattle.cg_machine.specs.World.{World}
 use Rattle.cg_machine.specs.Effects.{place_of_index, is_hashable}
-use Rattle.cg_machine.specs.Operands.{object, object_of}
+use Rattle.cg_machine.specs.Operands.{object}
 use Rattle.cg_machine.specs.Refusals.{no_index, unhashable, unless}
-use Rattle.cg_machine.specs.Represents.{Represents}
 use Rattle.cg_commands.specs.declared.done.Refusal.{Refusal}
 use Rattle.cg_commands.specs.declared.done.Refusal.TheVariants.{NoIndex, Unhashable}
 use Rattle.cg_commands.specs.declared.locals.Locals.{Locals}
 use Rattle.cg_commands.specs.declared.operands.Wanted.TheVariants as wanted
-use Rattle.cg_commands.specs.Refusals.{number_of, Declines}
+use Rattle.cg_commands.specs.Refusals.{Declines}
 use Rattle.cg_commands.specs.Stands.{StandsFor, Reads, IsRefused}
-use Rattle.cg_commands.specs.Objects.{RefersTo, HasNoObject, Tells, IsKey, test_of, bare}
-use Rattle.cg_commands.proofs.Reading.{object-at_node, object-found, test-bare, no_reference}
+use Rattle.cg_commands.specs.Objects.{RefersTo, Tells, IsKey, test_of, bare}
+use Rattle.cg_commands.proofs.Reading.{object-at_node, object-found, no_reference}
 use Rattle.cg_commands.proofs.KeyLemmas.{Stands, key_found, key_missing}
 
 module _ (store : Store) (locals : Option Locals) (test : Object → Bool) (v : Val) (o : ℕ) (there : RefersTo store test v o) where

@@ -35,7 +35,11 @@ pub(crate) fn bind<B: Kind>(
 }
 
 /// `del x`: the name is unbound.
-pub(crate) fn unbind<B: Kind>(heap: &mut Heap<B>, locals: Option<Locals>, name: u32) -> Result<Done, Refusal>
+pub(crate) fn unbind<B: Kind>(
+    heap: &mut Heap<B>,
+    locals: Option<Locals>,
+    name: u32,
+) -> Result<Done, Refusal>
     requires known { All (λ n. n < length heap.old.names) (name ∷ []) }
     requires few { HasFewHolds heap.old }
     ensures { Performs heap.old locals (λ w. effect w (command.Del name)) heap.new result }

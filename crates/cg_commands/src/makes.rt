@@ -44,7 +44,15 @@ pub(crate) fn make_list<B: Kind>(
     ensures { Performs heap.old locals (λ w. effect w (command.MakeList name items.now)) heap.new result }
 {
     let parts = gather(heap, locals, items)?;
-    make_bound(heap, locals, name, KindCode::List, None, parts.as_slice(), None)
+    make_bound(
+        heap,
+        locals,
+        name,
+        KindCode::List,
+        None,
+        parts.as_slice(),
+        None,
+    )
 }
 
 /// `x = tuple v v*`: a new tuple.
@@ -62,11 +70,23 @@ pub(crate) fn make_tuple<B: Kind>(
     ensures { Performs heap.old locals (λ w. effect w (command.MakeTuple name items.now)) heap.new result }
 {
     let parts = gather(heap, locals, items)?;
-    make_bound(heap, locals, name, KindCode::Tuple, None, parts.as_slice(), None)
+    make_bound(
+        heap,
+        locals,
+        name,
+        KindCode::Tuple,
+        None,
+        parts.as_slice(),
+        None,
+    )
 }
 
 /// `x = dict`: a new empty dictionary.
-pub(crate) fn make_dict<B: Kind>(heap: &mut Heap<B>, locals: Option<Locals>, name: u32) -> Result<Done, Refusal>
+pub(crate) fn make_dict<B: Kind>(
+    heap: &mut Heap<B>,
+    locals: Option<Locals>,
+    name: u32,
+) -> Result<Done, Refusal>
     requires known { All (λ n. n < length heap.old.names) (name ∷ []) }
     requires few { HasFewHolds heap.old }
     requires last { heap.old.last < 9223372036854775808 }
@@ -106,7 +126,15 @@ pub(crate) fn make_function<B: Kind>(
     ensures { Performs heap.old locals (λ w. effect w (command.MakeFunc name proc cells.now)) heap.new result }
 {
     let parts = gather(heap, locals, cells)?;
-    make_bound(heap, locals, name, KindCode::Func, Some(proc), parts.as_slice(), None)
+    make_bound(
+        heap,
+        locals,
+        name,
+        KindCode::Func,
+        Some(proc),
+        parts.as_slice(),
+        None,
+    )
 }
 
 /// `x = ref y [f]`: a new weak reference to an instance or a function, with a callback or none.
@@ -129,7 +157,15 @@ pub(crate) fn make_weak<B: Kind>(
     let callback = value(heap, locals, callback)?;
     let referent = object(heap, val, Wanted::Referable)?;
     let parts = callback_parts(heap, locals, callback)?;
-    make_bound(heap, locals, name, KindCode::Weak, None, parts.as_slice(), Some(referent))
+    make_bound(
+        heap,
+        locals,
+        name,
+        KindCode::Weak,
+        None,
+        parts.as_slice(),
+        Some(referent),
+    )
 }
 
 /// Makes an object and binds it to a name. What the name had is to be given up.

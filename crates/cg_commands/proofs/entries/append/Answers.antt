@@ -1,35 +1,21 @@
-use Rattle.std.proofs.Common.{◌≡◌, refl, sym, ◌∙◌, ap, subst, ℕ, ◌<◌, ◌++◌, length, Option, Some, None, Ok, Err, true, false, arith}
-use Rattle.std.proofs.Common.{w64}
-use mir.Val.{to_z, of_z}
-use Rattle.std.proofs.Math.Facts.{to_z-of_z}
-use Rattle.std.proofs.lemmas.List.Elements.{All-head}
-use Rattle.cg_script.specs.Texts.{operand_texts}
-use Rattle.std.specs.Prelude.{slice_get, ok_or}
+use Rattle.std.proofs.Common.{refl, sym, subst, ◌++◌, Ok, Err}
 use Rattle.std.proofs.lemmas.Result.{err_from_is_err_and}
-use Rattle.cg_value.specs.declared.Val.TheVariants as val
-use Rattle.cg_graph.specs.Store.{object_from, entries_of}
-use Rattle.cg_graph.specs.Value.{value_at, entry_at}
-use Rattle.cg_machine.specs.Operands.{value, values, object}
-use Rattle.cg_machine.specs.Effects.{place_of_index, is_hashable, binds}
-use Rattle.cg_machine.specs.Refusals.{no_index, no_key, no_attribute, unhashable, unless}
-use Rattle.cg_commands.specs.declared.done.Refusal.TheVariants as refusal
-use Rattle.cg_commands.specs.declared.done.Done.TheVariants as done
-use Rattle.cg_machine.specs.declared.event.Event.TheVariants as event
+use Rattle.cg_graph.specs.Store.{object_from}
+use Rattle.cg_machine.specs.Operands.{value, object}
 use Rattle.cg_graph.specs.Value.{item}
-use Rattle.cg_graph.specs.Object.{Object, is_tracked, same_place}
 use Rattle.cg_commands.specs.declared.operands.Wanted.TheVariants as wanted
 use Rattle.cg_commands.specs.Refusals.{number_of}
 use Rattle.cg_commands.specs.Objects.{test_of, refusal_of}
 use Rattle.cg_commands.proofs.Chains.{stops, goes_on}
-use Rattle.cg_commands.proofs.Steps.{reads-object, reads-index, no-index, reads-entry, reads-entry_at, no-entry_at, reads-key, no-hash, key-here}
-use Rattle.cg_commands.proofs.EntryLemmas.{appends, takes, can_take, has_code, not_garbage}
+use Rattle.cg_commands.proofs.Steps.{reads-object}
+use Rattle.cg_commands.proofs.EntryLemmas.{appends, has_code, not_garbage}
 use Rattle.cg_commands.proofs.Limits.{fault-refused}
 use Rattle.cg_commands.specs.Answers.{Performs}
 use Rattle.cg_script.specs.declared.command.Command.TheVariants as command
 use Rattle.cg_machine.specs.Commands.{effect}
 use Rattle.cg_machine.specs.World.{with_change}
 use Rattle.cg_graph.specs.Object.{with_entries}
-use Rattle.std.proofs.Common.{remove, [], ◌∷◌}
+use Rattle.std.proofs.Common.{[], ◌∷◌}
 use Rattle.cg_commands.proofs.entries.append.Goals as goal
 
 pub returns-in_err-list : goal.returns-in_err-list

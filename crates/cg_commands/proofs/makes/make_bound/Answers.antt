@@ -1,6 +1,5 @@
-use Rattle.std.proofs.Common.{◌≡◌, refl, sym, ◌∙◌, ap, subst, ◌<◌, ◌≤◌, Err}
+use Rattle.std.proofs.Common.{refl, sym, ◌∙◌, ap, subst, ◌≤◌, Err}
 use Rattle.std.specs.Prelude.{slice_get}
-use Rattle.cg_graph.specs.Store.{outside_of}
 use Rattle.cg_heap.specs.Keeps.{outside_total}
 use Rattle.cg_machine.specs.Effects.{makes}
 use Rattle.cg_commands.specs.Answers.{Performs}

@@ -1,7 +1,7 @@
-use Rattle.std.proofs.Common.{◌≡◌, sym, ◌∙◌, subst}
+use Rattle.std.proofs.Common.{sym, ◌∙◌, subst}
 use Rattle.cg_commands.specs.Refusals.{number_of}
-use Rattle.cg_commands.specs.Objects.{test_of, refusal_of, RefersTo, HasNoObject}
-use Rattle.cg_commands.proofs.Reading.{object-none, object-admitted, object-other}
+use Rattle.cg_commands.specs.Objects.{test_of, refusal_of, HasNoObject}
+use Rattle.cg_commands.proofs.Reading.{object-none, object-other}
 use Rattle.cg_commands.proofs.operands.object.Goals as goal
 
 pub returns-in_default : goal.returns-in_default

@@ -1,4 +1,4 @@
-use Rattle.std.proofs.Common.{◌≡◌, sym, ◌∙◌, ap, subst, ◌<◌, ◌+◌, ◌++◌, [], ◌∷◌, take, drop, get_or, length}
+use Rattle.std.proofs.Common.{sym, ◌∙◌, ap, subst, ◌<◌, ◌+◌, ◌++◌, [], ◌∷◌, take, drop, get_or, length}
 use Rattle.std.proofs.lemmas.List.{take_more, drop_more, take-append-drop}
 use Rattle.std.proofs.lemmas.Result.{err_from_is_err_and}
 use Rattle.cg_script.specs.Texts.{operand_texts}
@@ -15,9 +15,9 @@ pub returns-in_err-val-clause-err : goal.returns-in_err-val-clause-err
 returns-in_err-val-clause-err g c =
     let p = err_from_is_err_and c.from_residual.result c.from_residual.ensures.1 in rw (p.1, p.2)
     (gathers-stop c.args.heap.now c.args.locals (take c.loop-operand.operand-index c.args.operands.now) c.loop-operand.parts c.loop-operand.invariant
-      (get_or c.args.operands.now c.loop-operand.operand-index operand.None) (drop (c.loop-operand.operand-index + 1) c.args.operands.now) c.args.operands.now
-      (sym (take-append-drop c.loop-operand.operand-index c.args.operands.now) ∙ ap (λ l. take c.loop-operand.operand-index c.args.operands.now ++ l) (drop_more c.args.operands.now c.loop-operand.operand-index operand.None c.loop-operand-test.true))
-      c.in_err-val.field-0.0 c.in_err-val.ensures.err)
+    (get_or c.args.operands.now c.loop-operand.operand-index operand.None) (drop (c.loop-operand.operand-index + 1) c.args.operands.now) c.args.operands.now
+    (sym (take-append-drop c.loop-operand.operand-index c.args.operands.now) ∙ ap (λ l. take c.loop-operand.operand-index c.args.operands.now ++ l) (drop_more c.args.operands.now c.loop-operand.operand-index operand.None c.loop-operand-test.true))
+    c.in_err-val.field-0.0 c.in_err-val.ensures.err)
 
 pub loop-operand-preserved : goal.loop-operand-preserved
 loop-operand-preserved g c =
