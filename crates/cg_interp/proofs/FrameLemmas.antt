@@ -1,6 +1,6 @@
 -- How a frame starts and ends: what the engine does is the machine's transition.
 use Rattle.std.proofs.Common.{◌≡◌, ◌≢◌, refl, sym, ◌∙◌, ap, subst, ℕ, ◌+◌, ◌-◌, ◌<◌, Bool, true, false, inl, inr, List, [], ◌∷◌, ◌++◌, Option, None, Some, arith, cond}
-use Rattle.std.specs.Prelude.{flat_map, option_to_list, if◌then◌else◌, ◌==◌, IfSome}
+use Rattle.std.specs.Prelude.{flat_map, option_to_list, if◌then◌else◌, ◌==◌, IfSome, OnSome}
 use Rattle.std.proofs.lemmas.Bool.{ne_eqb, eq-eqb, eqb-true}
 use Rattle.cg_script.specs.declared.Script.{Script}
 use Rattle.cg_graph.specs.Holdings.{occurrences}
@@ -35,9 +35,14 @@ called_live store (Some f) live s h = go (f == s) refl h
     go true e k = subst (IsLive store) (eqb-true f s e) live
     go false e k = absurd (omega (arith, k))
 
-pub still_live : (store : Store) (called function : Option ℕ) → IfSome called (λ f. function ≡ Some f) → IfSome function (λ f. IsLive store f) → IfSome called (λ f. IsLive store f)
-still_live store None function only live = tt
-still_live store (Some f) function only live = subst (λ o. IfSome o (λ f. IsLive store f)) only live
+-- what is held is the function of a call
+pub still_live : (P : ℕ → Type 0) (C : Type 0) (called function : Option ℕ) → IfSome called (λ f. function ≡ Some f) → OnSome called C → (C → IfSome function P) → IfSome called P
+still_live P C None function only call live = tt
+still_live P C (Some f) function only call live = subst (λ o. IfSome o P) only (live call)
+
+pub when_called : (P C : Type 0) (called : Option ℕ) → OnSome called C → (C → P) → OnSome called P
+when_called P C None call p = tt
+when_called P C (Some f) call p = p call
 
 -- a frame starts
 module _ (script : Script) (old new : State) (spec : FrameSpec) (w : World) (stands : StandsFor script old w) where

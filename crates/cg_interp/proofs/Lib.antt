@@ -6,3 +6,4 @@ mod ReleaseLemmas
 mod EffectLemmas
 mod AnswerLemmas
 mod StepLemmas
+mod DeathLemmas

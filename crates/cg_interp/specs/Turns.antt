@@ -8,6 +8,7 @@ use Rattle.cg_graph.specs.Member.{Includes}
 use Rattle.cg_machine.specs.Holdings.{holdings, is_death_of}
 use Rattle.cg_machine.specs.Laws.{IsHeldByItsDeathAlone}
 use Rattle.cg_machine.specs.Frame.{Transition, begin_death}
+use Rattle.cg_machine.specs.Run.{StepTaken, Run, last_world}
 use Rattle.cg_machine.specs.Represents.{Goes}
 use Rattle.cg_interp.specs.declared.turned.Turned.{Turned}
 use Rattle.cg_interp.specs.declared.turned.Turned.TheVariants as turned
@@ -58,3 +59,7 @@ Releases script w e (Some o) = GivesDeath script w o e
 pub record DyingIsSound (w : World) : Type 0 where
   pub unheld : (d : Death) → Includes w.stack (Dying d) → IsHeldByItsDeathAlone d.object d.phase (holdings w)
   pub once : (o : ℕ) → count_by (is_death_of o) w.stack ≤ 1
+
+-- That holds in every world to which the machine goes.
+abbrev pub StaysSound : Script → World → Type 0
+StaysSound script w = (steps : List StepTaken) → Run script w steps → DyingIsSound (last_world w steps)

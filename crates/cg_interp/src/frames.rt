@@ -1,8 +1,9 @@
 //! How a frame starts and ends.
-ghost use Rattle.std.specs.Prelude.{◌≡◌, ◌<◌, ◌+◌, ◌∷◌, [], ℕ, Option, IfSome, option_to_list, Some};
+ghost use Rattle.std.specs.Prelude.{◌≡◌, ◌<◌, ◌+◌, ◌∷◌, [], ℕ, Option, IfSome, OnSome, option_to_list, Some};
 ghost use Rattle.cg_graph.specs.Store.{IsLive};
 ghost use Rattle.cg_heap.specs.Calls.{HasFewHolds};
 ghost use Rattle.cg_script.specs.declared.Script.{Script as AnyScript};
+ghost use Rattle.cg_machine.specs.declared.event.FrameSort.TheVariants as sort_of;
 ghost use Rattle.cg_machine.specs.Program.{body_of};
 ghost use Rattle.cg_machine.specs.World.{World};
 ghost use Rattle.cg_machine.specs.Frame.{start_frame, gives_up_function};
@@ -27,8 +28,8 @@ use cg_value::{Entry, Val};
 impl<B: Kind> Engine<B> {
     /// Starts a frame, which takes one from the budget. Where none is left, the run ends.
     pub fn start(&mut self, spec: FrameSpec) -> Turned
-        requires few { HasFewHolds self.old.store }
-        requires live { IfSome spec.func (λ f. IsLive self.old.store f) }
+        requires few { spec.sort ≡ sort_of.Call → HasFewHolds self.old.store }
+        requires live { spec.sort ≡ sort_of.Call → IfSome spec.func (λ f. IsLive self.old.store f) }
         requires room { 0 < self.old.room }
         ensures starts { (script : AnyScript) (w : World) → StandsFor script self.old w
             → Makes script (start_frame script spec w) self.new result }
@@ -42,8 +43,8 @@ impl<B: Kind> Engine<B> {
 
     /// Starts a frame where the budget has one left.
     fn enter(&mut self, spec: FrameSpec) -> Turned
-        requires few { HasFewHolds self.old.store }
-        requires live { IfSome spec.func (λ f. IsLive self.old.store f) }
+        requires few { spec.sort ≡ sort_of.Call → HasFewHolds self.old.store }
+        requires live { spec.sort ≡ sort_of.Call → IfSome spec.func (λ f. IsLive self.old.store f) }
         requires room { 0 < self.old.room }
         requires budget { 0 < self.old.budget }
         ensures starts { (script : AnyScript) (w : World) → StandsFor script self.old w
@@ -119,6 +120,7 @@ fn release_of(object: Option<u64>) -> Release
 fn called(sort: FrameSort, function: Option<u64>) -> Option<u64>
     ensures holds { call_holds sort function ≡ option_to_list result }
     ensures only { IfSome result (λ f. function ≡ Some f) }
+    ensures call { OnSome result (sort ≡ sort_of.Call) }
 {
     match sort {
         FrameSort::Call => function,
@@ -128,7 +130,7 @@ fn called(sort: FrameSort, function: Option<u64>) -> Option<u64>
 
 /// Holds an object, if there is one.
 fn hold_if<B: Kind>(heap: &mut Heap<B>, object: Option<u64>)
-    requires few { HasFewHolds heap.old }
+    requires few { OnSome object (HasFewHolds heap.old) }
     requires live { IfSome object (λ o. IsLive heap.old o) }
     ensures { heap.new ≡ held (option_to_list object) heap.old }
 {

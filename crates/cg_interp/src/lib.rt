@@ -4,6 +4,7 @@
 mod activity;
 mod callers;
 mod commands;
+mod deaths;
 mod engine;
 mod frames;
 mod releases;
