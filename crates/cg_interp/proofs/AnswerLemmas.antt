@@ -1,10 +1,8 @@
 -- What was done is what the machine may do for the command.
-use Rattle.std.proofs.Common.{◌≡◌, refl, sym, ◌∙◌, ap, subst, ℕ, Bool, true, List, [], ◌∷◌, Option, None, Some, inl, inr, Result, Ok, Err, option_to_list}
+use Rattle.std.proofs.Common.{◌≡◌, refl, sym, ◌∙◌, subst, ℕ, Bool, true, List, [], ◌∷◌, Option, inl, inr, Result, Ok, Err}
 use Rattle.cg_value.specs.declared.Entry.{Entry}
 use Rattle.cg_script.specs.declared.Script.{Script}
 use Rattle.cg_script.specs.declared.Command.{Command}
-use Rattle.cg_graph.specs.Member.{Includes}
-use Rattle.cg_graph.specs.Object.{is_in_map}
 use Rattle.cg_commands.specs.declared.locals.Locals.{Locals}
 use Rattle.cg_commands.specs.Stands.{StandsFor as StandsBefore}
 use Rattle.cg_death.proofs.CallerLemmas.{lives_in_heap}
@@ -12,23 +10,20 @@ use Rattle.cg_graph.specs.Store.{Store, IsLive}
 use Rattle.cg_graph.specs.Value.{entry_references}
 use Rattle.cg_machine.specs.declared.event.Event.{Event}
 use Rattle.cg_machine.specs.World.{World, Releasing, push, with_stack}
-use Rattle.cg_machine.specs.Frame.{Transition, start_frame}
+use Rattle.cg_machine.specs.Frame.{start_frame}
 use Rattle.cg_machine.specs.Effects.{Effect, Changes as ChangesEffect, Calls as CallsEffect, Quits as QuitsEffect}
 use Rattle.cg_machine.specs.Refusals.{no_memory}
 use Rattle.cg_machine.specs.Commands.{effect, refused, without_commands, DoesEffect}
 use Rattle.cg_machine.proofs.CommandLaws.{Each, Leaves, LeavesStack, effect_leaves}
-use Rattle.cg_commands.specs.declared.done.Done.{Done}
 use Rattle.cg_commands.specs.declared.done.Done.TheVariants as done_of
 use Rattle.cg_commands.specs.declared.done.Refusal.{Refusal}
 use Rattle.cg_commands.specs.declared.done.Refusal.TheVariants as refusal_of
 use Rattle.cg_commands.specs.Refusals.{number_of}
 use Rattle.cg_commands.specs.Spelled.{IsForObjects}
-use Rattle.cg_commands.specs.Answers.{Answers, Performs, Refuses, HasChanged}
+use Rattle.cg_commands.specs.Answers.{Performs, Refuses, HasChanged}
 use Rattle.cg_interp.specs.declared.activity.Activity.{Activity as Own}
-use Rattle.cg_interp.specs.declared.turned.Turned.{Turned}
 use Rattle.cg_interp.specs.Engines.{State, StandsFor, ShowsAll, under, over}
-use Rattle.cg_interp.specs.Callers.{Changes, transition_of_change, call_of, Does}
-use Rattle.cg_interp.specs.Turns.{Makes}
+use Rattle.cg_interp.specs.Callers.{Changes, call_of}
 use Rattle.cg_interp.proofs.EffectLemmas.{HasFitted, effect_fits}
 use Rattle.cg_interp.proofs.CallerLemmas.{same_engine}
 

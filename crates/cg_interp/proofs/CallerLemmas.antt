@@ -1,6 +1,6 @@
 -- What a command leaves on top of the stack: the activity that it stood in, which may have lost the rest of its commands.
 use Rattle.std.proofs.Common.{◌≡◌, refl, sym, ◌∙◌, ap, subst, ℕ, List, [], ◌∷◌, ◌++◌, Option, None, Some}
-use Rattle.std.specs.Prelude.{option_to_list, unwrap_or, option_and_then, option_map, IsSome, IfSome}
+use Rattle.std.specs.Prelude.{unwrap_or, option_and_then, option_map, IsSome, IfSome}
 use Rattle.std.specs.FinMap as fin
 use Rattle.cg_graph.specs.Object.{Object, object_at}
 use Rattle.cg_graph.specs.Store.{Store, Node, IsLive, object_from}
@@ -11,7 +11,7 @@ use Rattle.cg_script.specs.declared.Script.{Script}
 use Rattle.cg_graph.specs.Value.{entry_references}
 use Rattle.cg_machine.specs.declared.event.Event.{Event}
 use Rattle.cg_machine.specs.declared.event.Event.TheVariants.{Refused}
-use Rattle.cg_machine.specs.Program.{commands_of, body_of}
+use Rattle.cg_machine.specs.Program.{commands_of}
 use Rattle.cg_machine.specs.World.{World, Activity, TopLevel, Framed, Releasing, push, with_stack}
 use Rattle.cg_machine.specs.Holdings.{holds}
 use Rattle.cg_machine.specs.Commands.{refused, without_commands, stopped_frame}
@@ -21,7 +21,7 @@ use Rattle.cg_death.specs.Activities.{references_left}
 use Rattle.cg_interp.specs.declared.activity.Activity.{Activity as Own}
 use Rattle.cg_interp.specs.declared.activity.Activity.TheVariants as activity
 use Rattle.cg_interp.specs.declared.turned.Turned.TheVariants as turned
-use Rattle.cg_interp.specs.Engines.{State, StandsFor, Shows, ShowsAll, ShowsTop, commands_from, frame_of, under}
+use Rattle.cg_interp.specs.Engines.{State, StandsFor, Shows, ShowsAll, commands_from, frame_of, under}
 use Rattle.cg_interp.specs.Callers.{IsCaller, without_rest, without_rest_in_frame, Changes, transition_of_change}
 use Rattle.cg_interp.specs.Turns.{Makes}
 use Rattle.cg_interp.proofs.Standing.{IsPlain, plain_frame, plain_script, replaced, spelled}
@@ -56,24 +56,32 @@ module _ (script : Script) (old new : State) (w : World) where
   -- a command is refused
   pub refuses : (top : Own) (number : ℕ) → IsCaller top → StandsFor script (under top old) w → new.store ≡ old.store → new.activities ≡ without_rest_in_frame top ∷ old.activities → new.budget ≡ old.budget
       → Makes script (refused number w) new (turned.Line (Refused number))
-  refuses (activity.Script next) number caller stands store is budget =
-      (refl, retopped script old new (activity.Script next) (activity.Script next) (TopLevel (commands_from next (commands_of script.items))) (TopLevel (commands_from next (commands_of script.items))) stopped_frame w
-      (plain_script _) (plain_script _) refl (λ below. refl) (λ tops e. e) refl stands store is budget)
-  refuses (activity.Frame locals procedure next) number caller stands store is budget =
-      (refl, retopped script old new (activity.Frame locals procedure next) (activity.Frame locals procedure None) (Framed (frame_of script locals procedure next)) (Framed (frame_of script locals procedure None)) stopped_frame w
-      (plain_frame _) (plain_frame _) refl (λ below. refl) (λ tops e. e) refl stands store is budget)
+  refuses (activity.Script next) number caller stands store is budget = (
+    refl,
+    retopped script old new (activity.Script next) (activity.Script next) (TopLevel (commands_from next (commands_of script.items))) (TopLevel (commands_from next (commands_of script.items))) stopped_frame w
+        (plain_script _) (plain_script _) refl (λ below. refl) (λ tops e. e) refl stands store is budget,
+  )
+  refuses (activity.Frame locals procedure next) number caller stands store is budget = (
+    refl,
+    retopped script old new (activity.Frame locals procedure next) (activity.Frame locals procedure None) (Framed (frame_of script locals procedure next)) (Framed (frame_of script locals procedure None)) stopped_frame w
+        (plain_frame _) (plain_frame _) refl (λ below. refl) (λ tops e. e) refl stands store is budget,
+  )
   refuses (activity.Releasing release) number caller stands store is budget = absurd caller
   refuses (activity.Dying death) number caller stands store is budget = absurd caller
 
   -- a command ends what it stands in
   pub quits : (top : Own) → IsCaller top → StandsFor script (under top old) w → new.store ≡ old.store → new.activities ≡ without_rest top ∷ old.activities → new.budget ≡ old.budget
       → Makes script ([], with_stack (without_commands w.stack) w) new turned.Quiet
-  quits (activity.Script next) caller stands store is budget =
-      (refl, retopped script old new (activity.Script next) (activity.Script None) (TopLevel (commands_from next (commands_of script.items))) (TopLevel []) without_commands w
-      (plain_script _) (plain_script _) refl (λ below. refl) (λ tops e. e) refl stands store is budget)
-  quits (activity.Frame locals procedure next) caller stands store is budget =
-      (refl, retopped script old new (activity.Frame locals procedure next) (activity.Frame locals procedure None) (Framed (frame_of script locals procedure next)) (Framed (frame_of script locals procedure None)) without_commands w
-      (plain_frame _) (plain_frame _) refl (λ below. refl) (λ tops e. e) refl stands store is budget)
+  quits (activity.Script next) caller stands store is budget = (
+    refl,
+    retopped script old new (activity.Script next) (activity.Script None) (TopLevel (commands_from next (commands_of script.items))) (TopLevel []) without_commands w
+        (plain_script _) (plain_script _) refl (λ below. refl) (λ tops e. e) refl stands store is budget,
+  )
+  quits (activity.Frame locals procedure next) caller stands store is budget = (
+    refl,
+    retopped script old new (activity.Frame locals procedure next) (activity.Frame locals procedure None) (Framed (frame_of script locals procedure next)) (Framed (frame_of script locals procedure None)) without_commands w
+        (plain_frame _) (plain_frame _) refl (λ below. refl) (λ tops e. e) refl stands store is budget,
+  )
   quits (activity.Releasing release) caller stands store is budget = absurd caller
   quits (activity.Dying death) caller stands store is budget = absurd caller
 

@@ -1,6 +1,6 @@
 -- A death on top of the stack.
-use Rattle.std.proofs.Common.{◌≡◌, ◌≢◌, refl, sym, ◌∙◌, ap, subst, ℕ, ◌+◌, ◌<◌, ◌≤◌, Bool, true, false, cond, inl, inr, List, [], ◌∷◌, ◌++◌, Option, None, Some, map, arith}
-use Rattle.std.specs.Prelude.{◌==◌, ◌&&◌, count_by, filter, reverse}
+use Rattle.std.proofs.Common.{◌≡◌, ◌≢◌, refl, sym, ◌∙◌, ap, subst, ℕ, ◌+◌, ◌<◌, Bool, true, false, cond, inl, inr, List, [], ◌∷◌, Option, None, Some, map, arith}
+use Rattle.std.specs.Prelude.{◌==◌, count_by, filter, reverse}
 use Rattle.std.proofs.lemmas.Bool.{eqb-true, eq-eqb}
 use Rattle.std.proofs.lemmas.List.Sums.{sum_by-cons}
 use Rattle.cg_script.specs.declared.Script.{Script}
@@ -59,8 +59,8 @@ none_pass o (r ∷ rows) none = go (waits_with o r) refl (none_pass o rows (λ q
 pub none_waits : (script : Script) (e : State) (o : ℕ) (w : World) → StandsFor script e w → DyingIsSound (begin_death o w) → waiting_in e.store.rows o ≡ []
 none_waits script e o w stands sound =
     ap (λ l. reverse (map (λ (r : Row). r.weak) l)) (none_pass o e.store.rows (λ r m waits is.
-        let found = stands.represents.no_others r m waits in
-        was_not_dying o w sound found.0 found.1 (found.2 ∙ is)))
+    let found = stands.represents.no_others r m waits in
+    was_not_dying o w sound found.0 found.1 (found.2 ∙ is)))
 
 -- its death is on top then
 pub dies : (script : Script) (old new : State) (o : ℕ) (death : Death) (w : World) → StandsFor script old w → Represents new.store (begin_death o w) → on_stack death new.store ≡ death_of o Finalizer ∷ [] → new.activities ≡ activity.Dying death ∷ old.activities → new.budget ≡ old.budget

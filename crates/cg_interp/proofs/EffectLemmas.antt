@@ -1,5 +1,5 @@
 -- What a command that is not the collector's leaves: threshold 0, and, where it calls, a function that lives.
-use Rattle.std.proofs.Common.{◌≡◌, refl, sym, ◌∙◌, ap, ℕ, Bool, true, false, List, [], Option, Some, None, Result, Ok, Err, map}
+use Rattle.std.proofs.Common.{◌≡◌, refl, ◌∙◌, ap, ℕ, Bool, true, false, List, [], Option, Some, None, Ok, Err, map}
 use Rattle.std.specs.Prelude.{if◌then◌else◌, is_some, option_and_then, ok_or}
 use Rattle.cg_value.specs.declared.Val.{Val}
 use Rattle.cg_value.specs.declared.Val.TheVariants.{None as Nothing, Int, Str, Ref}
@@ -13,7 +13,7 @@ use Rattle.cg_script.specs.declared.Command.TheVariants.{MakeList, MakeTuple, Ma
 use Rattle.cg_machine.specs.World.{World}
 use Rattle.cg_machine.specs.Effects.{Effect, Changes, Calls, Collects, Quits, makes, puts, has_room}
 use Rattle.cg_machine.specs.Commands.{effect}
-use Rattle.cg_machine.specs.Refusals.{◌>>=◌, not_callable}
+use Rattle.cg_machine.specs.Refusals.{not_callable}
 use Rattle.cg_machine.specs.Operands.{object, object_of, tested}
 use Rattle.cg_machine.specs.Weak.{is_function}
 use Rattle.cg_machine.proofs.CommandLaws.{Each, checked}

@@ -1,20 +1,18 @@
 -- How a frame starts and ends: what the engine does is the machine's transition.
-use Rattle.std.proofs.Common.{◌≡◌, ◌≢◌, refl, sym, ◌∙◌, ap, subst, ℕ, ◌+◌, ◌-◌, ◌<◌, Bool, true, false, inl, inr, List, [], ◌∷◌, ◌++◌, Option, None, Some, arith, cond}
-use Rattle.std.specs.Prelude.{flat_map, option_to_list, if◌then◌else◌, ◌==◌, IfSome, OnSome}
+use Rattle.std.proofs.Common.{◌≡◌, ◌≢◌, refl, sym, ◌∙◌, ap, subst, ℕ, ◌+◌, ◌-◌, ◌<◌, Bool, true, false, List, [], ◌∷◌, ◌++◌, Option, None, Some, arith, cond}
+use Rattle.std.specs.Prelude.{option_to_list, if◌then◌else◌, ◌==◌, IfSome, OnSome}
 use Rattle.std.proofs.lemmas.Bool.{ne_eqb, eq-eqb, eqb-true}
 use Rattle.cg_script.specs.declared.Script.{Script}
 use Rattle.cg_graph.specs.Holdings.{occurrences}
 use Rattle.cg_graph.specs.Store.{Store, IsLive}
 use Rattle.cg_graph.specs.Changes.{held}
 use Rattle.cg_machine.specs.declared.event.Event.TheVariants.{Enter, Leave, BudgetSpent}
-use Rattle.cg_machine.specs.declared.event.FrameSort.{FrameSort}
-use Rattle.cg_machine.specs.declared.event.FrameSort.TheVariants.{Del, Legacy, Callback, Call}
 use Rattle.cg_machine.specs.declared.event.FrameSpec.{FrameSpec}
 use Rattle.cg_machine.specs.Program.{body_of}
-use Rattle.cg_machine.specs.World.{World, Activity, Framed, Frame, Releasing, BudgetIsSpent, push, with_stack}
+use Rattle.cg_machine.specs.World.{World, Activity, Framed, Frame, Releasing, BudgetIsSpent, with_stack}
 use Rattle.cg_machine.specs.Holdings.{holds, call_holds}
-use Rattle.cg_machine.specs.Frame.{Transition, start_frame, frame_end, gives_up_function}
-use Rattle.cg_machine.specs.Represents.{Represents, Goes}
+use Rattle.cg_machine.specs.Frame.{Transition, start_frame, gives_up_function}
+use Rattle.cg_machine.specs.Represents.{Represents}
 use Rattle.cg_machine.specs.Run.{StepOf, FrameStep}
 use Rattle.cg_death.specs.declared.release.Release.{Release}
 use Rattle.cg_death.specs.Activities.{references_left}

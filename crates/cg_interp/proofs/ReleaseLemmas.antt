@@ -1,5 +1,5 @@
 -- A release on top: what it answers, as what the machine does.
-use Rattle.std.proofs.Common.{◌≡◌, ◌≢◌, refl, sym, ◌∙◌, ap, subst, ℕ, ◌+◌, ◌<◌, Bool, true, false, cond, ◌≤◌, List, [], ◌∷◌, ◌++◌, Option, None, Some, length, arith, drop, length-drop}
+use Rattle.std.proofs.Common.{◌≡◌, ◌≢◌, refl, sym, ◌∙◌, ap, subst, ℕ, ◌+◌, ◌<◌, Bool, true, false, cond, List, [], ◌∷◌, ◌++◌, Option, None, Some, length, arith, drop, length-drop}
 use Rattle.cg_script.specs.declared.Script.{Script}
 use Rattle.std.specs.Prelude.{◌==◌, if◌then◌else◌, option_map, IsSome}
 use Rattle.std.specs.FinMap as fin
@@ -13,12 +13,11 @@ use Rattle.cg_heap.proofs.HoldLemmas.{outside_live}
 use Rattle.cg_machine.specs.World.{World, Activity, Releasing, Numbers}
 use Rattle.cg_machine.specs.Frame.{begin_death}
 use Rattle.cg_machine.specs.Run.{StepTaken, last_world}
-use Rattle.cg_machine.specs.Represents.{Represents, Goes}
 use Rattle.cg_death.specs.declared.release.Release.{Release}
 use Rattle.cg_death.specs.declared.answer.DeathStep.{DeathStep}
 use Rattle.cg_death.specs.declared.answer.DeathStep.TheVariants as answer_of
 use Rattle.cg_death.specs.Activities.{references_left, HasHolds, IsUnheld}
-use Rattle.cg_death.specs.Answers.{Stands, ReleaseSteps, ReleaseAnswer, release_answer, once_released, WentOn, GaveDeath}
+use Rattle.cg_death.specs.Answers.{ReleaseSteps, ReleaseAnswer, release_answer, once_released, WentOn, GaveDeath}
 use Rattle.cg_interp.specs.declared.activity.Activity.TheVariants as activity
 use Rattle.cg_interp.specs.Engines.{State, StandsFor, ShowsAll, under}
 use Rattle.cg_interp.specs.Turns.{GoesTo, GivesDeath, DyingIsSound, StaysSound}

@@ -1,14 +1,10 @@
 -- What a heap stands for, where an activity is put on top of the stack, taken from it, or replaced.
-use Rattle.std.proofs.Common.{◌≡◌, refl, sym, ◌∙◌, ap, subst, ℕ, ◌+◌, ◌<◌, inl, inr, List, [], ◌∷◌, ◌++◌, Option, None, Some, arith, true, append-nil}
+use Rattle.std.proofs.Common.{◌≡◌, refl, sym, ◌∙◌, ap, subst, ℕ, ◌+◌, ◌<◌, inr, List, [], ◌∷◌, ◌++◌, Option, None, Some, arith, append-nil}
 use Rattle.std.specs.Prelude.{flat_map, option_map}
-use Rattle.std.specs.Ordering.{nat_cmp}
 use Rattle.std.specs.FinMap as fin
-use Rattle.cg_value.specs.declared.Place.TheVariants.{Pend}
 use Rattle.cg_script.specs.declared.Command.{Command}
-use Rattle.cg_graph.specs.Member.{Includes}
-use Rattle.cg_graph.specs.Rows.{Row}
 use Rattle.cg_graph.specs.Holdings.{occurrences}
-use Rattle.cg_graph.specs.Store.{Store, Node, IsLive, objects_of, outside_of}
+use Rattle.cg_graph.specs.Store.{Store, Node, IsLive}
 use Rattle.cg_graph.specs.Changes.{held, more}
 use Rattle.cg_graph.proofs.Maps.{same_map, get-mapped}
 use Rattle.cg_graph.proofs.Objects.{objects-same, occurrences-append}
@@ -92,7 +88,7 @@ holding store w a refs plain is live r =
       collection = r.collection;
     }))
     (λ s. let same : occurrences s (holds a ++ flat_map holds w.stack) ≡ occurrences s (refs ++ flat_map holds w.stack) = ap (λ l. occurrences s (l ++ flat_map holds w.stack)) is in
-        omega (arith, same, outside-held refs store s (live s), r.outside s, occurrences-append s refs (flat_map holds w.stack)))
+    omega (arith, same, outside-held refs store s (live s), r.outside s, occurrences-append s refs (flat_map holds w.stack)))
 
 -- a world is that world with its own stack
 pub at_stack : (P : World → Type 0) (w : World) (stack : List Activity) → w.stack ≡ stack → P (with_stack stack w) → P w

@@ -1,30 +1,28 @@
 -- A step of the script or of a frame that goes on to its next command.
-use Rattle.std.proofs.Common.{◌≡◌, refl, sym, ◌∙◌, ap, subst, ℕ, ◌+◌, Bool, true, false, not, ◌&&◌, List, [], ◌∷◌, ◌++◌, Option, None, Some, inl, inr, take, drop, arith}
-use Rattle.std.specs.Prelude.{option_map, ◌==◌, nat_lt, if◌then◌else◌}
+use Rattle.std.proofs.Common.{◌≡◌, refl, sym, ◌∙◌, ap, subst, ℕ, Bool, true, false, not, ◌&&◌, List, [], ◌∷◌, ◌++◌, Option, None, Some, inl, take, drop}
+use Rattle.std.specs.Prelude.{◌==◌, nat_lt, if◌then◌else◌}
 use Rattle.std.proofs.lemmas.List.{take-append-drop}
 use Rattle.cg_script.specs.declared.Script.{Script}
 use Rattle.cg_script.specs.declared.Command.{Command}
 use Rattle.cg_graph.specs.Member.{Includes}
 use Rattle.cg_graph.proofs.Members.{Includes-append_right}
-use Rattle.cg_machine.specs.declared.event.Event.{Event}
 use Rattle.cg_machine.specs.declared.event.Event.TheVariants.{End, BudgetSpent}
 use Rattle.cg_machine.specs.Program.{commands_of, body_of}
-use Rattle.cg_machine.specs.World.{World, Numbers, Activity, TopLevel, Framed, Frame, Running, Ended, with_stack}
-use Rattle.cg_machine.specs.Holdings.{holds, is_collecting}
+use Rattle.cg_machine.specs.World.{World, Activity, TopLevel, Framed, Frame, Running, Ended, with_stack}
+use Rattle.cg_machine.specs.Holdings.{is_collecting}
 use Rattle.cg_machine.specs.Frame.{Transition}
 use Rattle.cg_machine.specs.Due.{due, is_due, due_generation}
 use Rattle.cg_machine.specs.Run.{StepOf, TopLevelStep, FrameStep, CommandInFrame}
-use Rattle.cg_machine.specs.Represents.{Represents, Goes}
+use Rattle.cg_machine.specs.Represents.{Represents}
 use Rattle.cg_commands.specs.declared.locals.Locals.{Locals}
 use Rattle.cg_commands.specs.Stands.{HasLocals}
-use Rattle.cg_interp.specs.declared.activity.Activity.{Activity as Own}
 use Rattle.cg_interp.specs.declared.activity.Activity.TheVariants as activity
 use Rattle.cg_interp.specs.declared.turned.Turned.{Turned}
 use Rattle.cg_interp.specs.declared.turned.Turned.TheVariants as turned
-use Rattle.cg_interp.specs.Engines.{State, StandsFor, Shows, ShowsAll, commands_from, frame_of, under}
+use Rattle.cg_interp.specs.Engines.{State, StandsFor, commands_from, frame_of, under}
 use Rattle.cg_interp.specs.Callers.{Does, AreDoable}
-use Rattle.cg_interp.specs.Turns.{Makes, Turns, GoesTo, EndsWith}
-use Rattle.cg_interp.proofs.Standing.{IsPlain, plain_frame, plain_script, replaced, spelled, one_step}
+use Rattle.cg_interp.specs.Turns.{Makes, Turns}
+use Rattle.cg_interp.proofs.Standing.{plain_frame, plain_script, replaced, spelled, one_step}
 
 -- with threshold 0 at 0 no collection is due
 not_due : (w : World) → w.numbers.zero_threshold ≡ 0 → due w ≡ None

@@ -1,5 +1,5 @@
 -- Where the commands of a script stand among its lines. (Ours.)
-use Rattle.std.specs.Prelude.{◌≡◌, ℕ, List, map, Option, Some, Bool, true, false, slice_get}
+use Rattle.std.specs.Prelude.{◌≡◌, ℕ, List, map, Some, Bool, true, false, slice_get}
 use Rattle.cg_script.specs.declared.item.Item.{Item}
 use Rattle.cg_script.specs.declared.item.Item.TheVariants.{Budget, Class, Def, Run}
 use Rattle.cg_machine.specs.Program.{commands_of, procedures}

@@ -51,7 +51,11 @@ impl<B: Kind> Engine<B> {
             → Turns script.now w self.new result }
     {
         match table.next(script, next) {
-            Some((command, after)) => self.run(Activity::Script { next: Some(after) }, None, command),
+            Some((command, after)) => self.run(
+                Activity::Script { next: Some(after) },
+                None,
+                command,
+            ),
             None => Turned::Ended,
         }
     }

@@ -129,7 +129,9 @@ fn stopped_frame(activity: Activity) -> Activity
 {
     match activity {
         Activity::Frame {
-            locals, procedure, ..
+            locals,
+            procedure,
+            ..
         } => Activity::Frame {
             locals,
             procedure,

@@ -26,10 +26,10 @@ impl<B: Kind> Model for Engine<B> {
     ghost coded = { Prim.hlevel (codes, store_code, activity.the_row.coded) };
 
     ghost view = { λ e. record {
-        store = e.heap;
-        activities = e.stack.activities;
-        room = e.stack.room;
-        budget = e.budget;
-        frames = e.frames;
+      store = e.heap;
+      activities = e.stack.activities;
+      room = e.stack.room;
+      budget = e.budget;
+      frames = e.frames;
     } };
 }

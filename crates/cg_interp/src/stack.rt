@@ -19,8 +19,8 @@ impl Model for Stack {
     ghost Value = { Stacked };
 
     ghost view = { λ s. record {
-        activities = reverse s.activities.items;
-        room = vec_capacity s.activities - vec_len s.activities;
+      activities = reverse s.activities.items;
+      room = vec_capacity s.activities - vec_len s.activities;
     } };
 }
 

@@ -1,4 +1,4 @@
-use Rattle.std.proofs.Common.{◌≡◌, ◌∙◌, ap, map, ◌++◌, ◌∷◌, []}
+use Rattle.std.proofs.Common.{◌∙◌, ap, map, ◌++◌, ◌∷◌, []}
 use Rattle.std.specs.Prelude.{slice_get, if◌then◌else◌}
 use Rattle.cg_interp.proofs.Positions.{command_more, all_commands}
 use Rattle.cg_interp.proofs.table.commands_in.Goals as goal

@@ -1,4 +1,4 @@
-use Rattle.std.proofs.Common.{◌≡◌, ◌∙◌, ap, map, ◌++◌, ◌∷◌, []}
+use Rattle.std.proofs.Common.{◌∙◌, ap, map, ◌++◌, ◌∷◌, []}
 use Rattle.std.specs.Prelude.{slice_get, if◌then◌else◌}
 use Rattle.cg_interp.proofs.Positions.{procedure_more, all_procedures}
 use Rattle.cg_interp.proofs.table.procedures_in.Goals as goal

@@ -9,6 +9,8 @@ begin-death-requires-clause-none_waits g c =
     none_waits s.0 _ c.args.object s.1 (subst (λ e. StandsFor s.0 e s.1) (sym c.self.view_is) s.2) s.3
 
 pub returns : goal.returns
-returns g c = record { begins = λ script w stands.
-    let before = subst (λ e. StandsFor script e w) (sym c.self.view_is) stands in
-    dies script _ _ c.args.object c.begin-death.result w before (c.begin-death.ensures.begins w before.represents) c.begin-death.ensures.stack c.push.ensures.top refl }
+returns g c = record {
+  begins = λ script w stands.
+      let before = subst (λ e. StandsFor script e w) (sym c.self.view_is) stands in
+      dies script _ _ c.args.object c.begin-death.result w before (c.begin-death.ensures.begins w before.represents) c.begin-death.ensures.stack c.push.ensures.top refl;
+}

@@ -1,4 +1,4 @@
-use Rattle.std.proofs.Common.{sym, subst, ap, ◌∙◌, arith, refl}
+use Rattle.std.proofs.Common.{sym, subst, ap, arith, refl}
 use Rattle.std.specs.Prelude.{IfSome}
 use Rattle.cg_graph.specs.Store.{IsLive}
 use Rattle.cg_heap.specs.Calls.{HasFewHolds}
@@ -15,8 +15,10 @@ hold_if-requires-clause-live g c =
     (λ is. subst (λ e. IfSome c.args.spec.func (λ f. IsLive e.store f)) (sym c.self.view_is) (c.requires.live is))
 
 pub returns : goal.returns
-returns g c = record { starts = λ script w stands.
-    enters script _ _ c.args.spec w (subst (λ e. StandsFor script e w) (sym c.self.view_is) stands) c.called.result (omega (arith, c.requires.budget, ap (λ e. e.budget) c.self.view_is)) c.called.ensures.holds
-    (still_live (λ f. IsLive c.self.inside.heap f) _ c.called.result c.args.spec.func c.called.ensures.only c.called.ensures.call
-    (λ is. subst (λ e. IfSome c.args.spec.func (λ f. IsLive e.store f)) (sym c.self.view_is) (c.requires.live is)))
-    c.hold_if.ensures c.push.ensures.top refl }
+returns g c = record {
+  starts = λ script w stands.
+      enters script _ _ c.args.spec w (subst (λ e. StandsFor script e w) (sym c.self.view_is) stands) c.called.result (omega (arith, c.requires.budget, ap (λ e. e.budget) c.self.view_is)) c.called.ensures.holds
+      (still_live (λ f. IsLive c.self.inside.heap f) _ c.called.result c.args.spec.func c.called.ensures.only c.called.ensures.call
+      (λ is. subst (λ e. IfSome c.args.spec.func (λ f. IsLive e.store f)) (sym c.self.view_is) (c.requires.live is)))
+      c.hold_if.ensures c.push.ensures.top refl;
+}

@@ -19,11 +19,13 @@ run-requires-clause-stands g c =
     )
 
 pub returns-in-Some : goal.returns-in-Some
-returns-in-Some g c = record { turns = λ w stands.
-    script_turns c.args.script.now c.args.self.now c.args.next (Some c.in-Some.after) c.in-Some.command.now w stands c.in-Some.ensures.some _ c.run.result
-    (c.run.ensures.does c.args.script.now (script_goes_on c.args.script.now c.args.self.now c.args.next (Some c.in-Some.after) c.in-Some.command.now w stands c.in-Some.ensures.some)
-    (script_stands c.args.script.now c.args.self.now c.args.next (Some c.in-Some.after) c.in-Some.command.now w stands c.in-Some.ensures.some)
-    (script_locals c.args.script.now c.args.self.now c.args.next (Some c.in-Some.after) c.in-Some.command.now w stands c.in-Some.ensures.some)) }
+returns-in-Some g c = record {
+  turns = λ w stands.
+      script_turns c.args.script.now c.args.self.now c.args.next (Some c.in-Some.after) c.in-Some.command.now w stands c.in-Some.ensures.some _ c.run.result
+      (c.run.ensures.does c.args.script.now (script_goes_on c.args.script.now c.args.self.now c.args.next (Some c.in-Some.after) c.in-Some.command.now w stands c.in-Some.ensures.some)
+      (script_stands c.args.script.now c.args.self.now c.args.next (Some c.in-Some.after) c.in-Some.command.now w stands c.in-Some.ensures.some)
+      (script_locals c.args.script.now c.args.self.now c.args.next (Some c.in-Some.after) c.in-Some.command.now w stands c.in-Some.ensures.some));
+}
 
 pub returns-in-None : goal.returns-in-None
 returns-in-None g c = record { turns = λ w stands. script_ends c.args.script.now c.args.self.now c.args.self.now c.args.next w stands c.in-None.ensures.none }

@@ -12,9 +12,11 @@ die-requires-clause-stands g c =
     (s.0, gives.before, gives.stands, still_sound s.0 s.1 c.in-Some.object c.release.new.self s.3 gives)
 
 pub returns-in-Some : goal.returns-in-Some
-returns-in-Some g c = record { turns = λ script w stands stays.
-    let gives = c.in-Some.ensures.releases script w stands (stays [] tt) in
-    death_begun script w c.in-Some.object c.release.new.self c.die.new.self gives (c.die.ensures.begins script gives.before gives.stands) }
+returns-in-Some g c = record {
+  turns = λ script w stands stays.
+      let gives = c.in-Some.ensures.releases script w stands (stays [] tt) in
+      death_begun script w c.in-Some.object c.release.new.self c.die.new.self gives (c.die.ensures.begins script gives.before gives.stands);
+}
 
 pub returns-in-None : goal.returns-in-None
 returns-in-None g c = record { turns = λ script w stands stays. c.in-None.ensures.releases script w stands (stays [] tt) }

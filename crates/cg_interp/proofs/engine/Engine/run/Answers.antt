@@ -1,4 +1,4 @@
-use Rattle.std.proofs.Common.{◌≡◌, sym, subst, Ok}
+use Rattle.std.proofs.Common.{sym, subst}
 use Rattle.cg_machine.specs.Commands.{effect}
 use Rattle.cg_machine.specs.Represents.{Represents}
 use Rattle.cg_heap.specs.Calls.{HasFewHolds}
@@ -23,6 +23,8 @@ answer-requires-clause-live g c = λ f is.
     subst (λ st. IsLive st f) (sym known.0) known.1
 
 pub returns : goal.returns
-returns g c = record { does = λ script w stands locals.
-    let before = subst (λ e. StandsFor script (under c.args.top e) w) (sym c.self.view_is) stands in
-    c.answer.ensures.does script w c.args.command.now c.self.inside.heap before c.requires.objects (c.perform-done.ensures w (record { represents = before.represents; locals_are = locals })) }
+returns g c = record {
+  does = λ script w stands locals.
+      let before = subst (λ e. StandsFor script (under c.args.top e) w) (sym c.self.view_is) stands in
+      c.answer.ensures.does script w c.args.command.now c.self.inside.heap before c.requires.objects (c.perform-done.ensures w (record { represents = before.represents; locals_are = locals }));
+}

@@ -1,4 +1,4 @@
-use Rattle.std.proofs.Common.{◌≡◌, ap, sym, ◌∙◌, Some, []}
+use Rattle.std.proofs.Common.{ap, sym, ◌∙◌, Some, []}
 use Rattle.std.specs.Prelude.{slice_get, option_map, unwrap_or}
 use Rattle.cg_script.specs.declared.item.Item.TheVariants.{Def}
 use Rattle.cg_script.specs.declared.item.Proc.{Proc}

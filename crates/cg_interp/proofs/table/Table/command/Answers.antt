@@ -1,5 +1,5 @@
-use Rattle.std.proofs.Common.{◌≡◌, ap, sym, ◌∙◌, Some}
-use Rattle.std.specs.Prelude.{slice_get, option_copied}
+use Rattle.std.proofs.Common.{ap, sym, ◌∙◌, Some}
+use Rattle.std.specs.Prelude.{slice_get}
 use Rattle.cg_script.specs.declared.item.Item.TheVariants.{Run}
 use Rattle.cg_machine.specs.Program.{commands_of}
 use Rattle.cg_interp.proofs.Positions.{at_number, past_numbers}

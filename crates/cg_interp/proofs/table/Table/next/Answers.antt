@@ -1,4 +1,4 @@
-use Rattle.std.proofs.Common.{sym, ap, ◌∙◌}
+use Rattle.std.proofs.Common.{sym}
 use Rattle.cg_machine.specs.Program.{commands_of}
 use Rattle.cg_interp.proofs.Positions.{next_found, next_past}
 use Rattle.cg_interp.proofs.table.Table.next.Goals as goal
