@@ -12,6 +12,8 @@ use Rattle.cg_machine.specs.Run.{StepTaken, Run, last_world}
 use Rattle.cg_machine.specs.Represents.{Goes}
 use Rattle.cg_interp.specs.declared.turned.Turned.{Turned}
 use Rattle.cg_interp.specs.declared.turned.Turned.TheVariants as turned
+use Rattle.cg_interp.specs.declared.turned.Dies.{Dies}
+use Rattle.cg_interp.specs.declared.turned.Dies.TheVariants as dies
 use Rattle.cg_interp.specs.Engines.{State, StandsFor}
 
 -- A transition of the machine was made: its lines are those that were answered, and the engine stands for its world, or
@@ -63,3 +65,27 @@ pub record DyingIsSound (w : World) : Type 0 where
 -- That holds in every world to which the machine goes.
 abbrev pub StaysSound : Script → World → Type 0
 StaysSound script w = (steps : List StepTaken) → Run script w steps → DyingIsSound (last_world w steps)
+
+-- The machine goes on, with these lines and perhaps in no step, to a world for which the engine stands.
+pub record Reaches (script : Script) (w : World) (events : List Event) (e : State) : Type 0 where
+  pub after : World
+  pub goes : Goes script w events after
+  pub stands : StandsFor script e after
+
+-- what a turn answers, where it may also have gone on without a step
+abbrev pub Comes : Script → World → State → Turned → Type 0
+Comes script w e turned.Quiet = Reaches script w [] e
+Comes script w e (turned.Line event) = Reaches script w (event ∷ []) e
+Comes script w e turned.Ended = EndsWith script w End Ended
+Comes script w e turned.Spent = EndsWith script w BudgetSpent BudgetIsSpent
+
+-- The machine goes on to a world in which the death of an object has begun: the engine stands for the world just before.
+pub record Hands (script : Script) (w : World) (o : ℕ) (e : State) : Type 0 where
+  pub before : World
+  pub goes : Goes script w [] (begin_death o before)
+  pub stands : StandsFor script e before
+
+-- what a death answers
+abbrev pub DeathComes : Script → World → State → Dies → Type 0
+DeathComes script w e (dies.Turned answer) = Comes script w e answer
+DeathComes script w e (dies.Died o) = Hands script w o e

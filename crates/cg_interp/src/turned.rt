@@ -13,3 +13,12 @@ pub enum Turned {
     /// The run has ended for want of budget, and the line `budget spent` is due.
     Spent,
 }
+
+/// What the turn of a death answers.
+#[derive(Clone, Copy, Debug, PartialEq, Eq, Drop)]
+pub enum Dies {
+    /// What any turn answers.
+    Turned(Turned),
+    /// Nothing holds this object any more: its death is to begin.
+    Died(u64),
+}
