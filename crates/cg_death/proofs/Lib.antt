@@ -15,3 +15,4 @@ mod Steps
 mod Calling
 mod Querying
 mod Beginning
+mod Ends

@@ -7,6 +7,7 @@ use Rattle.cg_machine.specs.Holdings.{holds}
 use Rattle.cg_heap.specs.Weak.{cleared_weak}
 use Rattle.cg_death.specs.declared.release.Release.{Release}
 use Rattle.cg_death.specs.declared.phase.Phase.TheVariants as phase_of
+use Rattle.cg_death.specs.declared.phase.Turn.{Turn}
 use Rattle.cg_death.specs.declared.death.Death.{Death}
 use Rattle.cg_death.specs.Activities.{activities, references_left, IsUnheld, IsReadyAt}
 use Rattle.cg_death.specs.declared.answer.DeathStep.{DeathStep}
@@ -37,6 +38,10 @@ IsReady d store = IsReadyAt store d.object d.phase × IsUnheldDuring store d.obj
 -- the object is gone, or was brought back
 abbrev pub IsOver : Death → Type 0
 IsOver d = (d.phase ≡ phase_of.Over) × (still_released d.release ≡ 0)
+
+-- a turn that leaves nothing of a death
+abbrev pub EndsSo : Turn → Type 0
+EndsSo turn = (turn.phase ≡ phase_of.Over) × (turn.release ≡ None)
 
 -- A step that went on without an answer reached a later pass, or in the same pass less is left.
 abbrev pub DeathFalls : Death → Store → Death → Store → Type 0

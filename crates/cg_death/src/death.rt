@@ -14,7 +14,7 @@ ghost use Rattle.cg_death.specs.declared.phase.Phase.TheVariants as phase_of;
 ghost use Rattle.cg_death.specs.Activities.{IsUnheld, HasHolds, IsReadyAt, own_holds_at, death_of};
 ghost use Rattle.cg_death.specs.Answers.{DeathSteps, TurnSteps, TurnAnswers};
 ghost use Rattle.cg_death.specs.Falls.{TurnFalls};
-ghost use Rattle.cg_death.specs.Deaths.{object_of, on_stack, held_by, IsReady, IsOver, DeathFalls, HasCause, TakesNext, forgets_referent};
+ghost use Rattle.cg_death.specs.Deaths.{object_of, on_stack, held_by, IsReady, IsOver, EndsSo, DeathFalls, HasCause, TakesNext, forgets_referent};
 
 use crate::answer::DeathStep;
 use crate::contents::empty_one;
@@ -72,6 +72,7 @@ impl Death {
         ensures falls { result ≡ answer_of.Continue → DeathFalls self.old heap.old self.new heap.new }
         ensures cause { HasCause self.old heap.new result }
         ensures gone { (result ≡ answer_of.Gone) ↔ IsOver self.old }
+        ensures over { result ≡ answer_of.Gone → on_stack self.new heap.new ≡ [] }
         ensures object { object_of self.new ≡ object_of self.old }
     {
         if let Some(object) = next_reference(&mut self.release) {
@@ -113,6 +114,7 @@ fn turn<B: Kind>(object: u64, phase: Phase, heap: &mut Heap<B>, script: &Script)
     ensures falls { TurnFalls heap.old object phase heap.new result }
     ensures answers { TurnAnswers object phase heap.new result }
     ensures over { phase ≡ phase_of.Over → result.answer ≡ answer_of.Gone }
+    ensures ends { result.answer ≡ answer_of.Gone → EndsSo result }
 {
     match phase {
         Phase::Finalizer => run_finalizer(object, heap, script),

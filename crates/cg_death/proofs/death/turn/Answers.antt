@@ -5,6 +5,7 @@ use Rattle.cg_death.specs.declared.phase.Phase.TheVariants as phase_of
 use Rattle.cg_death.specs.Activities.{activities}
 use Rattle.cg_death.specs.Answers.{TurnSteps, DeathSteps}
 use Rattle.cg_death.proofs.Steps.{turn-over}
+use Rattle.cg_death.proofs.Ends.{never_gone}
 use Rattle.cg_death.proofs.death.turn.Goals as goal
 
 pub returns-in-Finalizer-clause-steps : goal.returns-in-Finalizer-clause-steps
@@ -38,3 +39,30 @@ pub returns-in-Over-clause-steps : goal.returns-in-Over-clause-steps
 returns-in-Over-clause-steps g c =
     subst (λ (p : Phase). DeathSteps c.args.script.now c.args.heap.now (activities c.args.object p None c.args.heap.now) c.args.heap.now (activities c.args.object phase_of.Over None c.args.heap.now) answer_of.Gone) (sym c.in-Over.is)
     (turn-over c.args.script.now c.args.heap.now c.args.object)
+
+pub returns-in-Finalizer-clause-ends : goal.returns-in-Finalizer-clause-ends
+returns-in-Finalizer-clause-ends g c = λ e. absurd (never_gone c.args.object phase_of.Finalizer c.run_finalizer.new.heap c.run_finalizer.result.answer c.run_finalizer.ensures.answers (λ over. absurd (cc)) e)
+
+pub returns-in-AfterFinalizer-clause-ends : goal.returns-in-AfterFinalizer-clause-ends
+returns-in-AfterFinalizer-clause-ends g c = λ e. absurd (never_gone c.args.object phase_of.AfterFinalizer c.end_finalizer.new.heap c.end_finalizer.result.answer c.end_finalizer.ensures.answers (λ over. absurd (cc)) e)
+
+pub returns-in-Clearing-clause-ends : goal.returns-in-Clearing-clause-ends
+returns-in-Clearing-clause-ends g c = λ e. absurd (never_gone c.args.object phase_of.Clearing c.clear_one.new.heap c.clear_one.result.answer c.clear_one.ensures.answers (λ over. absurd (cc)) e)
+
+pub returns-in-Calling-clause-ends : goal.returns-in-Calling-clause-ends
+returns-in-Calling-clause-ends g c = λ e. absurd (never_gone c.args.object phase_of.Calling c.call_one.new.heap c.call_one.result.answer c.call_one.ensures.answers (λ over. absurd (cc)) e)
+
+pub returns-in-AfterCall-clause-ends : goal.returns-in-AfterCall-clause-ends
+returns-in-AfterCall-clause-ends g c = λ e. absurd (never_gone c.args.object (phase_of.AfterCall c.in-AfterCall.weak c.in-AfterCall.callback) c.end_call.new.heap c.end_call.result.answer c.end_call.ensures.answers (λ over. absurd (cc)) e)
+
+pub returns-in-LegacyFinalizer-clause-ends : goal.returns-in-LegacyFinalizer-clause-ends
+returns-in-LegacyFinalizer-clause-ends g c = λ e. absurd (never_gone c.args.object phase_of.LegacyFinalizer c.run_legacy.new.heap c.run_legacy.result.answer c.run_legacy.ensures.answers (λ over. absurd (cc)) e)
+
+pub returns-in-AfterLegacy-clause-ends : goal.returns-in-AfterLegacy-clause-ends
+returns-in-AfterLegacy-clause-ends g c = λ e. absurd (never_gone c.args.object phase_of.AfterLegacy c.end_legacy.new.heap c.end_legacy.result.answer c.end_legacy.ensures.answers (λ over. absurd (cc)) e)
+
+pub returns-in-Detaching-clause-ends : goal.returns-in-Detaching-clause-ends
+returns-in-Detaching-clause-ends g c = λ e. absurd (never_gone c.args.object phase_of.Detaching c.detach_one.new.heap c.detach_one.result.answer c.detach_one.ensures.answers (λ over. absurd (cc)) e)
+
+pub returns-in-Emptying-clause-ends : goal.returns-in-Emptying-clause-ends
+returns-in-Emptying-clause-ends g c = λ e. absurd (never_gone c.args.object phase_of.Emptying c.empty_one.new.heap c.empty_one.result.answer c.empty_one.ensures.answers (λ over. absurd (cc)) e)

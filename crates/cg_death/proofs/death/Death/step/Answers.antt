@@ -4,6 +4,7 @@ use Rattle.cg_death.specs.Activities.{activities}
 use Rattle.cg_death.specs.Falls.{Falls}
 use Rattle.cg_death.proofs.Steps.{step-given_up, step-turned}
 use Rattle.cg_death.proofs.Falling.{falls-step}
+use Rattle.cg_death.proofs.Ends.{none_left}
 use Rattle.cg_death.proofs.death.Death.step.Goals as goal
 
 pub returns-in-Some-clause-steps : goal.returns-in-Some-clause-steps
@@ -19,3 +20,6 @@ returns-in-Some-clause-falls g c = λ e.
 pub returns-clause-steps : goal.returns-clause-steps
 returns-clause-steps g c =
     step-turned c.args.script.now c.args.heap.now c.turn-turn.new.heap c.args.self.now.object c.args.self.now.phase c.args.self.now.release c.next_reference.new.release (activities c.args.self.now.object c.turn-turn.result.phase c.turn-turn.result.release c.turn-turn.new.heap) c.turn-turn.result.answer c.in_default.ensures c.turn-turn.ensures.steps
+
+pub returns-clause-over : goal.returns-clause-over
+returns-clause-over g c = λ e. none_left c.args.self.now.object c.turn-turn.result c.turn-turn.new.heap (c.turn-turn.ensures.ends e)

@@ -1,0 +1,80 @@
+-- What an engine is, and the worlds of the machine that it stands for. (Ours.)
+use Rattle.std.specs.Prelude.{◌≡◌, ℕ, ◌++◌, List, [], ◌∷◌, drop, Option, None, Some}
+use Rattle.cg_script.specs.declared.Script.{Script}
+use Rattle.cg_script.specs.declared.Command.{Command}
+use Rattle.cg_graph.specs.Store.{Store}
+use Rattle.cg_machine.specs.Program.{commands_of, body_of}
+use Rattle.cg_machine.specs.World as machine
+use Rattle.cg_machine.specs.World.{World, TopLevel, Framed, Releasing, Running}
+use Rattle.cg_machine.specs.Represents.{Represents}
+use Rattle.cg_commands.specs.declared.locals.Locals.{Locals}
+use Rattle.cg_death.specs.Activities.{references_left, death_activities}
+use Rattle.cg_death.specs.declared.release.Release.{Release}
+use Rattle.cg_death.specs.declared.death.Death.{Death}
+use Rattle.cg_interp.specs.declared.activity.Activity.{Activity}
+use Rattle.cg_interp.specs.declared.activity.Activity.TheVariants as activity
+
+-- the value of an engine: its heap, its activities, the top first, how many more may be pushed, the frames that may still
+-- start, and the frames that could start at first
+pub record State : Type 0 where
+  pub store : Store
+  pub activities : List Activity
+  pub room : ℕ
+  pub budget : ℕ
+  pub frames : ℕ
+
+-- an engine with another activity on top
+abbrev pub under : Activity → State → State
+under top e = record e { activities = top ∷ e.activities }
+
+-- an engine with another heap
+abbrev pub over : Store → State → State
+over store e = record e { store = store }
+
+-- the commands from a number on, or none
+abbrev pub commands_from : Option ℕ → List Command → List Command
+commands_from None commands = []
+commands_from (Some next) commands = drop next commands
+
+-- a frame of the machine: its locals, and what is left of its procedure
+abbrev pub frame_of : Script → Locals → ℕ → Option ℕ → machine.Frame
+frame_of script locals procedure next = record { sort = locals.sort; subject = locals.subject; function = locals.func; commands = commands_from next (body_of script procedure) }
+
+-- what is given up stands above the rest
+abbrev pub released_first : Option Release → List machine.Activity → List machine.Activity
+released_first None rest = rest
+released_first (Some release) rest = Releasing (references_left release) ∷ rest
+
+-- a death among the activities of the machine, by the weak references that wait with its object
+abbrev pub death_shown : Death → List ℕ → List machine.Activity
+death_shown death waiting = released_first death.release (death_activities death.object death.phase waiting)
+
+-- What an activity stands for among those of the machine, the top first. Which weak references wait with a dying object
+-- the world tells.
+abbrev pub Shows : Script → Activity → List machine.Activity → Type 0
+Shows script (activity.Script next) tops = tops ≡ TopLevel (commands_from next (commands_of script.items)) ∷ []
+Shows script (activity.Frame locals procedure next) tops = tops ≡ Framed (frame_of script locals procedure next) ∷ []
+Shows script (activity.Releasing release) tops = tops ≡ Releasing (references_left release) ∷ []
+Shows script (activity.Dying death) tops = (waiting : List ℕ) × (tops ≡ death_shown death waiting)
+
+-- an activity that stands for the top of a stack, over what lies below
+pub record ShowsTop (script : Script) (top : Activity) (rest : List machine.Activity → Type 0) (stack : List machine.Activity) : Type 0 where
+  pub tops : List machine.Activity
+  pub below : List machine.Activity
+  pub shows : Shows script top tops
+  pub over : rest below
+  pub is : stack ≡ tops ++ below
+
+-- what several stand for
+abbrev pub ShowsAll : Script → List Activity → List machine.Activity → Type 0
+ShowsAll script [] stack = stack ≡ []
+ShowsAll script (top ∷ activities) stack = ShowsTop script top (ShowsAll script activities) stack
+
+-- An engine stands for a world: its heap stands for it, and its activities for the stack. The world runs, and no collection
+-- is ever due, since threshold 0 is 0 until automatic collections are built.
+pub record StandsFor (script : Script) (e : State) (w : World) : Type 0 where
+  pub represents : Represents e.store w
+  pub shows : ShowsAll script e.activities w.stack
+  pub budget : w.budget ≡ e.budget
+  pub running : w.outcome ≡ Running
+  pub threshold : w.numbers.zero_threshold ≡ 0

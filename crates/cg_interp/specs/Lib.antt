@@ -1,0 +1,6 @@
+pub mod Stacks
+pub mod Tables
+pub mod Engines
+pub mod Releases
+pub mod Turns
+pub mod Callers

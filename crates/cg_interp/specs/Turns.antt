@@ -1,0 +1,91 @@
+-- What a turn of an engine answers: what the machine does. (Ours.)
+use Rattle.std.specs.Prelude.{◌≡◌, ◌≢◌, ℕ, ◌≤◌, List, [], ◌∷◌, Option, None, Some, count_by}
+use Rattle.cg_script.specs.declared.Script.{Script}
+use Rattle.cg_machine.specs.declared.event.Event.{Event}
+use Rattle.cg_machine.specs.declared.event.Event.TheVariants.{End, BudgetSpent}
+use Rattle.cg_machine.specs.World.{World, Outcome, Ended, BudgetIsSpent, Dying, Death}
+use Rattle.cg_graph.specs.Member.{Includes}
+use Rattle.cg_machine.specs.Holdings.{holdings, is_death_of}
+use Rattle.cg_machine.specs.Laws.{IsHeldByItsDeathAlone}
+use Rattle.cg_machine.specs.Frame.{Transition, begin_death}
+use Rattle.cg_machine.specs.Run.{StepTaken, Run, last_world}
+use Rattle.cg_machine.specs.Represents.{Goes}
+use Rattle.cg_interp.specs.declared.turned.Turned.{Turned}
+use Rattle.cg_interp.specs.declared.turned.Turned.TheVariants as turned
+use Rattle.cg_interp.specs.declared.turned.Dies.{Dies}
+use Rattle.cg_interp.specs.declared.turned.Dies.TheVariants as dies
+use Rattle.cg_interp.specs.Engines.{State, StandsFor}
+
+-- A transition of the machine was made: its lines are those that were answered, and the engine stands for its world, or
+-- the run has ended.
+abbrev pub Makes : Script → Transition → State → Turned → Type 0
+Makes script transition e turned.Quiet = (transition.0 ≡ []) × StandsFor script e transition.1
+Makes script transition e (turned.Line event) = (transition.0 ≡ event ∷ []) × StandsFor script e transition.1
+Makes script transition e turned.Ended = (transition.0 ≡ End ∷ []) × (transition.1.outcome ≡ Ended)
+Makes script transition e turned.Spent = (transition.0 ≡ BudgetSpent ∷ []) × (transition.1.outcome ≡ BudgetIsSpent)
+
+-- The machine goes on, with these lines, to a world for which the engine stands.
+pub record GoesTo (script : Script) (w : World) (events : List Event) (e : State) : Type 0 where
+  pub after : World
+  pub goes : Goes script w events after
+  pub moves : goes.steps ≢ []
+  pub stands : StandsFor script e after
+
+-- The run ends so, with this line.
+pub record EndsWith (script : Script) (w : World) (event : Event) (outcome : Outcome) : Type 0 where
+  pub after : World
+  pub goes : Goes script w (event ∷ []) after
+  pub ended : after.outcome ≡ outcome
+
+-- what a turn answers
+abbrev pub Turns : Script → World → State → Turned → Type 0
+Turns script w e turned.Quiet = GoesTo script w [] e
+Turns script w e (turned.Line event) = GoesTo script w (event ∷ []) e
+Turns script w e turned.Ended = EndsWith script w End Ended
+Turns script w e turned.Spent = EndsWith script w BudgetSpent BudgetIsSpent
+
+-- The machine goes on, without a line, to a world in which the death of an object has begun: the engine stands for the
+-- world just before that.
+pub record GivesDeath (script : Script) (w : World) (o : ℕ) (e : State) : Type 0 where
+  pub before : World
+  pub goes : Goes script w [] (begin_death o before)
+  pub moves : goes.steps ≢ []
+  pub stands : StandsFor script e before
+
+-- what a release answers: the object whose death is to begin, if there is one
+abbrev pub Releases : Script → World → State → Option ℕ → Type 0
+Releases script w e None = GoesTo script w [] e
+Releases script w e (Some o) = GivesDeath script w o e
+
+-- What holds of the deaths of every run: a dying object is held by nothing but its own death, and is dying once.
+pub record DyingIsSound (w : World) : Type 0 where
+  pub unheld : (d : Death) → Includes w.stack (Dying d) → IsHeldByItsDeathAlone d.object d.phase (holdings w)
+  pub once : (o : ℕ) → count_by (is_death_of o) w.stack ≤ 1
+
+-- That holds in every world to which the machine goes.
+abbrev pub StaysSound : Script → World → Type 0
+StaysSound script w = (steps : List StepTaken) → Run script w steps → DyingIsSound (last_world w steps)
+
+-- The machine goes on, with these lines and perhaps in no step, to a world for which the engine stands.
+pub record Reaches (script : Script) (w : World) (events : List Event) (e : State) : Type 0 where
+  pub after : World
+  pub goes : Goes script w events after
+  pub stands : StandsFor script e after
+
+-- what a turn answers, where it may also have gone on without a step
+abbrev pub Comes : Script → World → State → Turned → Type 0
+Comes script w e turned.Quiet = Reaches script w [] e
+Comes script w e (turned.Line event) = Reaches script w (event ∷ []) e
+Comes script w e turned.Ended = EndsWith script w End Ended
+Comes script w e turned.Spent = EndsWith script w BudgetSpent BudgetIsSpent
+
+-- The machine goes on to a world in which the death of an object has begun: the engine stands for the world just before.
+pub record Hands (script : Script) (w : World) (o : ℕ) (e : State) : Type 0 where
+  pub before : World
+  pub goes : Goes script w [] (begin_death o before)
+  pub stands : StandsFor script e before
+
+-- what a death answers
+abbrev pub DeathComes : Script → World → State → Dies → Type 0
+DeathComes script w e (dies.Turned answer) = Comes script w e answer
+DeathComes script w e (dies.Died o) = Hands script w o e

@@ -1,0 +1,22 @@
+//! What is under way.
+use cg_commands::Locals;
+use cg_death::{Death, Release};
+
+/// What is under way.
+#[derive(Drop)]
+pub enum Activity {
+    /// The script's own commands, from the one with this number on; or none is left.
+    Script {
+        next: Option<usize>,
+    },
+    /// A frame: its locals, the procedure that it runs, and the number of its next command, if one is left.
+    Frame {
+        locals: Locals,
+        procedure: u32,
+        next: Option<usize>,
+    },
+    /// References that are given up one after the other.
+    Releasing(Release),
+    /// The death of an object.
+    Dying(Death),
+}

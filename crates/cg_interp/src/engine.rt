@@ -1,0 +1,35 @@
+//! What runs.
+use crate::stack::Stack;
+use cg_heap::Heap;
+use cg_kind::Kind;
+use std::marker::Model;
+
+/// A heap, and what is under way over it.
+#[derive(Drop)]
+pub struct Engine<B: Kind> {
+    pub heap: Heap<B>,
+    pub stack: Stack,
+    // The frames that may still start.
+    pub budget: u32,
+    // The frames that could start at first.
+    pub frames: u32,
+}
+
+impl<B: Kind> Model for Engine<B> {
+    ghost use Rattle.std.specs.Coded.{codes};
+    ghost use Rattle.cg_heap.specs.Codes.{store_code};
+    ghost use Rattle.cg_interp.specs.contracts.activity.Activity as activity;
+    ghost use Rattle.cg_interp.specs.Engines.{State};
+
+    ghost Value = { State };
+
+    ghost coded = { Prim.hlevel (codes, store_code, activity.the_row.coded) };
+
+    ghost view = { λ e. record {
+      store = e.heap;
+      activities = e.stack.activities;
+      room = e.stack.room;
+      budget = e.budget;
+      frames = e.frames;
+    } };
+}

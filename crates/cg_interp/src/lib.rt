@@ -1,0 +1,13 @@
+//! The interpreter: what runs, and the loop of a run.
+#![tactic(auto)]
+
+mod activity;
+mod callers;
+mod commands;
+mod deaths;
+mod engine;
+mod frames;
+mod releases;
+mod stack;
+mod table;
+mod turned;
