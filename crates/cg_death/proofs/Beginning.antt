@@ -14,7 +14,7 @@ use Rattle.cg_machine.specs.Frame.{begin_death}
 use Rattle.cg_machine.specs.Represents.{Represents, death_waits}
 use Rattle.cg_heap.specs.Weak.{AreRows, cleared_weak}
 use Rattle.cg_heap.proofs.HoldLemmas.{outside-moved}
-use Rattle.cg_death.proofs.Worlds.{Matches, represents}
+use Rattle.cg_machine.proofs.Representing.{Matches, represents}
 use Rattle.cg_death.proofs.Turns.{death}
 use Rattle.cg_death.proofs.Places.{change-change, matches-moved}
 use Rattle.cg_death.proofs.RowSplits.{split_at, referent-without, waiting-without, left-in}

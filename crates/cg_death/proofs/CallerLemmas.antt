@@ -21,7 +21,7 @@ use Rattle.cg_heap.proofs.RowLemmas.{no_referent}
 use Rattle.cg_death.specs.declared.death.Death.{Death}
 use Rattle.cg_death.specs.Activities.{IsUnheld, HasHolds, HaveCallbacks, AreNewer}
 use Rattle.cg_death.specs.Deaths.{on_stack, held_by}
-use Rattle.cg_death.proofs.Worlds.{count-in_degree}
+use Rattle.cg_machine.proofs.Representing.{count-in_degree}
 use Rattle.cg_death.proofs.Emptying.{entries-agree}
 use Rattle.cg_death.proofs.WeakObjects.{weak_references-are}
 

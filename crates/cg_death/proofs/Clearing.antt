@@ -22,7 +22,7 @@ use Rattle.cg_heap.proofs.CallerLemmas.{live_of_kind}
 use Rattle.cg_value.specs.declared.KindCode.TheVariants.{Weak}
 use Rattle.cg_death.specs.Activities.{death_of, AreNewer}
 use Rattle.cg_death.specs.Answers.{Stands}
-use Rattle.cg_death.proofs.Worlds.{Matches, matches, represents}
+use Rattle.cg_machine.proofs.Representing.{Matches, matches, represents}
 use Rattle.cg_death.proofs.Turns.{here, waits_are, own_object, death}
 use Rattle.cg_death.proofs.Places.{matches-held, only-one}
 use Rattle.cg_death.proofs.RowSplits.{all_in, split_at, one_of_row, referent-without, referent-waiting, waiting-without, waiting-other, waiting-more, left-in, waiting-in}

@@ -18,7 +18,8 @@ use Rattle.cg_death.specs.declared.answer.DeathStep.TheVariants as answer_of
 use Rattle.cg_death.specs.declared.phase.Phase.TheVariants as phase_of
 use Rattle.cg_death.specs.Activities.{death_of, activities, AreNewer}
 use Rattle.cg_death.specs.Answers.{Stands, WentOn, DeathSteps}
-use Rattle.cg_death.proofs.Worlds.{steps_at, append_none, matches}
+use Rattle.cg_death.proofs.Worlds.{steps_at, append_none}
+use Rattle.cg_machine.proofs.Representing.{matches}
 use Rattle.cg_death.proofs.Turns.{here, waits_are, steps_to, only_phase, death}
 use Rattle.cg_death.proofs.Clearing.{none_first, some_first, represents-lost, represents-waits}
 use Rattle.cg_death.proofs.WeakObjects.{row_there}

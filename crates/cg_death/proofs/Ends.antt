@@ -1,5 +1,5 @@
 -- The end of a death is answered by its last phase alone.
-use Rattle.std.proofs.Common.{◌≡◌, ℕ, subst, None, []}
+use Rattle.std.proofs.Common.{◌≡◌, ℕ, subst, []}
 use Rattle.cg_graph.specs.Store.{Store}
 use Rattle.cg_death.specs.declared.answer.DeathStep.{DeathStep}
 use Rattle.cg_death.specs.declared.answer.DeathStep.TheVariants as answer_of

@@ -25,7 +25,9 @@ use Rattle.cg_death.specs.declared.phase.Phase.TheVariants as phase_of
 use Rattle.cg_death.specs.declared.phase.Turn.{Turn}
 use Rattle.cg_death.specs.Activities.{death_of, activities}
 use Rattle.cg_death.specs.Answers.{Stands, WentOn, GaveFrame, DeathSteps}
-use Rattle.cg_death.proofs.Worlds.{matches, represents, steps_at, occurrences-cons, count-in_degree}
+use Rattle.cg_death.proofs.Worlds.{steps_at}
+use Rattle.cg_machine.proofs.Representing.{matches, represents, count-in_degree}
+use Rattle.cg_machine.proofs.PlainCollect.{occurrences-cons}
 use Rattle.cg_heap.proofs.HoldLemmas.{outside-unheld, outside-held, outside-moved, outside-with_node}
 use Rattle.cg_heap.proofs.CallerLemmas.{lives_on, kinds-moved, kinds-with_node}
 use Rattle.cg_death.proofs.Releases.{matches-unheld}

@@ -17,7 +17,8 @@ use Rattle.cg_machine.specs.World.{World, Collecting, Collection, CollectPhase, 
 use Rattle.cg_machine.specs.Holdings.{collect_holds}
 use Rattle.cg_machine.specs.Represents.{Represents, CollectionWaits}
 use Rattle.cg_heap.specs.Calls.{with_node, marked}
-use Rattle.cg_death.proofs.Worlds.{occurrences-cons, held_by_one, Matches}
+use Rattle.cg_machine.proofs.Representing.{held_by_one, Matches}
+use Rattle.cg_machine.proofs.PlainCollect.{occurrences-cons}
 
 -- a list without a serial that does not stand in it
 without-absent : (o : ℕ) (xs : List ℕ) → occurrences o xs ≡ 0 → without_serial o xs ≡ xs

@@ -17,7 +17,9 @@ use Rattle.cg_machine.specs.Laws.{IsHeldByItsDeathAlone}
 use Rattle.cg_machine.specs.Represents.{Represents, Goes}
 use Rattle.cg_death.specs.declared.answer.DeathStep.TheVariants as answer_of
 use Rattle.cg_death.specs.Answers.{Stands, WentOn, GaveDeath, ReleaseAnswer, ReleaseSteps}
-use Rattle.cg_death.proofs.Worlds.{at_stack, spelled, in_one, occurrences-cons, occurrences-one, count-in_degree, held_by_one, held_by_stack, death_found, Matches, matches, represents, popped, pushed}
+use Rattle.cg_death.proofs.Worlds.{at_stack, spelled}
+use Rattle.cg_machine.proofs.Representing.{in_one, occurrences-one, count-in_degree, held_by_one, held_by_stack, death_found, Matches, matches, represents, popped, pushed}
+use Rattle.cg_machine.proofs.PlainCollect.{occurrences-cons}
 
 pub matches-unheld : (refs : List ℕ) (store : Store) (w : World) → Matches store w → Matches (unheld refs store) w
 matches-unheld refs store w m = record {

@@ -18,7 +18,8 @@ use Rattle.cg_death.specs.declared.release.Release.{Release}
 use Rattle.cg_death.specs.Activities.{death_of, death_activities, activities, references_left}
 use Rattle.cg_death.specs.Deaths.{TakesNext}
 use Rattle.cg_death.specs.Answers.{Stands, WentOn, ReleaseAnswer, DeathAnswer, DeathSteps}
-use Rattle.cg_death.proofs.Worlds.{steps_at, and_then, matches, represents, pushed, popped}
+use Rattle.cg_death.proofs.Worlds.{steps_at}
+use Rattle.cg_machine.proofs.Representing.{and_then, matches, represents, pushed, popped}
 use Rattle.cg_death.proofs.Releases.{given_up}
 use Rattle.cg_death.proofs.Turns.{here, rephased, death}
 
