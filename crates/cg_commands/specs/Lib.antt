@@ -1,6 +1,5 @@
 pub mod Refusals
 pub mod Stands
-pub mod Spelled
 pub mod Objects
 pub mod Answers
 pub mod Parts

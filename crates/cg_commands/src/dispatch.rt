@@ -3,7 +3,7 @@ ghost use Rattle.std.specs.Prelude.{◌≡◌, ◌<◌, length};
 ghost use Rattle.cg_heap.specs.Calls.{HasFewHolds};
 ghost use Rattle.cg_machine.specs.Commands.{effect};
 ghost use Rattle.cg_commands.specs.Answers.{Performs};
-ghost use Rattle.cg_commands.specs.Spelled.{IsSpelledCommand, IsForObjects};
+ghost use Rattle.cg_script.specs.Spelled.{IsSpelledCommand, IsForObjects};
 ghost use Rattle.cg_commands.specs.Stands.{LocalsLive};
 
 use crate::bindings::{bind, unbind};

@@ -19,7 +19,7 @@ use Rattle.cg_commands.specs.declared.done.Done.TheVariants as done_of
 use Rattle.cg_commands.specs.declared.done.Refusal.{Refusal}
 use Rattle.cg_commands.specs.declared.done.Refusal.TheVariants as refusal_of
 use Rattle.cg_commands.specs.Refusals.{number_of}
-use Rattle.cg_commands.specs.Spelled.{IsForObjects}
+use Rattle.cg_script.specs.Spelled.{IsForObjects}
 use Rattle.cg_commands.specs.Answers.{Performs, Refuses, HasChanged}
 use Rattle.cg_interp.specs.declared.activity.Activity.{Activity as Own}
 use Rattle.cg_interp.specs.Engines.{State, StandsFor, ShowsAll, under, over}

@@ -19,7 +19,7 @@ use Rattle.cg_machine.specs.Weak.{is_function}
 use Rattle.cg_machine.proofs.CommandLaws.{Each, checked}
 use Rattle.cg_machine.proofs.CommandRefs.{each_then, each_some}
 use Rattle.cg_machine.proofs.Lookups.{found_at}
-use Rattle.cg_commands.specs.Spelled.{IsForObjects}
+use Rattle.cg_script.specs.Spelled.{IsForObjects}
 
 abbrev pub HasFitted : World → Effect → Type 0
 HasFitted w (Changes wants_memory lines given_up after) = after.numbers.zero_threshold ≡ w.numbers.zero_threshold

@@ -11,7 +11,7 @@ use Rattle.cg_machine.specs.declared.event.FrameSpec.{FrameSpec}
 use Rattle.cg_machine.specs.declared.event.FrameSort.TheVariants.{Call}
 use Rattle.cg_script.specs.declared.Command.{Command}
 use Rattle.cg_graph.specs.Member.{Includes}
-use Rattle.cg_commands.specs.Spelled.{IsSpelledCommand, IsForObjects}
+use Rattle.cg_script.specs.Spelled.{IsSpelledCommand, IsForObjects}
 use Rattle.cg_interp.specs.declared.turned.Turned.{Turned}
 use Rattle.cg_interp.specs.Turns.{Makes}
 use Rattle.cg_machine.specs.Represents.{Represents}

@@ -4,3 +4,4 @@ pub mod Engines
 pub mod Releases
 pub mod Turns
 pub mod Callers
+pub mod Written

@@ -4,7 +4,7 @@ ghost use Rattle.cg_script.specs.declared.Script.{Script as AnyScript};
 ghost use Rattle.cg_heap.specs.Calls.{HasFewHolds};
 ghost use Rattle.cg_machine.specs.Program.{commands_of, body_of};
 ghost use Rattle.cg_machine.specs.World.{World};
-ghost use Rattle.cg_commands.specs.Spelled.{IsSpelledCommand, IsForObjects};
+ghost use Rattle.cg_script.specs.Spelled.{IsSpelledCommand, IsForObjects};
 ghost use Rattle.cg_commands.specs.Stands.{LocalsLive, HasLocals};
 ghost use Rattle.cg_interp.specs.declared.activity.Activity.TheVariants as activity_of;
 ghost use Rattle.cg_interp.specs.Engines.{StandsFor, under};

@@ -6,7 +6,7 @@ ghost use Rattle.cg_script.specs.declared.Script.{Script as AnyScript};
 ghost use Rattle.cg_script.specs.declared.Command.{Command as AnyCommand};
 ghost use Rattle.cg_commands.specs.declared.done.Done.TheVariants as done_of;
 ghost use Rattle.cg_commands.specs.Answers.{Answers, IsDone};
-ghost use Rattle.cg_commands.specs.Spelled.{IsForObjects};
+ghost use Rattle.cg_script.specs.Spelled.{IsForObjects};
 ghost use Rattle.cg_machine.specs.World.{World, with_stack};
 ghost use Rattle.cg_machine.specs.Frame.{start_frame, procedure_of};
 ghost use Rattle.cg_machine.specs.Represents.{Represents};

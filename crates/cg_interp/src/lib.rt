@@ -8,6 +8,9 @@ mod deaths;
 mod engine;
 mod frames;
 mod releases;
+mod run;
 mod stack;
 mod table;
 mod turned;
+
+pub use run::{RunEnd, run_script};

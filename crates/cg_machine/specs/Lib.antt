@@ -16,3 +16,8 @@ pub mod Laws
 pub mod Bounds
 pub mod Origins
 pub mod Represents
+pub mod Locals
+pub mod Newest
+pub mod Printing
+pub mod Made
+pub mod Lawful

@@ -12,7 +12,7 @@ use Rattle.std.proofs.Common.{◌≤◌, ◌∷◌}
 use Rattle.cg_script.specs.Texts.{command_texts, operands_texts}
 use Rattle.cg_script.specs.declared.command.Command.TheVariants as command
 use Rattle.cg_machine.specs.Commands.{effect}
-use Rattle.cg_commands.specs.Spelled.{HasFewWords}
+use Rattle.cg_script.specs.Spelled.{HasFewWords}
 use Rattle.cg_commands.specs.Answers.{Performs}
 use Rattle.cg_commands.proofs.dispatch.perform.Goals as goal
 

@@ -1,8 +1,11 @@
--- What is true of each command of a script that some bytes spell. (Ours.)
+-- What is true of the lines of a script that some bytes spell. (Ours.)
 use Rattle.std.specs.Prelude.{ℕ, ◌<◌, ◌≤◌, length}
 use Rattle.std.specs.List.{All}
 use Rattle.cg_script.specs.declared.command.Command.{Command}
 use Rattle.cg_script.specs.declared.command.Command.TheVariants.{MakeList, MakeTuple, MakeFunc, Collect, Enable, Disable, Threshold, Flags, Freeze, Unfreeze, Count, Gens}
+use Rattle.cg_script.specs.declared.item.Item.{Item}
+use Rattle.cg_script.specs.declared.item.Item.TheVariants.{Budget, Class, Def, Run}
+use Rattle.cg_script.specs.declared.item.Script.{Script}
 use Rattle.cg_script.specs.Texts.{command_texts}
 
 -- a line has at most 64 words, and a function at most 8 cells
@@ -29,3 +32,18 @@ IsForObjects Unfreeze = ⊥
 IsForObjects Count = ⊥
 IsForObjects Gens = ⊥
 IsForObjects command = Unit {0}
+
+-- what is true of a line: of its command, of those of a procedure, and that a budget is at most 100,000
+abbrev pub IsSpelledItem : ℕ → Item → Type 0
+IsSpelledItem names (Budget n) = n ≤ 100000
+IsSpelledItem names (Class c) = Unit {0}
+IsSpelledItem names (Def p) = (length p.body ≤ 400000) × All (λ c. IsSpelledCommand names c × IsForObjects c) p.body
+IsSpelledItem names (Run c) = IsSpelledCommand names c × IsForObjects c
+
+-- What is true of a script that some bytes spell: of its lines, and that a text, which stands in a line, has at most 1,024
+-- bytes. The commands of the collector are not built yet.
+pub record IsSpelled (script : Script) : Type 0 where
+  pub lines : All (IsSpelledItem (length script.names)) script.items
+  pub few_lines : length script.items ≤ 400000
+  pub short : All (λ text. length text ≤ 1024) script.names
+  pub few_texts : length script.names ≤ 25600000

@@ -1,0 +1,21 @@
+-- What a run wrote, as the text of a run of the machine.
+use Rattle.std.specs.Prelude.{ℕ, List, Option}
+use Rattle.std.specs.Io.KnownBytes.{Appends}
+use Rattle.cg_io.specs.Causes.{AppendsFront}
+use Rattle.cg_script.specs.declared.Script.{Script}
+use Rattle.cg_machine.specs.World.{Outcome}
+use Rattle.cg_machine.specs.Run.{StepTaken, IsWholeRun}
+use Rattle.cg_machine.specs.Lines.{text_of}
+
+-- The text of a whole run of the script was written, and the run ended so.
+pub record WroteRun (script : Script) (budget : ℕ) (outcome : Outcome) (before now : Option (List ℕ)) : Type 0 where
+  pub steps : List StepTaken
+  pub whole : IsWholeRun script budget outcome steps
+  pub written : Appends before now (text_of script steps)
+
+-- A front of the text of a whole run of the script was written.
+pub record WrotePart (script : Script) (budget : ℕ) (before now : Option (List ℕ)) : Type 0 where
+  pub steps : List StepTaken
+  pub outcome : Outcome
+  pub whole : IsWholeRun script budget outcome steps
+  pub written : AppendsFront before now (text_of script steps)

@@ -1,0 +1,27 @@
+-- What the laws say of one world of a run. (Ours: what an interpreter may rest on at each turn.)
+use Rattle.std.specs.Prelude.{ℕ, List}
+use Rattle.cg_script.specs.declared.Script.{Script}
+use Rattle.cg_graph.specs.Member.{Includes}
+use Rattle.cg_machine.specs.World.{World, Dying, Death}
+use Rattle.cg_machine.specs.Holdings.{holdings}
+use Rattle.cg_machine.specs.Run.{StepTaken, Run, last_world}
+use Rattle.cg_machine.specs.Laws.{IsOrderly, IsHeldByItsDeathAlone}
+use Rattle.cg_machine.specs.Bounds.{IsBounded}
+use Rattle.cg_machine.specs.Origins.{HasOrigins}
+use Rattle.cg_machine.specs.Locals.{HasLivingLocals}
+use Rattle.cg_machine.specs.Newest.{ClearsNewestFirst}
+use Rattle.cg_machine.specs.Made.{HasFewSerials}
+
+-- a world of a run of the script with this budget
+pub record IsLawful (script : Script) (budget : ℕ) (w : World) : Type 0 where
+  pub orderly : IsOrderly w
+  pub unheld : (d : Death) → Includes w.stack (Dying d) → IsHeldByItsDeathAlone d.object d.phase (holdings w)
+  pub bounded : IsBounded budget w
+  pub origins : HasOrigins script w
+  pub locals : HasLivingLocals w
+  pub newest : ClearsNewestFirst w
+  pub serials : HasFewSerials script budget w
+
+-- each world to which the machine goes from here is so
+abbrev pub StaysLawful : Script → ℕ → World → Type 0
+StaysLawful script budget w = (steps : List StepTaken) → Run script w steps → IsLawful script budget (last_world w steps)
