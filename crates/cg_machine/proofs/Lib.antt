@@ -41,4 +41,6 @@ pub mod RoomsOfRuns
 pub mod Heights
 pub mod Origins
 pub mod OriginsOfRuns
+pub mod Making
+pub mod MakingOfRuns
 pub mod Representing

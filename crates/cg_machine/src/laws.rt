@@ -1,5 +1,6 @@
 //! What holds in every run of the machine. Each law is the contract of a function that does nothing.
 ghost use Rattle.cg_machine.specs.Bounds.{StacksAreBounded};
+ghost use Rattle.cg_machine.specs.Made.{SerialsAreFew};
 ghost use Rattle.cg_machine.specs.Origins.{WorldsHaveOrigins};
 ghost use Rattle.cg_machine.specs.Laws.{DyingIsUnheld, NoRunIsStuck, FrontsBeginWholeTexts, StepsLeaveWhatIsBelow, WorldsAreOrderly};
 
@@ -40,4 +41,10 @@ pub fn stacks_are_bounded()
 /// instance and the procedure of each function.
 pub fn worlds_have_origins()
     ensures { WorldsHaveOrigins }
+{}
+
+/// In every world of a run the serials that were given are few: one for each command outside procedures, and for each unit
+/// of the budget as many as the longest procedure has commands.
+pub fn serials_are_few()
+    ensures { SerialsAreFew }
 {}
