@@ -1,6 +1,5 @@
 -- The line of a class, whose finalizer is printed before its legacy finalizer.
-use Rattle.std.proofs.Common.{◌≡◌, ℕ, ◌+◌, ◌<◌, ◌≤◌, List, [], ◌∷◌, ◌++◌, length, map, take, drop, Bool, true, false, cond, ◌&&◌, ◌||◌, ◌==◌, Option, None, Some, refl, sym, ap, subst, ◌∙◌, arith, codes, inl, inr, ◌⊎◌}
-use Rattle.std.specs.Prelude.{slice_index_or}
+use Rattle.std.proofs.Common.{◌≡◌, ℕ, List, [], ◌∷◌, ◌++◌, length, map, take, drop, Bool, true, false, cond, ◌&&◌, ◌||◌, Option, None, Some, refl, sym, ap, ◌∙◌, arith, codes, inl, inr, ◌⊎◌}
 use Rattle.std.specs.Str.{bytes_eq}
 use Rattle.std.proofs.lemmas.Slice.Eq.{bytes_eq-Decides}
 use Rattle.std.proofs.lemmas.List.{take-append-drop}
@@ -12,17 +11,17 @@ use Rattle.cg_script.specs.declared.part.Part.{Part}
 use Rattle.cg_script.specs.declared.part.Part.TheVariants as parts
 use Rattle.cg_script.specs.declared.part.Said.{Said}
 use Rattle.cg_script.specs.declared.part.Said.TheVariants.{Declares}
-use Rattle.cg_value.specs.Texts.{place_of, with_text}
+use Rattle.cg_value.specs.Texts.{place_of}
 use Rattle.cg_script.specs.Words.{is_identifier, is_identifier_after, after_prefix, names_finalizer, names_legacy}
-use Rattle.cg_script.specs.Forms.{openers, most_read}
-use Rattle.cg_script.specs.Meanings.{fits, repeats_finalizer}
-use Rattle.cg_script.specs.Parts.{Known, parts_of, place_in, finalizer, legacy, legacy_of, finalizer_of, is_unknown}
+use Rattle.cg_script.specs.Forms.{openers}
+use Rattle.cg_script.specs.Meanings.{fits}
+use Rattle.cg_script.specs.Parts.{Known, place_in, finalizer, legacy, legacy_of, finalizer_of, is_unknown}
 use Rattle.cg_script.specs.Commands.{del_if, legacy_if, first_some}
 use Rattle.cg_script.specs.Canonical.{Naming, text_of, name_of, class_words}
 use Rattle.cg_script.proofs.Ascii.{both}
-use Rattle.cg_script.proofs.Joined.{and_both, weight}
+use Rattle.cg_script.proofs.Joined.{and_both}
 use Rattle.cg_script.proofs.Shown.{Begins, Names, name_found, text_found}
-use Rattle.cg_script.proofs.GoodLines.{Good, Same, never_sign}
+use Rattle.cg_script.proofs.GoodLines.{Good, never_sign}
 use Rattle.cg_script.proofs.Rows.{Given, Row, plain_row}
 
 -- a word is its prefix and what follows it

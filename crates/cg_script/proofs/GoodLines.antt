@@ -1,5 +1,5 @@
 -- Words of a form that are read as they are written, and stay so as they are printed.
-use Rattle.std.proofs.Common.{◌≡◌, ℕ, suc, ◌+◌, ◌<◌, ◌≤◌, List, [], ◌∷◌, length, Bool, true, false, cond, not, ◌||◌, ◌&&◌, ◌==◌, nat_lt, Option, None, Some, refl, sym, ap, subst, ◌∙◌, arith, codes, ◌⊎◌, inl, inr}
+use Rattle.std.proofs.Common.{◌≡◌, ℕ, ◌+◌, ◌≤◌, List, [], ◌∷◌, length, Bool, true, false, cond, not, ◌||◌, ◌&&◌, ◌==◌, nat_lt, Option, None, Some, refl, sym, ap, subst, ◌∙◌, arith, codes, ◌⊎◌, inl, inr}
 use Rattle.std.specs.Prelude.{slice_index, unwrap_or}
 use Rattle.std.specs.List.{list_all}
 use Rattle.std.specs.Str.{bytes_eq}
@@ -23,7 +23,7 @@ use Rattle.cg_script.specs.Canonical.{joined}
 use Rattle.cg_script.proofs.Ascii.{both}
 use Rattle.cg_script.proofs.Says.{says_fits, says_of_line}
 use Rattle.cg_script.proofs.Joined.{EachSound, weight, words_of-joined, all_printable, length-joined, words_weight, sound_words}
-use Rattle.cg_script.proofs.NormalWords.{WordAgain, word_again, normal, alike, Alike, AllNames, named_nowhere}
+use Rattle.cg_script.proofs.NormalWords.{word_again, normal, alike, Alike, AllNames, named_nowhere}
 use Rattle.cg_script.proofs.Shown.{normal_from}
 
 -- the first words of a line pick the form
@@ -207,7 +207,6 @@ words_again form (w ∷ ws) place fit sound =
 to_false : (b : Bool) → (b ≡ true → ⊥) → b ≡ false
 to_false true never = absurd (never refl)
 to_false false never = refl
-
 
 pub never_sign : (s : Sort) (v : List ℕ) → fits s (codes "=") ≡ false → fits s v ≡ true → bytes_eq v (codes "=") ≡ false
 never_sign s v rejects fit =

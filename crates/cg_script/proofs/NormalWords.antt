@@ -1,6 +1,6 @@
 -- The words as they are printed: those that were read, with numbers without leading zeros.
-use Rattle.std.proofs.Common.{◌≡◌, ℕ, zero, suc, ◌+◌, ◌^◌, ◌<◌, ◌≤◌, List, [], ◌∷◌, length, length-drop, drop, Bool, true, false, cond, ◌&&◌, if◌then◌else◌, ◌==◌, nat_le, Option, None, Some, refl, sym, ap, subst, ◌∙◌, arith, ◌⊎◌, inl, inr}
-use Rattle.std.specs.Prelude.{slice_index, decimal, is_some, ℤ, pos, negsuc, neg_ℤ}
+use Rattle.std.proofs.Common.{◌≡◌, ℕ, zero, suc, ◌^◌, ◌<◌, ◌≤◌, List, [], ◌∷◌, length, length-drop, drop, Bool, true, false, cond, ◌&&◌, if◌then◌else◌, ◌==◌, nat_le, Option, None, Some, refl, sym, ap, subst, ◌∙◌, arith, ◌⊎◌, inl, inr}
+use Rattle.std.specs.Prelude.{slice_index, decimal, is_some, pos, negsuc, neg_ℤ}
 use Rattle.std.specs.Fmt.{signed_decimal}
 use Rattle.std.specs.List.{list_all}
 use Rattle.std.specs.Str.{bytes_eq}
@@ -13,7 +13,6 @@ use Rattle.cg_script.specs.declared.command.Operand.{Operand}
 use Rattle.cg_script.specs.declared.command.Operand.TheVariants as operands
 use Rattle.cg_script.specs.declared.form.Sort.{Sort}
 use Rattle.cg_script.specs.declared.form.Sort.TheVariants.{Key, Variable, Name, Class, Proc, Finalizer, Value, Number, Budget, Count, Flag}
-use Rattle.cg_script.specs.declared.part.Part.{Part}
 use Rattle.cg_script.specs.declared.part.Part.TheVariants as parts
 use Rattle.cg_script.specs.Tables.{named}
 use Rattle.cg_script.specs.Words.{is_printable, is_digit, begins_name, is_quoted, are_digits, decimal_after, decimal_value, has_minus, is_number, number_of, is_count, is_value, is_variable, string_text, atoms}
@@ -265,16 +264,16 @@ number_value w v none quote letter n =
     let v_none : named atoms v ≡ None = named_nowhere atoms v atoms_named n.no_letter in
     let value : (u : List ℕ) → named atoms u ≡ None → is_quoted u ≡ false → begins_name (slice_index u 0) ≡ false → is_value u ≡ is_number u =
     λ u none quote letter. ap (λ (f : Option Operand). cond (is_some f) true (cond (is_quoted u) (list_all is_printable u) (cond (begins_name (slice_index u 0)) (is_variable u) (is_number u)))) none
-        ∙ ap (λ b. cond b (list_all is_printable u) (cond (begins_name (slice_index u 0)) (is_variable u) (is_number u))) quote
-        ∙ ap (λ b. cond b (is_variable u) (is_number u)) letter in
+    ∙ ap (λ b. cond b (list_all is_printable u) (cond (begins_name (slice_index u 0)) (is_variable u) (is_number u))) quote
+    ∙ ap (λ b. cond b (is_variable u) (is_number u)) letter in
     let operand : (texts : List (List ℕ)) (u : List ℕ) → named atoms u ≡ None → is_quoted u ≡ false → begins_name (slice_index u 0) ≡ false → operand_or (named atoms u) texts u ≡ operands.Int (number_of u) =
     λ texts u none quote letter. ap (λ (f : Option Operand). operand_or f texts u) none
-        ∙ ap (λ b. cond b (operands.Str (place_of texts (string_text u))) (cond (begins_name (slice_index u 0)) (operands.Name (place_of texts u)) (operands.Int (number_of u)))) quote
-        ∙ ap (λ b. cond b (operands.Name (place_of texts u)) (operands.Int (number_of u))) letter in
+    ∙ ap (λ b. cond b (operands.Str (place_of texts (string_text u))) (cond (begins_name (slice_index u 0)) (operands.Name (place_of texts u)) (operands.Int (number_of u)))) quote
+    ∙ ap (λ b. cond b (operands.Name (place_of texts u)) (operands.Int (number_of u))) letter in
     let no_text : (u : List ℕ) → named atoms u ≡ None → is_quoted u ≡ false → begins_name (slice_index u 0) ≡ false → value_text (named atoms u) u ≡ None =
     λ u none quote letter. ap (λ (f : Option Operand). value_text f u) none
-        ∙ ap (λ b. cond b (Some (string_text u)) (cond (begins_name (slice_index u 0)) (Some u) None)) quote
-        ∙ ap (λ b. cond b (Some u) None) letter in
+    ∙ ap (λ b. cond b (Some (string_text u)) (cond (begins_name (slice_index u 0)) (Some u) None)) quote
+    ∙ ap (λ b. cond b (Some u) None) letter in
     record {
       fit = value v v_none n.no_quote n.no_letter ∙ n.number;
       part = λ procs classes texts. ap parts.Value (operand texts v v_none n.no_quote n.no_letter ∙ ap operands.Int n.same ∙ sym (operand texts w none quote letter));
@@ -287,8 +286,8 @@ number_value w v none quote letter n =
 is_number_word : (w : List ℕ) → named atoms w ≡ None → is_quoted w ≡ false → begins_name (slice_index w 0) ≡ false → is_value w ≡ true → is_number w ≡ true
 is_number_word w none quote letter e =
     sym (ap (λ (f : Option Operand). cond (is_some f) true (cond (is_quoted w) (list_all is_printable w) (cond (begins_name (slice_index w 0)) (is_variable w) (is_number w)))) none
-        ∙ ap (λ b. cond b (list_all is_printable w) (cond (begins_name (slice_index w 0)) (is_variable w) (is_number w))) quote
-        ∙ ap (λ b. cond b (is_variable w) (is_number w)) letter)
+    ∙ ap (λ b. cond b (list_all is_printable w) (cond (begins_name (slice_index w 0)) (is_variable w) (is_number w))) quote
+    ∙ ap (λ b. cond b (is_variable w) (is_number w)) letter)
     ∙ e
 
 value_again : (w : List ℕ) (found : Option Operand) → named atoms w ≡ found → is_value w ≡ true → 1 ≤ length w → Graphic w → WordAgain Value w (normal_value found w)

@@ -1,18 +1,15 @@
 -- The lines that are printed in other words: `ref` without a callback, `collect` without a generation, flags, and a class.
-use Rattle.std.proofs.Common.{◌≡◌, ℕ, suc, ◌+◌, ◌<◌, ◌≤◌, List, [], ◌∷◌, ◌++◌, length, Bool, true, false, cond, ◌&&◌, ◌||◌, ◌==◌, nat_le, Option, None, Some, refl, sym, ap, subst, ◌∙◌, arith, codes, inl, inr, ◌⊎◌}
-use Rattle.std.specs.Prelude.{slice_index, slice_index_or, unwrap_or, is_some, bit_or, bit_and, pos}
-use Rattle.std.specs.List.{list_all}
+use Rattle.std.proofs.Common.{◌≡◌, ℕ, ◌+◌, ◌≤◌, List, [], ◌∷◌, ◌++◌, length, Bool, true, false, cond, ◌&&◌, nat_le, Option, None, Some, refl, sym, ap, subst, ◌∙◌, arith, codes, inl, inr, ◌⊎◌}
+use Rattle.std.specs.Prelude.{slice_index, unwrap_or, bit_or}
 use Rattle.std.specs.Str.{bytes_eq}
 use Rattle.std.proofs.lemmas.Bool.Decides.{nat_tests}
-use Rattle.std.proofs.lemmas.Slice.Eq.{bytes_eq-Decides}
 use Rattle.cg_script.specs.declared.command.Operand.{Operand}
 use Rattle.cg_script.specs.declared.command.Operand.TheVariants as operands
 use Rattle.cg_script.specs.declared.command.Command.TheVariants as commands
-use Rattle.cg_script.specs.declared.form.Form.{Form}
 use Rattle.cg_script.specs.declared.form.Form.TheVariants as forms
 use Rattle.cg_script.specs.declared.form.Grammar.{Grammar}
 use Rattle.cg_script.specs.declared.form.Grammar.TheVariants.{Built, Whole}
-use Rattle.cg_script.specs.declared.form.Sort.TheVariants.{Variable, Name, Value, Finalizer, Flag}
+use Rattle.cg_script.specs.declared.form.Sort.TheVariants.{Variable, Value}
 use Rattle.cg_script.specs.declared.part.Said.TheVariants.{Does}
 use Rattle.cg_value.specs.Texts.{place_of, with_text}
 use Rattle.cg_script.specs.Tables.{named}
@@ -20,14 +17,14 @@ use Rattle.cg_script.specs.Words.{atoms, flags, is_quoted, string_text, begins_n
 use Rattle.cg_script.specs.Forms.{openers, bindings, most_read}
 use Rattle.cg_script.specs.Meanings.{fits, all_fit}
 use Rattle.cg_script.specs.Parts.{Known, parts_of, texts_from, with_text_if, value_text, operand_or, has_unknown}
-use Rattle.cg_script.specs.Commands.{said, flags_in}
+use Rattle.cg_script.specs.Commands.{flags_in}
 use Rattle.cg_script.specs.Canonical.{Naming, text_of, value_word, callback_words}
 use Rattle.cg_script.specs.Pieces.{word_is}
 use Rattle.cg_script.proofs.Ascii.{both}
 use Rattle.cg_script.proofs.Joined.{Graphic, EachSound, weight, and_both}
-use Rattle.cg_script.proofs.Shown.{Begins, Names, shown_from, shown_normal, normal_from}
-use Rattle.cg_script.proofs.GoodLines.{Good, Same, never_sign}
-use Rattle.cg_script.proofs.Rows.{Given, Row, Plain, plain_row, said_words}
+use Rattle.cg_script.proofs.Shown.{Begins, Names, shown_normal, normal_from}
+use Rattle.cg_script.proofs.GoodLines.{Good}
+use Rattle.cg_script.proofs.Rows.{Given, Row, plain_row, said_words}
 
 test_le : (a b : ℕ) → nat_le a b ≡ true → a ≤ b
 test_le a b e = grind (arith, nat_tests)

@@ -1,5 +1,5 @@
 -- The canonical bytes of a script that some bytes spell are read as this script.
-use Rattle.std.proofs.Common.{◌≡◌, ℕ, suc, ◌+◌, ◌<◌, ◌≤◌, List, [], ◌∷◌, ◌++◌, length, map, Bool, true, false, cond, not, ◌&&◌, ◌==◌, Option, None, Some, refl, sym, ap, subst, ◌∙◌, arith, codes, inl, inr, ◌⊎◌, append_assoc}
+use Rattle.std.proofs.Common.{◌≡◌, ℕ, ◌+◌, ◌≤◌, List, [], ◌∷◌, ◌++◌, length, map, Bool, true, false, cond, not, ◌&&◌, ◌==◌, Option, None, Some, refl, sym, ap, subst, ◌∙◌, arith, codes, inl, inr, ◌⊎◌, append_assoc}
 use Rattle.std.specs.Prelude.{flat_map, unwrap_or}
 use Rattle.std.specs.Str.{bytes_eq}
 use Rattle.std.proofs.lemmas.Bool.Decides.{nat_tests}
@@ -16,17 +16,17 @@ use Rattle.cg_script.specs.declared.part.Said.TheVariants.{Declares, Begins as B
 use Rattle.cg_script.specs.Pieces.{lines_of, word_at, word_is}
 use Rattle.cg_script.specs.Tables.{named}
 use Rattle.cg_script.specs.Forms.{row, openers, bindings}
-use Rattle.cg_script.specs.Meanings.{Meaning, passed, says, bad, binding_form, meaning}
+use Rattle.cg_script.specs.Meanings.{Meaning, says, binding_form, meaning}
 use Rattle.cg_script.specs.Parts.{Known, parts_of, texts_from}
 use Rattle.cg_script.specs.Commands.{said}
-use Rattle.cg_script.specs.Reading.{nothing_known, is_misplaced, is_repeated, fault_in, says_or_bad, checked, meant, procs_after, classes_after, inside_after, known_after, Lines, good, spoilt, also_said, with_later, lines_from, body_of, items_of, Reading, spells, faulty, script_of, reading_by}
+use Rattle.cg_script.specs.Reading.{nothing_known, is_misplaced, is_repeated, fault_in, says_or_bad, checked, meant, procs_after, classes_after, inside_after, known_after, Lines, good, spoilt, also_said, with_later, lines_from, body_of, items_of, spells, script_of, reading_by}
 use Rattle.cg_script.specs.Canonical.{Naming, text_of, command_words, end_words, item_lines, procs_in, classes_in, naming_of, joined, line_of_words, canonical}
 use Rattle.cg_script.proofs.Lines.{passed_before_last, says_before_last}
 use Rattle.cg_script.proofs.Walk.{each_line}
 use Rattle.cg_script.proofs.Joined.{EachSound, EachLineSound, lines_of-written}
 use Rattle.cg_script.proofs.Shown.{Begins, Names, begins_self, begins_along, begins_texts, text_found, normal_from}
-use Rattle.cg_script.proofs.GoodLines.{Good, Same, Faultless, good_line, good_again, good_says, same_again, same_along, same_known, faultless, no_fault}
-use Rattle.cg_script.proofs.Rows.{Given, Row, said_words, opener_word, binding_word, opener_is, binding_is, opened, bound, bind_row}
+use Rattle.cg_script.proofs.GoodLines.{Same, Faultless, good_line, good_again, good_says, same_again, same_along, same_known, faultless, no_fault}
+use Rattle.cg_script.proofs.Rows.{Given, Row, said_words, opener_is, binding_is, opened, bound, bind_row}
 use Rattle.cg_script.proofs.OddRows.{collect_row, ref_row, flags_row}
 use Rattle.cg_script.proofs.ClassRows.{class_row}
 
@@ -230,7 +230,7 @@ record Back (grammar : Grammar) (number : ℕ) (known : Known) (texts : List (Li
   back : (procs classes : List ℕ) → map (text_of texts) procs ≡ known.procs ++ map (text_of texts) (begun saids) → map (text_of texts) classes ≡ known.classes ++ map (text_of texts) (declared saids)
       → (k : ℕ) → k ≤ number → number ≤ 400001
       → (lines_from grammar known k (map joined (map (said_words (record { texts = texts; procs = procs; classes = classes })) saids)) ≡ good texts saids)
-          × EachLineSound (map (said_words (record { texts = texts; procs = procs; classes = classes })) saids)
+      × EachLineSound (map (said_words (record { texts = texts; procs = procs; classes = classes })) saids)
 
 not_last : (k number : ℕ) → k ≤ number → number + 1 ≤ 400001 → (k == 400001) ≡ false
 not_last k number h l = grind (arith, nat_tests)

@@ -1,29 +1,22 @@
 -- The words of what each form says: those that were read, as they are printed.
-use Rattle.std.proofs.Common.{◌≡◌, ℕ, suc, ◌+◌, ◌<◌, ◌≤◌, List, [], ◌∷◌, ◌++◌, length, map, Bool, true, false, cond, ◌&&◌, ◌||◌, ◌==◌, Option, None, Some, refl, sym, ap, subst, ◌∙◌, arith, codes, ◌⊎◌, inl, inr, take, drop}
-use Rattle.std.specs.Prelude.{slice_index, slice_index_or, unwrap_or, is_some, bit_or, bit_and}
+use Rattle.std.proofs.Common.{◌≡◌, ℕ, ◌+◌, ◌≤◌, List, [], ◌∷◌, length, map, Bool, true, false, cond, Some, refl, sym, ap, subst, ◌∙◌, arith, codes}
 use Rattle.std.specs.Str.{bytes_eq}
 use Rattle.std.proofs.lemmas.List.{get_or_past}
 use Rattle.std.proofs.lemmas.Slice.Eq.{bytes_eq-Decides}
-use Rattle.cg_script.specs.declared.command.Operand.{Operand}
-use Rattle.cg_script.specs.declared.command.Operand.TheVariants as operands
 use Rattle.cg_script.specs.declared.item.Item.TheVariants as items
 use Rattle.cg_script.specs.declared.form.Form.{Form}
 use Rattle.cg_script.specs.declared.form.Form.TheVariants as forms
 use Rattle.cg_script.specs.declared.form.Grammar.{Grammar}
 use Rattle.cg_script.specs.declared.form.Sort.{Sort}
-use Rattle.cg_script.specs.declared.form.Sort.TheVariants.{Key, Variable, Name, Value, Finalizer}
-use Rattle.cg_script.specs.declared.part.Part.{Part}
+use Rattle.cg_script.specs.declared.form.Sort.TheVariants.{Value}
 use Rattle.cg_script.specs.declared.part.Said.{Said}
 use Rattle.cg_script.specs.declared.part.Said.TheVariants.{Declares, Begins as BeginsProc, Ends, Does}
 use Rattle.cg_value.specs.Texts.{place_of, with_text}
-use Rattle.cg_script.specs.Pieces.{word_at, word_is}
 use Rattle.cg_script.specs.Tables.{named}
-use Rattle.cg_script.specs.Words.{atoms}
 use Rattle.cg_script.specs.Forms.{row, sort_at, openers, bindings}
-use Rattle.cg_script.specs.Meanings.{fits, all_fit, binding_form, is_passed}
-use Rattle.cg_script.specs.Parts.{Known, part_of, parts_from, parts_of, texts_from, text_in, with_text_if, has_unknown, operand_or}
+use Rattle.cg_script.specs.Parts.{Known, part_of, parts_from, parts_of, texts_from, text_in, with_text_if, has_unknown}
 use Rattle.cg_script.specs.Commands.{value_or, count_or, said}
-use Rattle.cg_script.specs.Canonical.{Naming, text_of, name_of, value_word, callback_words, command_words, budget_words, class_words, def_words, end_words}
+use Rattle.cg_script.specs.Canonical.{Naming, text_of, name_of, value_word, command_words, budget_words, class_words, def_words, end_words}
 use Rattle.cg_script.proofs.Shown.{Begins, Names, shown, shown_from, shown_normal, normal_from}
 use Rattle.cg_script.proofs.GoodLines.{Good, Same, same_self}
 

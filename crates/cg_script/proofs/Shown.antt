@@ -1,8 +1,8 @@
 -- The words that are printed of the parts of a line: those of the line as they are printed.
-use Rattle.std.proofs.Common.{◌≡◌, ℕ, zero, suc, ◌+◌, ◌<◌, ◌≤◌, List, [], ◌∷◌, ◌++◌, length, map, drop, Bool, true, false, cond, not, ◌||◌, ◌&&◌, ◌==◌, if◌then◌else◌, Option, None, Some, refl, sym, ap, subst, ◌∙◌, arith, get_or, codes, take, append_assoc, append-nil, position, nat_lt}
+use Rattle.std.proofs.Common.{◌≡◌, ℕ, suc, ◌+◌, ◌<◌, List, [], ◌∷◌, ◌++◌, length, map, Bool, true, false, cond, not, ◌||◌, Option, None, Some, refl, sym, ap, ◌∙◌, arith, codes, append_assoc, append-nil, nat_lt}
 use Rattle.std.specs.Prelude.{slice_index, slice_index_or, decimal, pos}
 use Rattle.std.specs.Fmt.{signed_decimal}
-use Rattle.std.specs.List.{list_any, position_or_len}
+use Rattle.std.specs.List.{position_or_len}
 use Rattle.std.specs.Str.{bytes_eq}
 use Rattle.std.proofs.lemmas.Bool.Decides.{nat_tests}
 use Rattle.std.proofs.lemmas.Fmt.{decimal_digit}
@@ -14,7 +14,6 @@ use Rattle.cg_script.specs.declared.form.Form.{Form}
 use Rattle.cg_script.specs.declared.form.Sort.{Sort}
 use Rattle.cg_script.specs.declared.form.Sort.TheVariants.{Key, Variable, Name, Class, Proc, Finalizer, Value, Number, Budget, Count, Flag}
 use Rattle.cg_script.specs.declared.part.Part.{Part}
-use Rattle.cg_script.specs.declared.part.Part.TheVariants as parts
 use Rattle.cg_script.specs.Tables.{named}
 use Rattle.cg_script.specs.Words.{begins_name, is_quoted, number_of, string_text, atoms}
 use Rattle.cg_script.specs.Forms.{sort_at}

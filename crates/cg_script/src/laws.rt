@@ -10,5 +10,4 @@ ghost use Rattle.cg_script.specs.Canonical.{canonical};
 pub fn canonical_bytes_are_read_back()
     ensures { (grammar : AnyGrammar) (bytes : List ℕ) (names : List (List ℕ)) (items : List AnyItem) → reading_by grammar bytes ≡ spells names items
         → reading_by grammar (canonical names items) ≡ spells names items }
-{
-}
+{}
