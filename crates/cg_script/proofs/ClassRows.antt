@@ -20,7 +20,7 @@ use Rattle.cg_script.specs.Commands.{del_if, legacy_if, first_some}
 use Rattle.cg_script.specs.Canonical.{Naming, text_of, name_of, class_words}
 use Rattle.cg_script.proofs.Ascii.{both}
 use Rattle.cg_script.proofs.Joined.{and_both}
-use Rattle.cg_script.proofs.Shown.{Begins, Names, name_found, text_found}
+use Rattle.cg_script.proofs.Shown.{neither, Begins, Names, name_found, text_found}
 use Rattle.cg_script.proofs.GoodLines.{Good, never_sign}
 use Rattle.cg_script.proofs.Rows.{Given, Row, plain_row}
 
@@ -59,10 +59,6 @@ del_case n procs f name None begins e is named known = absurd (cc)
 del_case n procs f name (Some k) begins e is named known =
     record { proc = k; part = refl; word = ap (λ (l : List ℕ). codes "del=" ++ l) (name_found (map (text_of n.texts) n.procs) procs name k begins e) ∙ sym is; named = named }
 
-or_second : (a b : Bool) → (a || b) ≡ true → a ≡ false → b ≡ true
-or_second true b e f = absurd (cc)
-or_second false b e f = e
-
 legacy_cases : (n : Naming) (procs : List (List ℕ)) (f : List ℕ) (found : Option (List ℕ)) → Begins procs (map (text_of n.texts) n.procs) → after_prefix (codes "legacy=") f ≡ found → is_identifier_after found ≡ true
     → is_unknown (legacy_of procs found) ≡ false → IsLegacy n (legacy_of procs found) f
 legacy_cases n procs f None begins e named known = absurd (cc)
@@ -80,10 +76,6 @@ cases n procs f (Some name) begins e fit known = by (is_identifier name) refl fi
     by : (b : Bool) → is_identifier name ≡ b → (b || names_legacy f) ≡ true → IsDel n (finalizer (place_in procs name)) f ⊎ IsLegacy n (finalizer (place_in procs name)) f
     by true eb fit = inl (del_case n procs f name (place_in procs name) begins refl (prefixed (codes "del=") f name e) (ap is_identifier_after e ∙ eb) known)
     by false eb fit = absurd (no_both f name (prefixed (codes "del=") f name e) fit)
-
-or_first : (a b : Bool) → (a || b) ≡ false → (a ≡ false) × (b ≡ false)
-or_first true b e = absurd (cc)
-or_first false b e = (refl, e)
 
 both_del : (x y z : Bool) → x ≡ true → y ≡ true → ((x && y) || z) ≡ false → ⊥
 both_del true true z p q e = absurd (cc)
@@ -202,14 +194,14 @@ module _ (grammar : Grammar) (n : Naming) (known : Known) (names : Names n known
   class_row (c ∷ []) given = plain_row grammar n known names forms.Class (codes "class" ∷ c ∷ []) given refl
   class_row (c ∷ f ∷ []) given =
       let fit = both (fits Name c) (fits Finalizer f && true) given.good.fit in
-      let known_part = or_first (is_unknown (finalizer_of known.procs (after_prefix (codes "del=") f) f)) false given.defined in
+      let known_part = neither (is_unknown (finalizer_of known.procs (after_prefix (codes "del=") f) f)) false given.defined in
       plain_row grammar n known names forms.Class (codes "class" ∷ c ∷ f ∷ []) given
       (one_word c f (finalizer_of known.procs (after_prefix (codes "del=") f) f) (case f (both (fits Finalizer f) true fit.1).0 known_part.0))
   class_row (c ∷ f ∷ g ∷ []) given =
       let fit = fits_of c f g given.good.fit in
       let p = finalizer_of known.procs (after_prefix (codes "del=") f) f in
       let q = finalizer_of known.procs (after_prefix (codes "del=") g) g in
-      let known_first = or_first (is_unknown p) (is_unknown q || false) given.defined in
-      let known_second = or_first (is_unknown q) false known_first.1 in
+      let known_first = neither (is_unknown p) (is_unknown q || false) given.defined in
+      let known_second = neither (is_unknown q) false known_first.1 in
       two_words c f g given known_first.0 known_second.0 (case f fit.first known_first.0) (case g fit.second known_second.0)
   class_row (c ∷ f ∷ g ∷ h ∷ rest) given = absurd (omega (arith, given.good.most))

@@ -21,8 +21,8 @@ use Rattle.cg_script.specs.Commands.{said}
 use Rattle.cg_script.specs.Reading.{is_misplaced, is_repeated, procs_after, classes_after, known_after, fault_in}
 use Rattle.cg_script.specs.Canonical.{joined}
 use Rattle.cg_script.proofs.Ascii.{both}
-use Rattle.cg_script.proofs.Says.{says_fits, says_of_line}
-use Rattle.cg_script.proofs.Joined.{EachSound, weight, words_of-joined, all_printable, length-joined, words_weight, sound_words}
+use Rattle.cg_script.proofs.Says.{not_bad, not_passed, says_fits, says_of_line}
+use Rattle.cg_script.proofs.Joined.{and_both, EachSound, weight, words_of-joined, all_printable, length-joined, words_weight, sound_words}
 use Rattle.cg_script.proofs.NormalWords.{word_again, normal, alike, Alike, AllNames, named_nowhere}
 use Rattle.cg_script.proofs.Shown.{normal_from}
 
@@ -109,14 +109,6 @@ good_says grammar number form words good before =
     ∙ formed_says grammar form words good
 
 -- the words of each line that is read are so
-not_bad : (b : Bool) (code : ℕ) (rest : Meaning) (form : Form) (words : List (List ℕ)) → says form words ≡ cond b (bad code) rest → (b ≡ false) × (says form words ≡ rest)
-not_bad true code rest form words e = absurd (cc)
-not_bad false code rest form words e = (refl, e)
-
-not_passed : (b : Bool) (rest : Meaning) (form : Form) (words : List (List ℕ)) → says form words ≡ cond b passed rest → (b ≡ false) × (says form words ≡ rest)
-not_passed true rest form words e = absurd (cc)
-not_passed false rest form words e = (refl, e)
-
 formed_form : (grammar : Grammar) (other : Form) (others : List (List ℕ)) (form : Form) (words : List (List ℕ)) → says form words ≡ formed grammar other others → other ≡ form
 formed_form grammar other others form words e =
     let a = not_bad (most_read grammar other == 0) 2 _ form words e in
@@ -176,10 +168,6 @@ pub record WordsAgain (form : Form) (place : ℕ) (ws vs : List (List ℕ)) : Ty
   pub light : weight vs ≤ weight ws
   pub sound : EachSound vs
 
-and_all : (a b : Bool) → a ≡ true → b ≡ true → (a && b) ≡ true
-and_all true b p q = q
-and_all false b p q = absurd (cc)
-
 words_again : (form : Form) (ws : List (List ℕ)) (place : ℕ) → all_fit form place ws ≡ true → EachSound ws → WordsAgain form place ws (normal_from form place ws)
 words_again form [] place fit sound = record { fit = refl; parts = λ procs classes texts. refl; texts = λ texts. refl; count = refl; light = omega arith; sound = tt }
 words_again form (w ∷ ws) place fit sound =
@@ -193,7 +181,7 @@ words_again form (w ∷ ws) place fit sound =
     let light_here = here.light in
     let count = later.count in
     record {
-      fit = and_all (fits s v) (all_fit form (place + 1) vs) here.fit later.fit;
+      fit = and_both (fits s v) (all_fit form (place + 1) vs) here.fit later.fit;
       parts = λ procs classes texts. ap (λ (q : Part). q ∷ parts_from procs classes (with_text_if texts (text_in s v)) form (place + 1) vs) (here.part procs classes texts)
           ∙ ap (λ (t : Option (List ℕ)). part_of procs classes texts s w ∷ parts_from procs classes (with_text_if texts t) form (place + 1) vs) here.text
           ∙ ap (λ (l : List Part). part_of procs classes texts s w ∷ l) (later.parts procs classes (with_text_if texts (text_in s w)));

@@ -25,7 +25,7 @@ use Rattle.cg_script.proofs.Joined.{Graphic, and_both}
 test_le : (a b : ℕ) → a ≤ b → nat_le a b ≡ true
 test_le a b h = grind (arith, nat_tests)
 
-le_test : (a b : ℕ) → nat_le a b ≡ true → a ≤ b
+pub le_test : (a b : ℕ) → nat_le a b ≡ true → a ≤ b
 le_test a b h = grind (arith, nat_tests)
 
 is_digit_from : (c : ℕ) → 48 ≤ c → c ≤ 57 → is_digit c ≡ true

@@ -2,7 +2,6 @@
 use Rattle.std.proofs.Common.{◌≡◌, ℕ, ◌+◌, ◌≤◌, List, [], ◌∷◌, ◌++◌, length, Bool, true, false, cond, ◌&&◌, nat_le, Option, None, Some, refl, sym, ap, subst, ◌∙◌, arith, codes, inl, inr, ◌⊎◌}
 use Rattle.std.specs.Prelude.{slice_index, unwrap_or, bit_or}
 use Rattle.std.specs.Str.{bytes_eq}
-use Rattle.std.proofs.lemmas.Bool.Decides.{nat_tests}
 use Rattle.cg_script.specs.declared.command.Operand.{Operand}
 use Rattle.cg_script.specs.declared.command.Operand.TheVariants as operands
 use Rattle.cg_script.specs.declared.command.Command.TheVariants as commands
@@ -24,10 +23,8 @@ use Rattle.cg_script.proofs.Ascii.{both}
 use Rattle.cg_script.proofs.Joined.{Graphic, EachSound, weight, and_both}
 use Rattle.cg_script.proofs.Shown.{Begins, Names, shown_normal, normal_from}
 use Rattle.cg_script.proofs.GoodLines.{Good}
+use Rattle.cg_script.proofs.NormalWords.{le_test}
 use Rattle.cg_script.proofs.Rows.{Given, Row, plain_row, said_words}
-
-test_le : (a b : ℕ) → nat_le a b ≡ true → a ≤ b
-test_le a b e = grind (arith, nat_tests)
 
 -- whether words are sound
 abbrev graphic_test : List ℕ → Bool
@@ -43,14 +40,14 @@ graphic_from [] e = tt
 graphic_from (b ∷ bs) e =
     let p = both (nat_le 33 b && nat_le b 126) (graphic_test bs) e in
     let q = both (nat_le 33 b) (nat_le b 126) p.0 in
-    ((test_le 33 b q.0, test_le b 126 q.1), graphic_from bs p.1)
+    ((le_test 33 b q.0, le_test b 126 q.1), graphic_from bs p.1)
 
 sound_from : (ws : List (List ℕ)) → sound_test ws ≡ true → EachSound ws
 sound_from [] e = tt
 sound_from (w ∷ ws) e =
     let p = both (nat_le 1 (length w) && graphic_test w) (sound_test ws) e in
     let q = both (nat_le 1 (length w)) (graphic_test w) p.0 in
-    ((test_le 1 (length w) q.0, graphic_from w q.1), sound_from ws p.1)
+    ((le_test 1 (length w) q.0, graphic_from w q.1), sound_from ws p.1)
 
 -- `collect` without a generation is `collect 2`
 abbrev collect_two : List (List ℕ)
@@ -283,14 +280,14 @@ few_flags Whole n h k = omega arith
 flags_good : (grammar : Grammar) (a b c d : Bool) → 1 ≤ most_read grammar forms.Flags → Good grammar forms.Flags (flag_line a b c d)
 unfolding flags openers
 flags_good grammar a b c d h =
-    let count : length (flag_line a b c d) ≤ 5 = test_le (length (flag_line a b c d)) 5 (all16 (λ a b c d. nat_le (length (flag_line a b c d)) 5 ≡ true) refl refl refl refl refl refl refl refl refl refl refl refl refl refl refl refl a b c d) in
+    let count : length (flag_line a b c d) ≤ 5 = le_test (length (flag_line a b c d)) 5 (all16 (λ a b c d. nat_le (length (flag_line a b c d)) 5 ≡ true) refl refl refl refl refl refl refl refl refl refl refl refl refl refl refl refl a b c d) in
     record {
       fit = all16 (λ a b c d. all_fit forms.Flags 0 (flag_line a b c d) ≡ true) refl refl refl refl refl refl refl refl refl refl refl refl refl refl refl refl a b c d;
       single = refl;
       enough = omega arith;
       most = omega arith;
       few = few_flags grammar (length (flag_line a b c d)) count h;
-      light = test_le (weight (flag_line a b c d)) 1025 (all16 (λ a b c d. nat_le (weight (flag_line a b c d)) 1025 ≡ true) refl refl refl refl refl refl refl refl refl refl refl refl refl refl refl refl a b c d);
+      light = le_test (weight (flag_line a b c d)) 1025 (all16 (λ a b c d. nat_le (weight (flag_line a b c d)) 1025 ≡ true) refl refl refl refl refl refl refl refl refl refl refl refl refl refl refl refl a b c d);
       few_words = omega arith;
       sound = sound_from (flag_line a b c d) (all16 (λ a b c d. sound_test (flag_line a b c d) ≡ true) refl refl refl refl refl refl refl refl refl refl refl refl refl refl refl refl a b c d);
       picks = inl (all16 (λ a b c d. word_is (flag_line a b c d) 1 (codes "=") ≡ false) refl refl refl refl refl refl refl refl refl refl refl refl refl refl refl refl a b c d, refl);

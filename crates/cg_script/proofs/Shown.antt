@@ -202,7 +202,7 @@ shown_word n procs classes texts Budget w names begins known = refl
 shown_word n procs classes texts Count w names begins known = refl
 shown_word n procs classes texts Flag w names begins known = refl
 
-neither : (a b : Bool) → (a || b) ≡ false → (a ≡ false) × (b ≡ false)
+pub neither : (a b : Bool) → (a || b) ≡ false → (a ≡ false) × (b ≡ false)
 neither true b e = absurd (cc)
 neither false b e = (refl, e)
 
