@@ -41,4 +41,8 @@ pub mod RoomsOfRuns
 pub mod Heights
 pub mod Origins
 pub mod OriginsOfRuns
+pub mod PrintableTexts
+pub mod PrintableSteps
+pub mod PrintableCommands
+pub mod PrintableRuns
 pub mod Representing

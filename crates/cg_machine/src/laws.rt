@@ -1,6 +1,7 @@
 //! What holds in every run of the machine. Each law is the contract of a function that does nothing.
 ghost use Rattle.cg_machine.specs.Bounds.{StacksAreBounded};
 ghost use Rattle.cg_machine.specs.Origins.{WorldsHaveOrigins};
+ghost use Rattle.cg_machine.specs.Printing.{LinesArePrintable};
 ghost use Rattle.cg_machine.specs.Laws.{DyingIsUnheld, NoRunIsStuck, FrontsBeginWholeTexts, StepsLeaveWhatIsBelow, WorldsAreOrderly};
 
 /// No run is stuck: each is the beginning of a whole run, whatever choices it took.
@@ -40,4 +41,9 @@ pub fn stacks_are_bounded()
 /// instance and the procedure of each function.
 pub fn worlds_have_origins()
     ensures { WorldsHaveOrigins }
+{}
+
+/// Where a script names its own texts alone, and none has more than 1,024 bytes, each line of each run of it can be printed.
+pub fn lines_are_printable()
+    ensures { LinesArePrintable }
 {}
