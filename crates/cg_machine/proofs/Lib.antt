@@ -43,4 +43,7 @@ pub mod Origins
 pub mod OriginsOfRuns
 pub mod Making
 pub mod MakingOfRuns
+pub mod Standing
+pub mod StandingSteps
+pub mod StandingRuns
 pub mod Representing

@@ -1,6 +1,8 @@
 //! What holds in every run of the machine. Each law is the contract of a function that does nothing.
 ghost use Rattle.cg_machine.specs.Bounds.{StacksAreBounded};
+ghost use Rattle.cg_machine.specs.Locals.{LocalsLive};
 ghost use Rattle.cg_machine.specs.Made.{SerialsAreFew};
+ghost use Rattle.cg_machine.specs.Newest.{DeathsClearNewestFirst};
 ghost use Rattle.cg_machine.specs.Origins.{WorldsHaveOrigins};
 ghost use Rattle.cg_machine.specs.Laws.{DyingIsUnheld, NoRunIsStuck, FrontsBeginWholeTexts, StepsLeaveWhatIsBelow, WorldsAreOrderly};
 
@@ -47,4 +49,15 @@ pub fn worlds_have_origins()
 /// of the budget as many as the longest procedure has commands.
 pub fn serials_are_few()
     ensures { SerialsAreFew }
+{}
+
+/// In every world of a run, while weak references lose a dying object, those that have lost it and wait for their callback
+/// are newer than those that still refer to it.
+pub fn deaths_clear_newest_first()
+    ensures { DeathsClearNewestFirst }
+{}
+
+/// In every world of a run the subject of each frame lives, and so does its function if it has one, which is a function.
+pub fn locals_live()
+    ensures { LocalsLive }
 {}
