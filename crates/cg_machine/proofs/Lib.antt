@@ -46,4 +46,5 @@ pub mod MakingOfRuns
 pub mod Standing
 pub mod StandingSteps
 pub mod StandingRuns
+pub mod Lawful
 pub mod Representing

@@ -4,6 +4,7 @@ ghost use Rattle.cg_machine.specs.Locals.{LocalsLive};
 ghost use Rattle.cg_machine.specs.Made.{SerialsAreFew};
 ghost use Rattle.cg_machine.specs.Newest.{DeathsClearNewestFirst};
 ghost use Rattle.cg_machine.specs.Origins.{WorldsHaveOrigins};
+ghost use Rattle.cg_machine.specs.Lawful.{RunsStayLawful};
 ghost use Rattle.cg_machine.specs.Laws.{DyingIsUnheld, NoRunIsStuck, FrontsBeginWholeTexts, StepsLeaveWhatIsBelow, WorldsAreOrderly};
 
 /// No run is stuck: each is the beginning of a whole run, whatever choices it took.
@@ -60,4 +61,9 @@ pub fn deaths_clear_newest_first()
 /// In every world of a run the subject of each frame lives, and so does its function if it has one, which is a function.
 pub fn locals_live()
     ensures { LocalsLive }
+{}
+
+/// Every world of a run has what these laws say of one world, and each world to which the machine goes from it has it too.
+pub fn runs_stay_lawful()
+    ensures { RunsStayLawful }
 {}
