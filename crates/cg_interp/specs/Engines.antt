@@ -1,5 +1,5 @@
 -- What an engine is, and the worlds of the machine that it stands for. (Ours.)
-use Rattle.std.specs.Prelude.{◌≡◌, ℕ, ◌++◌, List, [], ◌∷◌, drop, Option, None, Some}
+use Rattle.std.specs.Prelude.{◌≡◌, ◌≢◌, ℕ, ◌++◌, List, [], ◌∷◌, drop, Option, None, Some}
 use Rattle.cg_script.specs.declared.Script.{Script}
 use Rattle.cg_script.specs.declared.Command.{Command}
 use Rattle.cg_graph.specs.Store.{Store}
@@ -57,11 +57,12 @@ Shows script (activity.Frame locals procedure next) tops = tops ≡ Framed (fram
 Shows script (activity.Releasing release) tops = tops ≡ Releasing (references_left release) ∷ []
 Shows script (activity.Dying death) tops = (waiting : List ℕ) × (tops ≡ death_shown death waiting)
 
--- an activity that stands for the top of a stack, over what lies below
+-- an activity that stands for the top of a stack, of one activity at least, over what lies below
 pub record ShowsTop (script : Script) (top : Activity) (rest : List machine.Activity → Type 0) (stack : List machine.Activity) : Type 0 where
   pub tops : List machine.Activity
   pub below : List machine.Activity
   pub shows : Shows script top tops
+  pub some : tops ≢ []
   pub over : rest below
   pub is : stack ≡ tops ++ below
 

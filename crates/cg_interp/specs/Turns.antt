@@ -1,10 +1,11 @@
 -- What a turn of an engine answers: what the machine does. (Ours.)
-use Rattle.std.specs.Prelude.{◌≡◌, ◌≢◌, ℕ, ◌≤◌, List, [], ◌∷◌, Option, None, Some, count_by}
+use Rattle.std.specs.Prelude.{◌≡◌, ◌≢◌, ℕ, ◌+◌, ◌*◌, ◌≤◌, length, List, [], ◌∷◌, Option, None, Some, count_by}
 use Rattle.cg_script.specs.declared.Script.{Script}
 use Rattle.cg_machine.specs.declared.event.Event.{Event}
 use Rattle.cg_machine.specs.declared.event.Event.TheVariants.{End, BudgetSpent}
 use Rattle.cg_machine.specs.World.{World, Outcome, Ended, BudgetIsSpent, Dying, Death}
 use Rattle.cg_graph.specs.Member.{Includes}
+use Rattle.cg_graph.specs.Store.{objects_of}
 use Rattle.cg_machine.specs.Holdings.{holdings, is_death_of}
 use Rattle.cg_machine.specs.Laws.{IsHeldByItsDeathAlone}
 use Rattle.cg_machine.specs.Frame.{Transition, begin_death}
@@ -89,3 +90,13 @@ pub record Hands (script : Script) (w : World) (o : ℕ) (e : State) : Type 0 wh
 abbrev pub DeathComes : Script → World → State → Dies → Type 0
 DeathComes script w e (dies.Turned answer) = Comes script w e answer
 DeathComes script w e (dies.Died o) = Hands script w o e
+
+-- Room for all that can be under way: the frames, and the deaths and releases of all objects.
+abbrev pub HasRoom : State → Type 0
+HasRoom e = e.frames + 2 * length (objects_of e.store) + 8 ≤ length e.activities + e.room
+
+-- what an engine keeps to from turn to turn
+pub record IsFit (script : Script) (e : State) : Type 0 where
+  pub names : length e.store.names ≡ length script.names
+  pub frames : e.frames ≤ 100000
+  pub room : HasRoom e

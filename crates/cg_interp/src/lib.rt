@@ -12,5 +12,6 @@ mod run;
 mod stack;
 mod table;
 mod turned;
+mod turns;
 
 pub use run::{RunEnd, run_script};

@@ -45,4 +45,10 @@ pub mod PrintableTexts
 pub mod PrintableSteps
 pub mod PrintableCommands
 pub mod PrintableRuns
+pub mod Making
+pub mod MakingOfRuns
+pub mod Standing
+pub mod StandingSteps
+pub mod StandingRuns
+pub mod Lawful
 pub mod Representing
