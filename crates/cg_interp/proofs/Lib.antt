@@ -7,3 +7,5 @@ mod EffectLemmas
 mod AnswerLemmas
 mod StepLemmas
 mod DeathLemmas
+mod DeathMoves
+mod Keeping
