@@ -16,3 +16,4 @@ mod Calling
 mod Querying
 mod Beginning
 mod Ends
+pub mod ObjectNumbers

@@ -5,8 +5,9 @@ ghost use Rattle.cg_heap.specs.Calls.{HasFewHolds};
 ghost use Rattle.cg_heap.specs.Weak.{IsInNoRow};
 ghost use Rattle.cg_death.specs.declared.phase.Phase.TheVariants as phase_of;
 ghost use Rattle.cg_death.specs.Activities.{IsUnheld};
-ghost use Rattle.cg_death.specs.Answers.{TurnSteps, TurnAnswers};
+ghost use Rattle.cg_death.specs.Answers.{TurnSteps, TurnAnswers, MakesNone};
 ghost use Rattle.cg_death.specs.Falls.{TurnFalls};
+ghost use Rattle.cg_death.specs.Deaths.{GoesOnAfter};
 
 use crate::answer::DeathStep;
 use crate::phase::{Phase, Turn};
@@ -24,6 +25,8 @@ pub fn empty_one<B: Kind>(object: u64, heap: &mut Heap<B>) -> Turn
         TurnSteps script heap.old object phase_of.Emptying heap.new result }
     ensures falls { TurnFalls heap.old object phase_of.Emptying heap.new result }
     ensures answers { TurnAnswers object phase_of.Emptying heap.new result }
+    ensures going { GoesOnAfter result }
+    ensures objects { MakesNone heap.old heap.new }
 {
     heap.sound();
     match heap.detach(object) {

@@ -13,8 +13,9 @@ ghost use Rattle.cg_heap.specs.Calls.{HasFewHolds};
 ghost use Rattle.cg_heap.specs.Weak.{cleared_weak};
 ghost use Rattle.cg_death.specs.declared.phase.Phase.TheVariants as phase_of;
 ghost use Rattle.cg_death.specs.Activities.{IsUnheld, HasHolds, AreNewer, HasCallback, HaveCallbacks};
-ghost use Rattle.cg_death.specs.Answers.{TurnSteps, TurnAnswers};
+ghost use Rattle.cg_death.specs.Answers.{TurnSteps, TurnAnswers, MakesNone};
 ghost use Rattle.cg_death.specs.Falls.{TurnFalls};
+ghost use Rattle.cg_death.specs.Deaths.{GoesOnAfter};
 
 use crate::finalizers::finalizers_of;
 use crate::phase::{Phase, Turn};
@@ -34,6 +35,8 @@ pub fn clear_one<B: Kind>(object: u64, heap: &mut Heap<B>) -> Turn
         TurnSteps script heap.old object phase_of.Clearing heap.new result }
     ensures falls { TurnFalls heap.old object phase_of.Clearing heap.new result }
     ensures answers { TurnAnswers object phase_of.Clearing heap.new result }
+    ensures going { GoesOnAfter result }
+    ensures objects { MakesNone heap.old heap.new }
 {
     heap.sound();
     match newest_to_clear(object, heap) {
@@ -96,6 +99,8 @@ pub fn call_one<B: Kind>(object: u64, heap: &mut Heap<B>) -> Turn
         TurnSteps script heap.old object phase_of.Calling heap.new result }
     ensures falls { TurnFalls heap.old object phase_of.Calling heap.new result }
     ensures answers { TurnAnswers object phase_of.Calling heap.new result }
+    ensures going { GoesOnAfter result }
+    ensures objects { MakesNone heap.old heap.new }
 {
     match heap.newest_waiting(object) {
         None => Turn::to(Phase::LegacyFinalizer),
@@ -112,6 +117,8 @@ fn call_back<B: Kind>(object: u64, weak: u64, heap: &mut Heap<B>) -> Turn
         TurnSteps script heap.old object phase_of.Calling heap.new result }
     ensures falls { TurnFalls heap.old object phase_of.Calling heap.new result }
     ensures answers { TurnAnswers object phase_of.Calling heap.new result }
+    ensures going { GoesOnAfter result }
+    ensures objects { MakesNone heap.old heap.new }
 {
     heap.sound();
     let callback = take_callback(weak, heap);
@@ -145,6 +152,8 @@ pub fn end_call<B: Kind>(object: u64, weak: u64, callback: u64, heap: &mut Heap<
         TurnSteps script heap.old object (phase_of.AfterCall weak callback) heap.new result }
     ensures falls { TurnFalls heap.old object (phase_of.AfterCall weak callback) heap.new result }
     ensures answers { TurnAnswers object (phase_of.AfterCall weak callback) heap.new result }
+    ensures going { GoesOnAfter result }
+    ensures objects { MakesNone heap.old heap.new }
 {
     let answer = give_up(heap, callback);
     Turn {
@@ -160,6 +169,8 @@ pub fn detach_one<B: Kind>(object: u64, heap: &mut Heap<B>, script: &Script) -> 
     ensures steps { TurnSteps script.now heap.old object phase_of.Detaching heap.new result }
     ensures falls { TurnFalls heap.old object phase_of.Detaching heap.new result }
     ensures answers { TurnAnswers object phase_of.Detaching heap.new result }
+    ensures going { GoesOnAfter result }
+    ensures objects { MakesNone heap.old heap.new }
 {
     heap.sound();
     match newest_to_detach(object, heap, script) {

@@ -77,7 +77,7 @@ pub dies : (script : Script) (old new : State) (o : ℕ) (death : Death) (w : Wo
 dies script old new o death w stands represents shown top budget = record {
   represents = represents;
   shows = subst (λ l. ShowsAll script l (begin_death o w).stack) (sym top)
-      (record { tops = death_of o Finalizer ∷ []; below = w.stack; shows = (waiting_for new.store death.object, sym shown ∙ shown_on_stack death new.store); over = stands.shows; is = refl });
+      (record { tops = death_of o Finalizer ∷ []; below = w.stack; shows = (waiting_for new.store death.object, sym shown ∙ shown_on_stack death new.store); some = λ e. absurd (cc); over = stands.shows; is = refl });
   budget = stands.budget ∙ sym budget;
   running = stands.running;
   threshold = stands.threshold;

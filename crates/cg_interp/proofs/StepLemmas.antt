@@ -70,7 +70,7 @@ module _ (script : Script) (e : State) (next after : Option ℕ) (c : Command) (
   unfolding below script_goes_on
   script_stands = record {
     represents = replaced e.store w (TopLevel (c ∷ rest)) (TopLevel rest) below (plain_script _) (plain_script _) refl (spelled (Represents e.store) w (TopLevel (c ∷ rest) ∷ below) at stands.represents);
-    shows = record { tops = TopLevel rest ∷ []; below = below; shows = refl; over = stands.shows.over; is = refl };
+    shows = record { tops = TopLevel rest ∷ []; below = below; shows = refl; some = λ e. absurd (cc); over = stands.shows.over; is = refl };
     budget = stands.budget;
     running = stands.running;
     threshold = stands.threshold;
@@ -122,7 +122,7 @@ module _ (script : Script) (e : State) (locals : Locals) (procedure : ℕ) (next
   unfolding frame_below frame_goes_on
   frame_stands = record {
     represents = replaced e.store w (Framed running_frame) (Framed frame_after) frame_below (plain_frame _) (plain_frame _) refl (spelled (Represents e.store) w (Framed running_frame ∷ frame_below) frame_at stands.represents);
-    shows = record { tops = Framed frame_after ∷ []; below = frame_below; shows = refl; over = stands.shows.over; is = refl };
+    shows = record { tops = Framed frame_after ∷ []; below = frame_below; shows = refl; some = λ e. absurd (cc); over = stands.shows.over; is = refl };
     budget = stands.budget;
     running = stands.running;
     threshold = stands.threshold;

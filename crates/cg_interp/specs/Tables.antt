@@ -28,6 +28,6 @@ is_procedure (Def p) = true
 is_procedure (Run c) = false
 
 -- a table of a script: where its commands and its procedures stand
-pub record IsTableOf (script : Script) (commands procedures : List ℕ) : Type 0 where
-  pub commands : AreCommands script.items commands
-  pub procedures : AreProcedures script.items procedures
+pub record IsTableOf (script : Script) (command_lines procedure_lines : List ℕ) : Type 0 where
+  pub commands : AreCommands script.items command_lines
+  pub procedures : AreProcedures script.items procedure_lines

@@ -6,6 +6,10 @@ use Rattle.cg_death.specs.Answers.{TurnSteps}
 use Rattle.cg_death.specs.Falls.{Falls, TurnFalls}
 use Rattle.cg_death.proofs.Emptying.{turn-taken, turn-gone}
 use Rattle.cg_death.proofs.Falling.{falls-taken}
+use Rattle.cg_graph.specs.Value.{entry_references, without_last}
+use Rattle.cg_graph.specs.Store.{entries_of}
+use Rattle.cg_death.specs.Answers.{MakesNone}
+use Rattle.cg_death.proofs.ObjectNumbers.{none-taken, none-gone}
 use Rattle.cg_death.proofs.contents.empty_one.Goals as goal
 
 pub returns-in-Some-clause-steps : goal.returns-in-Some-clause-steps
@@ -24,3 +28,9 @@ returns-in-None-clause-steps g c = λ script.
 pub returns-in-None-clause-falls : goal.returns-in-None-clause-falls
 returns-in-None-clause-falls g c =
     subst (λ (turn : Turn). TurnFalls c.args.heap.now c.args.object phase_of.Emptying c.free.new.self turn) (sym c.tells.ensures) (λ e. absurd (cc))
+
+pub returns-in-Some-clause-objects : goal.returns-in-Some-clause-objects
+returns-in-Some-clause-objects g c = subst (MakesNone c.args.heap.now) (sym (c.in-Some.ensures.rest)) (none-taken (entry_references c.in-Some.entry) c.args.object (without_last (entries_of c.args.heap.now c.args.object)) c.args.heap.now)
+
+pub returns-in-None-clause-objects : goal.returns-in-None-clause-objects
+returns-in-None-clause-objects g c = subst (MakesNone c.args.heap.now) (sym (c.free.ensures ∙ ap (gone c.args.object) c.in-None.ensures.none)) (none-gone c.args.object c.args.heap.now)

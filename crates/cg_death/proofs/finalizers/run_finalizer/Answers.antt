@@ -8,6 +8,8 @@ use Rattle.cg_death.specs.declared.phase.Turn.{Turn}
 use Rattle.cg_death.specs.Answers.{TurnSteps}
 use Rattle.cg_heap.proofs.CallerLemmas.{lives_on, kinds-moved, kinds-with_node, total-moved, total-with_node}
 use Rattle.cg_death.proofs.Finalizing.{running, turn-no_finalizer, turn-finalizer}
+use Rattle.cg_death.specs.Answers.{MakesNone}
+use Rattle.cg_death.proofs.ObjectNumbers.{none-own_frame}
 use Rattle.cg_death.proofs.finalizers.run_finalizer.Goals as goal
 
 pub set_finalized-requires : goal.set_finalized-requires
@@ -36,3 +38,6 @@ returns-in-Some-clause-steps g c =
     subst (λ (turn : Turn). TurnSteps c.args.script.now c.args.heap.now c.args.object phase_of.Finalizer c.hold.new.self turn) (sym (c.runs.ensures ∙ ap (running phase_of.AfterFinalizer) c.frame.ensures))
     (turn-finalizer c.args.script.now c.args.heap.now c.hold.new.self c.args.object c.in-Some.proc (sym c.in-Some.ensures) c.requires.unheld.live c.requires.unheld.none
     (c.hold.ensures ∙ ap (λ st. held (c.args.object ∷ []) st) (c.set_finalized.ensures ∙ ap (with_node marked c.args.object) c.move_to.ensures)))
+
+pub returns-in-Some-clause-objects : goal.returns-in-Some-clause-objects
+returns-in-Some-clause-objects g c = subst (MakesNone c.args.heap.now) (sym (c.hold.ensures ∙ ap (λ st. held (c.args.object ∷ []) st) (c.set_finalized.ensures ∙ ap (with_node marked c.args.object) c.move_to.ensures))) (none-own_frame marked c.args.object (Gen 0) c.args.heap.now)

@@ -8,6 +8,8 @@ use Rattle.cg_death.specs.declared.phase.Turn.{Turn}
 use Rattle.cg_death.specs.Answers.{TurnSteps}
 use Rattle.cg_heap.proofs.CallerLemmas.{lives_on, kinds-moved, total-moved}
 use Rattle.cg_death.proofs.Finalizing.{running, turn-no_legacy, turn-legacy}
+use Rattle.cg_death.specs.Answers.{MakesNone}
+use Rattle.cg_death.proofs.ObjectNumbers.{none-legacy_frame}
 use Rattle.cg_death.proofs.finalizers.run_legacy.Goals as goal
 
 pub hold-requires-clause-live : goal.hold-requires-clause-live
@@ -28,3 +30,6 @@ returns-in-Some-clause-steps g c =
     subst (λ (turn : Turn). TurnSteps c.args.script.now c.args.heap.now c.args.object phase_of.LegacyFinalizer c.hold.new.self turn) (sym (c.runs.ensures ∙ ap (running phase_of.AfterLegacy) c.frame.ensures))
     (turn-legacy c.args.script.now c.args.heap.now c.hold.new.self c.args.object c.in-Some.proc (sym c.finalizers_of.ensures.legacy ∙ c.in-Some.is) c.requires.unheld.live c.requires.unheld.none
     (c.hold.ensures ∙ ap (λ st. held (c.args.object ∷ []) st) c.move_to.ensures))
+
+pub returns-in-Some-clause-objects : goal.returns-in-Some-clause-objects
+returns-in-Some-clause-objects g c = subst (MakesNone c.args.heap.now) (sym (c.hold.ensures ∙ ap (λ st. held (c.args.object ∷ []) st) c.move_to.ensures)) (none-legacy_frame c.args.object (Gen 0) c.args.heap.now)

@@ -3,6 +3,11 @@ use Rattle.cg_death.specs.declared.phase.Phase.TheVariants as phase_of
 use Rattle.cg_death.specs.declared.phase.Turn.{Turn}
 use Rattle.cg_death.specs.Answers.{TurnSteps}
 use Rattle.cg_death.proofs.ClearingTurns.{turn-all_cleared, turn-cleared}
+use Rattle.std.specs.Prelude.{is_some}
+use Rattle.cg_graph.specs.Store.{objects_of}
+use Rattle.cg_machine.specs.Weak.{callback_of}
+use Rattle.cg_death.specs.Answers.{MakesNone}
+use Rattle.cg_death.proofs.ObjectNumbers.{none-lost}
 use Rattle.cg_death.proofs.weak.clear_one.Goals as goal
 
 pub returns-in-None-clause-steps : goal.returns-in-None-clause-steps
@@ -14,3 +19,6 @@ pub returns-in-Some-clause-steps : goal.returns-in-Some-clause-steps
 returns-in-Some-clause-steps g c = λ script.
     subst (λ (turn : Turn). TurnSteps script c.args.heap.now c.args.object phase_of.Clearing c.lose_referent.new.heap turn) (sym c.tells.ensures)
     (turn-cleared script c.args.heap.now c.lose_referent.new.heap c.args.object c.in-Some.weak c.sound.ensures.rows c.in-Some.ensures.refers c.requires.newer (sym c.in-Some.ensures.newest) c.lose_referent.ensures)
+
+pub returns-in-Some-clause-objects : goal.returns-in-Some-clause-objects
+returns-in-Some-clause-objects g c = subst (MakesNone c.args.heap.now) (sym (c.lose_referent.ensures)) (none-lost (is_some (callback_of (objects_of c.args.heap.now) c.in-Some.weak)) c.in-Some.weak c.args.heap.now)

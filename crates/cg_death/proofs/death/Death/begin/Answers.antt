@@ -4,6 +4,10 @@ use Rattle.cg_graph.specs.Store.{IsLive}
 use Rattle.cg_graph.specs.Changes.{moved}
 use Rattle.cg_heap.proofs.CallerLemmas.{lives_on, kinds-moved}
 use Rattle.cg_death.proofs.Beginning.{begins-death}
+use Rattle.std.proofs.Common.{◌∙◌, ap}
+use Rattle.cg_death.specs.Deaths.{forgets_referent}
+use Rattle.cg_death.specs.Answers.{MakesNone}
+use Rattle.cg_death.proofs.ObjectNumbers.{none-begun}
 use Rattle.cg_death.proofs.death.Death.begin.Goals as goal
 
 pub lose_own_referent-requires : goal.lose_own_referent-requires
@@ -14,3 +18,6 @@ lose_own_referent-requires g c =
 pub returns-clause-begins : goal.returns-clause-begins
 returns-clause-begins g c = λ w r.
     begins-death c.args.heap.now c.move_to.new.self c.lose_own_referent.new.heap c.args.object c.sound.ensures.rows c.requires.unheld.none c.requires.none_waits c.move_to.ensures c.lose_own_referent.ensures w r
+
+pub returns-clause-objects : goal.returns-clause-objects
+returns-clause-objects g c = subst (MakesNone c.args.heap.now) (sym (c.lose_own_referent.ensures ∙ ap (forgets_referent c.args.object) c.move_to.ensures)) (none-begun c.args.object Untracked c.args.heap.now)
