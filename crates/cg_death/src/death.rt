@@ -14,7 +14,7 @@ ghost use Rattle.cg_death.specs.declared.phase.Phase.TheVariants as phase_of;
 ghost use Rattle.cg_death.specs.Activities.{IsUnheld, HasHolds, IsReadyAt, own_holds_at, death_of};
 ghost use Rattle.cg_death.specs.Answers.{DeathSteps, TurnSteps, TurnAnswers, MakesNone};
 ghost use Rattle.cg_death.specs.Falls.{TurnFalls};
-ghost use Rattle.cg_death.specs.Deaths.{object_of, on_stack, held_by, IsReady, IsOver, IsGoing, IsOffStack, IsGoingAfter, GoesOnAfter, EndsSo, DeathFalls, HasCause, TakesNext, forgets_referent};
+ghost use Rattle.cg_death.specs.Deaths.{object_of, on_stack, held_by, IsReady, IsOver, IsSettled, LeavesSettled, IsGoing, IsOffStack, IsGoingAfter, GoesOnAfter, EndsSo, DeathFalls, HasCause, TakesNext, forgets_referent};
 
 use crate::answer::DeathStep;
 use crate::contents::empty_one;
@@ -45,6 +45,7 @@ impl Death {
         ensures rest { heap.new ≡ forgets_referent object (moved object place_of.Untracked heap.old) }
         ensures begins { (w : machine.World) → Represents heap.old w → Represents heap.new (begin_death object w) }
         ensures stack { on_stack result heap.new ≡ death_of object machine.Finalizer ∷ [] }
+        ensures settled { IsSettled result }
         ensures going { IsGoing result }
         ensures object { object_of result ≡ object }
         ensures objects { MakesNone heap.old heap.new }
@@ -75,6 +76,7 @@ impl Death {
         ensures cause { HasCause self.old heap.new result }
         ensures gone { (result ≡ answer_of.Gone) ↔ IsOver self.old }
         ensures over { result ≡ answer_of.Gone → on_stack self.new heap.new ≡ [] }
+        ensures settled { IsSettled self.old → IsSettled self.new }
         ensures going { IsGoingAfter result self.new }
         ensures object { object_of self.new ≡ object_of self.old }
         ensures objects { MakesNone heap.old heap.new }
@@ -127,6 +129,7 @@ fn turn<B: Kind>(object: u64, phase: Phase, heap: &mut Heap<B>, script: &Script)
     ensures answers { TurnAnswers object phase heap.new result }
     ensures over { phase ≡ phase_of.Over → result.answer ≡ answer_of.Gone }
     ensures ends { result.answer ≡ answer_of.Gone → EndsSo result }
+    ensures settled { LeavesSettled result }
     ensures going { GoesOnAfter result }
     ensures objects { MakesNone heap.old heap.new }
 {

@@ -12,7 +12,7 @@ ghost use Rattle.cg_death.specs.declared.phase.Phase.TheVariants as phase_of;
 ghost use Rattle.cg_death.specs.Activities.{IsUnheld};
 ghost use Rattle.cg_death.specs.Answers.{TurnSteps, TurnAnswers, MakesNone};
 ghost use Rattle.cg_death.specs.Falls.{TurnFalls};
-ghost use Rattle.cg_death.specs.Deaths.{GoesOnAfter};
+ghost use Rattle.cg_death.specs.Deaths.{LeavesSettled, GoesOnAfter};
 
 use crate::phase::{Phase, Turn};
 use cg_heap::Heap;
@@ -91,6 +91,7 @@ pub fn run_finalizer<B: Kind>(object: u64, heap: &mut Heap<B>, script: &Script) 
     ensures steps { TurnSteps script.now heap.old object phase_of.Finalizer heap.new result }
     ensures falls { TurnFalls heap.old object phase_of.Finalizer heap.new result }
     ensures answers { TurnAnswers object phase_of.Finalizer heap.new result }
+    ensures settled { LeavesSettled result }
     ensures going { GoesOnAfter result }
     ensures objects { MakesNone heap.old heap.new }
 {
@@ -112,6 +113,7 @@ pub fn run_legacy<B: Kind>(object: u64, heap: &mut Heap<B>, script: &Script) -> 
     ensures steps { TurnSteps script.now heap.old object phase_of.LegacyFinalizer heap.new result }
     ensures falls { TurnFalls heap.old object phase_of.LegacyFinalizer heap.new result }
     ensures answers { TurnAnswers object phase_of.LegacyFinalizer heap.new result }
+    ensures settled { LeavesSettled result }
     ensures going { GoesOnAfter result }
     ensures objects { MakesNone heap.old heap.new }
 {
@@ -145,6 +147,7 @@ pub fn end_finalizer<B: Kind>(object: u64, heap: &mut Heap<B>) -> Turn
         TurnSteps script heap.old object phase_of.AfterFinalizer heap.new result }
     ensures falls { TurnFalls heap.old object phase_of.AfterFinalizer heap.new result }
     ensures answers { TurnAnswers object phase_of.AfterFinalizer heap.new result }
+    ensures settled { LeavesSettled result }
     ensures going { GoesOnAfter result }
     ensures objects { MakesNone heap.old heap.new }
 {
@@ -162,6 +165,7 @@ pub fn end_legacy<B: Kind>(object: u64, heap: &mut Heap<B>) -> Turn
         TurnSteps script heap.old object phase_of.AfterLegacy heap.new result }
     ensures falls { TurnFalls heap.old object phase_of.AfterLegacy heap.new result }
     ensures answers { TurnAnswers object phase_of.AfterLegacy heap.new result }
+    ensures settled { LeavesSettled result }
     ensures going { GoesOnAfter result }
     ensures objects { MakesNone heap.old heap.new }
 {

@@ -15,7 +15,7 @@ ghost use Rattle.cg_death.specs.declared.phase.Phase.TheVariants as phase_of;
 ghost use Rattle.cg_death.specs.Activities.{IsUnheld, HasHolds, AreNewer, HasCallback, HaveCallbacks};
 ghost use Rattle.cg_death.specs.Answers.{TurnSteps, TurnAnswers, MakesNone};
 ghost use Rattle.cg_death.specs.Falls.{TurnFalls};
-ghost use Rattle.cg_death.specs.Deaths.{GoesOnAfter};
+ghost use Rattle.cg_death.specs.Deaths.{LeavesSettled, GoesOnAfter};
 
 use crate::finalizers::finalizers_of;
 use crate::phase::{Phase, Turn};
@@ -35,6 +35,7 @@ pub fn clear_one<B: Kind>(object: u64, heap: &mut Heap<B>) -> Turn
         TurnSteps script heap.old object phase_of.Clearing heap.new result }
     ensures falls { TurnFalls heap.old object phase_of.Clearing heap.new result }
     ensures answers { TurnAnswers object phase_of.Clearing heap.new result }
+    ensures settled { LeavesSettled result }
     ensures going { GoesOnAfter result }
     ensures objects { MakesNone heap.old heap.new }
 {
@@ -99,6 +100,7 @@ pub fn call_one<B: Kind>(object: u64, heap: &mut Heap<B>) -> Turn
         TurnSteps script heap.old object phase_of.Calling heap.new result }
     ensures falls { TurnFalls heap.old object phase_of.Calling heap.new result }
     ensures answers { TurnAnswers object phase_of.Calling heap.new result }
+    ensures settled { LeavesSettled result }
     ensures going { GoesOnAfter result }
     ensures objects { MakesNone heap.old heap.new }
 {
@@ -117,6 +119,7 @@ fn call_back<B: Kind>(object: u64, weak: u64, heap: &mut Heap<B>) -> Turn
         TurnSteps script heap.old object phase_of.Calling heap.new result }
     ensures falls { TurnFalls heap.old object phase_of.Calling heap.new result }
     ensures answers { TurnAnswers object phase_of.Calling heap.new result }
+    ensures settled { LeavesSettled result }
     ensures going { GoesOnAfter result }
     ensures objects { MakesNone heap.old heap.new }
 {
@@ -152,6 +155,7 @@ pub fn end_call<B: Kind>(object: u64, weak: u64, callback: u64, heap: &mut Heap<
         TurnSteps script heap.old object (phase_of.AfterCall weak callback) heap.new result }
     ensures falls { TurnFalls heap.old object (phase_of.AfterCall weak callback) heap.new result }
     ensures answers { TurnAnswers object (phase_of.AfterCall weak callback) heap.new result }
+    ensures settled { LeavesSettled result }
     ensures going { GoesOnAfter result }
     ensures objects { MakesNone heap.old heap.new }
 {
@@ -169,6 +173,7 @@ pub fn detach_one<B: Kind>(object: u64, heap: &mut Heap<B>, script: &Script) -> 
     ensures steps { TurnSteps script.now heap.old object phase_of.Detaching heap.new result }
     ensures falls { TurnFalls heap.old object phase_of.Detaching heap.new result }
     ensures answers { TurnAnswers object phase_of.Detaching heap.new result }
+    ensures settled { LeavesSettled result }
     ensures going { GoesOnAfter result }
     ensures objects { MakesNone heap.old heap.new }
 {
