@@ -1,4 +1,6 @@
 mod Positions
+mod Opens
+mod RunLemmas
 mod Standing
 mod FrameLemmas
 mod CallerLemmas
