@@ -1,5 +1,6 @@
 mod Positions
 mod Opens
+mod Counting
 mod RunLemmas
 mod Standing
 mod FrameLemmas

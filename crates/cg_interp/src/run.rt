@@ -89,7 +89,8 @@ fn run_turns<B: Kind, K: Sink>(
     fronts_begin_whole_texts();
     'turns: loop {
         match turn_and_write(engine, table, script, sink) {
-            Ok(Turned::Quiet | Turned::Line(_)) => {}
+            Ok(Turned::Quiet) => {}
+            Ok(Turned::Line(_)) => {}
             Ok(Turned::Ended) => return RunEnd::Done,
             Ok(Turned::Spent) => return RunEnd::Budget,
             Err(WriteFailed) => return RunEnd::WriteFault,
