@@ -23,11 +23,7 @@ fn write_event<K: Sink>(event: &Event, names: &Names, sink: &mut K) -> Result<()
 }
 
 /// Writes the line that is due after a turn, if one is.
-pub fn write_answer<K: Sink>(
-    answer: Turned,
-    names: &Names,
-    sink: &mut K,
-) -> Result<(), WriteFailed>
+pub fn write_answer<K: Sink>(answer: Turned, names: &Names, sink: &mut K) -> Result<(), WriteFailed>
     requires { (event : AnyEvent) → Includes (events_told answer) event → IsPrintable names.now event }
     ensures ok { OnOk result (Appends (K.written sink.old) (K.written sink.new)
         (flat_map (line names.now) (events_told answer))) }
