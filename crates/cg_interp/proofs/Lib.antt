@@ -1,4 +1,7 @@
 mod Positions
+mod Opens
+mod Counting
+mod RunLemmas
 mod Standing
 mod FrameLemmas
 mod CallerLemmas
@@ -7,3 +10,5 @@ mod EffectLemmas
 mod AnswerLemmas
 mod StepLemmas
 mod DeathLemmas
+mod DeathMoves
+mod Keeping

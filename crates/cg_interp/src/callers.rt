@@ -35,7 +35,7 @@ impl<B: Kind> Engine<B> {
         ensures does { (script : AnyScript) (w : World) → StandsFor script (under top self.old) w
             → HasLocals locals w → Does script w command.now self.new result }
     {
-        let done = perform(&mut self.heap, locals, command);
+        let done = perform(&mut self.heap, locals, command, true);
         self.answer(top, done)
     }
 

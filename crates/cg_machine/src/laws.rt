@@ -4,6 +4,8 @@ ghost use Rattle.cg_machine.specs.Locals.{LocalsLive};
 ghost use Rattle.cg_machine.specs.Made.{SerialsAreFew};
 ghost use Rattle.cg_machine.specs.Newest.{DeathsClearNewestFirst};
 ghost use Rattle.cg_machine.specs.Origins.{WorldsHaveOrigins};
+ghost use Rattle.cg_machine.specs.Printing.{LinesArePrintable};
+ghost use Rattle.cg_machine.specs.Lawful.{RunsStayLawful};
 ghost use Rattle.cg_machine.specs.Laws.{DyingIsUnheld, NoRunIsStuck, FrontsBeginWholeTexts, StepsLeaveWhatIsBelow, WorldsAreOrderly};
 
 /// No run is stuck: each is the beginning of a whole run, whatever choices it took.
@@ -60,4 +62,14 @@ pub fn deaths_clear_newest_first()
 /// In every world of a run the subject of each frame lives, and so does its function if it has one, which is a function.
 pub fn locals_live()
     ensures { LocalsLive }
+{}
+
+/// Every world of a run has what these laws say of one world, and each world to which the machine goes from it has it too.
+pub fn runs_stay_lawful()
+    ensures { RunsStayLawful }
+{}
+
+/// Where a script names its own texts alone, and none has more than 1,024 bytes, each line of each run of it can be printed.
+pub fn lines_are_printable()
+    ensures { LinesArePrintable }
 {}

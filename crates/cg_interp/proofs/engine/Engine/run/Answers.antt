@@ -12,19 +12,19 @@ pub answer-requires-clause-few : goal.answer-requires-clause-few
 answer-requires-clause-few g c = λ f is.
     let s = c.requires.stands in
     let known = calls_known s.1 c.args.command.now c.args.locals c.self.inside.heap c.perform-done.new.heap f c.requires.objects (record { represents = subst (λ e. Represents e.store s.1) (sym c.self.view_is) s.2.represents; locals_are = s.3 })
-    (subst (λ d. Performs c.self.inside.heap c.args.locals (λ w. effect w c.args.command.now) c.perform-done.new.heap d) is c.perform-done.ensures) in
+    (subst (λ d. Performs c.self.inside.heap c.args.locals (λ w. effect w c.args.command.now) c.perform-done.new.heap d) is c.perform-done.ensures.performs) in
     subst HasFewHolds (sym known.0) (subst (λ e. HasFewHolds e.store) (sym c.self.view_is) c.requires.few)
 
 pub answer-requires-clause-live : goal.answer-requires-clause-live
 answer-requires-clause-live g c = λ f is.
     let s = c.requires.stands in
     let known = calls_known s.1 c.args.command.now c.args.locals c.self.inside.heap c.perform-done.new.heap f c.requires.objects (record { represents = subst (λ e. Represents e.store s.1) (sym c.self.view_is) s.2.represents; locals_are = s.3 })
-    (subst (λ d. Performs c.self.inside.heap c.args.locals (λ w. effect w c.args.command.now) c.perform-done.new.heap d) is c.perform-done.ensures) in
+    (subst (λ d. Performs c.self.inside.heap c.args.locals (λ w. effect w c.args.command.now) c.perform-done.new.heap d) is c.perform-done.ensures.performs) in
     subst (λ st. IsLive st f) (sym known.0) known.1
 
 pub returns : goal.returns
 returns g c = record {
   does = λ script w stands locals.
       let before = subst (λ e. StandsFor script (under c.args.top e) w) (sym c.self.view_is) stands in
-      c.answer.ensures.does script w c.args.command.now c.self.inside.heap before c.requires.objects (c.perform-done.ensures w (record { represents = before.represents; locals_are = locals }));
+      c.answer.ensures.does script w c.args.command.now c.self.inside.heap before c.requires.objects (c.perform-done.ensures.performs w (record { represents = before.represents; locals_are = locals }));
 }
