@@ -15,6 +15,8 @@ ghost use Rattle.cg_death.specs.Activities.{IsUnheld, HasHolds, IsReadyAt, own_h
 ghost use Rattle.cg_death.specs.Answers.{DeathSteps, TurnSteps, TurnAnswers, MakesNone};
 ghost use Rattle.cg_death.specs.Falls.{TurnFalls};
 ghost use Rattle.cg_death.specs.Deaths.{object_of, on_stack, held_by, IsReady, IsOver, IsSettled, LeavesSettled, IsGoing, IsOffStack, IsGoingAfter, GoesOnAfter, EndsSo, DeathFalls, HasCause, TakesNext, forgets_referent};
+ghost use Rattle.cg_death.specs.Steady.{IsFresh, IsSteady, TurnStaysSteady, TakesFewHolds, TurnStandsAfterFrame, DeathStandsAfterFrame, DiesUnheld, TurnDiesUnheld};
+ghost use Rattle.cg_script.specs.declared.Script.{Script as AnyScript};
 
 use crate::answer::DeathStep;
 use crate::contents::empty_one;
@@ -49,6 +51,9 @@ impl Death {
         ensures going { IsGoing result }
         ensures object { object_of result ≡ object }
         ensures objects { MakesNone heap.old heap.new }
+        ensures holds { TakesFewHolds heap.old heap.new }
+        ensures steady { (script : AnyScript) → IsFresh heap.old object →
+            IsSteady script result heap.new }
     {
         heap.sound();
         heap.move_to(object, Place::Untracked);
@@ -80,6 +85,12 @@ impl Death {
         ensures going { IsGoingAfter result self.new }
         ensures object { object_of self.new ≡ object_of self.old }
         ensures objects { MakesNone heap.old heap.new }
+        ensures holds { TakesFewHolds heap.old heap.new }
+
+        // Where nothing else runs, the next step may be taken, whatever this one answers.
+        ensures steady { IsSteady script.now self.old heap.old → IsSteady script.now self.new heap.new }
+        ensures framed { DeathStandsAfterFrame result self.new }
+        ensures died { DiesUnheld result heap.new }
     {
         if let Some(object) = next_reference(&mut self.release) {
             return give_up(heap, object);
@@ -132,6 +143,10 @@ fn turn<B: Kind>(object: u64, phase: Phase, heap: &mut Heap<B>, script: &Script)
     ensures settled { LeavesSettled result }
     ensures going { GoesOnAfter result }
     ensures objects { MakesNone heap.old heap.new }
+    ensures holds { TakesFewHolds heap.old heap.new }
+    ensures steady { TurnStaysSteady script.now heap.old object phase heap.new result }
+    ensures framed { TurnStandsAfterFrame result }
+    ensures died { TurnDiesUnheld result heap.new }
 {
     match phase {
         Phase::Finalizer => run_finalizer(object, heap, script),

@@ -1,4 +1,7 @@
 mod Positions
+mod Opens
+mod Counting
+mod RunLemmas
 mod Standing
 mod FrameLemmas
 mod CallerLemmas
