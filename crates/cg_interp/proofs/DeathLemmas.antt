@@ -29,7 +29,7 @@ use Rattle.cg_death.specs.declared.answer.DeathStep.TheVariants as answer_of
 use Rattle.cg_death.specs.Answers.{DeathSteps, DeathAnswer, WentOn, GaveDeath, GaveFrame, Keeps as KeepsWorld, numbers_after}
 use Rattle.cg_interp.specs.declared.turned.Turned.{Turned}
 use Rattle.cg_interp.specs.declared.turned.Turned.TheVariants as turned
-use Rattle.cg_death.specs.Deaths.{on_stack, DeathFalls, HasCause}
+use Rattle.cg_death.specs.Deaths.{on_stack, DeathFalls, HasCause, IsSettled}
 use Rattle.cg_interp.specs.declared.activity.Activity.TheVariants as activity
 use Rattle.cg_interp.specs.Engines.{State, StandsFor, ShowsAll, released_first, death_shown, under}
 use Rattle.cg_interp.specs.Turns.{DyingIsSound, Makes, Turns, GoesTo, GivesDeath, StaysOn}
@@ -76,12 +76,12 @@ none_waits script e o w stands sound =
     was_not_dying o w sound found.0 found.1 (found.2 ∙ is)))
 
 -- its death is on top then
-pub dies : (script : Script) (old new : State) (o : ℕ) (death : Death) (w : World) → StandsFor script old w → Represents new.store (begin_death o w) → on_stack death new.store ≡ death_of o Finalizer ∷ [] → new.activities ≡ activity.Dying death ∷ old.activities → new.budget ≡ old.budget
+pub dies : (script : Script) (old new : State) (o : ℕ) (death : Death) (w : World) → StandsFor script old w → Represents new.store (begin_death o w) → on_stack death new.store ≡ death_of o Finalizer ∷ [] → IsSettled death → new.activities ≡ activity.Dying death ∷ old.activities → new.budget ≡ old.budget
     → StandsFor script new (begin_death o w)
-dies script old new o death w stands represents shown top budget = record {
+dies script old new o death w stands represents shown settled top budget = record {
   represents = represents;
   shows = subst (λ l. ShowsAll script l (begin_death o w).stack) (sym top)
-      (record { tops = death_of o Finalizer ∷ []; below = w.stack; shows = (waiting_for new.store death.object, sym shown ∙ shown_on_stack death new.store); some = λ e. absurd (cc); over = stands.shows; is = refl });
+      (record { tops = death_of o Finalizer ∷ []; below = w.stack; shows = (waiting_for new.store death.object, sym shown ∙ shown_on_stack death new.store, settled); some = λ e. absurd (cc); over = stands.shows; is = refl });
   budget = stands.budget ∙ sym budget;
   running = stands.running;
   threshold = stands.threshold;
@@ -135,7 +135,7 @@ comes script w e t turned.Spent goes moves makes = record { after = t.1; goes = 
 
 -- a death on top
 module _ (script : Script) (old new : State) (death after_death : Death) (answer : DeathStep) (w : World) (stands : StandsFor script (under (activity.Dying death) old) w) (sound : DyingIsSound w)
-    (steps : DeathSteps script old.store (on_stack death old.store) new.store (on_stack after_death new.store) answer) (put : StaysOn after_death old.activities new.activities) (budget : new.budget ≡ old.budget) where
+    (steps : DeathSteps script old.store (on_stack death old.store) new.store (on_stack after_death new.store) answer) (settles : IsSettled death → IsSettled after_death) (put : StaysOn after_death old.activities new.activities) (budget : new.budget ≡ old.budget) where
   rest : List Activity
   rest = stands.shows.below
 
@@ -161,7 +161,7 @@ module _ (script : Script) (old new : State) (death after_death : Death) (answer
   unfolding rest
   with_rest stack is = either put
       (λ going.
-      subst (λ l. ShowsAll script l stack) (sym going.1) (record { tops = on_stack after_death new.store; below = stands.shows.below; shows = (waiting_for new.store after_death.object, shown_on_stack after_death new.store); some = going.0 new.store; over = stands.shows.over; is = is }))
+      subst (λ l. ShowsAll script l stack) (sym going.1) (record { tops = on_stack after_death new.store; below = stands.shows.below; shows = (waiting_for new.store after_death.object, shown_on_stack after_death new.store, settles stands.shows.shows.2); some = going.0 new.store; over = stands.shows.over; is = is }))
       (λ gone. subst (λ l. ShowsAll script l stack) (sym gone.1) (subst (ShowsAll script old.activities) (sym (is ∙ ap (λ l. l ++ stands.shows.below) (gone.0 new.store))) stands.shows.over))
 
   went_on : (events : List Event) (numbers : Numbers) → numbers.zero_threshold ≡ w.numbers.zero_threshold → (went : WentOn script w events numbers new.store (on_stack after_death new.store ++ rest)) → went.goes.goes.steps ≢ [] → GoesTo script w events new

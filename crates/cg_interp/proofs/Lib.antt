@@ -12,3 +12,4 @@ mod StepLemmas
 mod DeathLemmas
 mod DeathMoves
 mod Keeping
+mod Lawfully
