@@ -1,5 +1,5 @@
 -- What the laws of the machine say of a world for which an engine stands.
-use Rattle.std.proofs.Common.{◌≡◌, ◌≢◌, refl, sym, ◌∙◌, ap, subst, ℕ, ◌+◌, ◌-◌, ◌*◌, ◌<◌, ◌≤◌, Bool, true, false, cond, inl, inr, List, [], ◌∷◌, ◌++◌, Option, None, Some, length, length-append, arith, sum_by}
+use Rattle.std.proofs.Common.{◌≡◌, ◌≢◌, refl, sym, ◌∙◌, ap, subst, ℕ, ◌+◌, ◌-◌, ◌*◌, ◌<◌, ◌≤◌, Bool, true, false, cond, inl, inr, List, [], ◌∷◌, ◌++◌, Option, None, Some, map, length, length-append, arith, sum_by}
 use Rattle.std.specs.Prelude.{◌==◌, count_by, flat_map, option_map, is_some}
 use Rattle.std.specs.FinMap as fin
 use Rattle.std.proofs.lemmas.Bool.{eqb-true, eq-eqb, ne_eqb}
@@ -9,11 +9,11 @@ use Rattle.cg_graph.specs.Maps.{mapped, total}
 use Rattle.cg_graph.specs.Member.{Includes}
 use Rattle.cg_graph.specs.Holdings.{occurrences}
 use Rattle.cg_graph.specs.Object.{Object, is_in_map, serials, object_at}
-use Rattle.cg_graph.specs.Store.{Store, Node, outside_of, outside_in, objects_of, IsLive}
+use Rattle.cg_graph.specs.Store.{Store, Node, outside_of, outside_in, objects_of, object_from, IsLive}
 use Rattle.cg_graph.specs.Changes.{unheld, less}
 use Rattle.cg_graph.proofs.Maps.{same_map, get-mapped, total-mapped}
-use Rattle.cg_heap.specs.Keeps.{outside_total}
-use Rattle.cg_heap.specs.Calls.{HasFewHolds}
+use Rattle.cg_heap.specs.Keeps.{outside_total, one}
+use Rattle.cg_heap.specs.Calls.{HasFewHolds, object_number}
 use Rattle.cg_heap.proofs.HoldLemmas.{outside-unheld}
 use Rattle.cg_heap.proofs.CallerLemmas.{total-unheld_one}
 use Rattle.cg_machine.specs.World.{World, Activity, TopLevel, Framed, Releasing, Dying, Collecting, Death}
@@ -86,12 +86,12 @@ has_room script top e w stands lawful fit =
 -- An object of the world is found there, and lives in the heap.
 pub in_map : (objects : List Object) (o : ℕ) → Includes (serials objects) o → is_in_map objects o ≡ true
 in_map [] o m = absurd m
-in_map (x ∷ objects) o m = go (x.serial == o) refl m
+in_map (x ∷ objects) o m = go (x.serial == o) refl m (in_map objects o)
   where
-    go : (b : Bool) → (x.serial == o) ≡ b → Includes (serials (x ∷ objects)) o → is_some (cond b (Some x) (object_at objects o)) ≡ true
-    go true e n = refl
-    go false e (inl same) = absurd (let clash : false ≡ true = sym e ∙ eq-eqb x.serial o same in cc)
-    go false e (inr later) = in_map objects o later
+    go : (b : Bool) → (x.serial == o) ≡ b → Includes (serials (x ∷ objects)) o → (Includes (serials objects) o → is_in_map objects o ≡ true) → is_some (cond b (Some x) (object_at objects o)) ≡ true
+    go true e n rest = refl
+    go false e (inl same) rest = absurd (let clash : false ≡ true = sym e ∙ eq-eqb x.serial o same in cc)
+    go false e (inr later) rest = rest later
 
 pub is_live : (store : Store) (w : World) (o : ℕ) → Represents store w → Includes (serials w.objects) o → IsLive store o
 is_live store w o represents m = lives_in_heap store w represents o (in_map w.objects o m)
@@ -130,3 +130,11 @@ few_holds script budget store w represents lawful low few =
     let held : outside_total store ≤ length (flat_map holds w.stack) = total_fits (flat_map holds w.stack) store represents.outside in
     let same : length (objects_of store) ≡ length w.objects = ap length represents.objects in
     omega (arith, held, same, lawful.bounded.holds, low, few)
+
+-- as many as in every heap
+pub few_objects : (store : Store) → object_number store ≤ 1000000 → length (objects_of store) ≤ 1000001
+few_objects store low = let nodes : total one store.nodes ≡ length (objects_of store) = each (fin.entries store.nodes) in omega (arith, low, nodes)
+  where
+    each : (es : List (ℕ × Node)) → sum_by (λ (e : ℕ × Node). one e.1) es ≡ length (map (λ (e : ℕ × Node). object_from store.rows e.0 e.1) es)
+    each [] = refl
+    each (e ∷ es) = omega (arith, sum_by-cons (λ (e : ℕ × Node). one e.1) e es, each es)

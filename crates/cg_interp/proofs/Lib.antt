@@ -13,3 +13,5 @@ mod DeathLemmas
 mod DeathMoves
 mod Keeping
 mod Lawfully
+mod ReadyLemmas
+mod ArmLemmas
