@@ -1,5 +1,6 @@
 mod Positions
 mod Standing
+mod Fitting
 mod FrameLemmas
 mod CallerLemmas
 mod ReleaseLemmas

@@ -91,6 +91,14 @@ abbrev pub DeathComes : Script → World → State → Dies → Type 0
 DeathComes script w e (dies.Turned answer) = Comes script w e answer
 DeathComes script w e (dies.Died o) = Hands script w o e
 
+-- What a turn in which no object is made keeps: there are no more objects, the stack may grow as high as before, and names
+-- and frames are as many.
+pub record Keeps (old new : State) : Type 0 where
+  pub objects : length (objects_of new.store) ≤ length (objects_of old.store)
+  pub room : length old.activities + old.room ≤ length new.activities + new.room
+  pub names : length new.store.names ≡ length old.store.names
+  pub frames : new.frames ≡ old.frames
+
 -- Room for all that can be under way: the frames, and the deaths and releases of all objects.
 abbrev pub HasRoom : State → Type 0
 HasRoom e = e.frames + 2 * length (objects_of e.store) + 8 ≤ length e.activities + e.room
@@ -100,3 +108,11 @@ pub record IsFit (script : Script) (e : State) : Type 0 where
   pub names : length e.store.names ≡ length script.names
   pub frames : e.frames ≤ 100000
   pub room : HasRoom e
+
+-- room besides for the death of one more object
+abbrev pub HasRoomForOneMore : State → Type 0
+HasRoomForOneMore e = e.frames + 2 * (length (objects_of e.store) + 1) + 8 ≤ length e.activities + e.room
+
+-- An engine that was fit is fit.
+abbrev pub StaysFit : State → State → Type 0
+StaysFit old new = (script : Script) → IsFit script old → IsFit script new
