@@ -1,4 +1,7 @@
 mod Positions
+mod Opens
+mod Counting
+mod RunLemmas
 mod Standing
 mod Fitting
 mod FrameLemmas
@@ -8,3 +11,5 @@ mod EffectLemmas
 mod AnswerLemmas
 mod StepLemmas
 mod DeathLemmas
+mod DeathMoves
+mod Keeping

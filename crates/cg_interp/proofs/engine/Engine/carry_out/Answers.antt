@@ -6,7 +6,8 @@ use Rattle.cg_graph.specs.Store.{IsLive}
 use Rattle.cg_commands.specs.Answers.{Performs}
 use Rattle.cg_interp.specs.Engines.{StandsFor, under}
 use Rattle.cg_interp.proofs.AnswerLemmas.{calls_known}
-use Rattle.cg_interp.proofs.Fitting.{still_fit, fit_after}
+use Rattle.cg_interp.proofs.Keeping.{still_fit}
+use Rattle.cg_interp.proofs.Fitting.{fit_after}
 use Rattle.cg_interp.proofs.engine.Engine.carry_out.Goals as goal
 
 pub answer-requires-clause-few : goal.answer-requires-clause-few
