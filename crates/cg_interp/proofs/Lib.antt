@@ -3,6 +3,7 @@ mod Opens
 mod Counting
 mod RunLemmas
 mod Standing
+mod Fitting
 mod FrameLemmas
 mod CallerLemmas
 mod ReleaseLemmas

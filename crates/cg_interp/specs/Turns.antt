@@ -103,3 +103,11 @@ pub record IsFit (script : Script) (e : State) : Type 0 where
   pub names : length e.store.names ≡ length script.names
   pub frames : e.frames ≤ 100000
   pub room : HasRoom e
+
+-- room besides for the death of one more object
+abbrev pub HasRoomForOneMore : State → Type 0
+HasRoomForOneMore e = e.frames + 2 * (length (objects_of e.store) + 1) + 8 ≤ length e.activities + e.room
+
+-- An engine that was fit is fit.
+abbrev pub StaysFit : State → State → Type 0
+StaysFit old new = (script : Script) → IsFit script old → IsFit script new

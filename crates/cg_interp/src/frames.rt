@@ -75,6 +75,7 @@ impl<B: Kind> Engine<B> {
         ensures top { self.new.activities ≡ with_release_on release self.old.activities }
         ensures store { self.new.store ≡ self.old.store }
         ensures budget { self.new.budget ≡ self.old.budget }
+        ensures keeps { Keeps self.old self.new }
     {
         match release {
             Some(release) => self.stack.push(Activity::Releasing(release)),
@@ -87,6 +88,7 @@ impl<B: Kind> Engine<B> {
         requires room { 0 < self.old.room }
         ensures leaves { (script : AnyScript) (procedure : ℕ) (next : Option ℕ) (w : World) → commands_from next (body_of script procedure) ≡ []
             → StandsFor script (under (activity_of.Frame locals procedure next) self.old) w → Turns script w self.new result }
+        ensures keeps { Keeps self.old self.new }
     {
         self.push_if(given_up_by(locals));
         Turned::Line(Event::Leave)
