@@ -71,7 +71,7 @@ module _ (f : machine.Activity → ℕ) (blind : IsBlind f) (script : Script) wh
   one (activity.Script next) tops e = ap (tally f) e
   one (activity.Frame locals procedure next) tops e = ap (tally f) e
   one (activity.Releasing release) tops e = ap (tally f) e
-  one (activity.Dying death) tops (waiting, e) = ap (tally f) e ∙ under_release death.release (death_activities death.object death.phase waiting) (death_activities death.object death.phase []) (blind death.object death.phase waiting)
+  one (activity.Dying death) tops (waiting, e, settled) = ap (tally f) e ∙ under_release death.release (death_activities death.object death.phase waiting) (death_activities death.object death.phase []) (blind death.object death.phase waiting)
 
   same_tally : (activities : List Activity) (stack : List machine.Activity) → ShowsAll script activities stack → tally f stack ≡ tally f (flat_map (shown script) activities)
   same_tally [] stack e = ap (tally f) e
