@@ -1,7 +1,7 @@
 -- The number that falls with each step of the machine, from an engine that stands for its world: it does not read which
 -- weak references wait.
-use Rattle.std.proofs.Common.{◌≡◌, refl, sym, ◌∙◌, ap, ℕ, ◌+◌, ◌*◌, Bool, true, false, not, ◌&&◌, suc, List, [], ◌∷◌, ◌++◌, Option, None, Some, arith}
-use Rattle.std.specs.Prelude.{◌==◌, nat_lt, flat_map}
+use Rattle.std.proofs.Common.{◌≡◌, refl, sym, ◌∙◌, ap, ℕ, ◌+◌, ◌*◌, suc, List, [], ◌∷◌, ◌++◌, Option, None, Some, arith}
+use Rattle.std.specs.Prelude.{flat_map}
 use Rattle.std.specs.List.{list_any}
 use Rattle.cg_script.specs.declared.Script.{Script}
 use Rattle.cg_graph.specs.Object.{Object}
@@ -18,6 +18,7 @@ use Rattle.cg_death.specs.declared.release.Release.{Release}
 use Rattle.cg_death.specs.declared.death.Death.{Death}
 use Rattle.cg_death.specs.declared.phase.Phase.{Phase}
 use Rattle.cg_death.specs.declared.phase.Phase.TheVariants as phase_of
+use Rattle.cg_interp.proofs.StepLemmas.{never_due}
 use Rattle.cg_interp.specs.declared.activity.Activity.{Activity}
 use Rattle.cg_interp.specs.declared.activity.Activity.TheVariants as activity
 use Rattle.cg_interp.specs.Engines.{State, StandsFor, Shows, ShowsAll, commands_from, frame_of, released_first, death_shown}
@@ -84,14 +85,6 @@ module _ (f : machine.Activity → ℕ) (blind : IsBlind f) (script : Script) wh
         same_tally activities s.below s.over,
         tally-append f (shown script a) (flat_map (shown script) activities),
       )
-
--- with threshold 0 at 0 no collection is due
-never_due : (w : World) → w.numbers.zero_threshold ≡ 0 → is_due w.numbers ≡ false
-never_due w none = ap (λ k. w.numbers.enabled && not (k == 0) && nat_lt w.numbers.zero_threshold w.numbers.zero_count) none ∙ by w.numbers.enabled
-  where
-    by : (b : Bool) → (b && not (0 == 0) && nat_lt w.numbers.zero_threshold w.numbers.zero_count) ≡ false
-    by true = refl
-    by false = refl
 
 module _ (script : Script) (e : State) (w : World) (stands : StandsFor script e w) where
   same_summary : summary script w ≡ summary script (world_from script e)

@@ -12,7 +12,10 @@ use Rattle.cg_machine.specs.declared.event.Event.TheVariants.{End, BudgetSpent}
 use Rattle.cg_machine.specs.World.{World, Outcome, Running, Ended, BudgetIsSpent, opening}
 use Rattle.cg_machine.specs.Run.{StepTaken, Run, IsRun, IsWholeRun, last_world, world_after, events_of}
 use Rattle.cg_machine.specs.Lines.{line, text_of, IsPrintable}
-use Rattle.cg_machine.specs.Lawful.{StaysLawful}
+use Rattle.cg_script.specs.Spelled.{IsSpelled}
+use Rattle.cg_script.specs.Texts.{TextsAreKnown}
+use Rattle.cg_machine.specs.Lawful.{StaysLawful, RunsStayLawful}
+use Rattle.cg_machine.specs.Printing.{LinesArePrintable}
 use Rattle.cg_machine.specs.Laws.{FrontsBeginWholeTexts}
 use Rattle.cg_machine.specs.Represents.{Goes}
 use Rattle.cg_graph.proofs.Members.{Includes-append_right}
@@ -86,6 +89,13 @@ some_steps (s ∷ steps) h = omega arith
 -- nothing was written yet
 pub ran_start : (script : Script) (budget : ℕ) (e : State) (before : Option (List ℕ)) → StandsFor script e (opening script budget) → Ran script budget before e before
 ran_start script budget e before stands = record { steps = []; run = tt; stands = stands; written = Appends-nil before }
+
+-- what the laws say of a script that some bytes spell
+pub has_laws : RunsStayLawful → LinesArePrintable → (script : Script) (budget : ℕ) → TextsAreKnown script → IsSpelled script → HasLaws script budget
+has_laws lawful printable script budget known spelled = record {
+  lawful = lawful script budget;
+  printable = λ steps run. printable script budget steps known spelled.short run;
+}
 
 -- What ran so far, and the laws.
 module _ (script : Script) (budget : ℕ) (before : Option (List ℕ)) (e : State) (now : Option (List ℕ)) (ran : Ran script budget before e now) (laws : HasLaws script budget) (frames : e.frames ≡ budget) where

@@ -28,7 +28,7 @@ impl<B: Kind> Engine<B> {
         ensures fit { IfOk result (λ e. IsFit script.now e) }
         ensures frames { IfOk result (λ e. e.frames ≡ budget) }
     {
-        // Ten more than the frames: the script, and the garbage list's release and death at most.
+        // Room for the frames, two for the one object, and eight to spare.
         let mut stack = Stack::new(alloc, budget as usize + 10)?;
         stack.push(Activity::Script { next: Some(0) });
         Ok(Engine {

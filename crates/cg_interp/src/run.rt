@@ -20,7 +20,7 @@ use crate::writing::write_answer;
 use cg_heap::Heap;
 use cg_io::{Sink, WriteFailed};
 use cg_kind::Kind;
-use cg_machine::fronts_begin_whole_texts;
+use cg_machine::{fronts_begin_whole_texts, lines_are_printable, runs_stay_lawful};
 use cg_script::Script;
 use std::alloc::Global;
 
@@ -121,5 +121,13 @@ pub fn run_script<B: Kind, K: Sink>(
     ensures memory { result ≡ RunEnd.OutOfMemory → Keeps (K.written sink.old) (K.written sink.new) }
     ensures later { K.faults sink.old ≤ K.faults sink.new }
 {
-    RunEnd::OutOfMemory
+    runs_stay_lawful();
+    lines_are_printable();
+    let Ok(table) = Table::new(alloc, script) else {
+        return RunEnd::OutOfMemory;
+    };
+    let Ok(mut engine) = Engine::new(alloc, heap, script, budget) else {
+        return RunEnd::OutOfMemory;
+    };
+    run_turns(&mut engine, &table, script, sink)
 }
