@@ -1,14 +1,10 @@
 -- What each activity needs when it is on top, from the laws on the world for which the engine stands.
-use Rattle.std.proofs.Common.{◌≡◌, ◌≢◌, refl, sym, ◌∙◌, ap, subst, ℕ, ◌<◌, ◌≤◌, List, [], ◌∷◌, ◌++◌, Option, None, Some, length, length-append, arith, append-nil}
-use Rattle.std.specs.Prelude.{flat_map}
+use Rattle.std.proofs.Common.{◌≡◌, ◌≢◌, sym, ◌∙◌, ap, subst, ℕ, [], ◌∷◌, ◌++◌, length, length-append, arith, append-nil}
 use Rattle.std.specs.FinMap as fin
 use Rattle.cg_script.specs.declared.Script.{Script}
-use Rattle.cg_graph.specs.Store.{Store, objects_of}
 use Rattle.cg_heap.specs.Keeps.{IsWellMadeAt}
-use Rattle.cg_heap.specs.Calls.{HasFewHolds, object_number}
 use Rattle.cg_heap.specs.Weak.{AreRows}
 use Rattle.cg_machine.specs.World.{World, TopLevel, Releasing}
-use Rattle.cg_machine.specs.Holdings.{holds}
 use Rattle.cg_machine.specs.Frame.{begin_death}
 use Rattle.cg_machine.specs.Lawful.{IsLawful, StaysLawful}
 use Rattle.cg_death.specs.declared.release.Release.{Release}
