@@ -85,7 +85,8 @@ impl<B: Kind> Engine<B> {
         requires spelled { IsSpelled script.now }
         requires fit { IsFit script.now self.old }
         requires stands { IsAtTurn script.now (activity_of.Frame locals procedure next) self.old }
-        ensures turns { TurnsFrom script.now (activity_of.Frame locals procedure next) self.old self.new result }
+        ensures turns { TurnsFrom script.now (activity_of.Frame locals procedure next) self.old
+            self.new result }
         ensures fit { IsFit script.now self.new }
         ensures frames { self.new.frames ≡ self.old.frames }
     {
