@@ -1,0 +1,47 @@
+//! What the words after the program's name ask for.
+ghost use Rattle.std.specs.Prelude.{◌≡◌, ◌↔◌, ℕ, Some, map, string_bytes};
+ghost use Rattle.cg_cli.specs.declared.words.Job.{Job as AnyJob};
+ghost use Rattle.cg_cli.specs.Words.{AsksFor, IsBudget};
+
+/// The most digits of a budget.
+const MOST_DIGITS: usize = 6;
+
+/// The most frames that a budget may allow.
+const MOST_FRAMES: u32 = 100_000;
+
+/// What the program is to do.
+#[derive(Clone, Copy, Debug, PartialEq, Eq)]
+pub enum Job {
+    /// To run the script that the source gives, with this budget or without one of its own.
+    Run { budget: Option<u32> },
+}
+
+/// The budget that a word writes.
+fn budget_in(word: &str) -> Option<u32>
+    ensures { (n : ℕ) → (result ≡ Some n) ↔ IsBudget word.now n }
+{
+    if word.len() > MOST_DIGITS || word.starts_with('+') {
+        return None;
+    }
+    match word.parse::<u32>() {
+        Ok(budget) if budget <= MOST_FRAMES => Some(budget),
+        _ => None,
+    }
+}
+
+/// What the words ask for: `run` for a run, `run --budget N` for a run with a budget of N frames, one to six digits from 0 to
+/// 100,000. Other words ask for nothing. (Ours.)
+pub fn read_words(words: &[String]) -> Option<Job>
+    ensures { (job : AnyJob) → (result ≡ Some job) ↔ AsksFor (map string_bytes words.now) job }
+{
+    match words {
+        [run] if run.as_str() == "run" => Some(Job::Run { budget: None }),
+        [run, option, number] if run.as_str() == "run" && option.as_str() == "--budget" => {
+            let budget = budget_in(number.as_str())?;
+            Some(Job::Run {
+                budget: Some(budget),
+            })
+        }
+        _ => None,
+    }
+}
