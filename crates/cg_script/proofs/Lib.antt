@@ -5,7 +5,10 @@ pub mod Digits
 pub mod Places
 pub mod Grouped
 pub mod Says
+pub mod Walk
+pub mod Counts
 pub mod Lines
 pub mod Below
 pub mod Known
 pub mod Each
+pub mod SpelledScripts

@@ -1,5 +1,5 @@
 -- The words of a line that is good by its words alone.
-use Rattle.std.proofs.Common.{◌≡◌, ℕ, ◌≤◌, List, length, Bool, true, false, not, ◌||◌, ◌==◌, if◌then◌else◌, Option, Some, None, refl, arith, nat_lt, codes}
+use Rattle.std.proofs.Common.{◌≡◌, ℕ, ◌≤◌, List, length, Bool, true, false, not, ◌||◌, ◌==◌, if◌then◌else◌, Option, Some, None, refl, ap, subst, arith, nat_lt, codes}
 use Rattle.std.proofs.lemmas.Bool.Decides.{nat_tests}
 use Rattle.std.specs.List.{list_all}
 use Rattle.cg_script.specs.declared.form.Form.{Form}
@@ -15,6 +15,8 @@ pub record Fitting (grammar : Grammar) (form : Form) (words : List (List ℕ)) :
   pub fit : all_fit form 0 words ≡ true
   pub enough : (row form).fewest ≤ length words
   pub few : length words ≤ most_read grammar form
+  pub most : length words ≤ (row form).most
+  pub single : repeats_finalizer form words ≡ false
 
 not_bad : (b : Bool) (code : ℕ) (rest : Meaning) (form : Form) (words : List (List ℕ)) → says form words ≡ (if b then bad code else rest) → (b ≡ false) × (says form words ≡ rest)
 not_bad true code rest form words e = absurd (cc)
@@ -24,12 +26,15 @@ not_passed : (b : Bool) (rest : Meaning) (form : Form) (words : List (List ℕ))
 not_passed true rest form words e = absurd (cc)
 not_passed false rest form words e = e
 
-neither : (a b : Bool) → (not a || b) ≡ false → a ≡ true
-neither true b e = refl
+neither : (a b : Bool) → (not a || b) ≡ false → (a ≡ true) × (b ≡ false)
+neither true b e = (refl, e)
 neither false b e = absurd (cc)
 
 enough_words : (n fewest most : ℕ) → (nat_lt n fewest || nat_lt most n) ≡ false → fewest ≤ n
 enough_words n fewest most e = grind (arith, nat_tests)
+
+few_words : (n fewest most : ℕ) → (nat_lt n fewest || nat_lt most n) ≡ false → n ≤ most
+few_words n fewest most e = grind (arith, nat_tests)
 
 not_more : (n most : ℕ) → nat_lt most n ≡ false → n ≤ most
 not_more n most e = grind (arith, nat_tests)
@@ -38,7 +43,7 @@ fitting_as : (grammar : Grammar) (form other : Form) (words others : List (List 
 fitting_as grammar form other words others e f =
     let same_form : other ≡ form = cc in
     let same_words : others ≡ words = cc in
-    record { fit = rw (same_form, same_words) at f.fit; enough = rw (same_form, same_words) at f.enough; few = rw (same_form, same_words) at f.few }
+    subst (λ ws. Fitting grammar form ws) same_words (subst (λ k. Fitting grammar k others) same_form f)
 
 formed_fits : (grammar : Grammar) (other : Form) (others : List (List ℕ)) (form : Form) (words : List (List ℕ)) → says form words ≡ formed grammar other others → Fitting grammar form words
 formed_fits grammar other others form words e =
@@ -46,7 +51,8 @@ formed_fits grammar other others form words e =
     let b = not_bad (nat_lt (length others) (row other).fewest || nat_lt (row other).most (length others)) 3 _ form words a.1 in
     let c = not_bad (nat_lt (most_read grammar other) (length others)) 2 _ form words b.1 in
     let d = not_bad (not (all_fit other 0 others) || repeats_finalizer other others) 4 _ form words c.1 in
-    fitting_as grammar form other words others d.1 (record { fit = neither _ _ d.0; enough = enough_words _ _ _ b.0; few = not_more _ _ c.0 })
+    let e : (all_fit other 0 others ≡ true) × (repeats_finalizer other others ≡ false) = neither _ _ d.0 in
+    fitting_as grammar form other words others d.1 (record { fit = e.0; enough = enough_words _ _ _ b.0; few = not_more _ _ c.0; most = few_words _ (row other).fewest _ b.0; single = e.1 })
 
 opened_fits : (grammar : Grammar) (found : Option Form) (others : List (List ℕ)) (form : Form) (words : List (List ℕ)) → says form words ≡ formed_if grammar found others → Fitting grammar form words
 opened_fits grammar None others form words e = absurd (cc)
@@ -67,3 +73,48 @@ says_fits grammar number line form words e =
     let a = not_bad (not (list_all is_printable line)) 1 _ form words e in
     let b = not_bad (nat_lt 1024 (length line) || nat_lt 64 (length (words_of line)) || (number == 400001)) 5 _ form words a.1 in
     worded_fits grammar (words_of line) form words (not_passed (is_passed (words_of line)) _ form words b.1)
+
+-- the words of a good line are those of its bytes, which are few and printable
+pub record OfLine (line : List ℕ) (words : List (List ℕ)) : Type 0 where
+  pub words_are : words ≡ words_of line
+  pub few_words : length words ≤ 64
+  pub printable : list_all is_printable line ≡ true
+  pub short : length line ≤ 1024
+
+formed_words : (grammar : Grammar) (other : Form) (others : List (List ℕ)) (form : Form) (words : List (List ℕ)) → says form words ≡ formed grammar other others → words ≡ others
+formed_words grammar other others form words e =
+    let a = not_bad (most_read grammar other == 0) 2 _ form words e in
+    let b = not_bad (nat_lt (length others) (row other).fewest || nat_lt (row other).most (length others)) 3 _ form words a.1 in
+    let c = not_bad (nat_lt (most_read grammar other) (length others)) 2 _ form words b.1 in
+    let d = not_bad (not (all_fit other 0 others) || repeats_finalizer other others) 4 _ form words c.1 in
+    let s : says form words ≡ says other others = d.1 in cc
+
+opened_words : (grammar : Grammar) (found : Option Form) (others : List (List ℕ)) (form : Form) (words : List (List ℕ)) → says form words ≡ formed_if grammar found others → words ≡ others
+opened_words grammar None others form words e = absurd (cc)
+opened_words grammar (Some other) others form words e = formed_words grammar other others form words e
+
+worded_words : (grammar : Grammar) (others : List (List ℕ)) (form : Form) (words : List (List ℕ)) → says form words ≡ worded grammar others → words ≡ others
+worded_words grammar others form words e = by (not (word_is others 1 (codes "="))) e
+  where
+    by : (b : Bool)
+        → says form words ≡ (if b then formed_if grammar (named openers (word_at others 0)) others else if length others == 2 then bad 3 else formed grammar (binding_form others) others)
+        → words ≡ others
+    by true e = opened_words grammar (named openers (word_at others 0)) others form words e
+    by false e = formed_words grammar (binding_form others) others form words (not_bad (length others == 2) 3 _ form words e).1
+
+is_true : (b : Bool) → not b ≡ false → b ≡ true
+is_true true e = refl
+is_true false e = absurd (cc)
+
+few_bytes : (n m : ℕ) (many : Bool) → (nat_lt 1024 n || nat_lt 64 m || many) ≡ false → (n ≤ 1024) × (m ≤ 64)
+few_bytes n m many e = (grind (arith, nat_tests), grind (arith, nat_tests))
+
+pub says_of_line : (grammar : Grammar) (number : ℕ) (line : List ℕ) (form : Form) (words : List (List ℕ)) → says form words ≡ meaning grammar number line → OfLine line words
+unfolding meaning
+says_of_line grammar number line form words e =
+    let a = not_bad (not (list_all is_printable line)) 1 _ form words e in
+    let b = not_bad (nat_lt 1024 (length line) || nat_lt 64 (length (words_of line)) || (number == 400001)) 5 _ form words a.1 in
+    let same = worded_words grammar (words_of line) form words (not_passed (is_passed (words_of line)) _ form words b.1) in
+    let few = few_bytes (length line) (length (words_of line)) _ b.0 in
+    let few_words = few.1 in
+    record { words_are = same; few_words = omega (arith, ap length same); printable = is_true _ a.0; short = few.0 }

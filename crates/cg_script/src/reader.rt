@@ -6,6 +6,7 @@ ghost use Rattle.cg_script.specs.Reading.{reading, reading_by, spells};
 ghost use Rattle.cg_script.specs.declared.form.Grammar.{Grammar as AnyGrammar};
 ghost use Rattle.cg_script.specs.Views.{reading_after, IsSmall};
 ghost use Rattle.cg_script.specs.Faults.{IsFault};
+ghost use Rattle.cg_script.specs.Spelled.{IsSpelled};
 
 use crate::draft::{Draft, empty, take_words};
 use crate::fault::ScriptFault;
@@ -115,6 +116,7 @@ pub fn parse(alloc: Global, bytes: &[u8]) -> Result<Script, ScriptFault>
     ensures known { IfOk result TextsAreKnown }
     ensures few_texts { IfOk result (λ script. length script.names ≤ 25600000) }
     ensures few_items { IfOk result (λ script. length script.items ≤ 400000) }
+    ensures spelled { IfOk result IsSpelled }
 {
     parse_by(alloc, Grammar::Built, bytes)
 }
