@@ -18,4 +18,6 @@ pub use top::gc_run;
 pub use words::{Job, read_words};
 
 #[cfg(test)]
+mod kinds;
+#[cfg(test)]
 mod tests;

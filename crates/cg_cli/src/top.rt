@@ -49,7 +49,7 @@ fn gc_over<S: Source, K: Sink, B: Kind>(
         → (result ≡ Status.OutOfMemory) ⊎ IfSome (S.left source.old) (λ bytes. Answers bytes result) }
 {
     match read_words(words) {
-        Some(Job::Run { budget }) => run_job(alloc, budget, source, sink, kinds),
+        Some(job) => run_job(alloc, job.budget(), source, sink, kinds),
         None => tell_bad_words(sink),
     }
 }

@@ -1,5 +1,7 @@
 //! What the words after the program's name ask for.
 ghost use Rattle.std.specs.Prelude.{◌≡◌, ◌↔◌, ℕ, Some, map, string_bytes};
+ghost use Rattle.std.specs.List.{list_all};
+ghost use Rattle.cg_script.specs.Words.{is_digit, are_digits};
 ghost use Rattle.cg_cli.specs.declared.words.Job.{Job as AnyJob};
 ghost use Rattle.cg_cli.specs.Words.{AsksFor, IsBudget};
 
@@ -16,11 +18,41 @@ pub enum Job {
     Run { budget: Option<u32> },
 }
 
+impl Job {
+    /// The budget that the words set for the run.
+    pub fn budget(self) -> Option<u32>
+        ensures { self ≡ Job.Run result }
+    {
+        match self {
+            Job::Run { budget } => budget,
+        }
+    }
+}
+
+fn is_digit_byte(byte: u8) -> bool
+    ensures { result ≡ is_digit byte }
+{
+    byte.is_ascii_digit()
+}
+
+fn has_digits_alone(word: &[u8]) -> bool
+    ensures { result ≡ list_all is_digit word.now }
+{
+    word.iter().all(|byte| is_digit_byte(*byte))
+}
+
+/// Whether a word has one to six digits, and nothing else.
+fn is_numeral(word: &str) -> bool
+    ensures { result ≡ are_digits 6 word.now }
+{
+    !word.is_empty() && word.len() <= MOST_DIGITS && has_digits_alone(word.as_bytes())
+}
+
 /// The budget that a word writes.
 fn budget_in(word: &str) -> Option<u32>
     ensures { (n : ℕ) → (result ≡ Some n) ↔ IsBudget word.now n }
 {
-    if word.len() > MOST_DIGITS || word.starts_with('+') {
+    if !is_numeral(word) {
         return None;
     }
     match word.parse::<u32>() {
