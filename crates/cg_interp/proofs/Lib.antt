@@ -13,3 +13,6 @@ mod StepLemmas
 mod DeathLemmas
 mod DeathMoves
 mod Keeping
+mod Lawfully
+mod ReadyLemmas
+mod ArmLemmas
