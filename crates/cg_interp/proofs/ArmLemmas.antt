@@ -1,14 +1,10 @@
 -- What each activity needs when it is on top, from the laws on the world for which the engine stands.
-use Rattle.std.proofs.Common.{◌≡◌, refl, sym, ◌∙◌, ap, subst, ℕ, ◌<◌, ◌≤◌, List, [], ◌∷◌, ◌++◌, Option, None, Some, length, arith, append-nil}
-use Rattle.std.specs.Prelude.{flat_map}
+use Rattle.std.proofs.Common.{◌≡◌, ◌≢◌, sym, ◌∙◌, ap, subst, ℕ, [], ◌∷◌, ◌++◌, length, length-append, arith, append-nil}
 use Rattle.std.specs.FinMap as fin
 use Rattle.cg_script.specs.declared.Script.{Script}
-use Rattle.cg_graph.specs.Store.{Store, objects_of}
 use Rattle.cg_heap.specs.Keeps.{IsWellMadeAt}
-use Rattle.cg_heap.specs.Calls.{HasFewHolds, object_number}
 use Rattle.cg_heap.specs.Weak.{AreRows}
-use Rattle.cg_machine.specs.World.{World, Releasing}
-use Rattle.cg_machine.specs.Holdings.{holds}
+use Rattle.cg_machine.specs.World.{World, TopLevel, Releasing}
 use Rattle.cg_machine.specs.Frame.{begin_death}
 use Rattle.cg_machine.specs.Lawful.{IsLawful, StaysLawful}
 use Rattle.cg_death.specs.declared.release.Release.{Release}
@@ -17,7 +13,7 @@ use Rattle.cg_death.specs.Activities.{references_left, HasHolds}
 use Rattle.cg_death.specs.Deaths.{held_by, IsReady}
 use Rattle.cg_death.proofs.CallerLemmas.{held_on_top, death_is_held}
 use Rattle.cg_interp.specs.declared.activity.Activity.TheVariants as activity
-use Rattle.cg_interp.specs.Engines.{State, StandsFor, under}
+use Rattle.cg_interp.specs.Engines.{State, StandsFor, ShowsAll, under}
 use Rattle.cg_interp.specs.Turns.{DyingIsSound, GivesDeath}
 use Rattle.cg_interp.proofs.DeathLemmas.{death_on_top, death_inside}
 use Rattle.cg_interp.proofs.ReadyLemmas.{death_ready}
@@ -39,3 +35,11 @@ death_may_step script e death w budget stands lawful rows well = death_ready scr
 -- the death that is handed out is sound
 pub given_sound : (script : Script) (w : World) (o budget : ℕ) (given : State) → StaysLawful script budget w → (gives : GivesDeath script w o given) → DyingIsSound (begin_death o gives.before)
 given_sound script w o budget given stays gives = subst DyingIsSound gives.goes.ends (dying_sound script budget _ (stays gives.goes.steps gives.goes.run))
+
+-- Something is always under way: the script's own commands stand at the bottom.
+pub something_under_way : (script : Script) (e : State) (w : World) (budget : ℕ) → StandsFor script e w → IsLawful script budget w → e.activities ≢ []
+something_under_way script e w budget stands lawful none =
+    let empty : w.stack ≡ [] = subst (λ l. ShowsAll script l w.stack) none stands.shows in
+    let top = lawful.bounded.top_level in
+    let both : length (top.others ++ TopLevel top.commands ∷ []) ≡ 0 = ap length (sym top.bottom ∙ empty) in
+    absurd (omega (arith, both, length-append top.others (TopLevel top.commands ∷ [])))

@@ -1,5 +1,5 @@
 -- What the laws of the machine say of a world for which an engine stands.
-use Rattle.std.proofs.Common.{◌≡◌, ◌≢◌, refl, sym, ◌∙◌, ap, subst, ℕ, ◌+◌, ◌-◌, ◌*◌, ◌<◌, ◌≤◌, Bool, true, false, cond, inl, inr, List, [], ◌∷◌, ◌++◌, Option, None, Some, map, length, length-append, arith, sum_by}
+use Rattle.std.proofs.Common.{◌≡◌, ◌≢◌, refl, sym, ◌∙◌, ap, ℕ, ◌+◌, ◌<◌, ◌≤◌, Bool, true, false, cond, inl, inr, List, [], ◌∷◌, Option, None, Some, map, length, length-append, arith, sum_by}
 use Rattle.std.specs.Prelude.{◌==◌, count_by, flat_map, option_map, is_some}
 use Rattle.std.specs.FinMap as fin
 use Rattle.std.proofs.lemmas.Bool.{eqb-true, eq-eqb, ne_eqb}
@@ -10,7 +10,7 @@ use Rattle.cg_graph.specs.Member.{Includes}
 use Rattle.cg_graph.specs.Holdings.{occurrences}
 use Rattle.cg_graph.specs.Object.{Object, is_in_map, serials, object_at}
 use Rattle.cg_graph.specs.Store.{Store, Node, outside_of, outside_in, objects_of, object_from, IsLive}
-use Rattle.cg_graph.specs.Changes.{unheld, less}
+use Rattle.cg_graph.specs.Changes.{unheld}
 use Rattle.cg_graph.proofs.Maps.{same_map, get-mapped, total-mapped}
 use Rattle.cg_heap.specs.Keeps.{outside_total, one}
 use Rattle.cg_heap.specs.Calls.{HasFewHolds, object_number}
@@ -21,7 +21,7 @@ use Rattle.cg_machine.specs.Holdings.{holds, is_death_of}
 use Rattle.cg_machine.specs.Laws.{AreDeathsOfOthers}
 use Rattle.cg_machine.specs.Lawful.{IsLawful, StaysLawful}
 use Rattle.cg_machine.specs.Represents.{Represents}
-use Rattle.cg_machine.specs.Run.{StepTaken, Run, last_world}
+use Rattle.cg_machine.specs.Run.{last_world}
 use Rattle.cg_death.proofs.CallerLemmas.{lives_in_heap}
 use Rattle.cg_interp.specs.declared.activity.Activity.{Activity as Own}
 use Rattle.cg_interp.specs.Engines.{State, StandsFor, ShowsAll, under}

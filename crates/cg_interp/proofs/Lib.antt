@@ -16,3 +16,4 @@ mod Keeping
 mod Lawfully
 mod ReadyLemmas
 mod ArmLemmas
+mod SpelledLemmas

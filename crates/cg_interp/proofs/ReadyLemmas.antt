@@ -1,5 +1,5 @@
 -- That a death on top may take a step: what it needs of the heap follows from what the laws say of the world.
-use Rattle.std.proofs.Common.{◌≡◌, ◌≢◌, refl, sym, ◌∙◌, ap, subst, ℕ, ◌<◌, ◌≤◌, Bool, true, false, not, cond, inl, inr, List, [], ◌∷◌, ◌++◌, Option, None, Some, IsSome, map, length, arith}
+use Rattle.std.proofs.Common.{◌≡◌, ◌≢◌, refl, sym, ◌∙◌, ap, subst, ℕ, ◌≤◌, Bool, true, false, not, cond, inl, inr, List, [], ◌∷◌, ◌++◌, Option, None, Some, IsSome, map, length, arith}
 use Rattle.std.specs.Prelude.{◌==◌, ◌&&◌, filter, find, reverse, flat_map, option_map, unwrap_or}
 use Rattle.std.specs.List.{All}
 use Rattle.std.specs.FinMap as fin
@@ -8,7 +8,6 @@ use Rattle.std.proofs.lemmas.List.Elements.{All-nil, All-cons, All-head}
 use Rattle.cg_value.specs.declared.Val.{Val}
 use Rattle.cg_value.specs.declared.Val.TheVariants.{None as Nothing, Int, Str, Ref}
 use Rattle.cg_value.specs.declared.Entry.{Entry}
-use Rattle.cg_value.specs.declared.KindCode.TheVariants.{Weak}
 use Rattle.cg_kind.specs.Calls.{AreItems}
 use Rattle.cg_script.specs.declared.Script.{Script}
 use Rattle.cg_graph.specs.Member.{Includes}
@@ -16,9 +15,9 @@ use Rattle.cg_graph.specs.Holdings.{occurrences, graph_of, entry_holdings, name_
 use Rattle.cg_graph.specs.Object.{Object, object_at, serials}
 use Rattle.cg_graph.specs.Value.{item, reference_in}
 use Rattle.cg_graph.specs.Rows.{Row, referent_in, waits_with}
-use Rattle.cg_graph.specs.Store.{Store, Node, object_from, objects_of, waiting_for, entries_of, entries_in, IsLive}
+use Rattle.cg_graph.specs.Store.{Store, Node, object_from, waiting_for, entries_in, IsLive}
 use Rattle.cg_graph.proofs.Objects.{object-at}
-use Rattle.cg_graph.proofs.Members.{either, Includes-append_left, Includes-append_right, Includes-filter, Includes-map}
+use Rattle.cg_graph.proofs.Members.{Includes-append_left, Includes-append_right, Includes-filter, Includes-map}
 use Rattle.cg_heap.specs.Keeps.{IsWellMadeAt}
 use Rattle.cg_heap.specs.Weak.{AreRows, IsInNoRow}
 use Rattle.cg_heap.proofs.RowLemmas.{in_no_row}
@@ -27,7 +26,7 @@ use Rattle.cg_machine.specs.World.{World, Activity, DyingPhase, Dying}
 use Rattle.cg_machine.specs.Holdings.{holds, holdings}
 use Rattle.cg_machine.specs.Laws.{waits_of, all_waits, IsWaiting, IsDeathIn}
 use Rattle.cg_machine.specs.Lawful.{IsLawful}
-use Rattle.cg_machine.specs.Represents.{Represents, death_waits}
+use Rattle.cg_machine.specs.Represents.{Represents}
 use Rattle.cg_machine.specs.Weak.{weak_references, is_reference_to, callback_in}
 use Rattle.cg_machine.proofs.Lookups.{found_at, Includes-reversed}
 use Rattle.cg_machine.proofs.Orderly.{waits_held}

@@ -2,11 +2,12 @@
 ghost use Rattle.std.specs.Prelude.{◌≡◌};
 ghost use Rattle.cg_machine.specs.World.{World};
 ghost use Rattle.cg_machine.specs.Lawful.{StaysLawful};
+ghost use Rattle.cg_script.specs.declared.Script.{Script as AnyScript};
 ghost use Rattle.cg_script.specs.Spelled.{IsSpelled};
 ghost use Rattle.cg_interp.specs.declared.activity.Activity.TheVariants as activity_of;
-ghost use Rattle.cg_interp.specs.Engines.{StandsFor, under};
+ghost use Rattle.cg_interp.specs.Engines.{StandsFor};
 ghost use Rattle.cg_interp.specs.Tables.{IsTableOf};
-ghost use Rattle.cg_interp.specs.Turns.{Turns, IsFit};
+ghost use Rattle.cg_interp.specs.Turns.{Turns, IsFit, StaysFit, IsAtTurn, TurnsFrom};
 
 use crate::activity::Activity;
 use crate::engine::Engine;
@@ -40,9 +41,8 @@ impl<B: Kind> Engine<B> {
         requires table { IsTableOf script.now table.now.commands.items table.now.procedures.items }
         requires spelled { IsSpelled script.now }
         requires fit { IsFit script.now self.old }
-        requires stands { (w : World) × StandsFor script.now (under top self.old) w × StaysLawful script.now self.old.frames w }
-        ensures turns { (w : World) → StandsFor script.now (under top self.old) w → StaysLawful script.now self.old.frames w
-            → Turns script.now w self.new result }
+        requires stands { IsAtTurn script.now top self.old }
+        ensures turns { TurnsFrom script.now top self.old self.new result }
         ensures fit { IsFit script.now self.new }
         ensures frames { self.new.frames ≡ self.old.frames }
     {
@@ -53,7 +53,7 @@ impl<B: Kind> Engine<B> {
                 procedure,
                 next,
             } => self.turn_of_frame(table, script, locals, procedure, next),
-            Activity::Releasing(release) => self.turn_of_release(script, release),
+            Activity::Releasing(release) => self.turn_of_release(release),
             Activity::Dying(death) => self.turn_of_death(script, death),
         }
     }
@@ -63,9 +63,8 @@ impl<B: Kind> Engine<B> {
         requires table { IsTableOf script.now table.now.commands.items table.now.procedures.items }
         requires spelled { IsSpelled script.now }
         requires fit { IsFit script.now self.old }
-        requires stands { (w : World) × StandsFor script.now (under (activity_of.Script next) self.old) w × StaysLawful script.now self.old.frames w }
-        ensures turns { (w : World) → StandsFor script.now (under (activity_of.Script next) self.old) w → StaysLawful script.now self.old.frames w
-            → Turns script.now w self.new result }
+        requires stands { IsAtTurn script.now (activity_of.Script next) self.old }
+        ensures turns { TurnsFrom script.now (activity_of.Script next) self.old self.new result }
         ensures fit { IsFit script.now self.new }
         ensures frames { self.new.frames ≡ self.old.frames }
     {
@@ -85,9 +84,8 @@ impl<B: Kind> Engine<B> {
         requires table { IsTableOf script.now table.now.commands.items table.now.procedures.items }
         requires spelled { IsSpelled script.now }
         requires fit { IsFit script.now self.old }
-        requires stands { (w : World) × StandsFor script.now (under (activity_of.Frame locals procedure next) self.old) w × StaysLawful script.now self.old.frames w }
-        ensures turns { (w : World) → StandsFor script.now (under (activity_of.Frame locals procedure next) self.old) w → StaysLawful script.now self.old.frames w
-            → Turns script.now w self.new result }
+        requires stands { IsAtTurn script.now (activity_of.Frame locals procedure next) self.old }
+        ensures turns { TurnsFrom script.now (activity_of.Frame locals procedure next) self.old self.new result }
         ensures fit { IsFit script.now self.new }
         ensures frames { self.new.frames ≡ self.old.frames }
     {
@@ -96,24 +94,22 @@ impl<B: Kind> Engine<B> {
     }
 
     /// A turn of a release, which was on top.
-    fn turn_of_release(&mut self, script: &Script, release: Release) -> Turned
-        requires fit { IsFit script.now self.old }
-        requires stands { (w : World) × StandsFor script.now (under (activity_of.Releasing release) self.old) w × StaysLawful script.now self.old.frames w }
-        ensures turns { (w : World) → StandsFor script.now (under (activity_of.Releasing release) self.old) w → StaysLawful script.now self.old.frames w
-            → Turns script.now w self.new result }
-        ensures fit { IsFit script.now self.new }
+    fn turn_of_release(&mut self, release: Release) -> Turned
+        requires stands { (script : AnyScript) × IsFit script self.old
+            × IsAtTurn script (activity_of.Releasing release) self.old }
+        ensures turns { (script : AnyScript) →
+            TurnsFrom script (activity_of.Releasing release) self.old self.new result }
+        ensures fit { StaysFit self.old self.new }
         ensures frames { self.new.frames ≡ self.old.frames }
     {
-        let _script = script;
         self.go_on_releasing(release)
     }
 
     /// A turn of a death, which was on top.
     fn turn_of_death(&mut self, script: &Script, death: Death) -> Turned
         requires fit { IsFit script.now self.old }
-        requires stands { (w : World) × StandsFor script.now (under (activity_of.Dying death) self.old) w × StaysLawful script.now self.old.frames w }
-        ensures turns { (w : World) → StandsFor script.now (under (activity_of.Dying death) self.old) w → StaysLawful script.now self.old.frames w
-            → Turns script.now w self.new result }
+        requires stands { IsAtTurn script.now (activity_of.Dying death) self.old }
+        ensures turns { TurnsFrom script.now (activity_of.Dying death) self.old self.new result }
         ensures fit { IsFit script.now self.new }
         ensures frames { self.new.frames ≡ self.old.frames }
     {

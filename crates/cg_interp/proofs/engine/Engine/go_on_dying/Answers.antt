@@ -1,10 +1,9 @@
-use Rattle.std.proofs.Common.{◌≡◌, [], sym, subst, refl, ◌∙◌}
+use Rattle.std.proofs.Common.{◌≡◌, [], sym, subst}
 use Rattle.cg_heap.specs.Weak.{AreRows}
-use Rattle.cg_death.specs.declared.answer.DeathStep.TheVariants as answer_of
 use Rattle.cg_death.specs.Activities.{IsUnheld}
 use Rattle.cg_death.specs.Steady.{DiesUnheld}
 use Rattle.cg_death.specs.Answers.{DeathSteps}
-use Rattle.cg_death.specs.Deaths.{on_stack, DeathFalls, HasCause}
+use Rattle.cg_death.specs.Deaths.{on_stack, DeathFalls}
 use Rattle.cg_interp.specs.declared.activity.Activity.TheVariants as activity_of
 use Rattle.cg_interp.specs.Engines.{StandsFor, under}
 use Rattle.cg_interp.specs.Turns.{Keeps}

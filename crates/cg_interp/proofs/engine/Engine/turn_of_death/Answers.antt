@@ -1,7 +1,6 @@
-use Rattle.std.proofs.Common.{subst, arith, [], sym}
+use Rattle.std.proofs.Common.{subst, arith, []}
 use Rattle.cg_heap.specs.Calls.{IsSound}
 use Rattle.cg_interp.specs.declared.activity.Activity.TheVariants as activity_of
-use Rattle.cg_interp.specs.declared.turned.Dies.TheVariants as dies_of
 use Rattle.cg_interp.specs.Turns.{DeathTurns}
 use Rattle.cg_interp.proofs.Lawfully.{has_room, few_holds, few_objects, dying_sound}
 use Rattle.cg_interp.proofs.ReleaseLemmas.{death_begun}
