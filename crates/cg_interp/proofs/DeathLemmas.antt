@@ -232,7 +232,7 @@ module _ (script : Script) (old new : State) (death after_death : Death) (answer
       go gave = record {
         before = gave.hands.before;
         goes = gave.hands.goes;
-        moves = λ none. 
+        moves = λ none.
             let same = stayed (begin_death o gave.hands.before) gave.hands.goes.steps gave.hands.goes.ends none in
             no_death_on_top death old.store o (on_stack after_death new.store) other
             (append_cancel_right (death_of o Finalizer ∷ on_stack after_death new.store) (on_stack death old.store) rest (ap (λ l. death_of o Finalizer ∷ l) (sym gave.hands.top) ∙ sym (ap (λ (v : World). v.stack) same) ∙ at));
