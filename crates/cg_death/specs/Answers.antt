@@ -128,6 +128,7 @@ may_end (answer_of.Emit event) = true
 may_end answer_of.Gone = true
 may_end answer = false
 
--- No object is made: there are no more than before.
-abbrev pub MakesNone : Store → Store → Type 0
-MakesNone old new = length (objects_of new) ≤ length (objects_of old)
+-- No object is made, and no name gets another value: there are no more objects than before, and the names are the same.
+pub record MakesNone (old new : Store) : Type 0 where
+  pub objects : length (objects_of new) ≤ length (objects_of old)
+  pub names : new.names ≡ old.names

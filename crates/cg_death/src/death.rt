@@ -14,7 +14,9 @@ ghost use Rattle.cg_death.specs.declared.phase.Phase.TheVariants as phase_of;
 ghost use Rattle.cg_death.specs.Activities.{IsUnheld, HasHolds, IsReadyAt, own_holds_at, death_of};
 ghost use Rattle.cg_death.specs.Answers.{DeathSteps, TurnSteps, TurnAnswers, MakesNone};
 ghost use Rattle.cg_death.specs.Falls.{TurnFalls};
-ghost use Rattle.cg_death.specs.Deaths.{object_of, on_stack, held_by, IsReady, IsOver, IsGoing, IsOffStack, IsGoingAfter, GoesOnAfter, EndsSo, DeathFalls, HasCause, TakesNext, forgets_referent};
+ghost use Rattle.cg_death.specs.Deaths.{object_of, on_stack, held_by, IsReady, IsOver, IsSettled, LeavesSettled, IsGoing, IsOffStack, IsGoingAfter, GoesOnAfter, EndsSo, DeathFalls, HasCause, TakesNext, forgets_referent};
+ghost use Rattle.cg_death.specs.Steady.{IsFresh, IsSteady, TurnStaysSteady, TakesFewHolds, KeepsNames, TurnStandsAfterFrame, DeathStandsAfterFrame, DiesUnheld, TurnDiesUnheld};
+ghost use Rattle.cg_script.specs.declared.Script.{Script as AnyScript};
 
 use crate::answer::DeathStep;
 use crate::contents::empty_one;
@@ -45,9 +47,14 @@ impl Death {
         ensures rest { heap.new ≡ forgets_referent object (moved object place_of.Untracked heap.old) }
         ensures begins { (w : machine.World) → Represents heap.old w → Represents heap.new (begin_death object w) }
         ensures stack { on_stack result heap.new ≡ death_of object machine.Finalizer ∷ [] }
+        ensures settled { IsSettled result }
         ensures going { IsGoing result }
         ensures object { object_of result ≡ object }
         ensures objects { MakesNone heap.old heap.new }
+        ensures holds { TakesFewHolds heap.old heap.new }
+        ensures names { KeepsNames heap.old heap.new }
+        ensures steady { (script : AnyScript) → IsFresh heap.old object →
+            IsSteady script result heap.new }
     {
         heap.sound();
         heap.move_to(object, Place::Untracked);
@@ -75,9 +82,17 @@ impl Death {
         ensures cause { HasCause self.old heap.new result }
         ensures gone { (result ≡ answer_of.Gone) ↔ IsOver self.old }
         ensures over { result ≡ answer_of.Gone → on_stack self.new heap.new ≡ [] }
+        ensures settled { IsSettled self.old → IsSettled self.new }
         ensures going { IsGoingAfter result self.new }
         ensures object { object_of self.new ≡ object_of self.old }
         ensures objects { MakesNone heap.old heap.new }
+        ensures holds { TakesFewHolds heap.old heap.new }
+        ensures names { KeepsNames heap.old heap.new }
+
+        // Where nothing else runs, the next step may be taken, whatever this one answers.
+        ensures steady { IsSteady script.now self.old heap.old → IsSteady script.now self.new heap.new }
+        ensures framed { DeathStandsAfterFrame result self.new }
+        ensures died { DiesUnheld result heap.new }
     {
         if let Some(object) = next_reference(&mut self.release) {
             return give_up(heap, object);
@@ -127,8 +142,14 @@ fn turn<B: Kind>(object: u64, phase: Phase, heap: &mut Heap<B>, script: &Script)
     ensures answers { TurnAnswers object phase heap.new result }
     ensures over { phase ≡ phase_of.Over → result.answer ≡ answer_of.Gone }
     ensures ends { result.answer ≡ answer_of.Gone → EndsSo result }
+    ensures settled { LeavesSettled result }
     ensures going { GoesOnAfter result }
     ensures objects { MakesNone heap.old heap.new }
+    ensures holds { TakesFewHolds heap.old heap.new }
+    ensures names { KeepsNames heap.old heap.new }
+    ensures steady { TurnStaysSteady script.now heap.old object phase heap.new result }
+    ensures framed { TurnStandsAfterFrame result }
+    ensures died { TurnDiesUnheld result heap.new }
 {
     match phase {
         Phase::Finalizer => run_finalizer(object, heap, script),
