@@ -13,3 +13,4 @@ mod TextLemmas
 mod PartLemmas
 mod NewObjects
 mod MakeLemmas
+pub mod Growing

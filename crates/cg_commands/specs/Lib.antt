@@ -3,3 +3,4 @@ pub mod Stands
 pub mod Objects
 pub mod Answers
 pub mod Parts
+pub mod Growth

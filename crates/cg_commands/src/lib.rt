@@ -22,6 +22,6 @@ mod operands;
 mod parts;
 mod queries;
 
-pub use dispatch::perform;
+pub use dispatch::{makes_object, perform};
 pub use done::{Done, Refusal};
 pub use locals::Locals;

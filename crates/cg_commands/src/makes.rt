@@ -1,17 +1,18 @@
 //! Objects that are made.
-ghost use Rattle.std.specs.Prelude.{◌≡◌, ◌<◌, ◌≤◌, ◌++◌, ◌∷◌, [], ℕ, IfSome, Some, None, length, slice_get};
+ghost use Rattle.std.specs.Prelude.{◌≡◌, ◌<◌, ◌≤◌, ◌+◌, ◌↔◌, ◌++◌, ◌∷◌, [], ℕ, IfOk, IfSome, OnOk, OnErr, Some, None, Err, true, length, slice_get};
 ghost use Rattle.std.specs.List.{All};
 ghost use Rattle.cg_value.specs.declared.KindCode.TheVariants as code;
 ghost use Rattle.cg_value.specs.declared.Val.TheVariants as val_of;
 ghost use Rattle.cg_kind.specs.Calls.{IsParts};
-ghost use Rattle.cg_graph.specs.Changes.{held, unheld, named};
+ghost use Rattle.cg_graph.specs.Changes.{held, unheld, named, made};
 ghost use Rattle.cg_graph.specs.Value.{references_of_value};
 ghost use Rattle.cg_graph.specs.Store.{IsLive, outside_of};
 ghost use Rattle.cg_script.specs.Texts.{operand_texts, operands_texts};
 ghost use Rattle.cg_script.specs.declared.command.Command.TheVariants as command;
-ghost use Rattle.cg_heap.specs.Calls.{HasFewHolds};
+ghost use Rattle.cg_heap.specs.declared.fault.HeapFault.TheVariants as fault;
+ghost use Rattle.cg_heap.specs.Calls.{HasFewHolds, object_number, entry_number};
 ghost use Rattle.cg_heap.specs.Keeps.{HasClass, outside_total};
-ghost use Rattle.cg_heap.specs.Weak.{HasReferent};
+ghost use Rattle.cg_heap.specs.Weak.{HasReferent, attached};
 ghost use Rattle.cg_machine.specs.Commands.{effect};
 ghost use Rattle.cg_machine.specs.Effects.{makes};
 ghost use Rattle.cg_commands.specs.Answers.{Performs};
@@ -23,7 +24,7 @@ use crate::done::{Done, Refusal, refusal_by};
 use crate::locals::Locals;
 use crate::operands::{Wanted, object, value};
 use crate::parts::{callback_parts, gather};
-use cg_heap::Heap;
+use cg_heap::{Heap, HeapFault};
 use cg_kind::Kind;
 use cg_machine::Event;
 use cg_script::Operand;
@@ -35,13 +36,15 @@ pub(crate) fn make_list<B: Kind>(
     locals: Option<Locals>,
     name: u32,
     items: &[Operand],
+    room: bool,
 ) -> Result<Done, Refusal>
     requires known { All (λ n. n < length heap.old.names) (name ∷ operands_texts items.now) }
     requires count { length items.now ≤ 64 }
     requires locals { LocalsLive heap.old locals }
     requires few { HasFewHolds heap.old }
     requires last { heap.old.last < 9223372036854775808 }
-    ensures { Performs heap.old locals (λ w. effect w (command.MakeList name items.now)) heap.new result }
+    ensures performs { Performs heap.old locals (λ w. effect w (command.MakeList name items.now)) heap.new result }
+    ensures room { OnOk result (room ≡ true) }
 {
     let parts = gather(heap, locals, items)?;
     make_bound(
@@ -52,6 +55,7 @@ pub(crate) fn make_list<B: Kind>(
         None,
         parts.as_slice(),
         None,
+        room,
     )
 }
 
@@ -61,13 +65,15 @@ pub(crate) fn make_tuple<B: Kind>(
     locals: Option<Locals>,
     name: u32,
     items: &[Operand],
+    room: bool,
 ) -> Result<Done, Refusal>
     requires known { All (λ n. n < length heap.old.names) (name ∷ operands_texts items.now) }
     requires count { length items.now ≤ 64 }
     requires locals { LocalsLive heap.old locals }
     requires few { HasFewHolds heap.old }
     requires last { heap.old.last < 9223372036854775808 }
-    ensures { Performs heap.old locals (λ w. effect w (command.MakeTuple name items.now)) heap.new result }
+    ensures performs { Performs heap.old locals (λ w. effect w (command.MakeTuple name items.now)) heap.new result }
+    ensures room { OnOk result (room ≡ true) }
 {
     let parts = gather(heap, locals, items)?;
     make_bound(
@@ -78,6 +84,7 @@ pub(crate) fn make_tuple<B: Kind>(
         None,
         parts.as_slice(),
         None,
+        room,
     )
 }
 
@@ -86,13 +93,15 @@ pub(crate) fn make_dict<B: Kind>(
     heap: &mut Heap<B>,
     locals: Option<Locals>,
     name: u32,
+    room: bool,
 ) -> Result<Done, Refusal>
     requires known { All (λ n. n < length heap.old.names) (name ∷ []) }
     requires few { HasFewHolds heap.old }
     requires last { heap.old.last < 9223372036854775808 }
-    ensures { Performs heap.old locals (λ w. effect w (command.MakeDict name)) heap.new result }
+    ensures performs { Performs heap.old locals (λ w. effect w (command.MakeDict name)) heap.new result }
+    ensures room { OnOk result (room ≡ true) }
 {
-    make_bound(heap, locals, name, KindCode::Dict, None, &[], None)
+    make_bound(heap, locals, name, KindCode::Dict, None, &[], None, room)
 }
 
 /// `x = new C`: a new instance of a class, without attributes.
@@ -101,13 +110,24 @@ pub(crate) fn make_instance<B: Kind>(
     locals: Option<Locals>,
     name: u32,
     class: u32,
+    room: bool,
 ) -> Result<Done, Refusal>
     requires known { All (λ n. n < length heap.old.names) (name ∷ []) }
     requires few { HasFewHolds heap.old }
     requires last { heap.old.last < 9223372036854775808 }
-    ensures { Performs heap.old locals (λ w. effect w (command.MakeInst name class)) heap.new result }
+    ensures performs { Performs heap.old locals (λ w. effect w (command.MakeInst name class)) heap.new result }
+    ensures room { OnOk result (room ≡ true) }
 {
-    make_bound(heap, locals, name, KindCode::Inst, Some(class), &[], None)
+    make_bound(
+        heap,
+        locals,
+        name,
+        KindCode::Inst,
+        Some(class),
+        &[],
+        None,
+        room,
+    )
 }
 
 /// `x = func P v*`: a new function of a procedure, with at most 8 cells.
@@ -117,13 +137,15 @@ pub(crate) fn make_function<B: Kind>(
     name: u32,
     proc: u32,
     cells: &[Operand],
+    room: bool,
 ) -> Result<Done, Refusal>
     requires known { All (λ n. n < length heap.old.names) (name ∷ operands_texts cells.now) }
     requires count { length cells.now ≤ 8 }
     requires locals { LocalsLive heap.old locals }
     requires few { HasFewHolds heap.old }
     requires last { heap.old.last < 9223372036854775808 }
-    ensures { Performs heap.old locals (λ w. effect w (command.MakeFunc name proc cells.now)) heap.new result }
+    ensures performs { Performs heap.old locals (λ w. effect w (command.MakeFunc name proc cells.now)) heap.new result }
+    ensures room { OnOk result (room ≡ true) }
 {
     let parts = gather(heap, locals, cells)?;
     make_bound(
@@ -134,6 +156,7 @@ pub(crate) fn make_function<B: Kind>(
         Some(proc),
         parts.as_slice(),
         None,
+        room,
     )
 }
 
@@ -145,13 +168,15 @@ pub(crate) fn make_weak<B: Kind>(
     name: u32,
     target: Operand,
     callback: Operand,
+    room: bool,
 ) -> Result<Done, Refusal>
     requires known { All (λ n. n < length heap.old.names)
         (name ∷ (operand_texts target ++ operand_texts callback)) }
     requires locals { LocalsLive heap.old locals }
     requires few { HasFewHolds heap.old }
     requires last { heap.old.last < 9223372036854775808 }
-    ensures { Performs heap.old locals (λ w. effect w (command.MakeRef name target callback)) heap.new result }
+    ensures performs { Performs heap.old locals (λ w. effect w (command.MakeRef name target callback)) heap.new result }
+    ensures room { OnOk result (room ≡ true) }
 {
     let val = value(heap, locals, target)?;
     let callback = value(heap, locals, callback)?;
@@ -165,6 +190,7 @@ pub(crate) fn make_weak<B: Kind>(
         None,
         parts.as_slice(),
         Some(referent),
+        room,
     )
 }
 
@@ -177,6 +203,7 @@ fn make_bound<B: Kind>(
     class: Option<u32>,
     parts: &[Entry],
     referent: Option<u64>,
+    room: bool,
 ) -> Result<Done, Refusal>
     requires name { name < length heap.old.names }
     requires parts { IsParts code parts.now }
@@ -186,10 +213,11 @@ fn make_bound<B: Kind>(
     requires live_referent { IfSome referent (λ s. IsLive heap.old s) }
     requires few { HasFewHolds heap.old }
     requires last { heap.old.last < 9223372036854775808 }
-    ensures { Performs heap.old locals (λ w. makes w name code class parts.now referent) heap.new result }
+    ensures performs { Performs heap.old locals (λ w. makes w name code class parts.now referent) heap.new result }
+    ensures room { OnOk result (room ≡ true) }
 {
     heap.sound();
-    match heap.make(code, class, parts, referent) {
+    match make_where_room(heap, code, class, parts, referent, room) {
         Ok(serial) => {
             let old = bind_new(heap, name, serial);
             Ok(Done::Changed {
@@ -198,6 +226,55 @@ fn make_bound<B: Kind>(
             })
         }
         Err(fault) => Err(refusal_by(fault)),
+    }
+}
+
+/// Makes an object as the heap does, where there is room for one more. Where there is none, memory is refused, if the heap
+/// refuses nothing else.
+fn make_where_room<B: Kind>(
+    heap: &mut Heap<B>,
+    code: KindCode,
+    class: Option<u32>,
+    parts: &[Entry],
+    referent: Option<u64>,
+    room: bool,
+) -> Result<u64, HeapFault>
+    requires parts { IsParts code parts.now }
+    requires class { HasClass code class }
+    requires referent { HasReferent code referent }
+    requires live { AreLive heap.old parts.now }
+    requires live_referent { IfSome referent (λ s. IsLive heap.old s) }
+    requires few { HasFewHolds heap.old }
+    requires last { heap.old.last < 9223372036854775808 }
+    ensures serial { IfOk result (λ s. s ≡ heap.old.last + 1) }
+    ensures ok { OnOk result (heap.new ≡
+        attached (heap.old.last + 1) referent (made code class parts.now heap.old)) }
+    ensures room { OnOk result (room ≡ true) }
+    ensures object_limit { (result ≡ Err fault.ObjectLimit) ↔ (1000000 ≤ object_number heap.old) }
+    ensures entry_limit { (result ≡ Err fault.EntryLimit)
+        ↔ ((object_number heap.old < 1000000) × (4000000 < entry_number heap.old + length parts.now)) }
+    ensures err { OnErr result (heap.new ≡ heap.old) }
+{
+    if room {
+        heap.make(code, class, parts, referent)
+    } else {
+        Err(fault_without_room(heap, parts.len()))
+    }
+}
+
+/// Why an object with so many entries is not made, where there is no room for one more.
+fn fault_without_room<B: Kind>(heap: &Heap<B>, parts: usize) -> HeapFault
+    ensures object_limit { (result ≡ fault.ObjectLimit) ↔ (1000000 ≤ object_number heap.now) }
+    ensures entry_limit { (result ≡ fault.EntryLimit)
+        ↔ ((object_number heap.now < 1000000) × (4000000 < entry_number heap.now + parts)) }
+{
+    heap.sound();
+    if heap.live() >= 1_000_000 {
+        HeapFault::ObjectLimit
+    } else if parts as u64 > 4_000_000 - heap.entries() {
+        HeapFault::EntryLimit
+    } else {
+        HeapFault::OutOfMemory
     }
 }
 

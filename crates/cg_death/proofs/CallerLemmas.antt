@@ -5,6 +5,7 @@ use Rattle.std.specs.Prelude.{flat_map, option_map, slice_get, is_some}
 use Rattle.std.specs.List.{All}
 use Rattle.std.specs.FinMap as fin
 use Rattle.cg_value.specs.declared.Val.TheVariants.{Ref}
+use Rattle.cg_script.specs.declared.Script.{Script}
 use Rattle.cg_graph.specs.Member.{Includes}
 use Rattle.cg_graph.specs.Value.{item}
 use Rattle.cg_graph.specs.Holdings.{occurrences}
@@ -20,7 +21,8 @@ use Rattle.cg_heap.specs.Weak.{AreRows}
 use Rattle.cg_heap.proofs.RowLemmas.{no_referent}
 use Rattle.cg_death.specs.declared.death.Death.{Death}
 use Rattle.cg_death.specs.Activities.{IsUnheld, HasHolds, HaveCallbacks, AreNewer}
-use Rattle.cg_death.specs.Deaths.{on_stack, held_by}
+use Rattle.cg_death.specs.Deaths.{on_stack, held_by, IsReady}
+use Rattle.cg_death.specs.Steady.{IsSteady}
 use Rattle.cg_machine.proofs.Representing.{count-in_degree}
 use Rattle.cg_death.proofs.Emptying.{entries-agree}
 use Rattle.cg_death.proofs.WeakObjects.{weak_references-are}
@@ -69,3 +71,10 @@ callbacks_in_heap store w r o waiting is each q waits =
 pub no_referent_in_heap : (store : Store) (w : World) → Represents store w → AreRows store → (o : ℕ) → weak_references w.objects o ≡ [] → waiting_for store o ≡ [] → All (λ r. r.referent ≢ o) store.rows
 no_referent_in_heap store w r ok o none none_waits =
     no_referent store.rows o (ap (λ l. slice_get l 0) (sym (rows_of_world store w r ok o) ∙ none)) (ap (λ l. slice_get l 0) none_waits)
+
+-- A steady death may take a step: it is ready, and has its holds.
+pub steady_is_ready : (script : Script) (d : Death) (store : Store) → IsSteady script d store → IsReady d store
+steady_is_ready script d store s = (s.ready, s.during)
+
+pub steady_is_held : (script : Script) (d : Death) (store : Store) → IsSteady script d store → HasHolds store (held_by d store)
+steady_is_held script d store s = s.held

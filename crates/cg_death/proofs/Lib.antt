@@ -16,3 +16,11 @@ mod Calling
 mod Querying
 mod Beginning
 mod Ends
+pub mod ObjectNumbers
+mod Counting
+mod RowsLeft
+mod Steadying
+mod SteadyRows
+mod SteadySteps
+pub mod HoldNumbers
+mod NamesKept

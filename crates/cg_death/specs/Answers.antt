@@ -1,8 +1,8 @@
 -- What the steps of releases and deaths may answer, in every world that the heap stands for. (Ours.)
-use Rattle.std.specs.Prelude.{◌≡◌, ◌≢◌, ℕ, ◌≤◌, ◌-◌, List, [], ◌∷◌, ◌++◌, None, count_by, ◌==◌, if◌then◌else◌}
+use Rattle.std.specs.Prelude.{◌≡◌, ◌≢◌, ℕ, ◌≤◌, ◌-◌, Bool, true, false, List, [], ◌∷◌, ◌++◌, None, count_by, ◌==◌, if◌then◌else◌, length}
 use Rattle.cg_script.specs.declared.Script.{Script}
 use Rattle.cg_graph.specs.Member.{Includes}
-use Rattle.cg_graph.specs.Store.{Store, count_of}
+use Rattle.cg_graph.specs.Store.{Store, count_of, objects_of}
 use Rattle.cg_graph.specs.Changes.{unheld}
 use Rattle.cg_machine.specs.declared.event.Event.{Event}
 use Rattle.cg_machine.specs.declared.event.Event.TheVariants.{Free, Alive, Cleared}
@@ -121,3 +121,14 @@ IsCaused o phase new answer_of.Gone = phase ≡ phase_of.Over
 
 abbrev pub TurnAnswers : ℕ → Phase → Store → Turn → Type 0
 TurnAnswers o phase new turn = IsCaused o phase new turn.answer
+
+-- the answers after which a death may be over: a line, and that it has ended
+abbrev pub may_end : DeathStep → Bool
+may_end (answer_of.Emit event) = true
+may_end answer_of.Gone = true
+may_end answer = false
+
+-- No object is made, and no name gets another value: there are no more objects than before, and the names are the same.
+pub record MakesNone (old new : Store) : Type 0 where
+  pub objects : length (objects_of new) ≤ length (objects_of old)
+  pub names : new.names ≡ old.names

@@ -1,17 +1,18 @@
 -- A death as its callers see it. (Ours.)
-use Rattle.std.specs.Prelude.{◌≡◌, ℕ, List, [], ◌∷◌, Option, Some, None, flat_map, false, is_some, if◌then◌else◌}
+use Rattle.std.specs.Prelude.{◌≡◌, ◌≢◌, ℕ, List, [], ◌∷◌, Option, Some, None, flat_map, false, is_some, if◌then◌else◌}
 use Rattle.cg_graph.specs.Rows.{referent_in}
 use Rattle.cg_graph.specs.Store.{Store}
 use Rattle.cg_machine.specs.World.{Activity}
 use Rattle.cg_machine.specs.Holdings.{holds}
 use Rattle.cg_heap.specs.Weak.{cleared_weak}
 use Rattle.cg_death.specs.declared.release.Release.{Release}
+use Rattle.cg_death.specs.declared.phase.Phase.{Phase}
 use Rattle.cg_death.specs.declared.phase.Phase.TheVariants as phase_of
 use Rattle.cg_death.specs.declared.phase.Turn.{Turn}
 use Rattle.cg_death.specs.declared.death.Death.{Death}
 use Rattle.cg_death.specs.Activities.{activities, references_left, IsUnheld, IsReadyAt}
 use Rattle.cg_death.specs.declared.answer.DeathStep.{DeathStep}
-use Rattle.cg_death.specs.Answers.{IsCaused}
+use Rattle.cg_death.specs.Answers.{IsCaused, may_end}
 use Rattle.cg_death.specs.Falls.{Falls, still_released}
 
 -- the object that dies
@@ -34,6 +35,41 @@ IsUnheldDuring store o (Some release) = IsUnheld store o
 -- What a step needs of the heap, which commands, frames and other deaths may have changed since the step before.
 abbrev pub IsReady : Death → Store → Type 0
 IsReady d store = IsReadyAt store d.object d.phase × IsUnheldDuring store d.object d.release
+
+-- while callbacks are called, and while entries are taken out, references are given up
+abbrev pub GivesUpAt : Phase → Type 0
+GivesUpAt phase_of.Calling = Unit {0}
+GivesUpAt phase_of.Emptying = Unit {0}
+GivesUpAt phase = ⊥
+
+-- and at no other time
+abbrev pub IsSettledAt : Phase → Option Release → Type 0
+IsSettledAt phase None = Unit {0}
+IsSettledAt phase (Some release) = GivesUpAt phase
+
+-- the same of a death
+abbrev pub IsSettled : Death → Type 0
+IsSettled d = IsSettledAt d.phase d.release
+
+-- the same of what a turn leaves
+abbrev pub LeavesSettled : Turn → Type 0
+LeavesSettled turn = IsSettledAt turn.phase turn.release
+
+-- Something of a death is on the stack, whatever the heap is,
+abbrev pub IsGoing : Death → Type 0
+IsGoing d = (store : Store) → on_stack d store ≢ []
+
+-- or nothing of it is.
+abbrev pub IsOffStack : Death → Type 0
+IsOffStack d = (store : Store) → on_stack d store ≡ []
+
+-- After another answer than a line or the end, something of a death is left to be done.
+abbrev pub IsGoingAfter : DeathStep → Death → Type 0
+IsGoingAfter answer d = may_end answer ≡ false → IsGoing d
+
+-- the same of a turn: its phase is not the last
+abbrev pub GoesOnAfter : Turn → Type 0
+GoesOnAfter turn = may_end turn.answer ≡ false → turn.phase ≢ phase_of.Over
 
 -- the object is gone, or was brought back
 abbrev pub IsOver : Death → Type 0

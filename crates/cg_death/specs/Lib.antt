@@ -2,3 +2,4 @@ pub mod Activities
 pub mod Answers
 pub mod Falls
 pub mod Deaths
+pub mod Steady

@@ -1,5 +1,5 @@
 //! The death of an object that nothing holds.
-ghost use Rattle.std.specs.Prelude.{◌≡◌, ◌≢◌, ◌↔◌, ◌∷◌, ◌++◌, [], ℕ, None, false, is_some, if◌then◌else◌};
+ghost use Rattle.std.specs.Prelude.{◌≡◌, ◌≢◌, ◌↔◌, ◌∷◌, ◌++◌, [], ℕ, None, false, is_some, IsTrue, if◌then◌else◌};
 ghost use Rattle.cg_value.specs.declared.Place.TheVariants as place_of;
 ghost use Rattle.cg_graph.specs.Rows.{referent_in, waiting_in};
 ghost use Rattle.cg_graph.specs.Store.{IsLive, count_of};
@@ -12,9 +12,11 @@ ghost use Rattle.cg_heap.specs.Weak.{cleared_weak};
 ghost use Rattle.cg_death.specs.declared.answer.DeathStep.TheVariants as answer_of;
 ghost use Rattle.cg_death.specs.declared.phase.Phase.TheVariants as phase_of;
 ghost use Rattle.cg_death.specs.Activities.{IsUnheld, HasHolds, IsReadyAt, own_holds_at, death_of};
-ghost use Rattle.cg_death.specs.Answers.{DeathSteps, TurnSteps, TurnAnswers};
+ghost use Rattle.cg_death.specs.Answers.{DeathSteps, TurnSteps, TurnAnswers, MakesNone};
 ghost use Rattle.cg_death.specs.Falls.{TurnFalls};
-ghost use Rattle.cg_death.specs.Deaths.{object_of, on_stack, held_by, IsReady, IsOver, EndsSo, DeathFalls, HasCause, TakesNext, forgets_referent};
+ghost use Rattle.cg_death.specs.Deaths.{object_of, on_stack, held_by, IsReady, IsOver, IsSettled, LeavesSettled, IsGoing, IsOffStack, IsGoingAfter, GoesOnAfter, EndsSo, DeathFalls, HasCause, TakesNext, forgets_referent};
+ghost use Rattle.cg_death.specs.Steady.{IsFresh, IsSteady, TurnStaysSteady, TakesFewHolds, KeepsNames, TurnStandsAfterFrame, DeathStandsAfterFrame, DiesUnheld, TurnDiesUnheld};
+ghost use Rattle.cg_script.specs.declared.Script.{Script as AnyScript};
 
 use crate::answer::DeathStep;
 use crate::contents::empty_one;
@@ -45,7 +47,14 @@ impl Death {
         ensures rest { heap.new ≡ forgets_referent object (moved object place_of.Untracked heap.old) }
         ensures begins { (w : machine.World) → Represents heap.old w → Represents heap.new (begin_death object w) }
         ensures stack { on_stack result heap.new ≡ death_of object machine.Finalizer ∷ [] }
+        ensures settled { IsSettled result }
+        ensures going { IsGoing result }
         ensures object { object_of result ≡ object }
+        ensures objects { MakesNone heap.old heap.new }
+        ensures holds { TakesFewHolds heap.old heap.new }
+        ensures names { KeepsNames heap.old heap.new }
+        ensures steady { (script : AnyScript) → IsFresh heap.old object →
+            IsSteady script result heap.new }
     {
         heap.sound();
         heap.move_to(object, Place::Untracked);
@@ -73,7 +82,17 @@ impl Death {
         ensures cause { HasCause self.old heap.new result }
         ensures gone { (result ≡ answer_of.Gone) ↔ IsOver self.old }
         ensures over { result ≡ answer_of.Gone → on_stack self.new heap.new ≡ [] }
+        ensures settled { IsSettled self.old → IsSettled self.new }
+        ensures going { IsGoingAfter result self.new }
         ensures object { object_of self.new ≡ object_of self.old }
+        ensures objects { MakesNone heap.old heap.new }
+        ensures holds { TakesFewHolds heap.old heap.new }
+        ensures names { KeepsNames heap.old heap.new }
+
+        // Where nothing else runs, the next step may be taken, whatever this one answers.
+        ensures steady { IsSteady script.now self.old heap.old → IsSteady script.now self.new heap.new }
+        ensures framed { DeathStandsAfterFrame result self.new }
+        ensures died { DiesUnheld result heap.new }
     {
         if let Some(object) = next_reference(&mut self.release) {
             return give_up(heap, object);
@@ -82,6 +101,14 @@ impl Death {
         self.phase = turn.phase;
         self.release = turn.release;
         turn.answer
+    }
+
+    /// Whether it is over: the object is gone, or was brought back, and nothing of the death is left on the stack.
+    pub fn is_over(&self) -> bool
+        ensures over { IsTrue result → IsOffStack self.now }
+        ensures going { result ≡ false → IsGoing self.now }
+    {
+        self.phase == Phase::Over && self.release.is_none()
     }
 }
 
@@ -115,6 +142,14 @@ fn turn<B: Kind>(object: u64, phase: Phase, heap: &mut Heap<B>, script: &Script)
     ensures answers { TurnAnswers object phase heap.new result }
     ensures over { phase ≡ phase_of.Over → result.answer ≡ answer_of.Gone }
     ensures ends { result.answer ≡ answer_of.Gone → EndsSo result }
+    ensures settled { LeavesSettled result }
+    ensures going { GoesOnAfter result }
+    ensures objects { MakesNone heap.old heap.new }
+    ensures holds { TakesFewHolds heap.old heap.new }
+    ensures names { KeepsNames heap.old heap.new }
+    ensures steady { TurnStaysSteady script.now heap.old object phase heap.new result }
+    ensures framed { TurnStandsAfterFrame result }
+    ensures died { TurnDiesUnheld result heap.new }
 {
     match phase {
         Phase::Finalizer => run_finalizer(object, heap, script),

@@ -10,8 +10,10 @@ ghost use Rattle.cg_script.specs.declared.Script.{Script};
 ghost use Rattle.cg_heap.specs.Calls.{HasFewHolds};
 ghost use Rattle.cg_death.specs.declared.phase.Phase.TheVariants as phase_of;
 ghost use Rattle.cg_death.specs.Activities.{IsUnheld};
-ghost use Rattle.cg_death.specs.Answers.{TurnSteps, TurnAnswers};
+ghost use Rattle.cg_death.specs.Answers.{TurnSteps, TurnAnswers, MakesNone};
 ghost use Rattle.cg_death.specs.Falls.{TurnFalls};
+ghost use Rattle.cg_death.specs.Deaths.{LeavesSettled, GoesOnAfter};
+ghost use Rattle.cg_death.specs.Steady.{TurnStaysSteady, TakesFewHolds, KeepsNames, TurnStandsAfterFrame, TurnDiesUnheld};
 
 use crate::phase::{Phase, Turn};
 use cg_heap::Heap;
@@ -90,6 +92,14 @@ pub fn run_finalizer<B: Kind>(object: u64, heap: &mut Heap<B>, script: &Script) 
     ensures steps { TurnSteps script.now heap.old object phase_of.Finalizer heap.new result }
     ensures falls { TurnFalls heap.old object phase_of.Finalizer heap.new result }
     ensures answers { TurnAnswers object phase_of.Finalizer heap.new result }
+    ensures settled { LeavesSettled result }
+    ensures going { GoesOnAfter result }
+    ensures objects { MakesNone heap.old heap.new }
+    ensures holds { TakesFewHolds heap.old heap.new }
+    ensures names { KeepsNames heap.old heap.new }
+    ensures framed { TurnStandsAfterFrame result }
+    ensures died { TurnDiesUnheld result heap.new }
+    ensures steady { TurnStaysSteady script.now heap.old object phase_of.Finalizer heap.new result }
 {
     match finalizer_to_run(heap, script, object) {
         None => Turn::to(Phase::Clearing),
@@ -109,6 +119,14 @@ pub fn run_legacy<B: Kind>(object: u64, heap: &mut Heap<B>, script: &Script) -> 
     ensures steps { TurnSteps script.now heap.old object phase_of.LegacyFinalizer heap.new result }
     ensures falls { TurnFalls heap.old object phase_of.LegacyFinalizer heap.new result }
     ensures answers { TurnAnswers object phase_of.LegacyFinalizer heap.new result }
+    ensures settled { LeavesSettled result }
+    ensures going { GoesOnAfter result }
+    ensures objects { MakesNone heap.old heap.new }
+    ensures holds { TakesFewHolds heap.old heap.new }
+    ensures names { KeepsNames heap.old heap.new }
+    ensures framed { TurnStandsAfterFrame result }
+    ensures died { TurnDiesUnheld result heap.new }
+    ensures steady { TurnStaysSteady script.now heap.old object phase_of.LegacyFinalizer heap.new result }
 {
     match finalizers_of(heap, script, object).legacy {
         None => Turn::to(Phase::Detaching),
@@ -140,6 +158,15 @@ pub fn end_finalizer<B: Kind>(object: u64, heap: &mut Heap<B>) -> Turn
         TurnSteps script heap.old object phase_of.AfterFinalizer heap.new result }
     ensures falls { TurnFalls heap.old object phase_of.AfterFinalizer heap.new result }
     ensures answers { TurnAnswers object phase_of.AfterFinalizer heap.new result }
+    ensures settled { LeavesSettled result }
+    ensures going { GoesOnAfter result }
+    ensures objects { MakesNone heap.old heap.new }
+    ensures holds { TakesFewHolds heap.old heap.new }
+    ensures names { KeepsNames heap.old heap.new }
+    ensures framed { TurnStandsAfterFrame result }
+    ensures died { TurnDiesUnheld result heap.new }
+    ensures steady { (script : Script) →
+        TurnStaysSteady script heap.old object phase_of.AfterFinalizer heap.new result }
 {
     if is_unheld_now(object, heap) {
         Turn::to(Phase::Clearing)
@@ -155,6 +182,15 @@ pub fn end_legacy<B: Kind>(object: u64, heap: &mut Heap<B>) -> Turn
         TurnSteps script heap.old object phase_of.AfterLegacy heap.new result }
     ensures falls { TurnFalls heap.old object phase_of.AfterLegacy heap.new result }
     ensures answers { TurnAnswers object phase_of.AfterLegacy heap.new result }
+    ensures settled { LeavesSettled result }
+    ensures going { GoesOnAfter result }
+    ensures objects { MakesNone heap.old heap.new }
+    ensures holds { TakesFewHolds heap.old heap.new }
+    ensures names { KeepsNames heap.old heap.new }
+    ensures framed { TurnStandsAfterFrame result }
+    ensures died { TurnDiesUnheld result heap.new }
+    ensures steady { (script : Script) →
+        TurnStaysSteady script heap.old object phase_of.AfterLegacy heap.new result }
 {
     if is_unheld_now(object, heap) {
         Turn::to(Phase::Detaching)

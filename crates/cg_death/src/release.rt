@@ -6,7 +6,8 @@ ghost use Rattle.cg_graph.specs.Store.{outside_of, count_of};
 ghost use Rattle.cg_graph.specs.Changes.{unheld};
 ghost use Rattle.cg_death.specs.declared.answer.DeathStep.TheVariants as answer_of;
 ghost use Rattle.cg_death.specs.Activities.{references_left, HasHolds};
-ghost use Rattle.cg_death.specs.Answers.{ReleaseSteps, once_released, release_answer};
+ghost use Rattle.cg_death.specs.Answers.{ReleaseSteps, once_released, release_answer, MakesNone};
+ghost use Rattle.cg_death.specs.Steady.{TakesFewHolds, KeepsNames, DiesUnheld};
 
 use crate::answer::DeathStep;
 use cg_heap::Heap;
@@ -53,6 +54,10 @@ impl Release {
         ensures answer { result ≡ release_answer (references_left self.old) heap.new }
         ensures steps { ReleaseSteps heap.old (references_left self.old) heap.new
             (references_left self.new) result }
+        ensures objects { MakesNone heap.old heap.new }
+        ensures holds { TakesFewHolds heap.old heap.new }
+        ensures names { KeepsNames heap.old heap.new }
+        ensures died { DiesUnheld result heap.new }
     {
         match self.take_first() {
             Some(object) => give_up(heap, object),
@@ -95,6 +100,10 @@ pub(crate) fn give_up<B: Kind>(heap: &mut Heap<B>, object: u64) -> DeathStep
     ensures rest { heap.new ≡ unheld (object ∷ []) heap.old }
     ensures answer { result ≡ (if count_of heap.new object == 0 then answer_of.Died object
         else answer_of.Continue) }
+    ensures objects { MakesNone heap.old heap.new }
+    ensures holds { TakesFewHolds heap.old heap.new }
+    ensures names { KeepsNames heap.old heap.new }
+    ensures died { DiesUnheld result heap.new }
 {
     if heap.unhold(object) {
         DeathStep::Died(object)

@@ -13,8 +13,10 @@ ghost use Rattle.cg_heap.specs.Calls.{HasFewHolds};
 ghost use Rattle.cg_heap.specs.Weak.{cleared_weak};
 ghost use Rattle.cg_death.specs.declared.phase.Phase.TheVariants as phase_of;
 ghost use Rattle.cg_death.specs.Activities.{IsUnheld, HasHolds, AreNewer, HasCallback, HaveCallbacks};
-ghost use Rattle.cg_death.specs.Answers.{TurnSteps, TurnAnswers};
+ghost use Rattle.cg_death.specs.Answers.{TurnSteps, TurnAnswers, MakesNone};
 ghost use Rattle.cg_death.specs.Falls.{TurnFalls};
+ghost use Rattle.cg_death.specs.Deaths.{LeavesSettled, GoesOnAfter};
+ghost use Rattle.cg_death.specs.Steady.{TurnStaysSteady, TakesFewHolds, KeepsNames, TurnStandsAfterFrame, TurnDiesUnheld};
 
 use crate::finalizers::finalizers_of;
 use crate::phase::{Phase, Turn};
@@ -34,6 +36,15 @@ pub fn clear_one<B: Kind>(object: u64, heap: &mut Heap<B>) -> Turn
         TurnSteps script heap.old object phase_of.Clearing heap.new result }
     ensures falls { TurnFalls heap.old object phase_of.Clearing heap.new result }
     ensures answers { TurnAnswers object phase_of.Clearing heap.new result }
+    ensures settled { LeavesSettled result }
+    ensures going { GoesOnAfter result }
+    ensures objects { MakesNone heap.old heap.new }
+    ensures holds { TakesFewHolds heap.old heap.new }
+    ensures names { KeepsNames heap.old heap.new }
+    ensures framed { TurnStandsAfterFrame result }
+    ensures died { TurnDiesUnheld result heap.new }
+    ensures steady { (script : Script) →
+        TurnStaysSteady script heap.old object phase_of.Clearing heap.new result }
 {
     heap.sound();
     match newest_to_clear(object, heap) {
@@ -96,6 +107,15 @@ pub fn call_one<B: Kind>(object: u64, heap: &mut Heap<B>) -> Turn
         TurnSteps script heap.old object phase_of.Calling heap.new result }
     ensures falls { TurnFalls heap.old object phase_of.Calling heap.new result }
     ensures answers { TurnAnswers object phase_of.Calling heap.new result }
+    ensures settled { LeavesSettled result }
+    ensures going { GoesOnAfter result }
+    ensures objects { MakesNone heap.old heap.new }
+    ensures holds { TakesFewHolds heap.old heap.new }
+    ensures names { KeepsNames heap.old heap.new }
+    ensures framed { TurnStandsAfterFrame result }
+    ensures died { TurnDiesUnheld result heap.new }
+    ensures steady { (script : Script) →
+        TurnStaysSteady script heap.old object phase_of.Calling heap.new result }
 {
     match heap.newest_waiting(object) {
         None => Turn::to(Phase::LegacyFinalizer),
@@ -112,6 +132,15 @@ fn call_back<B: Kind>(object: u64, weak: u64, heap: &mut Heap<B>) -> Turn
         TurnSteps script heap.old object phase_of.Calling heap.new result }
     ensures falls { TurnFalls heap.old object phase_of.Calling heap.new result }
     ensures answers { TurnAnswers object phase_of.Calling heap.new result }
+    ensures settled { LeavesSettled result }
+    ensures going { GoesOnAfter result }
+    ensures objects { MakesNone heap.old heap.new }
+    ensures holds { TakesFewHolds heap.old heap.new }
+    ensures names { KeepsNames heap.old heap.new }
+    ensures framed { TurnStandsAfterFrame result }
+    ensures died { TurnDiesUnheld result heap.new }
+    ensures steady { (script : Script) →
+        TurnStaysSteady script heap.old object phase_of.Calling heap.new result }
 {
     heap.sound();
     let callback = take_callback(weak, heap);
@@ -145,6 +174,15 @@ pub fn end_call<B: Kind>(object: u64, weak: u64, callback: u64, heap: &mut Heap<
         TurnSteps script heap.old object (phase_of.AfterCall weak callback) heap.new result }
     ensures falls { TurnFalls heap.old object (phase_of.AfterCall weak callback) heap.new result }
     ensures answers { TurnAnswers object (phase_of.AfterCall weak callback) heap.new result }
+    ensures settled { LeavesSettled result }
+    ensures going { GoesOnAfter result }
+    ensures objects { MakesNone heap.old heap.new }
+    ensures holds { TakesFewHolds heap.old heap.new }
+    ensures names { KeepsNames heap.old heap.new }
+    ensures framed { TurnStandsAfterFrame result }
+    ensures died { TurnDiesUnheld result heap.new }
+    ensures steady { (script : Script) →
+        TurnStaysSteady script heap.old object (phase_of.AfterCall weak callback) heap.new result }
 {
     let answer = give_up(heap, callback);
     Turn {
@@ -160,6 +198,14 @@ pub fn detach_one<B: Kind>(object: u64, heap: &mut Heap<B>, script: &Script) -> 
     ensures steps { TurnSteps script.now heap.old object phase_of.Detaching heap.new result }
     ensures falls { TurnFalls heap.old object phase_of.Detaching heap.new result }
     ensures answers { TurnAnswers object phase_of.Detaching heap.new result }
+    ensures settled { LeavesSettled result }
+    ensures going { GoesOnAfter result }
+    ensures objects { MakesNone heap.old heap.new }
+    ensures holds { TakesFewHolds heap.old heap.new }
+    ensures names { KeepsNames heap.old heap.new }
+    ensures framed { TurnStandsAfterFrame result }
+    ensures died { TurnDiesUnheld result heap.new }
+    ensures steady { TurnStaysSteady script.now heap.old object phase_of.Detaching heap.new result }
 {
     heap.sound();
     match newest_to_detach(object, heap, script) {

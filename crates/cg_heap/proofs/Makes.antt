@@ -208,7 +208,7 @@ module _ (all : List Bodies) (v : Nodes) (objects number : ℕ) (store : Store) 
         | inl same ↦ subst IsWellMadeAt (sym (get-insert_same store.nodes serial s (new_node code class parts) same)) (record {
           items = λ list. subst (λ c. IsParts c parts) list is_parts;
           classed = class_fits;
-          single = λ weak. (subst (λ c. IsParts c parts) weak is_parts).1;
+          single = λ weak. subst (λ c. IsParts c parts) weak is_parts;
         })
         | inr differs ↦ subst IsWellMadeAt (sym (get-insert_other store.nodes serial s (new_node code class parts) differs)) (ok.well s)
       ]

@@ -114,7 +114,7 @@ module _ (n body spare room : ℕ) where
     shape = shape-up boxes first_nodes.nodes (opening_store n) shape-opening (1 ∷ []);
     counted = counted-opening;
     well = λ s. elim (cases_eq s 1) [
-      | inl same ↦ subst IsWellMadeAt (sym (get-insert_same fin.empty 1 s garbage_node same)) (record { items = λ list. All-nil (λ (e : Entry). e.key ≡ val.None); classed = refl; single = λ weak. omega arith })
+      | inl same ↦ subst IsWellMadeAt (sym (get-insert_same fin.empty 1 s garbage_node same)) (record { items = λ list. All-nil (λ (e : Entry). e.key ≡ val.None); classed = refl; single = λ weak. (All-nil (λ (e : Entry). e.key ≡ val.None), omega arith) })
       | inr differs ↦ subst IsWellMadeAt (sym (none-other_object s differs)) tt
     ];
     numbered =

@@ -212,7 +212,7 @@ pub well-fewer : (x : Node) (es : List Entry) → (AreItems x.entries → AreIte
 well-fewer x es items fewer h = record {
   items = λ list. items (h.items list);
   classed = h.classed;
-  single = λ weak. omega (arith, fewer, h.single weak);
+  single = λ weak. let was = h.single weak in (items was.0, omega (arith, fewer, was.1));
 }
 
 pub well-remove : (x : Node) (i : ℕ) → length (remove x.entries i) ≤ length x.entries → IsWellMade x → IsWellMade (with_entries (remove x.entries i) x)

@@ -138,7 +138,8 @@ pub record IsSound (store : Store) : Type 0 where
   pub live : (s : ℕ) → 0 < inner store s → IsLive store s
   pub fits : (s : ℕ) → count_of store s < 4294967296
   pub below : (s : ℕ) → IsLive store s → s ≤ store.last
-  -- the items of a list have no keys, a weak reference has at most one entry, and instances and functions have a number
+  -- the items of a list and the callback of a weak reference have no keys, a weak reference has no other entry, and
+  -- instances and functions have a number
   pub well : (s : ℕ) → IsWellMadeAt (fin.get store.nodes s)
   pub listed : IsListed store
   pub root : HasCode store 1 ListKind  -- the garbage list lives

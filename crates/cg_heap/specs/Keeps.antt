@@ -67,11 +67,12 @@ HasClass Inst class = IsSome class
 HasClass Func class = IsSome class
 HasClass code class = class ≡ None
 
--- What is true of each object: the items of a list have no keys, and a weak reference has at most one entry, its callback.
+-- What is true of each object: the items of a list have no keys, and a weak reference has at most one entry, its callback,
+-- which has no key.
 pub record IsWellMade (n : Node) : Type 0 where
   pub items : n.code ≡ ListKind → AreItems n.entries
   pub classed : HasClass n.code n.class
-  pub single : n.code ≡ Weak → length n.entries ≤ 1
+  pub single : n.code ≡ Weak → AreItems n.entries × (length n.entries ≤ 1)
 
 abbrev pub IsWellMadeAt : Option Node → Type 0
 IsWellMadeAt None = Unit {0}

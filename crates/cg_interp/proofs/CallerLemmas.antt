@@ -40,7 +40,7 @@ module _ (script : Script) (old new : State) (top top_after : Own) (a b : Activi
         shows = subst (λ st. ShowsAll script new.activities (f st)) (sym at)
             (subst (λ l. ShowsAll script l (f (a ∷ below))) (sym top_is)
             (subst (λ st. ShowsAll script (top_after ∷ old.activities) st) (sym (turns below))
-            (record { tops = b ∷ []; below = below; shows = shows; over = stands.shows.over; is = refl })));
+            (record { tops = b ∷ []; below = below; shows = shows; some = λ e. absurd (cc); over = stands.shows.over; is = refl })));
         budget = stands.budget ∙ sym budget;
         running = stands.running;
         threshold = stands.threshold;
@@ -92,7 +92,7 @@ module _ (script : Script) (old new : State) (top : Own) (given_up : Entry) (rel
   stands_after c left store is budget = record {
     represents = subst (λ st. Represents st (push (Releasing (entry_references given_up)) after)) (sym store) c.represents;
     shows = subst (λ l. ShowsAll script l (Releasing (entry_references given_up) ∷ after.stack)) (sym is)
-        (record { tops = Releasing (entry_references given_up) ∷ []; below = after.stack; shows = ap (λ l. Releasing l ∷ []) (sym left); over = c.shows; is = refl });
+        (record { tops = Releasing (entry_references given_up) ∷ []; below = after.stack; shows = ap (λ l. Releasing l ∷ []) (sym left); some = λ e. absurd (cc); over = c.shows; is = refl });
     budget = c.budget ∙ sym budget;
     running = c.running;
     threshold = c.threshold;

@@ -1,8 +1,10 @@
 -- A death on top of the stack.
 use Rattle.std.proofs.Common.{◌≡◌, ◌≢◌, refl, sym, ◌∙◌, ap, subst, ℕ, ◌+◌, ◌<◌, Bool, true, false, cond, inl, inr, List, [], ◌∷◌, Option, None, Some, map, arith, ◌++◌}
-use Rattle.std.specs.Prelude.{◌==◌, count_by, filter, reverse}
+use Rattle.std.specs.Prelude.{◌==◌, count_by, filter, reverse, if◌then◌else◌}
 use Rattle.std.proofs.lemmas.Bool.{eqb-true, eq-eqb}
+use Rattle.std.proofs.lemmas.List.{append_cancel_right}
 use Rattle.std.proofs.lemmas.List.Sums.{sum_by-cons}
+use Rattle.cg_heap.specs.Weak.{AreRows}
 use Rattle.cg_script.specs.declared.Script.{Script}
 use Rattle.cg_graph.specs.Member.{Includes}
 use Rattle.cg_graph.specs.Rows.{Row, waits_with, waiting_in}
@@ -11,11 +13,12 @@ use Rattle.cg_graph.proofs.Members.{either, true_and, Includes-append_left}
 use Rattle.cg_machine.specs.World as machine
 use Rattle.cg_machine.specs.World.{World, Numbers, Activity, Dying, Finalizer}
 use Rattle.cg_machine.specs.declared.event.Event.{Event}
-use Rattle.cg_machine.specs.declared.event.Event.TheVariants.{Free}
+use Rattle.cg_machine.specs.declared.event.Event.TheVariants.{Free, Enter, BudgetSpent}
 use Rattle.cg_machine.specs.declared.event.FrameSpec.{FrameSpec}
 use Rattle.cg_machine.specs.Holdings.{is_death_of}
 use Rattle.cg_machine.specs.Frame.{Transition, begin_death, start_frame}
 use Rattle.cg_machine.specs.Represents.{Represents, Goes}
+use Rattle.cg_machine.specs.Run.{StepTaken, events_of, last_world}
 use Rattle.cg_death.specs.declared.release.Release.{Release}
 use Rattle.cg_death.specs.declared.phase.Phase.{Phase}
 use Rattle.cg_death.specs.declared.death.Death.{Death}
@@ -23,13 +26,14 @@ use Rattle.cg_death.specs.Activities.{activities, death_activities, death_of}
 use Rattle.cg_death.specs.declared.phase.Phase.TheVariants as phase_of
 use Rattle.cg_death.specs.declared.answer.DeathStep.{DeathStep}
 use Rattle.cg_death.specs.declared.answer.DeathStep.TheVariants as answer_of
-use Rattle.cg_death.specs.Answers.{DeathSteps, DeathAnswer, WentOn, GaveDeath, GaveFrame, Keeps, numbers_after}
+use Rattle.cg_death.specs.Answers.{DeathSteps, DeathAnswer, WentOn, GaveDeath, GaveFrame, Keeps as KeepsWorld, numbers_after}
 use Rattle.cg_interp.specs.declared.turned.Turned.{Turned}
 use Rattle.cg_interp.specs.declared.turned.Turned.TheVariants as turned
-use Rattle.cg_death.specs.Deaths.{on_stack}
+use Rattle.cg_death.specs.Deaths.{on_stack, DeathFalls, HasCause, IsSettled}
 use Rattle.cg_interp.specs.declared.activity.Activity.TheVariants as activity
 use Rattle.cg_interp.specs.Engines.{State, StandsFor, ShowsAll, released_first, death_shown, under}
-use Rattle.cg_interp.specs.Turns.{DyingIsSound, Makes, Comes, Reaches, Hands}
+use Rattle.cg_interp.specs.Turns.{DyingIsSound, Makes, Turns, GoesTo, GivesDeath, StaysOn}
+use Rattle.cg_interp.proofs.DeathMoves.{no_fall, no_death_on_top}
 
 -- a death as an activity, by the weak references that wait in the heap
 shown_by : (o : ℕ) (phase : Phase) (release : Option Release) (store : Store) → activities o phase release store ≡ released_first release (death_activities o phase (waiting_for store o))
@@ -72,12 +76,12 @@ none_waits script e o w stands sound =
     was_not_dying o w sound found.0 found.1 (found.2 ∙ is)))
 
 -- its death is on top then
-pub dies : (script : Script) (old new : State) (o : ℕ) (death : Death) (w : World) → StandsFor script old w → Represents new.store (begin_death o w) → on_stack death new.store ≡ death_of o Finalizer ∷ [] → new.activities ≡ activity.Dying death ∷ old.activities → new.budget ≡ old.budget
+pub dies : (script : Script) (old new : State) (o : ℕ) (death : Death) (w : World) → StandsFor script old w → Represents new.store (begin_death o w) → on_stack death new.store ≡ death_of o Finalizer ∷ [] → IsSettled death → new.activities ≡ activity.Dying death ∷ old.activities → new.budget ≡ old.budget
     → StandsFor script new (begin_death o w)
-dies script old new o death w stands represents shown top budget = record {
+dies script old new o death w stands represents shown settled top budget = record {
   represents = represents;
   shows = subst (λ l. ShowsAll script l (begin_death o w).stack) (sym top)
-      (record { tops = death_of o Finalizer ∷ []; below = w.stack; shows = (waiting_for new.store death.object, sym shown ∙ shown_on_stack death new.store); over = stands.shows; is = refl });
+      (record { tops = death_of o Finalizer ∷ []; below = w.stack; shows = (waiting_for new.store death.object, sym shown ∙ shown_on_stack death new.store, settled); some = λ e. absurd (cc); over = stands.shows; is = refl });
   budget = stands.budget ∙ sym budget;
   running = stands.running;
   threshold = stands.threshold;
@@ -106,79 +110,139 @@ kept_threshold : (event : Event) (n : Numbers) → (numbers_after event n).zero_
 kept_threshold (Free o) n = refl
 kept_threshold event n = refl
 
+-- the object whose death is handed out is another one
+pub another_dies : (death : Death) (new : Store) (answer : DeathStep) (o : ℕ) → HasCause death new answer → answer ≡ answer_of.Died o → o ≢ death.object
+another_dies death new answer o cause is = (subst (HasCause death new) is cause).1
+
+-- a run that prints a line has a step
+prints_moves : (steps : List StepTaken) (event : Event) (events : List Event) → events_of steps ≡ event ∷ events → steps ≢ []
+prints_moves steps event events prints none = let clash : [] ≡ event ∷ events = ap events_of (sym none) ∙ prints in absurd (cc)
+
+-- so the start of a frame has one
+starts_moves : (script : Script) (spec : FrameSpec) (w : World) (steps : List StepTaken) → events_of steps ≡ (start_frame script spec w).0 → steps ≢ []
+starts_moves script spec w steps prints = by (w.budget == 0) _ _ prints
+  where
+    by : (b : Bool) (spent entered : World) → events_of steps ≡ (if◌then◌else◌ {A = Transition} b (BudgetSpent ∷ [], spent) (Enter spec.sort spec.subject ∷ [], entered)).0 → steps ≢ []
+    by true spent entered is = prints_moves steps BudgetSpent [] is
+    by false spent entered is = prints_moves steps (Enter spec.sort spec.subject) [] is
+
 -- a transition that the machine came to
-comes : (script : Script) (w : World) (e : State) (t : Transition) (answer : Turned) → Goes script w t.0 t.1 → Makes script t e answer → Comes script w e answer
-comes script w e t turned.Quiet goes makes = record { after = t.1; goes = subst (λ es. Goes script w es t.1) makes.0 goes; stands = makes.1 }
-comes script w e t (turned.Line event) goes makes = record { after = t.1; goes = subst (λ es. Goes script w es t.1) makes.0 goes; stands = makes.1 }
-comes script w e t turned.Ended goes makes = record { after = t.1; goes = subst (λ es. Goes script w es t.1) makes.0 goes; ended = makes.1 }
-comes script w e t turned.Spent goes makes = record { after = t.1; goes = subst (λ es. Goes script w es t.1) makes.0 goes; ended = makes.1 }
+comes : (script : Script) (w : World) (e : State) (t : Transition) (answer : Turned) → (goes : Goes script w t.0 t.1) → goes.steps ≢ [] → Makes script t e answer → Turns script w e answer
+comes script w e t turned.Quiet goes moves makes = record { after = t.1; goes = record { steps = goes.steps; run = goes.run; prints = goes.prints ∙ makes.0; ends = goes.ends }; moves = moves; stands = makes.1 }
+comes script w e t (turned.Line event) goes moves makes = record { after = t.1; goes = record { steps = goes.steps; run = goes.run; prints = goes.prints ∙ makes.0; ends = goes.ends }; moves = moves; stands = makes.1 }
+comes script w e t turned.Ended goes moves makes = record { after = t.1; goes = record { steps = goes.steps; run = goes.run; prints = goes.prints ∙ makes.0; ends = goes.ends }; ended = makes.1 }
+comes script w e t turned.Spent goes moves makes = record { after = t.1; goes = record { steps = goes.steps; run = goes.run; prints = goes.prints ∙ makes.0; ends = goes.ends }; ended = makes.1 }
+
+-- what of a death on top is on the stack
+module _ (script : Script) (e : State) (death : Death) (w : World) (stands : StandsFor script (under (activity.Dying death) e) w) where
+  -- it is what the heap tells
+  pub tops_shown : stands.shows.tops ≡ on_stack death e.store
+  tops_shown =
+      stands.shows.shows.1
+      ∙ ap (released_first death.release) (waits_known e.store w death.object death.phase stands.shows.shows.0 stands.represents (λ d m.
+      subst (λ st. Includes st (Dying d)) (sym (stands.shows.is ∙ ap (λ l. l ++ stands.shows.below) stands.shows.shows.1)) (within death.release (death_activities death.object death.phase stands.shows.shows.0) stands.shows.below (Dying d) m)))
+      ∙ sym (shown_on_stack death e.store)
+
+  pub death_on_top : w.stack ≡ on_stack death e.store ++ stands.shows.below
+  death_on_top = stands.shows.is ∙ ap (λ l. l ++ stands.shows.below) tops_shown
+
+  pub death_inside : (a : Activity) → Includes (death_activities death.object death.phase (waiting_for e.store death.object)) a → Includes w.stack a
+  death_inside a m =
+      subst (λ st. Includes st a) (sym (death_on_top ∙ ap (λ l. l ++ stands.shows.below) (shown_on_stack death e.store)))
+      (within death.release (death_activities death.object death.phase (waiting_for e.store death.object)) stands.shows.below a m)
+
+  pub something_shown : on_stack death e.store ≢ []
+  something_shown none = stands.shows.some (tops_shown ∙ none)
 
 -- a death on top
 module _ (script : Script) (old new : State) (death after_death : Death) (answer : DeathStep) (w : World) (stands : StandsFor script (under (activity.Dying death) old) w) (sound : DyingIsSound w)
-    (steps : DeathSteps script old.store (on_stack death old.store) new.store (on_stack after_death new.store) answer) where
+    (steps : DeathSteps script old.store (on_stack death old.store) new.store (on_stack after_death new.store) answer) (settles : IsSettled death → IsSettled after_death) (put : StaysOn after_death old.activities new.activities) (budget : new.budget ≡ old.budget) where
   rest : List Activity
   rest = stands.shows.below
 
   at : w.stack ≡ on_stack death old.store ++ rest
   unfolding rest
-  at =
-      stands.shows.is
-      ∙ ap (λ l. l ++ stands.shows.below) (stands.shows.shows.1
-      ∙ ap (released_first death.release) (waits_known old.store w death.object death.phase stands.shows.shows.0 stands.represents (λ d m.
-      subst (λ st. Includes st (Dying d)) (sym (stands.shows.is ∙ ap (λ l. l ++ stands.shows.below) stands.shows.shows.1)) (within death.release (death_activities death.object death.phase stands.shows.shows.0) stands.shows.below (Dying d) m)))
-      ∙ sym (shown_on_stack death old.store))
+  at = death_on_top script old death w stands
 
   says : DeathAnswer script w new.store (on_stack after_death new.store ++ rest) answer
   says = steps w rest (record { represents = stands.represents; top = at; running = stands.running; unheld = sound.unheld; once = sound.once })
 
-  with_rest : (stack : List Activity) → stack ≡ on_stack after_death new.store ++ rest → ShowsAll script (activity.Dying after_death ∷ old.activities) stack
+  with_rest : (stack : List Activity) → stack ≡ on_stack after_death new.store ++ rest → ShowsAll script new.activities stack
   unfolding rest
-  with_rest stack is = record { tops = on_stack after_death new.store; below = stands.shows.below; shows = (waiting_for new.store after_death.object, shown_on_stack after_death new.store); over = stands.shows.over; is = is }
+  with_rest stack is = either put
+      (λ going.
+      subst (λ l. ShowsAll script l stack) (sym going.1) (record { tops = on_stack after_death new.store; below = stands.shows.below; shows = (waiting_for new.store after_death.object, shown_on_stack after_death new.store, settles stands.shows.shows.2); some = going.0 new.store; over = stands.shows.over; is = is }))
+      (λ gone. subst (λ l. ShowsAll script l stack) (sym gone.1) (subst (ShowsAll script old.activities) (sym (is ∙ ap (λ l. l ++ stands.shows.below) (gone.0 new.store))) stands.shows.over))
 
-  module _ (budget : new.budget ≡ old.budget) where
-    went_on : (events : List Event) (numbers : Numbers) → numbers.zero_threshold ≡ w.numbers.zero_threshold → (stack : List Activity) → WentOn script w events numbers new.store stack → ShowsAll script new.activities stack → Reaches script w events new
-    went_on events numbers same stack went shows = record {
-      after = went.goes.after;
-      goes = went.goes.goes;
-      stands = record {
-        represents = went.goes.represents;
-        shows = subst (ShowsAll script new.activities) (sym went.goes.top) shows;
-        budget = went.keeps.budget ∙ stands.budget ∙ sym budget;
-        running = went.keeps.outcome ∙ stands.running;
-        threshold = ap (λ (n : Numbers). n.zero_threshold) went.keeps.numbers ∙ same ∙ stands.threshold;
-      };
-    }
+  went_on : (events : List Event) (numbers : Numbers) → numbers.zero_threshold ≡ w.numbers.zero_threshold → (went : WentOn script w events numbers new.store (on_stack after_death new.store ++ rest)) → went.goes.goes.steps ≢ [] → GoesTo script w events new
+  went_on events numbers same went moves = record {
+    after = went.goes.after;
+    goes = went.goes.goes;
+    moves = moves;
+    stands = record {
+      represents = went.goes.represents;
+      shows = with_rest went.goes.after.stack went.goes.top;
+      budget = went.keeps.budget ∙ stands.budget ∙ sym budget;
+      running = went.keeps.outcome ∙ stands.running;
+      threshold = ap (λ (n : Numbers). n.zero_threshold) went.keeps.numbers ∙ same ∙ stands.threshold;
+    };
+  }
 
-    pub death_continues : answer ≡ answer_of.Continue → new.activities ≡ activity.Dying after_death ∷ old.activities → Reaches script w [] new
-    death_continues is top = went_on [] w.numbers refl (on_stack after_death new.store ++ rest) (subst (DeathAnswer script w new.store (on_stack after_death new.store ++ rest)) is says)
-        (subst (λ l. ShowsAll script l (on_stack after_death new.store ++ rest)) (sym top) (with_rest _ refl))
+  -- where no step was taken the world is the same
+  stayed : (after : World) (taken : List StepTaken) → last_world w taken ≡ after → taken ≡ [] → w ≡ after
+  stayed after taken ends none = sym (ap (last_world w) none) ∙ ends
 
-    pub death_tells : (event : Event) → answer ≡ answer_of.Emit event → new.activities ≡ activity.Dying after_death ∷ old.activities → Reaches script w (event ∷ []) new
-    death_tells event is top = went_on (event ∷ []) (numbers_after event w.numbers) (kept_threshold event w.numbers) (on_stack after_death new.store ++ rest) (subst (DeathAnswer script w new.store (on_stack after_death new.store ++ rest)) is says)
-        (subst (λ l. ShowsAll script l (on_stack after_death new.store ++ rest)) (sym top) (with_rest _ refl))
+  -- and so is what of the death is on the stack
+  same_top : (after : World) → after.stack ≡ on_stack after_death new.store ++ rest → w ≡ after → on_stack death old.store ≡ on_stack after_death new.store
+  same_top after top same = append_cancel_right (on_stack death old.store) (on_stack after_death new.store) rest (sym at ∙ ap (λ (v : World). v.stack) same ∙ top)
 
-    pub death_ends : answer ≡ answer_of.Gone → on_stack after_death new.store ≡ [] → new.activities ≡ old.activities → Reaches script w [] new
-    unfolding rest
-    death_ends is none top = went_on [] w.numbers refl (on_stack after_death new.store ++ rest) (subst (DeathAnswer script w new.store (on_stack after_death new.store ++ rest)) is says)
-        (subst (λ l. ShowsAll script new.activities (l ++ rest)) (sym none) (subst (λ l. ShowsAll script l stands.shows.below) (sym top) stands.shows.over))
+  pub death_continues : answer ≡ answer_of.Continue → AreRows old.store → AreRows new.store → after_death.object ≡ death.object → (answer ≡ answer_of.Continue → DeathFalls death old.store after_death new.store) → GoesTo script w [] new
+  death_continues is rows_old rows_new object falls = go (subst (DeathAnswer script w new.store (on_stack after_death new.store ++ rest)) is says)
+    where
+      go : WentOn script w [] w.numbers new.store (on_stack after_death new.store ++ rest) → GoesTo script w [] new
+      go went = went_on [] w.numbers refl went (λ none.
+          let same = stayed went.goes.after went.goes.goes.steps went.goes.goes.ends none in
+          no_fall death after_death old.store new.store went.goes.after (subst (Represents old.store) same stands.represents) went.goes.represents rows_old rows_new object (same_top went.goes.after went.goes.top same) (falls is))
 
-    handed : (u : World) → Represents new.store u → u.stack ≡ on_stack after_death new.store ++ rest → Keeps w w.numbers u → new.activities ≡ activity.Dying after_death ∷ old.activities → StandsFor script new u
-    handed u represents is keeps top = record {
-      represents = represents;
-      shows = subst (λ l. ShowsAll script l u.stack) (sym top) (with_rest u.stack is);
-      budget = keeps.budget ∙ stands.budget ∙ sym budget;
-      running = keeps.outcome ∙ stands.running;
-      threshold = ap (λ (n : Numbers). n.zero_threshold) keeps.numbers ∙ stands.threshold;
-    }
+  pub death_tells : (event : Event) → answer ≡ answer_of.Emit event → GoesTo script w (event ∷ []) new
+  death_tells event is = go (subst (DeathAnswer script w new.store (on_stack after_death new.store ++ rest)) is says)
+    where
+      go : WentOn script w (event ∷ []) (numbers_after event w.numbers) new.store (on_stack after_death new.store ++ rest) → GoesTo script w (event ∷ []) new
+      go went = went_on (event ∷ []) (numbers_after event w.numbers) (kept_threshold event w.numbers) went (prints_moves went.goes.goes.steps event [] went.goes.goes.prints)
 
-    pub death_hands : (o : ℕ) → answer ≡ answer_of.Died o → new.activities ≡ activity.Dying after_death ∷ old.activities → Hands script w o new
-    death_hands o is top =
-        let gave : GaveDeath script w o new.store (on_stack after_death new.store ++ rest) = subst (DeathAnswer script w new.store (on_stack after_death new.store ++ rest)) is says in
-        record { before = gave.hands.before; goes = gave.hands.goes; stands = handed gave.hands.before gave.hands.represents gave.hands.top gave.keeps top }
+  pub death_ends : answer ≡ answer_of.Gone → on_stack after_death new.store ≡ [] → GoesTo script w [] new
+  death_ends is none = go (subst (DeathAnswer script w new.store (on_stack after_death new.store ++ rest)) is says)
+    where
+      go : WentOn script w [] w.numbers new.store (on_stack after_death new.store ++ rest) → GoesTo script w [] new
+      go went = went_on [] w.numbers refl went (λ still. something_shown script old death w stands (same_top went.goes.after went.goes.top (stayed went.goes.after went.goes.goes.steps went.goes.goes.ends still) ∙ none))
 
-    -- a frame that starts from the world in which it is handed out
-    pub death_calls : (spec : FrameSpec) (final : State) (turned_to : Turned) → answer ≡ answer_of.Frame spec → new.activities ≡ activity.Dying after_death ∷ old.activities
-        → ((u : World) → StandsFor script new u → Makes script (start_frame script spec u) final turned_to) → Comes script w final turned_to
-    death_calls spec final turned_to is top starts =
-        let gave : GaveFrame script w spec new.store (on_stack after_death new.store ++ rest) = subst (DeathAnswer script w new.store (on_stack after_death new.store ++ rest)) is says in
-        comes script w final (start_frame script spec gave.hands.before) turned_to gave.hands.goes (starts gave.hands.before (handed gave.hands.before gave.hands.represents gave.hands.top gave.keeps top))
+  handed : (u : World) → Represents new.store u → u.stack ≡ on_stack after_death new.store ++ rest → KeepsWorld w w.numbers u → StandsFor script new u
+  handed u represents is keeps = record {
+    represents = represents;
+    shows = with_rest u.stack is;
+    budget = keeps.budget ∙ stands.budget ∙ sym budget;
+    running = keeps.outcome ∙ stands.running;
+    threshold = ap (λ (n : Numbers). n.zero_threshold) keeps.numbers ∙ stands.threshold;
+  }
+
+  pub death_hands : (o : ℕ) → answer ≡ answer_of.Died o → o ≢ death.object → GivesDeath script w o new
+  death_hands o is other = go (subst (DeathAnswer script w new.store (on_stack after_death new.store ++ rest)) is says)
+    where
+      go : GaveDeath script w o new.store (on_stack after_death new.store ++ rest) → GivesDeath script w o new
+      go gave = record {
+        before = gave.hands.before;
+        goes = gave.hands.goes;
+        moves = λ none.
+            let same = stayed (begin_death o gave.hands.before) gave.hands.goes.steps gave.hands.goes.ends none in
+            no_death_on_top death old.store o (on_stack after_death new.store) other
+            (append_cancel_right (death_of o Finalizer ∷ on_stack after_death new.store) (on_stack death old.store) rest (ap (λ l. death_of o Finalizer ∷ l) (sym gave.hands.top) ∙ sym (ap (λ (v : World). v.stack) same) ∙ at));
+        stands = handed gave.hands.before gave.hands.represents gave.hands.top gave.keeps;
+      }
+
+  -- a frame that starts from the world in which it is handed out
+  pub death_calls : (spec : FrameSpec) (final : State) (turned_to : Turned) → answer ≡ answer_of.Frame spec
+      → ((u : World) → StandsFor script new u → Makes script (start_frame script spec u) final turned_to) → Turns script w final turned_to
+  death_calls spec final turned_to is starts = go (subst (DeathAnswer script w new.store (on_stack after_death new.store ++ rest)) is says)
+    where
+      go : GaveFrame script w spec new.store (on_stack after_death new.store ++ rest) → Turns script w final turned_to
+      go gave = comes script w final (start_frame script spec gave.hands.before) turned_to gave.hands.goes (starts_moves script spec gave.hands.before gave.hands.goes.steps gave.hands.goes.prints) (starts gave.hands.before (handed gave.hands.before gave.hands.represents gave.hands.top gave.keeps))

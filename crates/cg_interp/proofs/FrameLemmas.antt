@@ -69,7 +69,7 @@ module _ (script : Script) (old new : State) (spec : FrameSpec) (w : World) (sta
         refl,
         record {
           represents = subst (λ st. Represents st (chosen false).1) (sym now) (holding old.store (record w { budget = w.budget - 1 }) frame (option_to_list called) (plain_frame _) is (called_live old.store called live) (anywhere stands.represents));
-          shows = subst (λ l. ShowsAll script l (frame ∷ w.stack)) (sym top) (record { tops = frame ∷ []; below = w.stack; shows = refl; over = stands.shows; is = refl });
+          shows = subst (λ l. ShowsAll script l (frame ∷ w.stack)) (sym top) (record { tops = frame ∷ []; below = w.stack; shows = refl; some = λ e. absurd (cc); over = stands.shows; is = refl });
           budget = ap (λ n. n - 1) stands.budget ∙ sym left;
           running = stands.running;
           threshold = stands.threshold;
@@ -111,7 +111,7 @@ module _ (script : Script) (old new : State) (locals : Locals) (procedure : ℕ)
 
   shows-after : (release : Option Release) → ShowsAll script (with_release_on release old.activities) (after release).stack
   shows-after None = parts.1
-  shows-after (Some release) = record { tops = Releasing (references_left release) ∷ []; below = parts.0; shows = refl; over = parts.1; is = refl }
+  shows-after (Some release) = record { tops = Releasing (references_left release) ∷ []; below = parts.0; shows = refl; some = λ e. absurd (cc); over = parts.1; is = refl }
 
   budget-after : (release : Option Release) → ((after release).budget ≡ w.budget) × ((after release).outcome ≡ w.outcome) × ((after release).numbers ≡ w.numbers)
   budget-after None = (refl, refl, refl)

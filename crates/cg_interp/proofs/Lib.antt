@@ -1,5 +1,9 @@
 mod Positions
+mod Opens
+mod Counting
+mod RunLemmas
 mod Standing
+mod Fitting
 mod FrameLemmas
 mod CallerLemmas
 mod ReleaseLemmas
@@ -7,3 +11,9 @@ mod EffectLemmas
 mod AnswerLemmas
 mod StepLemmas
 mod DeathLemmas
+mod DeathMoves
+mod Keeping
+mod Lawfully
+mod ReadyLemmas
+mod ArmLemmas
+mod SpelledLemmas

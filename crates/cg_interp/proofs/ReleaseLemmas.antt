@@ -68,7 +68,7 @@ module _ (script : Script) (old new : State) (release after_release : Release) (
   over = stands.shows.over
 
   with_rest : (stack : List Activity) → stack ≡ Releasing (references_left after_release) ∷ below → ShowsAll script (activity.Releasing after_release ∷ old.activities) stack
-  with_rest stack is = record { tops = Releasing (references_left after_release) ∷ []; below = below; shows = refl; over = over; is = is }
+  with_rest stack is = record { tops = Releasing (references_left after_release) ∷ []; below = below; shows = refl; some = λ e. absurd (cc); over = over; is = is }
 
   went_on : (stack : List Activity) → WentOn script w [] w.numbers new.store stack → (w.stack ≡ stack → ⊥) → ShowsAll script new.activities stack → GoesTo script w [] new
   went_on stack went other shows = record {

@@ -25,15 +25,15 @@ use Rattle.cg_interp.specs.Turns.{Makes, Turns}
 use Rattle.cg_interp.proofs.Standing.{plain_frame, plain_script, replaced, spelled, one_step}
 
 -- with threshold 0 at 0 no collection is due
-not_due : (w : World) → w.numbers.zero_threshold ≡ 0 → due w ≡ None
-not_due w none = ap (λ b. if b && not (is_collecting w) then Some (due_generation w.numbers) else None) quiet
+pub never_due : (w : World) → w.numbers.zero_threshold ≡ 0 → is_due w.numbers ≡ false
+never_due w none = ap (λ k. w.numbers.enabled && not (k == 0) && nat_lt w.numbers.zero_threshold w.numbers.zero_count) none ∙ by w.numbers.enabled
   where
     by : (b : Bool) → (b && not (0 == 0) && nat_lt w.numbers.zero_threshold w.numbers.zero_count) ≡ false
     by true = refl
     by false = refl
 
-    quiet : is_due w.numbers ≡ false
-    quiet = ap (λ k. w.numbers.enabled && not (k == 0) && nat_lt w.numbers.zero_threshold w.numbers.zero_count) none ∙ by w.numbers.enabled
+not_due : (w : World) → w.numbers.zero_threshold ≡ 0 → due w ≡ None
+not_due w none = ap (λ b. if b && not (is_collecting w) then Some (due_generation w.numbers) else None) (never_due w none)
 
 -- a transition that the machine may make is what a turn answers
 pub turns : (script : Script) (w : World) (e : State) (t : Transition) (answer : Turned) → w.outcome ≡ Running → StepOf script w w.stack t.0 t.1 → Makes script t e answer → Turns script w e answer
@@ -70,7 +70,7 @@ module _ (script : Script) (e : State) (next after : Option ℕ) (c : Command) (
   unfolding below script_goes_on
   script_stands = record {
     represents = replaced e.store w (TopLevel (c ∷ rest)) (TopLevel rest) below (plain_script _) (plain_script _) refl (spelled (Represents e.store) w (TopLevel (c ∷ rest) ∷ below) at stands.represents);
-    shows = record { tops = TopLevel rest ∷ []; below = below; shows = refl; over = stands.shows.over; is = refl };
+    shows = record { tops = TopLevel rest ∷ []; below = below; shows = refl; some = λ e. absurd (cc); over = stands.shows.over; is = refl };
     budget = stands.budget;
     running = stands.running;
     threshold = stands.threshold;
@@ -122,7 +122,7 @@ module _ (script : Script) (e : State) (locals : Locals) (procedure : ℕ) (next
   unfolding frame_below frame_goes_on
   frame_stands = record {
     represents = replaced e.store w (Framed running_frame) (Framed frame_after) frame_below (plain_frame _) (plain_frame _) refl (spelled (Represents e.store) w (Framed running_frame ∷ frame_below) frame_at stands.represents);
-    shows = record { tops = Framed frame_after ∷ []; below = frame_below; shows = refl; over = stands.shows.over; is = refl };
+    shows = record { tops = Framed frame_after ∷ []; below = frame_below; shows = refl; some = λ e. absurd (cc); over = stands.shows.over; is = refl };
     budget = stands.budget;
     running = stands.running;
     threshold = stands.threshold;

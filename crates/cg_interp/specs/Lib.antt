@@ -5,3 +5,4 @@ pub mod Releases
 pub mod Turns
 pub mod Callers
 pub mod Written
+pub mod Running

@@ -1,6 +1,7 @@
 -- Where the commands of a script stand among its lines. (Ours.)
 use Rattle.std.specs.Prelude.{◌≡◌, ℕ, List, map, Some, Bool, true, false, slice_get}
 use Rattle.cg_script.specs.declared.item.Item.{Item}
+use Rattle.cg_script.specs.declared.item.Script.{Script}
 use Rattle.cg_script.specs.declared.item.Item.TheVariants.{Budget, Class, Def, Run}
 use Rattle.cg_machine.specs.Program.{commands_of, procedures}
 
@@ -25,3 +26,8 @@ is_procedure (Budget n) = false
 is_procedure (Class c) = false
 is_procedure (Def p) = true
 is_procedure (Run c) = false
+
+-- a table of a script: where its commands and its procedures stand
+pub record IsTableOf (script : Script) (command_lines procedure_lines : List ℕ) : Type 0 where
+  pub commands : AreCommands script.items command_lines
+  pub procedures : AreProcedures script.items procedure_lines

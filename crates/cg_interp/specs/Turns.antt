@@ -1,20 +1,27 @@
 -- What a turn of an engine answers: what the machine does. (Ours.)
-use Rattle.std.specs.Prelude.{◌≡◌, ◌≢◌, ℕ, ◌≤◌, List, [], ◌∷◌, Option, None, Some, count_by}
+use Rattle.std.specs.Prelude.{◌≡◌, ◌≢◌, ℕ, ◌+◌, ◌*◌, ◌≤◌, length, List, [], ◌∷◌, ◌⊎◌, Option, None, Some, count_by}
 use Rattle.cg_script.specs.declared.Script.{Script}
 use Rattle.cg_machine.specs.declared.event.Event.{Event}
 use Rattle.cg_machine.specs.declared.event.Event.TheVariants.{End, BudgetSpent}
-use Rattle.cg_machine.specs.World.{World, Outcome, Ended, BudgetIsSpent, Dying, Death}
+use Rattle.cg_machine.specs.World as machine
+use Rattle.cg_machine.specs.World.{World, Outcome, Ended, BudgetIsSpent, Dying}
 use Rattle.cg_graph.specs.Member.{Includes}
+use Rattle.cg_graph.specs.Store.{objects_of}
 use Rattle.cg_machine.specs.Holdings.{holdings, is_death_of}
 use Rattle.cg_machine.specs.Laws.{IsHeldByItsDeathAlone}
 use Rattle.cg_machine.specs.Frame.{Transition, begin_death}
 use Rattle.cg_machine.specs.Run.{StepTaken, Run, last_world}
 use Rattle.cg_machine.specs.Represents.{Goes}
+use Rattle.cg_machine.specs.Lawful.{StaysLawful}
+use Rattle.cg_death.specs.declared.death.Death.{Death}
+use Rattle.cg_death.specs.Deaths.{IsGoing, IsOffStack}
+use Rattle.cg_interp.specs.declared.activity.Activity.{Activity}
+use Rattle.cg_interp.specs.declared.activity.Activity.TheVariants as activity
 use Rattle.cg_interp.specs.declared.turned.Turned.{Turned}
 use Rattle.cg_interp.specs.declared.turned.Turned.TheVariants as turned
 use Rattle.cg_interp.specs.declared.turned.Dies.{Dies}
 use Rattle.cg_interp.specs.declared.turned.Dies.TheVariants as dies
-use Rattle.cg_interp.specs.Engines.{State, StandsFor}
+use Rattle.cg_interp.specs.Engines.{State, StandsFor, under}
 
 -- A transition of the machine was made: its lines are those that were answered, and the engine stands for its world, or
 -- the run has ended.
@@ -59,33 +66,57 @@ Releases script w e (Some o) = GivesDeath script w o e
 
 -- What holds of the deaths of every run: a dying object is held by nothing but its own death, and is dying once.
 pub record DyingIsSound (w : World) : Type 0 where
-  pub unheld : (d : Death) → Includes w.stack (Dying d) → IsHeldByItsDeathAlone d.object d.phase (holdings w)
+  pub unheld : (d : machine.Death) → Includes w.stack (Dying d) → IsHeldByItsDeathAlone d.object d.phase (holdings w)
   pub once : (o : ℕ) → count_by (is_death_of o) w.stack ≤ 1
 
 -- That holds in every world to which the machine goes.
 abbrev pub StaysSound : Script → World → Type 0
 StaysSound script w = (steps : List StepTaken) → Run script w steps → DyingIsSound (last_world w steps)
 
--- The machine goes on, with these lines and perhaps in no step, to a world for which the engine stands.
-pub record Reaches (script : Script) (w : World) (events : List Event) (e : State) : Type 0 where
-  pub after : World
-  pub goes : Goes script w events after
-  pub stands : StandsFor script e after
-
--- what a turn answers, where it may also have gone on without a step
-abbrev pub Comes : Script → World → State → Turned → Type 0
-Comes script w e turned.Quiet = Reaches script w [] e
-Comes script w e (turned.Line event) = Reaches script w (event ∷ []) e
-Comes script w e turned.Ended = EndsWith script w End Ended
-Comes script w e turned.Spent = EndsWith script w BudgetSpent BudgetIsSpent
-
--- The machine goes on to a world in which the death of an object has begun: the engine stands for the world just before.
-pub record Hands (script : Script) (w : World) (o : ℕ) (e : State) : Type 0 where
-  pub before : World
-  pub goes : Goes script w [] (begin_death o before)
-  pub stands : StandsFor script e before
-
 -- what a death answers
-abbrev pub DeathComes : Script → World → State → Dies → Type 0
-DeathComes script w e (dies.Turned answer) = Comes script w e answer
-DeathComes script w e (dies.Died o) = Hands script w o e
+abbrev pub DeathTurns : Script → World → State → Dies → Type 0
+DeathTurns script w e (dies.Turned answer) = Turns script w e answer
+DeathTurns script w e (dies.Died o) = GivesDeath script w o e
+
+-- what holds of the object whose death is to begin, if there is one
+abbrev pub IfDies : Dies → (ℕ → Type 0) → Type 0
+IfDies (dies.Turned answer) holds = Unit {0}
+IfDies (dies.Died o) holds = holds o
+
+-- A death stands on top of these activities, or nothing of it is left.
+abbrev pub StaysOn : Death → List Activity → List Activity → Type 0
+StaysOn d below activities = (IsGoing d × (activities ≡ activity.Dying d ∷ below)) ⊎ (IsOffStack d × (activities ≡ below))
+
+-- What a turn in which no object is made keeps: there are no more objects, the stack may grow as high as before, and names
+-- and frames are as many.
+pub record Keeps (old new : State) : Type 0 where
+  pub objects : length (objects_of new.store) ≤ length (objects_of old.store)
+  pub room : length old.activities + old.room ≤ length new.activities + new.room
+  pub names : length new.store.names ≡ length old.store.names
+  pub frames : new.frames ≡ old.frames
+
+-- Room for all that can be under way: the frames, and the deaths and releases of all objects.
+abbrev pub HasRoom : State → Type 0
+HasRoom e = e.frames + 2 * length (objects_of e.store) + 8 ≤ length e.activities + e.room
+
+-- what an engine keeps to from turn to turn
+pub record IsFit (script : Script) (e : State) : Type 0 where
+  pub names : length e.store.names ≡ length script.names
+  pub frames : e.frames ≤ 100000
+  pub room : HasRoom e
+
+-- room besides for the death of one more object
+abbrev pub HasRoomForOneMore : State → Type 0
+HasRoomForOneMore e = e.frames + 2 * (length (objects_of e.store) + 1) + 8 ≤ length e.activities + e.room
+
+-- An engine that was fit is fit.
+abbrev pub StaysFit : State → State → Type 0
+StaysFit old new = (script : Script) → IsFit script old → IsFit script new
+
+-- With this activity on top the engine stands for a world of a run.
+abbrev pub IsAtTurn : Script → Activity → State → Type 0
+IsAtTurn script top e = (w : World) × StandsFor script (under top e) w × StaysLawful script e.frames w
+
+-- From each such world the machine goes on as is answered.
+abbrev pub TurnsFrom : Script → Activity → State → State → Turned → Type 0
+TurnsFrom script top old new answer = (w : World) → StandsFor script (under top old) w → StaysLawful script old.frames w → Turns script w new answer

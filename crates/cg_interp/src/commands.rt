@@ -13,7 +13,7 @@ ghost use Rattle.cg_machine.specs.Represents.{Represents};
 ghost use Rattle.cg_machine.specs.Commands.{refused, without_commands, effect};
 ghost use Rattle.cg_interp.specs.Engines.{StandsFor, under, over};
 ghost use Rattle.cg_interp.specs.Callers.{IsCaller, without_rest, without_rest_in_frame, Changes, transition_of_change, call_of, Does};
-ghost use Rattle.cg_interp.specs.Turns.{Makes};
+ghost use Rattle.cg_interp.specs.Turns.{Makes, Keeps};
 
 use crate::activity::Activity;
 use crate::engine::Engine;
@@ -32,6 +32,7 @@ impl<B: Kind> Engine<B> {
         requires room { 0 < self.old.room }
         ensures refuses { (script : AnyScript) (w : World) → StandsFor script (under top self.old) w
             → Makes script (refused number w) self.new result }
+        ensures keeps { Keeps self.old self.new }
     {
         self.stack.push(stopped_frame(top));
         Turned::Line(Event::Refused(number))
@@ -43,6 +44,7 @@ impl<B: Kind> Engine<B> {
         requires room { 1 < self.old.room }
         ensures changes { (script : AnyScript) (after : World) → Changes script top self.old given_up after
             → Makes script (transition_of_change line given_up after) self.new result }
+        ensures keeps { Keeps self.old self.new }
     {
         self.stack.push(top);
         self.stack.push(Activity::Releasing(Release::new(given_up)));
@@ -58,6 +60,7 @@ impl<B: Kind> Engine<B> {
         requires room { 0 < self.old.room }
         ensures quits { (script : AnyScript) (w : World) → StandsFor script (under top self.old) w
             → Makes script ([], with_stack (without_commands w.stack) w) self.new result }
+        ensures keeps { Keeps self.old self.new }
     {
         self.stack.push(stopped(top));
         Turned::Quiet
@@ -70,6 +73,7 @@ impl<B: Kind> Engine<B> {
         requires room { 1 < self.old.room }
         ensures calls { (script : AnyScript) (w : World) → StandsFor script (under top self.old) w
             → Makes script (start_frame script (call_of function w) w) self.new result }
+        ensures keeps { Keeps self.old self.new }
     {
         let proc = procedure_of(&self.heap, function);
         self.stack.push(top);
@@ -90,6 +94,7 @@ impl<B: Kind> Engine<B> {
         ensures does { (script : AnyScript) (w : World) (command : AnyCommand) (before : Store)
             → StandsFor script (over before (under top self.old)) w → IsForObjects command
             → Answers done (effect w command) before self.old.store → Does script w command self.new result }
+        ensures keeps { Keeps self.old self.new }
     {
         match done {
             Ok(done) => self.proceed(top, done),
@@ -106,6 +111,7 @@ impl<B: Kind> Engine<B> {
         ensures does { (script : AnyScript) (w : World) (command : AnyCommand) (before : Store)
             → StandsFor script (over before (under top self.old)) w → IsForObjects command
             → IsDone done (effect w command) before self.old.store → Does script w command self.new result }
+        ensures keeps { Keeps self.old self.new }
     {
         match done {
             Done::Changed { line, given_up } => self.change(top, line, given_up),

@@ -1,5 +1,5 @@
 //! A death on top.
-ghost use Rattle.std.specs.Prelude.{◌≡◌, ◌<◌, ◌≤◌, ◌+◌, ◌∷◌};
+ghost use Rattle.std.specs.Prelude.{◌≡◌, ◌<◌, ◌≤◌, ◌+◌};
 ghost use Rattle.cg_script.specs.declared.Script.{Script as AnyScript};
 ghost use Rattle.cg_machine.specs.World.{World};
 ghost use Rattle.cg_machine.specs.Frame.{begin_death};
@@ -8,7 +8,7 @@ ghost use Rattle.cg_death.specs.Deaths.{held_by, IsReady};
 ghost use Rattle.cg_heap.specs.Calls.{HasFewHolds};
 ghost use Rattle.cg_interp.specs.declared.activity.Activity.TheVariants as activity_of;
 ghost use Rattle.cg_interp.specs.Engines.{StandsFor, under};
-ghost use Rattle.cg_interp.specs.Turns.{DyingIsSound, DeathComes};
+ghost use Rattle.cg_interp.specs.Turns.{DyingIsSound, DeathTurns, StaysOn, Keeps, IfDies};
 
 use crate::activity::Activity;
 use crate::engine::Engine;
@@ -26,6 +26,7 @@ impl<B: Kind> Engine<B> {
             × DyingIsSound (begin_death object w) }
         ensures begins { (script : AnyScript) (w : World) → StandsFor script self.old w
             → StandsFor script self.new (begin_death object w) }
+        ensures keeps { Keeps self.old self.new }
     {
         let death = Death::begin(&mut self.heap, object);
         self.stack.push(Activity::Dying(death));
@@ -37,35 +38,37 @@ impl<B: Kind> Engine<B> {
         requires held { HasHolds self.old.store (held_by death self.old.store) }
         requires ready { IsReady death self.old.store }
         requires room { 1 < self.old.room }
-        ensures comes { (w : World) → StandsFor script.now (under (activity_of.Dying death) self.old) w
-            → DyingIsSound w → DeathComes script.now w self.new result }
+        ensures turns { (w : World) → StandsFor script.now (under (activity_of.Dying death) self.old) w
+            → DyingIsSound w → DeathTurns script.now w self.new result }
+        ensures dead { IfDies result (λ o. IsUnheld self.new.store o) }
+        ensures room { IfDies result (λ _. 0 < self.new.room) }
+        ensures keeps { Keeps self.old self.new }
     {
         let mut death = death;
-        match death.step(&mut self.heap, script) {
-            DeathStep::Continue => Dies::Turned(self.remain(death, Turned::Quiet)),
-            DeathStep::Emit(event) => Dies::Turned(self.remain(death, Turned::Line(event))),
-            DeathStep::Frame(spec) => {
-                self.remain(death, Turned::Quiet);
-                Dies::Turned(self.start(spec))
-            }
-            DeathStep::Died(object) => {
-                self.remain(death, Turned::Quiet);
-                Dies::Died(object)
-            }
+        self.heap.sound();
+        let answer = death.step(&mut self.heap, script);
+        self.heap.sound();
+        self.put_back(death);
+        match answer {
+            DeathStep::Continue => Dies::Turned(Turned::Quiet),
             DeathStep::Gone => Dies::Turned(Turned::Quiet),
+            DeathStep::Emit(event) => Dies::Turned(Turned::Line(event)),
+            DeathStep::Frame(spec) => Dies::Turned(self.start(spec)),
+            DeathStep::Died(object) => Dies::Died(object),
         }
     }
 
-    /// A death stays on top.
-    fn remain(&mut self, death: Death, answer: Turned) -> Turned
+    /// A death stays on top, unless it is over.
+    fn put_back(&mut self, death: Death)
         requires { 0 < self.old.room }
-        ensures top { self.new.activities ≡ activity_of.Dying death ∷ self.old.activities }
+        ensures stays { StaysOn death self.old.activities self.new.activities }
         ensures store { self.new.store ≡ self.old.store }
         ensures budget { self.new.budget ≡ self.old.budget }
         ensures room { self.old.room ≤ self.new.room + 1 }
-        ensures answer { result ≡ answer }
+        ensures keeps { Keeps self.old self.new }
     {
-        self.stack.push(Activity::Dying(death));
-        answer
+        if !death.is_over() {
+            self.stack.push(Activity::Dying(death));
+        }
     }
 }

@@ -13,7 +13,7 @@ ghost use Rattle.cg_graph.specs.Changes.{held};
 ghost use Rattle.cg_death.specs.Activities.{references_left};
 ghost use Rattle.cg_interp.specs.Engines.{StandsFor, under, commands_from};
 ghost use Rattle.cg_interp.specs.Releases.{released_by, with_release, with_release_on};
-ghost use Rattle.cg_interp.specs.Turns.{Makes, Turns};
+ghost use Rattle.cg_interp.specs.Turns.{Makes, Turns, Keeps};
 
 use crate::activity::Activity;
 use crate::engine::Engine;
@@ -33,6 +33,7 @@ impl<B: Kind> Engine<B> {
         requires room { 0 < self.old.room }
         ensures starts { (script : AnyScript) (w : World) → StandsFor script self.old w
             → Makes script (start_frame script spec w) self.new result }
+        ensures keeps { Keeps self.old self.new }
     {
         if self.budget == 0 {
             Turned::Spent
@@ -49,6 +50,7 @@ impl<B: Kind> Engine<B> {
         requires budget { 0 < self.old.budget }
         ensures starts { (script : AnyScript) (w : World) → StandsFor script self.old w
             → Makes script (start_frame script spec w) self.new result }
+        ensures keeps { Keeps self.old self.new }
     {
         self.budget -= 1;
         hold_if(&mut self.heap, called(spec.sort, spec.func));
@@ -73,6 +75,7 @@ impl<B: Kind> Engine<B> {
         ensures top { self.new.activities ≡ with_release_on release self.old.activities }
         ensures store { self.new.store ≡ self.old.store }
         ensures budget { self.new.budget ≡ self.old.budget }
+        ensures keeps { Keeps self.old self.new }
     {
         match release {
             Some(release) => self.stack.push(Activity::Releasing(release)),
@@ -85,6 +88,7 @@ impl<B: Kind> Engine<B> {
         requires room { 0 < self.old.room }
         ensures leaves { (script : AnyScript) (procedure : ℕ) (next : Option ℕ) (w : World) → commands_from next (body_of script procedure) ≡ []
             → StandsFor script (under (activity_of.Frame locals procedure next) self.old) w → Turns script w self.new result }
+        ensures keeps { Keeps self.old self.new }
     {
         self.push_if(given_up_by(locals));
         Turned::Line(Event::Leave)

@@ -7,10 +7,13 @@ mod commands;
 mod deaths;
 mod engine;
 mod frames;
+mod opening;
 mod releases;
 mod run;
 mod stack;
 mod table;
 mod turned;
+mod turns;
+mod writing;
 
 pub use run::{RunEnd, run_script};

@@ -5,7 +5,7 @@ ghost use Rattle.cg_machine.specs.World.{World};
 ghost use Rattle.cg_death.specs.Activities.{references_left, HasHolds, IsUnheld};
 ghost use Rattle.cg_interp.specs.declared.activity.Activity.TheVariants as activity_of;
 ghost use Rattle.cg_interp.specs.Engines.{StandsFor, under};
-ghost use Rattle.cg_interp.specs.Turns.{Releases, Turns, DyingIsSound, StaysSound};
+ghost use Rattle.cg_interp.specs.Turns.{Releases, Turns, DyingIsSound, StaysSound, Keeps};
 
 use crate::activity::Activity;
 use crate::engine::Engine;
@@ -26,6 +26,7 @@ impl<B: Kind> Engine<B> {
 
         ensures unheld { IfSome result (λ o. IsUnheld self.new.store o) }
         ensures room { self.old.room ≤ self.new.room + 1 }
+        ensures keeps { Keeps self.old self.new }
     {
         let mut release = release;
         match release.step(&mut self.heap) {
@@ -51,6 +52,7 @@ impl<B: Kind> Engine<B> {
             × StandsFor script (under (activity_of.Releasing release) self.old) w × StaysSound script w }
         ensures turns { (script : AnyScript) (w : World) → StandsFor script (under (activity_of.Releasing release) self.old) w
             → StaysSound script w → Turns script w self.new result }
+        ensures keeps { Keeps self.old self.new }
     {
         match self.release(release) {
             Some(object) => self.die(object),

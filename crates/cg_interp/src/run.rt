@@ -1,16 +1,26 @@
 //! Runs of scripts.
-ghost use Rattle.std.specs.Prelude.{◌≡◌, ◌≤◌, length};
+ghost use Rattle.std.specs.Prelude.{◌≡◌, ◌≢◌, ◌≤◌, length, IfOk, OnErr};
 ghost use Rattle.std.specs.Io.KnownBytes.{Keeps};
-ghost use Rattle.cg_io.specs.Causes.{Rose};
+ghost use Rattle.cg_io.specs.Causes.{Rose, HasCause};
 ghost use Rattle.cg_script.specs.Spelled.{IsSpelled};
 ghost use Rattle.cg_script.specs.Texts.{TextsAreKnown};
 ghost use Rattle.cg_graph.specs.Changes.{opening_store};
-ghost use Rattle.cg_machine.specs.World.{Ended, BudgetIsSpent};
+ghost use Rattle.cg_machine.specs.World.{World, Ended, BudgetIsSpent, opening};
+ghost use Rattle.cg_machine.specs.Lawful.{StaysLawful};
+ghost use Rattle.cg_interp.specs.Engines.{StandsFor};
+ghost use Rattle.cg_interp.specs.Tables.{IsTableOf};
+ghost use Rattle.cg_interp.specs.Turns.{IsFit};
 ghost use Rattle.cg_interp.specs.Written.{WroteRun, WrotePart};
+ghost use Rattle.cg_interp.specs.Running.{HasLaws, StaysPrintable, WritesTurn, CutsTurn};
 
+use crate::engine::Engine;
+use crate::table::Table;
+use crate::turned::Turned;
+use crate::writing::write_answer;
 use cg_heap::Heap;
-use cg_io::Sink;
+use cg_io::{Sink, WriteFailed};
 use cg_kind::Kind;
+use cg_machine::{fronts_begin_whole_texts, lines_are_printable, runs_stay_lawful};
 use cg_script::Script;
 use std::alloc::Global;
 
@@ -25,6 +35,67 @@ pub enum RunEnd {
     WriteFault,
     /// Memory for the run was refused at its opening.
     OutOfMemory,
+}
+
+/// One turn, and its line.
+fn turn_and_write<B: Kind, K: Sink>(
+    engine: &mut Engine<B>,
+    table: &Table,
+    script: &Script,
+    sink: &mut K,
+) -> Result<Turned, WriteFailed>
+    requires table { IsTableOf script.now table.now.commands.items table.now.procedures.items }
+    requires spelled { IsSpelled script.now }
+    requires fit { IsFit script.now engine.old }
+    requires stands { (w : World) × StandsFor script.now engine.old w
+        × StaysLawful script.now engine.old.frames w × StaysPrintable script.now w }
+    ensures ok { IfOk result (λ answer. (w : World) → StandsFor script.now engine.old w → StaysLawful script.now engine.old.frames w
+        → WritesTurn script.now w engine.new answer (K.written sink.old) (K.written sink.new)) }
+    ensures err { OnErr result ((w : World) → StandsFor script.now engine.old w → StaysLawful script.now engine.old.frames w
+        → CutsTurn script.now w engine.new (K.written sink.old) (K.written sink.new)) }
+    ensures cause { HasCause (K.faults sink.old) (K.faults sink.new) result }
+    ensures fit { IsFit script.now engine.new }
+    ensures frames { engine.new.frames ≡ engine.old.frames }
+{
+    let answer = engine.turn(table, script);
+    match write_answer(answer, &script.names, sink) {
+        Ok(()) => Ok(answer),
+        Err(fault) => Err(fault),
+    }
+}
+
+/// Turns, each with its line, until the run has ended or the sink has failed.
+fn run_turns<B: Kind, K: Sink>(
+    engine: &mut Engine<B>,
+    table: &Table,
+    script: &Script,
+    sink: &mut K,
+) -> RunEnd
+    requires table { IsTableOf script.now table.now.commands.items table.now.procedures.items }
+    requires spelled { IsSpelled script.now }
+    requires laws { HasLaws script.now engine.old.frames }
+    requires fit { IsFit script.now engine.old }
+    requires opens { StandsFor script.now engine.old (opening script.now engine.old.frames) }
+    ensures done { result ≡ RunEnd.Done
+        → WroteRun script.now engine.old.frames Ended (K.written sink.old) (K.written sink.new) }
+    ensures spent { result ≡ RunEnd.Budget
+        → WroteRun script.now engine.old.frames BudgetIsSpent (K.written sink.old) (K.written sink.new) }
+    ensures part { result ≡ RunEnd.WriteFault
+        → WrotePart script.now engine.old.frames (K.written sink.old) (K.written sink.new) }
+    ensures cause { result ≡ RunEnd.WriteFault → Rose (K.faults sink.old) (K.faults sink.new) }
+    ensures memory { result ≢ RunEnd.OutOfMemory }
+    ensures later { K.faults sink.old ≤ K.faults sink.new }
+{
+    fronts_begin_whole_texts();
+    'turns: loop {
+        match turn_and_write(engine, table, script, sink) {
+            Ok(Turned::Quiet) => {}
+            Ok(Turned::Line(_)) => {}
+            Ok(Turned::Ended) => return RunEnd::Done,
+            Ok(Turned::Spent) => return RunEnd::Budget,
+            Err(WriteFailed) => return RunEnd::WriteFault,
+        }
+    }
 }
 
 /// Runs a script that some bytes spell, with a budget of at most 100,000 frames, on a heap as `Heap::new` leaves it for the
@@ -50,5 +121,13 @@ pub fn run_script<B: Kind, K: Sink>(
     ensures memory { result ≡ RunEnd.OutOfMemory → Keeps (K.written sink.old) (K.written sink.new) }
     ensures later { K.faults sink.old ≤ K.faults sink.new }
 {
-    RunEnd::OutOfMemory
+    runs_stay_lawful();
+    lines_are_printable();
+    let Ok(table) = Table::new(alloc, script) else {
+        return RunEnd::OutOfMemory;
+    };
+    let Ok(mut engine) = Engine::new(alloc, heap, script, budget) else {
+        return RunEnd::OutOfMemory;
+    };
+    run_turns(&mut engine, &table, script, sink)
 }

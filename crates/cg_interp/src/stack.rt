@@ -1,5 +1,5 @@
 //! The stack of activities, whose room is reserved before it is needed.
-ghost use Rattle.std.specs.Prelude.{◌≡◌, ◌<◌, ◌≤◌, ◌+◌, [], ◌∷◌, IfOk, IfSome, OnSome, IfNone, OnOk};
+ghost use Rattle.std.specs.Prelude.{◌≡◌, ◌<◌, ◌≤◌, ◌+◌, [], ◌∷◌, IfOk, IfSome, OnSome, IfNone, OnOk, length};
 
 use crate::activity::Activity;
 use std::alloc::{AllocError, Global};
@@ -62,5 +62,15 @@ impl Stack {
         ensures same { self.new.activities ≡ self.old.activities }
     {
         self.activities.reserve(room)
+    }
+
+    /// Makes room so that the stack may grow to this height. It answers `AllocError` for want of memory alone.
+    pub fn reserve_up_to(&mut self, height: usize) -> Result<(), AllocError>
+        ensures room { OnOk result (height ≤ length self.new.activities + self.new.room) }
+        ensures more { self.old.room ≤ self.new.room }
+        ensures same { self.new.activities ≡ self.old.activities }
+    {
+        self.activities
+            .reserve(height.saturating_sub(self.activities.len()))
     }
 }

@@ -1,5 +1,5 @@
 -- A law over all commands goes by one lemma on checks in order, and a line for each command.
-use Rattle.std.proofs.Common.{◌≡◌, refl, ℕ, Bool, true, false, not, ◌&&◌, List, [], Option, Some, None, Result, Ok, Err, map}
+use Rattle.std.proofs.Common.{◌≡◌, refl, ℕ, ◌+◌, ◌≤◌, Bool, true, false, not, ◌&&◌, List, [], Option, Some, None, Result, Ok, Err, map, arith}
 use Rattle.std.specs.Prelude.{if◌then◌else◌, is_some, ◌||◌}
 use Rattle.cg_value.specs.declared.Place.{Place}
 use Rattle.cg_value.specs.declared.Place.TheVariants.{Gen}
@@ -19,12 +19,13 @@ use Rattle.cg_machine.specs.Refusals.{◌>>=◌}
 use Rattle.cg_machine.specs.Operands.{is_dict}
 use Rattle.cg_machine.proofs.Serials.{Rises, Rises-map, Rises-change, Rises-new}
 
--- an effect leaves the stack and the budget, does not end the run, and keeps that serials rise
+-- an effect leaves the stack and the budget, does not end the run, keeps that serials rise, and makes one object at most
 pub record Leaves (w after : World) : Type 0 where
   pub stack : after.stack ≡ w.stack
   pub budget : after.budget ≡ w.budget
   pub outcome : after.outcome ≡ w.outcome
   pub rises : Rises 1 w.next_serial w.objects → Rises 1 after.next_serial after.objects
+  pub serial : after.next_serial ≤ w.next_serial + 1
 
 abbrev pub LeavesStack : World → Effect → Type 0
 LeavesStack w (Changes wants_memory lines given_up after) = Leaves w after
@@ -34,15 +35,15 @@ LeavesStack w Quits = Unit {0}
 
 -- the names or the numbers change
 abbrev same : (w : World) (names : List (Option Val)) (numbers : Numbers) → Leaves w (record w { names = names; numbers = numbers })
-same w names numbers = record { stack = refl; budget = refl; outcome = refl; rises = λ r. r }
+same w names numbers = record { stack = refl; budget = refl; outcome = refl; rises = λ r. r; serial = omega arith }
 
 -- an object changes
 sets : (w : World) (f : Object → Object) → ((x : Object) → (f x).serial ≡ x.serial) → (o : ℕ) → Leaves w (with_change f o w)
-sets w f k o = record { stack = refl; budget = refl; outcome = refl; rises = λ r. Rises-change f k o 1 w.next_serial w.objects r }
+sets w f k o = record { stack = refl; budget = refl; outcome = refl; rises = λ r. Rises-change f k o 1 w.next_serial w.objects r; serial = omega arith }
 
 -- the places change
 places : (w : World) (f : Place → Place) (numbers : Numbers) → Leaves w (record w { objects = replaced f w; numbers = numbers })
-places w f numbers = record { stack = refl; budget = refl; outcome = refl; rises = λ r. Rises-map (λ x. with_place (f x.place) x) (λ x. refl) 1 w.next_serial w.objects r }
+places w f numbers = record { stack = refl; budget = refl; outcome = refl; rises = λ r. Rises-map (λ x. with_place (f x.place) x) (λ x. refl) 1 w.next_serial w.objects r; serial = omega arith }
 
 abbrev pub Each : {A : Type 0} → (A → Type 0) → Result A ℕ → Type 0
 Each P (Ok x) = P x
@@ -54,7 +55,7 @@ checked P (Ok x) f h = h x
 checked P (Err e) f h = tt
 
 makes_leaves : (w : World) (name : ℕ) (kind : KindCode) (class : Option ℕ) (entries : List Entry) (referent : Option ℕ) → Each (LeavesStack w) (makes w name kind class entries referent)
-makes_leaves w name kind class entries referent = checked (LeavesStack w) _ _ (λ _. checked (LeavesStack w) _ _ (λ _. record { stack = refl; budget = refl; outcome = refl; rises = λ r. Rises-new 1 w.next_serial w.objects _ refl r }))
+makes_leaves w name kind class entries referent = checked (LeavesStack w) _ _ (λ _. checked (LeavesStack w) _ _ (λ _. record { stack = refl; budget = refl; outcome = refl; rises = λ r. Rises-new 1 w.next_serial w.objects _ refl r; serial = omega arith }))
 
 tracked_serial : (w : World) (key v : Val) (x : Object) → (tracked_by w key v x).serial ≡ x.serial
 tracked_serial w key v x = go (is_dict x && not (is_tracked x) && (may_track w key || may_track w v))

@@ -101,7 +101,7 @@ less_due n e =
     and_from (n.enabled && not (n.zero_threshold == 0)) (nat_lt n.zero_threshold n.zero_count) parts.0 (lt-ltb n.zero_threshold n.zero_count (omega (arith, low)))
 
 -- a weak reference of an object is there, and has a referent
-Includes-reverse : (xs : List ℕ) (x : ℕ) → Includes (reverse xs) x → Includes xs x
+pub Includes-reverse : (xs : List ℕ) (x : ℕ) → Includes (reverse xs) x → Includes xs x
 Includes-reverse [] x m = m
 Includes-reverse (y ∷ xs) x m =
     either (Includes-append_cases (reverse xs) (y ∷ []) x (subst (λ ys. Includes ys x) (reverse-append (y ∷ []) xs) m)) (λ k. inr (Includes-reverse xs x k)) (λ k. either k (λ e. inl e) (λ n. absurd n))
@@ -110,7 +110,7 @@ refers_some : (o : ℕ) (r : Option ℕ) → unwrap_or (option_map (λ p. p == o
 refers_some o None e = e
 refers_some o (Some p) e = refl
 
-passed : (b : Bool) (weaks : List ℕ) (weak : ℕ) (rest : List ℕ) → (if b then weaks else []) ≡ weak ∷ rest → weaks ≡ weak ∷ rest
+pub passed : (b : Bool) (weaks : List ℕ) (weak : ℕ) (rest : List ℕ) → (if b then weaks else []) ≡ weak ∷ rest → weaks ≡ weak ∷ rest
 passed true weaks weak rest e = e
 passed false weaks weak rest e = cc
 

@@ -1,5 +1,5 @@
--- How far a command makes the world grow.
-use Rattle.std.proofs.Common.{◌≡◌, refl, ap, ℕ, suc, ◌+◌, ◌≤◌, Bool, true, false, not, ◌&&◌, inl, inr, List, [], ◌∷◌, ◌++◌, map, length, length-append, Option, Some, None, Result, Ok, Err, arith, option_to_list, take, drop, length-drop}
+-- How far a command makes the world grow, and that what it calls is a function.
+use Rattle.std.proofs.Common.{◌≡◌, refl, sym, ◌∙◌, ap, ℕ, suc, ◌+◌, ◌≤◌, Bool, true, false, not, ◌&&◌, inl, inr, List, [], ◌∷◌, ◌++◌, map, length, length-append, Option, Some, None, Result, Ok, Err, arith, option_to_list, take, drop, length-drop}
 use Rattle.std.specs.Prelude.{◌==◌, ◌||◌, nat_le, if◌then◌else◌, is_some, ok_or, option_and_then, slice_set, slice_get, remove}
 use Rattle.std.proofs.lemmas.List.{length-set, length-take}
 use Rattle.std.proofs.lemmas.Bool.{eq-eqb, ne_eqb, leb-true}
@@ -18,9 +18,10 @@ use Rattle.cg_script.specs.declared.Command.TheVariants.{MakeList, MakeTuple, Ma
 use Rattle.cg_machine.specs.World.{World, Numbers, with_change}
 use Rattle.cg_machine.specs.Effects.{Effect, Changes, Calls, Collects, Quits, makes, puts, has_room, entry_count, replaced, frozen, unfrozen, tracked_by, may_track, given_up_by}
 use Rattle.cg_machine.specs.Commands.{effect}
-use Rattle.cg_machine.specs.Refusals.{◌>>=◌, unless, entry_limit, wrong_kind}
+use Rattle.cg_machine.specs.Refusals.{◌>>=◌, unless, entry_limit, not_callable, wrong_kind}
 use Rattle.cg_machine.specs.Operands.{is_dict, object_of, tested, is_script_list, is_list, object}
-use Rattle.cg_machine.specs.Weak.{is_instance}
+use Rattle.cg_machine.specs.Weak.{is_instance, is_function}
+use Rattle.cg_machine.specs.Laws.{HasFunction}
 use Rattle.cg_machine.proofs.Tally.{bit, tally-append, tally-map_le}
 use Rattle.cg_machine.proofs.Serials.{Rises, change-below}
 use Rattle.cg_machine.proofs.Measure.{entries_in, referents_in, size_of}
@@ -37,7 +38,7 @@ pub record Grows (w after : World) (given_up : List ℕ) : Type 0 where
 
 abbrev pub GrowsBy : World → Effect → Type 0
 GrowsBy w (Changes wants_memory lines given_up after) = Grows w after given_up
-GrowsBy w (Calls f) = Unit {0}
+GrowsBy w (Calls f) = HasFunction w.objects f
 GrowsBy w (Collects g) = Unit {0}
 GrowsBy w Quits = Unit {0}
 
@@ -51,10 +52,19 @@ passed : (test : Object → Bool) (refusal : ℕ) (b : Bool) (y x : Object) → 
 passed test refusal true y x e = cc
 passed test refusal false y x e = absurd (let no : Err refusal ≡ Ok x = e in cc)
 
+passes : (test : Object → Bool) (refusal : ℕ) (b : Bool) (y x : Object) → test y ≡ b → (if b then Ok y else Err refusal) ≡ Ok x → test x ≡ true
+passes test refusal true y x t e = ap test (sym (passed test refusal true y x e)) ∙ t
+passes test refusal false y x t e = absurd (let no : Err refusal ≡ Ok x = e in cc)
+
 some_of : (test : Object → Bool) (refusal : ℕ) (m : Option Object) (x : Object) → (ok_or m refusal >>= tested test refusal) ≡ Ok x → m ≡ Some x
 unfolding ◌>>=◌
 some_of test refusal None x e = absurd (let no : Err refusal ≡ Ok x = e in cc)
 some_of test refusal (Some y) x e = ap Some (passed test refusal (test y) y x e)
+
+some_passes : (test : Object → Bool) (refusal : ℕ) (m : Option Object) (x : Object) → (ok_or m refusal >>= tested test refusal) ≡ Ok x → test x ≡ true
+unfolding ◌>>=◌
+some_passes test refusal None x e = absurd (let no : Err refusal ≡ Ok x = e in cc)
+some_passes test refusal (Some y) x e = passes test refusal (test y) y x refl e
 
 found : (w : World) (m : Option ℕ) (x : Object) → option_and_then (object_at w.objects) m ≡ Some x → Includes w.objects x
 found w None x e = absurd (let no : None ≡ Some x = e in cc)
@@ -204,7 +214,7 @@ module _ (w : World) (r : Rises 1 w.next_serial w.objects) where
   effect_grows (Get name dict key) = checked (GrowsBy w) _ _ (λ d. checked (GrowsBy w) _ _ (λ k. checked (GrowsBy w) _ _ (λ x. checked (GrowsBy w) _ _ (λ _. checked (GrowsBy w) _ _ (λ v. binding w name _)))))
   effect_grows (Attr name instance attribute) = checked (GrowsBy w) _ _ (λ o. checked (GrowsBy w) _ _ (λ x. checked (GrowsBy w) _ _ (λ v. binding w name _)))
   effect_grows (Deref name weak) = checked (GrowsBy w) _ _ (λ v. checked (GrowsBy w) _ _ (λ x. binding w name _))
-  effect_grows (Call function) = checked (GrowsBy w) _ _ (λ v. checked (GrowsBy w) _ _ (λ x. tt))
+  effect_grows (Call function) = checked (GrowsBy w) _ _ (λ v. checked_is (GrowsBy w) (object w is_function not_callable v) _ (λ x is. (x, object_member w is_function not_callable v x is, refl, some_passes is_function not_callable (object_of w v) x is)))
   effect_grows (Quit operand) = checked (GrowsBy w) _ _ (λ v. quit_grows v)
   effect_grows (Collect generation) = checked (GrowsBy w) _ _ (λ g. tt)
   effect_grows Enable = prints_so _

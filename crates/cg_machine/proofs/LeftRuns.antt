@@ -111,11 +111,11 @@ module _ (script : Script) (below : List Activity) (v : World) (rises : Rises 1 
   framed_leaves f (command ∷ commands) step c h = in_frame_leaves f command commands (due (with_stack (Framed f ∷ below) v)) step c h
 
 -- any step
-abbrev LeavesUnder : World → List Activity → World → Type 0
+abbrev pub LeavesUnder : World → List Activity → World → Type 0
 LeavesUnder w [] after = Unit {0}
 LeavesUnder w (a ∷ below) after = LeavesIt w below after
 
-step_leaves_on : (script : Script) (v : World) (stack : List Activity) (events : List Event) (after : World) → Rises 1 v.next_serial v.objects → StepOf script (with_stack stack v) stack events after → Calm script (with_stack stack v) → HasOrder (with_stack stack v) → LeavesUnder (with_stack stack v) stack after
+pub step_leaves_on : (script : Script) (v : World) (stack : List Activity) (events : List Event) (after : World) → Rises 1 v.next_serial v.objects → StepOf script (with_stack stack v) stack events after → Calm script (with_stack stack v) → HasOrder (with_stack stack v) → LeavesUnder (with_stack stack v) stack after
 step_leaves_on script v [] events after rises step c h = tt
 step_leaves_on script v (TopLevel commands ∷ below) events after rises step c h = top_level_leaves script below v rises events after commands (due (with_stack (TopLevel commands ∷ below) v)) step c h
 step_leaves_on script v (Framed f ∷ below) events after rises step c h = framed_leaves script below v rises events after f f.commands step c h

@@ -41,4 +41,14 @@ pub mod RoomsOfRuns
 pub mod Heights
 pub mod Origins
 pub mod OriginsOfRuns
+pub mod PrintableTexts
+pub mod PrintableSteps
+pub mod PrintableCommands
+pub mod PrintableRuns
+pub mod Making
+pub mod MakingOfRuns
+pub mod Standing
+pub mod StandingSteps
+pub mod StandingRuns
+pub mod Lawful
 pub mod Representing

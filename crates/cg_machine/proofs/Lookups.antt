@@ -99,7 +99,7 @@ callback_free low high objects weak o r lives q = go (object_at objects weak) re
     go (Some x) e i = inner x (found_at objects weak x e).0 (callback_in x.entries) refl i
 
 -- Where no weak reference is found, none refers to an object that passes the test.
-Includes-reversed : (xs : List ℕ) (x : ℕ) → Includes xs x → Includes (reverse xs) x
+pub Includes-reversed : (xs : List ℕ) (x : ℕ) → Includes xs x → Includes (reverse xs) x
 Includes-reversed [] x m = m
 Includes-reversed (y ∷ xs) x m = subst (λ ys. Includes ys x) (sym (reverse-append (y ∷ []) xs))
     (either m (λ e. Includes-append_right (reverse xs) (y ∷ []) x (inl e)) (λ k. Includes-append_left (reverse xs) (y ∷ []) x (Includes-reversed xs x k)))

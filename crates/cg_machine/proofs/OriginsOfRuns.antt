@@ -198,7 +198,7 @@ module _ (script : Script) (below : List Activity) (v : World) (events : List Ev
   framed_origin f (command ∷ commands) left step h = in_frame_origin f command commands (due (with_stack (Framed f ∷ below) v)) left step h
 
 -- any step
-step_origin : (script : Script) (v : World) (stack : List Activity) (events : List Event) (after : World) → StepOf script (with_stack stack v) stack events after → AreOfScript script v.objects stack → IsAllOfScript script after
+pub step_origin : (script : Script) (v : World) (stack : List Activity) (events : List Event) (after : World) → StepOf script (with_stack stack v) stack events after → AreOfScript script v.objects stack → IsAllOfScript script after
 step_origin script v [] events after step h = absurd step
 step_origin script v (TopLevel commands ∷ below) events after step h = top_level_origin script below v events after commands (due (with_stack (TopLevel commands ∷ below) v)) step h
 step_origin script v (Framed f ∷ below) events after step h = framed_origin script below v events after f f.commands refl step h
@@ -210,7 +210,7 @@ origin_after : (script : Script) (w : World) (steps : List StepTaken) → Run sc
 origin_after script w [] run h = h
 origin_after script w (step ∷ steps) run h = origin_after script step.world steps run.1 (step_origin script w w.stack step.events step.world run.0.step h)
 
-opening_origin : (script : Script) (budget : ℕ) → IsAllOfScript script (opening script budget)
+pub opening_origin : (script : Script) (budget : ℕ) → IsAllOfScript script (opening script budget)
 opening_origin script budget = record {
   commands = λ command m. either (Includes-append_cases (commands_of script.items) [] command m) (λ k. Includes-append_left (commands_of script.items) (flat_map (λ p. p.body) (procedures script.items)) command k) (λ n. absurd n);
   objects = λ x m. either m (λ e. subst (IsOfScript script) e (record { class = λ k. absurd (cc); procedure = λ k. absurd (cc) })) (λ n. absurd n);

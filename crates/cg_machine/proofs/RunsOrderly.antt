@@ -215,7 +215,7 @@ module _ (script : Script) (below : List Activity) (v : World) (rises : Rises 1 
   framed_orderly f [] step c h = reach _ step.1 (frame_end_orderly f below v h)
   framed_orderly f (command ∷ commands) step c h = in_frame_orderly f command commands (due (with_stack (Framed f ∷ below) v)) step c h
 
-step_orderly_on : (script : Script) (v : World) (stack : List Activity) (events : List Event) (after : World) → Rises 1 v.next_serial v.objects → StepOf script (with_stack stack v) stack events after → Calm script (with_stack stack v) → HasOrder (with_stack stack v) → HasOrder after
+pub step_orderly_on : (script : Script) (v : World) (stack : List Activity) (events : List Event) (after : World) → Rises 1 v.next_serial v.objects → StepOf script (with_stack stack v) stack events after → Calm script (with_stack stack v) → HasOrder (with_stack stack v) → HasOrder after
 step_orderly_on script v [] events after rises step c h = absurd step
 step_orderly_on script v (TopLevel commands ∷ below) events after rises step c h = top_level_orderly script below v rises events after commands (due (with_stack (TopLevel commands ∷ below) v)) step c h
 step_orderly_on script v (Framed f ∷ below) events after rises step c h = framed_orderly script below v rises events after f f.commands step c h
@@ -263,7 +263,7 @@ death_in script w o AfterLegacy lives h = record { lives = lives; refers_to_none
 death_in script w o Detaching lives h = record { lives = lives; refers_to_none = λ x m. (h.0.quiet x m).refers_to_none; untracked = λ t x m. (h.0.quiet x m).untracked; unreferred = λ t. cc }
 death_in script w o Emptying lives h = record { lives = lives; refers_to_none = λ x m. (h.unheld.quiet x m).refers_to_none; untracked = λ t x m. (h.unheld.quiet x m).untracked; unreferred = λ t. h.unreferred }
 
-held_live : (w : World) → HasOrder w → (o : ℕ) → Includes (holdings w) o → Includes (serials w.objects) o
+pub held_live : (w : World) → HasOrder w → (o : ℕ) → Includes (holdings w) o → Includes (serials w.objects) o
 held_live w h o m = either (Includes-append_cases (names ++ (1 ∷ []) ++ entries) (flat_map holds w.stack) o m) front (h.stack_lives o)
   where
     names : List ℕ

@@ -4,7 +4,7 @@ use Rattle.cg_script.specs.declared.Script.{Script}
 use Rattle.cg_graph.specs.Member.{Includes}
 use Rattle.cg_machine.specs.World.{World, Dying, Death}
 use Rattle.cg_machine.specs.Holdings.{holdings}
-use Rattle.cg_machine.specs.Run.{StepTaken, Run, last_world}
+use Rattle.cg_machine.specs.Run.{StepTaken, Run, IsRun, last_world, world_after}
 use Rattle.cg_machine.specs.Laws.{IsOrderly, IsHeldByItsDeathAlone}
 use Rattle.cg_machine.specs.Bounds.{IsBounded}
 use Rattle.cg_machine.specs.Origins.{HasOrigins}
@@ -25,3 +25,7 @@ pub record IsLawful (script : Script) (budget : ℕ) (w : World) : Type 0 where
 -- each world to which the machine goes from here is so
 abbrev pub StaysLawful : Script → ℕ → World → Type 0
 StaysLawful script budget w = (steps : List StepTaken) → Run script w steps → IsLawful script budget (last_world w steps)
+
+-- Each world of a run is lawful, and stays so.
+abbrev pub RunsStayLawful : Type 0
+RunsStayLawful = (script : Script) (budget : ℕ) (steps : List StepTaken) → IsRun script budget steps → StaysLawful script budget (world_after script budget steps)

@@ -1,6 +1,11 @@
 //! What holds in every run of the machine. Each law is the contract of a function that does nothing.
 ghost use Rattle.cg_machine.specs.Bounds.{StacksAreBounded};
+ghost use Rattle.cg_machine.specs.Locals.{LocalsLive};
+ghost use Rattle.cg_machine.specs.Made.{SerialsAreFew};
+ghost use Rattle.cg_machine.specs.Newest.{DeathsClearNewestFirst};
 ghost use Rattle.cg_machine.specs.Origins.{WorldsHaveOrigins};
+ghost use Rattle.cg_machine.specs.Printing.{LinesArePrintable};
+ghost use Rattle.cg_machine.specs.Lawful.{RunsStayLawful};
 ghost use Rattle.cg_machine.specs.Laws.{DyingIsUnheld, NoRunIsStuck, FrontsBeginWholeTexts, StepsLeaveWhatIsBelow, WorldsAreOrderly};
 
 /// No run is stuck: each is the beginning of a whole run, whatever choices it took.
@@ -40,4 +45,31 @@ pub fn stacks_are_bounded()
 /// instance and the procedure of each function.
 pub fn worlds_have_origins()
     ensures { WorldsHaveOrigins }
+{}
+
+/// In every world of a run the serials that were given are few: one for each command outside procedures, and for each unit
+/// of the budget as many as the longest procedure has commands.
+pub fn serials_are_few()
+    ensures { SerialsAreFew }
+{}
+
+/// In every world of a run, while weak references lose a dying object, those that have lost it and wait for their callback
+/// are newer than those that still refer to it.
+pub fn deaths_clear_newest_first()
+    ensures { DeathsClearNewestFirst }
+{}
+
+/// In every world of a run the subject of each frame lives, and so does its function if it has one, which is a function.
+pub fn locals_live()
+    ensures { LocalsLive }
+{}
+
+/// Every world of a run has what these laws say of one world, and each world to which the machine goes from it has it too.
+pub fn runs_stay_lawful()
+    ensures { RunsStayLawful }
+{}
+
+/// Where a script names its own texts alone, and none has more than 1,024 bytes, each line of each run of it can be printed.
+pub fn lines_are_printable()
+    ensures { LinesArePrintable }
 {}

@@ -12,7 +12,8 @@ mod line;
 
 pub use event::{Event, FrameSort, FrameSpec};
 pub use laws::{
-    dying_is_unheld, fronts_begin_whole_texts, no_run_is_stuck, stacks_are_bounded,
+    deaths_clear_newest_first, dying_is_unheld, fronts_begin_whole_texts, lines_are_printable,
+    locals_live, no_run_is_stuck, runs_stay_lawful, serials_are_few, stacks_are_bounded,
     steps_leave_what_is_below, worlds_are_orderly, worlds_have_origins,
 };
 pub use line::line_of;

@@ -13,8 +13,11 @@ use Rattle.cg_commands.proofs.makes.make_tuple.Goals as goal
 
 pub returns-in_err-parts : goal.returns-in_err-parts
 returns-in_err-parts g c =
-    let p = err_from_is_err_and c.from_residual.result c.from_residual.ensures.1 in rw (p.1, p.2)
-    (stops c.args.heap.now c.args.locals (λ w. values w c.args.items.now) _ c.in_err-parts.field-0.0 c.in_err-parts.ensures.err)
+    let p = err_from_is_err_and c.from_residual.result c.from_residual.ensures.1 in record {
+      performs = rw (p.1, p.2)
+          (stops c.args.heap.now c.args.locals (λ w. values w c.args.items.now) _ c.in_err-parts.field-0.0 c.in_err-parts.ensures.err);
+      room = rw p.1 tt;
+    }
 
 pub gather-requires-clause-known : goal.gather-requires-clause-known
 gather-requires-clause-known g c =
@@ -29,6 +32,9 @@ make_bound-requires-clause-parts g c =
     items-are c.in_ok-parts.ensures.ok.vals c.as_slice.result.now (c.as_slice.ensures ∙ c.in_ok-parts.ensures.ok.items)
 
 pub returns : goal.returns
-returns g c =
-    (goes_on c.args.heap.now c.make_bound.new.heap c.args.locals (λ w. values w c.args.items.now) c.in_ok-parts.ensures.ok.vals _ c.make_bound.result c.in_ok-parts.ensures.ok.reads
-    (subst (λ ps. Performs c.args.heap.now c.args.locals (λ w. makes w c.args.name kind.Tuple None ps None) c.make_bound.new.heap c.make_bound.result) (c.as_slice.ensures ∙ c.in_ok-parts.ensures.ok.items) c.make_bound.ensures))
+returns g c = record {
+  performs =
+      (goes_on c.args.heap.now c.make_bound.new.heap c.args.locals (λ w. values w c.args.items.now) c.in_ok-parts.ensures.ok.vals _ c.make_bound.result c.in_ok-parts.ensures.ok.reads
+      (subst (λ ps. Performs c.args.heap.now c.args.locals (λ w. makes w c.args.name kind.Tuple None ps None) c.make_bound.new.heap c.make_bound.result) (c.as_slice.ensures ∙ c.in_ok-parts.ensures.ok.items) c.make_bound.ensures.performs));
+  room = c.make_bound.ensures.room;
+}

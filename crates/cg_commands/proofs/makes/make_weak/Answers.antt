@@ -20,29 +20,41 @@ few_cells xs ys same {n} {k} counted few = let is : length xs ≡ length ys = ap
 
 pub returns-in_err-val : goal.returns-in_err-val
 returns-in_err-val g c =
-    let p = err_from_is_err_and c.from_residual.result c.from_residual.ensures.1 in rw (p.1, p.2)
-    (stops c.args.heap.now c.args.locals (λ w. value w c.args.target) _ c.in_err-val.field-0.0 c.in_err-val.ensures.err)
+    let p = err_from_is_err_and c.from_residual.result c.from_residual.ensures.1 in record {
+      performs = rw (p.1, p.2)
+          (stops c.args.heap.now c.args.locals (λ w. value w c.args.target) _ c.in_err-val.field-0.0 c.in_err-val.ensures.err);
+      room = rw p.1 tt;
+    }
 
 pub returns-in_err-callback : goal.returns-in_err-callback
 returns-in_err-callback g c =
-    let p = err_from_is_err_and c.from_residual-in_err-callback.result c.from_residual-in_err-callback.ensures.1 in rw (p.1, p.2)
-    (goes_on c.args.heap.now c.args.heap.now c.args.locals (λ w. value w c.args.target) c.in_ok-val.val _ (Err c.in_err-callback.field-0.0) c.in_ok-val.ensures.ok
-    (stops c.args.heap.now c.args.locals (λ w. value w c.args.callback) _ c.in_err-callback.field-0.0 c.in_err-callback.ensures.err))
+    let p = err_from_is_err_and c.from_residual-in_err-callback.result c.from_residual-in_err-callback.ensures.1 in record {
+      performs = rw (p.1, p.2)
+          (goes_on c.args.heap.now c.args.heap.now c.args.locals (λ w. value w c.args.target) c.in_ok-val.val _ (Err c.in_err-callback.field-0.0) c.in_ok-val.ensures.ok
+          (stops c.args.heap.now c.args.locals (λ w. value w c.args.callback) _ c.in_err-callback.field-0.0 c.in_err-callback.ensures.err));
+      room = rw p.1 tt;
+    }
 
 pub returns-in_err-referent : goal.returns-in_err-referent
 returns-in_err-referent g c =
-    let p = err_from_is_err_and c.from_residual-in_err-referent.result c.from_residual-in_err-referent.ensures.1 in rw (p.1, p.2)
-    (goes_on c.args.heap.now c.args.heap.now c.args.locals (λ w. value w c.args.target) c.in_ok-val.val _ (Err c.in_err-referent.field-0.0) c.in_ok-val.ensures.ok
-    (goes_on c.args.heap.now c.args.heap.now c.args.locals (λ w. value w c.args.callback) c.in_ok-callback.callback _ (Err c.in_err-referent.field-0.0) c.in_ok-callback.ensures.ok
-    (stops c.args.heap.now c.args.locals (λ w. object w (test_of wanted.Referable) (number_of (refusal_of wanted.Referable)) c.in_ok-val.val) _ c.in_err-referent.field-0.0 (λ w s. c.in_err-referent.ensures.err w s.represents))))
+    let p = err_from_is_err_and c.from_residual-in_err-referent.result c.from_residual-in_err-referent.ensures.1 in record {
+      performs = rw (p.1, p.2)
+          (goes_on c.args.heap.now c.args.heap.now c.args.locals (λ w. value w c.args.target) c.in_ok-val.val _ (Err c.in_err-referent.field-0.0) c.in_ok-val.ensures.ok
+          (goes_on c.args.heap.now c.args.heap.now c.args.locals (λ w. value w c.args.callback) c.in_ok-callback.callback _ (Err c.in_err-referent.field-0.0) c.in_ok-callback.ensures.ok
+          (stops c.args.heap.now c.args.locals (λ w. object w (test_of wanted.Referable) (number_of (refusal_of wanted.Referable)) c.in_ok-val.val) _ c.in_err-referent.field-0.0 (λ w s. c.in_err-referent.ensures.err w s.represents))));
+      room = rw p.1 tt;
+    }
 
 pub returns-in_err-parts : goal.returns-in_err-parts
 returns-in_err-parts g c =
-    let p = err_from_is_err_and c.from_residual-in_err-parts.result c.from_residual-in_err-parts.ensures.1 in rw (p.1, p.2)
-    (goes_on c.args.heap.now c.args.heap.now c.args.locals (λ w. value w c.args.target) c.in_ok-val.val _ (Err c.in_err-parts.field-0.0) c.in_ok-val.ensures.ok
-    (goes_on c.args.heap.now c.args.heap.now c.args.locals (λ w. value w c.args.callback) c.in_ok-callback.callback _ (Err c.in_err-parts.field-0.0) c.in_ok-callback.ensures.ok
-    (goes_on c.args.heap.now c.args.heap.now c.args.locals (λ w. object w (test_of wanted.Referable) (number_of (refusal_of wanted.Referable)) c.in_ok-val.val) (object_from c.args.heap.now.rows c.in_ok-referent.referent c.in_ok-referent.ensures.ok.node) _ (Err c.in_err-parts.field-0.0) (reads-object c.args.heap.now c.args.locals (test_of wanted.Referable) c.in_ok-val.val c.in_ok-referent.referent c.in_ok-referent.ensures.ok (number_of (refusal_of wanted.Referable)))
-    (stops c.args.heap.now c.args.locals (λ w. callback_entries w c.in_ok-callback.callback) _ c.in_err-parts.field-0.0 c.in_err-parts.ensures.err))))
+    let p = err_from_is_err_and c.from_residual-in_err-parts.result c.from_residual-in_err-parts.ensures.1 in record {
+      performs = rw (p.1, p.2)
+          (goes_on c.args.heap.now c.args.heap.now c.args.locals (λ w. value w c.args.target) c.in_ok-val.val _ (Err c.in_err-parts.field-0.0) c.in_ok-val.ensures.ok
+          (goes_on c.args.heap.now c.args.heap.now c.args.locals (λ w. value w c.args.callback) c.in_ok-callback.callback _ (Err c.in_err-parts.field-0.0) c.in_ok-callback.ensures.ok
+          (goes_on c.args.heap.now c.args.heap.now c.args.locals (λ w. object w (test_of wanted.Referable) (number_of (refusal_of wanted.Referable)) c.in_ok-val.val) (object_from c.args.heap.now.rows c.in_ok-referent.referent c.in_ok-referent.ensures.ok.node) _ (Err c.in_err-parts.field-0.0) (reads-object c.args.heap.now c.args.locals (test_of wanted.Referable) c.in_ok-val.val c.in_ok-referent.referent c.in_ok-referent.ensures.ok (number_of (refusal_of wanted.Referable)))
+          (stops c.args.heap.now c.args.locals (λ w. callback_entries w c.in_ok-callback.callback) _ c.in_err-parts.field-0.0 c.in_err-parts.ensures.err))));
+      room = rw p.1 tt;
+    }
 
 pub make_bound-requires-clause-name : goal.make_bound-requires-clause-name
 make_bound-requires-clause-name g c =
@@ -53,9 +65,12 @@ make_bound-requires-clause-parts g c =
     (items-are c.in_ok-parts.ensures.ok.vals c.as_slice.result.now (c.as_slice.ensures ∙ c.in_ok-parts.ensures.ok.items), few_cells c.as_slice.result.now c.in_ok-parts.parts c.as_slice.ensures refl c.in_ok-parts.ensures.ok.single)
 
 pub returns : goal.returns
-returns g c =
-    (goes_on c.args.heap.now c.make_bound.new.heap c.args.locals (λ w. value w c.args.target) c.in_ok-val.val _ c.make_bound.result c.in_ok-val.ensures.ok
-    (goes_on c.args.heap.now c.make_bound.new.heap c.args.locals (λ w. value w c.args.callback) c.in_ok-callback.callback _ c.make_bound.result c.in_ok-callback.ensures.ok
-    (goes_on c.args.heap.now c.make_bound.new.heap c.args.locals (λ w. object w (test_of wanted.Referable) (number_of (refusal_of wanted.Referable)) c.in_ok-val.val) (object_from c.args.heap.now.rows c.in_ok-referent.referent c.in_ok-referent.ensures.ok.node) _ c.make_bound.result (reads-object c.args.heap.now c.args.locals (test_of wanted.Referable) c.in_ok-val.val c.in_ok-referent.referent c.in_ok-referent.ensures.ok (number_of (refusal_of wanted.Referable)))
-    (goes_on c.args.heap.now c.make_bound.new.heap c.args.locals (λ w. callback_entries w c.in_ok-callback.callback) c.in_ok-parts.parts _ c.make_bound.result c.in_ok-parts.ensures.ok.reads
-    (subst (λ ps. Performs c.args.heap.now c.args.locals (λ w. makes w c.args.name kind.Weak None ps (Some c.in_ok-referent.referent)) c.make_bound.new.heap c.make_bound.result) c.as_slice.ensures c.make_bound.ensures)))))
+returns g c = record {
+  performs =
+      (goes_on c.args.heap.now c.make_bound.new.heap c.args.locals (λ w. value w c.args.target) c.in_ok-val.val _ c.make_bound.result c.in_ok-val.ensures.ok
+      (goes_on c.args.heap.now c.make_bound.new.heap c.args.locals (λ w. value w c.args.callback) c.in_ok-callback.callback _ c.make_bound.result c.in_ok-callback.ensures.ok
+      (goes_on c.args.heap.now c.make_bound.new.heap c.args.locals (λ w. object w (test_of wanted.Referable) (number_of (refusal_of wanted.Referable)) c.in_ok-val.val) (object_from c.args.heap.now.rows c.in_ok-referent.referent c.in_ok-referent.ensures.ok.node) _ c.make_bound.result (reads-object c.args.heap.now c.args.locals (test_of wanted.Referable) c.in_ok-val.val c.in_ok-referent.referent c.in_ok-referent.ensures.ok (number_of (refusal_of wanted.Referable)))
+      (goes_on c.args.heap.now c.make_bound.new.heap c.args.locals (λ w. callback_entries w c.in_ok-callback.callback) c.in_ok-parts.parts _ c.make_bound.result c.in_ok-parts.ensures.ok.reads
+      (subst (λ ps. Performs c.args.heap.now c.args.locals (λ w. makes w c.args.name kind.Weak None ps (Some c.in_ok-referent.referent)) c.make_bound.new.heap c.make_bound.result) c.as_slice.ensures c.make_bound.ensures.performs)))));
+  room = c.make_bound.ensures.room;
+}

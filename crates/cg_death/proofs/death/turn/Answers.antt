@@ -4,6 +4,7 @@ use Rattle.cg_death.specs.declared.phase.Phase.{Phase}
 use Rattle.cg_death.specs.declared.phase.Phase.TheVariants as phase_of
 use Rattle.cg_death.specs.Activities.{activities}
 use Rattle.cg_death.specs.Answers.{TurnSteps, DeathSteps}
+use Rattle.cg_death.specs.Steady.{TurnStaysSteady, IsSteadyAt}
 use Rattle.cg_death.proofs.Steps.{turn-over}
 use Rattle.cg_death.proofs.Ends.{never_gone}
 use Rattle.cg_death.proofs.death.turn.Goals as goal
@@ -66,3 +67,33 @@ returns-in-Detaching-clause-ends g c = λ e. absurd (never_gone c.args.object ph
 
 pub returns-in-Emptying-clause-ends : goal.returns-in-Emptying-clause-ends
 returns-in-Emptying-clause-ends g c = λ e. absurd (never_gone c.args.object phase_of.Emptying c.empty_one.new.heap c.empty_one.result.answer c.empty_one.ensures.answers (λ over. absurd (cc)) e)
+
+pub returns-in-Finalizer-clause-steady : goal.returns-in-Finalizer-clause-steady
+returns-in-Finalizer-clause-steady g c = subst (λ (p : Phase). TurnStaysSteady c.args.script.now c.args.heap.now c.args.object p c.run_finalizer.new.heap c.run_finalizer.result) (sym c.in-Finalizer.is) (c.run_finalizer.ensures.steady)
+
+pub returns-in-AfterFinalizer-clause-steady : goal.returns-in-AfterFinalizer-clause-steady
+returns-in-AfterFinalizer-clause-steady g c = subst (λ (p : Phase). TurnStaysSteady c.args.script.now c.args.heap.now c.args.object p c.end_finalizer.new.heap c.end_finalizer.result) (sym c.in-AfterFinalizer.is) (c.end_finalizer.ensures.steady c.args.script.now)
+
+pub returns-in-Clearing-clause-steady : goal.returns-in-Clearing-clause-steady
+returns-in-Clearing-clause-steady g c = subst (λ (p : Phase). TurnStaysSteady c.args.script.now c.args.heap.now c.args.object p c.clear_one.new.heap c.clear_one.result) (sym c.in-Clearing.is) (c.clear_one.ensures.steady c.args.script.now)
+
+pub returns-in-Calling-clause-steady : goal.returns-in-Calling-clause-steady
+returns-in-Calling-clause-steady g c = subst (λ (p : Phase). TurnStaysSteady c.args.script.now c.args.heap.now c.args.object p c.call_one.new.heap c.call_one.result) (sym c.in-Calling.is) (c.call_one.ensures.steady c.args.script.now)
+
+pub returns-in-AfterCall-clause-steady : goal.returns-in-AfterCall-clause-steady
+returns-in-AfterCall-clause-steady g c = subst (λ (p : Phase). TurnStaysSteady c.args.script.now c.args.heap.now c.args.object p c.end_call.new.heap c.end_call.result) (sym c.in-AfterCall.is) (c.end_call.ensures.steady c.args.script.now)
+
+pub returns-in-LegacyFinalizer-clause-steady : goal.returns-in-LegacyFinalizer-clause-steady
+returns-in-LegacyFinalizer-clause-steady g c = subst (λ (p : Phase). TurnStaysSteady c.args.script.now c.args.heap.now c.args.object p c.run_legacy.new.heap c.run_legacy.result) (sym c.in-LegacyFinalizer.is) (c.run_legacy.ensures.steady)
+
+pub returns-in-AfterLegacy-clause-steady : goal.returns-in-AfterLegacy-clause-steady
+returns-in-AfterLegacy-clause-steady g c = subst (λ (p : Phase). TurnStaysSteady c.args.script.now c.args.heap.now c.args.object p c.end_legacy.new.heap c.end_legacy.result) (sym c.in-AfterLegacy.is) (c.end_legacy.ensures.steady c.args.script.now)
+
+pub returns-in-Detaching-clause-steady : goal.returns-in-Detaching-clause-steady
+returns-in-Detaching-clause-steady g c = subst (λ (p : Phase). TurnStaysSteady c.args.script.now c.args.heap.now c.args.object p c.detach_one.new.heap c.detach_one.result) (sym c.in-Detaching.is) (c.detach_one.ensures.steady)
+
+pub returns-in-Emptying-clause-steady : goal.returns-in-Emptying-clause-steady
+returns-in-Emptying-clause-steady g c = subst (λ (p : Phase). TurnStaysSteady c.args.script.now c.args.heap.now c.args.object p c.empty_one.new.heap c.empty_one.result) (sym c.in-Emptying.is) (c.empty_one.ensures.steady c.args.script.now)
+
+pub returns-in-Over-clause-steady : goal.returns-in-Over-clause-steady
+returns-in-Over-clause-steady g c = subst (λ (p : Phase). IsSteadyAt c.args.script.now c.args.heap.now c.args.object p None → IsSteadyAt c.args.script.now c.args.heap.now c.args.object phase_of.Over None) (sym c.in-Over.is) (λ s. s)

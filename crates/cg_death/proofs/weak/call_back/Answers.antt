@@ -14,6 +14,14 @@ use Rattle.cg_death.proofs.RowSplits.{head_in}
 use Rattle.cg_death.proofs.Finalizing.{running}
 use Rattle.cg_death.proofs.Calling.{turn-called, class-after}
 use Rattle.cg_death.proofs.Querying.{newest-waits, callback-lives}
+use Rattle.cg_death.specs.Answers.{MakesNone}
+use Rattle.cg_death.specs.Steady.{TakesFewHolds, KeepsNames}
+use Rattle.cg_death.proofs.ObjectNumbers.{none-called}
+use Rattle.cg_death.proofs.HoldNumbers.{few-called}
+use Rattle.cg_death.proofs.NamesKept.{kept-called}
+use Rattle.std.proofs.Common.{None}
+use Rattle.cg_death.specs.Steady.{TurnStaysSteady, IsSteadyAt}
+use Rattle.cg_death.proofs.SteadyRows.{steady-called}
 use Rattle.cg_death.proofs.weak.call_back.Goals as goal
 
 pub take_callback-callback-requires-clause-live : goal.take_callback-callback-requires-clause-live
@@ -50,3 +58,18 @@ returns-clause-steps g c = λ script.
     subst (λ (turn : Turn). TurnSteps script c.args.heap.now c.args.object phase_of.Calling c.forget_weak.new.self turn)
     (sym (c.runs.ensures ∙ ap (λ p. running (phase_of.AfterCall c.args.weak f) (record { sort = Callback; proc = p; subject = c.args.weak; func = Some f })) proc_is))
     (turn-called script c.args.heap.now c.forget_weak.new.self c.args.object c.args.weak f c.sound.ensures.rows c.requires.newest c.sound.ensures.live c.take_callback-callback.ensures.callback new_is)
+
+pub returns-clause-objects : goal.returns-clause-objects
+returns-clause-objects g c = subst (MakesNone c.args.heap.now) (sym (c.forget_weak.ensures ∙ ap (forgotten_weak c.args.weak) c.take_callback-callback.ensures.rest)) (none-called c.args.weak c.take_callback-callback.result c.args.heap.now)
+
+pub returns-clause-steady : goal.returns-clause-steady
+returns-clause-steady g c = λ script.
+    subst (λ (turn : Turn). TurnStaysSteady script c.args.heap.now c.args.object phase_of.Calling c.forget_weak.new.self turn) (sym c.runs.ensures)
+    (λ s. subst (λ st. IsSteadyAt script st c.args.object (phase_of.AfterCall c.args.weak c.take_callback-callback.result) None) (sym (c.forget_weak.ensures ∙ ap (forgotten_weak c.args.weak) c.take_callback-callback.ensures.rest))
+    (steady-called script c.args.heap.now c.args.object c.args.weak c.take_callback-callback.result c.sound.ensures c.requires.newest c.take_callback-callback.ensures.callback s))
+
+pub returns-clause-holds : goal.returns-clause-holds
+returns-clause-holds g c = subst (TakesFewHolds c.args.heap.now) (sym (c.forget_weak.ensures ∙ ap (forgotten_weak c.args.weak) c.take_callback-callback.ensures.rest)) (few-called c.args.weak c.take_callback-callback.result c.args.heap.now)
+
+pub returns-clause-names : goal.returns-clause-names
+returns-clause-names g c = subst (KeepsNames c.args.heap.now) (sym (c.forget_weak.ensures ∙ ap (forgotten_weak c.args.weak) c.take_callback-callback.ensures.rest)) (kept-called c.args.weak c.take_callback-callback.result c.args.heap.now)

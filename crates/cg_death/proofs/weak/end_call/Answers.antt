@@ -5,6 +5,8 @@ use Rattle.cg_death.specs.Answers.{DeathSteps}
 use Rattle.cg_death.specs.Falls.{Falls}
 use Rattle.cg_death.proofs.Steps.{turn-call_ended}
 use Rattle.cg_death.proofs.Falling.{falls-call_ended}
+use Rattle.cg_death.specs.Steady.{IsSteadyAt}
+use Rattle.cg_death.proofs.SteadyRows.{steady-call_ended}
 use Rattle.cg_death.proofs.weak.end_call.Goals as goal
 
 pub returns-clause-steps : goal.returns-clause-steps
@@ -16,3 +18,8 @@ pub returns-clause-falls : goal.returns-clause-falls
 returns-clause-falls g c = λ e.
     subst (λ st. Falls c.args.object c.args.heap.now (phase_of.AfterCall c.args.weak c.args.callback) None st phase_of.Calling (Some c.of.result)) (sym c.give_up-answer.ensures.rest)
     (falls-call_ended c.args.heap.now c.args.object c.args.weak c.args.callback c.of.result c.of.ensures)
+
+pub returns-clause-steady : goal.returns-clause-steady
+returns-clause-steady g c = λ script s.
+    subst (λ st. IsSteadyAt script st c.args.object phase_of.Calling (Some c.of.result)) (sym c.give_up-answer.ensures.rest)
+    (steady-call_ended script c.args.heap.now c.args.object c.args.weak c.args.callback c.of.result c.of.ensures s)

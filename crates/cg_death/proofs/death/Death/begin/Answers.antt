@@ -4,6 +4,17 @@ use Rattle.cg_graph.specs.Store.{IsLive}
 use Rattle.cg_graph.specs.Changes.{moved}
 use Rattle.cg_heap.proofs.CallerLemmas.{lives_on, kinds-moved}
 use Rattle.cg_death.proofs.Beginning.{begins-death}
+use Rattle.std.proofs.Common.{◌∙◌, ap}
+use Rattle.cg_death.specs.Deaths.{forgets_referent}
+use Rattle.cg_death.specs.Answers.{MakesNone}
+use Rattle.cg_death.specs.Steady.{TakesFewHolds, KeepsNames}
+use Rattle.cg_death.proofs.ObjectNumbers.{none-begun}
+use Rattle.cg_death.proofs.HoldNumbers.{few-begun}
+use Rattle.cg_death.proofs.NamesKept.{kept-begun}
+use Rattle.std.proofs.Common.{None}
+use Rattle.cg_death.specs.declared.phase.Phase.TheVariants as phase_of
+use Rattle.cg_death.specs.Steady.{IsSteadyAt}
+use Rattle.cg_death.proofs.SteadySteps.{steady-begun}
 use Rattle.cg_death.proofs.death.Death.begin.Goals as goal
 
 pub lose_own_referent-requires : goal.lose_own_referent-requires
@@ -14,3 +25,17 @@ lose_own_referent-requires g c =
 pub returns-clause-begins : goal.returns-clause-begins
 returns-clause-begins g c = λ w r.
     begins-death c.args.heap.now c.move_to.new.self c.lose_own_referent.new.heap c.args.object c.sound.ensures.rows c.requires.unheld.none c.requires.none_waits c.move_to.ensures c.lose_own_referent.ensures w r
+
+pub returns-clause-objects : goal.returns-clause-objects
+returns-clause-objects g c = subst (MakesNone c.args.heap.now) (sym (c.lose_own_referent.ensures ∙ ap (forgets_referent c.args.object) c.move_to.ensures)) (none-begun c.args.object Untracked c.args.heap.now)
+
+pub returns-clause-holds : goal.returns-clause-holds
+returns-clause-holds g c = subst (TakesFewHolds c.args.heap.now) (sym (c.lose_own_referent.ensures ∙ ap (forgets_referent c.args.object) c.move_to.ensures)) (few-begun c.args.object Untracked c.args.heap.now)
+
+pub returns-clause-steady : goal.returns-clause-steady
+returns-clause-steady g c = λ script fresh.
+    subst (λ st. IsSteadyAt script st c.args.object phase_of.Finalizer None) (sym (c.lose_own_referent.ensures ∙ ap (forgets_referent c.args.object) c.move_to.ensures))
+    (steady-begun script c.args.heap.now c.args.object c.sound.ensures.rows c.requires.unheld c.requires.none_waits fresh)
+
+pub returns-clause-names : goal.returns-clause-names
+returns-clause-names g c = subst (KeepsNames c.args.heap.now) (sym (c.lose_own_referent.ensures ∙ ap (forgets_referent c.args.object) c.move_to.ensures)) (kept-begun c.args.object Untracked c.args.heap.now)

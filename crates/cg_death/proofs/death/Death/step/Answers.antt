@@ -4,6 +4,8 @@ use Rattle.cg_death.specs.Activities.{activities}
 use Rattle.cg_death.specs.Falls.{Falls}
 use Rattle.cg_death.proofs.Steps.{step-given_up, step-turned}
 use Rattle.cg_death.proofs.Falling.{falls-step}
+use Rattle.cg_death.specs.Steady.{IsSteadyAt}
+use Rattle.cg_death.proofs.SteadySteps.{steady-given_up, steady-popped}
 use Rattle.cg_death.proofs.Ends.{none_left}
 use Rattle.cg_death.proofs.death.Death.step.Goals as goal
 
@@ -23,3 +25,11 @@ returns-clause-steps g c =
 
 pub returns-clause-over : goal.returns-clause-over
 returns-clause-over g c = λ e. none_left c.args.self.now.object c.turn-turn.result c.turn-turn.new.heap (c.turn-turn.ensures.ends e)
+
+pub returns-in-Some-clause-steady : goal.returns-in-Some-clause-steady
+returns-in-Some-clause-steady g c = λ s.
+    subst (λ st. IsSteadyAt c.args.script.now st c.args.self.now.object c.args.self.now.phase c.next_reference.new.release) (sym c.give_up.ensures.rest)
+    (steady-given_up c.args.script.now c.args.heap.now c.args.self.now.object c.in-Some.object c.args.self.now.phase c.args.self.now.release c.next_reference.new.release c.in-Some.ensures s)
+
+pub returns-clause-steady : goal.returns-clause-steady
+returns-clause-steady g c = λ s. c.turn-turn.ensures.steady (steady-popped c.args.script.now c.args.heap.now c.args.self.now.object c.args.self.now.phase c.args.self.now.release c.next_reference.new.release c.in_default.ensures s)

@@ -7,10 +7,9 @@ use Rattle.cg_interp.specs.Turns.{Makes}
 use Rattle.cg_interp.proofs.CallerLemmas.{same_engine}
 use Rattle.cg_interp.proofs.engine.Engine.call.Goals as goal
 
-pub returns : goal.returns
-returns g c = record {
-  calls = λ script w stands.
-      subst (λ p. Makes script (start_frame script (record { sort = sort_of.Call; proc = p; subject = c.args.function; func = Some c.args.function }) w) c.start.new.self c.start.result)
-      (sym (c.procedure_of-proc.ensures w (subst (λ e. Represents e.store w) (sym c.self.view_is) stands.represents)))
-      (c.start.ensures.starts script w (same_engine script _ _ w (subst (λ e. StandsFor script (under c.args.top e) w) (sym c.self.view_is) stands) refl c.push.ensures.top refl));
-}
+pub returns-clause-calls : goal.returns-clause-calls
+returns-clause-calls g c =
+    λ script w stands.
+    subst (λ p. Makes script (start_frame script (record { sort = sort_of.Call; proc = p; subject = c.args.function; func = Some c.args.function }) w) c.start.new.self c.start.result)
+    (sym (c.procedure_of-proc.ensures w (subst (λ e. Represents e.store w) (sym c.self.view_is) stands.represents)))
+    (c.start.ensures.starts script w (same_engine script _ _ w (subst (λ e. StandsFor script (under c.args.top e) w) (sym c.self.view_is) stands) refl c.push.ensures.top refl))

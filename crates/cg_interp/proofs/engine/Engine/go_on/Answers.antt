@@ -18,14 +18,14 @@ run-requires-clause-stands g c =
       script_locals c.args.script.now c.args.self.now c.args.next (Some c.in-Some.after) c.in-Some.command.now s.0 s.1 c.in-Some.ensures.some,
     )
 
-pub returns-in-Some : goal.returns-in-Some
-returns-in-Some g c = record {
-  turns = λ w stands.
-      script_turns c.args.script.now c.args.self.now c.args.next (Some c.in-Some.after) c.in-Some.command.now w stands c.in-Some.ensures.some _ c.run.result
-      (c.run.ensures.does c.args.script.now (script_goes_on c.args.script.now c.args.self.now c.args.next (Some c.in-Some.after) c.in-Some.command.now w stands c.in-Some.ensures.some)
-      (script_stands c.args.script.now c.args.self.now c.args.next (Some c.in-Some.after) c.in-Some.command.now w stands c.in-Some.ensures.some)
-      (script_locals c.args.script.now c.args.self.now c.args.next (Some c.in-Some.after) c.in-Some.command.now w stands c.in-Some.ensures.some));
-}
+pub returns-in-Some-clause-turns : goal.returns-in-Some-clause-turns
+returns-in-Some-clause-turns g c =
+    λ w stands.
+    script_turns c.args.script.now c.args.self.now c.args.next (Some c.in-Some.after) c.in-Some.command.now w stands c.in-Some.ensures.some _ c.run.result
+    (c.run.ensures.does c.args.script.now (script_goes_on c.args.script.now c.args.self.now c.args.next (Some c.in-Some.after) c.in-Some.command.now w stands c.in-Some.ensures.some)
+    (script_stands c.args.script.now c.args.self.now c.args.next (Some c.in-Some.after) c.in-Some.command.now w stands c.in-Some.ensures.some)
+    (script_locals c.args.script.now c.args.self.now c.args.next (Some c.in-Some.after) c.in-Some.command.now w stands c.in-Some.ensures.some))
 
-pub returns-in-None : goal.returns-in-None
-returns-in-None g c = record { turns = λ w stands. script_ends c.args.script.now c.args.self.now c.args.self.now c.args.next w stands c.in-None.ensures.none }
+pub returns-in-None-clause-turns : goal.returns-in-None-clause-turns
+returns-in-None-clause-turns g c =
+    λ w stands. script_ends c.args.script.now c.args.self.now c.args.self.now c.args.next w stands c.in-None.ensures.none

@@ -18,14 +18,14 @@ run-requires-clause-stands g c =
       frame_locals s.0 c.args.self.now c.args.locals c.args.procedure c.args.next (Some c.in-Some.after) c.args.body.now c.in-Some.command.now s.1 s.2 s.3 c.in-Some.ensures.some,
     )
 
-pub returns-in-Some : goal.returns-in-Some
-returns-in-Some g c = record {
-  turns = λ script w body_is stands.
-      frame_turns script c.args.self.now c.args.locals c.args.procedure c.args.next (Some c.in-Some.after) c.args.body.now c.in-Some.command.now w body_is stands c.in-Some.ensures.some _ c.run.result
-      (c.run.ensures.does script (frame_goes_on script c.args.self.now c.args.locals c.args.procedure c.args.next (Some c.in-Some.after) c.args.body.now c.in-Some.command.now w body_is stands c.in-Some.ensures.some)
-      (frame_stands script c.args.self.now c.args.locals c.args.procedure c.args.next (Some c.in-Some.after) c.args.body.now c.in-Some.command.now w body_is stands c.in-Some.ensures.some)
-      (frame_locals script c.args.self.now c.args.locals c.args.procedure c.args.next (Some c.in-Some.after) c.args.body.now c.in-Some.command.now w body_is stands c.in-Some.ensures.some));
-}
+pub returns-in-Some-clause-turns : goal.returns-in-Some-clause-turns
+returns-in-Some-clause-turns g c =
+    λ script w body_is stands.
+    frame_turns script c.args.self.now c.args.locals c.args.procedure c.args.next (Some c.in-Some.after) c.args.body.now c.in-Some.command.now w body_is stands c.in-Some.ensures.some _ c.run.result
+    (c.run.ensures.does script (frame_goes_on script c.args.self.now c.args.locals c.args.procedure c.args.next (Some c.in-Some.after) c.args.body.now c.in-Some.command.now w body_is stands c.in-Some.ensures.some)
+    (frame_stands script c.args.self.now c.args.locals c.args.procedure c.args.next (Some c.in-Some.after) c.args.body.now c.in-Some.command.now w body_is stands c.in-Some.ensures.some)
+    (frame_locals script c.args.self.now c.args.locals c.args.procedure c.args.next (Some c.in-Some.after) c.args.body.now c.in-Some.command.now w body_is stands c.in-Some.ensures.some))
 
-pub returns-in-None : goal.returns-in-None
-returns-in-None g c = record { turns = λ script w body_is stands. c.leave.ensures.leaves script c.args.procedure c.args.next w (ap (commands_from c.args.next) (sym body_is) ∙ c.in-None.ensures.none) stands }
+pub returns-in-None-clause-turns : goal.returns-in-None-clause-turns
+returns-in-None-clause-turns g c =
+    λ script w body_is stands. c.leave.ensures.leaves script c.args.procedure c.args.next w (ap (commands_from c.args.next) (sym body_is) ∙ c.in-None.ensures.none) stands

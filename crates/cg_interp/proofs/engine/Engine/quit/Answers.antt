@@ -3,5 +3,6 @@ use Rattle.cg_interp.specs.Engines.{StandsFor, under}
 use Rattle.cg_interp.proofs.CallerLemmas.{quits}
 use Rattle.cg_interp.proofs.engine.Engine.quit.Goals as goal
 
-pub returns : goal.returns
-returns g c = record { quits = λ script w stands. quits script _ _ w c.args.top c.requires.caller (subst (λ e. StandsFor script (under c.args.top e) w) (sym c.self.view_is) stands) refl (c.push.ensures.top ∙ ap (λ a. a ∷ c.self.inside.stack.activities) c.stopped.ensures) refl }
+pub returns-clause-quits : goal.returns-clause-quits
+returns-clause-quits g c =
+    λ script w stands. quits script _ _ w c.args.top c.requires.caller (subst (λ e. StandsFor script (under c.args.top e) w) (sym c.self.view_is) stands) refl (c.push.ensures.top ∙ ap (λ a. a ∷ c.self.inside.stack.activities) c.stopped.ensures) refl

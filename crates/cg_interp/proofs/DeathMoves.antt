@@ -1,0 +1,201 @@
+-- A step of a death changes the world: what of it is on the stack, or what the heap stands for.
+use Rattle.std.proofs.Common.{◌≡◌, ◌≢◌, refl, sym, ◌∙◌, ap, ℕ, Bool, true, false, cond, inl, inr, List, [], ◌∷◌, Option, None, Some, map, length, arith}
+use Rattle.std.specs.Prelude.{filter, reverse, option_map, unwrap_or, ◌⊎◌, ◌==◌}
+use Rattle.std.specs.FinMap as fin
+use Rattle.std.proofs.lemmas.Bool.{eqb-true}
+use Rattle.cg_graph.specs.Member.{Includes}
+use Rattle.cg_graph.specs.Object.{Object, entries_of as object_entries_of}
+use Rattle.cg_graph.specs.Rows.{Row, waits_with, weak_references_in}
+use Rattle.cg_graph.specs.Store.{Store, Node, objects_of, object_from, waiting_for, entries_of, entries_in}
+use Rattle.cg_graph.proofs.Objects.{object-at}
+use Rattle.cg_graph.proofs.Members.{true_and}
+use Rattle.cg_heap.specs.Weak.{AreRows}
+use Rattle.cg_machine.specs.World as machine
+use Rattle.cg_machine.specs.World.{World, Activity, TopLevel, Framed, Releasing, Dying, Collecting, Finalizer}
+use Rattle.cg_machine.specs.Represents.{Represents}
+use Rattle.cg_death.specs.declared.release.Release.{Release}
+use Rattle.cg_death.specs.declared.phase.Phase.{Phase}
+use Rattle.cg_death.specs.declared.phase.Phase.TheVariants as phase_of
+use Rattle.cg_death.specs.declared.death.Death.{Death}
+use Rattle.cg_death.specs.Activities.{activities, death_activities, death_of}
+use Rattle.cg_death.specs.Deaths.{on_stack, DeathFalls}
+use Rattle.cg_death.specs.Falls.{pass_of, own_holds, still_released}
+use Rattle.cg_death.proofs.CallerLemmas.{rows_of_world}
+
+-- the entries of an object are those of the objects
+entries_agree : (store : Store) (o : ℕ) → object_entries_of (objects_of store) o ≡ entries_of store o
+entries_agree store o = ap (λ x. unwrap_or (option_map (λ (x : Object). x.entries) x) []) (object-at store o) ∙ known (fin.get store.nodes o)
+  where
+    known : (x : Option Node) → unwrap_or (option_map (λ (x : Object). x.entries) (option_map (object_from store.rows o) x)) [] ≡ entries_in x
+    known None = refl
+    known (Some n) = refl
+
+-- where a weak reference waits with an object there is its row
+a_row_waits : (o : ℕ) (rows : List Row) → (filter (waits_with o) rows ≡ []) ⊎ ((r : Row) × Includes rows r × (r.waits ≡ true) × (r.referent ≡ o))
+a_row_waits o [] = inl refl
+a_row_waits o (r ∷ rows) = go (waits_with o r) refl (a_row_waits o rows)
+  where
+    go : (b : Bool) → waits_with o r ≡ b → (filter (waits_with o) rows ≡ []) ⊎ ((q : Row) × Includes rows q × (q.waits ≡ true) × (q.referent ≡ o))
+        → (filter (waits_with o) (r ∷ rows) ≡ []) ⊎ ((q : Row) × Includes (r ∷ rows) q × (q.waits ≡ true) × (q.referent ≡ o))
+    go true e rest = let parts = true_and (r.referent == o) r.waits e in inr (r, inl refl, parts.1, eqb-true r.referent o parts.0)
+    go false e (inl none) = inl (ap (λ b. cond b (r ∷ filter (waits_with o) rows) (filter (waits_with o) rows)) e ∙ none)
+    go false e (inr q) = inr (q.0, inr q.1, q.2, q.3)
+
+-- Two heaps that stand for the same world agree on what waits, on weak references and on entries.
+module _ (a b : Store) (w : World) (in_a : Represents a w) (in_b : Represents b w) (o : ℕ) where
+  -- what waits in one of them is known by the world
+  by_death : (d : machine.Death) → Includes w.stack (Dying d) → d.object ≡ o → waiting_for a o ≡ waiting_for b o
+  by_death d m is = ap (waiting_for a) (sym is) ∙ sym (in_a.deaths d m) ∙ in_b.deaths d m ∙ ap (waiting_for b) is
+
+  pub same_waiting : waiting_for a o ≡ waiting_for b o
+  same_waiting = by (a_row_waits o a.rows) (a_row_waits o b.rows)
+    where
+      by : (filter (waits_with o) a.rows ≡ []) ⊎ ((r : Row) × Includes a.rows r × (r.waits ≡ true) × (r.referent ≡ o)) → (filter (waits_with o) b.rows ≡ []) ⊎ ((r : Row) × Includes b.rows r × (r.waits ≡ true) × (r.referent ≡ o))
+          → waiting_for a o ≡ waiting_for b o
+      by (inr x) y = let found = in_a.no_others x.0 x.1 x.2 in by_death found.0 found.1 (found.2 ∙ x.3)
+      by (inl x) (inr y) = let found = in_b.no_others y.0 y.1 y.2 in by_death found.0 found.1 (found.2 ∙ y.3)
+      by (inl x) (inl y) = ap (λ rs. reverse (map (λ (r : Row). r.weak) rs)) (x ∙ sym y)
+
+  pub same_entries : entries_of a o ≡ entries_of b o
+  same_entries = sym (entries_agree a o) ∙ ap (λ os. object_entries_of os o) (in_a.objects ∙ sym in_b.objects) ∙ entries_agree b o
+
+  pub same_weak : AreRows a → AreRows b → weak_references_in a.rows o ≡ weak_references_in b.rows o
+  same_weak rows_a rows_b = sym (rows_of_world a w in_a rows_a o) ∙ rows_of_world b w in_b rows_b o
+
+-- How far a death is, as the stack shows it.
+pass_shown : List Activity → ℕ
+pass_shown [] = 8
+pass_shown (TopLevel commands ∷ below) = 0
+pass_shown (Framed f ∷ below) = 0
+pass_shown (Releasing references ∷ below) = 0
+pass_shown (Collecting c ∷ below) = 0
+pass_shown (Dying d ∷ below) = by d.phase
+  where
+    by : machine.DyingPhase → ℕ
+    by machine.Finalizer = 0
+    by machine.AfterFinalizer = 1
+    by (machine.Clearing waiting) = 2
+    by (machine.Calling waiting) = 3
+    by (machine.AfterCall weak callback waiting) = 3
+    by machine.LegacyFinalizer = 4
+    by machine.AfterLegacy = 5
+    by machine.Detaching = 6
+    by machine.Emptying = 7
+
+holds_shown : List Activity → ℕ
+holds_shown [] = 0
+holds_shown (TopLevel commands ∷ below) = 0
+holds_shown (Framed f ∷ below) = 0
+holds_shown (Releasing references ∷ below) = 0
+holds_shown (Collecting c ∷ below) = 0
+holds_shown (Dying d ∷ below) = by d.phase
+  where
+    by : machine.DyingPhase → ℕ
+    by machine.Finalizer = 0
+    by machine.AfterFinalizer = 1
+    by (machine.Clearing waiting) = 0
+    by (machine.Calling waiting) = 0
+    by (machine.AfterCall weak callback waiting) = 2
+    by machine.LegacyFinalizer = 0
+    by machine.AfterLegacy = 1
+    by machine.Detaching = 0
+    by machine.Emptying = 0
+
+released_shown : List Activity → ℕ
+released_shown [] = 0
+released_shown (Releasing references ∷ below) = length references
+released_shown (a ∷ below) = 0
+
+under_release : List Activity → List Activity
+under_release [] = []
+under_release (Releasing references ∷ below) = below
+under_release (a ∷ below) = a ∷ below
+
+-- What it shows is what it is.
+record IsShown (o : ℕ) (phase : Phase) (waiting : List ℕ) : Type 0 where
+  pass : pass_shown (death_activities o phase waiting) ≡ pass_of phase
+  own : holds_shown (death_activities o phase waiting) ≡ own_holds phase
+  none : released_shown (death_activities o phase waiting) ≡ 0
+  under : under_release (death_activities o phase waiting) ≡ death_activities o phase waiting
+
+is_shown : (o : ℕ) (phase : Phase) (waiting : List ℕ) → IsShown o phase waiting
+unfolding pass_shown holds_shown released_shown under_release
+is_shown o phase_of.Finalizer waiting = record { pass = refl; own = refl; none = refl; under = refl }
+is_shown o phase_of.AfterFinalizer waiting = record { pass = refl; own = refl; none = refl; under = refl }
+is_shown o phase_of.Clearing waiting = record { pass = refl; own = refl; none = refl; under = refl }
+is_shown o phase_of.Calling waiting = record { pass = refl; own = refl; none = refl; under = refl }
+is_shown o (phase_of.AfterCall weak callback) waiting = record { pass = refl; own = refl; none = refl; under = refl }
+is_shown o phase_of.LegacyFinalizer waiting = record { pass = refl; own = refl; none = refl; under = refl }
+is_shown o phase_of.AfterLegacy waiting = record { pass = refl; own = refl; none = refl; under = refl }
+is_shown o phase_of.Detaching waiting = record { pass = refl; own = refl; none = refl; under = refl }
+is_shown o phase_of.Emptying waiting = record { pass = refl; own = refl; none = refl; under = refl }
+is_shown o phase_of.Over waiting = record { pass = refl; own = refl; none = refl; under = refl }
+
+-- the same with what is given up above it
+record AreShown (o : ℕ) (phase : Phase) (release : Option Release) (store : Store) : Type 0 where
+  pass : pass_shown (under_release (activities o phase release store)) ≡ pass_of phase
+  own : holds_shown (under_release (activities o phase release store)) ≡ own_holds phase
+  released : released_shown (activities o phase release store) ≡ still_released release
+
+are_shown : (o : ℕ) (phase : Phase) (release : Option Release) (store : Store) → AreShown o phase release store
+unfolding under_release released_shown
+are_shown o phase None store = let s = is_shown o phase (waiting_for store o) in record { pass = ap pass_shown s.under ∙ s.pass; own = ap holds_shown s.under ∙ s.own; released = s.none }
+are_shown o phase (Some release) store = let s = is_shown o phase (waiting_for store o) in record { pass = s.pass; own = s.own; released = refl }
+
+-- Nothing falls where the stack shows the same, in the same world.
+pub no_fall : (death after : Death) (old new : Store) (w : World) → Represents old w → Represents new w → AreRows old → AreRows new → after.object ≡ death.object → on_stack death old ≡ on_stack after new → DeathFalls death old after new → ⊥
+no_fall death after old new w in_old in_new rows_old rows_new same stacks falls = by falls
+  where
+    was : AreShown death.object death.phase death.release old
+    was = are_shown death.object death.phase death.release old
+
+    now : AreShown after.object after.phase after.release new
+    now = are_shown after.object after.phase after.release new
+
+    pass : pass_of death.phase ≡ pass_of after.phase
+    pass = sym was.pass ∙ ap (λ l. pass_shown (under_release l)) stacks ∙ now.pass
+
+    own : own_holds death.phase ≡ own_holds after.phase
+    own = sym was.own ∙ ap (λ l. holds_shown (under_release l)) stacks ∙ now.own
+
+    released : still_released death.release ≡ still_released after.release
+    released = sym was.released ∙ ap released_shown stacks ∙ now.released
+
+    waiting : length (waiting_for old death.object) ≡ length (waiting_for new death.object)
+    waiting = ap length (same_waiting old new w in_old in_new death.object)
+
+    weak : length (weak_references_in old.rows death.object) ≡ length (weak_references_in new.rows death.object)
+    weak = ap length (same_weak old new w in_old in_new death.object rows_old rows_new)
+
+    entries : length (entries_of old death.object) ≡ length (entries_of new death.object)
+    entries = ap length (same_entries old new w in_old in_new death.object)
+
+    by : DeathFalls death old after new → ⊥
+    by (inl later) = absurd (omega (arith, later, pass))
+    by (inr less) = let fewer = less.1 in absurd (omega (arith, fewer, own, released, waiting, weak, entries))
+
+-- the object of the death on top
+object_shown : List Activity → ℕ
+object_shown (Dying d ∷ below) = d.object
+object_shown stack = 0
+
+-- a death of another object was not on top
+pub no_death_on_top : (death : Death) (store : Store) (q : ℕ) (rest : List Activity) → q ≢ death.object → death_of q Finalizer ∷ rest ≡ on_stack death store → ⊥
+unfolding object_shown pass_shown
+no_death_on_top death store q rest other is = by death.phase death.release is
+  where
+    bare : (phase : Phase) (waiting : List ℕ) → death_of q Finalizer ∷ rest ≡ death_activities death.object phase waiting → ⊥
+    bare phase_of.Finalizer waiting e = other (ap object_shown e)
+    bare phase_of.AfterFinalizer waiting e = let pass : 0 ≡ 1 = ap pass_shown e in absurd (omega (arith, pass))
+    bare phase_of.Clearing waiting e = let pass : 0 ≡ 2 = ap pass_shown e in absurd (omega (arith, pass))
+    bare phase_of.Calling waiting e = let pass : 0 ≡ 3 = ap pass_shown e in absurd (omega (arith, pass))
+    bare (phase_of.AfterCall weak callback) waiting e = let pass : 0 ≡ 3 = ap pass_shown e in absurd (omega (arith, pass))
+    bare phase_of.LegacyFinalizer waiting e = let pass : 0 ≡ 4 = ap pass_shown e in absurd (omega (arith, pass))
+    bare phase_of.AfterLegacy waiting e = let pass : 0 ≡ 5 = ap pass_shown e in absurd (omega (arith, pass))
+    bare phase_of.Detaching waiting e = let pass : 0 ≡ 6 = ap pass_shown e in absurd (omega (arith, pass))
+    bare phase_of.Emptying waiting e = let pass : 0 ≡ 7 = ap pass_shown e in absurd (omega (arith, pass))
+    bare phase_of.Over waiting e = let pass : 0 ≡ 8 = ap pass_shown e in absurd (omega (arith, pass))
+
+    by : (phase : Phase) (release : Option Release) → death_of q Finalizer ∷ rest ≡ activities death.object phase release store → ⊥
+    by phase None e = bare phase (waiting_for store death.object) e
+    by phase (Some release) e = absurd (cc)

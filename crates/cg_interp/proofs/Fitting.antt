@@ -1,0 +1,45 @@
+-- Room for the death of the object that a command makes, and what is left of it after the command.
+use Rattle.std.proofs.Common.{◌≡◌, refl, sym, ◌∙◌, subst, ℕ, ◌+◌, ◌*◌, ◌≤◌, Bool, true, false, List, [], ◌∷◌, length, arith, sum_by}
+use Rattle.std.specs.Prelude.{if◌then◌else◌, is_ok, OnOk, Result, Ok, Err}
+use Rattle.std.proofs.lemmas.List.{length-map}
+use Rattle.std.proofs.lemmas.List.Sums.{sum_by-cons}
+use Rattle.std.specs.FinMap as fin
+use Rattle.cg_graph.specs.Store.{Store, Node, objects_of, object_from}
+use Rattle.cg_heap.specs.Keeps.{one}
+use Rattle.cg_heap.specs.Calls.{object_number}
+use Rattle.cg_script.specs.declared.Script.{Script}
+use Rattle.cg_commands.specs.Growth.{GrowsBy}
+use Rattle.cg_interp.specs.Engines.{State, over}
+use Rattle.cg_interp.specs.Turns.{IsFit, HasRoomForOneMore}
+
+-- as many objects as the heap counts, and the garbage list
+ones : (es : List (ℕ × Node)) → length es ≡ sum_by (λ (e : ℕ × Node). one e.1) es
+ones [] = refl
+ones (e ∷ es) = let rest = ones es in omega (arith, rest, sum_by-cons (λ (e : ℕ × Node). one e.1) e es)
+
+pub objects-number : (store : Store) → length (objects_of store) ≤ object_number store + 1
+objects-number store = omega (arith, length-map (fin.entries store.nodes) (λ (e : ℕ × Node). object_from store.rows e.0 e.1), ones (fin.entries store.nodes))
+
+-- what is true at `Ok`
+pub when_ok : {T E P : Type 0} (r : Result T E) → is_ok r ≡ true → OnOk r P → P
+when_ok (Ok x) is holds = holds
+when_ok (Err e) is holds = absurd (cc)
+
+-- room for all that was wanted is room for one more
+pub room_for_one_more : (store : Store) (frames count high : ℕ) → count ≡ object_number store → frames + 2 * (count + 1 + 1) + 8 ≤ high → frames + 2 * (length (objects_of store) + 1) + 8 ≤ high
+room_for_one_more store frames count high counted room = omega (arith, objects-number store, counted, room)
+
+-- a command of which the heap says how far it grew
+pub fit_after : (script : Script) (room : Bool) (old inside : State) → inside ≡ old → (store : Store) → GrowsBy room inside.store store → (room ≡ true → HasRoomForOneMore old) → IsFit script old → IsFit script (over store inside)
+fit_after script room old inside same store grows one_more fit = record {
+  names = grows.names ∙ here.names;
+  frames = here.frames;
+  room = known room grows.objects (λ is. subst HasRoomForOneMore (sym same) (one_more is));
+}
+  where
+    here : IsFit script inside
+    here = subst (IsFit script) (sym same) fit
+
+    known : (room : Bool) → length (objects_of store) ≤ length (objects_of inside.store) + (if room then 1 else 0) → (room ≡ true → HasRoomForOneMore inside) → inside.frames + 2 * length (objects_of store) + 8 ≤ length inside.activities + inside.room
+    known true less one_more = let more : HasRoomForOneMore inside = one_more refl in omega (arith, less, more)
+    known false less one_more = let had = here.room in omega (arith, less, had)

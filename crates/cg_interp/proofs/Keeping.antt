@@ -1,0 +1,38 @@
+-- That a turn keeps what an engine has room for.
+use Rattle.std.proofs.Common.{◌≡◌, refl, ◌∙◌, ap, subst, ◌+◌, ◌≤◌, ◌∷◌, length, arith}
+use Rattle.cg_graph.specs.Store.{Store}
+use Rattle.cg_script.specs.declared.Script.{Script}
+use Rattle.cg_death.specs.Answers.{MakesNone}
+use Rattle.cg_interp.specs.declared.activity.Activity.{Activity}
+use Rattle.cg_interp.specs.Engines.{State, over}
+use Rattle.cg_interp.specs.Turns.{Keeps, IsFit}
+
+-- one after the other
+pub keeps_then : (old mid new : State) → Keeps old mid → Keeps mid new → Keeps old new
+keeps_then old mid new first next = record {
+  objects = omega (arith, first.objects, next.objects);
+  room = omega (arith, first.room, next.room);
+  names = next.names ∙ first.names;
+  frames = next.frames ∙ first.frames;
+}
+
+-- another heap without an object more
+pub keeps_over : (old : State) (store : Store) → MakesNone old.store store → Keeps old (over store old)
+keeps_over old store none = record { objects = none.objects; room = omega arith; names = ap length none.names; frames = refl }
+
+-- so the engine stays fit
+pub still_fit : (script : Script) (old new : State) → Keeps old new → IsFit script old → IsFit script new
+still_fit script old new keeps fit = record {
+  names = keeps.names ∙ fit.names;
+  frames = omega (arith, keeps.frames, fit.frames);
+  room = omega (arith, keeps.frames, keeps.objects, keeps.room, fit.room);
+}
+
+-- another heap without an object more, and one activity on top, where there is room
+pub keeps_pushed : (inside old new : State) (top : Activity) → inside ≡ old → MakesNone inside.store new.store → new.activities ≡ top ∷ inside.activities → inside.room ≤ new.room + 1 → new.frames ≡ inside.frames → Keeps old new
+keeps_pushed inside old new top same none is room frames = subst (λ e. Keeps e new) same (record {
+  objects = none.objects;
+  room = let longer : length new.activities ≡ length (top ∷ inside.activities) = ap length is in omega (arith, longer, room);
+  names = ap length none.names;
+  frames = frames;
+})

@@ -1,0 +1,37 @@
+use Rattle.std.proofs.Common.{◌∙◌, arith}
+use Rattle.cg_interp.proofs.RunLemmas.{turn_may_be_taken, ran_quietly, ran_line, ran_to_end, ran_out, ran_cut, falls_quietly, falls_with_line}
+use Rattle.cg_interp.proofs.run.run_turns.Goals as goal
+
+pub turn_and_write-requires-clause-stands : goal.turn_and_write-requires-clause-stands
+turn_and_write-requires-clause-stands g c = turn_may_be_taken _ _ _ _ _ c.turns.invariant.ran c.requires.laws c.turns.invariant.frames
+
+pub turns-smaller-in-Ok-Quiet : goal.turns-smaller-in-Ok-Quiet
+turns-smaller-in-Ok-Quiet g c = falls_quietly _ _ _ _ _ c.turns.invariant.ran c.requires.laws c.turns.invariant.frames _ _ _ c.in-Ok-Quiet.field-0-is c.in-Ok-Quiet.ensures.ok
+
+pub turns-preserved-in-Ok-Quiet : goal.turns-preserved-in-Ok-Quiet
+turns-preserved-in-Ok-Quiet g c = record {
+  ran = ran_quietly _ _ _ _ _ c.turns.invariant.ran c.requires.laws c.turns.invariant.frames _ _ _ c.in-Ok-Quiet.field-0-is c.in-Ok-Quiet.ensures.ok;
+  fit = c.turn_and_write.ensures.fit;
+  frames = c.turn_and_write.ensures.frames ∙ c.turns.invariant.frames;
+  later = omega (arith, c.turns.invariant.later, c.turn_and_write.ensures.cause.later);
+}
+
+pub turns-smaller : goal.turns-smaller
+turns-smaller g c = falls_with_line _ _ _ _ _ c.turns.invariant.ran c.requires.laws c.turns.invariant.frames _ _ _ _ c.in-Ok-Line.field-0-is c.in-Ok-Line.ensures.ok
+
+pub turns-preserved : goal.turns-preserved
+turns-preserved g c = record {
+  ran = ran_line _ _ _ _ _ c.turns.invariant.ran c.requires.laws c.turns.invariant.frames _ _ _ _ c.in-Ok-Line.field-0-is c.in-Ok-Line.ensures.ok;
+  fit = c.turn_and_write.ensures.fit;
+  frames = c.turn_and_write.ensures.frames ∙ c.turns.invariant.frames;
+  later = omega (arith, c.turns.invariant.later, c.turn_and_write.ensures.cause.later);
+}
+
+pub returns-in-Ok-Ended-clause-done : goal.returns-in-Ok-Ended-clause-done
+returns-in-Ok-Ended-clause-done g c = λ _. ran_to_end _ _ _ _ _ c.turns.invariant.ran c.requires.laws c.turns.invariant.frames _ _ _ c.in-Ok-Ended.field-0-is c.in-Ok-Ended.ensures.ok
+
+pub returns-in-Ok-Spent-clause-spent : goal.returns-in-Ok-Spent-clause-spent
+returns-in-Ok-Spent-clause-spent g c = λ _. ran_out _ _ _ _ _ c.turns.invariant.ran c.requires.laws c.turns.invariant.frames _ _ _ c.in-Ok-Spent.field-0-is c.in-Ok-Spent.ensures.ok
+
+pub returns-in-Err-clause-part : goal.returns-in-Err-clause-part
+returns-in-Err-clause-part g c = λ _. ran_cut _ _ _ _ _ c.turns.invariant.ran c.requires.laws c.turns.invariant.frames _ _ c.fronts_begin_whole_texts.ensures c.in-Err.ensures.err

@@ -1,0 +1,18 @@
+use Rattle.std.proofs.Common.{◌≡◌, ◌≤◌}
+use Rattle.cg_machine.proofs.Number.{number_of}
+use Rattle.cg_interp.specs.Turns.{IsFit}
+use Rattle.cg_interp.specs.Running.{Ran}
+use Rattle.cg_interp.proofs.Counting.{world_from}
+use Rattle.cg_interp.proofs.run.run_turns.Given as goal
+
+-- the text of the run so far was written, and the engine stands for the world that it left
+abbrev pub invariant-turns : goal.invariant-turns
+invariant-turns g l = record {
+  ran : Ran l.script l.fn.engine.frames (g.K.Sink.written l.fn.sink) l.engine (g.K.Sink.written l.sink);
+  fit : IsFit l.script l.engine;
+  frames : l.engine.frames ≡ l.fn.engine.frames;
+  later : g.K.Sink.faults l.fn.sink ≤ g.K.Sink.faults l.sink;
+}
+
+abbrev pub decreases-turns : goal.decreases-turns
+decreases-turns g l = number_of l.script (world_from l.script l.engine)
