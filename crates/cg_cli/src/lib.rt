@@ -20,4 +20,6 @@ pub use words::{Job, read_words};
 #[cfg(test)]
 mod kinds;
 #[cfg(test)]
+mod rows;
+#[cfg(test)]
 mod tests;
