@@ -29,7 +29,7 @@ fn text_of(bytes: &[u8]) -> Option<&str> {
 }
 
 /// A run of the script with these words is to end so, and to write this text.
-fn check(
+pub fn check(
     rt: &impl Abort,
     alloc: Global,
     words: &[&str],

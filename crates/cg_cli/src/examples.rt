@@ -1,0 +1,160 @@
+//! The scripts of `examples/`, their comments aside, with their texts.
+use crate::Status;
+use crate::rows::check;
+use std::alloc::{AllocError, Global};
+use std::process::Abort;
+use std::test::Fail;
+
+/// An example: how it ends, its lines and its text.
+#[derive(Drop)]
+struct Example {
+    status: Status,
+    script: &'static str,
+    text: &'static str,
+}
+
+/// `examples/attributes.script`.
+const ATTRIBUTES: Example = Example {
+    status: Status::Done,
+    script: "class C; o = new C; l = list; setattr o items l; del l; x = attr o items; refs x; del x; setattr o items 1; delattr o items; delattr o items",
+    text: "made instance #2; made list #3; refs 2; free #3; refused 5; end",
+};
+
+/// `examples/bad-line.script`.
+const BAD_LINE: Example = Example {
+    status: Status::BadScript,
+    script: "a = list; # a comment; list = list",
+    text: "bad script 3 4",
+};
+
+/// `examples/budget.script`.
+const BUDGET: Example = Example {
+    status: Status::Budget,
+    script: "budget 1; def d; end; class C del=d; a = new C; del a; b = new C; del b",
+    text: "made instance #2; enter del #2; leave; free #2; made instance #3; budget spent",
+};
+
+/// `examples/callback.script`.
+const CALLBACK: Example = Example {
+    status: Status::Done,
+    script: "def d; print self; end; def cb; del k; end; class C; class D del=d; f = func cb; o = new D; k = list o; del o; a = new C; w = ref a f; del a",
+    text: "made function #2; made instance #3; made list #4; made instance #5; made weakref #6; cleared #6; enter callback #6; enter del #3; value #3; leave; free #3; free #4; leave; free #5; end",
+};
+
+/// `examples/calls.script`.
+const CALLS: Example = Example {
+    status: Status::Done,
+    script: "def p; print c0; quit none; print 2; end; a = list; f = func p a; del a; call f; del f",
+    text: "made list #2; made function #3; enter call #3; value #2; leave; free #2; free #3; end",
+};
+
+/// `examples/dictionaries.script`.
+const DICTIONARIES: Example = Example {
+    status: Status::Done,
+    script: "class C; k = new C; l = list; d = dict; put d k l; put d 'name 1; put d 'name 2; x = get d 'name; print x; drop d 'name; drop d 'name; del k; del l; del d",
+    text: "made instance #2; made list #3; made dict #4; value 2; refused 4; free #3; free #2; free #4; end",
+};
+
+/// `examples/finalizer.script`.
+const FINALIZER: Example = Example {
+    status: Status::Done,
+    script: "def d; call g; end; def h; print 1; end; class C del=d; g = func h; a = new C; del a",
+    text: "made function #2; made instance #3; enter del #3; enter call #2; value 1; leave; leave; free #3; end",
+};
+
+/// `examples/first.script`.
+const FIRST: Example = Example {
+    status: Status::Done,
+    script: "a = list; del a",
+    text: "made list #2; free #2; end",
+};
+
+/// `examples/items.script`.
+const ITEMS: Example = Example {
+    status: Status::Done,
+    script: "a = list; b = list a 5; del a; setitem b 0 none; delitem b 1; x = item b 0; print x; x = item b 1",
+    text: "made list #2; made list #3; free #2; value none; refused 3; end",
+};
+
+/// `examples/legacy-finalizer.script`.
+const LEGACY_FINALIZER: Example = Example {
+    status: Status::Done,
+    script: "def p; x = self; end; def cb; print 2; end; class C legacy=p; f = func cb; a = new C; w = ref a f; del a; del x",
+    text: "made function #2; made instance #3; made weakref #4; cleared #4; enter callback #4; value 2; leave; enter legacy #3; leave; alive #3; enter legacy #3; leave; alive #3; end",
+};
+
+/// `examples/lists.script`.
+const LISTS: Example = Example {
+    status: Status::Done,
+    script: "a = list; b = list a; c = list b a; refs a; del a; del b; del c",
+    text: "made list #2; made list #3; made list #4; refs 3; free #2; free #3; free #4; end",
+};
+
+/// `examples/rebinding.script`.
+const REBINDING: Example = Example {
+    status: Status::Done,
+    script: "a = list; a = list; del a; del a",
+    text: "made list #2; made list #3; free #2; free #3; refused 1; end",
+};
+
+/// `examples/refusals.script`.
+const REFUSALS: Example = Example {
+    status: Status::Done,
+    script: "def p; append q 1; print 2; end; f = func p; call f; x = item f 0; y = deref f; call 1; d = dict; l = list; put d l 1; x = get d 5; del x",
+    text: "made function #2; enter call #2; refused 1; leave; refused 2; refused 6; refused 7; made dict #3; made list #4; refused 9; refused 4; refused 1; end",
+};
+
+/// `examples/resurrection.script`.
+const RESURRECTION: Example = Example {
+    status: Status::Done,
+    script: "def d; x = self; end; class C del=d; a = new C; del a; finalized x; del x",
+    text: "made instance #2; enter del #2; leave; alive #2; finalized yes; free #2; end",
+};
+
+/// `examples/tuples.script`.
+const TUPLES: Example = Example {
+    status: Status::Done,
+    script: "a = list; t = tuple a 1; del a; a = item t 0; append a 'more; append t 2; del a; del t",
+    text: "made list #2; made tuple #3; refused 2; free #2; free #3; end",
+};
+
+/// `examples/weak-references.script`.
+const WEAK_REFERENCES: Example = Example {
+    status: Status::Done,
+    script: "def p; end; class C; f = func p; a = new C; u = ref a f; v = ref a f; del a; x = deref u; print x",
+    text: "made function #2; made instance #3; made weakref #4; made weakref #5; cleared #5; cleared #4; enter callback #5; leave; enter callback #4; leave; free #3; value none; end",
+};
+
+/// Runs an example.
+fn run(rt: &impl Abort, alloc: Global, example: Example) -> Result<(), AllocError> {
+    check(
+        rt,
+        alloc,
+        &["run"],
+        example.script,
+        example.status,
+        example.text,
+    )
+}
+
+#[test]
+fn every_example_has_its_text(rt: HostRuntime) -> Result<(), Fail> {
+    let alloc = rt.alloc();
+    run(&rt, alloc, ATTRIBUTES)?;
+    run(&rt, alloc, BAD_LINE)?;
+    run(&rt, alloc, BUDGET)?;
+    run(&rt, alloc, CALLBACK)?;
+    run(&rt, alloc, CALLS)?;
+    run(&rt, alloc, DICTIONARIES)?;
+    run(&rt, alloc, FINALIZER)?;
+    run(&rt, alloc, FIRST)?;
+    run(&rt, alloc, ITEMS)?;
+    run(&rt, alloc, LEGACY_FINALIZER)?;
+    run(&rt, alloc, LISTS)?;
+    run(&rt, alloc, REBINDING)?;
+    run(&rt, alloc, REFUSALS)?;
+    run(&rt, alloc, RESURRECTION)?;
+    run(&rt, alloc, TUPLES)?;
+    run(&rt, alloc, WEAK_REFERENCES)?;
+    Ok(())
+}
