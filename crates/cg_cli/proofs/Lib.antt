@@ -1,6 +1,3 @@
-pub mod Bare
-pub mod Death
-pub mod Moves
-pub mod Written
-pub mod Built
 pub mod Told
+pub mod Budgets
+pub mod Asked

@@ -1,8 +1,6 @@
--- Facts of a run job where the source tells its bytes, and of its words.
-use Rattle.std.proofs.Common.{◌≡◌, ◌⊎◌, inl, inr, ◌<◌, ℕ, ◌≤◌, Bool, List, [], ◌∷◌, ◌++◌, length, length-append, append-nil, map, get_or, Option, None, Some, IfSome, sym, ap, subst, ◌∙◌, arith, IsTrue}
-use Rattle.std.specs.Str.{bytes_eq}
+-- Facts of a run job where the source tells its bytes.
+use Rattle.std.proofs.Common.{◌≡◌, ◌⊎◌, inl, inr, ◌<◌, ℕ, ◌≤◌, List, ◌++◌, length, length-append, append-nil, Option, None, Some, IfSome, sym, ap, subst, ◌∙◌, arith}
 use Rattle.std.proofs.lemmas.Bool.{cases_lt}
-use Rattle.std.proofs.lemmas.Slice.Eq.{bytes_eq-Decides}
 use Rattle.std.specs.Io.KnownBytes.{Consumes, IsAtEnd}
 use Rattle.cg_machine.specs.World.{Outcome}
 use Rattle.cg_cli.specs.Statuses.{WroteFront, RowText, run_text, bad_text, large_text, RanWhole, RanBad, Answers, limit, IsCutShort}
@@ -22,33 +20,22 @@ module _ (left after : Option (List ℕ)) (bytes : List ℕ) (took : Consumes le
         | inr many ↦ subst P (sym t) (longer ys many here)
       ]
 
-  pub told_whole : (outcome : Outcome) (before now : Option (List ℕ)) → RanWhole outcome bytes before now → IfSome left (λ bs. RanWhole outcome bs before now)
-  told_whole outcome before now ran = told (λ bs. RanWhole outcome bs before now) ran (λ more many r. absurd (omega (arith, many, ran.few)))
+  pub told_whole : (given : Option ℕ) (outcome : Outcome) (before now : Option (List ℕ)) → RanWhole given outcome bytes before now → IfSome left (λ bs. RanWhole given outcome bs before now)
+  told_whole given outcome before now ran = told (λ bs. RanWhole given outcome bs before now) ran (λ more many r. absurd (omega (arith, many, ran.few)))
 
   pub told_bad : (before now : Option (List ℕ)) → RanBad bytes before now → IfSome left (λ bs. RanBad bs before now)
   told_bad before now ran = told (λ bs. RanBad bs before now) ran (λ more many r. absurd (omega (arith, many, ran.few)))
 
-  longer_row : (more text : List ℕ) → limit ≤ length bytes → RowText bytes text → RowText (bytes ++ more) text
-  longer_row more _ many (run_text script outcome steps few spelled whole) = absurd (omega (arith, many, few))
-  longer_row more _ many (bad_text number code few fault) = absurd (omega (arith, many, few))
-  longer_row more _ many (large_text large) = large_text (omega (arith, many, length-append bytes more))
+  longer_row : (given : Option ℕ) (more text : List ℕ) → limit ≤ length bytes → RowText given bytes text → RowText given (bytes ++ more) text
+  longer_row given more _ many (run_text script outcome steps few spelled whole) = absurd (omega (arith, many, few))
+  longer_row given more _ many (bad_text number code few fault) = absurd (omega (arith, many, few))
+  longer_row given more _ many (large_text large) = large_text (omega (arith, many, length-append bytes more))
 
-  pub told_front : (before now : Option (List ℕ)) → WroteFront bytes before now → IfSome left (λ bs. WroteFront bs before now)
-  told_front before now wrote = told (λ bs. WroteFront bs before now) wrote (λ more many w. record { text = w.text; row = longer_row more w.text many w.row; wrote = w.wrote })
+  pub told_front : (given : Option ℕ) (before now : Option (List ℕ)) → WroteFront given bytes before now → IfSome left (λ bs. WroteFront given bs before now)
+  told_front given before now wrote = told (λ bs. WroteFront given bs before now) wrote (λ more many w. record { text = w.text; row = longer_row given more w.text many w.row; wrote = w.wrote })
 
   pub told_answers : (answer : Status) → Answers bytes answer → IfSome left (λ bs. Answers bs answer)
   told_answers answer says = told (λ bs. Answers bs answer) says (λ more many s. (λ few. absurd (omega (arith, many, few, length-append bytes more)), λ large. s.1 many))
-
--- a word that is alone
-pub one_word : {A : Type 0} (f : A → List ℕ) (words : List A) (word : A) (same : Bool) (text : List ℕ) → length words ≡ 1 → word ≡ get_or words 0 word → same ≡ bytes_eq (f word) text
-    → (IsTrue same → map f words ≡ text ∷ []) × (map f words ≡ text ∷ [] → IsTrue same)
-one_word f [] word same text one at is = absurd (omega arith)
-one_word f (w ∷ v ∷ words) word same text one at is = absurd (omega arith)
-one_word f (w ∷ []) word same text one at is =
-    let d = bytes_eq-Decides (f word) text in (
-      λ t. ap (λ x. f x ∷ []) (sym at) ∙ ap (λ l. l ∷ []) (d.0 (sym is ∙ t)),
-      λ e. is ∙ d.1 (ap f at ∙ ap (λ l. get_or l 0 []) e),
-    )
 
 -- where neither source nor sink failed, only memory cuts a job short
 pub complete : (answer : Status) (SourceRose SinkRose Told : Type 0) → (answer ≡ status.ReadFault → SourceRose) → (answer ≡ status.WriteFault → SinkRose) → IsCutShort answer ⊎ Told

@@ -1,3 +1,2 @@
-pub mod Engine
-pub mod Headline
+pub mod Words
 pub mod Statuses

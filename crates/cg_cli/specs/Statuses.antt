@@ -4,18 +4,14 @@ use Rattle.std.specs.Io.KnownBytes.{Appends}
 use Rattle.cg_io.specs.Causes.{AppendsFront}
 use Rattle.cg_script.specs.declared.Script.{Script}
 use Rattle.cg_script.specs.declared.Item.{Item}
-use Rattle.cg_script.specs.declared.Item.TheVariants.{Budget, Class, Def, Run as Line}
+use Rattle.cg_script.specs.declared.Item.TheVariants as items
 use Rattle.cg_machine.specs.World.{Outcome}
 use Rattle.cg_machine.specs.Run.{StepTaken, IsWholeRun}
 use Rattle.cg_machine.specs.Lines.{text_of}
 use Rattle.cg_script.specs.Reading.{Reading, reading, spells, faulty}
-use Rattle.cg_cli.specs.Headline.{WroteRun}
+use Rattle.cg_interp.specs.Written.{WroteRun}
 use Rattle.cg_cli.specs.declared.status.Status.{Status}
-use Rattle.cg_cli.specs.declared.status.Status.TheVariants.{Done, BadScript, TooLarge, ReadFault, WriteFault, OutOfMemory}
-
--- the words ask for a run
-abbrev pub AreRun : List (List ℕ) → Type 0
-AreRun words = words ≡ codes "run" ∷ []
+use Rattle.cg_cli.specs.declared.status.Status.TheVariants.{Done, BadScript, TooLarge, ReadFault, WriteFault, OutOfMemory, Budget}
 
 -- one more byte than a script may have
 abbrev pub limit : ℕ
@@ -24,25 +20,25 @@ limit = 16777217
 -- the budget that a script sets
 abbrev pub budget_in : List Item → Option ℕ
 budget_in [] = None
-budget_in (Budget n ∷ items) = Some n
-budget_in (Class c ∷ items) = budget_in items
-budget_in (Def p ∷ items) = budget_in items
-budget_in (Line c ∷ items) = budget_in items
+budget_in (items.Budget n ∷ later) = Some n
+budget_in (items.Class c ∷ later) = budget_in later
+budget_in (items.Def p ∷ later) = budget_in later
+budget_in (items.Run c ∷ later) = budget_in later
 
--- the budget of a run of the script; the words set none yet
-abbrev pub budget_of : Script → ℕ
-budget_of script = unwrap_or (budget_in script.items) 10000
+-- the budget of a run: the one given with the words, else that of the script, else 10,000
+abbrev pub budget_of : Option ℕ → Script → ℕ
+budget_of given script = unwrap_or given (unwrap_or (budget_in script.items) 10000)
 
 -- some bytes spell a script
 abbrev pub Spells : List ℕ → Script → Type 0
 Spells bytes script = reading bytes ≡ spells script.names script.items
 
 -- The bytes spell a script, and the text of a whole run of it was written, which ended so.
-pub record RanWhole (outcome : Outcome) (bytes : List ℕ) (before now : Option (List ℕ)) : Type 0 where
+pub record RanWhole (given : Option ℕ) (outcome : Outcome) (bytes : List ℕ) (before now : Option (List ℕ)) : Type 0 where
   pub few : length bytes < limit
   pub script : Script
   pub spelled : Spells bytes script
-  pub wrote : WroteRun script (budget_of script) outcome before now
+  pub wrote : WroteRun script (budget_of given script) outcome before now
 
 -- the line of the first bad line
 abbrev pub bad_script_text : ℕ → ℕ → List ℕ
@@ -57,25 +53,26 @@ pub record RanBad (bytes : List ℕ) (before now : Option (List ℕ)) : Type 0 w
   pub wrote : Appends before now (bad_script_text number code)
 
 -- What a run job writes on these bytes: the text of a whole run, or the first bad line, or that they are too many.
-pub data RowText (bytes : List ℕ) : List ℕ → Type 0 where
-  run_text : (script : Script) (outcome : Outcome) (steps : List StepTaken) → length bytes < limit → Spells bytes script → IsWholeRun script (budget_of script) outcome steps → RowText bytes (text_of script steps)
-  bad_text : (number code : ℕ) → length bytes < limit → reading bytes ≡ faulty number code → RowText bytes (bad_script_text number code)
-  large_text : limit ≤ length bytes → RowText bytes (codes "too large\n")
+pub data RowText (given : Option ℕ) (bytes : List ℕ) : List ℕ → Type 0 where
+  run_text : (script : Script) (outcome : Outcome) (steps : List StepTaken) → length bytes < limit → Spells bytes script → IsWholeRun script (budget_of given script) outcome steps → RowText given bytes (text_of script steps)
+  bad_text : (number code : ℕ) → length bytes < limit → reading bytes ≡ faulty number code → RowText given bytes (bad_script_text number code)
+  large_text : limit ≤ length bytes → RowText given bytes (codes "too large\n")
 
 -- A front of that was written.
-pub record WroteFront (bytes : List ℕ) (before now : Option (List ℕ)) : Type 0 where
+pub record WroteFront (given : Option ℕ) (bytes : List ℕ) (before now : Option (List ℕ)) : Type 0 where
   pub text : List ℕ
-  pub row : RowText bytes text
+  pub row : RowText given bytes text
   pub wrote : AppendsFront before now text
 
--- The answer to these bytes, where neither source nor sink failed and memory was there: it goes by the bytes alone.
-abbrev pub answer_to_reading : Reading → Status
-answer_to_reading (spells names items) = Done
-answer_to_reading (faulty number code) = BadScript
+-- The answer to what bytes are read as, where neither source nor sink failed and memory was there: `Done` or `Budget` to a
+-- script, as its run ended.
+abbrev pub AnswersReading : Reading → Status → Type 0
+AnswersReading (spells names lines) status = (status ≡ Done) ⊎ (status ≡ Budget)
+AnswersReading (faulty number code) status = status ≡ BadScript
 
 -- up to the limit by what the bytes are read as, and beyond it that they are too many
 abbrev pub Answers : List ℕ → Status → Type 0
-Answers bytes status = (length bytes < limit → status ≡ answer_to_reading (reading bytes)) × (limit ≤ length bytes → status ≡ TooLarge)
+Answers bytes status = (length bytes < limit → AnswersReading (reading bytes) status) × (limit ≤ length bytes → status ≡ TooLarge)
 
 -- a fault of the source or of the sink, or want of memory
 abbrev pub IsCutShort : Status → Type 0

@@ -1,129 +1,139 @@
-//! Runs of scripts.
-ghost use Rattle.std.specs.Prelude.{◌≡◌, ◌<◌, ◌≤◌, ◌+◌, ℕ, List, length, replicate, None, IfOk, IfSome, OnOk, OnErr};
-ghost use Rattle.std.specs.List.{All};
-ghost use Rattle.std.specs.Io.KnownBytes.{Appends, Keeps};
-ghost use Rattle.cg_io.specs.Causes.{HasCause, AppendsFront, Rose};
-ghost use Rattle.cg_script.specs.declared.Item.TheVariants.{Run as RunLine};
-ghost use Rattle.cg_machine.specs.World.{Ended};
-ghost use Rattle.cg_machine.specs.Lines.{line, IsPrintable};
-ghost use Rattle.cg_cli.specs.Engine.{IsBuilt, IsBuiltItem};
-ghost use Rattle.cg_cli.specs.Headline.{WroteRun, WrotePart, lines_text, WritesItem, CutsItem};
+//! A run job: a source is read, its bytes are read as a script, and the script is run on a heap over the kinds.
+ghost use Rattle.std.specs.Prelude.{◌≡◌, ◌≢◌, ◌≤◌, ◌<◌, ◌⊎◌, length, map, replicate, IfSome, codes};
+ghost use Rattle.std.specs.FinMap as fin;
+ghost use Rattle.std.specs.Io.KnownBytes.{Appends, Keeps, IsAtEnd};
+ghost use Rattle.cg_io.specs.Causes.{AppendsFront, Rose};
+ghost use Rattle.cg_heap.specs.Boxes.{six_kinds};
+ghost use Rattle.cg_machine.specs.World.{Ended, BudgetIsSpent};
+ghost use Rattle.cg_script.specs.Spelled.{IsSpelled};
+ghost use Rattle.cg_script.specs.Texts.{TextsAreKnown};
+ghost use Rattle.cg_script.specs.Reading.{reading};
+ghost use Rattle.cg_interp.specs.Written.{WroteRun, WrotePart};
+ghost use Rattle.cg_cli.specs.Statuses.{RanWhole, RanBad, WroteFront, Answers, AnswersReading, IsCutShort, budget_of};
 
-use crate::engine::{Engine, Lines, apply};
-use cg_io::{Sink, WriteFailed};
-use cg_machine::{Event, fronts_begin_whole_texts, line_of};
-use cg_script::{Command, Item, Script};
-use cg_value::Names;
-use std::alloc::{AllocError, Global};
+use crate::budget::budget_for;
+use crate::input::{InputFault, LIMIT, read_all};
+use crate::status::Status;
+use crate::tell::{tell_bad_script, tell_large};
+use cg_heap::Heap;
+use cg_interp::{RunEnd, run_script};
+use cg_io::{Sink, Source};
+use cg_kind::Kind;
+use cg_script::{Script, ScriptFault, parse};
+use std::alloc::Global;
 
-/// How a run ended.
-#[derive(Clone, Copy, Debug, PartialEq, Eq)]
-pub enum RunEnd {
-    /// By `end`.
-    Done,
-    /// The sink failed.
-    WriteFault,
-    /// Memory for the run was refused at its opening.
-    OutOfMemory,
-}
-
-/// Writes the line of an event.
-fn write_event<K: Sink>(event: &Event, names: &Names, sink: &mut K) -> Result<(), WriteFailed>
-    requires { IsPrintable names.now event.now }
-    ensures ok { OnOk result (Appends (K.written sink.old) (K.written sink.new) (line names.now event.now)) }
-    ensures err { OnErr result (AppendsFront (K.written sink.old) (K.written sink.new) (line names.now event.now)) }
-    ensures cause { HasCause (K.faults sink.old) (K.faults sink.new) result }
-{
-    sink.write(line_of(event, names).as_str().as_bytes())
-}
-
-/// Writes the lines of a command.
-#[tactic(auto, using(crate::proofs::Written::longer_front, crate::proofs::Written::after_front))]
-fn write_lines<K: Sink>(lines: Lines, names: &Names, sink: &mut K) -> Result<(), WriteFailed>
-    requires first { IsPrintable names.now lines.first }
-    requires second { IfSome lines.second (λ event. IsPrintable names.now event) }
-    ensures ok { OnOk result (Appends (K.written sink.old) (K.written sink.new) (lines_text names.now lines.first lines.second)) }
-    ensures err { OnErr result (AppendsFront (K.written sink.old) (K.written sink.new) (lines_text names.now lines.first lines.second)) }
-    ensures cause { HasCause (K.faults sink.old) (K.faults sink.new) result }
-{
-    match lines.second {
-        None => write_event(&lines.first, names, sink),
-        Some(second) => match write_event(&lines.first, names, sink) {
-            Ok(()) => write_event(&second, names, sink),
-            Err(fault) => Err(fault),
-        },
-    }
-}
-
-/// Runs a command.
-fn run_command<K: Sink>(
-    engine: &mut Engine,
-    command: &Command,
-    names: &Names,
+/// Runs a script that was read.
+fn run_parsed<K: Sink, B: Kind>(
+    alloc: Global,
+    given: Option<u32>,
+    script: &Script,
     sink: &mut K,
-) -> Result<(), WriteFailed>
-    requires built { IsBuilt (length engine.old.slots.items) command.now }
-    requires next { engine.old.next < 1000000 }
-    ensures ok { OnOk result (WritesItem names.now engine.old.next engine.old.slots.items (RunLine command.now) (K.written sink.old) engine.new.next engine.new.slots.items (K.written sink.new)) }
-    ensures err { OnErr result (CutsItem names.now engine.old.next engine.old.slots.items (RunLine command.now) (K.written sink.old) (K.written sink.new)) }
-    ensures cause { HasCause (K.faults sink.old) (K.faults sink.new) result }
-    ensures names { length engine.new.slots.items ≡ length engine.old.slots.items }
-    ensures next { engine.new.next ≤ engine.old.next + 1 }
+    kinds: Vec<B>,
+) -> Status
+    requires spelled { IsSpelled script.now }
+    requires known { TextsAreKnown script.now }
+    requires given { IfSome given (λ n. n ≤ 100000) }
+    requires kinds { map B.kind kinds.items ≡ six_kinds }
+    requires empty { map B.bodies kinds.items ≡ replicate 6 fin.empty }
+    ensures done { result ≡ Status.Done → WroteRun script.now (budget_of given script.now) Ended (K.written sink.old) (K.written sink.new) }
+    ensures spent { result ≡ Status.Budget → WroteRun script.now (budget_of given script.now) BudgetIsSpent (K.written sink.old) (K.written sink.new) }
+    ensures part { result ≡ Status.WriteFault → WrotePart script.now (budget_of given script.now) (K.written sink.old) (K.written sink.new) }
+    ensures cause { result ≡ Status.WriteFault → Rose (K.faults sink.old) (K.faults sink.new) }
+    ensures memory { result ≡ Status.OutOfMemory → Keeps (K.written sink.old) (K.written sink.new) }
+    ensures only { (result ≡ Status.Done) ⊎ (result ≡ Status.Budget) ⊎ (result ≡ Status.WriteFault) ⊎ (result ≡ Status.OutOfMemory) }
 {
-    let lines = apply(engine, command);
-    write_lines(lines, names, sink)
-}
-
-/// Runs a line of the script.
-fn run_item<K: Sink>(
-    engine: &mut Engine,
-    item: &Item,
-    names: &Names,
-    sink: &mut K,
-) -> Result<(), WriteFailed>
-    requires built { IsBuiltItem (length engine.old.slots.items) item.now }
-    requires next { engine.old.next < 1000000 }
-    ensures ok { OnOk result (WritesItem names.now engine.old.next engine.old.slots.items item.now (K.written sink.old) engine.new.next engine.new.slots.items (K.written sink.new)) }
-    ensures err { OnErr result (CutsItem names.now engine.old.next engine.old.slots.items item.now (K.written sink.old) (K.written sink.new)) }
-    ensures cause { HasCause (K.faults sink.old) (K.faults sink.new) result }
-    ensures names { length engine.new.slots.items ≡ length engine.old.slots.items }
-    ensures next { engine.new.next ≤ engine.old.next + 1 }
-{
-    match item {
-        Item::Run(command) => run_command(engine, command, names, sink),
-        _ => unreachable!(),
-    }
-}
-
-/// Nothing under any name.
-fn unbound(alloc: Global, names: usize) -> Result<Vec<Option<u64>>, AllocError>
-    ensures { IfOk result (λ slots. slots.items ≡ replicate names None) }
-{
-    vec![in alloc; None; names]
-}
-
-/// Runs a script, and writes the lines of the run, one `write` a line. No frame can start, so the budget is of no matter.
-pub fn run_script<K: Sink>(alloc: Global, script: &Script, sink: &mut K) -> RunEnd
-    requires built { All (IsBuiltItem (length script.now.names)) script.now.items }
-    requires few { length script.now.items ≤ 400000 }
-    ensures done { result ≡ RunEnd.Done → (budget : ℕ) → WroteRun script.now budget Ended (K.written sink.old) (K.written sink.new) }
-    ensures part { result ≡ RunEnd.WriteFault → (budget : ℕ) → WrotePart script.now budget (K.written sink.old) (K.written sink.new) }
-    ensures cause { result ≡ RunEnd.WriteFault → Rose (K.faults sink.old) (K.faults sink.new) }
-    ensures memory { result ≡ RunEnd.OutOfMemory → Keeps (K.written sink.old) (K.written sink.new) }
-    ensures later { K.faults sink.old ≤ K.faults sink.new }
-{
-    fronts_begin_whole_texts();
-    let Ok(slots) = unbound(alloc, script.names.len() as usize) else {
-        return RunEnd::OutOfMemory;
+    let budget = budget_for(given, script);
+    let Ok(heap) = Heap::new(alloc, kinds, script.names.len()) else {
+        return Status::OutOfMemory;
     };
-    let mut engine = Engine { slots, next: 2 };
-    'items: for item in script.items.as_slice() {
-        if run_item(&mut engine, item, &script.names, sink).is_err() {
-            return RunEnd::WriteFault;
-        }
+    match run_script(alloc, heap, script, budget, sink) {
+        RunEnd::Done => Status::Done,
+        RunEnd::Budget => Status::Budget,
+        RunEnd::WriteFault => Status::WriteFault,
+        RunEnd::OutOfMemory => Status::OutOfMemory,
     }
-    match write_event(&Event::End, &script.names, sink) {
-        Ok(()) => RunEnd::Done,
-        Err(WriteFailed) => RunEnd::WriteFault,
+}
+
+/// Runs what some bytes spell.
+fn run_in_hand<K: Sink, B: Kind>(
+    alloc: Global,
+    given: Option<u32>,
+    bytes: &[u8],
+    sink: &mut K,
+    kinds: Vec<B>,
+) -> Status
+    requires few { length bytes.now < LIMIT }
+    requires given { IfSome given (λ n. n ≤ 100000) }
+    requires kinds { map B.kind kinds.items ≡ six_kinds }
+    requires empty { map B.bodies kinds.items ≡ replicate 6 fin.empty }
+    ensures done { result ≡ Status.Done → RanWhole given Ended bytes.now (K.written sink.old) (K.written sink.new) }
+    ensures spent { result ≡ Status.Budget → RanWhole given BudgetIsSpent bytes.now (K.written sink.old) (K.written sink.new) }
+    ensures bad_script { result ≡ Status.BadScript → RanBad bytes.now (K.written sink.old) (K.written sink.new) }
+    ensures write { result ≡ Status.WriteFault → WroteFront given bytes.now (K.written sink.old) (K.written sink.new) }
+    ensures cause { result ≡ Status.WriteFault → Rose (K.faults sink.old) (K.faults sink.new) }
+    ensures memory { result ≡ Status.OutOfMemory → Keeps (K.written sink.old) (K.written sink.new) }
+    ensures only { AnswersReading (reading bytes.now) result ⊎ (result ≡ Status.WriteFault) ⊎ (result ≡ Status.OutOfMemory) }
+{
+    match parse(alloc, bytes) {
+        Ok(script) => run_parsed(alloc, given, &script, sink, kinds),
+        Err(ScriptFault::Bad { line, code }) => tell_bad_script(line, code, sink),
+        Err(ScriptFault::OutOfMemory) => Status::OutOfMemory,
+    }
+}
+
+/// Runs what was read, or says that it is too large.
+fn run_read<K: Sink, B: Kind>(
+    alloc: Global,
+    given: Option<u32>,
+    bytes: &[u8],
+    sink: &mut K,
+    kinds: Vec<B>,
+) -> Status
+    requires given { IfSome given (λ n. n ≤ 100000) }
+    requires kinds { map B.kind kinds.items ≡ six_kinds }
+    requires empty { map B.bodies kinds.items ≡ replicate 6 fin.empty }
+    ensures done { result ≡ Status.Done → RanWhole given Ended bytes.now (K.written sink.old) (K.written sink.new) }
+    ensures spent { result ≡ Status.Budget → RanWhole given BudgetIsSpent bytes.now (K.written sink.old) (K.written sink.new) }
+    ensures bad_script { result ≡ Status.BadScript → RanBad bytes.now (K.written sink.old) (K.written sink.new) }
+    ensures large { result ≡ Status.TooLarge → Appends (K.written sink.old) (K.written sink.new) (codes "too large\n") }
+    ensures write { result ≡ Status.WriteFault → WroteFront given bytes.now (K.written sink.old) (K.written sink.new) }
+    ensures cause { result ≡ Status.WriteFault → Rose (K.faults sink.old) (K.faults sink.new) }
+    ensures memory { result ≡ Status.OutOfMemory → Keeps (K.written sink.old) (K.written sink.new) }
+    ensures only { Answers bytes.now result ⊎ (result ≡ Status.WriteFault) ⊎ (result ≡ Status.OutOfMemory) }
+{
+    if bytes.len() >= LIMIT {
+        return tell_large(sink);
+    }
+    run_in_hand(alloc, given, bytes, sink, kinds)
+}
+
+/// Reads a source to its end, and runs what it gave.
+pub fn run_job<S: Source, K: Sink, B: Kind>(
+    alloc: Global,
+    given: Option<u32>,
+    source: &mut S,
+    sink: &mut K,
+    kinds: Vec<B>,
+) -> Status
+    requires given { IfSome given (λ n. n ≤ 100000) }
+    requires kinds { map B.kind kinds.items ≡ six_kinds }
+    requires empty { map B.bodies kinds.items ≡ replicate 6 fin.empty }
+    ensures done { result ≡ Status.Done → IfSome (S.left source.old) (λ bytes. RanWhole given Ended bytes (K.written sink.old) (K.written sink.new)) }
+    ensures spent { result ≡ Status.Budget → IfSome (S.left source.old) (λ bytes. RanWhole given BudgetIsSpent bytes (K.written sink.old) (K.written sink.new)) }
+    ensures bad_script { result ≡ Status.BadScript → IfSome (S.left source.old) (λ bytes. RanBad bytes (K.written sink.old) (K.written sink.new)) }
+    ensures read_to_end { (result ≡ Status.Done) ⊎ (result ≡ Status.Budget) ⊎ (result ≡ Status.BadScript) → IsAtEnd (S.left source.new) }
+    ensures too_large { result ≡ Status.TooLarge → Appends (K.written sink.old) (K.written sink.new) (codes "too large\n") }
+    ensures read_cause { result ≡ Status.ReadFault → Rose (S.faults source.old) (S.faults source.new) }
+    ensures read { result ≡ Status.ReadFault → Keeps (K.written sink.old) (K.written sink.new) }
+    ensures write_cause { result ≡ Status.WriteFault → Rose (K.faults sink.old) (K.faults sink.new) }
+    ensures write { result ≡ Status.WriteFault → IfSome (S.left source.old) (λ bytes. WroteFront given bytes (K.written sink.old) (K.written sink.new)) }
+    ensures memory { result ≡ Status.OutOfMemory → Keeps (K.written sink.old) (K.written sink.new) }
+    ensures only { IsCutShort result ⊎ IfSome (S.left source.old) (λ bytes. Answers bytes result) }
+    ensures words { result ≢ Status.BadWords }
+{
+    match read_all(alloc, source) {
+        Ok(bytes) => run_read(alloc, given, bytes.as_slice(), sink, kinds),
+        Err(InputFault::ReadFault) => Status::ReadFault,
+        Err(InputFault::OutOfMemory) => Status::OutOfMemory,
     }
 }

@@ -15,6 +15,8 @@ pub enum Status {
     WriteFault = 4,
     /// Memory was refused before anything was written.
     OutOfMemory = 5,
+    /// The run ended where a frame was to start and the budget was spent.
+    Budget = 6,
     /// The script has more than 16,777,216 bytes.
     TooLarge = 7,
 }

@@ -1,17 +1,18 @@
-//! Worked scripts, words, sizes and faults, through the top call.
-use crate::{Status, gc_run};
-use cg_io::{MemSink, MemSource, NullSink, PlainSource, Source};
+//! Words, sizes, faults and bad scripts, through the top call.
+use crate::kinds::six;
+use crate::{Job, Status, gc_run, read_words};
+use cg_io::{MemSink, MemSource, PlainSource, Source};
 use std::alloc::{AllocError, Global};
 use std::test::Fail;
 
 /// What a call answers, and what it writes.
 #[derive(Drop)]
-struct Answered {
-    status: Status,
-    text: Vec<u8>,
+pub struct Answered {
+    pub status: Status,
+    pub text: Vec<u8>,
 }
 
-fn words_of(alloc: Global, words: &[&str]) -> Result<Vec<String>, AllocError> {
+pub fn words_of(alloc: Global, words: &[&str]) -> Result<Vec<String>, AllocError> {
     let mut all = Vec::new(alloc);
     for word in words {
         all.push(String::from_str(alloc, word)?)?;
@@ -19,60 +20,69 @@ fn words_of(alloc: Global, words: &[&str]) -> Result<Vec<String>, AllocError> {
     Ok(all)
 }
 
-/// The answer to these words and this source, with a sink that never fails.
-fn answer_to<S: Source>(
+/// The answer to these words and this source, with a sink of which the calls with these numbers fail, each after its first
+/// two bytes.
+pub fn answer_with_faults<S: Source>(
     alloc: Global,
     words: &[&str],
     source: &mut S,
+    fails: Vec<u64>,
 ) -> Result<Answered, AllocError> {
     let words = words_of(alloc, words)?;
-    let mut sink = MemSink::new(alloc, Vec::new(alloc), 0);
-    let status = gc_run(alloc, words.as_slice(), source, &mut sink);
+    let mut sink = MemSink::new(alloc, fails, 2);
+    let kinds = six(alloc)?;
+    let status = gc_run(alloc, words.as_slice(), source, &mut sink, kinds);
     Ok(Answered {
         status,
         text: Vec::from_slice(alloc, sink.bytes())?,
     })
 }
 
+/// The answer to these words and this source, with a sink that never fails.
+pub fn answer_to<S: Source>(
+    alloc: Global,
+    words: &[&str],
+    source: &mut S,
+) -> Result<Answered, AllocError> {
+    answer_with_faults(alloc, words, source, Vec::new(alloc))
+}
+
 #[test]
-fn worked_scripts(rt: HostRuntime) -> Result<(), Fail> {
+fn words_of_a_run(rt: HostRuntime) -> Result<(), Fail> {
     let alloc = rt.alloc();
-    for (script, status, text) in [
-        ("", Status::Done, "end\n"),
-        (
-            "a = list\ndel a",
-            Status::Done,
-            "made list #2\nfree #2\nend\n",
-        ),
-        (
-            "a = list\na = list\ndel a\ndel a\n",
-            Status::Done,
-            "made list #2\nmade list #3\nfree #2\nfree #3\nrefused 1\nend\n",
-        ),
-        (
-            "# two names\n\nb = list\n  a   =  list\ndel b\n",
-            Status::Done,
-            "made list #2\nmade list #3\nfree #2\nend\n",
-        ),
-        (
-            "a = list\nlist = list",
-            Status::BadScript,
-            "bad script 2 4\n",
-        ),
-        ("a = list\nx = dict", Status::BadScript, "bad script 2 2\n"),
-    ] {
-        let mut source = PlainSource::new(Vec::from_slice(alloc, script.as_bytes())?);
-        let found = answer_to(alloc, &["run"], &mut source)?;
-        assert_eq!(rt; found.status, status, "at {script:?}");
-        assert_eq!(rt; found.text.as_slice(), text.as_bytes(), "at {script:?}");
+    for (number, budget) in [("0", 0), ("7", 7), ("000012", 12), ("100000", 100_000)] {
+        let words = words_of(alloc, &["run", "--budget", number])?;
+        let job = Job::Run {
+            budget: Some(budget),
+        };
+        assert_eq!(rt; read_words(words.as_slice()), Some(job), "at {number:?}");
     }
+    let words = words_of(alloc, &["run"])?;
+    assert_eq!(rt;
+        read_words(words.as_slice()),
+        Some(Job::Run { budget: None })
+    );
     Ok(())
 }
 
 #[test]
 fn other_words_are_bad(rt: HostRuntime) -> Result<(), Fail> {
     let alloc = rt.alloc();
-    for words in [["run", "now"], ["generate", "0"], ["", "run"]] {
+    for words in [
+        ["run", "now", ""],
+        ["generate", "0", ""],
+        ["", "run", ""],
+        ["run", "--budget=5", ""],
+        ["--budget", "5", "run"],
+        ["run", "--budgets", "5"],
+        ["run", "--budget", ""],
+        ["run", "--budget", "-1"],
+        ["run", "--budget", "+5"],
+        ["run", "--budget", "5 "],
+        ["run", "--budget", "0000005"],
+        ["run", "--budget", "100001"],
+        ["run", "--budget", "many"],
+    ] {
         let mut source = PlainSource::new(Vec::new(alloc));
         let found = answer_to(alloc, words.as_slice(), &mut source)?;
         assert_eq!(rt; found.status, Status::BadWords, "at {words:?}");
@@ -85,8 +95,41 @@ fn other_words_are_bad(rt: HostRuntime) -> Result<(), Fail> {
     Ok(())
 }
 
+#[test]
+fn no_word_and_too_many_are_bad(rt: HostRuntime) -> Result<(), Fail> {
+    let alloc = rt.alloc();
+    for words in [
+        [].as_slice(),
+        ["run", "--budget"].as_slice(),
+        ["run", "--budget", "5", "6"].as_slice(),
+    ] {
+        let mut source = PlainSource::new(Vec::new(alloc));
+        let found = answer_to(alloc, words, &mut source)?;
+        assert_eq!(rt; found.status, Status::BadWords, "at {words:?}");
+    }
+    Ok(())
+}
+
+#[test]
+fn bad_scripts(rt: HostRuntime) -> Result<(), Fail> {
+    let alloc = rt.alloc();
+    for (script, text) in [
+        ("a = list\nlist = list", "bad script 2 4\n"),
+        ("a = list\n\n# a comment\nfly a\n", "bad script 4 2\n"),
+        ("del a\ndel\n", "bad script 2 3\n"),
+        ("a = list\nend\n", "bad script 2 7\n"),
+        ("a = list\ta\n", "bad script 1 1\n"),
+    ] {
+        let mut source = PlainSource::new(Vec::from_slice(alloc, script.as_bytes())?);
+        let found = answer_to(alloc, &["run"], &mut source)?;
+        assert_eq!(rt; found.status, Status::BadScript, "at {script:?}");
+        assert_eq!(rt; found.text.as_slice(), text.as_bytes(), "at {script:?}");
+    }
+    Ok(())
+}
+
 /// 16,384 lines of 1,023 spaces each, and these many bytes more.
-fn spaces(alloc: Global, more: usize) -> Result<Vec<u8>, AllocError> {
+pub fn spaces(alloc: Global, more: usize) -> Result<Vec<u8>, AllocError> {
     let mut bytes = Vec::new(alloc);
     for _line in 0..16_384u32 {
         bytes.extend_from_slice([b' '; 1023].as_slice())?;
@@ -96,16 +139,6 @@ fn spaces(alloc: Global, more: usize) -> Result<Vec<u8>, AllocError> {
         bytes.push(b' ')?;
     }
     Ok(bytes)
-}
-
-#[test]
-fn the_largest_script(rt: HostRuntime) -> Result<(), Fail> {
-    let alloc = rt.alloc();
-    let mut source = PlainSource::new(spaces(alloc, 0)?);
-    let found = answer_to(alloc, &["run"], &mut source)?;
-    assert_eq!(rt; found.status, Status::Done);
-    assert_eq!(rt; found.text.as_slice(), b"end\n".as_slice());
-    Ok(())
 }
 
 #[test]
@@ -119,15 +152,22 @@ fn one_byte_too_many(rt: HostRuntime) -> Result<(), Fail> {
 }
 
 #[test]
-fn a_failed_write_leaves_a_front(rt: HostRuntime) -> Result<(), Fail> {
+fn a_failed_first_write_leaves_two_bytes(rt: HostRuntime) -> Result<(), Fail> {
     let alloc = rt.alloc();
-    let words = words_of(alloc, &["run"])?;
-    let script = Vec::from_slice(alloc, b"a = list\nb = list\nc = list")?;
-    let mut source = PlainSource::new(script);
-    let mut sink = MemSink::new(alloc, vec![in alloc; 3]?, 3);
-    let status = gc_run(alloc, words.as_slice(), &mut source, &mut sink);
-    assert_eq!(rt; status, Status::WriteFault);
-    assert_eq!(rt; sink.bytes(), b"made list #2\nmade list #3\nmad".as_slice());
+    for (words, bytes, front) in [
+        (
+            ["run"].as_slice(),
+            Vec::from_slice(alloc, b"list = list")?,
+            b"ba",
+        ),
+        (["fly"].as_slice(), Vec::new(alloc), b"ba"),
+        (["run"].as_slice(), spaces(alloc, 1)?, b"to"),
+    ] {
+        let mut source = PlainSource::new(bytes);
+        let found = answer_with_faults(alloc, words, &mut source, vec![in alloc; 1]?)?;
+        assert_eq!(rt; found.status, Status::WriteFault, "at {words:?}");
+        assert_eq!(rt; found.text.as_slice(), front.as_slice(), "at {words:?}");
+    }
     Ok(())
 }
 
@@ -139,16 +179,5 @@ fn a_failed_read_writes_nothing(rt: HostRuntime) -> Result<(), Fail> {
     let found = answer_to(alloc, &["run"], &mut source)?;
     assert_eq!(rt; found.status, Status::ReadFault);
     assert!(rt; found.text.is_empty());
-    Ok(())
-}
-
-#[test]
-fn a_sink_that_keeps_nothing(rt: HostRuntime) -> Result<(), Fail> {
-    let alloc = rt.alloc();
-    let words = words_of(alloc, &["run"])?;
-    let mut source = PlainSource::new(Vec::from_slice(alloc, b"a = list")?);
-    let mut sink = NullSink::new();
-    let status = gc_run(alloc, words.as_slice(), &mut source, &mut sink);
-    assert_eq!(rt; status, Status::Done);
     Ok(())
 }

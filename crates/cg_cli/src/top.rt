@@ -1,65 +1,108 @@
 //! The top call: what the program does for its words, its source and its sink.
-ghost use Rattle.std.specs.Prelude.{◌≡◌, ◌≢◌, ◌≤◌, ◌⊎◌, ◌↔◌, IfSome, IsTrue, codes, map, string_bytes};
+ghost use Rattle.std.specs.Prelude.{◌≡◌, ◌≢◌, ◌≤◌, ◌⊎◌, ℕ, Option, IfSome, Some, codes, map, replicate, string_bytes};
+ghost use Rattle.std.specs.FinMap as fin;
 ghost use Rattle.std.specs.Io.KnownBytes.{Appends, Keeps, IsAtEnd};
 ghost use Rattle.cg_io.specs.Causes.{AppendsFront, Rose};
-ghost use Rattle.cg_machine.specs.World.{Ended};
-ghost use Rattle.cg_cli.specs.Statuses.{AreRun, RanWhole, RanBad, WroteFront, Answers, IsCutShort};
+ghost use Rattle.cg_heap.specs.Boxes.{six_kinds};
+ghost use Rattle.cg_machine.specs.World.{Ended, BudgetIsSpent};
+ghost use Rattle.cg_cli.specs.Words.{AsksFor, Ask};
+ghost use Rattle.cg_cli.specs.Statuses.{RanWhole, RanBad, WroteFront, Answers, IsCutShort};
 
-use crate::job::run_job;
+use crate::run::run_job;
 use crate::status::Status;
 use crate::tell::tell_bad_words;
+use crate::words::{Job, read_words};
 use cg_io::{Sink, Source};
+use cg_kind::Kind;
 use std::alloc::Global;
 
-/// Whether the words ask for a run.
-fn ask_for_run(words: &[String]) -> bool
-    ensures { IsTrue result ↔ AreRun (map string_bytes words.now) }
+/// The same over kinds of any one type.
+fn gc_over<S: Source, K: Sink, B: Kind>(
+    alloc: Global,
+    words: &[String],
+    source: &mut S,
+    sink: &mut K,
+    kinds: Vec<B>,
+) -> Status
+    requires kinds { map B.kind kinds.items ≡ six_kinds }
+    requires empty { map B.bodies kinds.items ≡ replicate 6 fin.empty }
+    ensures done { result ≡ Status.Done → (given : Option ℕ) × AsksFor (map string_bytes words.now) (Job.Run given)
+        × IfSome (S.left source.old) (λ bytes. RanWhole given Ended bytes (K.written sink.old) (K.written sink.new)) }
+    ensures spent { result ≡ Status.Budget → (given : Option ℕ) × AsksFor (map string_bytes words.now) (Job.Run given)
+        × IfSome (S.left source.old) (λ bytes. RanWhole given BudgetIsSpent bytes (K.written sink.old) (K.written sink.new)) }
+    ensures bad_words { result ≡ Status.BadWords → Appends (K.written sink.old) (K.written sink.new) (codes "bad words\n") }
+    ensures bad_script { result ≡ Status.BadScript → IfSome (S.left source.old) (λ bytes. RanBad bytes (K.written sink.old) (K.written sink.new)) }
+    ensures too_large { result ≡ Status.TooLarge → Appends (K.written sink.old) (K.written sink.new) (codes "too large\n") }
+    ensures read_to_end { (result ≡ Status.Done) ⊎ (result ≡ Status.Budget) ⊎ (result ≡ Status.BadScript) → IsAtEnd (S.left source.new) }
+    ensures read_cause { result ≡ Status.ReadFault → Rose (S.faults source.old) (S.faults source.new) }
+    ensures read { result ≡ Status.ReadFault → Keeps (K.written sink.old) (K.written sink.new) }
+    ensures write_cause { result ≡ Status.WriteFault → Rose (K.faults sink.old) (K.faults sink.new) }
+    ensures write { (given : Option ℕ) → AsksFor (map string_bytes words.now) (Job.Run given) → result ≡ Status.WriteFault
+        → IfSome (S.left source.old) (λ bytes. WroteFront given bytes (K.written sink.old) (K.written sink.new)) }
+    ensures write_words { ¬ (Ask (map string_bytes words.now)) → result ≡ Status.WriteFault → AppendsFront (K.written sink.old) (K.written sink.new) (codes "bad words\n") }
+    ensures memory { result ≡ Status.OutOfMemory → Keeps (K.written sink.old) (K.written sink.new) }
+    ensures answers { (given : Option ℕ) → AsksFor (map string_bytes words.now) (Job.Run given) → IsCutShort result ⊎ IfSome (S.left source.old) (λ bytes. Answers bytes result) }
+    ensures words { Ask (map string_bytes words.now) → result ≢ Status.BadWords }
+    ensures no_job { ¬ (Ask (map string_bytes words.now)) → (result ≡ Status.BadWords) ⊎ (result ≡ Status.WriteFault) }
+    ensures nothing_read { ¬ (Ask (map string_bytes words.now)) → source.new ≡ source.old }
+    ensures complete { (given : Option ℕ) → AsksFor (map string_bytes words.now) (Job.Run given) → ¬ (Rose (S.faults source.old) (S.faults source.new)) → ¬ (Rose (K.faults sink.old) (K.faults sink.new))
+        → (result ≡ Status.OutOfMemory) ⊎ IfSome (S.left source.old) (λ bytes. Answers bytes result) }
 {
-    words.len() == 1 && words[0].as_str() == "run"
+    match read_words(words) {
+        Some(job) => run_job(alloc, job.budget(), source, sink, kinds),
+        None => tell_bad_words(sink),
+    }
 }
 
-/// Does what the words ask for: with the one word `run`, reads a script from the source, runs it, and writes the text of
-/// the run to the sink, one `write` a line.
+/// Does what the words ask for: with `run`, or `run --budget N`, reads a script from the source, runs it on a heap over the
+/// kinds, and writes the text of the run to the sink, one `write` a line.
 ///
-/// It answers `Done` where the script ran to its end; `BadWords`, `BadScript` or `TooLarge`, each with its line written,
-/// where the words, a line of the script or its size are not as they should be; `ReadFault` and `WriteFault` where the
-/// source or the sink failed; `OutOfMemory` where memory was refused before anything was written. What the source tells of
-/// its bytes and the sink of what was written, the clauses speak of. (Ours.)
+/// The kinds stand in the order of `KindCode`, and have no object. The budget is that of the words, else that of the script,
+/// else 10,000. It answers `Done` where the run ended by `end`, and `Budget` where it ended by `budget spent`; `BadWords`,
+/// `BadScript` or `TooLarge`, each with its line written, where the words, a line of the script or its size are not as they
+/// should be; `ReadFault` and `WriteFault` where the source or the sink failed; `OutOfMemory` where memory was refused before
+/// anything was written. What the source tells of its bytes and the sink of what was written, the clauses speak of. (Ours.)
 pub fn gc_run<S: Source, K: Sink>(
     alloc: Global,
     words: &[String],
     source: &mut S,
     sink: &mut K,
+    kinds: Vec<Box<dyn Kind>>,
 ) -> Status
-    // The bytes spell a script, and what was written is the text of a whole run of the machine on it, which ended.
-    ensures done { result ≡ Status.Done → IfSome (S.left source.old) (λ bytes. RanWhole Ended bytes (K.written sink.old) (K.written sink.new)) }
+    requires kinds { map (λ b. kind b) kinds.items ≡ six_kinds }
+    requires empty { map (λ b. bodies b) kinds.items ≡ replicate 6 fin.empty }
+
+    // The words ask for a run, the bytes spell a script, and what was written is the text of a whole run of the machine on it,
+    // which ended by `end`, or for want of budget.
+    ensures done { result ≡ Status.Done → (given : Option ℕ) × AsksFor (map string_bytes words.now) (Job.Run given)
+        × IfSome (S.left source.old) (λ bytes. RanWhole given Ended bytes (K.written sink.old) (K.written sink.new)) }
+    ensures spent { result ≡ Status.Budget → (given : Option ℕ) × AsksFor (map string_bytes words.now) (Job.Run given)
+        × IfSome (S.left source.old) (λ bytes. RanWhole given BudgetIsSpent bytes (K.written sink.old) (K.written sink.new)) }
 
     // What is wrong with the words, the script or its size, and that it was told.
     ensures bad_words { result ≡ Status.BadWords → Appends (K.written sink.old) (K.written sink.new) (codes "bad words\n") }
     ensures bad_script { result ≡ Status.BadScript → IfSome (S.left source.old) (λ bytes. RanBad bytes (K.written sink.old) (K.written sink.new)) }
     ensures too_large { result ≡ Status.TooLarge → Appends (K.written sink.old) (K.written sink.new) (codes "too large\n") }
-    ensures read_to_end { (result ≡ Status.Done) ⊎ (result ≡ Status.BadScript) → IsAtEnd (S.left source.new) }
+    ensures read_to_end { (result ≡ Status.Done) ⊎ (result ≡ Status.Budget) ⊎ (result ≡ Status.BadScript) → IsAtEnd (S.left source.new) }
 
     // Faults, which come only where the count of faults rose, and want of memory.
     ensures read_cause { result ≡ Status.ReadFault → Rose (S.faults source.old) (S.faults source.new) }
     ensures read { result ≡ Status.ReadFault → Keeps (K.written sink.old) (K.written sink.new) }
     ensures write_cause { result ≡ Status.WriteFault → Rose (K.faults sink.old) (K.faults sink.new) }
-    ensures write { AreRun (map string_bytes words.now) → result ≡ Status.WriteFault → IfSome (S.left source.old) (λ bytes. WroteFront bytes (K.written sink.old) (K.written sink.new)) }
-    ensures write_words { ¬ (AreRun (map string_bytes words.now)) → result ≡ Status.WriteFault → AppendsFront (K.written sink.old) (K.written sink.new) (codes "bad words\n") }
+    ensures write { (given : Option ℕ) → AsksFor (map string_bytes words.now) (Job.Run given) → result ≡ Status.WriteFault
+        → IfSome (S.left source.old) (λ bytes. WroteFront given bytes (K.written sink.old) (K.written sink.new)) }
+    ensures write_words { ¬ (Ask (map string_bytes words.now)) → result ≡ Status.WriteFault → AppendsFront (K.written sink.old) (K.written sink.new) (codes "bad words\n") }
     ensures memory { result ≡ Status.OutOfMemory → Keeps (K.written sink.old) (K.written sink.new) }
 
-    // Which answer comes: by the words and the bytes alone, but for faults and want of memory.
-    ensures answers { AreRun (map string_bytes words.now) → IsCutShort result ⊎ IfSome (S.left source.old) (λ bytes. Answers bytes result) }
-    ensures words { AreRun (map string_bytes words.now) → result ≢ Status.BadWords }
-    ensures no_job { ¬ (AreRun (map string_bytes words.now)) → (result ≡ Status.BadWords) ⊎ (result ≡ Status.WriteFault) }
-    ensures nothing_read { ¬ (AreRun (map string_bytes words.now)) → source.new ≡ source.old }
+    // Which answer comes: by the words and the bytes alone, but for faults, want of memory and how the run ended.
+    ensures answers { (given : Option ℕ) → AsksFor (map string_bytes words.now) (Job.Run given) → IsCutShort result ⊎ IfSome (S.left source.old) (λ bytes. Answers bytes result) }
+    ensures words { Ask (map string_bytes words.now) → result ≢ Status.BadWords }
+    ensures no_job { ¬ (Ask (map string_bytes words.now)) → (result ≡ Status.BadWords) ⊎ (result ≡ Status.WriteFault) }
+    ensures nothing_read { ¬ (Ask (map string_bytes words.now)) → source.new ≡ source.old }
 
-    // Where nothing fails, the answer goes by the bytes, want of memory aside.
-    ensures complete { AreRun (map string_bytes words.now) → ¬ (Rose (S.faults source.old) (S.faults source.new)) → ¬ (Rose (K.faults sink.old) (K.faults sink.new))
+    // Where nothing fails, the answer goes by the bytes and by how the run ended, want of memory aside.
+    ensures complete { (given : Option ℕ) → AsksFor (map string_bytes words.now) (Job.Run given) → ¬ (Rose (S.faults source.old) (S.faults source.new)) → ¬ (Rose (K.faults sink.old) (K.faults sink.new))
         → (result ≡ Status.OutOfMemory) ⊎ IfSome (S.left source.old) (λ bytes. Answers bytes result) }
 {
-    if ask_for_run(words) {
-        return run_job(alloc, source, sink);
-    }
-    tell_bad_words(sink)
+    gc_over(alloc, words, source, sink, kinds)
 }

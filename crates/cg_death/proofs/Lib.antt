@@ -23,3 +23,4 @@ mod Steadying
 mod SteadyRows
 mod SteadySteps
 pub mod HoldNumbers
+mod NamesKept

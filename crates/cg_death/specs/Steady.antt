@@ -77,6 +77,10 @@ pub record IsFresh (store : Store) (o : ℕ) : Type 0 where
 abbrev pub TakesFewHolds : Store → Store → Type 0
 TakesFewHolds old new = outside_total new ≤ outside_total old + 2
 
+-- No name is bound or unbound, and no serial is given.
+abbrev pub KeepsNames : Store → Store → Type 0
+KeepsNames old new = (new.names ≡ old.names) × (new.last ≡ old.last)
+
 -- the phase after a frame that was handed out
 abbrev pub IsPhaseAfter : FrameSpec → FrameSort → Phase → Type 0
 IsPhaseAfter spec sort_of.Del phase = phase ≡ phase_of.AfterFinalizer

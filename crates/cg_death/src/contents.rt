@@ -8,7 +8,7 @@ ghost use Rattle.cg_death.specs.Activities.{IsUnheld};
 ghost use Rattle.cg_death.specs.Answers.{TurnSteps, TurnAnswers, MakesNone};
 ghost use Rattle.cg_death.specs.Falls.{TurnFalls};
 ghost use Rattle.cg_death.specs.Deaths.{LeavesSettled, GoesOnAfter};
-ghost use Rattle.cg_death.specs.Steady.{TurnStaysSteady, TakesFewHolds, TurnStandsAfterFrame, TurnDiesUnheld};
+ghost use Rattle.cg_death.specs.Steady.{TurnStaysSteady, TakesFewHolds, KeepsNames, TurnStandsAfterFrame, TurnDiesUnheld};
 
 use crate::answer::DeathStep;
 use crate::phase::{Phase, Turn};
@@ -30,6 +30,7 @@ pub fn empty_one<B: Kind>(object: u64, heap: &mut Heap<B>) -> Turn
     ensures going { GoesOnAfter result }
     ensures objects { MakesNone heap.old heap.new }
     ensures holds { TakesFewHolds heap.old heap.new }
+    ensures names { KeepsNames heap.old heap.new }
     ensures framed { TurnStandsAfterFrame result }
     ensures died { TurnDiesUnheld result heap.new }
     ensures steady { (script : Script) →

@@ -15,7 +15,7 @@ ghost use Rattle.cg_death.specs.Activities.{IsUnheld, HasHolds, IsReadyAt, own_h
 ghost use Rattle.cg_death.specs.Answers.{DeathSteps, TurnSteps, TurnAnswers, MakesNone};
 ghost use Rattle.cg_death.specs.Falls.{TurnFalls};
 ghost use Rattle.cg_death.specs.Deaths.{object_of, on_stack, held_by, IsReady, IsOver, IsSettled, LeavesSettled, IsGoing, IsOffStack, IsGoingAfter, GoesOnAfter, EndsSo, DeathFalls, HasCause, TakesNext, forgets_referent};
-ghost use Rattle.cg_death.specs.Steady.{IsFresh, IsSteady, TurnStaysSteady, TakesFewHolds, TurnStandsAfterFrame, DeathStandsAfterFrame, DiesUnheld, TurnDiesUnheld};
+ghost use Rattle.cg_death.specs.Steady.{IsFresh, IsSteady, TurnStaysSteady, TakesFewHolds, KeepsNames, TurnStandsAfterFrame, DeathStandsAfterFrame, DiesUnheld, TurnDiesUnheld};
 ghost use Rattle.cg_script.specs.declared.Script.{Script as AnyScript};
 
 use crate::answer::DeathStep;
@@ -52,6 +52,7 @@ impl Death {
         ensures object { object_of result ≡ object }
         ensures objects { MakesNone heap.old heap.new }
         ensures holds { TakesFewHolds heap.old heap.new }
+        ensures names { KeepsNames heap.old heap.new }
         ensures steady { (script : AnyScript) → IsFresh heap.old object →
             IsSteady script result heap.new }
     {
@@ -86,6 +87,7 @@ impl Death {
         ensures object { object_of self.new ≡ object_of self.old }
         ensures objects { MakesNone heap.old heap.new }
         ensures holds { TakesFewHolds heap.old heap.new }
+        ensures names { KeepsNames heap.old heap.new }
 
         // Where nothing else runs, the next step may be taken, whatever this one answers.
         ensures steady { IsSteady script.now self.old heap.old → IsSteady script.now self.new heap.new }
@@ -144,6 +146,7 @@ fn turn<B: Kind>(object: u64, phase: Phase, heap: &mut Heap<B>, script: &Script)
     ensures going { GoesOnAfter result }
     ensures objects { MakesNone heap.old heap.new }
     ensures holds { TakesFewHolds heap.old heap.new }
+    ensures names { KeepsNames heap.old heap.new }
     ensures steady { TurnStaysSteady script.now heap.old object phase heap.new result }
     ensures framed { TurnStandsAfterFrame result }
     ensures died { TurnDiesUnheld result heap.new }

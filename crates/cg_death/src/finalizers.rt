@@ -13,7 +13,7 @@ ghost use Rattle.cg_death.specs.Activities.{IsUnheld};
 ghost use Rattle.cg_death.specs.Answers.{TurnSteps, TurnAnswers, MakesNone};
 ghost use Rattle.cg_death.specs.Falls.{TurnFalls};
 ghost use Rattle.cg_death.specs.Deaths.{LeavesSettled, GoesOnAfter};
-ghost use Rattle.cg_death.specs.Steady.{TurnStaysSteady, TakesFewHolds, TurnStandsAfterFrame, TurnDiesUnheld};
+ghost use Rattle.cg_death.specs.Steady.{TurnStaysSteady, TakesFewHolds, KeepsNames, TurnStandsAfterFrame, TurnDiesUnheld};
 
 use crate::phase::{Phase, Turn};
 use cg_heap::Heap;
@@ -96,6 +96,7 @@ pub fn run_finalizer<B: Kind>(object: u64, heap: &mut Heap<B>, script: &Script) 
     ensures going { GoesOnAfter result }
     ensures objects { MakesNone heap.old heap.new }
     ensures holds { TakesFewHolds heap.old heap.new }
+    ensures names { KeepsNames heap.old heap.new }
     ensures framed { TurnStandsAfterFrame result }
     ensures died { TurnDiesUnheld result heap.new }
     ensures steady { TurnStaysSteady script.now heap.old object phase_of.Finalizer heap.new result }
@@ -122,6 +123,7 @@ pub fn run_legacy<B: Kind>(object: u64, heap: &mut Heap<B>, script: &Script) -> 
     ensures going { GoesOnAfter result }
     ensures objects { MakesNone heap.old heap.new }
     ensures holds { TakesFewHolds heap.old heap.new }
+    ensures names { KeepsNames heap.old heap.new }
     ensures framed { TurnStandsAfterFrame result }
     ensures died { TurnDiesUnheld result heap.new }
     ensures steady { TurnStaysSteady script.now heap.old object phase_of.LegacyFinalizer heap.new result }
@@ -160,6 +162,7 @@ pub fn end_finalizer<B: Kind>(object: u64, heap: &mut Heap<B>) -> Turn
     ensures going { GoesOnAfter result }
     ensures objects { MakesNone heap.old heap.new }
     ensures holds { TakesFewHolds heap.old heap.new }
+    ensures names { KeepsNames heap.old heap.new }
     ensures framed { TurnStandsAfterFrame result }
     ensures died { TurnDiesUnheld result heap.new }
     ensures steady { (script : Script) →
@@ -183,6 +186,7 @@ pub fn end_legacy<B: Kind>(object: u64, heap: &mut Heap<B>) -> Turn
     ensures going { GoesOnAfter result }
     ensures objects { MakesNone heap.old heap.new }
     ensures holds { TakesFewHolds heap.old heap.new }
+    ensures names { KeepsNames heap.old heap.new }
     ensures framed { TurnStandsAfterFrame result }
     ensures died { TurnDiesUnheld result heap.new }
     ensures steady { (script : Script) →

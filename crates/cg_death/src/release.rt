@@ -7,7 +7,7 @@ ghost use Rattle.cg_graph.specs.Changes.{unheld};
 ghost use Rattle.cg_death.specs.declared.answer.DeathStep.TheVariants as answer_of;
 ghost use Rattle.cg_death.specs.Activities.{references_left, HasHolds};
 ghost use Rattle.cg_death.specs.Answers.{ReleaseSteps, once_released, release_answer, MakesNone};
-ghost use Rattle.cg_death.specs.Steady.{TakesFewHolds, DiesUnheld};
+ghost use Rattle.cg_death.specs.Steady.{TakesFewHolds, KeepsNames, DiesUnheld};
 
 use crate::answer::DeathStep;
 use cg_heap::Heap;
@@ -56,6 +56,7 @@ impl Release {
             (references_left self.new) result }
         ensures objects { MakesNone heap.old heap.new }
         ensures holds { TakesFewHolds heap.old heap.new }
+        ensures names { KeepsNames heap.old heap.new }
         ensures died { DiesUnheld result heap.new }
     {
         match self.take_first() {
@@ -101,6 +102,7 @@ pub(crate) fn give_up<B: Kind>(heap: &mut Heap<B>, object: u64) -> DeathStep
         else answer_of.Continue) }
     ensures objects { MakesNone heap.old heap.new }
     ensures holds { TakesFewHolds heap.old heap.new }
+    ensures names { KeepsNames heap.old heap.new }
     ensures died { DiesUnheld result heap.new }
 {
     if heap.unhold(object) {

@@ -16,7 +16,7 @@ ghost use Rattle.cg_death.specs.Activities.{IsUnheld, HasHolds, AreNewer, HasCal
 ghost use Rattle.cg_death.specs.Answers.{TurnSteps, TurnAnswers, MakesNone};
 ghost use Rattle.cg_death.specs.Falls.{TurnFalls};
 ghost use Rattle.cg_death.specs.Deaths.{LeavesSettled, GoesOnAfter};
-ghost use Rattle.cg_death.specs.Steady.{TurnStaysSteady, TakesFewHolds, TurnStandsAfterFrame, TurnDiesUnheld};
+ghost use Rattle.cg_death.specs.Steady.{TurnStaysSteady, TakesFewHolds, KeepsNames, TurnStandsAfterFrame, TurnDiesUnheld};
 
 use crate::finalizers::finalizers_of;
 use crate::phase::{Phase, Turn};
@@ -40,6 +40,7 @@ pub fn clear_one<B: Kind>(object: u64, heap: &mut Heap<B>) -> Turn
     ensures going { GoesOnAfter result }
     ensures objects { MakesNone heap.old heap.new }
     ensures holds { TakesFewHolds heap.old heap.new }
+    ensures names { KeepsNames heap.old heap.new }
     ensures framed { TurnStandsAfterFrame result }
     ensures died { TurnDiesUnheld result heap.new }
     ensures steady { (script : Script) →
@@ -110,6 +111,7 @@ pub fn call_one<B: Kind>(object: u64, heap: &mut Heap<B>) -> Turn
     ensures going { GoesOnAfter result }
     ensures objects { MakesNone heap.old heap.new }
     ensures holds { TakesFewHolds heap.old heap.new }
+    ensures names { KeepsNames heap.old heap.new }
     ensures framed { TurnStandsAfterFrame result }
     ensures died { TurnDiesUnheld result heap.new }
     ensures steady { (script : Script) →
@@ -134,6 +136,7 @@ fn call_back<B: Kind>(object: u64, weak: u64, heap: &mut Heap<B>) -> Turn
     ensures going { GoesOnAfter result }
     ensures objects { MakesNone heap.old heap.new }
     ensures holds { TakesFewHolds heap.old heap.new }
+    ensures names { KeepsNames heap.old heap.new }
     ensures framed { TurnStandsAfterFrame result }
     ensures died { TurnDiesUnheld result heap.new }
     ensures steady { (script : Script) →
@@ -175,6 +178,7 @@ pub fn end_call<B: Kind>(object: u64, weak: u64, callback: u64, heap: &mut Heap<
     ensures going { GoesOnAfter result }
     ensures objects { MakesNone heap.old heap.new }
     ensures holds { TakesFewHolds heap.old heap.new }
+    ensures names { KeepsNames heap.old heap.new }
     ensures framed { TurnStandsAfterFrame result }
     ensures died { TurnDiesUnheld result heap.new }
     ensures steady { (script : Script) →
@@ -198,6 +202,7 @@ pub fn detach_one<B: Kind>(object: u64, heap: &mut Heap<B>, script: &Script) -> 
     ensures going { GoesOnAfter result }
     ensures objects { MakesNone heap.old heap.new }
     ensures holds { TakesFewHolds heap.old heap.new }
+    ensures names { KeepsNames heap.old heap.new }
     ensures framed { TurnStandsAfterFrame result }
     ensures died { TurnDiesUnheld result heap.new }
     ensures steady { TurnStaysSteady script.now heap.old object phase_of.Detaching heap.new result }

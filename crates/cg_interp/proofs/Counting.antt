@@ -11,11 +11,10 @@ use Rattle.cg_machine.specs.World as machine
 use Rattle.cg_machine.specs.World.{World, TopLevel, Framed, Releasing, Running, first_numbers}
 use Rattle.cg_machine.specs.Due.{is_due}
 use Rattle.cg_machine.proofs.Tally.{tally, tally-append}
-use Rattle.cg_machine.proofs.Measure.{alive, commands_in, all_bodies, is_starting, due_rank, rank_in, left_in, entries_in, referents_in, weight_in, size_of, number, summary, Summary}
+use Rattle.cg_machine.proofs.Measure.{alive, commands_in, all_bodies, is_starting, due_rank, rank_in, left_in, entries_in, referents_in, weight_in, size_of, number, summary}
 use Rattle.cg_machine.proofs.Number.{number_of}
 use Rattle.cg_death.specs.Activities.{references_left, death_activities}
 use Rattle.cg_death.specs.declared.release.Release.{Release}
-use Rattle.cg_death.specs.declared.death.Death.{Death}
 use Rattle.cg_death.specs.declared.phase.Phase.{Phase}
 use Rattle.cg_death.specs.declared.phase.Phase.TheVariants as phase_of
 use Rattle.cg_interp.proofs.StepLemmas.{never_due}
@@ -71,7 +70,7 @@ module _ (f : machine.Activity → ℕ) (blind : IsBlind f) (script : Script) wh
   one (activity.Script next) tops e = ap (tally f) e
   one (activity.Frame locals procedure next) tops e = ap (tally f) e
   one (activity.Releasing release) tops e = ap (tally f) e
-  one (activity.Dying death) tops (waiting, e) = ap (tally f) e ∙ under_release death.release (death_activities death.object death.phase waiting) (death_activities death.object death.phase []) (blind death.object death.phase waiting)
+  one (activity.Dying death) tops (waiting, e, settled) = ap (tally f) e ∙ under_release death.release (death_activities death.object death.phase waiting) (death_activities death.object death.phase []) (blind death.object death.phase waiting)
 
   same_tally : (activities : List Activity) (stack : List machine.Activity) → ShowsAll script activities stack → tally f stack ≡ tally f (flat_map (shown script) activities)
   same_tally [] stack e = ap (tally f) e

@@ -29,7 +29,7 @@ use Rattle.cg_death.specs.declared.answer.DeathStep.TheVariants as answer_of
 use Rattle.cg_death.specs.Answers.{DeathSteps, DeathAnswer, WentOn, GaveDeath, GaveFrame, Keeps as KeepsWorld, numbers_after}
 use Rattle.cg_interp.specs.declared.turned.Turned.{Turned}
 use Rattle.cg_interp.specs.declared.turned.Turned.TheVariants as turned
-use Rattle.cg_death.specs.Deaths.{on_stack, DeathFalls, HasCause}
+use Rattle.cg_death.specs.Deaths.{on_stack, DeathFalls, HasCause, IsSettled}
 use Rattle.cg_interp.specs.declared.activity.Activity.TheVariants as activity
 use Rattle.cg_interp.specs.Engines.{State, StandsFor, ShowsAll, released_first, death_shown, under}
 use Rattle.cg_interp.specs.Turns.{DyingIsSound, Makes, Turns, GoesTo, GivesDeath, StaysOn}
@@ -76,12 +76,12 @@ none_waits script e o w stands sound =
     was_not_dying o w sound found.0 found.1 (found.2 ∙ is)))
 
 -- its death is on top then
-pub dies : (script : Script) (old new : State) (o : ℕ) (death : Death) (w : World) → StandsFor script old w → Represents new.store (begin_death o w) → on_stack death new.store ≡ death_of o Finalizer ∷ [] → new.activities ≡ activity.Dying death ∷ old.activities → new.budget ≡ old.budget
+pub dies : (script : Script) (old new : State) (o : ℕ) (death : Death) (w : World) → StandsFor script old w → Represents new.store (begin_death o w) → on_stack death new.store ≡ death_of o Finalizer ∷ [] → IsSettled death → new.activities ≡ activity.Dying death ∷ old.activities → new.budget ≡ old.budget
     → StandsFor script new (begin_death o w)
-dies script old new o death w stands represents shown top budget = record {
+dies script old new o death w stands represents shown settled top budget = record {
   represents = represents;
   shows = subst (λ l. ShowsAll script l (begin_death o w).stack) (sym top)
-      (record { tops = death_of o Finalizer ∷ []; below = w.stack; shows = (waiting_for new.store death.object, sym shown ∙ shown_on_stack death new.store); some = λ e. absurd (cc); over = stands.shows; is = refl });
+      (record { tops = death_of o Finalizer ∷ []; below = w.stack; shows = (waiting_for new.store death.object, sym shown ∙ shown_on_stack death new.store, settled); some = λ e. absurd (cc); over = stands.shows; is = refl });
   budget = stands.budget ∙ sym budget;
   running = stands.running;
   threshold = stands.threshold;
@@ -133,26 +133,36 @@ comes script w e t (turned.Line event) goes moves makes = record { after = t.1; 
 comes script w e t turned.Ended goes moves makes = record { after = t.1; goes = record { steps = goes.steps; run = goes.run; prints = goes.prints ∙ makes.0; ends = goes.ends }; ended = makes.1 }
 comes script w e t turned.Spent goes moves makes = record { after = t.1; goes = record { steps = goes.steps; run = goes.run; prints = goes.prints ∙ makes.0; ends = goes.ends }; ended = makes.1 }
 
+-- what of a death on top is on the stack
+module _ (script : Script) (e : State) (death : Death) (w : World) (stands : StandsFor script (under (activity.Dying death) e) w) where
+  -- it is what the heap tells
+  pub tops_shown : stands.shows.tops ≡ on_stack death e.store
+  tops_shown =
+      stands.shows.shows.1
+      ∙ ap (released_first death.release) (waits_known e.store w death.object death.phase stands.shows.shows.0 stands.represents (λ d m.
+      subst (λ st. Includes st (Dying d)) (sym (stands.shows.is ∙ ap (λ l. l ++ stands.shows.below) stands.shows.shows.1)) (within death.release (death_activities death.object death.phase stands.shows.shows.0) stands.shows.below (Dying d) m)))
+      ∙ sym (shown_on_stack death e.store)
+
+  pub death_on_top : w.stack ≡ on_stack death e.store ++ stands.shows.below
+  death_on_top = stands.shows.is ∙ ap (λ l. l ++ stands.shows.below) tops_shown
+
+  pub death_inside : (a : Activity) → Includes (death_activities death.object death.phase (waiting_for e.store death.object)) a → Includes w.stack a
+  death_inside a m =
+      subst (λ st. Includes st a) (sym (death_on_top ∙ ap (λ l. l ++ stands.shows.below) (shown_on_stack death e.store)))
+      (within death.release (death_activities death.object death.phase (waiting_for e.store death.object)) stands.shows.below a m)
+
+  pub something_shown : on_stack death e.store ≢ []
+  something_shown none = stands.shows.some (tops_shown ∙ none)
+
 -- a death on top
 module _ (script : Script) (old new : State) (death after_death : Death) (answer : DeathStep) (w : World) (stands : StandsFor script (under (activity.Dying death) old) w) (sound : DyingIsSound w)
-    (steps : DeathSteps script old.store (on_stack death old.store) new.store (on_stack after_death new.store) answer) (put : StaysOn after_death old.activities new.activities) (budget : new.budget ≡ old.budget) where
+    (steps : DeathSteps script old.store (on_stack death old.store) new.store (on_stack after_death new.store) answer) (settles : IsSettled death → IsSettled after_death) (put : StaysOn after_death old.activities new.activities) (budget : new.budget ≡ old.budget) where
   rest : List Activity
   rest = stands.shows.below
 
-  -- what of it is on the stack is what the heap tells
-  shown : stands.shows.tops ≡ on_stack death old.store
-  shown =
-      stands.shows.shows.1
-      ∙ ap (released_first death.release) (waits_known old.store w death.object death.phase stands.shows.shows.0 stands.represents (λ d m.
-      subst (λ st. Includes st (Dying d)) (sym (stands.shows.is ∙ ap (λ l. l ++ stands.shows.below) stands.shows.shows.1)) (within death.release (death_activities death.object death.phase stands.shows.shows.0) stands.shows.below (Dying d) m)))
-      ∙ sym (shown_on_stack death old.store)
-
   at : w.stack ≡ on_stack death old.store ++ rest
   unfolding rest
-  at = stands.shows.is ∙ ap (λ l. l ++ stands.shows.below) shown
-
-  some : on_stack death old.store ≢ []
-  some none = stands.shows.some (shown ∙ none)
+  at = death_on_top script old death w stands
 
   says : DeathAnswer script w new.store (on_stack after_death new.store ++ rest) answer
   says = steps w rest (record { represents = stands.represents; top = at; running = stands.running; unheld = sound.unheld; once = sound.once })
@@ -161,7 +171,7 @@ module _ (script : Script) (old new : State) (death after_death : Death) (answer
   unfolding rest
   with_rest stack is = either put
       (λ going.
-      subst (λ l. ShowsAll script l stack) (sym going.1) (record { tops = on_stack after_death new.store; below = stands.shows.below; shows = (waiting_for new.store after_death.object, shown_on_stack after_death new.store); some = going.0 new.store; over = stands.shows.over; is = is }))
+      subst (λ l. ShowsAll script l stack) (sym going.1) (record { tops = on_stack after_death new.store; below = stands.shows.below; shows = (waiting_for new.store after_death.object, shown_on_stack after_death new.store, settles stands.shows.shows.2); some = going.0 new.store; over = stands.shows.over; is = is }))
       (λ gone. subst (λ l. ShowsAll script l stack) (sym gone.1) (subst (ShowsAll script old.activities) (sym (is ∙ ap (λ l. l ++ stands.shows.below) (gone.0 new.store))) stands.shows.over))
 
   went_on : (events : List Event) (numbers : Numbers) → numbers.zero_threshold ≡ w.numbers.zero_threshold → (went : WentOn script w events numbers new.store (on_stack after_death new.store ++ rest)) → went.goes.goes.steps ≢ [] → GoesTo script w events new
@@ -204,7 +214,7 @@ module _ (script : Script) (old new : State) (death after_death : Death) (answer
   death_ends is none = go (subst (DeathAnswer script w new.store (on_stack after_death new.store ++ rest)) is says)
     where
       go : WentOn script w [] w.numbers new.store (on_stack after_death new.store ++ rest) → GoesTo script w [] new
-      go went = went_on [] w.numbers refl went (λ still. some (same_top went.goes.after went.goes.top (stayed went.goes.after went.goes.goes.steps went.goes.goes.ends still) ∙ none))
+      go went = went_on [] w.numbers refl went (λ still. something_shown script old death w stands (same_top went.goes.after went.goes.top (stayed went.goes.after went.goes.goes.steps went.goes.goes.ends still) ∙ none))
 
   handed : (u : World) → Represents new.store u → u.stack ≡ on_stack after_death new.store ++ rest → KeepsWorld w w.numbers u → StandsFor script new u
   handed u represents is keeps = record {
@@ -222,7 +232,7 @@ module _ (script : Script) (old new : State) (death after_death : Death) (answer
       go gave = record {
         before = gave.hands.before;
         goes = gave.hands.goes;
-        moves = λ none. 
+        moves = λ none.
             let same = stayed (begin_death o gave.hands.before) gave.hands.goes.steps gave.hands.goes.ends none in
             no_death_on_top death old.store o (on_stack after_death new.store) other
             (append_cancel_right (death_of o Finalizer ∷ on_stack after_death new.store) (on_stack death old.store) rest (ap (λ l. death_of o Finalizer ∷ l) (sym gave.hands.top) ∙ sym (ap (λ (v : World). v.stack) same) ∙ at));

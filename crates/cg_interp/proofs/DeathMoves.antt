@@ -1,27 +1,25 @@
 -- A step of a death changes the world: what of it is on the stack, or what the heap stands for.
-use Rattle.std.proofs.Common.{◌≡◌, ◌≢◌, refl, sym, ◌∙◌, ap, ℕ, ◌+◌, ◌*◌, ◌<◌, Bool, true, false, cond, inl, inr, List, [], ◌∷◌, ◌++◌, Option, None, Some, map, length, arith}
+use Rattle.std.proofs.Common.{◌≡◌, ◌≢◌, refl, sym, ◌∙◌, ap, ℕ, Bool, true, false, cond, inl, inr, List, [], ◌∷◌, Option, None, Some, map, length, arith}
 use Rattle.std.specs.Prelude.{filter, reverse, option_map, unwrap_or, ◌⊎◌, ◌==◌}
 use Rattle.std.specs.FinMap as fin
 use Rattle.std.proofs.lemmas.Bool.{eqb-true}
-use Rattle.std.proofs.lemmas.List.{append_cancel_right}
-use Rattle.cg_value.specs.declared.Entry.{Entry}
 use Rattle.cg_graph.specs.Member.{Includes}
 use Rattle.cg_graph.specs.Object.{Object, entries_of as object_entries_of}
 use Rattle.cg_graph.specs.Rows.{Row, waits_with, weak_references_in}
 use Rattle.cg_graph.specs.Store.{Store, Node, objects_of, object_from, waiting_for, entries_of, entries_in}
 use Rattle.cg_graph.proofs.Objects.{object-at}
-use Rattle.cg_graph.proofs.Members.{either, true_and}
+use Rattle.cg_graph.proofs.Members.{true_and}
 use Rattle.cg_heap.specs.Weak.{AreRows}
 use Rattle.cg_machine.specs.World as machine
 use Rattle.cg_machine.specs.World.{World, Activity, TopLevel, Framed, Releasing, Dying, Collecting, Finalizer}
-use Rattle.cg_machine.specs.Represents.{Represents, death_waits}
+use Rattle.cg_machine.specs.Represents.{Represents}
 use Rattle.cg_death.specs.declared.release.Release.{Release}
 use Rattle.cg_death.specs.declared.phase.Phase.{Phase}
 use Rattle.cg_death.specs.declared.phase.Phase.TheVariants as phase_of
 use Rattle.cg_death.specs.declared.death.Death.{Death}
-use Rattle.cg_death.specs.Activities.{references_left, activities, death_activities, death_of}
+use Rattle.cg_death.specs.Activities.{activities, death_activities, death_of}
 use Rattle.cg_death.specs.Deaths.{on_stack, DeathFalls}
-use Rattle.cg_death.specs.Falls.{pass_of, own_holds, still_released, number_left, Falls}
+use Rattle.cg_death.specs.Falls.{pass_of, own_holds, still_released}
 use Rattle.cg_death.proofs.CallerLemmas.{rows_of_world}
 
 -- the entries of an object are those of the objects

@@ -1,6 +1,6 @@
 -- That a turn keeps what an engine has room for.
-use Rattle.std.proofs.Common.{◌≡◌, refl, sym, ◌∙◌, ap, subst, ℕ, ◌+◌, ◌≤◌, List, [], ◌∷◌, length, arith}
-use Rattle.cg_graph.specs.Store.{Store, objects_of}
+use Rattle.std.proofs.Common.{◌≡◌, refl, ◌∙◌, ap, subst, ◌+◌, ◌≤◌, ◌∷◌, length, arith}
+use Rattle.cg_graph.specs.Store.{Store}
 use Rattle.cg_script.specs.declared.Script.{Script}
 use Rattle.cg_death.specs.Answers.{MakesNone}
 use Rattle.cg_interp.specs.declared.activity.Activity.{Activity}

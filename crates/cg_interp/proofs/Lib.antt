@@ -13,3 +13,7 @@ mod StepLemmas
 mod DeathLemmas
 mod DeathMoves
 mod Keeping
+mod Lawfully
+mod ReadyLemmas
+mod ArmLemmas
+mod SpelledLemmas

@@ -1,5 +1,5 @@
 -- The run of an engine, one turn on: its steps, its text, and the number that falls.
-use Rattle.std.proofs.Common.{◌≡◌, ◌≢◌, refl, sym, ◌∙◌, ap, subst, ℕ, ◌+◌, ◌<◌, ◌≤◌, inl, List, [], ◌∷◌, ◌++◌, length, Option, append-nil, append_assoc, arith}
+use Rattle.std.proofs.Common.{◌≡◌, ◌≢◌, refl, sym, ◌∙◌, ap, subst, ℕ, ◌<◌, inl, List, [], ◌∷◌, ◌++◌, length, Option, append-nil, append_assoc, arith}
 use Rattle.std.specs.Prelude.{flat_map}
 use Rattle.std.proofs.lemmas.Grind.{flat_map-append}
 use Rattle.std.proofs.KnownBytes.{Appends-trans, Appends-nil}
@@ -10,7 +10,7 @@ use Rattle.cg_graph.specs.Member.{Includes}
 use Rattle.cg_machine.specs.declared.event.Event.{Event}
 use Rattle.cg_machine.specs.declared.event.Event.TheVariants.{End, BudgetSpent}
 use Rattle.cg_machine.specs.World.{World, Outcome, Running, Ended, BudgetIsSpent, opening}
-use Rattle.cg_machine.specs.Run.{StepTaken, Run, IsRun, IsWholeRun, last_world, world_after, events_of}
+use Rattle.cg_machine.specs.Run.{StepTaken, IsRun, world_after, events_of}
 use Rattle.cg_machine.specs.Lines.{line, text_of, IsPrintable}
 use Rattle.cg_script.specs.Spelled.{IsSpelled}
 use Rattle.cg_script.specs.Texts.{TextsAreKnown}
@@ -26,7 +26,7 @@ use Rattle.cg_machine.proofs.Fronts.{events_of-append}
 use Rattle.cg_interp.specs.declared.turned.Turned.{Turned}
 use Rattle.cg_interp.specs.declared.turned.Turned.TheVariants as turned
 use Rattle.cg_interp.specs.Engines.{State, StandsFor}
-use Rattle.cg_interp.specs.Turns.{Turns, GoesTo, EndsWith}
+use Rattle.cg_interp.specs.Turns.{Turns, GoesTo}
 use Rattle.cg_interp.specs.Written.{WroteRun, WrotePart}
 use Rattle.cg_interp.proofs.Counting.{world_from, same_number}
 use Rattle.cg_interp.specs.Running.{Ran, HasLaws, StaysPrintable, WritesTurn, CutsTurn, events_told}

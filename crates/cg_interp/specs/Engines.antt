@@ -11,6 +11,7 @@ use Rattle.cg_commands.specs.declared.locals.Locals.{Locals}
 use Rattle.cg_death.specs.Activities.{references_left, death_activities}
 use Rattle.cg_death.specs.declared.release.Release.{Release}
 use Rattle.cg_death.specs.declared.death.Death.{Death}
+use Rattle.cg_death.specs.Deaths.{IsSettled}
 use Rattle.cg_interp.specs.declared.activity.Activity.{Activity}
 use Rattle.cg_interp.specs.declared.activity.Activity.TheVariants as activity
 
@@ -50,12 +51,12 @@ abbrev pub death_shown : Death → List ℕ → List machine.Activity
 death_shown death waiting = released_first death.release (death_activities death.object death.phase waiting)
 
 -- What an activity stands for among those of the machine, the top first. Which weak references wait with a dying object
--- the world tells.
+-- the world tells. What a death gives up it gives up between callbacks, or while entries are taken out.
 abbrev pub Shows : Script → Activity → List machine.Activity → Type 0
 Shows script (activity.Script next) tops = tops ≡ TopLevel (commands_from next (commands_of script.items)) ∷ []
 Shows script (activity.Frame locals procedure next) tops = tops ≡ Framed (frame_of script locals procedure next) ∷ []
 Shows script (activity.Releasing release) tops = tops ≡ Releasing (references_left release) ∷ []
-Shows script (activity.Dying death) tops = (waiting : List ℕ) × (tops ≡ death_shown death waiting)
+Shows script (activity.Dying death) tops = (waiting : List ℕ) × (tops ≡ death_shown death waiting) × IsSettled death
 
 -- an activity that stands for the top of a stack, of one activity at least, over what lies below
 pub record ShowsTop (script : Script) (top : Activity) (rest : List machine.Activity → Type 0) (stack : List machine.Activity) : Type 0 where

@@ -1,7 +1,6 @@
 //! A death on top.
 ghost use Rattle.std.specs.Prelude.{◌≡◌, ◌<◌, ◌≤◌, ◌+◌};
 ghost use Rattle.cg_script.specs.declared.Script.{Script as AnyScript};
-ghost use Rattle.cg_graph.specs.Store.{count_of};
 ghost use Rattle.cg_machine.specs.World.{World};
 ghost use Rattle.cg_machine.specs.Frame.{begin_death};
 ghost use Rattle.cg_death.specs.Activities.{IsUnheld, HasHolds};
@@ -41,7 +40,7 @@ impl<B: Kind> Engine<B> {
         requires room { 1 < self.old.room }
         ensures turns { (w : World) → StandsFor script.now (under (activity_of.Dying death) self.old) w
             → DyingIsSound w → DeathTurns script.now w self.new result }
-        ensures dead { IfDies result (λ o. count_of self.new.store o ≡ 0) }
+        ensures dead { IfDies result (λ o. IsUnheld self.new.store o) }
         ensures room { IfDies result (λ _. 0 < self.new.room) }
         ensures keeps { Keeps self.old self.new }
     {

@@ -2,14 +2,19 @@
 ghost use Rattle.std.specs.Prelude.{◌≡◌};
 ghost use Rattle.cg_machine.specs.World.{World};
 ghost use Rattle.cg_machine.specs.Lawful.{StaysLawful};
+ghost use Rattle.cg_script.specs.declared.Script.{Script as AnyScript};
 ghost use Rattle.cg_script.specs.Spelled.{IsSpelled};
+ghost use Rattle.cg_interp.specs.declared.activity.Activity.TheVariants as activity_of;
 ghost use Rattle.cg_interp.specs.Engines.{StandsFor};
 ghost use Rattle.cg_interp.specs.Tables.{IsTableOf};
-ghost use Rattle.cg_interp.specs.Turns.{Turns, IsFit};
+ghost use Rattle.cg_interp.specs.Turns.{Turns, IsFit, StaysFit, IsAtTurn, TurnsFrom};
 
+use crate::activity::Activity;
 use crate::engine::Engine;
 use crate::table::Table;
-use crate::turned::Turned;
+use crate::turned::{Dies, Turned};
+use cg_commands::Locals;
+use cg_death::{Death, Release};
 use cg_kind::Kind;
 use cg_script::Script;
 
@@ -25,6 +30,97 @@ impl<B: Kind> Engine<B> {
         ensures fit { IsFit script.now self.new }
         ensures frames { self.new.frames ≡ self.old.frames }
     {
-        Turned::Ended
+        match self.stack.pop() {
+            Some(top) => self.turn_of(top, table, script),
+            None => unreachable!(),
+        }
+    }
+
+    /// A turn of the activity that was on top.
+    fn turn_of(&mut self, top: Activity, table: &Table, script: &Script) -> Turned
+        requires table { IsTableOf script.now table.now.commands.items table.now.procedures.items }
+        requires spelled { IsSpelled script.now }
+        requires fit { IsFit script.now self.old }
+        requires stands { IsAtTurn script.now top self.old }
+        ensures turns { TurnsFrom script.now top self.old self.new result }
+        ensures fit { IsFit script.now self.new }
+        ensures frames { self.new.frames ≡ self.old.frames }
+    {
+        match top {
+            Activity::Script { next } => self.turn_of_script(table, script, next),
+            Activity::Frame {
+                locals,
+                procedure,
+                next,
+            } => self.turn_of_frame(table, script, locals, procedure, next),
+            Activity::Releasing(release) => self.turn_of_release(release),
+            Activity::Dying(death) => self.turn_of_death(script, death),
+        }
+    }
+
+    /// A turn of the script, which was on top.
+    fn turn_of_script(&mut self, table: &Table, script: &Script, next: Option<usize>) -> Turned
+        requires table { IsTableOf script.now table.now.commands.items table.now.procedures.items }
+        requires spelled { IsSpelled script.now }
+        requires fit { IsFit script.now self.old }
+        requires stands { IsAtTurn script.now (activity_of.Script next) self.old }
+        ensures turns { TurnsFrom script.now (activity_of.Script next) self.old self.new result }
+        ensures fit { IsFit script.now self.new }
+        ensures frames { self.new.frames ≡ self.old.frames }
+    {
+        self.heap.sound();
+        self.go_on(table, script, next)
+    }
+
+    /// A turn of a frame, which was on top.
+    fn turn_of_frame(
+        &mut self,
+        table: &Table,
+        script: &Script,
+        locals: Locals,
+        procedure: u32,
+        next: Option<usize>,
+    ) -> Turned
+        requires table { IsTableOf script.now table.now.commands.items table.now.procedures.items }
+        requires spelled { IsSpelled script.now }
+        requires fit { IsFit script.now self.old }
+        requires stands { IsAtTurn script.now (activity_of.Frame locals procedure next) self.old }
+        ensures turns { TurnsFrom script.now (activity_of.Frame locals procedure next) self.old
+            self.new result }
+        ensures fit { IsFit script.now self.new }
+        ensures frames { self.new.frames ≡ self.old.frames }
+    {
+        self.heap.sound();
+        self.go_on_in(table.body(script, procedure), locals, procedure, next)
+    }
+
+    /// A turn of a release, which was on top.
+    fn turn_of_release(&mut self, release: Release) -> Turned
+        requires stands { (script : AnyScript) × IsFit script self.old
+            × IsAtTurn script (activity_of.Releasing release) self.old }
+        ensures turns { (script : AnyScript) →
+            TurnsFrom script (activity_of.Releasing release) self.old self.new result }
+        ensures fit { StaysFit self.old self.new }
+        ensures frames { self.new.frames ≡ self.old.frames }
+    {
+        self.go_on_releasing(release)
+    }
+
+    /// A turn of a death, which was on top.
+    fn turn_of_death(&mut self, script: &Script, death: Death) -> Turned
+        requires fit { IsFit script.now self.old }
+        requires stands { IsAtTurn script.now (activity_of.Dying death) self.old }
+        ensures turns { TurnsFrom script.now (activity_of.Dying death) self.old self.new result }
+        ensures fit { IsFit script.now self.new }
+        ensures frames { self.new.frames ≡ self.old.frames }
+    {
+        self.heap.sound();
+        match self.go_on_dying(death, script) {
+            Dies::Turned(answer) => answer,
+            Dies::Died(object) => {
+                self.die(object);
+                Turned::Quiet
+            }
+        }
     }
 }

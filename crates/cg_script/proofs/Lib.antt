@@ -12,3 +12,4 @@ pub mod Below
 pub mod Known
 pub mod Each
 pub mod SpelledScripts
+pub mod Written

@@ -2,7 +2,7 @@
 //!
 //! `parse` is what the layer above uses: it answers the script that the bytes spell by `specs/Reading`, or their first bad
 //! line. The machine and the interpreter rest on the fields: what a `Script` says is its items in order, and each text
-//! is named by its position in `names`. Printing a script is not here yet.
+//! is named by its position in `names`. `print` answers a script's canonical bytes.
 #![tactic(auto)]
 
 mod command;
@@ -14,6 +14,7 @@ mod line;
 mod members;
 mod part;
 mod pieces;
+mod printer;
 mod reader;
 mod said;
 mod table;
@@ -23,8 +24,11 @@ pub use command::{Command, Operand};
 pub use fault::ScriptFault;
 pub use item::{ClassDef, Item, Proc, Script};
 pub use members::{Commands, Items, Operands};
+pub use printer::print;
 pub use reader::parse;
 
+#[cfg(test)]
+mod printer_tests;
 #[cfg(test)]
 mod reader_tests;
 #[cfg(test)]

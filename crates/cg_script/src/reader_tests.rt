@@ -69,14 +69,11 @@ fn bad_lines(rt: HostRuntime) -> Result<(), Fail> {
         ("a = list\r\nlist = list", "bad 1 1"),
         ("# \x7f", "bad 1 1"),
         // Unknown forms, whatever else is wrong.
-        ("a = list\nx = dict", "bad 2 2"),
-        ("9 = dict", "bad 1 2"),
-        ("x = list 1", "bad 1 2"),
-        ("9 = list 1", "bad 1 2"),
-        ("x = y", "bad 1 2"),
-        ("x = listen", "bad 1 2"),
+        ("a = list\ntracked a", "bad 2 2"),
+        ("tracked", "bad 1 2"),
+        ("collect x", "bad 1 2"),
+        ("def p\nenable 9", "bad 2 2"),
         ("delete x", "bad 1 2"),
-        ("end", "bad 1 2"),
         ("a", "bad 1 2"),
         // The number of words.
         ("x =", "bad 1 3"),
@@ -92,13 +89,83 @@ fn bad_lines(rt: HostRuntime) -> Result<(), Fail> {
         ("9a = list", "bad 1 4"),
         ("a-b = list", "bad 1 4"),
         ("a2345678901234567890123456789012x = list", "bad 1 4"),
+        ("9 = dict", "bad 1 4"),
+        ("9 = list 1", "bad 1 4"),
+        // Declarations.
+        ("end", "bad 1 7"),
+        ("def p\ndel a", "bad 3 7"),
+        ("class C\nclass C", "bad 2 8"),
+        ("a = new C", "bad 1 6"),
         // The least bad line.
-        ("\n\n#\ndel\nx = dict\n\x01", "bad 4 3"),
+        ("\n\n#\ndel\ncollect\n\x01", "bad 4 3"),
     ] {
         assert_eq!(rt;
             told(rt.alloc(), script.as_bytes())?.as_str(),
             want,
             "at {script:?}"
+        );
+    }
+    Ok(())
+}
+
+/// One line of each form that is read, behind a procedure and a class.
+static BUILT: [&str; 28] = [
+    "x = list 1 x",
+    "x = tuple x 'a",
+    "x = dict",
+    "x = new C",
+    "x = func p x c0",
+    "x = ref y",
+    "x = ref y f",
+    "x = y",
+    "del x",
+    "append x 1",
+    "setitem x 0 y",
+    "delitem x -1",
+    "put x 'k y",
+    "drop x 'k",
+    "setattr x n y",
+    "delattr x n",
+    "x = item y 0",
+    "x = get y 'k",
+    "x = attr y n",
+    "x = deref y",
+    "call f",
+    "quit none",
+    "print garbage",
+    "refs x",
+    "finalized self",
+    "budget 100000",
+    "class D del=p legacy=p",
+    "def q\nend",
+];
+
+/// One line of each form that is not read yet.
+static NOT_BUILT: [&str; 10] = [
+    "collect 2",
+    "enable",
+    "disable",
+    "threshold 700 10 10",
+    "debug stats",
+    "freeze",
+    "unfreeze",
+    "tracked x",
+    "count",
+    "gens",
+];
+
+#[test]
+fn forms_that_are_built(rt: HostRuntime) -> Result<(), Fail> {
+    for line in BUILT {
+        let text = format!(in rt.alloc(); "def p\nend\nclass C\n{line}")?;
+        assert!(rt; parse(rt.alloc(), text.as_bytes()).is_ok(), "at {line:?}");
+    }
+    for line in NOT_BUILT {
+        let text = format!(in rt.alloc(); "def p\nend\nclass C\n{line}")?;
+        assert_eq!(rt;
+            told(rt.alloc(), text.as_bytes())?.as_str(),
+            "bad 4 2",
+            "at {line:?}"
         );
     }
     Ok(())
@@ -122,7 +189,7 @@ fn lines_that_are_too_long(rt: HostRuntime) -> Result<(), Fail> {
         ("x = list", b' ', 1017, "bad 1 5"),
         ("", b'\n', 400_000, ""),
         ("", b'\n', 400_001, "bad 400001 5"),
-        ("x = dict", b'\n', 400_001, "bad 1 2"),
+        ("collect", b'\n', 400_001, "bad 1 2"),
         ("", b' ', 1025, "bad 1 5"),
     ] {
         let bytes = filled(rt.alloc(), front.as_bytes(), byte, count)?;
@@ -138,8 +205,8 @@ fn lines_that_are_too_long(rt: HostRuntime) -> Result<(), Fail> {
 #[test]
 fn lines_of_too_many_words(rt: HostRuntime) -> Result<(), Fail> {
     for (front, pairs, want) in [
-        ("x = list", 30, "bad 1 2"),
-        ("x = list", 31, "bad 1 5"),
+        ("tracked x y", 30, "bad 1 2"),
+        ("tracked x y", 31, "bad 1 5"),
         ("# #", 31, ""),
         ("# # #", 31, "bad 1 5"),
     ] {

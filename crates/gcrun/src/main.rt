@@ -1,7 +1,10 @@
 //! `gcrun run < SCRIPT`: runs a script, writes the text of the run, and ends with the status as its exit status.
 #![tactic(auto)]
 
-use cg_cli::{Status, gc_run};
+mod kinds;
+
+use crate::kinds::run_over_kinds;
+use cg_cli::Status;
 use cg_io::{ReadSource, WriteSink};
 use std::alloc::Global;
 use std::io::{BufWriter, ErrorKind, Write};
@@ -40,7 +43,9 @@ fn run(rt: &HostRuntime, words: &[String]) -> Status {
     };
     let mut source = ReadSource::new(rt.stdin());
     let mut sink = WriteSink::new(&mut output);
-    let status = gc_run(rt.alloc(), words, &mut source, &mut sink);
+    let Ok(status) = run_over_kinds(rt.alloc(), words, &mut source, &mut sink) else {
+        return Status::OutOfMemory;
+    };
     match output.flush() {
         Ok(()) => status,
         Err(_) => Status::WriteFault,

@@ -9,9 +9,10 @@ use Rattle.cg_death.proofs.Falling.{falls-taken}
 use Rattle.cg_graph.specs.Value.{entry_references, without_last}
 use Rattle.cg_graph.specs.Store.{entries_of}
 use Rattle.cg_death.specs.Answers.{MakesNone}
-use Rattle.cg_death.specs.Steady.{TakesFewHolds}
+use Rattle.cg_death.specs.Steady.{TakesFewHolds, KeepsNames}
 use Rattle.cg_death.proofs.ObjectNumbers.{none-taken, none-gone}
 use Rattle.cg_death.proofs.HoldNumbers.{few-taken, few-gone}
+use Rattle.cg_death.proofs.NamesKept.{kept-taken, kept-gone}
 use Rattle.cg_death.specs.Steady.{TurnStaysSteady, IsSteadyAt}
 use Rattle.cg_death.proofs.SteadyRows.{steady-taken, steady-gone}
 use Rattle.cg_death.proofs.contents.empty_one.Goals as goal
@@ -55,3 +56,9 @@ returns-in-Some-clause-holds g c = subst (TakesFewHolds c.args.heap.now) (sym (c
 
 pub returns-in-None-clause-holds : goal.returns-in-None-clause-holds
 returns-in-None-clause-holds g c = subst (TakesFewHolds c.args.heap.now) (sym (c.free.ensures ∙ ap (gone c.args.object) c.in-None.ensures.none)) (few-gone c.args.object c.args.heap.now)
+
+pub returns-in-Some-clause-names : goal.returns-in-Some-clause-names
+returns-in-Some-clause-names g c = subst (KeepsNames c.args.heap.now) (sym (c.in-Some.ensures.rest)) (kept-taken c.in-Some.entry c.args.object (without_last (entries_of c.args.heap.now c.args.object)) c.args.heap.now)
+
+pub returns-in-None-clause-names : goal.returns-in-None-clause-names
+returns-in-None-clause-names g c = subst (KeepsNames c.args.heap.now) (sym (c.free.ensures ∙ ap (gone c.args.object) c.in-None.ensures.none)) (kept-gone c.args.object c.args.heap.now)

@@ -7,9 +7,10 @@ use Rattle.cg_death.specs.declared.phase.Turn.{Turn}
 use Rattle.cg_death.specs.Answers.{TurnSteps}
 use Rattle.cg_death.proofs.Finalizing.{turn-unheld_after_legacy, turn-brought_back_by_legacy}
 use Rattle.cg_death.specs.Answers.{MakesNone}
-use Rattle.cg_death.specs.Steady.{TakesFewHolds}
+use Rattle.cg_death.specs.Steady.{TakesFewHolds, KeepsNames}
 use Rattle.cg_death.proofs.ObjectNumbers.{none-frame_ended}
 use Rattle.cg_death.proofs.HoldNumbers.{few-frame_ended}
+use Rattle.cg_death.proofs.NamesKept.{kept-frame_ended}
 use Rattle.cg_death.specs.Steady.{TurnStaysSteady, IsSteadyAt}
 use Rattle.std.proofs.Common.{None}
 use Rattle.cg_death.proofs.Steadying.{steady-legacy_ended, steady-over}
@@ -54,3 +55,9 @@ returns-then-is_unheld_now-clause-holds g c = subst (TakesFewHolds c.args.heap.n
 
 pub returns-else-is_unheld_now-clause-holds : goal.returns-else-is_unheld_now-clause-holds
 returns-else-is_unheld_now-clause-holds g c = subst (TakesFewHolds c.args.heap.now) (sym (c.is_unheld_now.ensures.rest)) (few-frame_ended c.is_unheld_now.result c.args.object Untracked c.args.heap.now)
+
+pub returns-then-is_unheld_now-clause-names : goal.returns-then-is_unheld_now-clause-names
+returns-then-is_unheld_now-clause-names g c = subst (KeepsNames c.args.heap.now) (sym (c.is_unheld_now.ensures.rest)) (kept-frame_ended c.is_unheld_now.result c.args.object Untracked c.args.heap.now)
+
+pub returns-else-is_unheld_now-clause-names : goal.returns-else-is_unheld_now-clause-names
+returns-else-is_unheld_now-clause-names g c = subst (KeepsNames c.args.heap.now) (sym (c.is_unheld_now.ensures.rest)) (kept-frame_ended c.is_unheld_now.result c.args.object Untracked c.args.heap.now)

@@ -9,9 +9,10 @@ use Rattle.cg_death.specs.Answers.{TurnSteps}
 use Rattle.cg_heap.proofs.CallerLemmas.{lives_on, kinds-moved, kinds-with_node, total-moved, total-with_node}
 use Rattle.cg_death.proofs.Finalizing.{running, turn-no_finalizer, turn-finalizer}
 use Rattle.cg_death.specs.Answers.{MakesNone}
-use Rattle.cg_death.specs.Steady.{TakesFewHolds}
+use Rattle.cg_death.specs.Steady.{TakesFewHolds, KeepsNames}
 use Rattle.cg_death.proofs.ObjectNumbers.{none-own_frame}
 use Rattle.cg_death.proofs.HoldNumbers.{few-own_frame}
+use Rattle.cg_death.proofs.NamesKept.{kept-own_frame}
 use Rattle.cg_death.specs.Steady.{TurnStaysSteady}
 use Rattle.std.proofs.Common.{None}
 use Rattle.cg_machine.specs.declared.event.FrameSort.TheVariants.{Del}
@@ -61,3 +62,6 @@ returns-in-Some-clause-steady g c =
 
 pub returns-in-Some-clause-holds : goal.returns-in-Some-clause-holds
 returns-in-Some-clause-holds g c = subst (TakesFewHolds c.args.heap.now) (sym (c.hold.ensures ∙ ap (λ st. held (c.args.object ∷ []) st) (c.set_finalized.ensures ∙ ap (with_node marked c.args.object) c.move_to.ensures))) (few-own_frame c.args.object (Gen 0) c.args.heap.now)
+
+pub returns-in-Some-clause-names : goal.returns-in-Some-clause-names
+returns-in-Some-clause-names g c = subst (KeepsNames c.args.heap.now) (sym (c.hold.ensures ∙ ap (λ st. held (c.args.object ∷ []) st) (c.set_finalized.ensures ∙ ap (with_node marked c.args.object) c.move_to.ensures))) (kept-own_frame c.args.object (Gen 0) c.args.heap.now)

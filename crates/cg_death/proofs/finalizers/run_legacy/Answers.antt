@@ -9,9 +9,10 @@ use Rattle.cg_death.specs.Answers.{TurnSteps}
 use Rattle.cg_heap.proofs.CallerLemmas.{lives_on, kinds-moved, total-moved}
 use Rattle.cg_death.proofs.Finalizing.{running, turn-no_legacy, turn-legacy}
 use Rattle.cg_death.specs.Answers.{MakesNone}
-use Rattle.cg_death.specs.Steady.{TakesFewHolds}
+use Rattle.cg_death.specs.Steady.{TakesFewHolds, KeepsNames}
 use Rattle.cg_death.proofs.ObjectNumbers.{none-legacy_frame}
 use Rattle.cg_death.proofs.HoldNumbers.{few-legacy_frame}
+use Rattle.cg_death.proofs.NamesKept.{kept-legacy_frame}
 use Rattle.cg_death.specs.Steady.{TurnStaysSteady}
 use Rattle.std.proofs.Common.{None}
 use Rattle.cg_machine.specs.declared.event.FrameSort.TheVariants.{Legacy}
@@ -53,3 +54,6 @@ returns-in-Some-clause-steady g c =
 
 pub returns-in-Some-clause-holds : goal.returns-in-Some-clause-holds
 returns-in-Some-clause-holds g c = subst (TakesFewHolds c.args.heap.now) (sym (c.hold.ensures ∙ ap (λ st. held (c.args.object ∷ []) st) c.move_to.ensures)) (few-legacy_frame c.args.object (Gen 0) c.args.heap.now)
+
+pub returns-in-Some-clause-names : goal.returns-in-Some-clause-names
+returns-in-Some-clause-names g c = subst (KeepsNames c.args.heap.now) (sym (c.hold.ensures ∙ ap (λ st. held (c.args.object ∷ []) st) c.move_to.ensures)) (kept-legacy_frame c.args.object (Gen 0) c.args.heap.now)

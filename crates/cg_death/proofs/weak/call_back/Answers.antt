@@ -15,9 +15,10 @@ use Rattle.cg_death.proofs.Finalizing.{running}
 use Rattle.cg_death.proofs.Calling.{turn-called, class-after}
 use Rattle.cg_death.proofs.Querying.{newest-waits, callback-lives}
 use Rattle.cg_death.specs.Answers.{MakesNone}
-use Rattle.cg_death.specs.Steady.{TakesFewHolds}
+use Rattle.cg_death.specs.Steady.{TakesFewHolds, KeepsNames}
 use Rattle.cg_death.proofs.ObjectNumbers.{none-called}
 use Rattle.cg_death.proofs.HoldNumbers.{few-called}
+use Rattle.cg_death.proofs.NamesKept.{kept-called}
 use Rattle.std.proofs.Common.{None}
 use Rattle.cg_death.specs.Steady.{TurnStaysSteady, IsSteadyAt}
 use Rattle.cg_death.proofs.SteadyRows.{steady-called}
@@ -69,3 +70,6 @@ returns-clause-steady g c = λ script.
 
 pub returns-clause-holds : goal.returns-clause-holds
 returns-clause-holds g c = subst (TakesFewHolds c.args.heap.now) (sym (c.forget_weak.ensures ∙ ap (forgotten_weak c.args.weak) c.take_callback-callback.ensures.rest)) (few-called c.args.weak c.take_callback-callback.result c.args.heap.now)
+
+pub returns-clause-names : goal.returns-clause-names
+returns-clause-names g c = subst (KeepsNames c.args.heap.now) (sym (c.forget_weak.ensures ∙ ap (forgotten_weak c.args.weak) c.take_callback-callback.ensures.rest)) (kept-called c.args.weak c.take_callback-callback.result c.args.heap.now)

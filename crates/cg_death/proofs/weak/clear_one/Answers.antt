@@ -7,9 +7,10 @@ use Rattle.std.specs.Prelude.{is_some}
 use Rattle.cg_graph.specs.Store.{objects_of}
 use Rattle.cg_machine.specs.Weak.{callback_of}
 use Rattle.cg_death.specs.Answers.{MakesNone}
-use Rattle.cg_death.specs.Steady.{TakesFewHolds}
+use Rattle.cg_death.specs.Steady.{TakesFewHolds, KeepsNames}
 use Rattle.cg_death.proofs.ObjectNumbers.{none-lost}
 use Rattle.cg_death.proofs.HoldNumbers.{few-lost}
+use Rattle.cg_death.proofs.NamesKept.{kept-lost}
 use Rattle.std.proofs.Common.{None, refl}
 use Rattle.cg_death.specs.Steady.{TurnStaysSteady, IsSteadyAt}
 use Rattle.cg_death.proofs.SteadyRows.{steady-all_cleared, steady-cleared}
@@ -41,3 +42,6 @@ returns-in-Some-clause-steady g c = λ script.
 
 pub returns-in-Some-clause-holds : goal.returns-in-Some-clause-holds
 returns-in-Some-clause-holds g c = subst (TakesFewHolds c.args.heap.now) (sym (c.lose_referent.ensures)) (few-lost (is_some (callback_of (objects_of c.args.heap.now) c.in-Some.weak)) c.in-Some.weak c.args.heap.now)
+
+pub returns-in-Some-clause-names : goal.returns-in-Some-clause-names
+returns-in-Some-clause-names g c = subst (KeepsNames c.args.heap.now) (sym (c.lose_referent.ensures)) (kept-lost (is_some (callback_of (objects_of c.args.heap.now) c.in-Some.weak)) c.in-Some.weak c.args.heap.now)

@@ -1,5 +1,5 @@
-use Rattle.std.proofs.Common.{◌≡◌, ◌∙◌, arith}
-use Rattle.cg_interp.proofs.RunLemmas.{ran_start, turn_may_be_taken, ran_quietly, ran_line, ran_to_end, ran_out, ran_cut, falls_quietly, falls_with_line}
+use Rattle.std.proofs.Common.{◌∙◌, arith}
+use Rattle.cg_interp.proofs.RunLemmas.{turn_may_be_taken, ran_quietly, ran_line, ran_to_end, ran_out, ran_cut, falls_quietly, falls_with_line}
 use Rattle.cg_interp.proofs.run.run_turns.Goals as goal
 
 pub turn_and_write-requires-clause-stands : goal.turn_and_write-requires-clause-stands

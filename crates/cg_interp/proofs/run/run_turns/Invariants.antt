@@ -1,4 +1,4 @@
-use Rattle.std.proofs.Common.{◌≡◌, ◌≤◌, ℕ}
+use Rattle.std.proofs.Common.{◌≡◌, ◌≤◌}
 use Rattle.cg_machine.proofs.Number.{number_of}
 use Rattle.cg_interp.specs.Turns.{IsFit}
 use Rattle.cg_interp.specs.Running.{Ran}

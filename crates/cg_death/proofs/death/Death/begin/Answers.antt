@@ -7,9 +7,10 @@ use Rattle.cg_death.proofs.Beginning.{begins-death}
 use Rattle.std.proofs.Common.{◌∙◌, ap}
 use Rattle.cg_death.specs.Deaths.{forgets_referent}
 use Rattle.cg_death.specs.Answers.{MakesNone}
-use Rattle.cg_death.specs.Steady.{TakesFewHolds}
+use Rattle.cg_death.specs.Steady.{TakesFewHolds, KeepsNames}
 use Rattle.cg_death.proofs.ObjectNumbers.{none-begun}
 use Rattle.cg_death.proofs.HoldNumbers.{few-begun}
+use Rattle.cg_death.proofs.NamesKept.{kept-begun}
 use Rattle.std.proofs.Common.{None}
 use Rattle.cg_death.specs.declared.phase.Phase.TheVariants as phase_of
 use Rattle.cg_death.specs.Steady.{IsSteadyAt}
@@ -35,3 +36,6 @@ pub returns-clause-steady : goal.returns-clause-steady
 returns-clause-steady g c = λ script fresh.
     subst (λ st. IsSteadyAt script st c.args.object phase_of.Finalizer None) (sym (c.lose_own_referent.ensures ∙ ap (forgets_referent c.args.object) c.move_to.ensures))
     (steady-begun script c.args.heap.now c.args.object c.sound.ensures.rows c.requires.unheld c.requires.none_waits fresh)
+
+pub returns-clause-names : goal.returns-clause-names
+returns-clause-names g c = subst (KeepsNames c.args.heap.now) (sym (c.lose_own_referent.ensures ∙ ap (forgets_referent c.args.object) c.move_to.ensures)) (kept-begun c.args.object Untracked c.args.heap.now)

@@ -1,0 +1,70 @@
+-- Budgets: in the lines of a script, and in a word.
+use Rattle.std.proofs.Common.{◌≡◌, ◌↔◌, ℕ, ◌+◌, ◌<◌, ◌≤◌, true, ◌&&◌, List, [], ◌∷◌, length, drop, get_or, Option, None, Some, IfSome, Result, Ok, refl, sym, ap, subst, ◌∙◌, arith, rules}
+use Rattle.std.specs.Prelude.{unwrap_or, nat_le}
+use Rattle.std.specs.List.{All, list_all}
+use Rattle.std.specs.Str.Parse.{ParsesUnsigned}
+use Rattle.std.proofs.lemmas.Bool.Decides.{nat_tests}
+use Rattle.std.proofs.lemmas.List.{drop_more}
+use Rattle.std.proofs.lemmas.List.Elements.{All-head, All-tail}
+use Rattle.std.proofs.lemmas.Str.Parse.{IsDigitsTest, IsNumeralModel, numerals_by_fold, digits_value_short, parse_gives}
+use Rattle.cg_script.specs.declared.Script.{Script}
+use Rattle.cg_script.specs.declared.Item.{Item}
+use Rattle.cg_script.specs.declared.Item.TheVariants.{Budget, Class, Def, Run}
+use Rattle.cg_script.specs.Spelled.{IsSpelled, IsSpelledItem}
+use Rattle.cg_script.specs.Words.{is_digit, are_digits, decimal_value, decimal_after}
+use Rattle.cg_script.proofs.Ascii.{both}
+use Rattle.cg_cli.specs.Words.{IsBudget}
+use Rattle.cg_cli.specs.Statuses.{budget_in, budget_of}
+
+-- the next line sets it
+pub set_here : (lines : List Item) (i : ℕ) (line : Item) (budget : ℕ) → i < length lines → line ≡ get_or lines i line → line ≡ Budget budget → budget_in (drop i lines) ≡ Some budget
+set_here lines i line budget within here is = ap budget_in (drop_more lines i line within) ∙ ap (λ l. budget_in (l ∷ drop (i + 1) lines)) (sym here ∙ is)
+
+set_at_most : (names : ℕ) (lines : List Item) → All (IsSpelledItem names) lines → IfSome (budget_in lines) (λ n. n ≤ 100000)
+set_at_most names [] all = tt
+set_at_most names (Budget n ∷ later) all = All-head (IsSpelledItem names) (Budget n) later all
+set_at_most names (Class c ∷ later) all = set_at_most names later (All-tail (IsSpelledItem names) (Class c) later all)
+set_at_most names (Def p ∷ later) all = set_at_most names later (All-tail (IsSpelledItem names) (Def p) later all)
+set_at_most names (Run c ∷ later) all = set_at_most names later (All-tail (IsSpelledItem names) (Run c) later all)
+
+-- the budget of a run is small
+pub few_frames : (given : Option ℕ) (script : Script) (budget : ℕ) → IfSome given (λ n. n ≤ 100000) → IsSpelled script → budget ≡ budget_of given script → budget ≤ 100000
+few_frames given script budget small spelled is = subst (λ n. n ≤ 100000) (sym is) (few given small)
+  where
+    else_few : (o : Option ℕ) → IfSome o (λ n. n ≤ 100000) → unwrap_or o 10000 ≤ 100000
+    else_few None s = omega arith
+    else_few (Some n) s = s
+
+    few : (o : Option ℕ) → IfSome o (λ n. n ≤ 100000) → budget_of o script ≤ 100000
+    few None s = else_few (budget_in script.items) (set_at_most (length script.names) script.items spelled.lines)
+    few (Some n) s = s
+
+digits_tell : IsDigitsTest (λ ds. list_all is_digit ds ≡ true)
+digits_tell = record {
+  empty = refl;
+  parts = λ c cs all. let two = both (is_digit c) (list_all is_digit cs) all in ((grind (arith, nat_tests, two.0), grind (arith, nat_tests, two.0)), two.1);
+  more = λ c cs digit all. grind (arith, nat_tests, digit, all);
+}
+
+numerals : IsNumeralModel (λ ds. list_all is_digit ds ≡ true) (decimal_after 0)
+numerals = numerals_by_fold _ digits_tell decimal_after (search rules)
+
+-- one to six digits are read
+pub digits_are_read : {E : Type 0} (word : List ℕ) (r : Result ℕ E) → ParsesUnsigned 32 10 word r → are_digits 6 word ≡ true → r ≡ Ok (decimal_value word)
+digits_are_read word r reads digits =
+    let two = both (nat_le 1 (length word) && nat_le (length word) 6) (list_all is_digit word) digits in
+    let lengths = both (nat_le 1 (length word)) (nat_le (length word) 6) two.0 in
+    let one : 0 < length word = grind (arith, nat_tests, lengths.0) in
+    let six : length word ≤ 6 = grind (arith, nat_tests, lengths.1) in
+    parse_gives numerals 32 word r reads two.1 one (omega (arith, digits_value_short numerals word 6 two.1 six))
+
+-- a word that writes a budget
+pub writes : (word : List ℕ) (budget : ℕ) → are_digits 6 word ≡ true → decimal_value word ≡ budget → budget ≤ 100000 → (n : ℕ) → (Some budget ≡ Some n) ↔ IsBudget word n
+writes word budget digits is few n = (
+  λ e. let same : budget ≡ n = cc in record { digits = digits; writes = is ∙ same; few = subst (λ k. k ≤ 100000) same few },
+  λ b. ap (λ k. Some k) (sym is ∙ b.writes),
+)
+
+-- a word that writes more
+pub writes_more : (word : List ℕ) (value : ℕ) → decimal_value word ≡ value → 100000 < value → (n : ℕ) → (None ≡ Some n) ↔ IsBudget word n
+writes_more word value is many n = (λ e. absurd (cc), λ b. absurd (omega (arith, is, b.writes, b.few)))

@@ -1,0 +1,73 @@
+-- What a loop has written, element by element.
+use Rattle.std.proofs.Common.{◌≡◌, ℕ, ◌+◌, ◌<◌, ◌≤◌, List, [], ◌∷◌, ◌++◌, length, get_or, take, refl, sym, ap, ◌∙◌, append_assoc, append-nil, map}
+use Rattle.std.specs.Prelude.{flat_map}
+use Rattle.std.proofs.lemmas.List.{take_more, take_all}
+use Rattle.cg_script.specs.declared.item.Item.{Item}
+use Rattle.cg_script.specs.Canonical.{behind_space, line_of_words, item_lines, procs_in, classes_in, naming_of, canonical}
+
+pub flat_map-append : {A : Type 0} (f : A → List ℕ) (xs ys : List A) → flat_map f (xs ++ ys) ≡ flat_map f xs ++ flat_map f ys
+flat_map-append f [] ys = refl
+flat_map-append f (x ∷ xs) ys = ap (λ l. f x ++ l) (flat_map-append f xs ys) ∙ sym (append_assoc (f x) (flat_map f xs) (flat_map f ys))
+
+pub written_more : {A : Type 0} (f : A → List ℕ) (xs : List A) (i : ℕ) (d : A) (start old new : List ℕ) → i < length xs → old ≡ start ++ flat_map f (take i xs) → new ≡ old ++ f (get_or xs i d)
+    → new ≡ start ++ flat_map f (take (i + 1) xs)
+written_more f xs i d start old new h before here =
+    here
+    ∙ ap (λ l. l ++ f (get_or xs i d)) before
+    ∙ append_assoc start (flat_map f (take i xs)) (f (get_or xs i d))
+    ∙ ap (λ l. start ++ (flat_map f (take i xs) ++ l)) (sym (append-nil (f (get_or xs i d))))
+    ∙ ap (λ l. start ++ l) (sym (flat_map-append f (take i xs) (get_or xs i d ∷ [])))
+    ∙ ap (λ l. start ++ flat_map f l) (sym (take_more xs i d h))
+
+pub written_all : {A : Type 0} (f : A → List ℕ) (xs : List A) (i : ℕ) (start now : List ℕ) → length xs ≤ i → now ≡ start ++ flat_map f (take i xs) → now ≡ start ++ flat_map f xs
+written_all f xs i start now h e = e ∙ ap (λ l. start ++ flat_map f l) (take_all i xs h)
+
+pub flat_map-flat_map : {A B : Type 0} (f : B → List ℕ) (p : A → List B) (xs : List A) → flat_map f (flat_map p xs) ≡ flat_map (λ x. flat_map f (p x)) xs
+flat_map-flat_map f p [] = refl
+flat_map-flat_map f p (x ∷ xs) = flat_map-append f (p x) (flat_map p xs) ∙ ap (λ l. flat_map f (p x) ++ l) (flat_map-flat_map f p xs)
+
+pub flat_map-map : {A B : Type 0} (f : B → List ℕ) (v : A → B) (xs : List A) → flat_map f (map v xs) ≡ flat_map (λ x. f (v x)) xs
+flat_map-map f v [] = refl
+flat_map-map f v (x ∷ xs) = ap (λ l. f (v x) ++ l) (flat_map-map f v xs)
+
+regroup : (a b c d e : List ℕ) → (((a ++ b) ++ c) ++ d) ++ e ≡ a ++ ((b ++ (c ++ d)) ++ e)
+regroup a b c d e = simp append_assoc
+
+-- a line: its first word, the others, its values, and the line feed
+pub line_written : {A B : Type 0} (p : A → List (List ℕ)) (v : B → List ℕ) (pieces : List A) (values : List B) (first o0 o1 o2 o3 o4 : List ℕ) → o1 ≡ o0 ++ first
+    → o2 ≡ o1 ++ flat_map (λ a. flat_map behind_space (p a)) pieces → o3 ≡ o2 ++ flat_map (λ b. behind_space (v b)) values → o4 ≡ o3 ++ 10 ∷ []
+    → o4 ≡ o0 ++ line_of_words (first ∷ (flat_map p pieces ++ map v values))
+line_written p v pieces values first o0 o1 o2 o3 o4 e1 e2 e3 e4 =
+    let ps = flat_map (λ a. flat_map behind_space (p a)) pieces in
+    let vs = flat_map (λ b. behind_space (v b)) values in
+    let both : flat_map behind_space (flat_map p pieces ++ map v values) ≡ ps ++ vs =
+    flat_map-append behind_space (flat_map p pieces) (map v values) ∙ ap (λ l. l ++ flat_map behind_space (map v values)) (flat_map-flat_map behind_space p pieces) ∙ ap (λ l. ps ++ l) (flat_map-map behind_space v values) in
+    e4
+    ∙ ap (λ l. l ++ 10 ∷ []) (e3 ∙ ap (λ l. l ++ vs) (e2 ∙ ap (λ l. l ++ ps) e1))
+    ∙ regroup o0 first ps vs (10 ∷ [])
+    ∙ ap (λ l. o0 ++ ((first ++ l) ++ 10 ∷ [])) (sym both)
+
+-- a procedure: its first line, its commands, and its last line
+pub proc_written : {A B : Type 0} (f : B → List ℕ) (w : A → B) (xs : List A) (front back : B) (o0 o1 o2 o3 : List ℕ) → o1 ≡ o0 ++ f front → o2 ≡ o1 ++ flat_map (λ x. f (w x)) xs → o3 ≡ o2 ++ f back
+    → o3 ≡ o0 ++ flat_map f (front ∷ (map w xs ++ back ∷ []))
+proc_written f w xs front back o0 o1 o2 o3 e1 e2 e3 =
+    let ms = flat_map (λ x. f (w x)) xs in
+    let both : flat_map f (map w xs ++ back ∷ []) ≡ ms ++ f back =
+    flat_map-append f (map w xs) (back ∷ []) ∙ ap (λ l. l ++ flat_map f (back ∷ [])) (flat_map-map f w xs) ∙ ap (λ l. ms ++ l) (append-nil (f back)) in
+    e3
+    ∙ ap (λ l. l ++ f back) (e2 ∙ ap (λ l. l ++ ms) e1)
+    ∙ append_assoc (o0 ++ f front) ms (f back)
+    ∙ append_assoc o0 (f front) (ms ++ f back)
+    ∙ ap (λ l. o0 ++ (f front ++ l)) (sym both)
+
+-- all lines of a script, behind no bytes
+pub all_written : (texts : List (List ℕ)) (items items2 : List Item) (procs classes start out : List ℕ) → start ≡ [] → items2 ≡ items → procs ≡ procs_in items2 → classes ≡ classes_in items2
+    → out ≡ start ++ flat_map (λ item. flat_map line_of_words (item_lines (record { texts = texts; procs = procs; classes = classes }) item)) items2 → out ≡ canonical texts items
+unfolding canonical
+all_written texts items items2 procs classes start out none same p c e =
+    e
+    ∙ ap (λ l. l ++ flat_map (λ item. flat_map line_of_words (item_lines (record { texts = texts; procs = procs; classes = classes }) item)) items2) none
+    ∙ ap (λ l. flat_map (λ item. flat_map line_of_words (item_lines (record { texts = texts; procs = l; classes = classes }) item)) items2) p
+    ∙ ap (λ l. flat_map (λ item. flat_map line_of_words (item_lines (record { texts = texts; procs = procs_in items2; classes = l }) item)) items2) c
+    ∙ ap (λ l. flat_map (λ item. flat_map line_of_words (item_lines (naming_of texts l) item)) l) same
+    ∙ sym (flat_map-flat_map line_of_words (item_lines (naming_of texts items)) items)

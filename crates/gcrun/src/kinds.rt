@@ -1,0 +1,93 @@
+//! The six kinds that a run is over.
+ghost use Rattle.std.specs.Prelude.{◌≡◌, ◌++◌, ◌∷◌, [], OnOk, IfOk, map};
+ghost use Rattle.std.specs.FinMap as fin;
+ghost use Rattle.cg_value.specs.declared.KindCode.TheVariants as code;
+
+use cg_cli::{Status, gc_run};
+use cg_io::{Sink, Source};
+use cg_kind::Kind;
+use cg_kinds::{DictKind, FuncKind, InstKind, ListKind, TupleKind, WeakKind};
+use std::alloc::{AllocError, Global};
+
+/// One box more.
+fn push(kinds: &mut Vec<Box<dyn Kind>>, made: Box<dyn Kind>) -> Result<(), AllocError>
+    ensures codes { OnOk result (map (λ b. kind b) kinds.new.items ≡
+        map (λ b. kind b) kinds.old.items ++ kind made ∷ []) }
+    ensures bodies { OnOk result (map (λ b. bodies b) kinds.new.items ≡
+        map (λ b. bodies b) kinds.old.items ++ bodies made ∷ []) }
+{
+    kinds.push(made)?;
+    Ok(())
+}
+
+/// Does what the words ask for, over these kinds.
+fn run_over<S: Source, K: Sink>(
+    alloc: Global,
+    words: &[String],
+    source: &mut S,
+    sink: &mut K,
+    lists: Box<dyn Kind>,
+    tuples: Box<dyn Kind>,
+    dicts: Box<dyn Kind>,
+    instances: Box<dyn Kind>,
+    functions: Box<dyn Kind>,
+    weak_references: Box<dyn Kind>,
+) -> Result<Status, AllocError>
+    requires lists { kind lists ≡ code.List }
+    requires no_list { bodies lists ≡ fin.empty }
+    requires tuples { kind tuples ≡ code.Tuple }
+    requires no_tuple { bodies tuples ≡ fin.empty }
+    requires dicts { kind dicts ≡ code.Dict }
+    requires no_dict { bodies dicts ≡ fin.empty }
+    requires instances { kind instances ≡ code.Inst }
+    requires no_instance { bodies instances ≡ fin.empty }
+    requires functions { kind functions ≡ code.Func }
+    requires no_function { bodies functions ≡ fin.empty }
+    requires weak_references { kind weak_references ≡ code.Weak }
+    requires no_weak_reference { bodies weak_references ≡ fin.empty }
+{
+    let mut kinds: Vec<Box<dyn Kind>> = Vec::new(alloc);
+    push(&mut kinds, lists)?;
+    push(&mut kinds, tuples)?;
+    push(&mut kinds, dicts)?;
+    push(&mut kinds, instances)?;
+    push(&mut kinds, functions)?;
+    push(&mut kinds, weak_references)?;
+    Ok(gc_run(alloc, words, source, sink, kinds))
+}
+
+/// A kind in a box.
+fn boxed<K: Kind>(alloc: Global, kind: K) -> Result<Box<K>, AllocError>
+    ensures kind { IfOk result (λ b. K.kind b.value ≡ K.kind kind) }
+    ensures bodies { IfOk result (λ b. K.bodies b.value ≡ K.bodies kind) }
+{
+    Ok(Box::new(alloc, kind)?)
+}
+
+/// Does what the words ask for, over six kinds without objects, in the order of their codes. It answers `AllocError` where
+/// memory for them was refused, and then has read and written nothing.
+pub fn run_over_kinds<S: Source, K: Sink>(
+    alloc: Global,
+    words: &[String],
+    source: &mut S,
+    sink: &mut K,
+) -> Result<Status, AllocError> {
+    let lists = boxed(alloc, ListKind::new(alloc))?;
+    let tuples = boxed(alloc, TupleKind::new(alloc))?;
+    let dicts = boxed(alloc, DictKind::new(alloc))?;
+    let instances = boxed(alloc, InstKind::new(alloc))?;
+    let functions = boxed(alloc, FuncKind::new(alloc))?;
+    let weak_references = boxed(alloc, WeakKind::new(alloc))?;
+    run_over(
+        alloc,
+        words,
+        source,
+        sink,
+        lists,
+        tuples,
+        dicts,
+        instances,
+        functions,
+        weak_references,
+    )
+}
