@@ -13,3 +13,11 @@ pub mod Known
 pub mod Each
 pub mod SpelledScripts
 pub mod Written
+pub mod Joined
+pub mod NormalWords
+pub mod Shown
+pub mod GoodLines
+pub mod Rows
+pub mod OddRows
+pub mod ClassRows
+pub mod ReadBack

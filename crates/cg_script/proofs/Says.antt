@@ -18,13 +18,13 @@ pub record Fitting (grammar : Grammar) (form : Form) (words : List (List ℕ)) :
   pub most : length words ≤ (row form).most
   pub single : repeats_finalizer form words ≡ false
 
-not_bad : (b : Bool) (code : ℕ) (rest : Meaning) (form : Form) (words : List (List ℕ)) → says form words ≡ (if b then bad code else rest) → (b ≡ false) × (says form words ≡ rest)
+pub not_bad : (b : Bool) (code : ℕ) (rest : Meaning) (form : Form) (words : List (List ℕ)) → says form words ≡ (if b then bad code else rest) → (b ≡ false) × (says form words ≡ rest)
 not_bad true code rest form words e = absurd (cc)
 not_bad false code rest form words e = (refl, e)
 
-not_passed : (b : Bool) (rest : Meaning) (form : Form) (words : List (List ℕ)) → says form words ≡ (if b then passed else rest) → says form words ≡ rest
+pub not_passed : (b : Bool) (rest : Meaning) (form : Form) (words : List (List ℕ)) → says form words ≡ (if b then passed else rest) → (b ≡ false) × (says form words ≡ rest)
 not_passed true rest form words e = absurd (cc)
-not_passed false rest form words e = e
+not_passed false rest form words e = (refl, e)
 
 neither : (a b : Bool) → (not a || b) ≡ false → (a ≡ true) × (b ≡ false)
 neither true b e = (refl, e)
@@ -72,7 +72,7 @@ unfolding meaning
 says_fits grammar number line form words e =
     let a = not_bad (not (list_all is_printable line)) 1 _ form words e in
     let b = not_bad (nat_lt 1024 (length line) || nat_lt 64 (length (words_of line)) || (number == 400001)) 5 _ form words a.1 in
-    worded_fits grammar (words_of line) form words (not_passed (is_passed (words_of line)) _ form words b.1)
+    worded_fits grammar (words_of line) form words (not_passed (is_passed (words_of line)) _ form words b.1).1
 
 -- the words of a good line are those of its bytes, which are few and printable
 pub record OfLine (line : List ℕ) (words : List (List ℕ)) : Type 0 where
@@ -114,7 +114,7 @@ unfolding meaning
 says_of_line grammar number line form words e =
     let a = not_bad (not (list_all is_printable line)) 1 _ form words e in
     let b = not_bad (nat_lt 1024 (length line) || nat_lt 64 (length (words_of line)) || (number == 400001)) 5 _ form words a.1 in
-    let same = worded_words grammar (words_of line) form words (not_passed (is_passed (words_of line)) _ form words b.1) in
+    let same = worded_words grammar (words_of line) form words (not_passed (is_passed (words_of line)) _ form words b.1).1 in
     let few = few_bytes (length line) (length (words_of line)) _ b.0 in
     let few_words = few.1 in
     record { words_are = same; few_words = omega (arith, ap length same); printable = is_true _ a.0; short = few.0 }

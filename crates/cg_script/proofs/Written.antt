@@ -1,26 +1,9 @@
--- What a loop has written, element by element.
-use Rattle.std.proofs.Common.{◌≡◌, ℕ, ◌+◌, ◌<◌, ◌≤◌, List, [], ◌∷◌, ◌++◌, length, get_or, take, refl, sym, ap, ◌∙◌, append_assoc, append-nil, map}
+-- What is written of a line, of a procedure and of all items.
+use Rattle.std.proofs.Common.{◌≡◌, ℕ, List, [], ◌∷◌, ◌++◌, refl, sym, ap, ◌∙◌, append_assoc, append-nil, map}
 use Rattle.std.specs.Prelude.{flat_map}
-use Rattle.std.proofs.lemmas.List.{take_more, take_all}
+use Rattle.std.proofs.lemmas.Grind.{flat_map-append}
 use Rattle.cg_script.specs.declared.item.Item.{Item}
 use Rattle.cg_script.specs.Canonical.{behind_space, line_of_words, item_lines, procs_in, classes_in, naming_of, canonical}
-
-pub flat_map-append : {A : Type 0} (f : A → List ℕ) (xs ys : List A) → flat_map f (xs ++ ys) ≡ flat_map f xs ++ flat_map f ys
-flat_map-append f [] ys = refl
-flat_map-append f (x ∷ xs) ys = ap (λ l. f x ++ l) (flat_map-append f xs ys) ∙ sym (append_assoc (f x) (flat_map f xs) (flat_map f ys))
-
-pub written_more : {A : Type 0} (f : A → List ℕ) (xs : List A) (i : ℕ) (d : A) (start old new : List ℕ) → i < length xs → old ≡ start ++ flat_map f (take i xs) → new ≡ old ++ f (get_or xs i d)
-    → new ≡ start ++ flat_map f (take (i + 1) xs)
-written_more f xs i d start old new h before here =
-    here
-    ∙ ap (λ l. l ++ f (get_or xs i d)) before
-    ∙ append_assoc start (flat_map f (take i xs)) (f (get_or xs i d))
-    ∙ ap (λ l. start ++ (flat_map f (take i xs) ++ l)) (sym (append-nil (f (get_or xs i d))))
-    ∙ ap (λ l. start ++ l) (sym (flat_map-append f (take i xs) (get_or xs i d ∷ [])))
-    ∙ ap (λ l. start ++ flat_map f l) (sym (take_more xs i d h))
-
-pub written_all : {A : Type 0} (f : A → List ℕ) (xs : List A) (i : ℕ) (start now : List ℕ) → length xs ≤ i → now ≡ start ++ flat_map f (take i xs) → now ≡ start ++ flat_map f xs
-written_all f xs i start now h e = e ∙ ap (λ l. start ++ flat_map f l) (take_all i xs h)
 
 pub flat_map-flat_map : {A B : Type 0} (f : B → List ℕ) (p : A → List B) (xs : List A) → flat_map f (flat_map p xs) ≡ flat_map (λ x. flat_map f (p x)) xs
 flat_map-flat_map f p [] = refl
