@@ -13,8 +13,8 @@ use cg_machine::Event;
 use cg_policy::{Flagset, Policy};
 use cg_script::Command;
 
-/// Does a command of the collector: what the machine's definition of effects says, in every world that the heap and the
-/// policy stand for. None takes memory.
+/// Does a command of the collector: what the machine's definition of effects says, in every world that the heap and
+/// the policy stand for. None takes memory.
 ///
 /// The only refusal is that of a `collect` whose number is none of 0, 1 and 2. After it, and where a collection is asked
 /// for, heap and policy are as they were.
@@ -109,7 +109,8 @@ pub fn is_control(command: &Command) -> bool
 
 /// The line of the three counts.
 fn counts(policy: &Policy) -> Event
-    ensures { result ≡ event.Count policy.now.numbers.zero_count policy.now.numbers.one_count policy.now.numbers.two_count }
+    ensures { result ≡ event.Count policy.now.numbers.zero_count policy.now.numbers.one_count
+        policy.now.numbers.two_count }
 {
     let counts = policy.counts();
     Event::Count {
