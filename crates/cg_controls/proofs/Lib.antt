@@ -1,0 +1,3 @@
+mod Replacing
+mod Sizing
+mod Answering

@@ -1,0 +1,56 @@
+//! The generations as `freeze`, `unfreeze`, `gens` and `collect` see them.
+ghost use Rattle.std.specs.Prelude.{◌≡◌};
+ghost use Rattle.cg_graph.specs.Store.{objects_of};
+ghost use Rattle.cg_machine.specs.Effects.{frozen, unfrozen, gens_line};
+ghost use Rattle.cg_controls.specs.Places.{Replaces};
+ghost use Rattle.cg_controls.specs.Answers.{IsAsked};
+
+use crate::controlled::{BadGeneration, Controlled};
+use cg_heap::Heap;
+use cg_kind::Kind;
+use cg_machine::Event;
+use cg_value::Place;
+
+/// The objects of the generations go to the permanent one. (`gc.freeze`.)
+pub(crate) fn freeze<B: Kind>(heap: &mut Heap<B>)
+    ensures { Replaces frozen heap.old heap.new }
+{
+    heap.sound();
+    heap.merge(Place::Gen(0), Place::Frozen);
+    heap.merge(Place::Gen(1), Place::Frozen);
+    heap.merge(Place::Gen(2), Place::Frozen);
+}
+
+/// The objects of the permanent generation go to generation 2. (`gc.unfreeze`.)
+pub(crate) fn unfreeze<B: Kind>(heap: &mut Heap<B>)
+    ensures { Replaces unfrozen heap.old heap.new }
+{
+    heap.merge(Place::Frozen, Place::Gen(2));
+}
+
+/// The sizes of the generations and of the permanent one.
+pub(crate) fn sizes<B: Kind>(heap: &Heap<B>) -> Event
+    ensures { result ≡ gens_line (objects_of heap.now) }
+{
+    heap.sound();
+    Event::Gens {
+        zero: heap.size(Place::Gen(0)),
+        one: heap.size(Place::Gen(1)),
+        two: heap.size(Place::Gen(2)),
+        frozen: heap.size(Place::Frozen),
+    }
+}
+
+/// A collection of the generation that a `collect` names. (`gc.collect`: the number is 0 to 2.)
+pub(crate) fn collect(generation: i64) -> Result<Controlled, BadGeneration>
+    ensures { IsAsked generation result }
+{
+    if generation < 0 {
+        return Err(BadGeneration);
+    }
+    if generation < 3 {
+        Ok(Controlled::Collects(generation as u8))
+    } else {
+        Err(BadGeneration)
+    }
+}
