@@ -19,4 +19,5 @@ mod weak;
 
 pub use answer::DeathStep;
 pub use death::Death;
+pub use finalizers::{Finalizers, finalizers_of};
 pub use release::Release;

@@ -1,0 +1,6 @@
+pub mod Phases
+pub mod Answers
+pub mod Ready
+pub mod Turns
+pub mod Numbers
+pub mod Collections

@@ -1,0 +1,67 @@
+//! The finalizer phase: condemned objects are looked at, and the finalizers that have not run are run. (PEP 442: a
+//! finalizer is called once.)
+ghost use Rattle.std.specs.Prelude.{◌≡◌, ◌<◌, ◌≤◌, ◌∷◌, [], ℕ, Some, None, true, false};
+ghost use Rattle.cg_script.specs.declared.Script.{Script as AnyScript};
+ghost use Rattle.cg_policy.specs.Policy.{Policy as Standing};
+ghost use Rattle.cg_graph.specs.Store.{Store};
+ghost use Rattle.cg_heap.specs.Calls.{HasFewHolds};
+ghost use Rattle.cg_collect.specs.declared.collection.Facts.{Facts as AnyFacts};
+ghost use Rattle.cg_collect.specs.declared.phase.Phase.TheVariants as phase_of;
+ghost use Rattle.cg_collect.specs.Ready.{IsReadyAt};
+ghost use Rattle.cg_collect.specs.Turns.{TurnSteps, TurnFalls, StaysReady};
+
+use crate::phase::{Phase, Turn, release_of};
+use cg_death::finalizers_of;
+use cg_heap::Heap;
+use cg_kind::Kind;
+use cg_machine::{FrameSort, FrameSpec};
+use cg_script::Script;
+use cg_value::Place;
+
+/// Looks at a condemned object, if one is left; then all are condemned as before, and the second detection follows.
+pub fn look_at_one<B: Kind>(heap: &mut Heap<B>, script: &Script) -> Turn
+    requires ready { IsReadyAt heap.old 0 phase_of.Finalizing }
+    requires few { HasFewHolds heap.old }
+    ensures steps { (facts : AnyFacts) (policy : Standing) → TurnSteps script.now facts phase_of.Finalizing heap.old policy heap.new policy result }
+    ensures ready { (g : ℕ) → StaysReady heap.new g result.phase result.answer }
+    ensures falls { TurnFalls heap.old phase_of.Finalizing heap.new result }
+{
+    match heap.first(Place::Cand) {
+        Some(object) => look_at(heap, script, object),
+        None => {
+            heap.merge(Place::Seen, Place::Cand);
+            Turn::to(Phase::Split)
+        }
+    }
+}
+
+/// Its finalizer runs, if it has not: it is marked, and held for its frame.
+fn look_at<B: Kind>(heap: &mut Heap<B>, script: &Script, object: u64) -> Turn {
+    heap.move_to(object, Place::Seen);
+    if heap.is_finalized(object) {
+        return Turn::to(Phase::Finalizing);
+    }
+    match finalizers_of(heap, script, object).del {
+        Some(proc) => {
+            heap.set_finalized(object);
+            heap.hold(object);
+            let frame = FrameSpec {
+                sort: FrameSort::Del,
+                proc,
+                subject: object,
+                func: None,
+            };
+            Turn::runs(frame, Phase::AfterFinalizing(object))
+        }
+        None => Turn::to(Phase::Finalizing),
+    }
+}
+
+/// The frame of a finalizer has ended: the object is given up.
+pub fn after_finalizer(object: u64) -> Turn
+    ensures steps { (script : AnyScript) (facts : AnyFacts) (store : Store) (policy : Standing) → TurnSteps script facts (phase_of.AfterFinalizing object) store policy store policy result }
+    ensures ready { (store : Store) (g : ℕ) → IsReadyAt store g (phase_of.AfterFinalizing object) → StaysReady store g result.phase result.answer }
+    ensures falls { (store : Store) → TurnFalls store (phase_of.AfterFinalizing object) store result }
+{
+    Turn::gives_up(release_of(object), Phase::Finalizing)
+}

@@ -1,0 +1,164 @@
+//! The weak phase: weak references lose condemned objects, and the callbacks of those that are not condemned are called.
+//! (PEP 442; `weakref` manual.)
+ghost use Rattle.std.specs.Prelude.{◌≡◌, ◌<◌, ◌≤◌, ◌∷◌, [], ℕ, Some, None, true, false};
+ghost use Rattle.cg_script.specs.declared.Script.{Script as AnyScript};
+ghost use Rattle.cg_policy.specs.Policy.{Policy as Standing};
+ghost use Rattle.cg_graph.specs.Store.{Store};
+ghost use Rattle.cg_heap.specs.Calls.{HasFewHolds};
+ghost use Rattle.cg_collect.specs.declared.collection.Facts.{Facts as AnyFacts};
+ghost use Rattle.cg_collect.specs.declared.phase.Phase.TheVariants as phase_of;
+ghost use Rattle.cg_collect.specs.Ready.{IsReadyAt};
+ghost use Rattle.cg_collect.specs.Turns.{TurnSteps, TurnFalls, StaysReady};
+
+use crate::answer::CollectStep;
+use crate::collection::Facts;
+use crate::phase::{Phase, Turn, older, release_of};
+use cg_heap::Heap;
+use cg_kind::Kind;
+use cg_machine::{Event, FrameSort, FrameSpec};
+use cg_value::{Place, Val};
+
+/// Looks at the next weak reference of the walk, or at the next condemned object.
+///
+/// For each condemned object all weak references to it are looked at, from the newest on; for a weak reference that is
+/// condemned, all to its referent. So each list is gone through once.
+pub fn clear_one<B: Kind>(heap: &mut Heap<B>, member: Option<u64>, weak: Option<u64>) -> Turn
+    requires ready { IsReadyAt heap.old 0 (phase_of.WeakClearing member weak) }
+    requires few { HasFewHolds heap.old }
+    ensures steps { (script : AnyScript) (facts : AnyFacts) (policy : Standing) → TurnSteps script facts (phase_of.WeakClearing member weak) heap.old policy heap.new policy result }
+    ensures ready { (g : ℕ) → StaysReady heap.new g result.phase result.answer }
+    ensures falls { TurnFalls heap.old (phase_of.WeakClearing member weak) heap.new result }
+{
+    match weak {
+        Some(weak) => look_at(heap, member, weak),
+        None => next_member(heap, member),
+    }
+}
+
+/// A weak reference loses its referent, where one of the two is condemned.
+fn look_at<B: Kind>(heap: &mut Heap<B>, member: Option<u64>, weak: u64) -> Turn {
+    let phase = Phase::WeakClearing {
+        member,
+        weak: heap.older_of(weak),
+    };
+    if loses(heap, weak) {
+        lose(heap, weak);
+        Turn::tells(Event::Cleared(weak), phase)
+    } else {
+        Turn::to(phase)
+    }
+}
+
+/// Whether a weak reference with a referent, or its referent, is condemned.
+fn loses<B: Kind>(heap: &Heap<B>, weak: u64) -> bool {
+    is_condemned(heap, weak)
+        || match heap.referent_of(weak) {
+            Some(referent) => is_condemned(heap, referent),
+            None => false,
+        }
+}
+
+/// Whether an object is condemned.
+fn is_condemned<B: Kind>(heap: &Heap<B>, object: u64) -> bool {
+    matches!(heap.place_of(object), Place::Cand | Place::Seen)
+}
+
+/// A weak reference loses its referent. One that is not condemned and has a callback waits, and is held.
+fn lose<B: Kind>(heap: &mut Heap<B>, weak: u64) {
+    heap.clear_weak(weak, false);
+    if !is_condemned(heap, weak) && callback_of(heap, weak).is_some() {
+        heap.hold(weak);
+        heap.move_to(weak, Place::Pend);
+    }
+}
+
+/// The callback of a weak reference, if it has one.
+fn callback_of<B: Kind>(heap: &Heap<B>, weak: u64) -> Option<u64> {
+    if heap.len(weak) == 0 {
+        return None;
+    }
+    match heap.entry_at(weak, 0).val {
+        Val::Ref(function) => Some(function),
+        _ => None,
+    }
+}
+
+/// The weak references to the next condemned object are looked at, or those to its referent; when all were, the callbacks
+/// follow.
+fn next_member<B: Kind>(heap: &mut Heap<B>, member: Option<u64>) -> Turn {
+    match member {
+        Some(object) => Turn::to(Phase::WeakClearing {
+            member: heap.next(object),
+            weak: first_to_look_at(heap, object),
+        }),
+        None => Turn::to(Phase::WeakCalling),
+    }
+}
+
+/// The newest weak reference to the referent of a condemned one, or to a condemned object.
+fn first_to_look_at<B: Kind>(heap: &Heap<B>, object: u64) -> Option<u64> {
+    match heap.referent_of(object) {
+        Some(referent) => heap.newest_of(referent),
+        None => heap.newest_of(object),
+    }
+}
+
+/// The first of those that wait has its callback called; when none is left, the finalizers follow.
+pub fn call_one<B: Kind>(heap: &mut Heap<B>) -> Turn
+    requires ready { IsReadyAt heap.old 0 phase_of.WeakCalling }
+    ensures steps { (script : AnyScript) (facts : AnyFacts) (policy : Standing) → TurnSteps script facts phase_of.WeakCalling heap.old policy heap.new policy result }
+    ensures ready { (g : ℕ) → StaysReady heap.new g result.phase result.answer }
+    ensures falls { TurnFalls heap.old phase_of.WeakCalling heap.new result }
+{
+    match heap.first(Place::Pend) {
+        Some(weak) => Turn::runs(
+            callback_frame(heap, weak),
+            Phase::AfterCallback(weak),
+        ),
+        None => Turn::to(Phase::Finalizing),
+    }
+}
+
+/// The frame of the callback of a weak reference.
+fn callback_frame<B: Kind>(heap: &Heap<B>, weak: u64) -> FrameSpec {
+    let callback = callback_of(heap, weak).unwrap_or(0);
+    FrameSpec {
+        sort: FrameSort::Callback,
+        proc: heap.class_of(callback).unwrap_or(0),
+        subject: weak,
+        func: Some(callback),
+    }
+}
+
+/// The frame of a callback has ended: the weak reference is given up.
+pub fn after_callback(weak: u64) -> Turn
+    ensures steps { (script : AnyScript) (facts : AnyFacts) (store : Store) (policy : Standing) → IsReadyAt store facts.generation (phase_of.AfterCallback weak)
+        → TurnSteps script facts (phase_of.AfterCallback weak) store policy store policy result }
+    ensures ready { (store : Store) (g : ℕ) → IsReadyAt store g (phase_of.AfterCallback weak) → StaysReady store g result.phase result.answer }
+    ensures falls { (store : Store) → TurnFalls store (phase_of.AfterCallback weak) store result }
+{
+    Turn::gives_up(
+        release_of(weak),
+        Phase::AfterRelease { weak, died: false },
+    )
+}
+
+/// One that died when it was given up is counted as collected; another gets older.
+pub fn after_release<B: Kind>(facts: Facts, heap: &mut Heap<B>, weak: u64, died: bool) -> Turn
+    requires generation { facts.generation ≤ 2 }
+    requires ready { IsReadyAt heap.old facts.generation (phase_of.AfterRelease weak died) }
+    ensures steps { (script : AnyScript) (policy : Standing) → TurnSteps script facts (phase_of.AfterRelease weak died) heap.old policy heap.new policy result }
+    ensures ready { StaysReady heap.new facts.generation result.phase result.answer }
+    ensures falls { TurnFalls heap.old (phase_of.AfterRelease weak died) heap.new result }
+{
+    if died {
+        return Turn {
+            phase: Phase::WeakCalling,
+            release: None,
+            collected: 1,
+            answer: CollectStep::Continue,
+        };
+    }
+    heap.move_to(weak, Place::Gen(older(facts.generation)));
+    Turn::to(Phase::WeakCalling)
+}
