@@ -1,13 +1,13 @@
-mod Lists
-mod Passes
-mod Entries
-mod Waking
-mod Sifts
-mod Splits
-mod Placed
-mod Views
-mod Counted
-mod Objects
-mod Ends
+pub mod Lists
+pub mod Passes
+pub mod Entries
+pub mod Waking
+pub mod Sifts
+pub mod Splits
+pub mod Placed
+pub mod Views
+pub mod Counted
+pub mod Objects
+pub mod Ends
 pub mod Worlds
-mod Scenes
+pub mod Scenes
