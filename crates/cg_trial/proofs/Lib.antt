@@ -1,13 +1,13 @@
-mod Lists
-mod Passes
-mod Entries
+pub mod Lists
+pub mod Passes
+pub mod Entries
 mod Waking
 mod Sifts
-mod Splits
-mod Placed
-mod Views
+pub mod Splits
+pub mod Placed
+pub mod Views
 mod Counted
-mod Objects
-mod Ends
+pub mod Objects
+pub mod Ends
 pub mod Worlds
 mod Scenes
