@@ -56,14 +56,14 @@ keys_counted {X} k (e ∷ es) = go (cases_eq e.0 k) (keys_counted k es)
         ap (λ b. length (cond (not b) (e ∷ others_than k es) (others_than k es))) (unsigned_tied k e.0 ∙ ne_eqb k e.0 (λ h. differs (sym h))) in
         omega (arith, none, rest, rec)
 
-once_key : {X : Type 0} (m : fin.FinMap nat_cmp X) (k : ℕ) → occurrences k (keys (fin.entries m)) ≤ 1
+pub once_key : {X : Type 0} (m : fin.FinMap nat_cmp X) (k : ℕ) → occurrences k (keys (fin.entries m)) ≤ 1
 once_key m k = omega (arith, keys_counted k (fin.entries m), length_without nat_cmp nat_cmp_total k (fin.entries m) (fin.entries_sorted m), bit (is_some (fin.find nat_cmp k (fin.entries m))))
   where
     bit : (b : Bool) → cond b 1 0 ≤ 1
     bit true = omega arith
     bit false = omega arith
 
-found : {X : Type 0} (es : List (ℕ × X)) (e : ℕ × X) → ((k : ℕ) → occurrences k (keys es) ≤ 1) → Includes es e → fin.find nat_cmp e.0 es ≡ Some e.1
+pub found : {X : Type 0} (es : List (ℕ × X)) (e : ℕ × X) → ((k : ℕ) → occurrences k (keys es) ≤ 1) → Includes es e → fin.find nat_cmp e.0 es ≡ Some e.1
 found [] e once h = absurd h
 found (x ∷ es) e once (inl same) =
     ap (λ b. cond b (Some x.1) (fin.find nat_cmp e.0 es)) (unsigned_tied e.0 x.0 ∙ eq-eqb e.0 x.0 (sym (ap (λ y. y.0) same))) ∙ ap (λ y. Some y.1) same
@@ -75,7 +75,7 @@ found (x ∷ es) e once (inr h) =
     ap (λ b. cond b (Some x.1) (fin.find nat_cmp e.0 es)) (unsigned_tied e.0 x.0 ∙ ne_eqb e.0 x.0 differs)
     ∙ found es e (λ k. omega (arith, once k, occurrences-cons k x.0 (keys es))) h
 
-finds : {X : Type 0} (es : List (ℕ × X)) (k : ℕ) (v : X) → fin.find nat_cmp k es ≡ Some v → Includes es (k, v)
+pub finds : {X : Type 0} (es : List (ℕ × X)) (k : ℕ) (v : X) → fin.find nat_cmp k es ≡ Some v → Includes es (k, v)
 finds [] k v h = absurd (cc)
 finds (x ∷ es) k v h = go (cases_eq k x.0) (finds es k v)
   where
@@ -130,7 +130,7 @@ sum_by-map f g [] = refl
 sum_by-map {X} {Y} f g (x ∷ xs) = sum_by-cons f (g x) (map g xs) ∙ ap (λ n. f (g x) + n) (sum_by-map f g xs) ∙ sym (sum_by-cons {X = X} (λ y. f (g y)) x xs)
 
 -- the edges of some objects
-edges_of_objects : (objects : List Object) (o q : ℕ) (x : Object) → Includes objects x → x.serial ≡ o → Includes (references x.entries) q → Includes (edges (graph_of objects)) (arrow o q)
+pub edges_of_objects : (objects : List Object) (o q : ℕ) (x : Object) → Includes objects x → x.serial ≡ o → Includes (references x.entries) q → Includes (edges (graph_of objects)) (arrow o q)
 edges_of_objects [] o q x h e k = absurd h
 edges_of_objects (y ∷ objects) o q x (inl same) e k =
     Includes-append_left (map (arrow y.serial) (references y.entries)) (edges (graph_of objects)) (arrow o q)
@@ -138,7 +138,7 @@ edges_of_objects (y ∷ objects) o q x (inl same) e k =
     (Includes-map (arrow y.serial) (references y.entries) q (subst (λ (z : Object). Includes (references z.entries) q) (sym same) k)))
 edges_of_objects (y ∷ objects) o q x (inr h) e k = Includes-append_right (map (arrow y.serial) (references y.entries)) (edges (graph_of objects)) (arrow o q) (edges_of_objects objects o q x h e k)
 
-objects_of_edges : (objects : List Object) (o q : ℕ) → Includes (edges (graph_of objects)) (arrow o q) → (x : Object) × Includes objects x × (x.serial ≡ o) × Includes (references x.entries) q
+pub objects_of_edges : (objects : List Object) (o q : ℕ) → Includes (edges (graph_of objects)) (arrow o q) → (x : Object) × Includes objects x × (x.serial ≡ o) × Includes (references x.entries) q
 objects_of_edges [] o q h = absurd h
 objects_of_edges (y ∷ objects) o q h =
     either (Includes-append_cases (map (arrow y.serial) (references y.entries)) (edges (graph_of objects)) (arrow o q) h)
@@ -154,7 +154,7 @@ module _ (store : Store) (listed : IsListed store) (p : Place) (is : IsSplitPlac
   there = objects_at (objects_of store) p
 
   -- an object that stands there is that of a node
-  node_of : (x : Object) → Includes there x → IsLive store x.serial × (place_of store x.serial ≡ p) × (x.entries ≡ entries_of store x.serial)
+  pub node_of : (x : Object) → Includes there x → IsLive store x.serial × (place_of store x.serial ≡ p) × (x.entries ≡ entries_of store x.serial)
   node_of x h =
       let (member, at) = Includes-filter_cases (is_at p) (objects_of store) x h in
       let (e, entry, made) = Includes-map_cases (λ (e : ℕ × Node). object_from store.rows e.0 e.1) (fin.entries store.nodes) x member in
@@ -172,7 +172,7 @@ module _ (store : Store) (listed : IsListed store) (p : Place) (is : IsSplitPlac
   known (Some n) h = (n, refl)
 
   -- and one that stands in the list is such an object
-  object_of : (o : ℕ) → Includes (list_at store p) o → (x : Object) × Includes there x × (x.serial ≡ o)
+  pub object_of : (o : ℕ) → Includes (list_at store p) o → (x : Object) × Includes there x × (x.serial ≡ o)
   object_of o h =
       let (live, at) = where_is store listed p o h in
       let (n, got) = known (fin.get store.nodes o) live in
