@@ -9,7 +9,7 @@ use Rattle.cg_machine.specs.World.{World, Activity, Dying, Death, Numbers, Runni
 use Rattle.cg_machine.specs.Collect.{begun}
 use Rattle.cg_machine.specs.Frame.{begin_death, start_frame}
 use Rattle.cg_machine.specs.Holdings.{holdings, is_death_of, is_collection}
-use Rattle.cg_machine.specs.Laws.{IsHeldByItsDeathAlone}
+use Rattle.cg_machine.specs.Laws.{IsHeldByItsDeathAlone, IsOrderly}
 use Rattle.cg_machine.specs.Represents.{Represents, Goes}
 use Rattle.cg_policy.specs.Policy.{Policy}
 use Rattle.cg_collect.specs.declared.answer.CollectStep.{CollectStep}
@@ -31,11 +31,12 @@ pub record Shows (asked : Bool) (c : Collection) (store : Store) (policy : Polic
   pub running : policy.running ≡ is_some (machine_phase c.phase [])
   pub top : w.stack ≡ on_stack asked c store ++ below
 
--- Heap and policy stand for a world that runs, with this collection on top. What holds of every run holds there: a dying
--- object is held by nothing but its own death, and is dying once; no two collections run.
+-- Heap and policy stand for a world that runs, with this collection on top. What holds of every run holds there: the world is
+-- orderly, a dying object is held by nothing but its own death, and is dying once; no two collections run.
 pub record Stands (asked : Bool) (c : Collection) (store : Store) (policy : Policy) (w : World) (below : List Activity) : Type 0 where
   pub shows : Shows asked c store policy w below
   pub running : w.outcome ≡ Running
+  pub orderly : IsOrderly w
   pub unheld : (d : Death) → Includes w.stack (Dying d) → IsHeldByItsDeathAlone d.object d.phase (holdings w)
   pub once : (o : ℕ) → count_by (is_death_of o) w.stack ≤ 1
   pub alone : count_by is_collection below ≡ 0

@@ -8,7 +8,7 @@ use Rattle.cg_collect.specs.declared.phase.Phase.TheVariants as phase_of
 use Rattle.cg_collect.specs.declared.answer.CollectStep.TheVariants as answer_of
 use Rattle.cg_collect.specs.declared.answer.CollectStep.{CollectStep}
 use Rattle.cg_collect.specs.declared.collection.Collection.{Collection}
-use Rattle.cg_collect.specs.Ready.{IsReadyAt, HasFewCollected}
+use Rattle.cg_collect.specs.Ready.{IsReadyAt, HasFewCollected, GivesUpIn}
 use Rattle.cg_collect.specs.Turns.{ComesNearer}
 
 -- the references that it gives up
@@ -32,6 +32,7 @@ pub record IsReady (c : Collection) (store : Store) : Type 0 where
   pub generation : c.generation ≤ 2
   pub phase : IsReadyAt store c.generation c.phase
   pub collected : HasFewCollected c.collected c.phase store
+  pub gives_up : GivesUpIn c.phase c.release
 
 -- After an answer that hands nothing out, the heap is ready for the next step.
 abbrev pub KeepsReady : Collection → Store → CollectStep → Type 0

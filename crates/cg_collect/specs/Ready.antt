@@ -1,16 +1,17 @@
 -- What a step of a collection needs of the heap. Frames and deaths that run in it may change the heap between two steps; what
 -- they leave is said here. (Ours.)
-use Rattle.std.specs.Prelude.{◌≡◌, ℕ, ◌+◌, ◌≤◌, ◌⊎◌, true, false, List, [], ◌∷◌, Option, Some, None, slice_get, length}
+use Rattle.std.specs.Prelude.{◌≡◌, ℕ, ◌+◌, ◌≤◌, ◌⊎◌, true, false, List, [], ◌∷◌, Option, Some, None, IsSome, slice_get, length}
 use Rattle.cg_value.specs.declared.Place.{Place}
 use Rattle.cg_value.specs.declared.Place.TheVariants.{Untracked, Gen, Cand, Seen, Back, Legacy, Pend}
-use Rattle.cg_value.specs.declared.Val.TheVariants.{Ref}
 use Rattle.cg_graph.specs.Member.{Includes}
-use Rattle.cg_graph.specs.Value.{item, references}
+use Rattle.cg_graph.specs.Value.{references}
 use Rattle.cg_graph.specs.Object.{Object}
 use Rattle.cg_graph.specs.Rows.{referent_in, weak_references_in}
 use Rattle.cg_graph.specs.Store.{Store, IsLive, HasCode, list_at, objects_of, entries_of, place_of}
-use Rattle.cg_value.specs.declared.KindCode.TheVariants.{Func, Weak}
+use Rattle.cg_value.specs.declared.KindCode.TheVariants.{Weak}
 use Rattle.cg_machine.specs.Collect.{loses_in_weak_phase, older}
+use Rattle.cg_machine.specs.Weak.{callback_of}
+use Rattle.cg_death.specs.declared.release.Release.{Release}
 use Rattle.cg_collect.specs.declared.phase.Phase.{Phase}
 use Rattle.cg_collect.specs.declared.phase.Phase.TheVariants as phase_of
 use Rattle.cg_collect.specs.Phases.{from_on}
@@ -28,9 +29,9 @@ pub record IsClear (store : Store) : Type 0 where
   pub pending : IsEmptyAt store Pend
   pub garbage : place_of store 1 ≡ Untracked
 
--- each that waits is a live weak reference with its callback, a function, as its one entry
+-- each that waits is a weak reference with a callback
 abbrev pub HaveCallbacks : Store → Type 0
-HaveCallbacks store = (w : ℕ) → Includes (list_at store Pend) w → HasCode store w Weak × ((f : ℕ) × (entries_of store w ≡ item (Ref f) ∷ []) × HasCode store f Func)
+HaveCallbacks store = (w : ℕ) → Includes (list_at store Pend) w → HasCode store w Weak × IsSome (callback_of (objects_of store) w)
 
 -- the garbage list names none of a place
 abbrev pub IsUnsaved : Store → Place → Type 0
@@ -62,19 +63,30 @@ abbrev pub to_look_at : Store → Option ℕ → List ℕ
 to_look_at store None = []
 to_look_at store (Some weak) = from_on (Some weak) (references_to store (referent_in store.rows weak))
 
+-- the referent of a weak reference is none itself (`weakref` manual: class instances and functions have weak references)
+abbrev pub RefersPlainly : Store → Object → Type 0
+RefersPlainly store x = (o : ℕ) → x.referent ≡ Some o → ¬ HasCode store o Weak
+
 -- The walk of the weak phase has left out nothing: a weak reference that is still to lose its referent is to be looked at, or
 -- it, or its referent, is a candidate whose turn is to come.
 abbrev pub HasMissedNone : Store → Option ℕ → Option ℕ → Type 0
-HasMissedNone store member weak = (x : Object) → Includes (objects_of store) x → loses_in_weak_phase (objects_of store) x ≡ true
+HasMissedNone store member weak = (x : Object) → Includes (objects_of store) x → loses_in_weak_phase (objects_of store) x ≡ true → RefersPlainly store x
     → Includes (to_look_at store weak) x.serial
     ⊎ Includes (from_on member (list_at store Cand)) x.serial
     ⊎ ((o : ℕ) × (x.referent ≡ Some o) × Includes (from_on member (list_at store Cand)) o)
+
+-- Of the weak references to one object that are to lose it, none is newer than the one that is looked at.
+abbrev pub HasNoneNewer : Store → Option ℕ → Type 0
+HasNoneNewer store weak = (v : ℕ) → weak ≡ Some v → (x : Object) → Includes (objects_of store) x → loses_in_weak_phase (objects_of store) x ≡ true
+    → x.referent ≡ referent_in store.rows v → x.serial ≤ v
 
 -- what a walk of the weak phase has
 pub record IsWalk (store : Store) (member weak : Option ℕ) : Type 0 where
   pub member_at : IsAt member (list_at store Cand)
   pub weak_live : (v : ℕ) → weak ≡ Some v → (o : ℕ) × (referent_in store.rows v ≡ Some o)
   pub none_missed : HasMissedNone store member weak
+  pub none_newer : HasNoneNewer store weak
+  pub waiting : (v : ℕ) → Includes (list_at store Pend) v → referent_in store.rows v ≡ None  -- those that wait have lost theirs
 
 -- What a step needs, phase by phase, its own holds aside.
 abbrev pub IsReadyAt : Store → ℕ → Phase → Type 0
@@ -101,17 +113,31 @@ IsReadyAt store g (phase_of.Saved next number) = IsAt next (list_at store (Gen (
 IsReadyAt store g (phase_of.Stopping number) = Unit {0}
 IsReadyAt store g (phase_of.Over number) = Unit {0}
 
--- The number of collected objects, which grows by one for each weak reference that waits and dies, and by the final set.
+-- The number of collected objects is small: it grows by one for each weak reference that waits and dies, and by the final
+-- set, and no list of a heap is longer than a million and one.
 abbrev pub HasFewCollected : ℕ → Phase → Store → Type 0
 HasFewCollected collected phase_of.Start store = collected ≡ 0
-HasFewCollected collected (phase_of.Sizes zero one two frozen) store = collected + length (list_at store Pend) ≤ 1000000
-HasFewCollected collected (phase_of.Telling next) store = collected + length (list_at store Pend) ≤ 1000000
-HasFewCollected collected (phase_of.WeakClearing member weak) store = collected + length (list_at store Pend) ≤ 1000000
-HasFewCollected collected phase_of.WeakCalling store = collected + length (list_at store Pend) ≤ 1000000
-HasFewCollected collected (phase_of.AfterCallback weak) store = collected + length (list_at store Pend) ≤ 1000000
-HasFewCollected collected (phase_of.AfterRelease weak false) store = collected + length (list_at store Pend) ≤ 1000000
-HasFewCollected collected (phase_of.AfterRelease weak true) store = collected + length (list_at store Pend) + 1 ≤ 1000000
-HasFewCollected collected phase_of.Finalizing store = collected ≤ 1000000
-HasFewCollected collected (phase_of.AfterFinalizing o) store = collected ≤ 1000000
-HasFewCollected collected phase_of.Split store = collected ≤ 1000000
-HasFewCollected collected phase store = collected ≤ 2000000
+HasFewCollected collected (phase_of.Sizes zero one two frozen) store = collected ≡ 0
+HasFewCollected collected (phase_of.Telling next) store = collected ≡ 0
+HasFewCollected collected (phase_of.WeakClearing member weak) store = collected ≡ 0
+HasFewCollected collected phase_of.WeakCalling store = collected + length (list_at store Pend) ≤ 1000001
+HasFewCollected collected (phase_of.AfterCallback weak) store = collected + length (list_at store Pend) ≤ 1000001
+HasFewCollected collected (phase_of.AfterRelease weak false) store = collected + length (list_at store Pend) ≤ 1000001
+HasFewCollected collected (phase_of.AfterRelease weak true) store = collected + length (list_at store Pend) + 1 ≤ 1000001
+HasFewCollected collected phase_of.Finalizing store = collected ≤ 1000001
+HasFewCollected collected (phase_of.AfterFinalizing o) store = collected ≤ 1000001
+HasFewCollected collected phase_of.Split store = collected ≤ 1000001
+HasFewCollected collected phase store = collected ≤ 2000002
+
+-- the phases that something is given up in
+abbrev pub MayGiveUp : Phase → Type 0
+MayGiveUp (phase_of.AfterRelease weak died) = Unit {0}
+MayGiveUp phase_of.Finalizing = Unit {0}
+MayGiveUp (phase_of.Turn o) = Unit {0}
+MayGiveUp (phase_of.AfterTurn o died) = Unit {0}
+MayGiveUp phase = ⊥
+
+-- what is given up is given up in these
+abbrev pub GivesUpIn : Phase → Option Release → Type 0
+GivesUpIn phase None = Unit {0}
+GivesUpIn phase (Some release) = MayGiveUp phase

@@ -14,7 +14,7 @@ use Rattle.cg_collect.specs.declared.phase.Turn.{Turn}
 use Rattle.cg_collect.specs.declared.collection.Facts.{Facts}
 use Rattle.cg_collect.specs.declared.collection.Collection.{Collection}
 use Rattle.cg_collect.specs.Phases.{from_on}
-use Rattle.cg_collect.specs.Ready.{IsReadyAt, to_look_at}
+use Rattle.cg_collect.specs.Ready.{IsReadyAt, to_look_at, HasFewCollected, GivesUpIn}
 use Rattle.cg_collect.specs.Answers.{CollectSteps}
 
 -- a collection with these facts, at a phase, which gives up this first
@@ -93,3 +93,8 @@ ComesNearer old phase release new phase_now release_now =
 -- the same for a turn of a phase that goes on without a line
 abbrev pub TurnFalls : Store → Phase → Store → Turn → Type 0
 TurnFalls old phase new turn = turn.answer ≡ answer_of.Continue → ComesNearer old phase None new turn.phase turn.release
+
+-- What a turn leaves: the number of collected objects is small as before, and what is given up is so in a phase for it.
+pub record TurnLeaves (old : Store) (phase : Phase) (new : Store) (turn : Turn) : Type 0 where
+  pub few : (n : ℕ) → HasFewCollected n phase old → HasFewCollected (n + turn.collected) turn.phase new
+  pub gives_up : GivesUpIn turn.phase turn.release

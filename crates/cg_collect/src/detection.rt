@@ -7,7 +7,7 @@ ghost use Rattle.cg_heap.specs.Calls.{HasFewHolds};
 ghost use Rattle.cg_collect.specs.declared.collection.Facts.{Facts as AnyFacts};
 ghost use Rattle.cg_collect.specs.declared.phase.Phase.TheVariants as phase_of;
 ghost use Rattle.cg_collect.specs.Ready.{IsReadyAt};
-ghost use Rattle.cg_collect.specs.Turns.{TurnSteps, TurnFalls, StaysReady};
+ghost use Rattle.cg_collect.specs.Turns.{TurnSteps, TurnFalls, TurnLeaves, StaysReady};
 
 use crate::answer::CollectStep;
 use crate::collection::Facts;
@@ -26,6 +26,7 @@ pub fn detect<B: Kind, L: Ledger>(facts: Facts, heap: &mut Heap<B>, steps: &mut 
     ensures steps { (script : AnyScript) (policy : Standing) → TurnSteps script facts phase_of.Split heap.old policy heap.new policy result }
     ensures ready { StaysReady heap.new facts.generation result.phase result.answer }
     ensures falls { TurnFalls heap.old phase_of.Split heap.new result }
+    ensures leaves { TurnLeaves heap.old phase_of.Split heap.new result }
 {
     split(heap, Place::Cand, steps);
     let living = heap.first(Place::Back);
@@ -45,6 +46,7 @@ pub fn tell_living<B: Kind>(facts: Facts, heap: &Heap<B>, next: Option<u64>) -> 
     ensures steps { (script : AnyScript) (policy : Standing) → TurnSteps script facts (phase_of.Living next) heap.now policy heap.now policy result }
     ensures ready { StaysReady heap.now facts.generation result.phase result.answer }
     ensures falls { TurnFalls heap.now (phase_of.Living next) heap.now result }
+    ensures leaves { TurnLeaves heap.now (phase_of.Living next) heap.now result }
 {
     match next {
         Some(object) => Turn::tells(Event::Alive(object), Phase::Living(heap.next(object))),
@@ -59,6 +61,7 @@ pub fn detach_one<B: Kind>(heap: &mut Heap<B>, next: Option<u64>) -> Turn
     ensures steps { (script : AnyScript) (facts : AnyFacts) (policy : Standing) → TurnSteps script facts (phase_of.Detaching next) heap.old policy heap.new policy result }
     ensures ready { (g : ℕ) → StaysReady heap.new g result.phase result.answer }
     ensures falls { TurnFalls heap.old (phase_of.Detaching next) heap.new result }
+    ensures leaves { TurnLeaves heap.old (phase_of.Detaching next) heap.new result }
 {
     let Some(object) = next else {
         return Turn::to(Phase::Turns);

@@ -7,7 +7,7 @@ ghost use Rattle.cg_heap.specs.Calls.{HasFewHolds};
 ghost use Rattle.cg_collect.specs.declared.collection.Facts.{Facts as AnyFacts};
 ghost use Rattle.cg_collect.specs.declared.phase.Phase.TheVariants as phase_of;
 ghost use Rattle.cg_collect.specs.Ready.{IsReadyAt};
-ghost use Rattle.cg_collect.specs.Turns.{TurnSteps, TurnFalls, StaysReady};
+ghost use Rattle.cg_collect.specs.Turns.{TurnSteps, TurnFalls, TurnLeaves, StaysReady};
 
 use crate::collection::Facts;
 use crate::phase::{Phase, Turn, older};
@@ -27,6 +27,7 @@ pub fn end<B: Kind>(facts: Facts, heap: &mut Heap<B>, policy: &mut Policy, scrip
     ensures steps { TurnSteps script.now facts phase_of.Ending heap.old policy.old heap.new policy.new result }
     ensures ready { StaysReady heap.new facts.generation result.phase result.answer }
     ensures falls { TurnFalls heap.old phase_of.Ending heap.new result }
+    ensures leaves { TurnLeaves heap.old phase_of.Ending heap.new result }
 {
     let number = heap.size(Place::Legacy);
     let first = heap.first(Place::Legacy);
@@ -77,6 +78,7 @@ pub fn tell_uncollectable<B: Kind>(
     ensures steps { (script : AnyScript) (policy : Standing) → TurnSteps script facts (phase_of.Uncollectable first next number) heap.now policy heap.now policy result }
     ensures ready { StaysReady heap.now facts.generation result.phase result.answer }
     ensures falls { TurnFalls heap.now (phase_of.Uncollectable first next number) heap.now result }
+    ensures leaves { TurnLeaves heap.now (phase_of.Uncollectable first next number) heap.now result }
 {
     match next {
         Some(object) => Turn::tells(
@@ -107,6 +109,7 @@ pub fn tell_saved<B: Kind>(
     ensures steps { (policy : Standing) → TurnSteps script.now facts (phase_of.Saved next number) heap.now policy heap.now policy result }
     ensures ready { StaysReady heap.now facts.generation result.phase result.answer }
     ensures falls { TurnFalls heap.now (phase_of.Saved next number) heap.now result }
+    ensures leaves { TurnLeaves heap.now (phase_of.Saved next number) heap.now result }
 {
     let Some(object) = next else {
         return Turn::to(Phase::Stopping(number));
@@ -127,6 +130,7 @@ pub fn tell_end(facts: Facts, number: u64) -> Turn
     ensures steps { (script : AnyScript) (store : Store) (policy : Standing) → TurnSteps script facts (phase_of.Stopping number) store policy store policy result }
     ensures ready { (store : Store) (g : ℕ) → StaysReady store g result.phase result.answer }
     ensures falls { (store : Store) → TurnFalls store (phase_of.Stopping number) store result }
+    ensures leaves { (store : Store) → TurnLeaves store (phase_of.Stopping number) store result }
 {
     let event = Event::GcStop {
         generation: facts.generation,

@@ -8,7 +8,7 @@ ghost use Rattle.cg_heap.specs.Calls.{HasFewHolds};
 ghost use Rattle.cg_collect.specs.declared.collection.Facts.{Facts as AnyFacts};
 ghost use Rattle.cg_collect.specs.declared.phase.Phase.TheVariants as phase_of;
 ghost use Rattle.cg_collect.specs.Ready.{IsReadyAt};
-ghost use Rattle.cg_collect.specs.Turns.{TurnSteps, TurnFalls, StaysReady};
+ghost use Rattle.cg_collect.specs.Turns.{TurnSteps, TurnFalls, TurnLeaves, StaysReady};
 
 use crate::phase::{Phase, Turn, release_of};
 use cg_death::finalizers_of;
@@ -25,6 +25,7 @@ pub fn look_at_one<B: Kind>(heap: &mut Heap<B>, script: &Script) -> Turn
     ensures steps { (facts : AnyFacts) (policy : Standing) → TurnSteps script.now facts phase_of.Finalizing heap.old policy heap.new policy result }
     ensures ready { (g : ℕ) → StaysReady heap.new g result.phase result.answer }
     ensures falls { TurnFalls heap.old phase_of.Finalizing heap.new result }
+    ensures leaves { TurnLeaves heap.old phase_of.Finalizing heap.new result }
 {
     match heap.first(Place::Cand) {
         Some(object) => look_at(heap, script, object),
@@ -62,6 +63,7 @@ pub fn after_finalizer(object: u64) -> Turn
     ensures steps { (script : AnyScript) (facts : AnyFacts) (store : Store) (policy : Standing) → TurnSteps script facts (phase_of.AfterFinalizing object) store policy store policy result }
     ensures ready { (store : Store) (g : ℕ) → IsReadyAt store g (phase_of.AfterFinalizing object) → StaysReady store g result.phase result.answer }
     ensures falls { (store : Store) → TurnFalls store (phase_of.AfterFinalizing object) store result }
+    ensures leaves { (store : Store) → TurnLeaves store (phase_of.AfterFinalizing object) store result }
 {
     Turn::gives_up(release_of(object), Phase::Finalizing)
 }

@@ -7,7 +7,7 @@ ghost use Rattle.cg_collect.specs.Numbers.{IsBelow62};
 ghost use Rattle.cg_collect.specs.declared.collection.Facts.{Facts as AnyFacts};
 ghost use Rattle.cg_collect.specs.declared.phase.Phase.TheVariants as phase_of;
 ghost use Rattle.cg_collect.specs.Ready.{IsReadyAt};
-ghost use Rattle.cg_collect.specs.Turns.{TurnSteps, TurnFalls, StaysReady};
+ghost use Rattle.cg_collect.specs.Turns.{TurnSteps, TurnFalls, TurnLeaves, StaysReady};
 
 use crate::answer::CollectStep;
 use crate::collection::Facts;
@@ -40,6 +40,7 @@ pub fn start<B: Kind, L: Ledger>(
     ensures steps { TurnSteps script.now facts phase_of.Start heap.old policy.old heap.new policy.new result }
     ensures ready { StaysReady heap.new facts.generation result.phase result.answer }
     ensures falls { TurnFalls heap.old phase_of.Start heap.new result }
+    ensures leaves { TurnLeaves heap.old phase_of.Start heap.new result }
 {
     let next = first_phase(facts, heap);
     merge_younger(facts.generation, heap);
@@ -127,6 +128,7 @@ pub fn tell_sizes<B: Kind>(
     ensures steps { (script : AnyScript) (policy : Standing) → TurnSteps script facts (phase_of.Sizes zero one two frozen) heap.now policy heap.now policy result }
     ensures ready { StaysReady heap.now facts.generation result.phase result.answer }
     ensures falls { TurnFalls heap.now (phase_of.Sizes zero one two frozen) heap.now result }
+    ensures leaves { TurnLeaves heap.now (phase_of.Sizes zero one two frozen) heap.now result }
 {
     let event = Event::Gens {
         zero,
@@ -143,6 +145,7 @@ pub fn tell_condemned<B: Kind>(heap: &Heap<B>, next: Option<u64>) -> Turn
     ensures steps { (script : AnyScript) (facts : AnyFacts) (policy : Standing) → TurnSteps script facts (phase_of.Telling next) heap.now policy heap.now policy result }
     ensures ready { (g : ℕ) → StaysReady heap.now g result.phase result.answer }
     ensures falls { TurnFalls heap.now (phase_of.Telling next) heap.now result }
+    ensures leaves { TurnLeaves heap.now (phase_of.Telling next) heap.now result }
 {
     match next {
         Some(object) => Turn::tells(

@@ -8,7 +8,7 @@ ghost use Rattle.cg_heap.specs.Calls.{HasFewHolds};
 ghost use Rattle.cg_collect.specs.declared.collection.Facts.{Facts as AnyFacts};
 ghost use Rattle.cg_collect.specs.declared.phase.Phase.TheVariants as phase_of;
 ghost use Rattle.cg_collect.specs.Ready.{IsReadyAt};
-ghost use Rattle.cg_collect.specs.Turns.{TurnSteps, TurnFalls, StaysReady};
+ghost use Rattle.cg_collect.specs.Turns.{TurnSteps, TurnFalls, TurnLeaves, StaysReady};
 
 use crate::collection::Facts;
 use crate::phase::{Phase, Turn, older, release_of};
@@ -28,6 +28,7 @@ pub fn take_turn<B: Kind>(facts: Facts, heap: &mut Heap<B>) -> Turn
     ensures steps { (script : AnyScript) (policy : Standing) → TurnSteps script facts phase_of.Turns heap.old policy heap.new policy result }
     ensures ready { StaysReady heap.new facts.generation result.phase result.answer }
     ensures falls { TurnFalls heap.old phase_of.Turns heap.new result }
+    ensures leaves { TurnLeaves heap.old phase_of.Turns heap.new result }
 {
     match heap.first(Place::Cand) {
         Some(object) => begin_turn(facts, heap, object),
@@ -62,6 +63,7 @@ pub fn empty_one<B: Kind>(heap: &mut Heap<B>, object: u64) -> Turn
     ensures steps { (script : AnyScript) (facts : AnyFacts) (policy : Standing) → TurnSteps script facts (phase_of.Turn object) heap.old policy heap.new policy result }
     ensures ready { (g : ℕ) → StaysReady heap.new g result.phase result.answer }
     ensures falls { TurnFalls heap.old (phase_of.Turn object) heap.new result }
+    ensures leaves { TurnLeaves heap.old (phase_of.Turn object) heap.new result }
 {
     match heap.detach(object) {
         Some(entry) => Turn::gives_up(Release::new(entry), Phase::Turn(object)),
@@ -82,6 +84,7 @@ pub fn after_turn<B: Kind>(facts: Facts, heap: &mut Heap<B>, object: u64, died: 
     ensures steps { (script : AnyScript) (policy : Standing) → TurnSteps script facts (phase_of.AfterTurn object died) heap.old policy heap.new policy result }
     ensures ready { StaysReady heap.new facts.generation result.phase result.answer }
     ensures falls { TurnFalls heap.old (phase_of.AfterTurn object died) heap.new result }
+    ensures leaves { TurnLeaves heap.old (phase_of.AfterTurn object died) heap.new result }
 {
     if !died {
         heap.move_to(object, Place::Gen(older(facts.generation)));

@@ -8,7 +8,7 @@ ghost use Rattle.cg_heap.specs.Calls.{HasFewHolds};
 ghost use Rattle.cg_collect.specs.declared.collection.Facts.{Facts as AnyFacts};
 ghost use Rattle.cg_collect.specs.declared.phase.Phase.TheVariants as phase_of;
 ghost use Rattle.cg_collect.specs.Ready.{IsReadyAt};
-ghost use Rattle.cg_collect.specs.Turns.{TurnSteps, TurnFalls, StaysReady};
+ghost use Rattle.cg_collect.specs.Turns.{TurnSteps, TurnFalls, TurnLeaves, StaysReady};
 
 use crate::answer::CollectStep;
 use crate::collection::Facts;
@@ -28,6 +28,7 @@ pub fn clear_one<B: Kind>(heap: &mut Heap<B>, member: Option<u64>, weak: Option<
     ensures steps { (script : AnyScript) (facts : AnyFacts) (policy : Standing) → TurnSteps script facts (phase_of.WeakClearing member weak) heap.old policy heap.new policy result }
     ensures ready { (g : ℕ) → StaysReady heap.new g result.phase result.answer }
     ensures falls { TurnFalls heap.old (phase_of.WeakClearing member weak) heap.new result }
+    ensures leaves { TurnLeaves heap.old (phase_of.WeakClearing member weak) heap.new result }
 {
     match weak {
         Some(weak) => look_at(heap, member, weak),
@@ -109,6 +110,7 @@ pub fn call_one<B: Kind>(heap: &mut Heap<B>) -> Turn
     ensures steps { (script : AnyScript) (facts : AnyFacts) (policy : Standing) → TurnSteps script facts phase_of.WeakCalling heap.old policy heap.new policy result }
     ensures ready { (g : ℕ) → StaysReady heap.new g result.phase result.answer }
     ensures falls { TurnFalls heap.old phase_of.WeakCalling heap.new result }
+    ensures leaves { TurnLeaves heap.old phase_of.WeakCalling heap.new result }
 {
     match heap.first(Place::Pend) {
         Some(weak) => Turn::runs(
@@ -136,6 +138,7 @@ pub fn after_callback(weak: u64) -> Turn
         → TurnSteps script facts (phase_of.AfterCallback weak) store policy store policy result }
     ensures ready { (store : Store) (g : ℕ) → IsReadyAt store g (phase_of.AfterCallback weak) → StaysReady store g result.phase result.answer }
     ensures falls { (store : Store) → TurnFalls store (phase_of.AfterCallback weak) store result }
+    ensures leaves { (store : Store) → TurnLeaves store (phase_of.AfterCallback weak) store result }
 {
     Turn::gives_up(
         release_of(weak),
@@ -150,6 +153,7 @@ pub fn after_release<B: Kind>(facts: Facts, heap: &mut Heap<B>, weak: u64, died:
     ensures steps { (script : AnyScript) (policy : Standing) → TurnSteps script facts (phase_of.AfterRelease weak died) heap.old policy heap.new policy result }
     ensures ready { StaysReady heap.new facts.generation result.phase result.answer }
     ensures falls { TurnFalls heap.old (phase_of.AfterRelease weak died) heap.new result }
+    ensures leaves { TurnLeaves heap.old (phase_of.AfterRelease weak died) heap.new result }
 {
     if died {
         return Turn {
