@@ -3,3 +3,4 @@ pub mod Moving
 pub mod Aside
 pub mod Worlds
 pub mod Looking
+pub mod Pending
