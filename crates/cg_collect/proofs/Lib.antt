@@ -1,2 +1,5 @@
+pub mod Standing
+pub mod Moving
+pub mod Aside
 pub mod Worlds
 pub mod Looking

@@ -4,3 +4,4 @@ pub mod Ready
 pub mod Turns
 pub mod Numbers
 pub mod Collections
+pub mod Starting

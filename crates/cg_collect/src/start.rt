@@ -14,15 +14,15 @@ use crate::collection::Facts;
 use crate::legacy::set_legacy_aside;
 use crate::phase::{Phase, Turn, older};
 use crate::untracking::untrack;
-use std::sync::ledger::Ledger;
+use bitflags::Flags;
 use cg_heap::{Heap, Steps};
 use cg_kind::Kind;
 use cg_machine::Event;
-use bitflags::Flags;
 use cg_policy::{Flagset, Policy};
 use cg_script::Script;
 use cg_trial::split;
 use cg_value::Place;
+use std::sync::ledger::Ledger;
 
 /// The start: the younger generations are merged into this one, and its unreachable objects become the candidates, but for
 /// those that are set aside. The survivors are untracked or get older.
@@ -50,7 +50,10 @@ pub fn start<B: Kind, L: Ledger>(
     policy.survived(facts.generation, survivors);
     get_older(facts.generation, heap);
     set_legacy_aside(heap, script);
-    Turn::tells(Event::GcStart(facts.generation), told_first(facts, heap, next))
+    Turn::tells(
+        Event::GcStart(facts.generation),
+        told_first(facts, heap, next),
+    )
 }
 
 /// With STATS the sizes of the generations, before they are merged.
