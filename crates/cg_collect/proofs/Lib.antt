@@ -1,5 +1,6 @@
 pub mod Standing
 pub mod Moving
 pub mod Aside
+pub mod Garbage
 pub mod Worlds
 pub mod Looking
