@@ -47,6 +47,7 @@ use Rattle.cg_collect.specs.Answers.{CollectSteps}
 use Rattle.cg_collect.specs.Turns.{collection_at}
 use Rattle.cg_collect.proofs.Standing.{stands_at, list_length, entries_on}
 use Rattle.cg_collect.proofs.Moving.{one-shorter, moved_same, moved_last, moved_from}
+use Rattle.cg_collect.proofs.Garbage.{garbage-moved, garbage-merged}
 use Rattle.cg_collect.proofs.Worlds.{steps_at, with_same_rows, pending_is, represents_on, represents_giving_up}
 
 -- the garbage list names none of a place, where it names what it named
@@ -200,6 +201,7 @@ module _ (store : Store) (listed : IsListed store) (o : ℕ) (first : slice_get 
   -- nothing of what is set apart is saved then
   pub apart_looked : IsApart store → IsApart looked
   apart_looked apart = record {
+    garbage = garbage-moved store o Cand Seen apart.garbage condemned.1 (λ e. cc);
     back = left Back (λ e. cc) ∙ ap (without_serial o) apart.back;
     candidates = still_unsaved store looked Cand (same_entries 1) (λ q m. apart.candidates q (Includes-without o (list_at store Cand) q (subst (λ l. Includes l q) (left Cand (λ e. cc)) m)).0);
     seen = still_unsaved store looked Seen (same_entries 1) (λ q m. either (Includes-append_cases (without_serial o (list_at store Seen)) (o ∷ []) q (subst (λ l. Includes l q) (moved_last store listed o condemned.0 Seen seen_place) m))
@@ -281,6 +283,7 @@ module _ (store : Store) (listed : IsListed store) (none : slice_get (list_at st
 
   pub apart_again : IsApart store → IsApartUnseen condemned_again
   apart_again apart = (record {
+    garbage = garbage-merged store Seen Cand refl apart.garbage;
     back = kept 4 (λ e. absurd (omega (arith, e))) (λ e. absurd (omega (arith, e))) ∙ apart.back;
     candidates = still_unsaved store condemned_again Cand same_entries_again (λ q m. either (Includes-append_cases (list_at store Cand) (list_at store Seen) q (subst (λ l. Includes l q) all_again m)) (λ k. apart.candidates q k) (λ k. apart.seen q k));
     seen = λ q m. absurd (subst (λ l. Includes l q) none_seen m);
