@@ -49,7 +49,7 @@ use Rattle.cg_collect.specs.Ready.{IsApartUnseen, HaveCallbacks}
 use Rattle.cg_collect.specs.Answers.{CollectSteps}
 use Rattle.cg_collect.specs.Turns.{collection_at}
 use Rattle.cg_collect.proofs.Standing.{entries_on}
-use Rattle.cg_collect.proofs.Moving.{moved_same, moved_from, value_lives}
+use Rattle.cg_collect.proofs.Moving.{moved_same, moved_not, moved_from, value_lives}
 use Rattle.cg_collect.proofs.Worlds.{steps_at, with_same_rows, pending_is, represents_on, represents_same, represents_giving_up}
 use Rattle.cg_collect.proofs.Looking.{still_unsaved}
 
@@ -84,8 +84,9 @@ module _ (store : Store) (listed : IsListed store) (o : ℕ) (live : IsLive stor
   left : (p : Place) → p ≢ q → (s : ℕ) → Includes (list_at away p) s → Includes (list_at store p) s
   left p differs s m = (Includes-without o (list_at store p) s (subst (λ l. Includes l s) (moved_from store listed o live q place p differs) m)).0
 
-  pub apart_away : Cand ≢ q → Seen ≢ q → Back ≢ q → Legacy ≢ q → IsApartUnseen store → IsApartUnseen away
-  apart_away not_cand not_seen not_back not_legacy apart = (record {
+  pub apart_away : 1 ≢ o → Cand ≢ q → Seen ≢ q → Back ≢ q → Legacy ≢ q → IsApartUnseen store → IsApartUnseen away
+  apart_away other not_cand not_seen not_back not_legacy apart = (record {
+    garbage = moved_not store listed o live q place 1 other ∙ apart.0.garbage;
     back = moved_from store listed o live q place Back not_back ∙ ap (without_serial o) apart.0.back;
     candidates = still_unsaved store away Cand (same_entries 1) (λ s m. apart.0.candidates s (left Cand not_cand s m));
     seen = still_unsaved store away Seen (same_entries 1) (λ s m. apart.0.seen s (left Seen not_seen s m));

@@ -13,6 +13,7 @@ use Rattle.cg_collect.specs.Answers.{CollectSteps}
 use Rattle.cg_trial.proofs.Placed.{where_is}
 use Rattle.cg_trial.proofs.Lists.{length-without}
 use Rattle.cg_death.proofs.RowSplits.{head_in}
+use Rattle.cg_collect.proofs.Garbage.{not_garbage}
 use Rattle.cg_collect.proofs.Moving.{moved_from}
 use Rattle.cg_collect.proofs.Worlds.{turn_steps}
 use Rattle.cg_collect.proofs.Pending.{turn-died, turn-aged, older_place, apart_away, callbacks_away}
@@ -44,11 +45,12 @@ returns-clause-steps g c = λ script policy.
 pub returns-clause-ready : goal.returns-clause-ready
 returns-clause-ready g c =
     let ready = waits_first c.args.heap.now c.args.facts.generation c.args.weak c.args.died c.if-died.false c.requires.ready in
-    let live = (where_is c.args.heap.now c.sound.ensures.listed Pend c.args.weak (head_in (list_at c.args.heap.now Pend) c.args.weak ready.2)).0 in
+    let there = where_is c.args.heap.now c.sound.ensures.listed Pend c.args.weak (head_in (list_at c.args.heap.now Pend) c.args.weak ready.2) in
+    let live = there.0 in
     let place = older_place c.args.facts.generation c.requires.generation in
     subst (λ (turn : Turn). StaysReady c.move_to.new.self c.args.facts.generation turn.phase turn.answer) (sym c.to.ensures)
     (subst (λ (now : Store). IsApartUnseen now × HaveCallbacks now) (sym (c.move_to.ensures ∙ ap (λ k. moved c.args.weak (Gen k) c.args.heap.now) c.older.ensures))
-    (apart_away c.args.heap.now c.sound.ensures.listed c.args.weak live (Gen (older c.args.facts.generation)) place (λ e. cc) (λ e. cc) (λ e. cc) (λ e. cc) ready.0,
+    (apart_away c.args.heap.now c.sound.ensures.listed c.args.weak live (Gen (older c.args.facts.generation)) place (not_garbage c.args.heap.now c.args.weak Pend ready.0.0.garbage there.1 (λ e. cc)) (λ e. cc) (λ e. cc) (λ e. cc) (λ e. cc) ready.0,
       callbacks_away c.args.heap.now c.sound.ensures.listed c.args.weak live (Gen (older c.args.facts.generation)) place (λ e. cc) ready.1))
 
 -- one that leaves makes the list no longer
