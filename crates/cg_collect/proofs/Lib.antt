@@ -5,3 +5,7 @@ pub mod Garbage
 pub mod Worlds
 pub mod Looking
 pub mod Pending
+pub mod RowWalks
+pub mod Walking
+pub mod Losing
+pub mod WalkTurns
