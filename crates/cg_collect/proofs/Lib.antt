@@ -4,3 +4,7 @@ pub mod Aside
 pub mod Untracked
 pub mod Worlds
 pub mod Looking
+pub mod Merging
+pub mod Telling
+pub mod Traces
+pub mod Sorts
