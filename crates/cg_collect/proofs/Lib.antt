@@ -8,3 +8,5 @@ pub mod Merging
 pub mod Telling
 pub mod Traces
 pub mod Sorts
+pub mod Garbage
+pub mod Pending

@@ -104,9 +104,13 @@ lines_left script asked c (phase_of.Stopping number) store = stop_lines asked c 
 lines_left script asked c (phase_of.Over number) store = answer_lines asked (c.collected + number)
 lines_left script asked c phase store = []
 
+-- whether a row has one of these as referent, and does not wait
+abbrev pub refers_to_any : List ℕ → Row → Bool
+refers_to_any members r = includes members r.referent && not r.waits
+
 -- weak references to members of the final set have lost them
 abbrev pub without_rows_to : List ℕ → Store → Store
-without_rows_to members store = record store { rows = filter (λ r. not (includes members r.referent)) store.rows }
+without_rows_to members store = record store { rows = filter (λ r. not (refers_to_any members r)) store.rows }
 
 -- The heap once these lines are told: weak references to the final set lose it one by one, as their lines are told.
 abbrev pub store_after : Phase → Store → Store

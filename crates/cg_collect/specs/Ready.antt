@@ -37,8 +37,9 @@ HaveCallbacks store = (w : ℕ) → Includes (list_at store Pend) w → HasCode 
 abbrev pub IsUnsaved : Store → Place → Type 0
 IsUnsaved store p = (o : ℕ) → Includes (list_at store p) o → ¬ Includes (references (entries_of store 1)) o
 
--- The garbage list names nothing that is set apart, and nothing stands between the two detections.
+-- The garbage list is untracked and names nothing that is set apart, and nothing stands between the two detections.
 pub record IsApart (store : Store) : Type 0 where
+  pub garbage : place_of store 1 ≡ Untracked
   pub back : IsEmptyAt store Back
   pub candidates : IsUnsaved store Cand
   pub seen : IsUnsaved store Seen
@@ -80,6 +81,10 @@ abbrev pub HasNoneNewer : Store → Option ℕ → Type 0
 HasNoneNewer store weak = (v : ℕ) → weak ≡ Some v → (x : Object) → Includes (objects_of store) x → loses_in_weak_phase (objects_of store) x ≡ true
     → x.referent ≡ referent_in store.rows v → x.serial ≤ v
 
+-- The candidates that come before the next of a walk have no weak references.
+abbrev pub HasNoneBehind : Store → Option ℕ → Type 0
+HasNoneBehind store next = (o : ℕ) → Includes (list_at store Cand) o → Includes (from_on next (list_at store Cand)) o ⊎ (weak_references_in store.rows o ≡ [])
+
 -- what a walk of the weak phase has
 pub record IsWalk (store : Store) (member weak : Option ℕ) : Type 0 where
   pub member_at : IsAt member (list_at store Cand)
@@ -102,7 +107,7 @@ IsReadyAt store g phase_of.Finalizing = IsApart store
 IsReadyAt store g (phase_of.AfterFinalizing o) = IsApart store
 IsReadyAt store g phase_of.Split = IsApartUnseen store
 IsReadyAt store g (phase_of.Living next) = IsApartUnseen store × IsAt next (list_at store (Gen (older g)))
-IsReadyAt store g (phase_of.Detaching next) = IsApartUnseen store × IsAt next (list_at store Cand)
+IsReadyAt store g (phase_of.Detaching next) = IsApartUnseen store × IsAt next (list_at store Cand) × HasNoneBehind store next
 IsReadyAt store g phase_of.Turns = IsApartUnseen store
 IsReadyAt store g (phase_of.Turn o) = IsApartUnseen store × (place_of store o ≡ Cand)
 IsReadyAt store g (phase_of.AfterTurn o false) = IsApartUnseen store × (place_of store o ≡ Cand)

@@ -1,8 +1,8 @@
 -- The turns of the phases, and how a collection comes nearer to its end. (Ours.)
-use Rattle.std.specs.Prelude.{◌≡◌, ℕ, ◌+◌, ◌*◌, ◌<◌, ◌⊎◌, Bool, true, false, List, length, Option, Some, None, sum_by}
+use Rattle.std.specs.Prelude.{◌≡◌, ℕ, ◌+◌, ◌*◌, ◌<◌, ◌⊎◌, Bool, true, false, List, [], length, Option, Some, None, sum_by}
 use Rattle.cg_value.specs.declared.Place.TheVariants.{Cand, Pend}
 use Rattle.cg_script.specs.declared.Script.{Script}
-use Rattle.cg_graph.specs.Store.{Store, list_at, entries_of}
+use Rattle.cg_graph.specs.Store.{Store, list_at, entries_of, place_of}
 use Rattle.cg_policy.specs.Policy.{Policy}
 use Rattle.cg_death.specs.declared.release.Release.{Release}
 use Rattle.cg_death.specs.Activities.{references_left}
@@ -68,6 +68,11 @@ still_released (Some release) = length (references_left release) + 1
 abbrev pub still_cleared : Store → ℕ
 still_cleared store = sum_by (λ o. 16 + 4 * length (entries_of store o)) (list_at store Cand)
 
+-- the list in which the next of a walk stands
+abbrev pub list_around : Store → Option ℕ → List ℕ
+list_around store None = []
+list_around store (Some o) = list_at store (place_of store o)
+
 -- What is left in a pass, what is given up aside.
 abbrev pub left_in_pass : Phase → Store → ℕ
 left_in_pass (phase_of.WeakClearing member weak) store = length (from_on member (list_at store Cand)) * (length store.rows + 1) + length (to_look_at store weak)
@@ -81,7 +86,7 @@ left_in_pass phase_of.Turns store = still_cleared store + 9
 left_in_pass (phase_of.Turn o) store = still_cleared store + 8
 left_in_pass (phase_of.AfterTurn o false) store = still_cleared store + 1
 left_in_pass (phase_of.AfterTurn o true) store = still_cleared store + 10
-left_in_pass (phase_of.Saved next number) store = 0
+left_in_pass (phase_of.Saved next number) store = length (from_on next (list_around store next))
 left_in_pass phase store = 0
 
 -- A later pass is reached, or in the same one less is left.

@@ -34,7 +34,7 @@ pub fn end<B: Kind>(facts: Facts, heap: &mut Heap<B>, policy: &mut Policy, scrip
     save_legacy(facts, heap, script);
     heap.merge(Place::Legacy, Place::Gen(older(facts.generation)));
     policy.ended();
-    if facts.flags.contains(Flagset::UNCOLLECTABLE) {
+    if facts.flags.intersects(Flagset::UNCOLLECTABLE) {
         Turn::to(Phase::Uncollectable {
             first,
             next: first,
@@ -61,7 +61,7 @@ fn save_legacy<B: Kind>(facts: Facts, heap: &mut Heap<B>, script: &Script) {
 
 /// Whether an object that was set aside is saved: with SAVEALL, or with a legacy finalizer.
 fn is_saved<B: Kind>(facts: Facts, heap: &Heap<B>, script: &Script, object: u64) -> bool {
-    facts.flags.contains(Flagset::SAVEALL)
+    facts.flags.intersects(Flagset::SAVEALL)
         || finalizers_of(heap, script, object).legacy.is_some()
 }
 

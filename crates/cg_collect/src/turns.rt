@@ -38,7 +38,7 @@ pub fn take_turn<B: Kind>(facts: Facts, heap: &mut Heap<B>) -> Turn
 
 /// With SAVEALL it is saved. A tuple cannot be cleared. Another is held, to be emptied.
 fn begin_turn<B: Kind>(facts: Facts, heap: &mut Heap<B>, object: u64) -> Turn {
-    if facts.flags.contains(Flagset::SAVEALL) {
+    if facts.flags.intersects(Flagset::SAVEALL) {
         heap.save(object);
         heap.move_to(object, Place::Gen(older(facts.generation)));
         return Turn::tells(Event::GcSaved(object), Phase::Turns);
