@@ -3,6 +3,12 @@ pub mod Moving
 pub mod Aside
 pub mod Garbage
 pub mod Sums
-pub mod Turning
+pub mod Untracked
 pub mod Worlds
 pub mod Looking
+pub mod Turning
+pub mod Merging
+pub mod Telling
+pub mod Traces
+pub mod Sorts
+pub mod Pending

@@ -1,10 +1,18 @@
 //! The weak phase: weak references lose condemned objects, and the callbacks of those that are not condemned are called.
 //! (PEP 442; `weakref` manual.)
-ghost use Rattle.std.specs.Prelude.{◌≡◌, ◌<◌, ◌≤◌, ◌∷◌, [], ℕ, Some, None, true, false};
+ghost use Rattle.std.specs.Prelude.{◌≡◌, ◌≤◌, ◌∷◌, [], ℕ, Some, None, IsSome, true, false, slice_get, unwrap_or, option_map, option_and_then, if◌then◌else◌};
+ghost use Rattle.cg_value.specs.declared.Place.TheVariants as place_of;
 ghost use Rattle.cg_script.specs.declared.Script.{Script as AnyScript};
 ghost use Rattle.cg_policy.specs.Policy.{Policy as Standing};
-ghost use Rattle.cg_graph.specs.Store.{Store};
+ghost use Rattle.cg_graph.specs.Object.{object_at};
+ghost use Rattle.cg_graph.specs.Rows.{referent_in, weak_references_in};
+ghost use Rattle.cg_graph.specs.Store.{Store, IsLive, objects_of};
+ghost use Rattle.cg_graph.specs.Changes.{held, moved};
 ghost use Rattle.cg_heap.specs.Calls.{HasFewHolds};
+ghost use Rattle.cg_heap.specs.Weak.{cleared_weak};
+ghost use Rattle.cg_machine.specs.declared.event.FrameSort.TheVariants as sort_of;
+ghost use Rattle.cg_machine.specs.Weak.{callback_of};
+ghost use Rattle.cg_machine.specs.Collect.{is_condemned_in, loses_in_weak_phase, waits};
 ghost use Rattle.cg_collect.specs.declared.collection.Facts.{Facts as AnyFacts};
 ghost use Rattle.cg_collect.specs.declared.phase.Phase.TheVariants as phase_of;
 ghost use Rattle.cg_collect.specs.Ready.{IsReadyAt};
@@ -37,7 +45,15 @@ pub fn clear_one<B: Kind>(heap: &mut Heap<B>, member: Option<u64>, weak: Option<
 }
 
 /// A weak reference loses its referent, where one of the two is condemned.
-fn look_at<B: Kind>(heap: &mut Heap<B>, member: Option<u64>, weak: u64) -> Turn {
+fn look_at<B: Kind>(heap: &mut Heap<B>, member: Option<u64>, weak: u64) -> Turn
+    requires ready { IsReadyAt heap.old 0 (phase_of.WeakClearing member (Some weak)) }
+    requires few { HasFewHolds heap.old }
+    ensures steps { (script : AnyScript) (facts : AnyFacts) (policy : Standing) → TurnSteps script facts (phase_of.WeakClearing member (Some weak)) heap.old policy heap.new policy result }
+    ensures ready { (g : ℕ) → StaysReady heap.new g result.phase result.answer }
+    ensures falls { TurnFalls heap.old (phase_of.WeakClearing member (Some weak)) heap.new result }
+    ensures leaves { TurnLeaves heap.old (phase_of.WeakClearing member (Some weak)) heap.new result }
+{
+    heap.sound();
     let phase = Phase::WeakClearing {
         member,
         weak: heap.older_of(weak),
@@ -50,31 +66,55 @@ fn look_at<B: Kind>(heap: &mut Heap<B>, member: Option<u64>, weak: u64) -> Turn 
     }
 }
 
-/// Whether a weak reference with a referent, or its referent, is condemned.
-fn loses<B: Kind>(heap: &Heap<B>, weak: u64) -> bool {
-    is_condemned(heap, weak)
-        || match heap.referent_of(weak) {
-            Some(referent) => is_condemned(heap, referent),
-            None => false,
-        }
+/// Whether a weak reference has a referent, and one of the two is condemned.
+fn loses<B: Kind>(heap: &Heap<B>, weak: u64) -> bool
+    requires { IsLive heap.now weak }
+    ensures { result ≡ unwrap_or (option_map (loses_in_weak_phase (objects_of heap.now)) (object_at (objects_of heap.now) weak)) false }
+{
+    heap.sound();
+    match heap.referent_of(weak) {
+        Some(referent) => is_condemned(heap, referent) || is_condemned(heap, weak),
+        None => false,
+    }
 }
 
 /// Whether an object is condemned.
-fn is_condemned<B: Kind>(heap: &Heap<B>, object: u64) -> bool {
+fn is_condemned<B: Kind>(heap: &Heap<B>, object: u64) -> bool
+    requires { IsLive heap.now object }
+    ensures { result ≡ is_condemned_in (objects_of heap.now) object }
+{
     matches!(heap.place_of(object), Place::Cand | Place::Seen)
 }
 
 /// A weak reference loses its referent. One that is not condemned and has a callback waits, and is held.
-fn lose<B: Kind>(heap: &mut Heap<B>, weak: u64) {
+fn lose<B: Kind>(heap: &mut Heap<B>, weak: u64)
+    requires few { HasFewHolds heap.old }
+    requires live { IsLive heap.old weak }
+    requires refers { IsSome (referent_in heap.old.rows weak) }
+    ensures { heap.new ≡ (if waits (objects_of heap.old) weak
+        then moved weak place_of.Pend (held (weak ∷ []) (cleared_weak weak false heap.old)) else cleared_weak weak false heap.old) }
+{
+    let waits = waits(heap, weak);
     heap.clear_weak(weak, false);
-    if !is_condemned(heap, weak) && callback_of(heap, weak).is_some() {
+    if waits {
         heap.hold(weak);
         heap.move_to(weak, Place::Pend);
     }
 }
 
+/// Whether a weak reference that loses its referent waits for its callback.
+fn waits<B: Kind>(heap: &Heap<B>, weak: u64) -> bool
+    requires { IsLive heap.now weak }
+    ensures { result ≡ waits (objects_of heap.now) weak }
+{
+    !is_condemned(heap, weak) && callback_of(heap, weak).is_some()
+}
+
 /// The callback of a weak reference, if it has one.
-fn callback_of<B: Kind>(heap: &Heap<B>, weak: u64) -> Option<u64> {
+fn callback_of<B: Kind>(heap: &Heap<B>, weak: u64) -> Option<u64>
+    requires { IsLive heap.now weak }
+    ensures { result ≡ callback_of (objects_of heap.now) weak }
+{
     if heap.len(weak) == 0 {
         return None;
     }
@@ -86,7 +126,14 @@ fn callback_of<B: Kind>(heap: &Heap<B>, weak: u64) -> Option<u64> {
 
 /// The weak references to the next condemned object are looked at, or those to its referent; when all were, the callbacks
 /// follow.
-fn next_member<B: Kind>(heap: &mut Heap<B>, member: Option<u64>) -> Turn {
+fn next_member<B: Kind>(heap: &mut Heap<B>, member: Option<u64>) -> Turn
+    requires ready { IsReadyAt heap.old 0 (phase_of.WeakClearing member None) }
+    ensures steps { (script : AnyScript) (facts : AnyFacts) (policy : Standing) → TurnSteps script facts (phase_of.WeakClearing member None) heap.old policy heap.new policy result }
+    ensures ready { (g : ℕ) → StaysReady heap.new g result.phase result.answer }
+    ensures falls { TurnFalls heap.old (phase_of.WeakClearing member None) heap.new result }
+    ensures leaves { TurnLeaves heap.old (phase_of.WeakClearing member None) heap.new result }
+{
+    heap.sound();
     match member {
         Some(object) => Turn::to(Phase::WeakClearing {
             member: heap.next(object),
@@ -97,7 +144,11 @@ fn next_member<B: Kind>(heap: &mut Heap<B>, member: Option<u64>) -> Turn {
 }
 
 /// The newest weak reference to the referent of a condemned one, or to a condemned object.
-fn first_to_look_at<B: Kind>(heap: &Heap<B>, object: u64) -> Option<u64> {
+fn first_to_look_at<B: Kind>(heap: &Heap<B>, object: u64) -> Option<u64>
+    requires { IsLive heap.now object }
+    ensures { result ≡ slice_get (weak_references_in heap.now.rows (unwrap_or (referent_in heap.now.rows object) object)) 0 }
+{
+    heap.sound();
     match heap.referent_of(object) {
         Some(referent) => heap.newest_of(referent),
         None => heap.newest_of(object),
@@ -112,6 +163,7 @@ pub fn call_one<B: Kind>(heap: &mut Heap<B>) -> Turn
     ensures falls { TurnFalls heap.old phase_of.WeakCalling heap.new result }
     ensures leaves { TurnLeaves heap.old phase_of.WeakCalling heap.new result }
 {
+    heap.sound();
     match heap.first(Place::Pend) {
         Some(weak) => Turn::runs(callback_frame(heap, weak), Phase::AfterCallback(weak)),
         None => Turn::to(Phase::Finalizing),
@@ -119,7 +171,14 @@ pub fn call_one<B: Kind>(heap: &mut Heap<B>) -> Turn
 }
 
 /// The frame of the callback of a weak reference.
-fn callback_frame<B: Kind>(heap: &Heap<B>, weak: u64) -> FrameSpec {
+fn callback_frame<B: Kind>(heap: &Heap<B>, weak: u64) -> FrameSpec
+    requires live { IsLive heap.now weak }
+    requires callback { IsSome (callback_of (objects_of heap.now) weak) }
+    ensures { let f = unwrap_or (callback_of (objects_of heap.now) weak) 0 in result ≡ record {
+        sort = sort_of.Callback; proc = unwrap_or (option_and_then (λ x. x.class) (object_at (objects_of heap.now) f)) 0; subject = weak; func = Some f
+    } }
+{
+    heap.sound();
     let callback = callback_of(heap, weak).unwrap_or(0);
     FrameSpec {
         sort: FrameSort::Callback,
@@ -149,6 +208,7 @@ pub fn after_release<B: Kind>(facts: Facts, heap: &mut Heap<B>, weak: u64, died:
     ensures falls { TurnFalls heap.old (phase_of.AfterRelease weak died) heap.new result }
     ensures leaves { TurnLeaves heap.old (phase_of.AfterRelease weak died) heap.new result }
 {
+    heap.sound();
     if died {
         return Turn {
             phase: Phase::WeakCalling,
