@@ -7,6 +7,7 @@ pub mod Untracked
 pub mod Worlds
 pub mod Looking
 pub mod Turning
+pub mod Saved
 pub mod Merging
 pub mod Telling
 pub mod Traces
