@@ -175,7 +175,10 @@ fn callback_frame<B: Kind>(heap: &Heap<B>, weak: u64) -> FrameSpec
     requires live { IsLive heap.now weak }
     requires callback { IsSome (callback_of (objects_of heap.now) weak) }
     ensures { let f = unwrap_or (callback_of (objects_of heap.now) weak) 0 in result ≡ record {
-        sort = sort_of.Callback; proc = unwrap_or (option_and_then (λ x. x.class) (object_at (objects_of heap.now) f)) 0; subject = weak; func = Some f
+      sort = sort_of.Callback;
+      proc = unwrap_or (option_and_then (λ x. x.class) (object_at (objects_of heap.now) f)) 0;
+      subject = weak;
+      func = Some f;
     } }
 {
     heap.sound();
