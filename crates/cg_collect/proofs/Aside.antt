@@ -193,7 +193,7 @@ closing_done old now cursor listed so is = record {
 }
 
 -- whether a class has a legacy finalizer does not depend on places
-legacy_alike : (script : Script) (old new : Store) → IsSameButPlaces old new → (o : ℕ) → has_legacy_in script new o ≡ has_legacy_in script old o
+pub legacy_alike : (script : Script) (old new : Store) → IsSameButPlaces old new → (o : ℕ) → has_legacy_in script new o ≡ has_legacy_in script old o
 legacy_alike script old new same o =
     ap (λ x. is_some (option_and_then (legacy_of script) x)) (object-at new o)
     ∙ known (fin.get old.nodes o) (fin.get new.nodes o) (same.nodes o)

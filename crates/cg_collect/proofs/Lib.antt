@@ -2,8 +2,17 @@ pub mod Standing
 pub mod Moving
 pub mod Aside
 pub mod Garbage
+pub mod Sums
+pub mod Untracked
 pub mod Worlds
 pub mod Looking
+pub mod Turning
+pub mod Saved
+pub mod Merging
+pub mod Telling
+pub mod Stopping
+pub mod Traces
+pub mod Sorts
 pub mod Pending
 pub mod RowWalks
 pub mod Walking

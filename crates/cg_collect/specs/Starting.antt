@@ -1,9 +1,9 @@
 -- What the parts of the start leave: who is untracked, and who is set aside. (Developer guide, "optimization: delay tracking
 -- containers"; `gc` manual, `gc.garbage`.)
-use Rattle.std.specs.Prelude.{◌≡◌, ◌≢◌, ℕ, ◌+◌, Bool, true, false, ◌⊎◌, List, ◌++◌, length, option_and_then, is_some}
+use Rattle.std.specs.Prelude.{◌≡◌, ◌≢◌, ℕ, ◌+◌, Bool, true, false, ◌⊎◌, List, ◌++◌, length, Option, None, slice_get, option_and_then, is_some, if◌then◌else◌}
 use Rattle.std.specs.List.{list_any}
 use Rattle.std.specs.FinMap as fin
-use Rattle.cg_value.specs.declared.Place.TheVariants.{Untracked, Gen, Cand, Legacy}
+use Rattle.cg_value.specs.declared.Place.TheVariants.{Untracked, Gen, Frozen, Cand, Legacy}
 use Rattle.cg_value.specs.declared.KindCode.{KindCode}
 use Rattle.cg_value.specs.declared.KindCode.TheVariants.{Tuple, Dict}
 use Rattle.cg_script.specs.declared.Script.{Script}
@@ -15,9 +15,27 @@ use Rattle.cg_graph.specs.Reachable.{graph_at, StandsAt}
 use Rattle.cg_graph.specs.Store.{Store, HasCode, list_at, objects_of, entries_of, place_of}
 use Rattle.cg_graph.specs.Changes.{moved}
 use Rattle.cg_machine.specs.Program.{legacy_of}
-use Rattle.cg_machine.specs.Collect.{merged_place, older}
+use Rattle.cg_machine.specs.Collect.{merged_place, older, has_flag, collectable}
 use Rattle.cg_heap.specs.Calls.{node_may_be_tracked}
 use Rattle.cg_trial.specs.Split.{IsSameButPlaces}
+use Rattle.cg_collect.specs.declared.phase.Phase.{Phase}
+use Rattle.cg_collect.specs.declared.phase.Phase.TheVariants as phase_of
+
+-- What is told after the start: the sizes that the generations had,
+abbrev pub told_sizes : Store → Phase
+told_sizes store = phase_of.Sizes (length (list_at store (Gen 0))) (length (list_at store (Gen 1))) (length (list_at store (Gen 2))) (length (list_at store Frozen))
+
+-- nothing, since the weak phase follows,
+abbrev pub told_weak : Store → Phase
+told_weak store = phase_of.WeakClearing (slice_get (list_at store Cand) 0) None
+
+-- or first each condemned object
+abbrev pub told_if : Bool → Store → Phase
+told_if b store = if b then phase_of.Telling (slice_get (list_at store Cand) 0) else told_weak store
+
+-- as the flags say
+abbrev pub told_after_sizes : ℕ → Store → Phase
+told_after_sizes flags store = told_if (has_flag flags collectable) store
 
 -- an object stands where it stood
 abbrev pub StaysAt : Store → Store → ℕ → Type 0

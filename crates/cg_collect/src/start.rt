@@ -1,12 +1,15 @@
 //! All before the weak phase: trial subtraction, what survivors become, and what is set aside.
-ghost use Rattle.std.specs.Prelude.{◌≡◌, ◌<◌, ◌≤◌, ◌∷◌, [], ℕ, Some, None, true, false};
+ghost use Rattle.std.specs.Prelude.{◌≡◌, ◌<◌, ◌≤◌, ◌∷◌, [], ℕ, Some, None, true, false, unwrap_or, if◌then◌else◌};
 ghost use Rattle.cg_script.specs.declared.Script.{Script as AnyScript};
+ghost use Rattle.cg_machine.specs.Collect.{has_flag, stats};
 ghost use Rattle.cg_policy.specs.Policy.{Policy as Standing};
+ghost use Rattle.cg_policy.specs.Flagset.{bits_of};
 ghost use Rattle.cg_heap.specs.Calls.{HasFewHolds};
 ghost use Rattle.cg_collect.specs.Numbers.{IsBelow62};
 ghost use Rattle.cg_collect.specs.declared.collection.Facts.{Facts as AnyFacts};
 ghost use Rattle.cg_collect.specs.declared.phase.Phase.TheVariants as phase_of;
 ghost use Rattle.cg_collect.specs.Ready.{IsReadyAt};
+ghost use Rattle.cg_collect.specs.Starting.{MergesYounger, GetOlder, told_sizes, told_weak, told_after_sizes};
 ghost use Rattle.cg_collect.specs.Turns.{TurnSteps, TurnFalls, TurnLeaves, StaysReady};
 
 use crate::answer::CollectStep;
@@ -42,14 +45,19 @@ pub fn start<B: Kind, L: Ledger>(
     ensures falls { TurnFalls heap.old phase_of.Start heap.new result }
     ensures leaves { TurnLeaves heap.old phase_of.Start heap.new result }
 {
+    heap.sound();
     let next = first_phase(facts, heap);
     merge_younger(facts.generation, heap);
+    heap.sound();
     split(heap, Place::Gen(facts.generation), steps);
     untrack(heap, facts.generation);
+    heap.sound();
     let survivors = heap.size(Place::Gen(facts.generation));
     policy.survived(facts.generation, survivors);
     get_older(facts.generation, heap);
+    heap.sound();
     set_legacy_aside(heap, script);
+    heap.sound();
     Turn::tells(
         Event::GcStart(facts.generation),
         told_first(facts, heap, next),
@@ -57,7 +65,9 @@ pub fn start<B: Kind, L: Ledger>(
 }
 
 /// With STATS the sizes of the generations, before they are merged.
-fn first_phase<B: Kind>(facts: Facts, heap: &Heap<B>) -> Option<Phase> {
+fn first_phase<B: Kind>(facts: Facts, heap: &Heap<B>) -> Option<Phase>
+    ensures { result ≡ (if has_flag (bits_of facts.flags) stats then Some (told_sizes heap.now) else None) }
+{
     if facts.flags.contains(Flagset::STATS) {
         Some(Phase::Sizes {
             zero: heap.size(Place::Gen(0)),
@@ -71,7 +81,9 @@ fn first_phase<B: Kind>(facts: Facts, heap: &Heap<B>) -> Option<Phase> {
 }
 
 /// What is told first.
-fn told_first<B: Kind>(facts: Facts, heap: &Heap<B>, sizes: Option<Phase>) -> Phase {
+fn told_first<B: Kind>(facts: Facts, heap: &Heap<B>, sizes: Option<Phase>) -> Phase
+    ensures { result ≡ unwrap_or sizes (told_after_sizes (bits_of facts.flags) heap.now) }
+{
     match sizes {
         Some(phase) => phase,
         None => after_sizes(facts, heap),
@@ -79,7 +91,9 @@ fn told_first<B: Kind>(facts: Facts, heap: &Heap<B>, sizes: Option<Phase>) -> Ph
 }
 
 /// With COLLECTABLE the condemned objects are told, before weak references lose them.
-fn after_sizes<B: Kind>(facts: Facts, heap: &Heap<B>) -> Phase {
+fn after_sizes<B: Kind>(facts: Facts, heap: &Heap<B>) -> Phase
+    ensures { result ≡ told_after_sizes (bits_of facts.flags) heap.now }
+{
     if facts.flags.contains(Flagset::COLLECTABLE) {
         Phase::Telling(heap.first(Place::Cand))
     } else {
@@ -88,7 +102,9 @@ fn after_sizes<B: Kind>(facts: Facts, heap: &Heap<B>) -> Phase {
 }
 
 /// The weak phase, from the first condemned object on.
-fn weak_phase<B: Kind>(heap: &Heap<B>) -> Phase {
+fn weak_phase<B: Kind>(heap: &Heap<B>) -> Phase
+    ensures { result ≡ told_weak heap.now }
+{
     Phase::WeakClearing {
         member: heap.first(Place::Cand),
         weak: None,
@@ -96,7 +112,10 @@ fn weak_phase<B: Kind>(heap: &Heap<B>) -> Phase {
 }
 
 /// The generations below this one are merged into it.
-fn merge_younger<B: Kind>(generation: u8, heap: &mut Heap<B>) {
+fn merge_younger<B: Kind>(generation: u8, heap: &mut Heap<B>)
+    requires { generation ≤ 2 }
+    ensures { MergesYounger generation heap.old heap.new }
+{
     match generation {
         0 => {}
         1 => heap.merge(Place::Gen(0), Place::Gen(1)),
@@ -108,7 +127,10 @@ fn merge_younger<B: Kind>(generation: u8, heap: &mut Heap<B>) {
 }
 
 /// The survivors that are still tracked go to the older generation.
-fn get_older<B: Kind>(generation: u8, heap: &mut Heap<B>) {
+fn get_older<B: Kind>(generation: u8, heap: &mut Heap<B>)
+    requires { generation ≤ 2 }
+    ensures { GetOlder generation heap.old heap.new }
+{
     if generation < 2 {
         heap.merge(Place::Gen(generation), Place::Gen(older(generation)));
     }
@@ -130,6 +152,7 @@ pub fn tell_sizes<B: Kind>(
     ensures falls { TurnFalls heap.now (phase_of.Sizes zero one two frozen) heap.now result }
     ensures leaves { TurnLeaves heap.now (phase_of.Sizes zero one two frozen) heap.now result }
 {
+    heap.sound();
     let event = Event::Gens {
         zero,
         one,
@@ -147,6 +170,7 @@ pub fn tell_condemned<B: Kind>(heap: &Heap<B>, next: Option<u64>) -> Turn
     ensures falls { TurnFalls heap.now (phase_of.Telling next) heap.now result }
     ensures leaves { TurnLeaves heap.now (phase_of.Telling next) heap.now result }
 {
+    heap.sound();
     match next {
         Some(object) => Turn::tells(
             Event::GcCollectable(object),
