@@ -18,3 +18,4 @@ pub mod RowWalks
 pub mod Walking
 pub mod Losing
 pub mod WalkTurns
+pub mod GivingUp
