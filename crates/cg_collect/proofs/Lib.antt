@@ -10,3 +10,5 @@ pub mod Traces
 pub mod Sorts
 pub mod Garbage
 pub mod Pending
+pub mod Apart
+pub mod Begins

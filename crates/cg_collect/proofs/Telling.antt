@@ -174,7 +174,7 @@ module _ (store : Store) (listed : IsListed store) (apart : IsApartUnseen store)
 pub turn_to : (turn : Turn) (told phase : Phase) (answer : CollectStep) → turn ≡ record { phase = told; release = None; collected = 0; answer = answer } → told ≡ phase → turn ≡ record { phase = phase; release = None; collected = 0; answer = answer }
 turn_to turn told phase answer is same = is ∙ ap (λ (p : Phase). record { phase = p; release = None; collected = 0; answer = answer }) same
 
-few_told : (n : ℕ) (b : Bool) (store : Store) → n ≡ 0 → HasFewCollected n (told_if b store) store
+pub few_told : (n : ℕ) (b : Bool) (store : Store) → n ≡ 0 → HasFewCollected n (told_if b store) store
 few_told n true store e = e
 few_told n false store e = e
 

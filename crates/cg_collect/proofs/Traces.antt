@@ -107,7 +107,7 @@ module _ (script : Script) (g : ℕ) (s0 s1 s2 s4 s5 s6 : Store) (t : Trace scri
   dict_or : (o : ℕ) → (place_of s4 o ≡ place_of s3 o) ⊎ ((place_of s3 o ≡ Gen g) × (place_of s4 o ≡ Untracked))
   dict_or o = either (dict_pass o) (λ s. inl s) (λ went. inr (went.1.stood ∙ ap Gen (sym went.0), went.1.stands))
 
-  both_or : (o : ℕ) → (place_of s4 o ≡ place_of s2 o) ⊎ ((place_of s2 o ≡ Gen g) × (place_of s4 o ≡ Untracked))
+  pub both_or : (o : ℕ) → (place_of s4 o ≡ place_of s2 o) ⊎ ((place_of s2 o ≡ Gen g) × (place_of s4 o ≡ Untracked))
   both_or o = go (tuple_or o) (dict_or o)
     where
       go : (place_of s3 o ≡ place_of s2 o) ⊎ ((place_of s2 o ≡ Gen g) × (place_of s3 o ≡ Untracked)) → (place_of s4 o ≡ place_of s3 o) ⊎ ((place_of s3 o ≡ Gen g) × (place_of s4 o ≡ Untracked))

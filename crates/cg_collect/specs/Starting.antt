@@ -37,6 +37,11 @@ told_if b store = if b then phase_of.Telling (slice_get (list_at store Cand) 0) 
 abbrev pub told_after_sizes : ℕ → Store → Phase
 told_after_sizes flags store = told_if (has_flag flags collectable) store
 
+-- and with STATS the sizes before these
+abbrev pub told_start : Bool → Bool → Store → Store → Phase
+told_start true b old store = told_sizes old
+told_start false b old store = told_if b store
+
 -- an object stands where it stood
 abbrev pub StaysAt : Store → Store → ℕ → Type 0
 StaysAt old new o = place_of new o ≡ place_of old o
