@@ -1,14 +1,16 @@
 pub mod Standing
 pub mod Moving
 pub mod Aside
+pub mod Garbage
+pub mod Sums
 pub mod Untracked
 pub mod Worlds
 pub mod Looking
+pub mod Turning
 pub mod Merging
 pub mod Telling
 pub mod Traces
 pub mod Sorts
-pub mod Garbage
 pub mod Pending
 pub mod Apart
 pub mod Begins

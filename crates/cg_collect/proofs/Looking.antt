@@ -169,25 +169,28 @@ module _ (store : Store) (listed : IsListed store) (o : ℕ) (first : slice_get 
       let same : objects_of store ≡ v.objects = s.shows.represents.objects in
       let some : option_and_then (finalizer_to_run script) (object_at v.objects o) ≡ Some p = ap (λ (os : List Object). option_and_then (finalizer_to_run script) (object_at os o)) (sym same) ∙ due in
       let marked_objects : objects_of ready ≡ change object_marked o (objects_of looked) = objects-changed looked o marked object_marked (λ s n. refl) in
-      let held_objects : objects_of (held (o ∷ []) ready) ≡ objects_of ready = objects-same ready (λ s n. more (occurrences s (o ∷ [])) n) (λ s n. refl) in
-      (refl, refl, record {
-        before = before;
-        goes = in_one script w (start_frame script spec before).0 (start_frame script spec before).1 s.running (inl (record {
-          object = o;
-          condemned = is_member w same;
-          yields = (λ i. (looks_at script c o below w (sym some i)).0, λ i. (looks_at script c o below w (sym some i)).1);
-        }));
-        shows = record {
-          represents = represents_on store (held (o ∷ []) ready) v below c d s.shows.represents s.alone objects
-              (held_objects ∙ marked_objects ∙ ap (change object_marked o) objects-looked ∙ change-change object_marked (object_placed Seen) (λ x. refl) o (objects_of store) ∙ ap (change (λ x. object_marked (object_placed Seen x)) o) same)
-              (with_same_rows store (held (o ∷ []) ready) refl refl refl) (none_pending (pending_is store store v below c c s.shows.represents s.alone))
-              (λ q. omega (arith, outside-moved o Seen store q, outside-with_node marked (λ n. refl) o looked q, outside-held (o ∷ []) ready q (λ h. subst (IsLive ready) (sym (only-one o q h)) ready_live)));
-          numbers = s.shows.numbers;
-          running = s.shows.running;
-          top = refl;
-        };
-        keeps = record { budget = refl; outcome = refl };
-      }))
+      let held_objects : objects_of (held (o ∷ []) ready) ≡ objects_of ready = objects-same ready (λ s n. more (occurrences s (o ∷ [])) n) (λ s n. refl) in (
+        refl,
+        refl,
+        record {
+          before = before;
+          goes = in_one script w (start_frame script spec before).0 (start_frame script spec before).1 s.running (inl (record {
+            object = o;
+            condemned = is_member w same;
+            yields = (λ i. (looks_at script c o below w (sym some i)).0, λ i. (looks_at script c o below w (sym some i)).1);
+          }));
+          shows = record {
+            represents = represents_on store (held (o ∷ []) ready) v below c d s.shows.represents s.alone objects
+                (held_objects ∙ marked_objects ∙ ap (change object_marked o) objects-looked ∙ change-change object_marked (object_placed Seen) (λ x. refl) o (objects_of store) ∙ ap (change (λ x. object_marked (object_placed Seen x)) o) same)
+                (with_same_rows store (held (o ∷ []) ready) refl refl refl) (none_pending (pending_is store store v below c c s.shows.represents s.alone))
+                (λ q. omega (arith, outside-moved o Seen store q, outside-with_node marked (λ n. refl) o looked q, outside-held (o ∷ []) ready q (λ h. subst (IsLive ready) (sym (only-one o q h)) ready_live)));
+            numbers = s.shows.numbers;
+            running = s.shows.running;
+            top = refl;
+          };
+          keeps = record { budget = refl; outcome = refl };
+        },
+      ))
 
   seen_place : IsPlace Seen
   seen_place = omega arith
@@ -282,13 +285,16 @@ module _ (store : Store) (listed : IsListed store) (none : slice_get (list_at st
               go false = refl
 
   pub apart_again : IsApart store → IsApartUnseen condemned_again
-  apart_again apart = (record {
-    garbage = garbage-merged store Seen Cand refl apart.garbage;
-    back = kept 4 (λ e. absurd (omega (arith, e))) (λ e. absurd (omega (arith, e))) ∙ apart.back;
-    candidates = still_unsaved store condemned_again Cand same_entries_again (λ q m. either (Includes-append_cases (list_at store Cand) (list_at store Seen) q (subst (λ l. Includes l q) all_again m)) (λ k. apart.candidates q k) (λ k. apart.seen q k));
-    seen = λ q m. absurd (subst (λ l. Includes l q) none_seen m);
-    legacy = still_unsaved store condemned_again Legacy same_entries_again (λ q m. apart.legacy q (subst (λ l. Includes l q) (kept 5 (λ e. absurd (omega (arith, e))) (λ e. absurd (omega (arith, e)))) m));
-  }, none_seen)
+  apart_again apart = (
+    record {
+      garbage = garbage-merged store Seen Cand refl apart.garbage;
+      back = kept 4 (λ e. absurd (omega (arith, e))) (λ e. absurd (omega (arith, e))) ∙ apart.back;
+      candidates = still_unsaved store condemned_again Cand same_entries_again (λ q m. either (Includes-append_cases (list_at store Cand) (list_at store Seen) q (subst (λ l. Includes l q) all_again m)) (λ k. apart.candidates q k) (λ k. apart.seen q k));
+      seen = λ q m. absurd (subst (λ l. Includes l q) none_seen m);
+      legacy = still_unsaved store condemned_again Legacy same_entries_again (λ q m. apart.legacy q (subst (λ l. Includes l q) (kept 5 (λ e. absurd (omega (arith, e))) (λ e. absurd (omega (arith, e)))) m));
+    },
+    none_seen,
+  )
     where
       same_entries_again : entries_of condemned_again 1 ≡ entries_of store 1
       same_entries_again = ap entries_in (get-mapped (λ s n. place_merged Seen Cand n) store.nodes 1) ∙ known (fin.get store.nodes 1)

@@ -20,12 +20,12 @@ use crate::phase::{Phase, Turn};
 use crate::start::{start, tell_condemned, tell_sizes};
 use crate::turns::{after_turn, empty_one, take_turn};
 use crate::weak::{after_callback, after_release, call_one, clear_one};
-use std::sync::ledger::Ledger;
 use cg_death::{DeathStep, Release};
 use cg_heap::{Heap, Steps};
 use cg_kind::Kind;
 use cg_policy::{Flagset, Policy};
 use cg_script::Script;
+use std::sync::ledger::Ledger;
 
 /// A collection of a generation, step by step. (Developer guide, "garbage collector design"; PEP 442.)
 ///

@@ -12,12 +12,12 @@ ghost use Rattle.cg_collect.specs.Turns.{TurnSteps, TurnFalls, TurnLeaves, Stays
 use crate::answer::CollectStep;
 use crate::collection::Facts;
 use crate::phase::{Phase, Turn, older};
-use std::sync::ledger::Ledger;
 use cg_heap::{Heap, Steps};
 use cg_kind::Kind;
 use cg_machine::Event;
 use cg_trial::split;
 use cg_value::Place;
+use std::sync::ledger::Ledger;
 
 /// Survivors go to the older generation; the rest is the final set, whose size is added to the collected number.
 pub fn detect<B: Kind, L: Ledger>(facts: Facts, heap: &mut Heap<B>, steps: &mut Steps<L>) -> Turn

@@ -11,11 +11,11 @@ ghost use Rattle.cg_collect.specs.Turns.{TurnSteps, TurnFalls, TurnLeaves, Stays
 
 use crate::collection::Facts;
 use crate::phase::{Phase, Turn, older};
+use bitflags::Flags;
 use cg_death::finalizers_of;
 use cg_heap::Heap;
 use cg_kind::Kind;
 use cg_machine::Event;
-use bitflags::Flags;
 use cg_policy::{Flagset, Policy};
 use cg_script::Script;
 use cg_value::Place;
@@ -61,8 +61,7 @@ fn save_legacy<B: Kind>(facts: Facts, heap: &mut Heap<B>, script: &Script) {
 
 /// Whether an object that was set aside is saved: with SAVEALL, or with a legacy finalizer.
 fn is_saved<B: Kind>(facts: Facts, heap: &Heap<B>, script: &Script, object: u64) -> bool {
-    facts.flags.intersects(Flagset::SAVEALL)
-        || finalizers_of(heap, script, object).legacy.is_some()
+    facts.flags.intersects(Flagset::SAVEALL) || finalizers_of(heap, script, object).legacy.is_some()
 }
 
 /// Tells the next object that was set aside; then those that were saved are told.

@@ -81,8 +81,10 @@ fn run<B: Kind>(heap: &mut Heap<B>, object: u64, proc: u32) -> Turn
     requires few { HasFewHolds heap.old }
     ensures heap { heap.new ≡ held (object ∷ []) (with_node marked object (moved object place_of.Seen heap.old)) }
     ensures turn { result ≡ record {
-        phase = phase_of.AfterFinalizing object; release = None; collected = 0;
-        answer = answer_of.Frame (record { sort = sort_of.Del; proc = proc; subject = object; func = None })
+      phase = phase_of.AfterFinalizing object;
+      release = None;
+      collected = 0;
+      answer = answer_of.Frame (record { sort = sort_of.Del; proc = proc; subject = object; func = None });
     } }
 {
     heap.move_to(object, Place::Seen);

@@ -38,7 +38,10 @@ pub enum Phase {
     /// The frame of a callback runs or has ended; the weak reference is held.
     AfterCallback(u64),
     /// The weak reference is given up, and whether it died of that.
-    AfterRelease { weak: u64, died: bool },
+    AfterRelease {
+        weak: u64,
+        died: bool,
+    },
     /// Condemned objects are looked at for their finalizers.
     Finalizing,
     /// The frame of a finalizer runs or has ended; the object is held.
@@ -54,7 +57,10 @@ pub enum Phase {
     /// The entries of a member are taken out; it is held.
     Turn(u64),
     /// The member is given up, and whether it died of that.
-    AfterTurn { object: u64, died: bool },
+    AfterTurn {
+        object: u64,
+        died: bool,
+    },
     /// What was set aside is to be told and saved.
     Ending,
     /// What was set aside, `number` objects from `first` on, is to be told, from `next` on.
@@ -64,7 +70,10 @@ pub enum Phase {
         number: u64,
     },
     /// What was saved of it is to be told, from `next` on.
-    Saved { next: Option<u64>, number: u64 },
+    Saved {
+        next: Option<u64>,
+        number: u64,
+    },
     /// Its end is to be told, with the number of objects that were set aside.
     Stopping(u64),
     /// It has ended, with that number.

@@ -1,9 +1,10 @@
 //! The clearing: each member of the final set has a turn. (Developer guide, "destroying unreachable objects". That it is
 //! emptied entry by entry is ours.)
-ghost use Rattle.std.specs.Prelude.{◌≡◌, ◌<◌, ◌≤◌, ◌∷◌, [], ℕ, Some, None, true, false};
+ghost use Rattle.std.specs.Prelude.{◌≡◌, ◌<◌, ◌≤◌, ℕ, Some, slice_get};
+ghost use Rattle.cg_value.specs.declared.Place.TheVariants as place_of;
 ghost use Rattle.cg_script.specs.declared.Script.{Script as AnyScript};
 ghost use Rattle.cg_policy.specs.Policy.{Policy as Standing};
-ghost use Rattle.cg_graph.specs.Store.{outside_of};
+ghost use Rattle.cg_graph.specs.Store.{outside_of, list_at};
 ghost use Rattle.cg_heap.specs.Calls.{HasFewHolds};
 ghost use Rattle.cg_collect.specs.declared.collection.Facts.{Facts as AnyFacts};
 ghost use Rattle.cg_collect.specs.declared.phase.Phase.TheVariants as phase_of;
@@ -12,11 +13,11 @@ ghost use Rattle.cg_collect.specs.Turns.{TurnSteps, TurnFalls, TurnLeaves, Stays
 
 use crate::collection::Facts;
 use crate::phase::{Phase, Turn, older, release_of};
+use bitflags::Flags;
 use cg_death::Release;
 use cg_heap::Heap;
 use cg_kind::Kind;
 use cg_machine::Event;
-use bitflags::Flags;
 use cg_policy::Flagset;
 use cg_value::{KindCode, Place};
 
@@ -30,6 +31,7 @@ pub fn take_turn<B: Kind>(facts: Facts, heap: &mut Heap<B>) -> Turn
     ensures falls { TurnFalls heap.old phase_of.Turns heap.new result }
     ensures leaves { TurnLeaves heap.old phase_of.Turns heap.new result }
 {
+    heap.sound();
     match heap.first(Place::Cand) {
         Some(object) => begin_turn(facts, heap, object),
         None => Turn::to(Phase::Ending),
@@ -37,9 +39,20 @@ pub fn take_turn<B: Kind>(facts: Facts, heap: &mut Heap<B>) -> Turn
 }
 
 /// With SAVEALL it is saved. A tuple cannot be cleared. Another is held, to be emptied.
-fn begin_turn<B: Kind>(facts: Facts, heap: &mut Heap<B>, object: u64) -> Turn {
+fn begin_turn<B: Kind>(facts: Facts, heap: &mut Heap<B>, object: u64) -> Turn
+    requires generation { facts.generation ≤ 2 }
+    requires ready { IsReadyAt heap.old facts.generation phase_of.Turns }
+    requires few { HasFewHolds heap.old }
+    requires first { slice_get (list_at heap.old place_of.Cand) 0 ≡ Some object }
+    ensures steps { (script : AnyScript) (policy : Standing) → TurnSteps script facts phase_of.Turns heap.old policy heap.new policy result }
+    ensures ready { StaysReady heap.new facts.generation result.phase result.answer }
+    ensures falls { TurnFalls heap.old phase_of.Turns heap.new result }
+    ensures leaves { TurnLeaves heap.old phase_of.Turns heap.new result }
+{
+    heap.sound();
     if facts.flags.intersects(Flagset::SAVEALL) {
         heap.save(object);
+        heap.sound();
         heap.move_to(object, Place::Gen(older(facts.generation)));
         return Turn::tells(Event::GcSaved(object), Phase::Turns);
     }
@@ -65,6 +78,7 @@ pub fn empty_one<B: Kind>(heap: &mut Heap<B>, object: u64) -> Turn
     ensures falls { TurnFalls heap.old (phase_of.Turn object) heap.new result }
     ensures leaves { TurnLeaves heap.old (phase_of.Turn object) heap.new result }
 {
+    heap.sound();
     match heap.detach(object) {
         Some(entry) => Turn::gives_up(Release::new(entry), Phase::Turn(object)),
         None => Turn::gives_up(
@@ -86,8 +100,10 @@ pub fn after_turn<B: Kind>(facts: Facts, heap: &mut Heap<B>, object: u64, died: 
     ensures falls { TurnFalls heap.old (phase_of.AfterTurn object died) heap.new result }
     ensures leaves { TurnLeaves heap.old (phase_of.AfterTurn object died) heap.new result }
 {
-    if !died {
-        heap.move_to(object, Place::Gen(older(facts.generation)));
+    if died {
+        return Turn::to(Phase::Turns);
     }
+    heap.sound();
+    heap.move_to(object, Place::Gen(older(facts.generation)));
     Turn::to(Phase::Turns)
 }

@@ -165,10 +165,7 @@ pub fn call_one<B: Kind>(heap: &mut Heap<B>) -> Turn
 {
     heap.sound();
     match heap.first(Place::Pend) {
-        Some(weak) => Turn::runs(
-            callback_frame(heap, weak),
-            Phase::AfterCallback(weak),
-        ),
+        Some(weak) => Turn::runs(callback_frame(heap, weak), Phase::AfterCallback(weak)),
         None => Turn::to(Phase::Finalizing),
     }
 }
@@ -199,10 +196,7 @@ pub fn after_callback(weak: u64) -> Turn
     ensures falls { (store : Store) → TurnFalls store (phase_of.AfterCallback weak) store result }
     ensures leaves { (store : Store) → TurnLeaves store (phase_of.AfterCallback weak) store result }
 {
-    Turn::gives_up(
-        release_of(weak),
-        Phase::AfterRelease { weak, died: false },
-    )
+    Turn::gives_up(release_of(weak), Phase::AfterRelease { weak, died: false })
 }
 
 /// One that died when it was given up is counted as collected; another gets older.
