@@ -1,6 +1,6 @@
 -- What the start leaves of the heap: who was unreachable is set apart, and the garbage list names none of it.
-use Rattle.std.proofs.Common.{◌≡◌, ◌≢◌, refl, sym, ◌∙◌, ap, subst, ℕ, suc, ◌+◌, ◌-◌, ◌<◌, ◌≤◌, ◌⊎◌, inl, inr, Bool, true, false, cond, List, [], ◌∷◌, ◌++◌, length, map, Option, Some, None, IsSome, arith}
-use Rattle.std.specs.Prelude.{◌==◌, if◌then◌else◌, nat_le, filter, sum_by}
+use Rattle.std.proofs.Common.{◌≡◌, ◌≢◌, refl, sym, ◌∙◌, ap, subst, ℕ, suc, ◌+◌, ◌<◌, ◌≤◌, ◌⊎◌, inl, inr, Bool, true, false, cond, List, [], ◌∷◌, ◌++◌, length, map, Option, Some, None, arith}
+use Rattle.std.specs.Prelude.{if◌then◌else◌, nat_le, filter, sum_by}
 use Rattle.std.specs.FinMap as fin
 use Rattle.std.proofs.lemmas.Bool.{cases_eq}
 use Rattle.std.proofs.lemmas.List.Sums.{sum_by-cons}
@@ -8,25 +8,23 @@ use Rattle.cg_value.specs.declared.KindCode.TheVariants.{Tuple}
 use Rattle.cg_value.specs.declared.Place.{Place}
 use Rattle.cg_value.specs.declared.Place.TheVariants.{Untracked, Gen, Frozen, Cand, Seen, Back, Legacy, Pend}
 use Rattle.cg_script.specs.declared.Script.{Script}
-use Rattle.cg_graph.specs.Maps.{total}
 use Rattle.cg_graph.specs.Member.{Includes}
 use Rattle.cg_graph.specs.Value.{references}
-use Rattle.cg_graph.specs.Object.{Object, is_at, objects_at, serials, serials_at}
+use Rattle.cg_graph.specs.Object.{Object, is_at, serials}
 use Rattle.cg_graph.specs.Holdings.{occurrences, entry_holdings, graph_of, name_holdings}
 use Rattle.cg_graph.specs.Reach.{first}
-use Rattle.cg_graph.specs.Reachable.{IsUnreachable, IsHeldFromOutside, graph_at}
-use Rattle.cg_graph.specs.Store.{Store, Node, objects_of, object_from, list_at, place_of, place_in, entries_of, entries_in, inner, count_of, IsLive}
+use Rattle.cg_graph.specs.Reachable.{IsUnreachable, IsHeldFromOutside}
+use Rattle.cg_graph.specs.Store.{Store, Node, objects_of, object_from, list_at, place_of, place_in, entries_of, entries_in}
 use Rattle.cg_graph.proofs.Members.{either}
 use Rattle.cg_graph.proofs.Objects.{inner-holdings, occurrences-append}
 use Rattle.cg_machine.specs.Collect.{older, merged_place}
 use Rattle.cg_heap.specs.Keeps.{one}
 use Rattle.cg_heap.specs.Calls.{IsListed, object_number}
-use Rattle.cg_trial.specs.Split.{IsSameButPlaces}
 use Rattle.cg_trial.proofs.Lists.{occurs}
 use Rattle.cg_trial.proofs.Placed.{where_is}
-use Rattle.cg_collect.specs.Ready.{IsClear, IsApart, IsApartUnseen, IsUnsaved, IsEmptyAt}
+use Rattle.cg_collect.specs.Ready.{IsClear, IsApartUnseen, IsUnsaved, IsEmptyAt}
 use Rattle.cg_collect.specs.Starting.{StaysAt, MergesYounger, UntracksSurvivors, WasUntracked, GetOlder}
-use Rattle.cg_collect.proofs.Standing.{node_of_live, object_there, place_there, place_is, place_differs, list_length, empty_at, nobody_at, live_on, live_back, lives_at, entries_on}
+use Rattle.cg_collect.proofs.Standing.{object_there, place_differs, list_length, empty_at, nobody_at, lives_at, entries_on}
 use Rattle.cg_collect.proofs.Traces.{Trace, SplitsOff, at_or_not, same16, both_or, last_step, last_older, candidate_last, unmoved, unreachable_there}
 
 -- what the objects of a place hold, and another one

@@ -1,19 +1,18 @@
 -- What a heap does at the start is the step of the machine.
-use Rattle.std.proofs.Common.{◌≡◌, ◌≢◌, refl, sym, ◌∙◌, ap, subst, ℕ, ◌+◌, ◌<◌, ◌≤◌, ◌⊎◌, inl, inr, Bool, true, false, List, [], ◌∷◌, ◌++◌, length, map, Option, Some, None, arith}
-use Rattle.std.specs.Prelude.{◌==◌, ◌^◌, if◌then◌else◌, unwrap_or, count_by, flat_map, is_some}
+use Rattle.std.proofs.Common.{◌≡◌, refl, sym, ◌∙◌, ap, subst, ℕ, ◌+◌, ◌<◌, ◌≤◌, Bool, true, false, List, [], ◌∷◌, ◌++◌, length, map, Option, Some, None, arith}
+use Rattle.std.specs.Prelude.{◌==◌, ◌^◌, if◌then◌else◌, unwrap_or}
 use Rattle.cg_value.specs.declared.Place.{Place}
 use Rattle.cg_value.specs.declared.Place.TheVariants.{Gen, Frozen, Cand, Pend}
 use Rattle.cg_script.specs.declared.Script.{Script}
 use Rattle.cg_graph.specs.Holdings.{occurrences}
 use Rattle.cg_graph.specs.Object.{Object, with_place, serials_at}
-use Rattle.cg_graph.specs.Store.{Store, objects_of, list_at, place_of, outside_of}
+use Rattle.cg_graph.specs.Store.{Store, objects_of, list_at, place_of}
 use Rattle.cg_machine.specs.declared.event.Event.{Event}
 use Rattle.cg_machine.specs.declared.event.Event.TheVariants.{Gens, GcStart, GcCollectable}
 use Rattle.cg_machine.specs.World as machine
 use Rattle.cg_machine.specs.World.{World, Activity, Collecting, Numbers, with_stack, with_objects}
-use Rattle.cg_machine.specs.Holdings.{holds, is_collection}
 use Rattle.cg_machine.specs.Effects.{gens_line}
-use Rattle.cg_machine.specs.Collect.{merged, merged_place, begun, survived, has_flag, stats, collectable, lines_if, Sorts, sorted, survivor_count, start_world, SameMembers}
+use Rattle.cg_machine.specs.Collect.{merged, merged_place, begun, survived, has_flag, stats, collectable, lines_if, Sorts, sorted, survivor_count, start_world}
 use Rattle.cg_machine.specs.Represents.{Represents}
 use Rattle.cg_machine.proofs.Representing.{in_one}
 use Rattle.cg_heap.specs.Calls.{IsListed}
@@ -28,15 +27,16 @@ use Rattle.cg_collect.specs.declared.phase.Phase.TheVariants as phase_of
 use Rattle.cg_collect.specs.declared.phase.Turn.{Turn}
 use Rattle.cg_collect.specs.Numbers.{IsBelow62}
 use Rattle.cg_collect.specs.Phases.{collection_of, lines_left}
-use Rattle.cg_collect.specs.Ready.{IsReadyAt, IsApartUnseen, IsEmptyAt, HasFewCollected}
+use Rattle.cg_collect.specs.Ready.{IsClear, IsReadyAt, IsApartUnseen, IsEmptyAt, HasFewCollected}
 use Rattle.cg_collect.specs.Answers.{Shows, Stands, WentOn, CollectSteps}
-use Rattle.cg_collect.specs.Turns.{collection_at, TurnLeaves}
-use Rattle.cg_collect.specs.Starting.{told_sizes, told_if, told_start}
+use Rattle.cg_collect.specs.Turns.{collection_at, TurnSteps, StaysReady, TurnLeaves}
+use Rattle.cg_collect.specs.Starting.{told_sizes, told_if, told_after_sizes, told_start}
 use Rattle.cg_collect.proofs.Standing.{same_more, map_alike, place_there, objects_on, outside_on, list_has, list_length}
-use Rattle.cg_collect.proofs.Telling.{ready_told, few_told, told_lines}
+use Rattle.cg_collect.proofs.Telling.{ready_told, few_told, told_lines, turn_to}
+use Rattle.cg_collect.proofs.Apart.{nobody_waits, apart_unseen}
 use Rattle.cg_collect.proofs.Traces.{Trace, same16}
 use Rattle.cg_collect.proofs.Sorts.{chosen, places, sorts, objects_sorted, survivors_counted}
-use Rattle.cg_collect.proofs.Worlds.{steps_at, with_same_rows, represents_on}
+use Rattle.cg_collect.proofs.Worlds.{steps_at, turn_steps, with_same_rows, represents_on}
 
 -- the phases after the start stand for the weak phase of the machine
 shows_start : (asked : Bool) (facts : Facts) (s b : Bool) (old store : Store) (policy : Policy) (after : World) (below : List Activity)
@@ -54,7 +54,7 @@ lines_start : (script : Script) (asked : Bool) (facts : Facts) (s b : Bool) (old
 lines_start script asked facts true b old store sizes is flag = λ i. is i ∷ lines_if (flag i) (map GcCollectable (list_at store Cand))
 lines_start script asked facts false b old store sizes is flag = sym (told_lines script asked facts store b)
 
-pub ready_start : (g : ℕ) (s b : Bool) (old store : Store) → IsListed store → IsApartUnseen store → IsEmptyAt store Pend → IsReadyAt store g (told_start s b old store)
+ready_start : (g : ℕ) (s b : Bool) (old store : Store) → IsListed store → IsApartUnseen store → IsEmptyAt store Pend → IsReadyAt store g (told_start s b old store)
 ready_start g true b old store listed apart pending = (apart, pending)
 ready_start g false b old store listed apart pending = ready_told store listed apart pending g b
 
@@ -62,11 +62,11 @@ few_start : (n : ℕ) (s b : Bool) (old store : Store) → n ≡ 0 → HasFewCol
 few_start n true b old store e = e
 few_start n false b old store e = few_told n b store e
 
-pub leaves_start : (s b : Bool) (old store : Store) (answer : CollectStep) → TurnLeaves old phase_of.Start store (record { phase = told_start s b old store; release = None; collected = 0; answer = answer })
+leaves_start : (s b : Bool) (old store : Store) (answer : CollectStep) → TurnLeaves old phase_of.Start store (record { phase = told_start s b old store; release = None; collected = 0; answer = answer })
 leaves_start s b old store answer = record { few = λ n h. few_start (n + 0) s b old store (omega (arith, h)); gives_up = tt }
 
 -- what the code tells first
-pub told_start-is : (s b : Bool) (old store : Store) → unwrap_or (if s then Some (told_sizes old) else None) (told_if b store) ≡ told_start s b old store
+told_start-is : (s b : Bool) (old store : Store) → unwrap_or (if s then Some (told_sizes old) else None) (told_if b store) ≡ told_start s b old store
 told_start-is true b old store = refl
 told_start-is false b old store = refl
 
@@ -162,7 +162,7 @@ module _ (script : Script) (facts : Facts) (s0 s1 s2 s4 s5 s6 : Store) (t : Trac
         (sorted g places_of (merged g w).objects) objects_after (with_same_rows s0 s6 same06.last same06.names same06.rows) pending
         (λ q. let e = outside_on s0 s6 same06 q in omega (arith, e))
 
-    pub went_on : WentOn script asked w below [] (GcStart g ∷ []) (collection_at facts (told_start with_stats with_lines s0 s6) None) s6 policy_now
+    went_on : WentOn script asked w below [] (GcStart g ∷ []) (collection_at facts (told_start with_stats with_lines s0 s6) None) s6 policy_now
     unfolding events
     went_on = record {
       events = events;
@@ -182,7 +182,41 @@ module _ (script : Script) (facts : Facts) (s0 s1 s2 s4 s5 s6 : Store) (t : Trac
       keeps = record { budget = refl; outcome = refl };
     }
 
-  pub steps_start : CollectSteps script (collection_at facts phase_of.Start None) s0 policy (collection_at facts (told_start with_stats with_lines s0 s6) None) s6 policy_now (answer_of.Emit (GcStart g))
+  steps_start : CollectSteps script (collection_at facts phase_of.Start None) s0 policy (collection_at facts (told_start with_stats with_lines s0 s6) None) s6 policy_now (answer_of.Emit (GcStart g))
   steps_start =
       steps_at script (collection_at facts phase_of.Start None) s0 policy (collection_at facts (told_start with_stats with_lines s0 s6) None) s6 policy_now (answer_of.Emit (GcStart g))
       (λ asked v below s. went_on asked v below s)
+
+-- The turn of the start, with the numbers and the phases that the code has.
+module _ (script : Script) (facts : Facts) (s0 s1 s2 s4 s5 s6 : Store) (t : Trace script facts.generation s0 s1 s2 s4 s5 s6) (listed0 : IsListed s0) (listed4 : IsListed s4) (listed6 : IsListed s6) (clear : IsClear s0)
+    (sizes : Option Phase) (sizes_are : sizes ≡ (if has_flag (bits_of facts.flags) stats then Some (told_sizes s0) else None)) (told : Phase) (told_is : told ≡ unwrap_or sizes (told_after_sizes (bits_of facts.flags) s6))
+    (turn : Turn) (tells : turn ≡ record { phase = told; release = None; collected = 0; answer = answer_of.Emit (GcStart facts.generation) }) where
+  abbrev with_sizes : Bool
+  with_sizes = has_flag (bits_of facts.flags) stats
+
+  abbrev with_members : Bool
+  with_members = has_flag (bits_of facts.flags) collectable
+
+  turn_is : turn ≡ record { phase = told_start with_sizes with_members s0 s6; release = None; collected = 0; answer = answer_of.Emit (GcStart facts.generation) }
+  turn_is =
+      turn_to turn told (told_start with_sizes with_members s0 s6) (answer_of.Emit (GcStart facts.generation)) tells
+      (told_is ∙ ap (λ (x : Option Phase). unwrap_or x (told_after_sizes (bits_of facts.flags) s6)) sizes_are ∙ told_start-is with_sizes with_members s0 s6)
+
+  waits_none : IsEmptyAt s6 Pend
+  waits_none = nobody_waits script facts.generation s0 s1 s2 s4 s5 s6 t listed0 listed6 clear
+
+  pub turn_start : (policy policy_after : Policy) (survivors : ℕ) → survivors ≡ length (list_at s4 (Gen facts.generation)) → policy_after ≡ with_numbers (survived facts.generation survivors policy.numbers) policy
+      → TurnSteps script facts phase_of.Start s0 policy s6 policy_after turn
+  turn_start policy policy_after survivors count is =
+      subst (λ (p : Policy). TurnSteps script facts phase_of.Start s0 policy s6 p turn) (sym (is ∙ ap (λ (n : ℕ). with_numbers (survived facts.generation n policy.numbers) policy) count))
+      (turn_steps script facts phase_of.Start s0 policy s6 (with_numbers (survived facts.generation (length (list_at s4 (Gen facts.generation))) policy.numbers) policy) turn (told_start with_sizes with_members s0 s6) None
+      (answer_of.Emit (GcStart facts.generation)) turn_is
+      (steps_start script facts s0 s1 s2 s4 s5 s6 t listed0 listed4 listed6 waits_none policy))
+
+  pub ready_after : StaysReady s6 facts.generation turn.phase turn.answer
+  ready_after =
+      subst (λ (x : Turn). StaysReady s6 facts.generation x.phase x.answer) (sym turn_is)
+      (ready_start facts.generation with_sizes with_members s0 s6 listed6 (apart_unseen script facts.generation s0 s1 s2 s4 s5 s6 t listed0 listed6 clear) waits_none)
+
+  pub leaves_after : TurnLeaves s0 phase_of.Start s6 turn
+  leaves_after = subst (λ (x : Turn). TurnLeaves s0 phase_of.Start s6 x) (sym turn_is) (leaves_start with_sizes with_members s0 s6 (answer_of.Emit (GcStart facts.generation)))
