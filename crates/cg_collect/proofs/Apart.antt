@@ -147,13 +147,16 @@ module _ (script : Script) (g : ℕ) (s0 s1 s2 s4 s5 s6 : Store) (t : Trace scri
   empty_seen = still_empty Seen (λ e. cc) (λ i e. cc) (λ e. cc) (λ e. cc) clear.seen
 
   pub apart_unseen : IsApartUnseen s6
-  apart_unseen = (record {
-    garbage = unmoved script g s0 s1 s2 s4 s5 s6 t 1 not_there ∙ garbage1;
-    back = still_empty Back (λ e. cc) (λ i e. cc) (λ e. cc) (λ e. cc) clear.back;
-    candidates = unsaved Cand (λ o e. inl e);
-    seen = λ o m. absurd (subst (λ l. Includes l o) empty_seen m);
-    legacy = unsaved Legacy (λ o e. inr e);
-  }, empty_seen)
+  apart_unseen = (
+    record {
+      garbage = unmoved script g s0 s1 s2 s4 s5 s6 t 1 not_there ∙ garbage1;
+      back = still_empty Back (λ e. cc) (λ i e. cc) (λ e. cc) (λ e. cc) clear.back;
+      candidates = unsaved Cand (λ o e. inl e);
+      seen = λ o m. absurd (subst (λ l. Includes l o) empty_seen m);
+      legacy = unsaved Legacy (λ o e. inr e);
+    },
+    empty_seen,
+  )
 
 -- no one is set aside before those are that legacy finalizers lead to
 untracked_or : (g : ℕ) (old new : Store) → UntracksSurvivors g old new → (o : ℕ) → (place_of new o ≡ place_of old o) ⊎ (place_of new o ≡ Untracked)
@@ -172,8 +175,8 @@ untracked_or g old new u o = go (u.tuples.at_most o) dictionaries
 pub none_aside_yet : (g : ℕ) (s0 s1 s2 s4 s5 : Store) → MergesYounger g s0 s1 → SplitsOff g s1 s2 → UntracksSurvivors g s2 s4 → GetOlder g s4 s5 → IsListed s0 → IsListed s5 → list_at s0 Legacy ≡ [] → IsEmptyAt s5 Legacy
 none_aside_yet g s0 s1 s2 s4 s5 merges splits untracks gets_older listed listed5 empty = empty_at s5 listed5 Legacy (λ o live at.
     let fourth : place_of s4 o ≡ Legacy = either (at_or_not (place_of s4 o) (Gen g))
-        (λ e. absurd (let k : Gen (older g) ≡ Legacy = sym (gets_older.moved o e) ∙ at in cc))
-        (λ differ. sym (gets_older.others o differ) ∙ at) in
+    (λ e. absurd (let k : Gen (older g) ≡ Legacy = sym (gets_older.moved o e) ∙ at in cc))
+    (λ differ. sym (gets_older.others o differ) ∙ at) in
     let second : place_of s2 o ≡ Legacy = either (untracked_or g s2 s4 untracks o) (λ s. sym s ∙ fourth) (λ u. absurd (let k : Untracked ≡ Legacy = sym u ∙ fourth in cc)) in
     either (at_or_not (place_of s1 o) (Gen g))
     (λ e. either (splits.either_way o e) (λ kept. let k : Gen g ≡ Legacy = sym kept.0 ∙ second in cc) (λ off. let k : Cand ≡ Legacy = sym off.0 ∙ second in cc))

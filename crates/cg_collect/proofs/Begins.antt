@@ -127,7 +127,7 @@ module _ (script : Script) (facts : Facts) (s0 s1 s2 s4 s5 s6 : Store) (t : Trac
     merged_objects =
         objects_on s0 s1 t.merges.same
         ∙ map_alike (λ x. with_place (place_of s1 x.serial) x) (λ x. with_place (merged_place g x.place) x) (objects_of s0)
-            (λ x m. ap (λ p. with_place p x) (t.merges.places x.serial ∙ ap (merged_place g) (place_there s0 x m)))
+        (λ x m. ap (λ p. with_place p x) (t.merges.places x.serial ∙ ap (merged_place g) (place_there s0 x m)))
         ∙ ap (map (λ x. with_place (merged_place g x.place) x)) r.objects
 
     sorts_merged : Sorts script g (merged g w) (chosen script g s0 s1 s2 s4 s5 s6 t) places_of

@@ -142,7 +142,7 @@ module _ (script : Script) (g : ℕ) (s0 s1 s2 s4 s5 s6 : Store) (t : Trace scri
   may-untrack : (p : ℕ) → may (untrack g chosen objects) p ≡ trackable middle p
   may-untrack p =
       may-map (λ x. untracked_if (is_at (Gen g) x && chosen x) x) (λ x. with_place (place_of middle x.serial) x) objects
-          (λ x m. (serial-untracked (is_at (Gen g) x && chosen x) x, refl, may-placed (is_at (Gen g) x && chosen x) (place_of middle x.serial) x (untracked_place x m))) p
+      (λ x m. (serial-untracked (is_at (Gen g) x && chosen x) x, refl, may-placed (is_at (Gen g) x && chosen x) (place_of middle x.serial) x (untracked_place x m))) p
       ∙ ap (λ (os : List Object). may os p) (sym (objects_on s1 middle (same13 script g s0 s1 s2 s4 s5 s6 t)))
       ∙ may-store middle p
 

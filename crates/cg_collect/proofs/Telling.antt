@@ -154,13 +154,17 @@ module _ (store : Store) (listed : IsListed store) (apart : IsApartUnseen store)
   nobody_waits v h = subst (λ l. Includes l v) pending h
 
   pub ready_weak : (g : ℕ) → IsReadyAt store g (told_weak store)
-  ready_weak g = (apart, λ w h. absurd (nobody_waits w h), record {
-    member_at = at_first (list_at store Cand);
-    weak_live = λ v e. absurd (cc);
-    none_missed = none_missed;
-    none_newer = λ v e. absurd (cc);
-    waiting = λ v h. absurd (nobody_waits v h);
-  })
+  ready_weak g = (
+    apart,
+    λ w h. absurd (nobody_waits w h),
+    record {
+      member_at = at_first (list_at store Cand);
+      weak_live = λ v e. absurd (cc);
+      none_missed = none_missed;
+      none_newer = λ v e. absurd (cc);
+      waiting = λ v h. absurd (nobody_waits v h);
+    },
+  )
 
   pub ready_told : (g : ℕ) (b : Bool) → IsReadyAt store g (told_if b store)
   ready_told g true = (apart, pending, at_first (list_at store Cand))

@@ -136,8 +136,8 @@ module _ (script : Script) (g : ℕ) (s0 s1 s2 s4 s5 s6 : Store) (t : Trace scri
   pub candidate_back : (o : ℕ) → place_of s5 o ≡ Cand → place_of s2 o ≡ Cand
   candidate_back o at =
       let fourth : place_of s4 o ≡ Cand = either (at_or_not (place_of s4 o) (Gen g))
-          (λ e. absurd (let k : Gen (older g) ≡ Cand = sym (t.gets_older.moved o e) ∙ at in cc))
-          (λ differ. sym (t.gets_older.others o differ) ∙ at) in
+      (λ e. absurd (let k : Gen (older g) ≡ Cand = sym (t.gets_older.moved o e) ∙ at in cc))
+      (λ differ. sym (t.gets_older.others o differ) ∙ at) in
       either (both_or o) (λ s. sym s ∙ fourth) (λ went. absurd (let e : Untracked ≡ Cand = sym went.1 ∙ fourth in cc))
 
   pub candidate_last : (o : ℕ) → place_of s2 o ≡ Cand → (place_of s6 o ≡ Cand) ⊎ (place_of s6 o ≡ Legacy)
