@@ -7,10 +7,16 @@ pub mod Untracked
 pub mod Worlds
 pub mod Looking
 pub mod Turning
+pub mod Saved
 pub mod Merging
 pub mod Telling
+pub mod Stopping
 pub mod Traces
 pub mod Sorts
 pub mod Pending
 pub mod Apart
 pub mod Begins
+pub mod RowWalks
+pub mod Walking
+pub mod Losing
+pub mod WalkTurns

@@ -85,13 +85,16 @@ module _ (store : Store) (listed : IsListed store) (o : ℕ) (live : IsLive stor
   left p differs s m = (Includes-without o (list_at store p) s (subst (λ l. Includes l s) (moved_from store listed o live q place p differs) m)).0
 
   pub apart_away : 1 ≢ o → Cand ≢ q → Seen ≢ q → Back ≢ q → Legacy ≢ q → IsApartUnseen store → IsApartUnseen away
-  apart_away other not_cand not_seen not_back not_legacy apart = (record {
-    garbage = moved_not store listed o live q place 1 other ∙ apart.0.garbage;
-    back = moved_from store listed o live q place Back not_back ∙ ap (without_serial o) apart.0.back;
-    candidates = still_unsaved store away Cand (same_entries 1) (λ s m. apart.0.candidates s (left Cand not_cand s m));
-    seen = still_unsaved store away Seen (same_entries 1) (λ s m. apart.0.seen s (left Seen not_seen s m));
-    legacy = still_unsaved store away Legacy (same_entries 1) (λ s m. apart.0.legacy s (left Legacy not_legacy s m));
-  }, moved_from store listed o live q place Seen not_seen ∙ ap (without_serial o) apart.1)
+  apart_away other not_cand not_seen not_back not_legacy apart = (
+    record {
+      garbage = moved_not store listed o live q place 1 other ∙ apart.0.garbage;
+      back = moved_from store listed o live q place Back not_back ∙ ap (without_serial o) apart.0.back;
+      candidates = still_unsaved store away Cand (same_entries 1) (λ s m. apart.0.candidates s (left Cand not_cand s m));
+      seen = still_unsaved store away Seen (same_entries 1) (λ s m. apart.0.seen s (left Seen not_seen s m));
+      legacy = still_unsaved store away Legacy (same_entries 1) (λ s m. apart.0.legacy s (left Legacy not_legacy s m));
+    },
+    moved_from store listed o live q place Seen not_seen ∙ ap (without_serial o) apart.1,
+  )
 
   -- the callback of each stays
   pub callback_away : (s : ℕ) → callback_of (objects_of away) s ≡ callback_of (objects_of store) s
@@ -158,18 +161,21 @@ module _ (script : Script) (facts : Facts) (store : Store) (policy : Policy) whe
       let parts : pending ≡ weak ∷ drop 1 pending = first_and_rest pending weak first in
       let spec_is : spec ≡ (let f = unwrap_or (callback_of v.objects weak) 0 in record { sort = Callback; proc = unwrap_or (option_and_then (λ x. x.class) (object_at v.objects f)) 0; subject = weak; func = Some f }) =
       is ∙ ap (λ (os : List Object). let f = unwrap_or (callback_of os weak) 0 in record { sort = Callback; proc = unwrap_or (option_and_then (λ x. x.class) (object_at os f)) 0; subject = weak; func = Some f }) same in
-      let goes : start_frame script spec before ≡ calls_back script (c (machine.WeakCalling pending)) pending below w = ap (λ (x : FrameSpec). start_frame script x before) spec_is ∙ ap (λ p. calls_back script (c (machine.WeakCalling pending)) p below w) (sym parts) in
-      (refl, refl, record {
-        before = before;
-        goes = in_one script w (start_frame script spec before).0 (start_frame script spec before).1 s.running (ap (λ (t : Transition). t.0) goes, ap (λ (t : Transition). t.1) goes);
-        shows = record {
-          represents = represents_same store v below (c (machine.WeakCalling pending)) (c (machine.AfterCallback weak (drop 1 pending))) s.shows.represents s.alone parts (λ q. ap (occurrences q) parts);
-          numbers = s.shows.numbers;
-          running = s.shows.running;
-          top = refl;
-        };
-        keeps = record { budget = refl; outcome = refl };
-      }))
+      let goes : start_frame script spec before ≡ calls_back script (c (machine.WeakCalling pending)) pending below w = ap (λ (x : FrameSpec). start_frame script x before) spec_is ∙ ap (λ p. calls_back script (c (machine.WeakCalling pending)) p below w) (sym parts) in (
+        refl,
+        refl,
+        record {
+          before = before;
+          goes = in_one script w (start_frame script spec before).0 (start_frame script spec before).1 s.running (ap (λ (t : Transition). t.0) goes, ap (λ (t : Transition). t.1) goes);
+          shows = record {
+            represents = represents_same store v below (c (machine.WeakCalling pending)) (c (machine.AfterCallback weak (drop 1 pending))) s.shows.represents s.alone parts (λ q. ap (occurrences q) parts);
+            numbers = s.shows.numbers;
+            running = s.shows.running;
+            top = refl;
+          };
+          keeps = record { budget = refl; outcome = refl };
+        },
+      ))
 
   -- none waits any more
   pub turn-all_called : slice_get (list_at store Pend) 0 ≡ None → CollectSteps script (collection_at facts phase_of.WeakCalling None) store policy (collection_at facts phase_of.Finalizing None) store policy answer_of.Continue

@@ -166,10 +166,13 @@ module _ (store : Store) where
       go true h = omega (arith, h, occurrences-cons o x.serial (serials (filter p objects)), occurrences-cons o x.serial (serials objects))
       go false h = omega (arith, h, occurrences-cons o x.serial (serials objects))
 
-  once_there : (p : Place) (o : ℕ) → occurrences o (serials_at (objects_of store) p) ≤ 1
-  once_there p o =
+  pub once_among : (test : Object → Bool) (o : ℕ) → occurrences o (serials (filter test (objects_of store))) ≤ 1
+  once_among test o =
       let same : occurrences o (serials (objects_of store)) ≡ occurrences o (keys (fin.entries store.nodes)) = ap (occurrences o) (serials_are (fin.entries store.nodes)) in
-      omega (arith, fewer (is_at p) o (objects_of store), same, once_key store.nodes o)
+      omega (arith, fewer test o (objects_of store), same, once_key store.nodes o)
+
+  once_there : (p : Place) (o : ℕ) → occurrences o (serials_at (objects_of store) p) ≤ 1
+  once_there p o = once_among (is_at p) o
 
   module _ (listed : IsListed store) where
     -- the list of a place has the objects that stand there

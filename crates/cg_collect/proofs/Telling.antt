@@ -66,7 +66,7 @@ pub at_first : (xs : List ℕ) → IsAt (slice_get xs 0) xs
 at_first [] = tt
 at_first (x ∷ xs) = inl refl
 
-from_ahead : (cursor : Option ℕ) (xs : List ℕ) → from_on cursor xs ≡ ahead cursor xs
+pub from_ahead : (cursor : Option ℕ) (xs : List ℕ) → from_on cursor xs ≡ ahead cursor xs
 from_ahead None xs = refl
 from_ahead (Some o) [] = refl
 from_ahead (Some o) (x ∷ xs) = ap (λ l. if x == o then x ∷ xs else l) (from_ahead (Some o) xs)

@@ -5,3 +5,4 @@ pub mod Turns
 pub mod Numbers
 pub mod Collections
 pub mod Starting
+pub mod Saving

@@ -1,9 +1,11 @@
 //! The end: what was set aside is told and saved. (`gc` manual, `gc.garbage`, `gc.DEBUG_UNCOLLECTABLE`.)
-ghost use Rattle.std.specs.Prelude.{◌≡◌, ◌<◌, ◌≤◌, ◌∷◌, [], ℕ, Some, None, true, false};
+ghost use Rattle.std.specs.Prelude.{◌≡◌, ◌≤◌, ℕ};
 ghost use Rattle.cg_script.specs.declared.Script.{Script as AnyScript};
 ghost use Rattle.cg_policy.specs.Policy.{Policy as Standing};
-ghost use Rattle.cg_graph.specs.Store.{Store};
-ghost use Rattle.cg_heap.specs.Calls.{HasFewHolds};
+ghost use Rattle.cg_policy.specs.Flagset.{bits_of};
+ghost use Rattle.cg_graph.specs.Store.{Store, IsLive};
+ghost use Rattle.cg_collect.specs.Phases.{is_saved_at};
+ghost use Rattle.cg_collect.specs.Saving.{with_saved, kept_aside};
 ghost use Rattle.cg_collect.specs.declared.collection.Facts.{Facts as AnyFacts};
 ghost use Rattle.cg_collect.specs.declared.phase.Phase.TheVariants as phase_of;
 ghost use Rattle.cg_collect.specs.Ready.{IsReadyAt};
@@ -29,10 +31,13 @@ pub fn end<B: Kind>(facts: Facts, heap: &mut Heap<B>, policy: &mut Policy, scrip
     ensures falls { TurnFalls heap.old phase_of.Ending heap.new result }
     ensures leaves { TurnLeaves heap.old phase_of.Ending heap.new result }
 {
+    heap.sound();
     let number = heap.size(Place::Legacy);
     let first = heap.first(Place::Legacy);
     save_legacy(facts, heap, script);
+    heap.sound();
     heap.merge(Place::Legacy, Place::Gen(older(facts.generation)));
+    heap.sound();
     policy.ended();
     if facts.flags.intersects(Flagset::UNCOLLECTABLE) {
         Turn::to(Phase::Uncollectable {
@@ -49,19 +54,29 @@ pub fn end<B: Kind>(facts: Facts, heap: &mut Heap<B>, policy: &mut Policy, scrip
 }
 
 /// The objects that were set aside are saved, if they are to be.
-fn save_legacy<B: Kind>(facts: Facts, heap: &mut Heap<B>, script: &Script) {
+fn save_legacy<B: Kind>(facts: Facts, heap: &mut Heap<B>, script: &Script)
+    requires { IsReadyAt heap.old facts.generation phase_of.Ending }
+    ensures { heap.new ≡ with_saved (kept_aside script.now (bits_of facts.flags) heap.old) heap.old }
+{
+    heap.sound();
     let mut next = heap.first(Place::Legacy);
     'objects: while let Some(object) = next {
+        next = heap.next(object);
         if is_saved(facts, heap, script, object) {
             heap.save(object);
         }
-        next = heap.next(object);
     }
 }
 
 /// Whether an object that was set aside is saved: with SAVEALL, or with a legacy finalizer.
-fn is_saved<B: Kind>(facts: Facts, heap: &Heap<B>, script: &Script, object: u64) -> bool {
-    facts.flags.intersects(Flagset::SAVEALL) || finalizers_of(heap, script, object).legacy.is_some()
+fn is_saved<B: Kind>(facts: Facts, heap: &Heap<B>, script: &Script, object: u64) -> bool
+    requires { IsLive heap.now object }
+    ensures { result ≡ is_saved_at script.now (bits_of facts.flags) heap.now object }
+{
+    if facts.flags.intersects(Flagset::SAVEALL) {
+        return true;
+    }
+    finalizers_of(heap, script, object).legacy.is_some()
 }
 
 /// Tells the next object that was set aside; then those that were saved are told.
@@ -79,6 +94,7 @@ pub fn tell_uncollectable<B: Kind>(
     ensures falls { TurnFalls heap.now (phase_of.Uncollectable first next number) heap.now result }
     ensures leaves { TurnLeaves heap.now (phase_of.Uncollectable first next number) heap.now result }
 {
+    heap.sound();
     match next {
         Some(object) => Turn::tells(
             Event::GcUncollectable(object),
@@ -113,6 +129,7 @@ pub fn tell_saved<B: Kind>(
     let Some(object) = next else {
         return Turn::to(Phase::Stopping(number));
     };
+    heap.sound();
     let phase = Phase::Saved {
         next: heap.next(object),
         number,

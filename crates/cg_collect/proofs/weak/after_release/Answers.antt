@@ -49,9 +49,10 @@ returns-clause-ready g c =
     let live = there.0 in
     let place = older_place c.args.facts.generation c.requires.generation in
     subst (λ (turn : Turn). StaysReady c.move_to.new.self c.args.facts.generation turn.phase turn.answer) (sym c.to.ensures)
-    (subst (λ (now : Store). IsApartUnseen now × HaveCallbacks now) (sym (c.move_to.ensures ∙ ap (λ k. moved c.args.weak (Gen k) c.args.heap.now) c.older.ensures))
-    (apart_away c.args.heap.now c.sound.ensures.listed c.args.weak live (Gen (older c.args.facts.generation)) place (not_garbage c.args.heap.now c.args.weak Pend ready.0.0.garbage there.1 (λ e. cc)) (λ e. cc) (λ e. cc) (λ e. cc) (λ e. cc) ready.0,
-      callbacks_away c.args.heap.now c.sound.ensures.listed c.args.weak live (Gen (older c.args.facts.generation)) place (λ e. cc) ready.1))
+    (subst (λ (now : Store). IsApartUnseen now × HaveCallbacks now) (sym (c.move_to.ensures ∙ ap (λ k. moved c.args.weak (Gen k) c.args.heap.now) c.older.ensures)) (
+      apart_away c.args.heap.now c.sound.ensures.listed c.args.weak live (Gen (older c.args.facts.generation)) place (not_garbage c.args.heap.now c.args.weak Pend ready.0.0.garbage there.1 (λ e. cc)) (λ e. cc) (λ e. cc) (λ e. cc) (λ e. cc) ready.0,
+      callbacks_away c.args.heap.now c.sound.ensures.listed c.args.weak live (Gen (older c.args.facts.generation)) place (λ e. cc) ready.1,
+    ))
 
 -- one that leaves makes the list no longer
 not_longer : (store now : Store) (weak g : ℕ) → now ≡ moved weak (Gen g) store → list_at (moved weak (Gen g) store) Pend ≡ without_serial weak (list_at store Pend) → length (list_at now Pend) ≤ length (list_at store Pend)
