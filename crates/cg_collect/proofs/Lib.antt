@@ -14,6 +14,8 @@ pub mod Stopping
 pub mod Traces
 pub mod Sorts
 pub mod Pending
+pub mod Apart
+pub mod Begins
 pub mod RowWalks
 pub mod Walking
 pub mod Losing
