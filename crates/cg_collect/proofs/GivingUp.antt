@@ -28,13 +28,16 @@ use Rattle.cg_death.proofs.Calling.{callback-at}
 use Rattle.cg_collect.specs.declared.answer.CollectStep.{CollectStep}
 use Rattle.cg_collect.specs.declared.answer.CollectStep.TheVariants as answer_of
 use Rattle.cg_collect.specs.declared.collection.Collection.{Collection}
+use Rattle.cg_collect.specs.declared.collection.Facts.{Facts}
+use Rattle.cg_collect.specs.declared.phase.Turn.{Turn}
 use Rattle.cg_collect.specs.declared.phase.Phase.{Phase}
 use Rattle.cg_collect.specs.declared.phase.Phase.TheVariants as phase_of
 use Rattle.cg_collect.specs.Phases.{machine_phase, collecting, released_over, lines_left, store_after}
 use Rattle.cg_collect.specs.Ready.{IsApart, IsApartUnseen, HaveCallbacks, IsReadyAt, HasFewCollected, MayGiveUp, GivesUpIn}
 use Rattle.cg_collect.specs.Answers.{Shows, CollectAnswer, CollectSteps, numbers_at}
-use Rattle.cg_collect.specs.Turns.{left_in_pass, still_released, still_cleared}
+use Rattle.cg_collect.specs.Turns.{TurnSteps, ComesNearer, left_in_pass, still_released, still_cleared}
 use Rattle.cg_collect.specs.Collections.{IsReady, KeepsReady, CollectFalls, GivesUpNext, died_in, once_given_up, give_up_answer}
+use Rattle.cg_collect.proofs.Worlds.{turn_steps}
 use Rattle.cg_collect.proofs.Looking.{still_unsaved}
 
 -- the other phases stay
@@ -201,3 +204,213 @@ gives_up-steps script policy c store new now answer gives g asked w below s =
     (answered script asked c store now policy w below g.after may (ap (λ (st : Store). st.lists) g.heap ∙ lists-released (references_left g.before) store)
     (s.shows.numbers ∙ at.numbers c.generation w.numbers) (s.shows.running ∙ ap is_some (at.stands []))
     a (g.steps script w under stands)))
+
+-- What a release leaves of a heap.
+module _ (refs : List ℕ) (store : Store) where
+  abbrev let_off : Store
+  let_off = unheld refs store
+
+  place_of-unheld : (s : ℕ) → place_of let_off s ≡ place_of store s
+  place_of-unheld s = ap place_in (get-mapped (λ k n. less (occurrences k refs) n) store.nodes s) ∙ known (fin.get store.nodes s)
+    where
+      known : (x : Option Node) → place_in (option_map (less (occurrences s refs)) x) ≡ place_in x
+      known None = refl
+      known (Some n) = refl
+
+  entries_of-unheld : (s : ℕ) → entries_of let_off s ≡ entries_of store s
+  entries_of-unheld s = ap entries_in (get-mapped (λ k n. less (occurrences k refs) n) store.nodes s) ∙ known (fin.get store.nodes s)
+    where
+      known : (x : Option Node) → entries_in (option_map (less (occurrences s refs)) x) ≡ entries_in x
+      known None = refl
+      known (Some n) = refl
+
+  dead_before : (s : ℕ) → ¬ IsLive store s → ¬ IsLive let_off s
+  dead_before s dead live = dead (known (fin.get store.nodes s) (subst IsSome (get-mapped (λ k n. less (occurrences k refs) n) store.nodes s) live))
+    where
+      known : (x : Option Node) → IsSome (option_map (less (occurrences s refs)) x) → IsSome x
+      known None h = absurd (cc)
+      known (Some n) h = refl
+
+  apart-unheld : IsApart store → IsApart let_off
+  apart-unheld apart = record {
+    garbage = place_of-unheld 1 ∙ apart.garbage;
+    back = apart.back;
+    candidates = still_unsaved store let_off Cand (entries_of-unheld 1) apart.candidates;
+    seen = still_unsaved store let_off Seen (entries_of-unheld 1) apart.seen;
+    legacy = still_unsaved store let_off Legacy (entries_of-unheld 1) apart.legacy;
+  }
+
+  callbacks-unheld : HaveCallbacks store → HaveCallbacks let_off
+  callbacks-unheld have u m = let has = have u m in (kinds-unheld refs store u Weak has.0, subst IsSome (sym (callback-at let_off u ∙ ap callback_in (entries_of-unheld u) ∙ sym (callback-at store u))) has.1)
+
+  -- the phases that give something up are ready as before
+  ready-unheld : (g : ℕ) (p : Phase) → MayGiveUp p → IsReadyAt store g p → IsReadyAt let_off g p
+  ready-unheld g (phase_of.AfterRelease weak true) may r = ((apart-unheld r.0.0, r.0.1), callbacks-unheld r.1, dead_before weak r.2)
+  ready-unheld g (phase_of.AfterRelease weak false) may r = ((apart-unheld r.0.0, r.0.1), callbacks-unheld r.1, r.2)
+  ready-unheld g phase_of.Finalizing may r = apart-unheld r
+  ready-unheld g (phase_of.Turn o) may r = ((apart-unheld r.0.0, r.0.1), place_of-unheld o ∙ r.1)
+  ready-unheld g (phase_of.AfterTurn o true) may r = ((apart-unheld r.0.0, r.0.1), dead_before o r.1)
+  ready-unheld g (phase_of.AfterTurn o false) may r = ((apart-unheld r.0.0, r.0.1), place_of-unheld o ∙ r.1)
+  ready-unheld g phase_of.Start may r = absurd may
+  ready-unheld g (phase_of.Sizes zero one two frozen) may r = absurd may
+  ready-unheld g (phase_of.Telling next) may r = absurd may
+  ready-unheld g (phase_of.WeakClearing member weak) may r = absurd may
+  ready-unheld g phase_of.WeakCalling may r = absurd may
+  ready-unheld g (phase_of.AfterCallback weak) may r = absurd may
+  ready-unheld g (phase_of.AfterFinalizing o) may r = absurd may
+  ready-unheld g phase_of.Split may r = absurd may
+  ready-unheld g (phase_of.Living next) may r = absurd may
+  ready-unheld g (phase_of.Detaching next) may r = absurd may
+  ready-unheld g phase_of.Turns may r = absurd may
+  ready-unheld g phase_of.Ending may r = absurd may
+  ready-unheld g (phase_of.Uncollectable first next number) may r = absurd may
+  ready-unheld g (phase_of.Saved next number) may r = absurd may
+  ready-unheld g (phase_of.Stopping number) may r = absurd may
+  ready-unheld g (phase_of.Over number) may r = absurd may
+
+  -- as few are collected
+  few-unheld : (n : ℕ) (p : Phase) → MayGiveUp p → HasFewCollected n p store → HasFewCollected n p let_off
+  few-unheld n (phase_of.AfterRelease weak true) may few = few
+  few-unheld n (phase_of.AfterRelease weak false) may few = few
+  few-unheld n phase_of.Finalizing may few = few
+  few-unheld n (phase_of.Turn o) may few = few
+  few-unheld n (phase_of.AfterTurn o died) may few = few
+  few-unheld n phase_of.Start may few = absurd may
+  few-unheld n (phase_of.Sizes zero one two frozen) may few = absurd may
+  few-unheld n (phase_of.Telling next) may few = absurd may
+  few-unheld n (phase_of.WeakClearing member weak) may few = absurd may
+  few-unheld n phase_of.WeakCalling may few = absurd may
+  few-unheld n (phase_of.AfterCallback weak) may few = absurd may
+  few-unheld n (phase_of.AfterFinalizing o) may few = absurd may
+  few-unheld n phase_of.Split may few = absurd may
+  few-unheld n (phase_of.Living next) may few = absurd may
+  few-unheld n (phase_of.Detaching next) may few = absurd may
+  few-unheld n phase_of.Turns may few = absurd may
+  few-unheld n phase_of.Ending may few = absurd may
+  few-unheld n (phase_of.Uncollectable first next number) may few = absurd may
+  few-unheld n (phase_of.Saved next number) may few = absurd may
+  few-unheld n (phase_of.Stopping number) may few = absurd may
+  few-unheld n (phase_of.Over number) may few = absurd may
+
+  cleared-unheld : still_cleared let_off ≡ still_cleared store
+  cleared-unheld = λ i. sum_by (λ o. 16 + 4 * length (entries_of-unheld o i)) (list_at store Cand)
+
+  -- and as much is left in the pass
+  left-unheld : (p : Phase) → MayGiveUp p → left_in_pass p let_off ≡ left_in_pass p store
+  left-unheld (phase_of.AfterRelease weak died) may = refl
+  left-unheld phase_of.Finalizing may = refl
+  left-unheld (phase_of.Turn o) may = ap (λ n. n + 8) cleared-unheld
+  left-unheld (phase_of.AfterTurn o true) may = ap (λ n. n + 10) cleared-unheld
+  left-unheld (phase_of.AfterTurn o false) may = ap (λ n. n + 1) cleared-unheld
+  left-unheld phase_of.Start may = absurd may
+  left-unheld (phase_of.Sizes zero one two frozen) may = absurd may
+  left-unheld (phase_of.Telling next) may = absurd may
+  left-unheld (phase_of.WeakClearing member weak) may = absurd may
+  left-unheld phase_of.WeakCalling may = absurd may
+  left-unheld (phase_of.AfterCallback weak) may = absurd may
+  left-unheld (phase_of.AfterFinalizing o) may = absurd may
+  left-unheld phase_of.Split may = absurd may
+  left-unheld (phase_of.Living next) may = absurd may
+  left-unheld (phase_of.Detaching next) may = absurd may
+  left-unheld phase_of.Turns may = absurd may
+  left-unheld phase_of.Ending may = absurd may
+  left-unheld (phase_of.Uncollectable first next number) may = absurd may
+  left-unheld (phase_of.Saved next number) may = absurd may
+  left-unheld (phase_of.Stopping number) may = absurd may
+  left-unheld (phase_of.Over number) may = absurd may
+
+-- all this of a step of a release
+record Unchanged (store now : Store) (p : Phase) : Type 0 where
+  ready : (g : ℕ) → IsReadyAt store g p → IsReadyAt now g p
+  few : (n : ℕ) → HasFewCollected n p store → HasFewCollected n p now
+  left : left_in_pass p now ≡ left_in_pass p store
+
+unchanged : (refs : List ℕ) (store now : Store) (p : Phase) → MayGiveUp p → now ≡ once_released refs store → Unchanged store now p
+unchanged [] store now p may is = subst (λ n. Unchanged store n p) (sym is) (record { ready = λ g r. r; few = λ n few. few; left = refl })
+unchanged (o ∷ refs) store now p may is = subst (λ n. Unchanged store n p) (sym is) (record { ready = λ g r. ready-unheld (o ∷ []) store g p may r; few = λ n few. few-unheld (o ∷ []) store n p may few; left = left-unheld (o ∷ []) store p may })
+
+-- a release that goes on had a reference
+gave_one : (refs rest : List ℕ) (now : Store) → release_answer refs now ≡ death_answer.Continue → rest ≡ drop 1 refs → length rest < length refs
+gave_one [] rest now e is = absurd (cc)
+gave_one (o ∷ refs) rest now e is = let same : length rest ≡ length refs = ap length is in omega (arith, same)
+
+module _ (c : Collection) (store : Store) (new : Collection) (now : Store) (answer : CollectStep) (gives : GivesUpIn c.phase c.release) (g : GivesUpNext c store new now answer) where
+  may : MayGiveUp c.phase
+  may = may_give_up c.phase c.release g.before g.had gives
+
+  same : Unchanged store now c.phase
+  same = unchanged (references_left g.before) store now c.phase may g.heap
+
+  -- the heap is ready for the next step
+  pub gives_up-ready : IsReady c store → KeepsReady new now answer
+  gives_up-ready ready = subst (λ (n : Collection). KeepsReady n now answer) (sym g.collection) (subst (KeepsReady (once_given_up c g.after (release_answer (references_left g.before) now)) now) (sym g.told) (known (release_answer (references_left g.before) now)))
+    where
+      known : (a : DeathStep) → KeepsReady (once_given_up c g.after a) now (give_up_answer a)
+      known death_answer.Continue = record { generation = ready.generation; phase = same.ready c.generation ready.phase; collected = same.few c.collected ready.collected; gives_up = may }
+      known (death_answer.Emit event) = record { generation = ready.generation; phase = same.ready c.generation ready.phase; collected = same.few c.collected ready.collected; gives_up = may }
+      known (death_answer.Frame spec) = record { generation = ready.generation; phase = same.ready c.generation ready.phase; collected = same.few c.collected ready.collected; gives_up = may }
+      known (death_answer.Died o) = ready.generation
+      known death_answer.Gone = record { generation = ready.generation; phase = same.ready c.generation ready.phase; collected = same.few c.collected ready.collected; gives_up = tt }
+
+  -- and less is left
+  pub gives_up-falls : answer ≡ answer_of.Continue → CollectFalls c store new now
+  gives_up-falls went =
+      subst (λ (n : Collection). CollectFalls c store n now) (sym g.collection)
+      (subst (λ (r : Option Release). ComesNearer store c.phase r now (once_given_up c g.after (release_answer (references_left g.before) now)).phase (once_given_up c g.after (release_answer (references_left g.before) now)).release) (sym g.had)
+      (known (release_answer (references_left g.before) now) refl (sym g.told ∙ went)))
+    where
+      known : (a : DeathStep) → release_answer (references_left g.before) now ≡ a → give_up_answer a ≡ answer_of.Continue
+          → ComesNearer store c.phase (Some g.before) now (once_given_up c g.after a).phase (once_given_up c g.after a).release
+      known death_answer.Continue is e = inr (refl, omega (arith, same.left, gave_one (references_left g.before) (references_left g.after) now is g.rest))
+      known (death_answer.Emit event) is e = absurd (never (references_left g.before) is)
+        where
+          never : (refs : List ℕ) → release_answer refs now ≡ death_answer.Emit event → ⊥
+          never [] h = cc
+          never (o ∷ refs) h = choice (count_of now o == 0) h
+            where
+              choice : (b : Bool) → (if b then death_answer.Died o else death_answer.Continue) ≡ death_answer.Emit event → ⊥
+              choice true k = cc
+              choice false k = cc
+      known (death_answer.Frame spec) is e = absurd (never (references_left g.before) is)
+        where
+          never : (refs : List ℕ) → release_answer refs now ≡ death_answer.Frame spec → ⊥
+          never [] h = cc
+          never (o ∷ refs) h = choice (count_of now o == 0) h
+            where
+              choice : (b : Bool) → (if b then death_answer.Died o else death_answer.Continue) ≡ death_answer.Frame spec → ⊥
+              choice true k = cc
+              choice false k = cc
+      known (death_answer.Died o) is e = absurd (cc)
+      known death_answer.Gone is e = inr (refl, omega (arith, same.left))
+
+-- the number of collected objects is never large
+pub few_at_most : (n : ℕ) (p : Phase) (store : Store) → HasFewCollected n p store → n ≤ 2000002
+few_at_most n phase_of.Start store few = omega (arith, few)
+few_at_most n (phase_of.Sizes zero one two frozen) store few = omega (arith, few)
+few_at_most n (phase_of.Telling next) store few = omega (arith, few)
+few_at_most n (phase_of.WeakClearing member weak) store few = omega (arith, few)
+few_at_most n phase_of.WeakCalling store few = omega (arith, few)
+few_at_most n (phase_of.AfterCallback weak) store few = omega (arith, few)
+few_at_most n (phase_of.AfterRelease weak true) store few = omega (arith, few)
+few_at_most n (phase_of.AfterRelease weak false) store few = omega (arith, few)
+few_at_most n phase_of.Finalizing store few = omega (arith, few)
+few_at_most n (phase_of.AfterFinalizing o) store few = omega (arith, few)
+few_at_most n phase_of.Split store few = omega (arith, few)
+few_at_most n (phase_of.Living next) store few = few
+few_at_most n (phase_of.Detaching next) store few = few
+few_at_most n phase_of.Turns store few = few
+few_at_most n (phase_of.Turn o) store few = few
+few_at_most n (phase_of.AfterTurn o died) store few = few
+few_at_most n phase_of.Ending store few = few
+few_at_most n (phase_of.Uncollectable first next number) store few = few
+few_at_most n (phase_of.Saved next number) store few = few
+few_at_most n (phase_of.Stopping number) store few = few
+few_at_most n (phase_of.Over number) store few = few
+
+-- A collection that is over says so.
+pub turn-over : (script : Script) (facts : Facts) (store : Store) (policy : Policy) (number : ℕ) (turn : Turn)
+    → turn ≡ record { phase = phase_of.Over number; release = None; collected = 0; answer = answer_of.Finished facts.collected number }
+    → TurnSteps script facts (phase_of.Over number) store policy store policy turn
+turn-over script facts store policy number turn is =
+    turn_steps script facts (phase_of.Over number) store policy store policy turn (phase_of.Over number) None (answer_of.Finished facts.collected number) is
+    (λ asked w below s. record { represents = s.shows.represents; numbers = s.shows.numbers; idle = s.shows.running; stack = s.shows.top; lines = refl })

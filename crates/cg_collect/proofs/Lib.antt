@@ -21,3 +21,4 @@ pub mod Walking
 pub mod Losing
 pub mod WalkTurns
 pub mod GivingUp
+pub mod Stepping
