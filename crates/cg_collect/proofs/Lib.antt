@@ -10,6 +10,7 @@ pub mod Turning
 pub mod Saved
 pub mod Merging
 pub mod Telling
+pub mod FinalRows
 pub mod Stopping
 pub mod Traces
 pub mod Sorts
