@@ -53,7 +53,7 @@ filter_twice p test (r ∷ rows) keeps = go (test r) refl (p r) refl (filter_twi
     go false gone true passes rest = absurd (let e : true ≡ false = sym (keeps r passes) ∙ gone in cc)
     go false gone false passes rest = rest ∙ sym (ap (λ c. cond c (r ∷ filter p rows) (filter p rows)) passes)
 
-flat_map_alike : {X : Type 0} (f g : ℕ → List X) (xs : List ℕ) → ((o : ℕ) → Includes xs o → f o ≡ g o) → flat_map f xs ≡ flat_map g xs
+pub flat_map_alike : {X : Type 0} (f g : ℕ → List X) (xs : List ℕ) → ((o : ℕ) → Includes xs o → f o ≡ g o) → flat_map f xs ≡ flat_map g xs
 flat_map_alike f g [] same = refl
 flat_map_alike f g (x ∷ xs) same = λ i. same x (inl refl) i ++ flat_map_alike f g xs (λ o m. same o (inr m)) i
 
@@ -209,13 +209,12 @@ module _ (store : Store) (final : List ℕ) (wanted : Object → Bool)
           live = λ x m. are.live x (Includes-filter_cases (λ y. not (y.weak == r.weak)) rows x m).0;
           left = λ x m. are.left x (Includes-filter_cases (λ y. not (y.weak == r.weak)) rows x m).0;
         }) in
-        subst (λ v. Lose rows (v ∷ (ws ++ flat_map (weak_references_in rows) members)) (rest (o ∷ members) rows)) same
-        (
+        subst (λ v. Lose rows (v ∷ (ws ++ flat_map (weak_references_in rows) members)) (rest (o ∷ members) rows)) same (
           may_lose rows are.rise ws r inside passes here (are.live r inside),
           subst (λ (os : List Object). AllLose wanted os (ws ++ flat_map (weak_references_in rows) members) (objects_of (at (rest (o ∷ members) rows)))) (objects_without rows are.rise o ws r inside passes here store)
-          (subst (λ (after : List Row). Lose lost (ws ++ flat_map (weak_references_in rows) members) after) (filter-without rows are.rise o ws r inside passes here (λ x. not (refers_to_any (o ∷ members) x)) (ap not gone))
-          (subst (λ (l : List ℕ). Lose lost (ws ++ l) (rest (o ∷ members) lost))
-          (flat_map_alike (weak_references_in lost) (weak_references_in rows) members (λ q m. references_other rows are.rise o ws r inside passes here q (not_among q m))) more)),
+              (subst (λ (after : List Row). Lose lost (ws ++ flat_map (weak_references_in rows) members) after) (filter-without rows are.rise o ws r inside passes here (λ x. not (refers_to_any (o ∷ members) x)) (ap not gone))
+              (subst (λ (l : List ℕ). Lose lost (ws ++ l) (rest (o ∷ members) lost))
+              (flat_map_alike (weak_references_in lost) (weak_references_in rows) members (λ q m. references_other rows are.rise o ws r inside passes here q (not_among q m))) more)),
         )
       where
         any_here : (x : Row) → refers_to o x ≡ true → refers_to_any (o ∷ members) x ≡ true

@@ -12,6 +12,7 @@ pub mod Merging
 pub mod Telling
 pub mod FinalRows
 pub mod Stopping
+pub mod Detecting
 pub mod Traces
 pub mod Sorts
 pub mod Pending
