@@ -1,5 +1,5 @@
 -- What is set aside because of its legacy finalizer, and what that leads to.
-use Rattle.std.proofs.Common.{◌≡◌, ◌≢◌, refl, sym, ◌∙◌, ap, subst, ℕ, ◌+◌, ◌<◌, ◌⊎◌, inl, inr, Bool, true, false, List, [], ◌∷◌, ◌++◌, length, length-append, take, Option, Some, None, arith, append_assoc}
+use Rattle.std.proofs.Common.{◌≡◌, ◌≢◌, refl, sym, ◌∙◌, ap, subst, ℕ, ◌+◌, ◌<◌, ◌⊎◌, inl, inr, true, false, List, [], ◌∷◌, ◌++◌, length, length-append, take, Option, Some, None, arith, append_assoc}
 use Rattle.std.specs.Prelude.{option_map, option_and_then, is_some, slice_get}
 use Rattle.std.specs.FinMap as fin
 use Rattle.std.proofs.lemmas.Bool.{cases_eq}
@@ -10,26 +10,25 @@ use Rattle.cg_script.specs.declared.Script.{Script}
 use Rattle.cg_graph.specs.Member.{Includes}
 use Rattle.cg_graph.specs.Value.{references}
 use Rattle.cg_graph.specs.Holdings.{occurrences}
-use Rattle.cg_graph.specs.Object.{object_at}
 use Rattle.cg_graph.specs.Places.{without_serial}
-use Rattle.cg_graph.specs.Reach.{Reach, first, next, edges}
+use Rattle.cg_graph.specs.Reach.{first, next, edges}
 use Rattle.cg_graph.specs.Reachable.{StandsAt, graph_at}
-use Rattle.cg_graph.specs.Store.{Store, Node, list_at, place_of, entries_of, objects_of, object_from, IsLive}
+use Rattle.cg_graph.specs.Store.{Store, Node, list_at, place_of, entries_of, object_from, IsLive}
 use Rattle.cg_graph.specs.Changes.{moved}
 use Rattle.cg_graph.proofs.Members.{either, Includes-append_left, Includes-append_right, Includes-append_cases}
 use Rattle.cg_graph.proofs.Objects.{object-at}
 use Rattle.cg_machine.specs.Program.{legacy_of}
 use Rattle.cg_machine.proofs.Sorting.{Reach-inside}
 use Rattle.cg_arena.specs.Nodes.{following}
-use Rattle.cg_heap.specs.Calls.{IsListed, IsLiveValue}
+use Rattle.cg_heap.specs.Calls.{IsListed}
 use Rattle.cg_trial.specs.View.{targets}
 use Rattle.cg_trial.specs.Split.{IsSameButPlaces, IsSameNode}
 use Rattle.cg_trial.proofs.Lists.{IsAt, ahead, ahead_is, occurs, without-absent}
 use Rattle.cg_trial.proofs.Entries.{references_more}
 use Rattle.cg_trial.proofs.Splits.{arrow}
-use Rattle.cg_trial.proofs.Placed.{once_at, apart, is_there, stands}
+use Rattle.cg_trial.proofs.Placed.{once_at, apart, is_there}
 use Rattle.cg_collect.specs.Starting.{StaysAt, SetsLegacyAside, SetsFinalizedAside, SetsReferencesAside, Closes, IsLedByLegacy, FollowsLegacy, has_legacy_in}
-use Rattle.cg_collect.proofs.Standing.{same_itself, same_more, live_on, live_back, entries_on, lives_at, stands_at, stood_at, edge_at, edge_back, nobody_at}
+use Rattle.cg_collect.proofs.Standing.{same_itself, same_more, entries_on, lives_at, stands_at, stood_at, edge_at, edge_back, nobody_at}
 use Rattle.cg_collect.proofs.Moving.{one-shorter, standing_at, walk_at, walk_over, walk_first, walk_passes, comes_next, live_where, left_is, moved_same, moved_there, moved_not, moved_last, moved_from, moved_once, walk_leaves}
 
 -- No reference, one, and more of them.
@@ -240,7 +239,7 @@ module _ (script : Script) (old now : Store) (cursor : Option ℕ) (o : ℕ) (li
       leaves : (rest : List ℕ) × (so.back ≡ o ∷ rest) × IsAt (list_at (moved o Legacy now) Cand) then so.front rest
       leaves = walk_leaves now listed o finding_live Legacy (omega arith) Cand then so.front so.back (λ e. cc) found_at comes
 
-      pub finding_aside : Finding script old (moved o Legacy now) then
+      finding_aside : Finding script old (moved o Legacy now) then
       finding_aside = record {
         front = so.front;
         back = leaves.0;
@@ -261,13 +260,20 @@ module _ (script : Script) (old now : Store) (cursor : Option ℕ) (o : ℕ) (li
         ];
       }
 
-      pub aside_shorter : length (ahead then (list_at (moved o Legacy now) Cand)) < length (ahead cursor (list_at now Cand))
+      aside_shorter : length (ahead then (list_at (moved o Legacy now) Cand)) < length (ahead cursor (list_at now Cand))
       unfolding leaves
       aside_shorter =
           let before : length (ahead cursor (list_at now Cand)) ≡ length so.back = ap length (left_is now listed Cand cursor so.front so.back so.at) in
           let after : length (ahead then (list_at (moved o Legacy now) Cand)) ≡ length leaves.0 = ap length (ahead_is (list_at (moved o Legacy now) Cand) then so.front leaves.0 (moved_once now listed o finding_live Legacy (omega arith) Cand (λ e. cc)) leaves.2) in
           let parts : length so.back ≡ length (o ∷ leaves.0) = ap length leaves.1 in
           omega (arith, before, after, parts)
+
+      -- the same of the heap that the move leaves
+      pub finding_moved : (new : Store) → new ≡ moved o Legacy now → Finding script old new then
+      finding_moved new is = subst (λ (s : Store). Finding script old s then) (sym is) finding_aside
+
+      pub moved_shorter : (new : Store) → new ≡ moved o Legacy now → length (ahead then (list_at new Cand)) < length (ahead cursor (list_at now Cand))
+      moved_shorter new is = subst (λ (s : Store). length (ahead then (list_at s Cand)) < length (ahead cursor (list_at now Cand))) (sym is) aside_shorter
 
     -- one without
     module _ (none : has_legacy_in script now o ≡ false) where

@@ -16,3 +16,10 @@ pub mod Detecting
 pub mod Traces
 pub mod Sorts
 pub mod Pending
+pub mod Apart
+pub mod Begins
+pub mod RowWalks
+pub mod Walking
+pub mod Losing
+pub mod WalkTurns
+pub mod GivingUp

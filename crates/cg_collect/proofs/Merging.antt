@@ -1,6 +1,6 @@
 -- A generation is merged into another.
-use Rattle.std.proofs.Common.{◌≡◌, ◌≢◌, refl, sym, ◌∙◌, ap, subst, ℕ, ◌+◌, ◌<◌, ◌≤◌, inl, inr, Bool, true, false, cond, Option, Some, None, arith}
-use Rattle.std.specs.Prelude.{◌==◌, if◌then◌else◌, option_map, nat_le, min}
+use Rattle.std.proofs.Common.{◌≡◌, ◌≢◌, refl, sym, ◌∙◌, ap, subst, ℕ, ◌+◌, ◌<◌, ◌≤◌, inl, inr, Bool, true, false, Option, Some, None, arith}
+use Rattle.std.specs.Prelude.{◌==◌, if◌then◌else◌, option_map, nat_le}
 use Rattle.std.specs.FinMap as fin
 use Rattle.std.proofs.lemmas.Bool.{cases_eq, eq-eqb, ne_eqb}
 use Rattle.std.proofs.lemmas.Bool.Decides.{nat_tests}
@@ -12,7 +12,6 @@ use Rattle.cg_graph.specs.Changes.{with_place}
 use Rattle.cg_graph.proofs.Maps.{get-mapped}
 use Rattle.cg_machine.specs.Collect.{merged_place, older}
 use Rattle.cg_heap.specs.Calls.{merged, place_merged}
-use Rattle.cg_trial.specs.View.{number_in}
 use Rattle.cg_trial.specs.Split.{IsSameButPlaces, IsSameNode}
 use Rattle.cg_collect.specs.Starting.{MergesYounger, GetOlder}
 use Rattle.cg_collect.proofs.Standing.{same_itself, same_more}

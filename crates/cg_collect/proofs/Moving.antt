@@ -1,16 +1,15 @@
 -- One object goes to another place while a walk over its list has come to it.
-use Rattle.std.proofs.Common.{◌≡◌, ◌≢◌, refl, sym, ◌∙◌, ap, subst, ℕ, ◌+◌, ◌<◌, ◌≤◌, ◌⊎◌, inl, inr, Bool, true, false, cond, not, List, [], ◌∷◌, ◌++◌, length, Option, Some, None, IsSome, arith, append_assoc}
+use Rattle.std.proofs.Common.{◌≡◌, ◌≢◌, refl, sym, ◌∙◌, ap, subst, ℕ, ◌+◌, ◌<◌, ◌≤◌, inl, inr, cond, not, List, [], ◌∷◌, ◌++◌, length, Option, Some, None, IsSome, arith, append_assoc}
 use Rattle.std.specs.Prelude.{◌==◌, nat_eq, option_map, slice_get}
 use Rattle.std.specs.FinMap as fin
 use Rattle.std.proofs.lemmas.Bool.{cases_eq, eq-eqb, ne_eqb}
 use Rattle.std.proofs.lemmas.List.Filters.{length-filter_both}
 use Rattle.std.proofs.lemmas.List.Sums.{length-filter}
 use Rattle.cg_value.specs.declared.Val.{Val}
-use Rattle.cg_value.specs.declared.Val.TheVariants.{Ref}
 use Rattle.cg_value.specs.declared.Entry.{Entry}
 use Rattle.cg_value.specs.declared.Place.{Place}
 use Rattle.cg_graph.specs.Member.{Includes}
-use Rattle.cg_graph.specs.Value.{references, entry_references}
+use Rattle.cg_graph.specs.Value.{entry_references}
 use Rattle.cg_graph.specs.Holdings.{occurrences}
 use Rattle.cg_graph.specs.Places.{without_serial}
 use Rattle.cg_graph.specs.Store.{Store, Node, list_at, place_of, place_in, entries_of, inner, IsLive}
@@ -20,7 +19,7 @@ use Rattle.cg_graph.proofs.Members.{Includes-append_left, Includes-append_right}
 use Rattle.cg_arena.specs.Nodes.{IsPlace, following}
 use Rattle.cg_heap.specs.Calls.{IsListed, IsLiveValue}
 use Rattle.cg_heap.proofs.HoldLemmas.{entry_holds}
-use Rattle.cg_trial.specs.View.{view_of, Moved, IsNext, head_of, targets}
+use Rattle.cg_trial.specs.View.{view_of, Moved, head_of, targets}
 use Rattle.cg_trial.specs.Split.{IsSameButPlaces}
 use Rattle.cg_trial.proofs.Lists.{occurs, ahead, ahead_is, IsAt, head_is, once_before, without-absent, without-append, without-cons_yes, sum_by-without}
 use Rattle.cg_trial.proofs.Ends.{same_but_places}

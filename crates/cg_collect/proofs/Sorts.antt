@@ -1,24 +1,24 @@
 -- The places of the objects after the start are those that the machine allows: survivors are untracked or get older, garbage is
 -- set aside or condemned.
-use Rattle.std.proofs.Common.{◌≡◌, ◌≢◌, refl, sym, ◌∙◌, ap, subst, ℕ, ◌+◌, ◌⊎◌, inl, inr, Bool, true, false, cond, not, ◌&&◌, ◌||◌, List, [], ◌∷◌, map, length, suc, Option, Some, None, arith}
-use Rattle.std.specs.Prelude.{◌==◌, ◌↔◌, if◌then◌else◌, option_map, unwrap_or, flat_map, filter, count_by, is_some}
+use Rattle.std.proofs.Common.{◌≡◌, refl, sym, ◌∙◌, ap, subst, ℕ, ◌+◌, inl, inr, Bool, true, false, cond, not, ◌&&◌, ◌||◌, List, [], ◌∷◌, map, length, suc, Option, Some, None}
+use Rattle.std.specs.Prelude.{◌==◌, ◌↔◌, if◌then◌else◌, option_map, unwrap_or, flat_map, count_by}
 use Rattle.std.specs.List.{list_any}
 use Rattle.std.specs.FinMap as fin
-use Rattle.std.proofs.lemmas.Bool.{eqb-true, eq-eqb, cases_eq}
+use Rattle.std.proofs.lemmas.Bool.{eqb-true, eq-eqb}
 use Rattle.std.proofs.lemmas.List.Sums.{length-filter, sum_by-cons}
 use Rattle.cg_value.specs.declared.KindCode.{KindCode}
 use Rattle.cg_value.specs.declared.KindCode.TheVariants.{List as ListKind, Tuple, Dict, Inst, Func, Weak}
 use Rattle.cg_value.specs.declared.Place.{Place}
-use Rattle.cg_value.specs.declared.Place.TheVariants.{Untracked, Gen, Cand, Legacy}
+use Rattle.cg_value.specs.declared.Place.TheVariants.{Untracked, Gen, Cand}
 use Rattle.cg_script.specs.declared.Script.{Script}
 use Rattle.cg_graph.specs.Member.{Includes}
 use Rattle.cg_graph.specs.Value.{references}
-use Rattle.cg_graph.specs.Object.{Object, object_at, with_place, same_place, is_at, objects_at, serials, serials_at, is_tuple, is_tracked, may_be_tracked}
+use Rattle.cg_graph.specs.Object.{Object, object_at, with_place, same_place, is_at, objects_at, serials, is_tuple, is_tracked, may_be_tracked}
 use Rattle.cg_graph.specs.Holdings.{occurrences}
-use Rattle.cg_graph.specs.Reach.{Reach, first, next, edges}
-use Rattle.cg_graph.specs.Reachable.{IsReachable, IsUnreachable, StandsAt, graph_at}
-use Rattle.cg_graph.specs.Store.{Store, Node, objects_of, object_from, list_at, place_of, entries_of, outside_of, count_of, HasCode, IsLive}
-use Rattle.cg_graph.proofs.Members.{either, true_and, cases_of, Includes-filter_cases}
+use Rattle.cg_graph.specs.Reach.{first, next}
+use Rattle.cg_graph.specs.Reachable.{IsReachable, IsUnreachable, StandsAt}
+use Rattle.cg_graph.specs.Store.{Store, Node, objects_of, object_from, list_at, place_of, outside_of, count_of, HasCode}
+use Rattle.cg_graph.proofs.Members.{either, true_and, Includes-filter_cases}
 use Rattle.cg_graph.proofs.Objects.{object-at}
 use Rattle.cg_graph.proofs.Reachable.{reachable_alike, unreachable_alike}
 use Rattle.cg_machine.specs.World.{World, with_objects}
@@ -29,8 +29,8 @@ use Rattle.cg_machine.proofs.Sorting.{Reach-inside}
 use Rattle.cg_heap.specs.Calls.{IsListed, code_may_be_tracked, node_may_be_tracked}
 use Rattle.cg_trial.specs.Split.{IsSameButPlaces}
 use Rattle.cg_trial.proofs.Worlds.{counts_alike}
-use Rattle.cg_collect.specs.Starting.{IsLedByLegacy, has_tracked, has_legacy_in}
-use Rattle.cg_collect.proofs.Standing.{map_alike, map_map, place_is, place_at_is, place_differs, place_there, entries_there, code_there, lives_at, stands_at, stood_at, edge_at, edge_back, entries_on, code_on, code_back, objects_on, list_length}
+use Rattle.cg_collect.specs.Starting.{IsLedByLegacy, has_tracked}
+use Rattle.cg_collect.proofs.Standing.{map_alike, place_is, place_at_is, place_differs, place_there, entries_there, code_there, lives_at, stands_at, stood_at, edge_at, edge_back, entries_on, code_on, objects_on, list_length}
 use Rattle.cg_collect.proofs.Aside.{legacy_alike}
 use Rattle.cg_collect.proofs.Untracked.{trackable, any_alike, has_tracked_alike}
 use Rattle.cg_collect.proofs.Traces.{Trace, at_or_not, s3, same13, same14, same15, same16, candidate_on, candidate_back, unmoved, unmoved3, unmoved4, survivor_test, dict_untracked, dict_stays, tuple_untracked, split_alike, tuple_or}

@@ -1,28 +1,24 @@
 -- What is told after the start: the sizes, each condemned object, and then the weak phase follows.
-use Rattle.std.proofs.Common.{◌≡◌, ◌≢◌, refl, sym, ◌∙◌, ap, subst, ℕ, ◌+◌, ◌*◌, ◌<◌, ◌≤◌, ◌⊎◌, inl, inr, Bool, true, false, cond, not, ◌&&◌, ◌||◌, List, [], ◌∷◌, ◌++◌, map, Option, Some, None, is_some, arith}
+use Rattle.std.proofs.Common.{◌≡◌, ◌≢◌, refl, sym, ◌∙◌, ap, subst, ℕ, ◌+◌, ◌*◌, ◌<◌, ◌⊎◌, inl, inr, Bool, true, false, cond, not, ◌||◌, List, [], ◌∷◌, ◌++◌, map, Option, Some, None, arith}
 use Rattle.std.specs.Prelude.{◌==◌, if◌then◌else◌, bit_and, slice_get, option_map, unwrap_or}
 use Rattle.std.proofs.lemmas.Bool.{cases_eq, eq-eqb, ne_eqb}
-use Rattle.std.proofs.lemmas.Bool.Decides.{nat_tests}
 use Rattle.std.proofs.lemmas.Nat.Bits.{and_pow, bit_at-lt}
 use Rattle.std.specs.Int.{bit_at}
-use Rattle.cg_value.specs.declared.Place.TheVariants.{Gen, Cand, Seen, Pend}
+use Rattle.cg_value.specs.declared.Place.TheVariants.{Cand, Seen, Pend}
 use Rattle.cg_script.specs.declared.Script.{Script}
 use Rattle.cg_graph.specs.Member.{Includes}
-use Rattle.cg_graph.specs.Holdings.{occurrences}
 use Rattle.cg_graph.specs.Object.{Object, object_at, is_at}
 use Rattle.cg_graph.specs.Store.{Store, list_at, objects_of, place_of}
-use Rattle.cg_graph.proofs.Members.{either, true_or, true_and, cases_of, Includes-append_right}
-use Rattle.cg_machine.specs.declared.event.Event.{Event}
+use Rattle.cg_graph.proofs.Members.{either, true_or, Includes-append_right}
 use Rattle.cg_machine.specs.declared.event.Event.TheVariants.{Gens, GcCollectable}
 use Rattle.cg_machine.specs.World.{World, Activity}
-use Rattle.cg_machine.specs.Collect.{has_flag, lines_if, stats, collectable, is_condemned, is_condemned_in, loses_in_weak_phase}
+use Rattle.cg_machine.specs.Collect.{has_flag, lines_if, stats, collectable, is_condemned, is_condemned_in}
 use Rattle.cg_arena.specs.Nodes.{following}
 use Rattle.cg_heap.specs.Calls.{IsListed}
 use Rattle.cg_policy.specs.Policy.{Policy}
 use Rattle.cg_policy.specs.Flagset.{bits_of}
-use Rattle.cg_trial.specs.View.{head_of}
 use Rattle.cg_trial.proofs.Lists.{IsAt as Walked, ahead, ahead_is}
-use Rattle.cg_trial.proofs.Placed.{once_at, is_there, where_is}
+use Rattle.cg_trial.proofs.Placed.{once_at, is_there}
 use Rattle.cg_collect.specs.declared.answer.CollectStep.{CollectStep}
 use Rattle.cg_collect.specs.declared.answer.CollectStep.TheVariants as answer_of
 use Rattle.cg_collect.specs.declared.collection.Facts.{Facts}
@@ -30,7 +26,7 @@ use Rattle.cg_collect.specs.declared.phase.Phase.{Phase}
 use Rattle.cg_collect.specs.declared.phase.Phase.TheVariants as phase_of
 use Rattle.cg_collect.specs.declared.phase.Turn.{Turn}
 use Rattle.cg_collect.specs.Phases.{from_on, lines_left}
-use Rattle.cg_collect.specs.Ready.{IsReadyAt, IsApartUnseen, IsEmptyAt, IsAt, HaveCallbacks, IsWalk, HasMissedNone, RefersPlainly, HasFewCollected}
+use Rattle.cg_collect.specs.Ready.{IsReadyAt, IsApartUnseen, IsEmptyAt, IsAt, HasMissedNone, HasFewCollected}
 use Rattle.cg_collect.specs.Answers.{Shows, CollectSteps}
 use Rattle.cg_collect.specs.Turns.{collection_at, TurnLeaves}
 use Rattle.cg_collect.specs.Starting.{told_weak, told_if}
@@ -178,7 +174,7 @@ module _ (store : Store) (listed : IsListed store) (apart : IsApartUnseen store)
 pub turn_to : (turn : Turn) (told phase : Phase) (answer : CollectStep) → turn ≡ record { phase = told; release = None; collected = 0; answer = answer } → told ≡ phase → turn ≡ record { phase = phase; release = None; collected = 0; answer = answer }
 turn_to turn told phase answer is same = is ∙ ap (λ (p : Phase). record { phase = p; release = None; collected = 0; answer = answer }) same
 
-few_told : (n : ℕ) (b : Bool) (store : Store) → n ≡ 0 → HasFewCollected n (told_if b store) store
+pub few_told : (n : ℕ) (b : Bool) (store : Store) → n ≡ 0 → HasFewCollected n (told_if b store) store
 few_told n true store e = e
 few_told n false store e = e
 

@@ -1,9 +1,8 @@
 -- Where each object stands through the start.
-use Rattle.std.proofs.Common.{◌≡◌, ◌≢◌, refl, sym, ◌∙◌, ap, subst, ℕ, ◌+◌, ◌⊎◌, inl, inr, Bool, true, false, ◌&&◌, List, [], Option, Some, None, IsSome, arith}
-use Rattle.std.specs.Prelude.{◌==◌, ◌↔◌}
+use Rattle.std.proofs.Common.{◌≡◌, ◌≢◌, refl, sym, ◌∙◌, ap, subst, ℕ, ◌⊎◌, inl, inr, true, false, [], Option, Some, None, IsSome}
+use Rattle.std.specs.Prelude.{◌↔◌}
 use Rattle.std.specs.FinMap as fin
 use Rattle.std.proofs.lemmas.Bool.{cases_eq}
-use Rattle.cg_value.specs.declared.KindCode.{KindCode}
 use Rattle.cg_value.specs.declared.KindCode.TheVariants.{Tuple, Dict}
 use Rattle.cg_value.specs.declared.Place.{Place}
 use Rattle.cg_value.specs.declared.Place.TheVariants.{Untracked, Gen, Cand, Legacy}
@@ -18,8 +17,8 @@ use Rattle.cg_machine.proofs.Sorting.{Reach-inside}
 use Rattle.cg_heap.specs.Calls.{IsListed}
 use Rattle.cg_trial.specs.Split.{IsSameButPlaces}
 use Rattle.cg_trial.proofs.Placed.{where_is, is_there}
-use Rattle.cg_collect.specs.Starting.{StaysAt, MergesYounger, UntracksSurvivors, Untracks, WasUntracked, GetOlder, SetsLegacyAside, IsLedByLegacy, has_tracked}
-use Rattle.cg_collect.proofs.Standing.{place_is, place_at_is, place_differs, place_self, same_itself, same_more, live_on, live_back, lives_at, nobody_at, stood_at}
+use Rattle.cg_collect.specs.Starting.{StaysAt, MergesYounger, UntracksSurvivors, WasUntracked, GetOlder, SetsLegacyAside, has_tracked}
+use Rattle.cg_collect.proofs.Standing.{place_is, place_at_is, place_differs, same_itself, same_more, live_on, live_back, lives_at, nobody_at, stood_at}
 use Rattle.cg_collect.proofs.Untracked.{trackable, trackable_alike, has_tracked_alike}
 
 -- an object stands at a place or not
@@ -107,7 +106,7 @@ module _ (script : Script) (g : ℕ) (s0 s1 s2 s4 s5 s6 : Store) (t : Trace scri
   dict_or : (o : ℕ) → (place_of s4 o ≡ place_of s3 o) ⊎ ((place_of s3 o ≡ Gen g) × (place_of s4 o ≡ Untracked))
   dict_or o = either (dict_pass o) (λ s. inl s) (λ went. inr (went.1.stood ∙ ap Gen (sym went.0), went.1.stands))
 
-  both_or : (o : ℕ) → (place_of s4 o ≡ place_of s2 o) ⊎ ((place_of s2 o ≡ Gen g) × (place_of s4 o ≡ Untracked))
+  pub both_or : (o : ℕ) → (place_of s4 o ≡ place_of s2 o) ⊎ ((place_of s2 o ≡ Gen g) × (place_of s4 o ≡ Untracked))
   both_or o = go (tuple_or o) (dict_or o)
     where
       go : (place_of s3 o ≡ place_of s2 o) ⊎ ((place_of s2 o ≡ Gen g) × (place_of s3 o ≡ Untracked)) → (place_of s4 o ≡ place_of s3 o) ⊎ ((place_of s3 o ≡ Gen g) × (place_of s4 o ≡ Untracked))

@@ -3,7 +3,7 @@ use Rattle.std.proofs.Common.{◌≡◌, ◌≢◌, refl, sym, ◌∙◌, ap, su
 use Rattle.std.specs.Prelude.{IfSome, slice_get}
 use Rattle.std.specs.List.{list_any}
 use Rattle.std.specs.FinMap as fin
-use Rattle.std.proofs.lemmas.Bool.{cases_eq, cases_Bool}
+use Rattle.std.proofs.lemmas.Bool.{cases_eq}
 use Rattle.std.proofs.lemmas.List.{take-append-drop}
 use Rattle.std.proofs.lemmas.List.Folds.{list_any-append}
 use Rattle.std.proofs.Math.Seq.{take-length}
@@ -15,7 +15,7 @@ use Rattle.cg_value.specs.declared.KindCode.TheVariants.{List as ListKind, Tuple
 use Rattle.cg_value.specs.declared.Place.{Place}
 use Rattle.cg_value.specs.declared.Place.TheVariants.{Untracked, Gen}
 use Rattle.cg_graph.specs.Member.{Includes}
-use Rattle.cg_graph.specs.Value.{references, entry_references}
+use Rattle.cg_graph.specs.Value.{references}
 use Rattle.cg_graph.specs.Object.{same_place}
 use Rattle.cg_graph.specs.Store.{Store, Node, list_at, place_of, place_in, entries_of, HasCode, IsLive}
 use Rattle.cg_graph.specs.Changes.{moved}
@@ -28,7 +28,7 @@ use Rattle.cg_trial.proofs.Lists.{IsAt, ahead, ahead_is}
 use Rattle.cg_trial.proofs.Entries.{references-append, references_more}
 use Rattle.cg_trial.proofs.Placed.{is_there}
 use Rattle.cg_collect.specs.Starting.{StaysAt, Untracks, WasUntracked, UntracksOne, has_tracked}
-use Rattle.cg_collect.proofs.Standing.{same_itself, same_more, code_on, code_back, entries_on, lives_at, place_self}
+use Rattle.cg_collect.proofs.Standing.{same_itself, same_more, code_on, code_back, entries_on, lives_at}
 use Rattle.cg_collect.proofs.Moving.{walk_at, walk_over, walk_first, walk_passes, comes_next, live_where, left_is, moved_same, moved_there, moved_not, moved_once, walk_leaves}
 
 -- whether an object may be tracked

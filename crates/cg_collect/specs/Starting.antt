@@ -1,6 +1,6 @@
 -- What the parts of the start leave: who is untracked, and who is set aside. (Developer guide, "optimization: delay tracking
 -- containers"; `gc` manual, `gc.garbage`.)
-use Rattle.std.specs.Prelude.{◌≡◌, ◌≢◌, ℕ, ◌+◌, Bool, true, false, ◌⊎◌, List, ◌++◌, length, Option, None, slice_get, option_and_then, is_some, if◌then◌else◌}
+use Rattle.std.specs.Prelude.{◌≡◌, ◌≢◌, ℕ, ◌+◌, Bool, true, false, ◌⊎◌, List, ◌++◌, length, None, slice_get, option_and_then, is_some, if◌then◌else◌}
 use Rattle.std.specs.List.{list_any}
 use Rattle.std.specs.FinMap as fin
 use Rattle.cg_value.specs.declared.Place.TheVariants.{Untracked, Gen, Frozen, Cand, Legacy}
@@ -21,21 +21,26 @@ use Rattle.cg_trial.specs.Split.{IsSameButPlaces}
 use Rattle.cg_collect.specs.declared.phase.Phase.{Phase}
 use Rattle.cg_collect.specs.declared.phase.Phase.TheVariants as phase_of
 
--- What is told after the start: the sizes that the generations had,
+-- the phase that tells the sizes that the generations had
 abbrev pub told_sizes : Store → Phase
 told_sizes store = phase_of.Sizes (length (list_at store (Gen 0))) (length (list_at store (Gen 1))) (length (list_at store (Gen 2))) (length (list_at store Frozen))
 
--- nothing, since the weak phase follows,
+-- the weak phase, from the first condemned object on
 abbrev pub told_weak : Store → Phase
 told_weak store = phase_of.WeakClearing (slice_get (list_at store Cand) 0) None
 
--- or first each condemned object
+-- the phase that tells the condemned objects, where they are to be told
 abbrev pub told_if : Bool → Store → Phase
 told_if b store = if b then phase_of.Telling (slice_get (list_at store Cand) 0) else told_weak store
 
--- as the flags say
+-- with COLLECTABLE they are
 abbrev pub told_after_sizes : ℕ → Store → Phase
 told_after_sizes flags store = told_if (has_flag flags collectable) store
+
+-- the phase after the start: the sizes come first, where they are to be told
+abbrev pub told_start : Bool → Bool → Store → Store → Phase
+told_start true b old store = told_sizes old
+told_start false b old store = told_if b store
 
 -- an object stands where it stood
 abbrev pub StaysAt : Store → Store → ℕ → Type 0

@@ -60,6 +60,7 @@ fn look_at<B: Kind>(heap: &mut Heap<B>, member: Option<u64>, weak: u64) -> Turn
     };
     if loses(heap, weak) {
         lose(heap, weak);
+        heap.sound();
         Turn::tells(Event::Cleared(weak), phase)
     } else {
         Turn::to(phase)
@@ -83,7 +84,11 @@ fn is_condemned<B: Kind>(heap: &Heap<B>, object: u64) -> bool
     requires { IsLive heap.now object }
     ensures { result ≡ is_condemned_in (objects_of heap.now) object }
 {
-    matches!(heap.place_of(object), Place::Cand | Place::Seen)
+    match heap.place_of(object) {
+        Place::Cand => true,
+        Place::Seen => true,
+        _ => false,
+    }
 }
 
 /// A weak reference loses its referent. One that is not condemned and has a callback waits, and is held.

@@ -1,10 +1,9 @@
-use Rattle.std.proofs.Common.{◌≡◌, sym, ◌∙◌, subst, rules, arith}
+use Rattle.std.proofs.Common.{◌≡◌, sym, subst, arith}
 use Rattle.std.proofs.lemmas.Grind.{common_steps}
 use Rattle.cg_value.specs.declared.Val.{Val}
 use Rattle.cg_value.specs.declared.Val.TheVariants.{Ref}
 use Rattle.cg_value.specs.declared.Place.TheVariants.{Cand}
 use Rattle.cg_graph.specs.Store.{Store, place_of, IsLive}
-use Rattle.cg_graph.specs.Changes.{moved}
 use Rattle.cg_trial.specs.View.{targets}
 use Rattle.cg_collect.specs.Starting.{SetsReferencesAside}
 use Rattle.cg_collect.proofs.Aside.{aside_one}

@@ -1,9 +1,6 @@
-use Rattle.std.proofs.Common.{◌≡◌, sym, ◌∙◌, ap, subst, true, false, is_some, ◌<◌, length}
-use Rattle.cg_value.specs.declared.Place.TheVariants.{Cand}
-use Rattle.cg_graph.specs.Store.{Store, list_at}
-use Rattle.cg_trial.proofs.Lists.{ahead}
+use Rattle.std.proofs.Common.{◌≡◌, sym, ◌∙◌, ap, true, false, is_some}
 use Rattle.cg_collect.specs.Starting.{has_legacy_in}
-use Rattle.cg_collect.proofs.Aside.{Finding, finding_first, finding_live, finding_aside, aside_shorter, finding_passes, passes_shorter, finding_done}
+use Rattle.cg_collect.proofs.Aside.{finding_first, finding_live, finding_moved, moved_shorter, finding_passes, passes_shorter, finding_done}
 use Rattle.cg_collect.proofs.legacy.set_finalized_aside.Goals as goal
 
 pub objects-init : goal.objects-init
@@ -21,14 +18,12 @@ move_to-requires-clause-live g c = finding_live c.args.script.now c.args.heap.no
 pub objects-smaller-then-is_some : goal.objects-smaller-then-is_some
 objects-smaller-then-is_some g c =
     let legacy : has_legacy_in c.args.script.now c.objects.heap c.in-Some.object ≡ true = ap is_some (sym c.finalizers_of.ensures.legacy) ∙ sym c.is_some.ensures ∙ c.if-is_some.true in
-    subst (λ (s : Store). length (ahead c.next-next.result (list_at s Cand)) < length (ahead c.objects.next (list_at c.objects.heap Cand))) (sym c.move_to.ensures)
-    (aside_shorter c.args.script.now c.args.heap.now c.objects.heap c.objects.next c.in-Some.object c.sound-in-Some.ensures.listed c.objects.invariant c.in-Some.is c.next-next.result c.next-next.ensures legacy)
+    moved_shorter c.args.script.now c.args.heap.now c.objects.heap c.objects.next c.in-Some.object c.sound-in-Some.ensures.listed c.objects.invariant c.in-Some.is c.next-next.result c.next-next.ensures legacy c.move_to.new.self c.move_to.ensures
 
 pub objects-preserved-then-is_some : goal.objects-preserved-then-is_some
 objects-preserved-then-is_some g c =
     let legacy : has_legacy_in c.args.script.now c.objects.heap c.in-Some.object ≡ true = ap is_some (sym c.finalizers_of.ensures.legacy) ∙ sym c.is_some.ensures ∙ c.if-is_some.true in
-    subst (λ (s : Store). Finding c.args.script.now c.args.heap.now s c.next-next.result) (sym c.move_to.ensures)
-    (finding_aside c.args.script.now c.args.heap.now c.objects.heap c.objects.next c.in-Some.object c.sound-in-Some.ensures.listed c.objects.invariant c.in-Some.is c.next-next.result c.next-next.ensures legacy)
+    finding_moved c.args.script.now c.args.heap.now c.objects.heap c.objects.next c.in-Some.object c.sound-in-Some.ensures.listed c.objects.invariant c.in-Some.is c.next-next.result c.next-next.ensures legacy c.move_to.new.self c.move_to.ensures
 
 pub objects-smaller : goal.objects-smaller
 objects-smaller g c =

@@ -1,4 +1,4 @@
-use Rattle.std.proofs.Common.{◌≡◌, sym, ◌∙◌, ap, Bool, false}
+use Rattle.std.proofs.Common.{◌≡◌, sym, ◌∙◌, ap, false}
 use Rattle.cg_machine.specs.Collect.{has_flag, collectable}
 use Rattle.cg_policy.specs.Flagset.{bits_of}
 use Rattle.cg_collect.specs.Starting.{told_if}

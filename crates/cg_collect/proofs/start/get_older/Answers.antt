@@ -1,4 +1,4 @@
-use Rattle.std.proofs.Common.{sym, subst, ◌∙◌, ap, ◌≡◌, ℕ}
+use Rattle.std.proofs.Common.{sym, subst, ◌∙◌, ap, ℕ}
 use Rattle.cg_value.specs.declared.Place.TheVariants.{Gen}
 use Rattle.cg_graph.specs.Store.{Store}
 use Rattle.cg_heap.specs.Calls.{merged}

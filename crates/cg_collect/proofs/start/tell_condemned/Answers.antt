@@ -1,4 +1,4 @@
-use Rattle.std.proofs.Common.{◌≡◌, refl, sym, ◌∙◌, ap, subst, ℕ, Option, Some, None}
+use Rattle.std.proofs.Common.{sym, subst, ℕ, Option, Some, None}
 use Rattle.cg_value.specs.declared.Place.TheVariants.{Cand}
 use Rattle.cg_graph.specs.Member.{Includes}
 use Rattle.cg_graph.specs.Store.{list_at}

@@ -1,9 +1,8 @@
-use Rattle.std.proofs.Common.{◌≡◌, sym, ◌∙◌, ap, subst, None}
+use Rattle.std.proofs.Common.{sym, subst, None}
 use Rattle.cg_machine.specs.declared.event.Event.TheVariants.{Gens}
 use Rattle.cg_machine.specs.Collect.{has_flag, collectable}
 use Rattle.cg_policy.specs.Flagset.{bits_of}
 use Rattle.cg_collect.specs.declared.answer.CollectStep.TheVariants as answer_of
-use Rattle.cg_collect.specs.declared.phase.Phase.{Phase}
 use Rattle.cg_collect.specs.declared.phase.Phase.TheVariants as phase_of
 use Rattle.cg_collect.specs.declared.phase.Turn.{Turn}
 use Rattle.cg_collect.specs.Starting.{told_after_sizes}

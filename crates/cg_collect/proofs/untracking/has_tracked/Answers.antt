@@ -1,4 +1,4 @@
-use Rattle.std.proofs.Common.{◌≡◌, sym, ◌∙◌}
+use Rattle.std.proofs.Common.{sym, ◌∙◌}
 use Rattle.cg_collect.proofs.Moving.{value_lives, key_lives}
 use Rattle.cg_collect.proofs.Untracked.{none_more, found_value, found_key}
 use Rattle.cg_collect.proofs.untracking.has_tracked.Goals.{then-may_be_tracked-via-then-may_be_tracked, then-may_be_tracked-via-else-may_be_tracked+then-may_be_tracked-2}

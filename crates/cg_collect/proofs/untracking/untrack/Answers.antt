@@ -1,4 +1,4 @@
-use Rattle.std.proofs.Common.{◌≡◌, subst, ℕ, refl}
+use Rattle.std.proofs.Common.{subst, ℕ, refl}
 use Rattle.cg_value.specs.declared.KindCode.TheVariants.{Dict}
 use Rattle.cg_collect.specs.Starting.{Untracks}
 use Rattle.cg_collect.proofs.untracking.untrack.Goals as goal
