@@ -1,5 +1,5 @@
 //! A collection of a generation.
-ghost use Rattle.std.specs.Prelude.{◌≡◌, ◌↔◌, ◌<◌, ◌≤◌, ◌+◌, false, true, Bool, ℕ, List, None};
+ghost use Rattle.std.specs.Prelude.{◌≡◌, ◌≤◌, false, true, Bool, None, IfNone, IfSome};
 ghost use Rattle.cg_machine.specs.World.{World, push};
 ghost use Rattle.cg_machine.specs.Collect.{begun};
 ghost use Rattle.cg_machine.specs.Commands.{new_collection};
@@ -8,9 +8,10 @@ ghost use Rattle.cg_heap.specs.Calls.{HasFewHolds};
 ghost use Rattle.cg_death.specs.Activities.{HasHolds};
 ghost use Rattle.cg_collect.specs.declared.answer.CollectStep.TheVariants as answer_of;
 ghost use Rattle.cg_collect.specs.Numbers.{IsBelow62};
-ghost use Rattle.cg_collect.specs.Ready.{IsClear};
+ghost use Rattle.cg_collect.specs.Ready.{IsClear, IsReadyAt};
+ghost use Rattle.cg_collect.specs.Turns.{TurnSteps, TurnFalls, TurnLeaves, StaysReady};
 ghost use Rattle.cg_collect.specs.Answers.{CollectSteps, Shows};
-ghost use Rattle.cg_collect.specs.Collections.{IsReady, KeepsReady, CollectFalls, held_by};
+ghost use Rattle.cg_collect.specs.Collections.{IsReady, KeepsReady, CollectFalls, GivesUpNext, held_by, given_up_by, own_holds_at, facts_of, died_in};
 
 use crate::answer::CollectStep;
 use crate::detection::{detach_one, detect, tell_living};
@@ -100,7 +101,11 @@ impl Collection {
     }
 
     /// Gives up the next reference, if one is to be given up.
-    fn give_up<B: Kind>(&mut self, heap: &mut Heap<B>) -> Option<CollectStep> {
+    fn give_up<B: Kind>(&mut self, heap: &mut Heap<B>) -> Option<CollectStep>
+        requires { HasHolds heap.old (given_up_by self.old.release) }
+        ensures none { IfNone result ((self.new ≡ self.old) × (heap.new ≡ heap.old) × (self.old.release ≡ None)) }
+        ensures some { IfSome result (λ answer. GivesUpNext self.old heap.old self.new heap.new answer) }
+    {
         let answer = match &mut self.release {
             Some(release) => release.step(heap),
             None => return None,
@@ -125,7 +130,17 @@ impl Collection {
         policy: &mut Policy,
         script: &Script,
         steps: &mut Steps<L>,
-    ) -> Turn {
+    ) -> Turn
+        requires generation { self.now.generation ≤ 2 }
+        requires ready { IsReadyAt heap.old self.now.generation self.now.phase }
+        requires few { HasFewHolds heap.old }
+        requires held { HasHolds heap.old (own_holds_at self.now.phase) }
+        requires bounded { IsBelow62 policy.old.numbers }
+        ensures steps { TurnSteps script.now (facts_of self.now) self.now.phase heap.old policy.old heap.new policy.new result }
+        ensures ready { StaysReady heap.new self.now.generation result.phase result.answer }
+        ensures falls { TurnFalls heap.old self.now.phase heap.new result }
+        ensures leaves { TurnLeaves heap.old self.now.phase heap.new result }
+    {
         let facts = Facts {
             generation: self.generation,
             flags: self.flags,
@@ -172,7 +187,9 @@ impl Collection {
 }
 
 /// What was given up has died of that.
-fn died(phase: Phase) -> Phase {
+fn died(phase: Phase) -> Phase
+    ensures { result ≡ died_in phase }
+{
     match phase {
         Phase::AfterRelease { weak, .. } => Phase::AfterRelease { weak, died: true },
         Phase::AfterTurn { object, .. } => Phase::AfterTurn { object, died: true },
