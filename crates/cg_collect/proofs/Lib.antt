@@ -10,7 +10,9 @@ pub mod Turning
 pub mod Saved
 pub mod Merging
 pub mod Telling
+pub mod FinalRows
 pub mod Stopping
+pub mod Detecting
 pub mod Traces
 pub mod Sorts
 pub mod Pending

@@ -1,9 +1,8 @@
 //! The second detection: what finalizers brought back is alive; the rest is the final set. (PEP 442, "disposal of cyclic
 //! isolates".)
-ghost use Rattle.std.specs.Prelude.{◌≡◌, ◌<◌, ◌≤◌, ◌∷◌, [], ℕ, Some, None, true, false};
+ghost use Rattle.std.specs.Prelude.{◌≤◌, ℕ};
 ghost use Rattle.cg_script.specs.declared.Script.{Script as AnyScript};
 ghost use Rattle.cg_policy.specs.Policy.{Policy as Standing};
-ghost use Rattle.cg_heap.specs.Calls.{HasFewHolds};
 ghost use Rattle.cg_collect.specs.declared.collection.Facts.{Facts as AnyFacts};
 ghost use Rattle.cg_collect.specs.declared.phase.Phase.TheVariants as phase_of;
 ghost use Rattle.cg_collect.specs.Ready.{IsReadyAt};
@@ -28,9 +27,11 @@ pub fn detect<B: Kind, L: Ledger>(facts: Facts, heap: &mut Heap<B>, steps: &mut 
     ensures falls { TurnFalls heap.old phase_of.Split heap.new result }
     ensures leaves { TurnLeaves heap.old phase_of.Split heap.new result }
 {
+    heap.sound();
     split(heap, Place::Cand, steps);
     let living = heap.first(Place::Back);
     heap.merge(Place::Back, Place::Gen(older(facts.generation)));
+    heap.sound();
     Turn {
         phase: Phase::Living(living),
         release: None,
@@ -48,6 +49,7 @@ pub fn tell_living<B: Kind>(facts: Facts, heap: &Heap<B>, next: Option<u64>) -> 
     ensures falls { TurnFalls heap.now (phase_of.Living next) heap.now result }
     ensures leaves { TurnLeaves heap.now (phase_of.Living next) heap.now result }
 {
+    heap.sound();
     match next {
         Some(object) => Turn::tells(Event::Alive(object), Phase::Living(heap.next(object))),
         None => Turn::to(Phase::Detaching(heap.first(Place::Cand))),
@@ -66,6 +68,7 @@ pub fn detach_one<B: Kind>(heap: &mut Heap<B>, next: Option<u64>) -> Turn
     let Some(object) = next else {
         return Turn::to(Phase::Turns);
     };
+    heap.sound();
     match heap.newest_of(object) {
         Some(weak) => {
             heap.clear_weak(weak, false);
