@@ -1,26 +1,26 @@
 pub mod CallerLemmas
-mod Worlds
-mod Releases
-mod Turns
-mod Places
-mod Falling
-mod Classes
-mod Finalizing
-mod Emptying
-mod RowSplits
-mod WeakObjects
-mod Clearing
-mod ClearingTurns
-mod Steps
-mod Calling
-mod Querying
-mod Beginning
-mod Ends
+pub mod Worlds
+pub mod Releases
+pub mod Turns
+pub mod Places
+pub mod Falling
+pub mod Classes
+pub mod Finalizing
+pub mod Emptying
+pub mod RowSplits
+pub mod WeakObjects
+pub mod Clearing
+pub mod ClearingTurns
+pub mod Steps
+pub mod Calling
+pub mod Querying
+pub mod Beginning
+pub mod Ends
 pub mod ObjectNumbers
-mod Counting
-mod RowsLeft
-mod Steadying
-mod SteadyRows
-mod SteadySteps
+pub mod Counting
+pub mod RowsLeft
+pub mod Steadying
+pub mod SteadyRows
+pub mod SteadySteps
 pub mod HoldNumbers
-mod NamesKept
+pub mod NamesKept

@@ -1,0 +1,416 @@
+-- What a collection gives up: each reference is a step of the machine's release above it.
+use Rattle.std.proofs.Common.{◌≡◌, refl, sym, ◌∙◌, ap, subst, ℕ, ◌+◌, ◌*◌, ◌<◌, ◌≤◌, Bool, true, false, not, List, [], ◌∷◌, ◌++◌, length, Option, Some, None, IsSome, inl, inr, sum_by, arith}
+use Rattle.std.specs.Prelude.{◌==◌, ◌⊎◌, filter, is_some, drop, slice_get, option_map, if◌then◌else◌}
+use Rattle.std.specs.FinMap as fin
+use Rattle.cg_value.specs.declared.KindCode.TheVariants.{Weak}
+use Rattle.cg_value.specs.declared.Place.{Place}
+use Rattle.cg_value.specs.declared.Place.TheVariants.{Cand, Seen, Back, Legacy, Pend}
+use Rattle.cg_script.specs.declared.Script.{Script}
+use Rattle.cg_graph.specs.Member.{Includes}
+use Rattle.cg_graph.specs.Holdings.{occurrences}
+use Rattle.cg_graph.specs.Places.{list_of}
+use Rattle.cg_graph.specs.Store.{Store, Node, IsLive, HasCode, list_at, objects_of, entries_of, entries_in, place_of, place_in, count_of}
+use Rattle.cg_graph.specs.Changes.{unheld, less}
+use Rattle.cg_graph.proofs.Maps.{get-mapped}
+use Rattle.cg_heap.proofs.CallerLemmas.{kinds-unheld}
+use Rattle.cg_machine.specs.World as machine
+use Rattle.cg_machine.specs.World.{World, Activity, Releasing, Collecting, Numbers}
+use Rattle.cg_machine.specs.Weak.{callback_of, callback_in}
+use Rattle.cg_machine.specs.Represents.{Represents}
+use Rattle.cg_policy.specs.Policy.{Policy}
+use Rattle.cg_death.specs.declared.release.Release.{Release}
+use Rattle.cg_death.specs.declared.answer.DeathStep.{DeathStep}
+use Rattle.cg_death.specs.declared.answer.DeathStep.TheVariants as death_answer
+use Rattle.cg_death.specs.Activities.{references_left}
+use Rattle.cg_death.specs.Answers as Death
+use Rattle.cg_death.specs.Answers.{ReleaseAnswer, once_released, release_answer}
+use Rattle.cg_death.proofs.Calling.{callback-at}
+use Rattle.cg_collect.specs.declared.answer.CollectStep.{CollectStep}
+use Rattle.cg_collect.specs.declared.answer.CollectStep.TheVariants as answer_of
+use Rattle.cg_collect.specs.declared.collection.Collection.{Collection}
+use Rattle.cg_collect.specs.declared.collection.Facts.{Facts}
+use Rattle.cg_collect.specs.declared.phase.Turn.{Turn}
+use Rattle.cg_collect.specs.declared.phase.Phase.{Phase}
+use Rattle.cg_collect.specs.declared.phase.Phase.TheVariants as phase_of
+use Rattle.cg_collect.specs.Phases.{machine_phase, collecting, released_over, lines_left, store_after}
+use Rattle.cg_collect.specs.Ready.{IsApart, IsApartUnseen, HaveCallbacks, IsReadyAt, HasFewCollected, MayGiveUp, GivesUpIn}
+use Rattle.cg_collect.specs.Answers.{Shows, CollectAnswer, CollectSteps, numbers_at}
+use Rattle.cg_collect.specs.Turns.{TurnSteps, ComesNearer, left_in_pass, still_released, still_cleared}
+use Rattle.cg_collect.specs.Collections.{IsReady, KeepsReady, CollectFalls, GivesUpNext, died_in, once_given_up, give_up_answer}
+use Rattle.cg_collect.proofs.Worlds.{turn_steps}
+use Rattle.cg_collect.proofs.Looking.{still_unsaved}
+
+-- the other phases stay
+pub died_elsewhere : (phase : Phase) → ((weak : ℕ) (died : Bool) → phase ≡ phase_of.AfterRelease weak died → ⊥) → ((o : ℕ) (died : Bool) → phase ≡ phase_of.AfterTurn o died → ⊥) → phase ≡ died_in phase
+died_elsewhere phase_of.Start a b = refl
+died_elsewhere (phase_of.Sizes zero one two frozen) a b = refl
+died_elsewhere (phase_of.Telling next) a b = refl
+died_elsewhere (phase_of.WeakClearing member weak) a b = refl
+died_elsewhere phase_of.WeakCalling a b = refl
+died_elsewhere (phase_of.AfterCallback weak) a b = refl
+died_elsewhere (phase_of.AfterRelease weak died) a b = absurd (a weak died refl)
+died_elsewhere phase_of.Finalizing a b = refl
+died_elsewhere (phase_of.AfterFinalizing o) a b = refl
+died_elsewhere phase_of.Split a b = refl
+died_elsewhere (phase_of.Living next) a b = refl
+died_elsewhere (phase_of.Detaching next) a b = refl
+died_elsewhere phase_of.Turns a b = refl
+died_elsewhere (phase_of.Turn o) a b = refl
+died_elsewhere (phase_of.AfterTurn o died) a b = absurd (b o died refl)
+died_elsewhere phase_of.Ending a b = refl
+died_elsewhere (phase_of.Uncollectable first next number) a b = refl
+died_elsewhere (phase_of.Saved next number) a b = refl
+died_elsewhere (phase_of.Stopping number) a b = refl
+died_elsewhere (phase_of.Over number) a b = refl
+
+-- A release that neither died nor ended went on.
+pub goes_on_with : (c : Collection) (release : Release) (answer : DeathStep) → ((o : ℕ) → answer ≡ death_answer.Died o → ⊥) → (answer ≡ death_answer.Gone → ⊥)
+    → (record c { release = Some release } ≡ once_given_up c release answer) × (answer_of.Continue ≡ give_up_answer answer)
+goes_on_with c release death_answer.Continue died gone = (refl, refl)
+goes_on_with c release (death_answer.Emit event) died gone = (refl, refl)
+goes_on_with c release (death_answer.Frame spec) died gone = (refl, refl)
+goes_on_with c release (death_answer.Died o) died gone = absurd (died o refl)
+goes_on_with c release death_answer.Gone died gone = absurd (gone refl)
+
+-- What a phase that gives something up shows: no line is left, and it stands on the stack of the machine.
+record GivesUpAt (p : Phase) : Type 0 where
+  lines : (script : Script) (asked : Bool) (c : Collection) (store : Store) → lines_left script asked c p store ≡ []
+  heap : (store : Store) → store_after p store ≡ store
+  numbers : (g : ℕ) (n : Numbers) → numbers_at p g n ≡ n
+  phase : List ℕ → machine.CollectPhase
+  stands : (pending : List ℕ) → machine_phase p pending ≡ Some (phase pending)
+
+gives_up_at : (p : Phase) → MayGiveUp p → GivesUpAt p
+gives_up_at (phase_of.AfterRelease weak died) may = record { lines = λ script asked c store. refl; heap = λ store. refl; numbers = λ g n. refl; phase = λ pending. machine.AfterRelease weak (filter (λ q. not (q == weak)) pending); stands = λ pending. refl }
+gives_up_at phase_of.Finalizing may = record { lines = λ script asked c store. refl; heap = λ store. refl; numbers = λ g n. refl; phase = λ pending. machine.Finalizing; stands = λ pending. refl }
+gives_up_at (phase_of.Turn o) may = record { lines = λ script asked c store. refl; heap = λ store. refl; numbers = λ g n. refl; phase = λ pending. machine.Turn o; stands = λ pending. refl }
+gives_up_at (phase_of.AfterTurn o died) may = record { lines = λ script asked c store. refl; heap = λ store. refl; numbers = λ g n. refl; phase = λ pending. machine.AfterTurn o; stands = λ pending. refl }
+gives_up_at phase_of.Start may = absurd may
+gives_up_at (phase_of.Sizes zero one two frozen) may = absurd may
+gives_up_at (phase_of.Telling next) may = absurd may
+gives_up_at (phase_of.WeakClearing member weak) may = absurd may
+gives_up_at phase_of.WeakCalling may = absurd may
+gives_up_at (phase_of.AfterCallback weak) may = absurd may
+gives_up_at (phase_of.AfterFinalizing o) may = absurd may
+gives_up_at phase_of.Split may = absurd may
+gives_up_at (phase_of.Living next) may = absurd may
+gives_up_at (phase_of.Detaching next) may = absurd may
+gives_up_at phase_of.Turns may = absurd may
+gives_up_at phase_of.Ending may = absurd may
+gives_up_at (phase_of.Uncollectable first next number) may = absurd may
+gives_up_at (phase_of.Saved next number) may = absurd may
+gives_up_at (phase_of.Stopping number) may = absurd may
+gives_up_at (phase_of.Over number) may = absurd may
+
+-- one that died of it stands there as before
+died_at : (p : Phase) → MayGiveUp p → MayGiveUp (died_in p) × ((pending : List ℕ) → machine_phase (died_in p) pending ≡ machine_phase p pending)
+died_at (phase_of.AfterRelease weak died) may = (tt, λ pending. refl)
+died_at phase_of.Finalizing may = (tt, λ pending. refl)
+died_at (phase_of.Turn o) may = (tt, λ pending. refl)
+died_at (phase_of.AfterTurn o died) may = (tt, λ pending. refl)
+died_at phase_of.Start may = absurd may
+died_at (phase_of.Sizes zero one two frozen) may = absurd may
+died_at (phase_of.Telling next) may = absurd may
+died_at (phase_of.WeakClearing member weak) may = absurd may
+died_at phase_of.WeakCalling may = absurd may
+died_at (phase_of.AfterCallback weak) may = absurd may
+died_at (phase_of.AfterFinalizing o) may = absurd may
+died_at phase_of.Split may = absurd may
+died_at (phase_of.Living next) may = absurd may
+died_at (phase_of.Detaching next) may = absurd may
+died_at phase_of.Turns may = absurd may
+died_at phase_of.Ending may = absurd may
+died_at (phase_of.Uncollectable first next number) may = absurd may
+died_at (phase_of.Saved next number) may = absurd may
+died_at (phase_of.Stopping number) may = absurd may
+died_at (phase_of.Over number) may = absurd may
+
+-- A release leaves the lists, the entries, the places and the kinds of a heap.
+lists-released : (refs : List ℕ) (store : Store) → (once_released refs store).lists ≡ store.lists
+lists-released [] store = refl
+lists-released (o ∷ refs) store = refl
+
+-- The answer of a release is that of the collection.
+module _ (script : Script) (asked : Bool) (c : Collection) (store now : Store) (policy : Policy) (w : World) (below : List Activity) (after : Release) (may : MayGiveUp c.phase) (lists : now.lists ≡ store.lists)
+    (numbers : policy.numbers ≡ w.numbers) (running : policy.running ≡ true) where
+  at : GivesUpAt c.phase
+  at = gives_up_at c.phase may
+
+  abbrev under : List Activity
+  under = collecting asked c (machine_phase c.phase (list_at store Pend)) ++ below
+
+  -- what it shows then
+  shows_at : (p : Phase) (r : Option Release) → MayGiveUp p → ((pending : List ℕ) → machine_phase p pending ≡ machine_phase c.phase pending) → (v : World) → Represents now v → v.numbers ≡ w.numbers
+      → v.stack ≡ released_over r (collecting asked c (machine_phase c.phase (list_at store Pend))) ++ below → Shows asked (record c { phase = p; release = r }) now policy v below
+  shows_at p r may_now same v rep numbers_now top =
+      let there = gives_up_at p may_now in
+      record {
+        represents = subst (λ st. Represents st v) (sym (there.heap now)) rep;
+        numbers = numbers ∙ sym numbers_now ∙ sym (there.numbers c.generation v.numbers);
+        running = running ∙ sym (ap is_some (there.stands []));
+        top = top ∙ ap (λ l. released_over r (collecting asked c (machine_phase c.phase (list_of l 6))) ++ below) (sym lists) ∙ ap (λ m. released_over r (collecting asked c m) ++ below) (sym (same (list_at now Pend)));
+      }
+
+  no_lines : [] ≡ lines_left script asked c c.phase store
+  no_lines = sym (at.lines script asked c store)
+
+  answered : (a : DeathStep) → ReleaseAnswer script w under now (references_left after) a → CollectAnswer script asked w below (lines_left script asked c c.phase store) (once_given_up c after a) now policy (give_up_answer a)
+  answered death_answer.Continue r = record {
+    events = [];
+    after = r.goes.after;
+    goes = r.goes.goes;
+    lines = ap (λ l. l ++ []) (at.lines script asked c store) ∙ sym (at.lines script asked (record c { release = Some after }) now);
+    shows = shows_at c.phase (Some after) may (λ pending. refl) r.goes.after r.goes.represents r.keeps.numbers r.goes.top;
+    keeps = record { budget = r.keeps.budget; outcome = r.keeps.outcome };
+  }
+  answered (death_answer.Emit event) r = absurd r
+  answered (death_answer.Frame spec) r = absurd r
+  answered (death_answer.Died o) r =
+      let later = died_at c.phase may in
+      (at.lines script asked c store, (gives_up_at (died_in c.phase) later.0).lines script asked (record c { phase = died_in c.phase; release = Some after }) now, record {
+        before = r.hands.before;
+        goes = r.hands.goes;
+        shows = shows_at (died_in c.phase) (Some after) later.0 later.1 r.hands.before r.hands.represents r.keeps.numbers r.hands.top;
+        keeps = record { budget = r.keeps.budget; outcome = r.keeps.outcome };
+      })
+  answered death_answer.Gone r = record {
+    events = [];
+    after = r.goes.after;
+    goes = r.goes.goes;
+    lines = ap (λ l. l ++ []) (at.lines script asked c store) ∙ sym (at.lines script asked (record c { release = None }) now);
+    shows = shows_at c.phase None may (λ pending. refl) r.goes.after r.goes.represents r.keeps.numbers r.goes.top;
+    keeps = record { budget = r.keeps.budget; outcome = r.keeps.outcome };
+  }
+
+may_give_up : (p : Phase) (r : Option Release) (release : Release) → r ≡ Some release → GivesUpIn p r → MayGiveUp p
+may_give_up p r release is may = subst (GivesUpIn p) is may
+
+-- A reference that is given up is a step of the machine.
+pub gives_up-steps : (script : Script) (policy : Policy) (c : Collection) (store : Store) (new : Collection) (now : Store) (answer : CollectStep) → GivesUpIn c.phase c.release → GivesUpNext c store new now answer → CollectSteps script c store policy new now policy answer
+gives_up-steps script policy c store new now answer gives g asked w below s =
+    let may = may_give_up c.phase c.release g.before g.had gives in
+    let at = gives_up_at c.phase may in
+    let under : List Activity = collecting asked c (machine_phase c.phase (list_at store Pend)) ++ below in
+    let stands : Death.Stands store w (Releasing (references_left g.before) ∷ under) = record {
+      represents = subst (λ st. Represents st w) (at.heap store) s.shows.represents;
+      top = s.shows.top ∙ ap (λ r. released_over r (collecting asked c (machine_phase c.phase (list_at store Pend))) ++ below) g.had;
+      running = s.running;
+      unheld = s.unheld;
+      once = s.once;
+    } in
+    let a : DeathStep = release_answer (references_left g.before) now in
+    subst (λ (n : Collection). CollectAnswer script asked w below (lines_left script asked c c.phase store) n now policy answer) (sym g.collection)
+    (subst (λ k. CollectAnswer script asked w below (lines_left script asked c c.phase store) (once_given_up c g.after a) now policy k) (sym g.told)
+    (answered script asked c store now policy w below g.after may (ap (λ (st : Store). st.lists) g.heap ∙ lists-released (references_left g.before) store)
+    (s.shows.numbers ∙ at.numbers c.generation w.numbers) (s.shows.running ∙ ap is_some (at.stands []))
+    a (g.steps script w under stands)))
+
+-- What a release leaves of a heap.
+module _ (refs : List ℕ) (store : Store) where
+  abbrev let_off : Store
+  let_off = unheld refs store
+
+  place_of-unheld : (s : ℕ) → place_of let_off s ≡ place_of store s
+  place_of-unheld s = ap place_in (get-mapped (λ k n. less (occurrences k refs) n) store.nodes s) ∙ known (fin.get store.nodes s)
+    where
+      known : (x : Option Node) → place_in (option_map (less (occurrences s refs)) x) ≡ place_in x
+      known None = refl
+      known (Some n) = refl
+
+  entries_of-unheld : (s : ℕ) → entries_of let_off s ≡ entries_of store s
+  entries_of-unheld s = ap entries_in (get-mapped (λ k n. less (occurrences k refs) n) store.nodes s) ∙ known (fin.get store.nodes s)
+    where
+      known : (x : Option Node) → entries_in (option_map (less (occurrences s refs)) x) ≡ entries_in x
+      known None = refl
+      known (Some n) = refl
+
+  dead_before : (s : ℕ) → ¬ IsLive store s → ¬ IsLive let_off s
+  dead_before s dead live = dead (known (fin.get store.nodes s) (subst IsSome (get-mapped (λ k n. less (occurrences k refs) n) store.nodes s) live))
+    where
+      known : (x : Option Node) → IsSome (option_map (less (occurrences s refs)) x) → IsSome x
+      known None h = absurd (cc)
+      known (Some n) h = refl
+
+  apart-unheld : IsApart store → IsApart let_off
+  apart-unheld apart = record {
+    garbage = place_of-unheld 1 ∙ apart.garbage;
+    back = apart.back;
+    candidates = still_unsaved store let_off Cand (entries_of-unheld 1) apart.candidates;
+    seen = still_unsaved store let_off Seen (entries_of-unheld 1) apart.seen;
+    legacy = still_unsaved store let_off Legacy (entries_of-unheld 1) apart.legacy;
+  }
+
+  callbacks-unheld : HaveCallbacks store → HaveCallbacks let_off
+  callbacks-unheld have u m = let has = have u m in (kinds-unheld refs store u Weak has.0, subst IsSome (sym (callback-at let_off u ∙ ap callback_in (entries_of-unheld u) ∙ sym (callback-at store u))) has.1)
+
+  -- the phases that give something up are ready as before
+  ready-unheld : (g : ℕ) (p : Phase) → MayGiveUp p → IsReadyAt store g p → IsReadyAt let_off g p
+  ready-unheld g (phase_of.AfterRelease weak true) may r = ((apart-unheld r.0.0, r.0.1), callbacks-unheld r.1, dead_before weak r.2)
+  ready-unheld g (phase_of.AfterRelease weak false) may r = ((apart-unheld r.0.0, r.0.1), callbacks-unheld r.1, r.2)
+  ready-unheld g phase_of.Finalizing may r = apart-unheld r
+  ready-unheld g (phase_of.Turn o) may r = ((apart-unheld r.0.0, r.0.1), place_of-unheld o ∙ r.1)
+  ready-unheld g (phase_of.AfterTurn o true) may r = ((apart-unheld r.0.0, r.0.1), dead_before o r.1)
+  ready-unheld g (phase_of.AfterTurn o false) may r = ((apart-unheld r.0.0, r.0.1), place_of-unheld o ∙ r.1)
+  ready-unheld g phase_of.Start may r = absurd may
+  ready-unheld g (phase_of.Sizes zero one two frozen) may r = absurd may
+  ready-unheld g (phase_of.Telling next) may r = absurd may
+  ready-unheld g (phase_of.WeakClearing member weak) may r = absurd may
+  ready-unheld g phase_of.WeakCalling may r = absurd may
+  ready-unheld g (phase_of.AfterCallback weak) may r = absurd may
+  ready-unheld g (phase_of.AfterFinalizing o) may r = absurd may
+  ready-unheld g phase_of.Split may r = absurd may
+  ready-unheld g (phase_of.Living next) may r = absurd may
+  ready-unheld g (phase_of.Detaching next) may r = absurd may
+  ready-unheld g phase_of.Turns may r = absurd may
+  ready-unheld g phase_of.Ending may r = absurd may
+  ready-unheld g (phase_of.Uncollectable first next number) may r = absurd may
+  ready-unheld g (phase_of.Saved next number) may r = absurd may
+  ready-unheld g (phase_of.Stopping number) may r = absurd may
+  ready-unheld g (phase_of.Over number) may r = absurd may
+
+  -- as few are collected
+  few-unheld : (n : ℕ) (p : Phase) → MayGiveUp p → HasFewCollected n p store → HasFewCollected n p let_off
+  few-unheld n (phase_of.AfterRelease weak true) may few = few
+  few-unheld n (phase_of.AfterRelease weak false) may few = few
+  few-unheld n phase_of.Finalizing may few = few
+  few-unheld n (phase_of.Turn o) may few = few
+  few-unheld n (phase_of.AfterTurn o died) may few = few
+  few-unheld n phase_of.Start may few = absurd may
+  few-unheld n (phase_of.Sizes zero one two frozen) may few = absurd may
+  few-unheld n (phase_of.Telling next) may few = absurd may
+  few-unheld n (phase_of.WeakClearing member weak) may few = absurd may
+  few-unheld n phase_of.WeakCalling may few = absurd may
+  few-unheld n (phase_of.AfterCallback weak) may few = absurd may
+  few-unheld n (phase_of.AfterFinalizing o) may few = absurd may
+  few-unheld n phase_of.Split may few = absurd may
+  few-unheld n (phase_of.Living next) may few = absurd may
+  few-unheld n (phase_of.Detaching next) may few = absurd may
+  few-unheld n phase_of.Turns may few = absurd may
+  few-unheld n phase_of.Ending may few = absurd may
+  few-unheld n (phase_of.Uncollectable first next number) may few = absurd may
+  few-unheld n (phase_of.Saved next number) may few = absurd may
+  few-unheld n (phase_of.Stopping number) may few = absurd may
+  few-unheld n (phase_of.Over number) may few = absurd may
+
+  cleared-unheld : still_cleared let_off ≡ still_cleared store
+  cleared-unheld = λ i. sum_by (λ o. 16 + 4 * length (entries_of-unheld o i)) (list_at store Cand)
+
+  -- and as much is left in the pass
+  left-unheld : (p : Phase) → MayGiveUp p → left_in_pass p let_off ≡ left_in_pass p store
+  left-unheld (phase_of.AfterRelease weak died) may = refl
+  left-unheld phase_of.Finalizing may = refl
+  left-unheld (phase_of.Turn o) may = ap (λ n. n + 8) cleared-unheld
+  left-unheld (phase_of.AfterTurn o true) may = ap (λ n. n + 10) cleared-unheld
+  left-unheld (phase_of.AfterTurn o false) may = ap (λ n. n + 1) cleared-unheld
+  left-unheld phase_of.Start may = absurd may
+  left-unheld (phase_of.Sizes zero one two frozen) may = absurd may
+  left-unheld (phase_of.Telling next) may = absurd may
+  left-unheld (phase_of.WeakClearing member weak) may = absurd may
+  left-unheld phase_of.WeakCalling may = absurd may
+  left-unheld (phase_of.AfterCallback weak) may = absurd may
+  left-unheld (phase_of.AfterFinalizing o) may = absurd may
+  left-unheld phase_of.Split may = absurd may
+  left-unheld (phase_of.Living next) may = absurd may
+  left-unheld (phase_of.Detaching next) may = absurd may
+  left-unheld phase_of.Turns may = absurd may
+  left-unheld phase_of.Ending may = absurd may
+  left-unheld (phase_of.Uncollectable first next number) may = absurd may
+  left-unheld (phase_of.Saved next number) may = absurd may
+  left-unheld (phase_of.Stopping number) may = absurd may
+  left-unheld (phase_of.Over number) may = absurd may
+
+-- all this of a step of a release
+record Unchanged (store now : Store) (p : Phase) : Type 0 where
+  ready : (g : ℕ) → IsReadyAt store g p → IsReadyAt now g p
+  few : (n : ℕ) → HasFewCollected n p store → HasFewCollected n p now
+  left : left_in_pass p now ≡ left_in_pass p store
+
+unchanged : (refs : List ℕ) (store now : Store) (p : Phase) → MayGiveUp p → now ≡ once_released refs store → Unchanged store now p
+unchanged [] store now p may is = subst (λ n. Unchanged store n p) (sym is) (record { ready = λ g r. r; few = λ n few. few; left = refl })
+unchanged (o ∷ refs) store now p may is = subst (λ n. Unchanged store n p) (sym is) (record { ready = λ g r. ready-unheld (o ∷ []) store g p may r; few = λ n few. few-unheld (o ∷ []) store n p may few; left = left-unheld (o ∷ []) store p may })
+
+-- a release that goes on had a reference
+gave_one : (refs rest : List ℕ) (now : Store) → release_answer refs now ≡ death_answer.Continue → rest ≡ drop 1 refs → length rest < length refs
+gave_one [] rest now e is = absurd (cc)
+gave_one (o ∷ refs) rest now e is = let same : length rest ≡ length refs = ap length is in omega (arith, same)
+
+module _ (c : Collection) (store : Store) (new : Collection) (now : Store) (answer : CollectStep) (gives : GivesUpIn c.phase c.release) (g : GivesUpNext c store new now answer) where
+  may : MayGiveUp c.phase
+  may = may_give_up c.phase c.release g.before g.had gives
+
+  same : Unchanged store now c.phase
+  same = unchanged (references_left g.before) store now c.phase may g.heap
+
+  -- the heap is ready for the next step
+  pub gives_up-ready : IsReady c store → KeepsReady new now answer
+  gives_up-ready ready = subst (λ (n : Collection). KeepsReady n now answer) (sym g.collection) (subst (KeepsReady (once_given_up c g.after (release_answer (references_left g.before) now)) now) (sym g.told) (known (release_answer (references_left g.before) now)))
+    where
+      known : (a : DeathStep) → KeepsReady (once_given_up c g.after a) now (give_up_answer a)
+      known death_answer.Continue = record { generation = ready.generation; phase = same.ready c.generation ready.phase; collected = same.few c.collected ready.collected; gives_up = may }
+      known (death_answer.Emit event) = record { generation = ready.generation; phase = same.ready c.generation ready.phase; collected = same.few c.collected ready.collected; gives_up = may }
+      known (death_answer.Frame spec) = record { generation = ready.generation; phase = same.ready c.generation ready.phase; collected = same.few c.collected ready.collected; gives_up = may }
+      known (death_answer.Died o) = ready.generation
+      known death_answer.Gone = record { generation = ready.generation; phase = same.ready c.generation ready.phase; collected = same.few c.collected ready.collected; gives_up = tt }
+
+  -- and less is left
+  pub gives_up-falls : answer ≡ answer_of.Continue → CollectFalls c store new now
+  gives_up-falls went =
+      subst (λ (n : Collection). CollectFalls c store n now) (sym g.collection)
+      (subst (λ (r : Option Release). ComesNearer store c.phase r now (once_given_up c g.after (release_answer (references_left g.before) now)).phase (once_given_up c g.after (release_answer (references_left g.before) now)).release) (sym g.had)
+      (known (release_answer (references_left g.before) now) refl (sym g.told ∙ went)))
+    where
+      known : (a : DeathStep) → release_answer (references_left g.before) now ≡ a → give_up_answer a ≡ answer_of.Continue
+          → ComesNearer store c.phase (Some g.before) now (once_given_up c g.after a).phase (once_given_up c g.after a).release
+      known death_answer.Continue is e = inr (refl, omega (arith, same.left, gave_one (references_left g.before) (references_left g.after) now is g.rest))
+      known (death_answer.Emit event) is e = absurd (never (references_left g.before) is)
+        where
+          never : (refs : List ℕ) → release_answer refs now ≡ death_answer.Emit event → ⊥
+          never [] h = cc
+          never (o ∷ refs) h = choice (count_of now o == 0) h
+            where
+              choice : (b : Bool) → (if b then death_answer.Died o else death_answer.Continue) ≡ death_answer.Emit event → ⊥
+              choice true k = cc
+              choice false k = cc
+      known (death_answer.Frame spec) is e = absurd (never (references_left g.before) is)
+        where
+          never : (refs : List ℕ) → release_answer refs now ≡ death_answer.Frame spec → ⊥
+          never [] h = cc
+          never (o ∷ refs) h = choice (count_of now o == 0) h
+            where
+              choice : (b : Bool) → (if b then death_answer.Died o else death_answer.Continue) ≡ death_answer.Frame spec → ⊥
+              choice true k = cc
+              choice false k = cc
+      known (death_answer.Died o) is e = absurd (cc)
+      known death_answer.Gone is e = inr (refl, omega (arith, same.left))
+
+-- the number of collected objects is never large
+pub few_at_most : (n : ℕ) (p : Phase) (store : Store) → HasFewCollected n p store → n ≤ 2000002
+few_at_most n phase_of.Start store few = omega (arith, few)
+few_at_most n (phase_of.Sizes zero one two frozen) store few = omega (arith, few)
+few_at_most n (phase_of.Telling next) store few = omega (arith, few)
+few_at_most n (phase_of.WeakClearing member weak) store few = omega (arith, few)
+few_at_most n phase_of.WeakCalling store few = omega (arith, few)
+few_at_most n (phase_of.AfterCallback weak) store few = omega (arith, few)
+few_at_most n (phase_of.AfterRelease weak true) store few = omega (arith, few)
+few_at_most n (phase_of.AfterRelease weak false) store few = omega (arith, few)
+few_at_most n phase_of.Finalizing store few = omega (arith, few)
+few_at_most n (phase_of.AfterFinalizing o) store few = omega (arith, few)
+few_at_most n phase_of.Split store few = omega (arith, few)
+few_at_most n (phase_of.Living next) store few = few
+few_at_most n (phase_of.Detaching next) store few = few
+few_at_most n phase_of.Turns store few = few
+few_at_most n (phase_of.Turn o) store few = few
+few_at_most n (phase_of.AfterTurn o died) store few = few
+few_at_most n phase_of.Ending store few = few
+few_at_most n (phase_of.Uncollectable first next number) store few = few
+few_at_most n (phase_of.Saved next number) store few = few
+few_at_most n (phase_of.Stopping number) store few = few
+few_at_most n (phase_of.Over number) store few = few
+
+-- A collection that is over says so.
+pub turn-over : (script : Script) (facts : Facts) (store : Store) (policy : Policy) (number : ℕ) (turn : Turn)
+    → turn ≡ record { phase = phase_of.Over number; release = None; collected = 0; answer = answer_of.Finished facts.collected number }
+    → TurnSteps script facts (phase_of.Over number) store policy store policy turn
+turn-over script facts store policy number turn is =
+    turn_steps script facts (phase_of.Over number) store policy store policy turn (phase_of.Over number) None (answer_of.Finished facts.collected number) is
+    (λ asked w below s. record { represents = s.shows.represents; numbers = s.shows.numbers; idle = s.shows.running; stack = s.shows.top; lines = refl })

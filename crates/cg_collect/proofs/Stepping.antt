@@ -1,0 +1,71 @@
+-- A step of a collection that gives nothing up is a turn of its phase.
+use Rattle.std.proofs.Common.{◌≡◌, refl, sym, ◌∙◌, ap, subst, ℕ, ◌+◌, ◌<◌, ◌≤◌, ◌^◌, List, ◌++◌, Option, Some, None, arith}
+use Rattle.cg_script.specs.declared.Script.{Script}
+use Rattle.cg_graph.specs.Holdings.{occurrences}
+use Rattle.cg_graph.specs.Store.{Store, outside_of}
+use Rattle.cg_graph.proofs.Objects.{occurrences-append}
+use Rattle.cg_policy.specs.Policy.{Policy}
+use Rattle.cg_death.specs.declared.release.Release.{Release}
+use Rattle.cg_death.specs.Activities.{HasHolds}
+use Rattle.cg_collect.specs.declared.answer.CollectStep.{CollectStep}
+use Rattle.cg_collect.specs.declared.answer.CollectStep.TheVariants as answer_of
+use Rattle.cg_collect.specs.declared.collection.Collection.{Collection}
+use Rattle.cg_collect.specs.declared.phase.Phase.{Phase}
+use Rattle.cg_collect.specs.declared.phase.Turn.{Turn}
+use Rattle.cg_collect.specs.Ready.{IsReadyAt, HasFewCollected}
+use Rattle.cg_collect.specs.Answers.{CollectSteps}
+use Rattle.cg_collect.specs.Turns.{TurnSteps, TurnFalls, TurnLeaves, StaysReady}
+use Rattle.cg_collect.specs.Collections.{IsReady, KeepsReady, CollectFalls, facts_of, given_up_by, own_holds_at, held_by}
+use Rattle.cg_collect.proofs.GivingUp.{few_at_most}
+
+-- what is held of a collection: what it gives up, and what its phase holds
+pub given_up_held : (c : Collection) (store : Store) → HasHolds store (held_by c) → HasHolds store (given_up_by c.release)
+given_up_held c store held s = let all = held s in omega (arith, all, occurrences-append s (given_up_by c.release) (own_holds_at c.phase))
+
+phase_held : (c : Collection) (store : Store) → HasHolds store (held_by c) → HasHolds store (own_holds_at c.phase)
+phase_held c store held s = let all = held s in omega (arith, all, occurrences-append s (given_up_by c.release) (own_holds_at c.phase))
+
+-- Nothing was given up, and all is as before.
+module _ (old mid : Collection) (store between : Store) (same : mid ≡ old) (heap : between ≡ store) (none : old.release ≡ None) where
+  -- a fact on collection and heap stays one
+  stays : (P : Collection → Store → Type 0) → P old store → P mid between
+  stays P p = subst (λ (c : Collection). P c between) (sym same) (subst (P old) (sym heap) p)
+
+  pub still_ready : IsReady old store → IsReady mid between
+  still_ready ready = stays IsReady ready
+
+  pub still_held : HasHolds store (held_by old) → HasHolds between (own_holds_at mid.phase)
+  still_held held = stays (λ c st. HasHolds st (own_holds_at c.phase)) (phase_held old store held)
+
+  -- the collection after the turn
+  abbrev pub turned : Turn → Collection
+  turned turn = record mid { collected = mid.collected + turn.collected; phase = turn.phase; release = turn.release }
+
+  module _ (turn : Turn) (now : Store) where
+    pub turned-steps : (script : Script) (policy policy_now : Policy) → TurnSteps script (facts_of mid) mid.phase between policy now policy_now turn → CollectSteps script old store policy (turned turn) now policy_now turn.answer
+    turned-steps script policy policy_now steps =
+        subst (λ (c : Collection). CollectSteps script c store policy (turned turn) now policy_now turn.answer) same
+        (subst (λ r. CollectSteps script (record mid { release = r }) store policy (turned turn) now policy_now turn.answer) (sym (ap (λ (c : Collection). c.release) same ∙ none))
+        (subst (λ st. CollectSteps script (record mid { release = None }) st policy (turned turn) now policy_now turn.answer) heap steps))
+
+    pub turned-few : IsReady old store → TurnLeaves between mid.phase now turn → HasFewCollected (mid.collected + turn.collected) turn.phase now
+    turned-few ready leaves = leaves.few mid.collected (still_ready ready).collected
+
+    pub turned-fits : IsReady old store → TurnLeaves between mid.phase now turn → mid.collected + turn.collected < 2 ^ 64
+    turned-fits ready leaves = let few = few_at_most (mid.collected + turn.collected) turn.phase now (turned-few ready leaves) in omega (arith, few)
+
+    pub turned-ready : IsReady old store → StaysReady now mid.generation turn.phase turn.answer → TurnLeaves between mid.phase now turn → KeepsReady (turned turn) now turn.answer
+    turned-ready ready stays_ready leaves = known turn.answer stays_ready
+      where
+        known : (answer : CollectStep) → StaysReady now mid.generation turn.phase answer → KeepsReady (turned turn) now answer
+        known answer_of.Continue r = record { generation = (still_ready ready).generation; phase = r; collected = turned-few ready leaves; gives_up = leaves.gives_up }
+        known (answer_of.Emit event) r = record { generation = (still_ready ready).generation; phase = r; collected = turned-few ready leaves; gives_up = leaves.gives_up }
+        known (answer_of.Frame spec) r = (still_ready ready).generation
+        known (answer_of.Died o) r = (still_ready ready).generation
+        known (answer_of.Finished collected set_aside) r = (still_ready ready).generation
+
+    pub turned-falls : TurnFalls between mid.phase now turn → turn.answer ≡ answer_of.Continue → CollectFalls old store (turned turn) now
+    turned-falls falls went =
+        subst (λ (c : Collection). CollectFalls c store (turned turn) now) same
+        (subst (λ r. CollectFalls (record mid { release = r }) store (turned turn) now) (sym (ap (λ (c : Collection). c.release) same ∙ none))
+        (subst (λ st. CollectFalls (record mid { release = None }) st (turned turn) now) heap (falls went)))

@@ -1,0 +1,100 @@
+-- What the members of the final set have still to do, as one of them goes on or goes; and what the garbage list names.
+use Rattle.std.proofs.Common.{◌≡◌, ◌≢◌, refl, sym, ◌∙◌, ap, subst, ℕ, suc, ◌+◌, ◌-◌, ◌*◌, Bool, true, false, cond, inl, inr, List, [], ◌∷◌, ◌++◌, length, length-append, Option, Some, None, arith}
+use Rattle.std.specs.Prelude.{◌⊎◌, ◌==◌, sum_by, slice_get, option_map, if◌then◌else◌}
+use Rattle.std.specs.FinMap as fin
+use Rattle.std.proofs.lemmas.Bool.{cases_eq, eq-eqb, eqb-true, ne_eqb}
+use Rattle.std.proofs.lemmas.List.Sums.{sum_by-cons}
+use Rattle.cg_value.specs.declared.Val.TheVariants.{Ref}
+use Rattle.cg_value.specs.declared.Entry.{Entry}
+use Rattle.cg_graph.specs.Member.{Includes}
+use Rattle.cg_graph.specs.Value.{references, item, last_entry}
+use Rattle.cg_graph.specs.Holdings.{occurrences}
+use Rattle.cg_graph.specs.Object.{Object, change, with_entries as object_entries}
+use Rattle.cg_graph.specs.Places.{without_serial}
+use Rattle.cg_graph.specs.Store.{Store, Node, IsLive, objects_of, entries_of, entries_in, place_of, place_in}
+use Rattle.cg_graph.specs.Changes.{held, more, rewritten, with_entries}
+use Rattle.cg_graph.proofs.Maps.{get-mapped, get-changed_other}
+use Rattle.cg_graph.proofs.Members.{either, cases_of}
+use Rattle.cg_graph.proofs.Objects.{objects-changed}
+use Rattle.cg_machine.specs.Collect.{saved}
+use Rattle.cg_heap.proofs.ReferenceLemmas.{push-item}
+use Rattle.cg_trial.proofs.Lists.{occurrences-cons, occurs, occurs_in, sum_by-without, Includes-without}
+use Rattle.cg_collect.proofs.Standing.{map_alike, map_itself, entries_there, live_there}
+
+pub sum_alike : (f g : ℕ → ℕ) (xs : List ℕ) → ((q : ℕ) → Includes xs q → f q ≡ g q) → sum_by f xs ≡ sum_by g xs
+sum_alike f g [] same = refl
+sum_alike f g (x ∷ xs) same = omega (arith, sum_by-cons f x xs, sum_by-cons g x xs, same x (inl refl), sum_alike f g xs (λ q m. same q (inr m)))
+
+-- one that stands in the list once leaves it
+pub sum-one_less : (f : ℕ → ℕ) (o : ℕ) (xs : List ℕ) → occurrences o xs ≡ 1 → sum_by f (without_serial o xs) + f o ≡ sum_by f xs
+sum-one_less f o xs one =
+    let taken : occurrences o xs * f o ≡ 1 * f o = ap (λ n. n * f o) one in
+    omega (arith, sum_by-without f o xs, taken)
+
+-- one has another number, the others have theirs
+pub sum-one_other : (f g : ℕ → ℕ) (o : ℕ) (xs : List ℕ) → occurrences o xs ≡ 1 → ((q : ℕ) → q ≢ o → f q ≡ g q) → sum_by f xs + g o ≡ sum_by g xs + f o
+sum-one_other f g o xs one same =
+    omega (arith, sum-one_less f o xs one, sum-one_less g o xs one, sum_alike f g (without_serial o xs) (λ q m. same q (Includes-without o xs q m).1))
+
+-- the last of some entries
+pub last_entry-append : (xs : List Entry) (e : Entry) → last_entry (xs ++ e ∷ []) ≡ Some e
+last_entry-append [] e = refl
+last_entry-append (x ∷ xs) e = ap (slice_get (x ∷ xs ++ e ∷ [])) len ∙ ap (slice_get (xs ++ e ∷ [])) shorter ∙ last_entry-append xs e
+  where
+    len : length (x ∷ xs ++ e ∷ []) - 1 ≡ suc (length xs)
+    len = omega (arith, length-append xs (e ∷ []))
+
+    shorter : length xs ≡ length (xs ++ e ∷ []) - 1
+    shorter = omega (arith, length-append xs (e ∷ []))
+
+-- an object saved is named besides what was named
+pub saved_names : (es : List Entry) (o q : ℕ) → Includes (references (es ++ item (Ref o) ∷ [])) q → Includes (references es) q ⊎ (q ≡ o)
+saved_names es o q m = elim (cases_eq o q) [
+  | inl same ↦ inr (sym same)
+  | inr differs ↦
+      let none : occurrences q (o ∷ []) ≡ 0 = occurrences-cons q o [] ∙ ap (λ b. cond {A = ℕ} b 1 0 + 0) (ne_eqb o q differs) in
+      inl (occurs_in (references es) q (omega (arith, occurs (references (es ++ item (Ref o) ∷ [])) q m, push-item q es (Ref o), none)))
+]
+
+-- entries that replace others leave places and the entries of other objects
+pub place-rewritten : (store : Store) (o : ℕ) (es : List Entry) (q : ℕ) → place_of (rewritten o es store) q ≡ place_of store q
+place-rewritten store o es q = ap place_in (get-mapped (λ s x. if s == o then with_entries es x else x) store.nodes q) ∙ known (q == o) (fin.get store.nodes q)
+  where
+    known : (b : Bool) (x : Option Node) → place_in (option_map (λ n. if b then with_entries es n else n) x) ≡ place_in x
+    known b None = refl
+    known true (Some n) = refl
+    known false (Some n) = refl
+
+pub entries-rewritten_other : (store : Store) (o : ℕ) (es : List Entry) (q : ℕ) → q ≢ o → entries_of (rewritten o es store) q ≡ entries_of store q
+entries-rewritten_other store o es q differs = ap entries_in (get-changed_other (with_entries es) o store.nodes q differs)
+
+pub place-held : (refs : List ℕ) (store : Store) (q : ℕ) → place_of (held refs store) q ≡ place_of store q
+place-held refs store q = ap place_in (get-mapped (λ s n. more (occurrences s refs) n) store.nodes q) ∙ known (fin.get store.nodes q)
+  where
+    known : (x : Option Node) → place_in (option_map (more (occurrences q refs)) x) ≡ place_in x
+    known None = refl
+    known (Some n) = refl
+
+-- what the garbage list has once an object is saved
+abbrev pub saved_entries : Store → ℕ → List Entry
+saved_entries store o = entries_of store 1 ++ item (Ref o) ∷ []
+
+-- an object that is saved, in the world and in the heap
+pub objects-saved : (store : Store) (o : ℕ) → objects_of (rewritten 1 (entries_of store 1 ++ item (Ref o) ∷ []) store) ≡ saved o (objects_of store)
+objects-saved store o =
+    objects-changed store 1 (with_entries (saved_entries store o)) (object_entries (saved_entries store o)) (λ s n. refl)
+    ∙ map_alike (λ x. if x.serial == 1 then object_entries (saved_entries store o) x else x) (λ x. if x.serial == 1 then object_entries (x.entries ++ item (Ref o) ∷ []) x else x) (objects_of store) each
+  where
+    each : (x : Object) → Includes (objects_of store) x → (if x.serial == 1 then object_entries (saved_entries store o) x else x) ≡ (if x.serial == 1 then object_entries (x.entries ++ item (Ref o) ∷ []) x else x)
+    each x m = either (cases_of (x.serial == 1))
+        (λ yes.
+        let its : entries_of store 1 ≡ x.entries = sym (entries_there store x m ∙ ap (entries_of store) (eqb-true x.serial 1 yes)) in
+        λ i. if x.serial == 1 then object_entries (its i ++ item (Ref o) ∷ []) x else x)
+        (λ no. ap (λ b. if b then object_entries (saved_entries store o) x else x) no ∙ sym (ap (λ b. if b then object_entries (x.entries ++ item (Ref o) ∷ []) x else x) no))
+
+-- nothing changes where no object has the serial
+pub change-absent : (store : Store) (f : Object → Object) (o : ℕ) → ¬ IsLive store o → change f o (objects_of store) ≡ objects_of store
+change-absent store f o absent =
+    map_alike (λ x. if x.serial == o then f x else x) (λ x. x) (objects_of store)
+    (λ x m. either (cases_of (x.serial == o)) (λ yes. absurd (absent (subst (IsLive store) (eqb-true x.serial o yes) (live_there store x m)))) (λ no. ap (λ b. if b then f x else x) no))
+    ∙ map_itself (objects_of store)

@@ -1,0 +1,218 @@
+-- What is told after the start: the sizes, each condemned object, and then the weak phase follows.
+use Rattle.std.proofs.Common.{◌≡◌, ◌≢◌, refl, sym, ◌∙◌, ap, subst, ℕ, ◌+◌, ◌*◌, ◌<◌, ◌⊎◌, inl, inr, Bool, true, false, cond, not, ◌||◌, List, [], ◌∷◌, ◌++◌, map, Option, Some, None, arith}
+use Rattle.std.specs.Prelude.{◌==◌, if◌then◌else◌, bit_and, slice_get, option_map, unwrap_or}
+use Rattle.std.proofs.lemmas.Bool.{cases_eq, eq-eqb, ne_eqb}
+use Rattle.std.proofs.lemmas.Nat.Bits.{and_pow, bit_at-lt}
+use Rattle.std.specs.Int.{bit_at}
+use Rattle.cg_value.specs.declared.Place.TheVariants.{Cand, Seen, Pend}
+use Rattle.cg_script.specs.declared.Script.{Script}
+use Rattle.cg_graph.specs.Member.{Includes}
+use Rattle.cg_graph.specs.Object.{Object, object_at, is_at}
+use Rattle.cg_graph.specs.Store.{Store, list_at, objects_of, place_of}
+use Rattle.cg_graph.proofs.Members.{either, true_or, Includes-append_right}
+use Rattle.cg_machine.specs.declared.event.Event.TheVariants.{Gens, GcCollectable}
+use Rattle.cg_machine.specs.World.{World, Activity}
+use Rattle.cg_machine.specs.Collect.{has_flag, lines_if, stats, collectable, is_condemned, is_condemned_in}
+use Rattle.cg_arena.specs.Nodes.{following}
+use Rattle.cg_heap.specs.Calls.{IsListed}
+use Rattle.cg_policy.specs.Policy.{Policy}
+use Rattle.cg_policy.specs.Flagset.{bits_of}
+use Rattle.cg_trial.proofs.Lists.{IsAt as Walked, ahead, ahead_is}
+use Rattle.cg_trial.proofs.Placed.{once_at, is_there}
+use Rattle.cg_collect.specs.declared.answer.CollectStep.{CollectStep}
+use Rattle.cg_collect.specs.declared.answer.CollectStep.TheVariants as answer_of
+use Rattle.cg_collect.specs.declared.collection.Facts.{Facts}
+use Rattle.cg_collect.specs.declared.phase.Phase.{Phase}
+use Rattle.cg_collect.specs.declared.phase.Phase.TheVariants as phase_of
+use Rattle.cg_collect.specs.declared.phase.Turn.{Turn}
+use Rattle.cg_collect.specs.Phases.{from_on, lines_left}
+use Rattle.cg_collect.specs.Ready.{IsReadyAt, IsApartUnseen, IsEmptyAt, IsAt, HasMissedNone, HasFewCollected}
+use Rattle.cg_collect.specs.Answers.{Shows, CollectSteps}
+use Rattle.cg_collect.specs.Turns.{collection_at, TurnLeaves}
+use Rattle.cg_collect.specs.Starting.{told_weak, told_if}
+use Rattle.cg_collect.proofs.Standing.{place_is, place_there, live_there, nobody_at}
+use Rattle.cg_collect.proofs.Moving.{walk_passes, comes_next}
+use Rattle.cg_collect.proofs.Worlds.{only_tells}
+
+-- a flag is set where its bit is
+flag_of : (flags m b : ℕ) → 0 < m → b < 2 → bit_and flags m ≡ b * m → (bit_and flags m == m) ≡ has_flag flags m
+flag_of flags m b some below is = elim (cases_eq b 0) [
+  | inl none ↦
+      let zero : bit_and flags m ≡ 0 = is ∙ ap (λ n. n * m) none ∙ omega arith in
+      ap (λ n. n == m) zero ∙ ne_eqb 0 m (λ e. absurd (omega (arith, e, some))) ∙ sym (ap (λ n. not (n == 0)) zero)
+  | inr one ↦
+      let all : bit_and flags m ≡ m = is ∙ ap (λ n. n * m) (one_of one) ∙ omega arith in
+      ap (λ n. n == m) all ∙ eq-eqb m m refl ∙ sym (ap (λ n. not (n == 0)) all ∙ ap not (ne_eqb m 0 (λ e. absurd (omega (arith, e, some)))))
+]
+  where
+    one_of : b ≢ 0 → b ≡ 1
+    one_of differs = either (cases_eq b 1) (λ e. e) (λ other. absurd (let none : b ≡ 0 = below_two b below other in differs none))
+      where
+        below_two : (n : ℕ) → n < 2 → n ≢ 1 → n ≡ 0
+        below_two n low other = grind (arith, low, other)
+
+pub stats_at : (flags : ℕ) → (bit_and flags 1 == 1) ≡ has_flag flags stats
+stats_at flags = flag_of flags 1 (bit_at flags 0) (omega arith) (bit_at-lt flags 0) (and_pow flags 0)
+
+pub collectable_at : (flags : ℕ) → (bit_and flags 2 == 2) ≡ has_flag flags collectable
+collectable_at flags = flag_of flags 2 (bit_at flags 1) (omega arith) (bit_at-lt flags 1) (and_pow flags 1)
+
+-- a walk from the first of a list on
+pub from_first : (xs : List ℕ) → from_on (slice_get xs 0) xs ≡ xs
+from_first [] = refl
+from_first (x ∷ xs) = ap (λ b. if b then x ∷ xs else from_on (Some x) xs) (eq-eqb x x refl)
+
+pub at_first : (xs : List ℕ) → IsAt (slice_get xs 0) xs
+at_first [] = tt
+at_first (x ∷ xs) = inl refl
+
+pub from_ahead : (cursor : Option ℕ) (xs : List ℕ) → from_on cursor xs ≡ ahead cursor xs
+from_ahead None xs = refl
+from_ahead (Some o) [] = refl
+from_ahead (Some o) (x ∷ xs) = ap (λ l. if x == o then x ∷ xs else l) (from_ahead (Some o) xs)
+
+-- a list round one of its members
+pub split_at : (xs : List ℕ) (o : ℕ) → Includes xs o → (front : List ℕ) × (back : List ℕ) × (xs ≡ front ++ o ∷ back)
+split_at [] o h = absurd h
+split_at (x ∷ xs) o (inl e) = ([], xs, ap (λ y. y ∷ xs) e)
+split_at (x ∷ xs) o (inr h) = let rest = split_at xs o h in (x ∷ rest.0, rest.1, ap (λ l. x ∷ l) rest.2)
+
+-- one is told, and those after it are left
+module _ (store : Store) (listed : IsListed store) (o : ℕ) (here : Includes (list_at store Cand) o) (after : Option ℕ) (comes : after ≡ following o (list_at store (place_of store o))) where
+  abbrev xs : List ℕ
+  xs = list_at store Cand
+
+  parts : (front : List ℕ) × (back : List ℕ) × (xs ≡ front ++ o ∷ back)
+  parts = split_at xs o here
+
+  here_at : Walked xs (Some o) parts.0 (o ∷ parts.1)
+  here_at = record { parts = parts.2; at = refl }
+
+  passed : (rest : List ℕ) × (o ∷ parts.1 ≡ o ∷ rest) × Walked xs after (parts.0 ++ o ∷ []) rest
+  passed = walk_passes xs o after parts.0 (o ∷ parts.1) here_at (comes_next store listed Cand o after comes)
+
+  pub from_next : from_on (Some o) xs ≡ o ∷ from_on after xs
+  from_next =
+      from_ahead (Some o) xs
+      ∙ ahead_is xs (Some o) parts.0 (o ∷ parts.1) (once_at store listed Cand) here_at
+      ∙ passed.1
+      ∙ ap (λ l. o ∷ l) (sym (from_ahead after xs ∙ ahead_is xs after (parts.0 ++ o ∷ []) passed.0 (once_at store listed Cand) passed.2))
+
+  pub at_next : IsAt after xs
+  at_next = go after passed.0 passed.2
+    where
+      go : (cursor : Option ℕ) (rest : List ℕ) → Walked xs cursor (parts.0 ++ o ∷ []) rest → IsAt cursor xs
+      go None rest at = tt
+      go (Some q) [] at = absurd (let e : Some q ≡ None = at.at in cc)
+      go (Some q) (y ∷ rest) at = let same : q ≡ y = let e : Some q ≡ Some y = at.at in cc in subst (λ l. Includes l q) (sym at.parts) (Includes-append_right (parts.0 ++ o ∷ []) (y ∷ rest) q (inl (sym same)))
+
+-- what the heap is ready for
+module _ (store : Store) (listed : IsListed store) (apart : IsApartUnseen store) (pending : IsEmptyAt store Pend) where
+  abbrev objects : List Object
+  objects = objects_of store
+
+  -- a condemned object is a candidate
+  condemned_at : (x : Object) → Includes objects x → is_condemned x ≡ true → Includes (list_at store Cand) x.serial
+  condemned_at x m h =
+      let place = place_there store x m in
+      either (true_or (is_at Cand x) (is_at Seen x) h)
+      (λ e. is_there store listed Cand x.serial (live_there store x m) (place ∙ place_is x.place Cand e))
+      (λ e. absurd (nobody_at store listed Seen apart.1 x.serial (live_there store x m) (place ∙ place_is x.place Seen e)))
+
+  found_object : (os : List Object) (o : ℕ) (x : Object) → object_at os o ≡ Some x → Includes os x × (x.serial ≡ o)
+  found_object [] o x e = absurd (cc)
+  found_object (y ∷ os) o x e = go (cases_eq y.serial o) (found_object os o x) e
+    where
+      go : (y.serial ≡ o) ⊎ (y.serial ≢ o) → (object_at os o ≡ Some x → Includes os x × (x.serial ≡ o)) → object_at (y ∷ os) o ≡ Some x → Includes (y ∷ os) x × (x.serial ≡ o)
+      go (inl same) rec e =
+          let first : Some y ≡ Some x = sym (ap (λ b. cond b (Some y) (object_at os o)) (eq-eqb y.serial o same)) ∙ e in
+          let is : y ≡ x = cc in
+          (inl is, sym (ap (λ (z : Object). z.serial) is) ∙ same)
+      go (inr differs) rec e = let rest = rec (sym (ap (λ b. cond b (Some y) (object_at os o)) (ne_eqb y.serial o differs)) ∙ e) in (inr rest.0, rest.1)
+
+  condemned_in : (o : ℕ) → is_condemned_in objects o ≡ true → Includes (list_at store Cand) o
+  condemned_in o h = known (object_at objects o) refl h
+    where
+      known : (x : Option Object) → object_at objects o ≡ x → unwrap_or (option_map is_condemned x) false ≡ true → Includes (list_at store Cand) o
+      known None e h = absurd (cc)
+      known (Some x) e h = let found = found_object objects o x e in subst (Includes (list_at store Cand)) found.1 (condemned_at x found.0 h)
+
+  none_missed : HasMissedNone store (slice_get (list_at store Cand) 0) None
+  none_missed x m loses plain = known x.referent refl loses
+    where
+      from_start : (q : ℕ) → Includes (list_at store Cand) q → Includes (from_on (slice_get (list_at store Cand) 0) (list_at store Cand)) q
+      from_start q h = subst (λ l. Includes l q) (sym (from_first (list_at store Cand))) h
+
+      known : (r : Option ℕ) → x.referent ≡ r → unwrap_or (option_map (λ o. is_condemned_in objects o || is_condemned x) r) false ≡ true
+          → ⊥ ⊎ Includes (from_on (slice_get (list_at store Cand) 0) (list_at store Cand)) x.serial ⊎ ((o : ℕ) × (x.referent ≡ Some o) × Includes (from_on (slice_get (list_at store Cand) 0) (list_at store Cand)) o)
+      known None e h = absurd (cc)
+      known (Some o) e h = either (true_or (is_condemned_in objects o) (is_condemned x) h)
+          (λ c. inr (inr (o, e, from_start o (condemned_in o c))))
+          (λ c. inr (inl (from_start x.serial (condemned_at x m c))))
+
+  nobody_waits : (v : ℕ) → Includes (list_at store Pend) v → ⊥
+  nobody_waits v h = subst (λ l. Includes l v) pending h
+
+  pub ready_weak : (g : ℕ) → IsReadyAt store g (told_weak store)
+  ready_weak g = (
+    apart,
+    λ w h. absurd (nobody_waits w h),
+    record {
+      member_at = at_first (list_at store Cand);
+      weak_live = λ v e. absurd (cc);
+      none_missed = none_missed;
+      none_newer = λ v e. absurd (cc);
+      waiting = λ v h. absurd (nobody_waits v h);
+    },
+  )
+
+  pub ready_told : (g : ℕ) (b : Bool) → IsReadyAt store g (told_if b store)
+  ready_told g true = (apart, pending, at_first (list_at store Cand))
+  ready_told g false = ready_weak g
+
+-- a turn that tells the same of another phase
+pub turn_to : (turn : Turn) (told phase : Phase) (answer : CollectStep) → turn ≡ record { phase = told; release = None; collected = 0; answer = answer } → told ≡ phase → turn ≡ record { phase = phase; release = None; collected = 0; answer = answer }
+turn_to turn told phase answer is same = is ∙ ap (λ (p : Phase). record { phase = p; release = None; collected = 0; answer = answer }) same
+
+pub few_told : (n : ℕ) (b : Bool) (store : Store) → n ≡ 0 → HasFewCollected n (told_if b store) store
+few_told n true store e = e
+few_told n false store e = e
+
+pub leaves_told : (old now : Store) (phase : Phase) (b : Bool) (answer : CollectStep) → ((n : ℕ) → HasFewCollected n phase old → n ≡ 0) → TurnLeaves old phase now (record { phase = told_if b now; release = None; collected = 0; answer = answer })
+leaves_told old now phase b answer none = record { few = λ n h. few_told (n + 0) b now (let e = none n h in omega (arith, e)); gives_up = tt }
+
+-- the lines that are left
+module _ (script : Script) (asked : Bool) (facts : Facts) (store : Store) where
+  pub told_lines : (b : Bool) → lines_left script asked (collection_at facts (told_if b store) None) (told_if b store) store ≡ lines_if b (map GcCollectable (list_at store Cand))
+  told_lines true = ap (map GcCollectable) (from_first (list_at store Cand))
+  told_lines false = refl
+
+  -- phases that tell stand for the same world
+  pub shows_told : (b : Bool) (policy : Policy) (w : World) (below : List Activity) (none one two frozen : ℕ) → Shows asked (collection_at facts (phase_of.Sizes none one two frozen) None) store policy w below
+      → Shows asked (collection_at facts (told_if b store) None) store policy w below
+  shows_told true policy w below none one two frozen s = record { represents = s.represents; numbers = s.numbers; running = s.running; top = s.top }
+  shows_told false policy w below none one two frozen s = record { represents = s.represents; numbers = s.numbers; running = s.running; top = s.top }
+
+module _ (script : Script) (facts : Facts) (store : Store) (policy : Policy) where
+  -- the sizes are told
+  pub steps_sizes : (none one two frozen : ℕ)
+      → CollectSteps script (collection_at facts (phase_of.Sizes none one two frozen) None) store policy (collection_at facts (told_if (has_flag (bits_of facts.flags) collectable) store) None) store policy (answer_of.Emit (Gens none one two frozen))
+  steps_sizes none one two frozen asked w below s =
+      let b = has_flag (bits_of facts.flags) collectable in
+      only_tells script asked w below (Gens none one two frozen ∷ lines_if b (map GcCollectable (list_at store Cand))) (Gens none one two frozen ∷ []) (collection_at facts (told_if b store) None) store policy
+      (ap (λ l. Gens none one two frozen ∷ l) (sym (told_lines script asked facts store b)))
+      (shows_told script asked facts store b policy w below none one two frozen s.shows)
+
+  -- a condemned object is told
+  pub steps_condemned : (o : ℕ) (after : Option ℕ) → from_on (Some o) (list_at store Cand) ≡ o ∷ from_on after (list_at store Cand)
+      → CollectSteps script (collection_at facts (phase_of.Telling (Some o)) None) store policy (collection_at facts (phase_of.Telling after) None) store policy (answer_of.Emit (GcCollectable o))
+  steps_condemned o after left asked w below s =
+      only_tells script asked w below (map GcCollectable (from_on (Some o) (list_at store Cand))) (GcCollectable o ∷ []) (collection_at facts (phase_of.Telling after) None) store policy
+      (ap (map GcCollectable) left)
+      (record { represents = s.shows.represents; numbers = s.shows.numbers; running = s.shows.running; top = s.shows.top })
+
+  -- all are told
+  pub steps_told : CollectSteps script (collection_at facts (phase_of.Telling None) None) store policy (collection_at facts (told_weak store) None) store policy answer_of.Continue
+  steps_told asked w below s =
+      only_tells script asked w below [] [] (collection_at facts (told_weak store) None) store policy refl
+      (record { represents = s.shows.represents; numbers = s.shows.numbers; running = s.shows.running; top = s.shows.top })

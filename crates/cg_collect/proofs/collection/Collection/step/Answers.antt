@@ -1,0 +1,51 @@
+use Rattle.std.proofs.Common.{◌≤◌, subst, sym}
+use Rattle.cg_death.specs.Activities.{HasHolds}
+use Rattle.cg_heap.specs.Calls.{HasFewHolds}
+use Rattle.cg_collect.proofs.GivingUp.{gives_up-steps, gives_up-ready, gives_up-falls}
+use Rattle.cg_collect.proofs.Stepping.{given_up_held, still_ready, still_held, turned-steps, turned-fits, turned-ready, turned-falls}
+use Rattle.cg_collect.proofs.collection.Collection.step.Goals as goal
+
+pub give_up-requires : goal.give_up-requires
+give_up-requires g c = given_up_held c.args.self.now c.args.heap.now c.requires.held
+
+pub returns-in-Some-clause-steps : goal.returns-in-Some-clause-steps
+returns-in-Some-clause-steps g c = gives_up-steps c.args.script.now c.args.policy.now c.args.self.now c.args.heap.now c.give_up.new.self c.give_up.new.heap c.in-Some.answer c.requires.ready.gives_up c.in-Some.ensures.some
+
+pub returns-in-Some-clause-ready : goal.returns-in-Some-clause-ready
+returns-in-Some-clause-ready g c = gives_up-ready c.args.self.now c.args.heap.now c.give_up.new.self c.give_up.new.heap c.in-Some.answer c.requires.ready.gives_up c.in-Some.ensures.some c.requires.ready
+
+pub returns-in-Some-clause-falls : goal.returns-in-Some-clause-falls
+returns-in-Some-clause-falls g c = gives_up-falls c.args.self.now c.args.heap.now c.give_up.new.self c.give_up.new.heap c.in-Some.answer c.requires.ready.gives_up c.in-Some.ensures.some
+
+pub turn-turn-requires-clause-generation : goal.turn-turn-requires-clause-generation
+turn-turn-requires-clause-generation g c =
+    let same = c.in_default.ensures.none in
+    (still_ready c.args.self.now c.give_up.new.self c.args.heap.now c.give_up.new.heap same.0 same.1 same.2 c.requires.ready).generation
+
+pub turn-turn-requires-clause-ready : goal.turn-turn-requires-clause-ready
+turn-turn-requires-clause-ready g c =
+    let same = c.in_default.ensures.none in
+    (still_ready c.args.self.now c.give_up.new.self c.args.heap.now c.give_up.new.heap same.0 same.1 same.2 c.requires.ready).phase
+
+pub turn-turn-requires-clause-few : goal.turn-turn-requires-clause-few
+turn-turn-requires-clause-few g c = subst HasFewHolds (sym c.in_default.ensures.none.1) c.requires.few
+
+pub turn-turn-requires-clause-held : goal.turn-turn-requires-clause-held
+turn-turn-requires-clause-held g c =
+    let same = c.in_default.ensures.none in
+    still_held c.args.self.now c.give_up.new.self c.args.heap.now c.give_up.new.heap same.0 same.1 same.2 c.requires.held
+
+pub returns-clause-steps : goal.returns-clause-steps
+returns-clause-steps g c =
+    let same = c.in_default.ensures.none in
+    turned-steps c.args.self.now c.give_up.new.self c.args.heap.now c.give_up.new.heap same.0 same.1 same.2 c.turn-turn.result c.turn-turn.new.heap c.args.script.now c.args.policy.now c.turn-turn.new.policy c.turn-turn.ensures.steps
+
+pub returns-clause-ready : goal.returns-clause-ready
+returns-clause-ready g c =
+    let same = c.in_default.ensures.none in
+    turned-ready c.args.self.now c.give_up.new.self c.args.heap.now c.give_up.new.heap same.0 same.1 same.2 c.turn-turn.result c.turn-turn.new.heap c.requires.ready c.turn-turn.ensures.ready c.turn-turn.ensures.leaves
+
+pub returns-clause-falls : goal.returns-clause-falls
+returns-clause-falls g c =
+    let same = c.in_default.ensures.none in
+    turned-falls c.args.self.now c.give_up.new.self c.args.heap.now c.give_up.new.heap same.0 same.1 same.2 c.turn-turn.result c.turn-turn.new.heap c.turn-turn.ensures.falls

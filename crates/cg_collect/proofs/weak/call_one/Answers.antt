@@ -1,0 +1,26 @@
+use Rattle.std.proofs.Common.{None, sym, ap, ◌∙◌}
+use Rattle.cg_value.specs.declared.Place.TheVariants.{Pend}
+use Rattle.cg_graph.specs.Store.{list_at}
+use Rattle.cg_collect.specs.declared.answer.CollectStep.TheVariants as answer_of
+use Rattle.cg_collect.specs.declared.phase.Phase.TheVariants as phase_of
+use Rattle.cg_trial.proofs.Placed.{where_is}
+use Rattle.cg_death.proofs.RowSplits.{head_in}
+use Rattle.cg_collect.proofs.Worlds.{turn_steps}
+use Rattle.cg_collect.proofs.Pending.{turn-called, turn-all_called}
+use Rattle.cg_collect.proofs.weak.call_one.Goals as goal
+
+pub callback_frame-requires-clause-live : goal.callback_frame-requires-clause-live
+callback_frame-requires-clause-live g c = (where_is c.args.heap.now c.sound.ensures.listed Pend c.in-Some.weak (head_in (list_at c.args.heap.now Pend) c.in-Some.weak (sym c.in-Some.ensures))).0
+
+pub callback_frame-requires-clause-callback : goal.callback_frame-requires-clause-callback
+callback_frame-requires-clause-callback g c = (c.requires.ready.1 c.in-Some.weak (head_in (list_at c.args.heap.now Pend) c.in-Some.weak (sym c.in-Some.ensures))).1
+
+pub returns-in-Some-clause-steps : goal.returns-in-Some-clause-steps
+returns-in-Some-clause-steps g c = λ script facts policy.
+    turn_steps script facts phase_of.WeakCalling c.args.heap.now policy c.args.heap.now policy c.runs.result (phase_of.AfterCallback c.in-Some.weak) None (answer_of.Frame c.callback_frame.result) c.runs.ensures
+    (turn-called script facts c.args.heap.now policy c.in-Some.weak (sym c.in-Some.ensures) c.callback_frame.result c.callback_frame.ensures)
+
+pub returns-in-None-clause-steps : goal.returns-in-None-clause-steps
+returns-in-None-clause-steps g c = λ script facts policy.
+    turn_steps script facts phase_of.WeakCalling c.args.heap.now policy c.args.heap.now policy c.to.result phase_of.Finalizing None answer_of.Continue c.to.ensures
+    (turn-all_called script facts c.args.heap.now policy (sym c.in-None.ensures))

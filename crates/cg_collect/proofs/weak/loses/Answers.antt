@@ -1,0 +1,29 @@
+use Rattle.std.proofs.Common.{◌∙◌, sym, ap, Some, None, true, false}
+use Rattle.std.specs.Prelude.{◌||◌, option_map, unwrap_or}
+use Rattle.cg_graph.specs.Store.{objects_of}
+use Rattle.cg_machine.specs.Collect.{is_condemned_in}
+use Rattle.cg_heap.proofs.RowLemmas.{refers_live}
+use Rattle.cg_collect.proofs.Walking.{loses-at}
+use Rattle.cg_collect.proofs.weak.loses.Goals as goal
+
+pub is_condemned-requires : goal.is_condemned-requires
+is_condemned-requires g c = (refers_live c.args.heap.now c.sound.ensures.rows c.args.weak c.in-Some.referent (sym c.in-Some.ensures)).1
+
+pub returns-then-is_condemned : goal.returns-then-is_condemned
+returns-then-is_condemned g c =
+    c.if-is_condemned.true
+    ∙ sym (loses-at c.args.heap.now c.args.weak c.requires
+    ∙ ap (λ k. unwrap_or (option_map (λ o. is_condemned_in (objects_of c.args.heap.now) o || is_condemned_in (objects_of c.args.heap.now) c.args.weak) k) false) (sym c.in-Some.ensures)
+    ∙ ap (λ b. b || is_condemned_in (objects_of c.args.heap.now) c.args.weak) (sym c.is_condemned.ensures ∙ c.if-is_condemned.true))
+
+pub returns-else-is_condemned : goal.returns-else-is_condemned
+returns-else-is_condemned g c =
+    c.is_condemned-else-is_condemned.ensures
+    ∙ sym (loses-at c.args.heap.now c.args.weak c.requires
+    ∙ ap (λ k. unwrap_or (option_map (λ o. is_condemned_in (objects_of c.args.heap.now) o || is_condemned_in (objects_of c.args.heap.now) c.args.weak) k) false) (sym c.in-Some.ensures)
+    ∙ ap (λ b. b || is_condemned_in (objects_of c.args.heap.now) c.args.weak) (sym c.is_condemned.ensures ∙ c.if-is_condemned.false))
+
+pub returns-in-None : goal.returns-in-None
+returns-in-None g c =
+    sym (loses-at c.args.heap.now c.args.weak c.requires
+    ∙ ap (λ k. unwrap_or (option_map (λ o. is_condemned_in (objects_of c.args.heap.now) o || is_condemned_in (objects_of c.args.heap.now) c.args.weak) k) false) (sym c.in-None.ensures))

@@ -1,0 +1,81 @@
+-- A collection as its callers see it. (Ours.)
+use Rattle.std.specs.Prelude.{◌≡◌, ℕ, ◌≤◌, List, [], ◌∷◌, ◌++◌, Option, Some, None, true, drop}
+use Rattle.cg_graph.specs.Store.{Store}
+use Rattle.cg_death.specs.declared.release.Release.{Release}
+use Rattle.cg_death.specs.Activities.{references_left}
+use Rattle.cg_death.specs.Answers.{ReleaseSteps, once_released, release_answer}
+use Rattle.cg_death.specs.declared.answer.DeathStep.{DeathStep}
+use Rattle.cg_death.specs.declared.answer.DeathStep.TheVariants as death_answer
+use Rattle.cg_collect.specs.declared.phase.Phase.{Phase}
+use Rattle.cg_collect.specs.declared.phase.Phase.TheVariants as phase_of
+use Rattle.cg_collect.specs.declared.answer.CollectStep.TheVariants as answer_of
+use Rattle.cg_collect.specs.declared.answer.CollectStep.{CollectStep}
+use Rattle.cg_collect.specs.declared.collection.Collection.{Collection}
+use Rattle.cg_collect.specs.declared.collection.Facts.{Facts}
+use Rattle.cg_collect.specs.Ready.{IsReadyAt, HasFewCollected, GivesUpIn}
+use Rattle.cg_collect.specs.Turns.{ComesNearer}
+
+-- what the phases know of it
+abbrev pub facts_of : Collection → Facts
+facts_of c = record { generation = c.generation; flags = c.flags; collected = c.collected }
+
+-- the references that it gives up
+abbrev pub given_up_by : Option Release → List ℕ
+given_up_by None = []
+given_up_by (Some release) = references_left release
+
+-- what its phase holds, the weak references that wait aside
+abbrev pub own_holds_at : Phase → List ℕ
+own_holds_at (phase_of.AfterCallback weak) = weak ∷ []
+own_holds_at (phase_of.AfterFinalizing o) = o ∷ []
+own_holds_at (phase_of.Turn o) = o ∷ []
+own_holds_at phase = []
+
+-- what a collection holds
+abbrev pub held_by : Collection → List ℕ
+held_by c = given_up_by c.release ++ own_holds_at c.phase
+
+-- What a step needs of the heap, which commands, frames and deaths may have changed since the step before.
+pub record IsReady (c : Collection) (store : Store) : Type 0 where
+  pub generation : c.generation ≤ 2
+  pub phase : IsReadyAt store c.generation c.phase
+  pub collected : HasFewCollected c.collected c.phase store
+  pub gives_up : GivesUpIn c.phase c.release
+
+-- After an answer that hands nothing out, the heap is ready for the next step.
+abbrev pub KeepsReady : Collection → Store → CollectStep → Type 0
+KeepsReady c store answer_of.Continue = IsReady c store
+KeepsReady c store (answer_of.Emit event) = IsReady c store
+KeepsReady c store answer = c.generation ≤ 2
+
+-- A step that went on without an answer reached a later pass, or in the same pass less is left.
+abbrev pub CollectFalls : Collection → Store → Collection → Store → Type 0
+CollectFalls old store new now = ComesNearer store old.phase old.release now new.phase new.release
+
+-- A release that dies leaves its phase with that.
+abbrev pub died_in : Phase → Phase
+died_in (phase_of.AfterRelease weak died) = phase_of.AfterRelease weak true
+died_in (phase_of.AfterTurn o died) = phase_of.AfterTurn o true
+died_in phase = phase
+
+-- what a step that gives up the next reference leaves of a collection, by the answer of the release
+abbrev pub once_given_up : Collection → Release → DeathStep → Collection
+once_given_up c release death_answer.Gone = record c { release = None }
+once_given_up c release (death_answer.Died o) = record c { phase = died_in c.phase; release = Some release }
+once_given_up c release answer = record c { release = Some release }
+
+-- and what it answers
+abbrev pub give_up_answer : DeathStep → CollectStep
+give_up_answer (death_answer.Died o) = answer_of.Died o
+give_up_answer answer = answer_of.Continue
+
+-- It gave up the next reference of what is to be given up.
+pub record GivesUpNext (old : Collection) (store : Store) (new : Collection) (now : Store) (answer : CollectStep) : Type 0 where
+  pub before : Release
+  pub had : old.release ≡ Some before
+  pub after : Release
+  pub rest : references_left after ≡ drop 1 (references_left before)
+  pub heap : now ≡ once_released (references_left before) store
+  pub collection : new ≡ once_given_up old after (release_answer (references_left before) now)
+  pub told : answer ≡ give_up_answer (release_answer (references_left before) now)
+  pub steps : ReleaseSteps store (references_left before) now (references_left after) (release_answer (references_left before) now)

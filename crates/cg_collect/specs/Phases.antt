@@ -1,0 +1,119 @@
+-- What a collection stands for on the stack of the machine, and which lines of the machine's last step it has still to tell.
+-- (Ours.)
+use Rattle.std.specs.Prelude.{◌≡◌, ℕ, ◌+◌, not, Bool, true, false, List, [], ◌∷◌, ◌++◌, ◌==◌, ◌&&◌, ◌||◌, Option, Some, None, if◌then◌else◌, map, filter, flat_map, drop, is_some, option_and_then}
+use Rattle.cg_value.specs.declared.Place.TheVariants.{Gen, Cand, Pend}
+use Rattle.cg_script.specs.declared.Script.{Script}
+use Rattle.cg_graph.specs.Member.{includes}
+use Rattle.cg_graph.specs.Object.{object_at}
+use Rattle.cg_graph.specs.Rows.{Row, weak_references_in}
+use Rattle.cg_graph.specs.Store.{Store, list_at, objects_of}
+use Rattle.cg_machine.specs.declared.event.Event.{Event}
+use Rattle.cg_machine.specs.declared.event.Event.TheVariants.{Gens, Alive, Cleared, GcCollectable, GcUncollectable, GcSaved, GcStop, Collected}
+use Rattle.cg_machine.specs.Program.{legacy_of}
+use Rattle.cg_machine.specs.World as machine
+use Rattle.cg_machine.specs.World.{Activity, Releasing, Collecting}
+use Rattle.cg_machine.specs.Collect.{lines_if, has_flag, collectable, uncollectable, save_all, older}
+use Rattle.cg_death.specs.declared.release.Release.{Release}
+use Rattle.cg_death.specs.Activities.{references_left}
+use Rattle.cg_policy.specs.Flagset.{bits_of}
+use Rattle.cg_collect.specs.declared.phase.Phase.{Phase}
+use Rattle.cg_collect.specs.declared.phase.Phase.TheVariants as phase_of
+use Rattle.cg_collect.specs.declared.collection.Collection.{Collection}
+
+-- the members of a list from one of them on
+abbrev pub from_on : Option ℕ → List ℕ → List ℕ
+from_on None xs = []
+from_on (Some o) [] = []
+from_on (Some o) (x ∷ xs) = if x == o then x ∷ xs else from_on (Some o) xs
+
+-- The phase of the machine, by the list of what waits for its callback; none once it has ended.
+abbrev pub machine_phase : Phase → List ℕ → Option machine.CollectPhase
+machine_phase phase_of.Start pending = Some machine.Start
+machine_phase (phase_of.Sizes zero one two frozen) pending = Some (machine.WeakClearing pending)
+machine_phase (phase_of.Telling next) pending = Some (machine.WeakClearing pending)
+machine_phase (phase_of.WeakClearing member weak) pending = Some (machine.WeakClearing pending)
+machine_phase phase_of.WeakCalling pending = Some (machine.WeakCalling pending)
+machine_phase (phase_of.AfterCallback weak) pending = Some (machine.AfterCallback weak (drop 1 pending))
+machine_phase (phase_of.AfterRelease weak died) pending = Some (machine.AfterRelease weak (filter (λ q. not (q == weak)) pending))
+machine_phase phase_of.Finalizing pending = Some machine.Finalizing
+machine_phase (phase_of.AfterFinalizing o) pending = Some (machine.AfterFinalizing o)
+machine_phase phase_of.Split pending = Some machine.Split
+machine_phase (phase_of.Living next) pending = Some machine.Turns
+machine_phase (phase_of.Detaching next) pending = Some machine.Turns
+machine_phase phase_of.Turns pending = Some machine.Turns
+machine_phase (phase_of.Turn o) pending = Some (machine.Turn o)
+machine_phase (phase_of.AfterTurn o died) pending = Some (machine.AfterTurn o)
+machine_phase phase_of.Ending pending = Some machine.Ending
+machine_phase (phase_of.Uncollectable first next number) pending = None
+machine_phase (phase_of.Saved next number) pending = None
+machine_phase (phase_of.Stopping number) pending = None
+machine_phase (phase_of.Over number) pending = None
+
+-- the collection of the machine at a phase; whether a command asked for it, the machine alone knows
+abbrev pub collection_of : Bool → Collection → machine.CollectPhase → machine.Collection
+collection_of asked c phase = record { generation = c.generation; flags = bits_of c.flags; asked = asked; collected = c.collected; phase = phase }
+
+-- as an activity, if it has not ended
+abbrev pub collecting : Bool → Collection → Option machine.CollectPhase → List Activity
+collecting asked c None = []
+collecting asked c (Some phase) = Collecting (collection_of asked c phase) ∷ []
+
+-- what it gives up stands above it
+abbrev pub released_over : Option Release → List Activity → List Activity
+released_over None tops = tops
+released_over (Some release) tops = Releasing (references_left release) ∷ tops
+
+-- what a collection stands for on top of the stack
+abbrev pub on_stack : Bool → Collection → Store → List Activity
+on_stack asked c store = released_over c.release (collecting asked c (machine_phase c.phase (list_at store Pend)))
+
+-- the lines `cleared` of the weak references to some objects, the newest first for each
+abbrev pub cleared_lines : List Row → List ℕ → List Event
+cleared_lines rows members = flat_map (λ o. map Cleared (weak_references_in rows o)) members
+
+-- whether an object that was set aside is saved
+abbrev pub is_saved_at : Script → ℕ → Store → ℕ → Bool
+is_saved_at script flags store o = has_flag flags save_all || is_some (option_and_then (legacy_of script) (object_at (objects_of store) o))
+
+-- the lines `gc saved` of some objects
+abbrev pub saved_lines : Script → ℕ → Store → List ℕ → List Event
+saved_lines script flags store members = map GcSaved (filter (is_saved_at script flags store) members)
+
+-- the answer to the command that asked for the collection
+abbrev pub answer_lines : Bool → ℕ → List Event
+answer_lines asked number = lines_if asked (Collected number ∷ [])
+
+-- the last lines
+abbrev pub stop_lines : Bool → Collection → ℕ → List Event
+stop_lines asked c number = GcStop c.generation c.collected number ∷ answer_lines asked (c.collected + number)
+
+-- where survivors stand
+abbrev pub old_list : Collection → Store → List ℕ
+old_list c store = list_at store (Gen (older c.generation))
+
+-- The lines of the machine's last step that are still to be told.
+abbrev pub lines_left : Script → Bool → Collection → Phase → Store → List Event
+lines_left script asked c (phase_of.Sizes zero one two frozen) store = Gens zero one two frozen ∷ lines_if (has_flag (bits_of c.flags) collectable) (map GcCollectable (list_at store Cand))
+lines_left script asked c (phase_of.Telling next) store = map GcCollectable (from_on next (list_at store Cand))
+lines_left script asked c (phase_of.Living next) store = map Alive (from_on next (old_list c store)) ++ cleared_lines store.rows (list_at store Cand)
+lines_left script asked c (phase_of.Detaching next) store = cleared_lines store.rows (from_on next (list_at store Cand))
+lines_left script asked c (phase_of.Uncollectable first next number) store =
+    map GcUncollectable (from_on next (old_list c store)) ++ saved_lines script (bits_of c.flags) store (from_on first (old_list c store)) ++ stop_lines asked c number
+lines_left script asked c (phase_of.Saved next number) store = saved_lines script (bits_of c.flags) store (from_on next (old_list c store)) ++ stop_lines asked c number
+lines_left script asked c (phase_of.Stopping number) store = stop_lines asked c number
+lines_left script asked c (phase_of.Over number) store = answer_lines asked (c.collected + number)
+lines_left script asked c phase store = []
+
+-- whether a row has one of these as referent, and does not wait
+abbrev pub refers_to_any : List ℕ → Row → Bool
+refers_to_any members r = includes members r.referent && not r.waits
+
+-- weak references to members of the final set have lost them
+abbrev pub without_rows_to : List ℕ → Store → Store
+without_rows_to members store = record store { rows = filter (λ r. not (refers_to_any members r)) store.rows }
+
+-- The heap once these lines are told: weak references to the final set lose it one by one, as their lines are told.
+abbrev pub store_after : Phase → Store → Store
+store_after (phase_of.Living next) store = without_rows_to (list_at store Cand) store
+store_after (phase_of.Detaching next) store = without_rows_to (list_at store Cand) store
+store_after phase store = store

@@ -1,0 +1,148 @@
+-- What a step of a collection needs of the heap. Frames and deaths that run in it may change the heap between two steps; what
+-- they leave is said here. (Ours.)
+use Rattle.std.specs.Prelude.{◌≡◌, ℕ, ◌+◌, ◌≤◌, ◌⊎◌, true, false, List, [], ◌∷◌, Option, Some, None, IsSome, slice_get, length}
+use Rattle.cg_value.specs.declared.Place.{Place}
+use Rattle.cg_value.specs.declared.Place.TheVariants.{Untracked, Gen, Cand, Seen, Back, Legacy, Pend}
+use Rattle.cg_graph.specs.Member.{Includes}
+use Rattle.cg_graph.specs.Value.{references}
+use Rattle.cg_graph.specs.Object.{Object}
+use Rattle.cg_graph.specs.Rows.{referent_in, weak_references_in}
+use Rattle.cg_graph.specs.Store.{Store, IsLive, HasCode, list_at, objects_of, entries_of, place_of}
+use Rattle.cg_value.specs.declared.KindCode.TheVariants.{Weak}
+use Rattle.cg_machine.specs.Collect.{loses_in_weak_phase, older}
+use Rattle.cg_machine.specs.Weak.{callback_of}
+use Rattle.cg_death.specs.declared.release.Release.{Release}
+use Rattle.cg_collect.specs.declared.phase.Phase.{Phase}
+use Rattle.cg_collect.specs.declared.phase.Phase.TheVariants as phase_of
+use Rattle.cg_collect.specs.Phases.{from_on}
+
+-- none stands at a place
+abbrev pub IsEmptyAt : Store → Place → Type 0
+IsEmptyAt store p = list_at store p ≡ []
+
+-- nothing is set apart, and the garbage list is untracked
+pub record IsClear (store : Store) : Type 0 where
+  pub candidates : IsEmptyAt store Cand
+  pub seen : IsEmptyAt store Seen
+  pub back : IsEmptyAt store Back
+  pub legacy : IsEmptyAt store Legacy
+  pub pending : IsEmptyAt store Pend
+  pub garbage : place_of store 1 ≡ Untracked
+
+-- each that waits is a weak reference with a callback
+abbrev pub HaveCallbacks : Store → Type 0
+HaveCallbacks store = (w : ℕ) → Includes (list_at store Pend) w → HasCode store w Weak × IsSome (callback_of (objects_of store) w)
+
+-- the garbage list names none of a place
+abbrev pub IsUnsaved : Store → Place → Type 0
+IsUnsaved store p = (o : ℕ) → Includes (list_at store p) o → ¬ Includes (references (entries_of store 1)) o
+
+-- The garbage list is untracked and names nothing that is set apart, and nothing stands between the two detections.
+pub record IsApart (store : Store) : Type 0 where
+  pub garbage : place_of store 1 ≡ Untracked
+  pub back : IsEmptyAt store Back
+  pub candidates : IsUnsaved store Cand
+  pub seen : IsUnsaved store Seen
+  pub legacy : IsUnsaved store Legacy
+
+-- the same where no condemned object was looked at
+abbrev pub IsApartUnseen : Store → Type 0
+IsApartUnseen store = IsApart store × IsEmptyAt store Seen
+
+-- the next of a walk is one of the list, or the walk is over
+abbrev pub IsAt : Option ℕ → List ℕ → Type 0
+IsAt None xs = Unit {0}
+IsAt (Some o) xs = Includes xs o
+
+-- the weak references to an object that may have none, the newest first
+abbrev pub references_to : Store → Option ℕ → List ℕ
+references_to store None = []
+references_to store (Some o) = weak_references_in store.rows o
+
+-- the weak references that a walk over those to one object has still to look at, the newest first
+abbrev pub to_look_at : Store → Option ℕ → List ℕ
+to_look_at store None = []
+to_look_at store (Some weak) = from_on (Some weak) (references_to store (referent_in store.rows weak))
+
+-- the referent of a weak reference is none itself (`weakref` manual: class instances and functions have weak references)
+abbrev pub RefersPlainly : Store → Object → Type 0
+RefersPlainly store x = (o : ℕ) → x.referent ≡ Some o → ¬ HasCode store o Weak
+
+-- The walk of the weak phase has left out nothing: a weak reference that is still to lose its referent is to be looked at, or
+-- it, or its referent, is a candidate whose turn is to come.
+abbrev pub HasMissedNone : Store → Option ℕ → Option ℕ → Type 0
+HasMissedNone store member weak = (x : Object) → Includes (objects_of store) x → loses_in_weak_phase (objects_of store) x ≡ true → RefersPlainly store x
+    → Includes (to_look_at store weak) x.serial
+    ⊎ Includes (from_on member (list_at store Cand)) x.serial
+    ⊎ ((o : ℕ) × (x.referent ≡ Some o) × Includes (from_on member (list_at store Cand)) o)
+
+-- Of the weak references to one object that are to lose it, none is newer than the one that is looked at.
+abbrev pub HasNoneNewer : Store → Option ℕ → Type 0
+HasNoneNewer store weak = (v : ℕ) → weak ≡ Some v → (x : Object) → Includes (objects_of store) x → loses_in_weak_phase (objects_of store) x ≡ true
+    → x.referent ≡ referent_in store.rows v → x.serial ≤ v
+
+-- The candidates that come before the next of a walk have no weak references.
+abbrev pub HasNoneBehind : Store → Option ℕ → Type 0
+HasNoneBehind store next = (o : ℕ) → Includes (list_at store Cand) o → Includes (from_on next (list_at store Cand)) o ⊎ (weak_references_in store.rows o ≡ [])
+
+-- what a walk of the weak phase has
+pub record IsWalk (store : Store) (member weak : Option ℕ) : Type 0 where
+  pub member_at : IsAt member (list_at store Cand)
+  pub weak_live : (v : ℕ) → weak ≡ Some v → (o : ℕ) × (referent_in store.rows v ≡ Some o)
+  pub none_missed : HasMissedNone store member weak
+  pub none_newer : HasNoneNewer store weak
+  pub waiting : (v : ℕ) → Includes (list_at store Pend) v → referent_in store.rows v ≡ None  -- those that wait have lost theirs
+
+-- What a step needs, phase by phase, its own holds aside.
+abbrev pub IsReadyAt : Store → ℕ → Phase → Type 0
+IsReadyAt store g phase_of.Start = IsClear store
+IsReadyAt store g (phase_of.Sizes zero one two frozen) = IsApartUnseen store × IsEmptyAt store Pend
+IsReadyAt store g (phase_of.Telling next) = IsApartUnseen store × IsEmptyAt store Pend × IsAt next (list_at store Cand)
+IsReadyAt store g (phase_of.WeakClearing member weak) = IsApartUnseen store × HaveCallbacks store × IsWalk store member weak
+IsReadyAt store g phase_of.WeakCalling = IsApartUnseen store × HaveCallbacks store
+IsReadyAt store g (phase_of.AfterCallback weak) = IsApartUnseen store × HaveCallbacks store × (slice_get (list_at store Pend) 0 ≡ Some weak)
+IsReadyAt store g (phase_of.AfterRelease weak false) = IsApartUnseen store × HaveCallbacks store × (slice_get (list_at store Pend) 0 ≡ Some weak)
+IsReadyAt store g (phase_of.AfterRelease weak true) = IsApartUnseen store × HaveCallbacks store × ¬ IsLive store weak
+IsReadyAt store g phase_of.Finalizing = IsApart store
+IsReadyAt store g (phase_of.AfterFinalizing o) = IsApart store
+IsReadyAt store g phase_of.Split = IsApartUnseen store
+IsReadyAt store g (phase_of.Living next) = IsApartUnseen store × IsAt next (list_at store (Gen (older g)))
+IsReadyAt store g (phase_of.Detaching next) = IsApartUnseen store × IsAt next (list_at store Cand) × HasNoneBehind store next
+IsReadyAt store g phase_of.Turns = IsApartUnseen store
+IsReadyAt store g (phase_of.Turn o) = IsApartUnseen store × (place_of store o ≡ Cand)
+IsReadyAt store g (phase_of.AfterTurn o false) = IsApartUnseen store × (place_of store o ≡ Cand)
+IsReadyAt store g (phase_of.AfterTurn o true) = IsApartUnseen store × ¬ IsLive store o
+IsReadyAt store g phase_of.Ending = IsApartUnseen store × IsEmptyAt store Cand
+IsReadyAt store g (phase_of.Uncollectable first next number) = IsAt first (list_at store (Gen (older g))) × IsAt next (list_at store (Gen (older g)))
+IsReadyAt store g (phase_of.Saved next number) = IsAt next (list_at store (Gen (older g)))
+IsReadyAt store g (phase_of.Stopping number) = Unit {0}
+IsReadyAt store g (phase_of.Over number) = Unit {0}
+
+-- The number of collected objects is small: it grows by one for each weak reference that waits and dies, and by the final
+-- set, and no list of a heap is longer than a million and one.
+abbrev pub HasFewCollected : ℕ → Phase → Store → Type 0
+HasFewCollected collected phase_of.Start store = collected ≡ 0
+HasFewCollected collected (phase_of.Sizes zero one two frozen) store = collected ≡ 0
+HasFewCollected collected (phase_of.Telling next) store = collected ≡ 0
+HasFewCollected collected (phase_of.WeakClearing member weak) store = collected ≡ 0
+HasFewCollected collected phase_of.WeakCalling store = collected + length (list_at store Pend) ≤ 1000001
+HasFewCollected collected (phase_of.AfterCallback weak) store = collected + length (list_at store Pend) ≤ 1000001
+HasFewCollected collected (phase_of.AfterRelease weak false) store = collected + length (list_at store Pend) ≤ 1000001
+HasFewCollected collected (phase_of.AfterRelease weak true) store = collected + length (list_at store Pend) + 1 ≤ 1000001
+HasFewCollected collected phase_of.Finalizing store = collected ≤ 1000001
+HasFewCollected collected (phase_of.AfterFinalizing o) store = collected ≤ 1000001
+HasFewCollected collected phase_of.Split store = collected ≤ 1000001
+HasFewCollected collected phase store = collected ≤ 2000002
+
+-- the phases that something is given up in
+abbrev pub MayGiveUp : Phase → Type 0
+MayGiveUp (phase_of.AfterRelease weak died) = Unit {0}
+MayGiveUp phase_of.Finalizing = Unit {0}
+MayGiveUp (phase_of.Turn o) = Unit {0}
+MayGiveUp (phase_of.AfterTurn o died) = Unit {0}
+MayGiveUp phase = ⊥
+
+-- what is given up is given up in these
+abbrev pub GivesUpIn : Phase → Option Release → Type 0
+GivesUpIn phase None = Unit {0}
+GivesUpIn phase (Some release) = MayGiveUp phase

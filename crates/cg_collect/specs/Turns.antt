@@ -1,0 +1,105 @@
+-- The turns of the phases, and how a collection comes nearer to its end. (Ours.)
+use Rattle.std.specs.Prelude.{◌≡◌, ℕ, ◌+◌, ◌*◌, ◌<◌, ◌⊎◌, Bool, true, false, List, [], length, Option, Some, None, sum_by}
+use Rattle.cg_value.specs.declared.Place.TheVariants.{Cand, Pend}
+use Rattle.cg_script.specs.declared.Script.{Script}
+use Rattle.cg_graph.specs.Store.{Store, list_at, entries_of, place_of}
+use Rattle.cg_policy.specs.Policy.{Policy}
+use Rattle.cg_death.specs.declared.release.Release.{Release}
+use Rattle.cg_death.specs.Activities.{references_left}
+use Rattle.cg_collect.specs.declared.answer.CollectStep.{CollectStep}
+use Rattle.cg_collect.specs.declared.answer.CollectStep.TheVariants as answer_of
+use Rattle.cg_collect.specs.declared.phase.Phase.{Phase}
+use Rattle.cg_collect.specs.declared.phase.Phase.TheVariants as phase_of
+use Rattle.cg_collect.specs.declared.phase.Turn.{Turn}
+use Rattle.cg_collect.specs.declared.collection.Facts.{Facts}
+use Rattle.cg_collect.specs.declared.collection.Collection.{Collection}
+use Rattle.cg_collect.specs.Phases.{from_on}
+use Rattle.cg_collect.specs.Ready.{IsReadyAt, to_look_at, HasFewCollected, GivesUpIn}
+use Rattle.cg_collect.specs.Answers.{CollectSteps}
+
+-- a collection with these facts, at a phase, which gives up this first
+abbrev pub collection_at : Facts → Phase → Option Release → Collection
+collection_at facts phase release = record { generation = facts.generation; flags = facts.flags; collected = facts.collected; phase = phase; release = release }
+
+-- the one that a turn leaves
+abbrev pub collection_after : Facts → Turn → Collection
+collection_after facts turn = record { generation = facts.generation; flags = facts.flags; collected = facts.collected + turn.collected; phase = turn.phase; release = turn.release }
+
+-- a turn of a phase is steps of the machine, in every world that heap and policy stand for
+abbrev pub TurnSteps : Script → Facts → Phase → Store → Policy → Store → Policy → Turn → Type 0
+TurnSteps script facts phase store policy store_now policy_now turn =
+    CollectSteps script (collection_at facts phase None) store policy (collection_after facts turn) store_now policy_now turn.answer
+
+-- After an answer that hands nothing out, the heap is ready for the next step.
+abbrev pub StaysReady : Store → ℕ → Phase → CollectStep → Type 0
+StaysReady store generation phase answer_of.Continue = IsReadyAt store generation phase
+StaysReady store generation phase (answer_of.Emit event) = IsReadyAt store generation phase
+StaysReady store generation phase answer = Unit {0}
+
+-- the passes of a collection, in order
+abbrev pub pass_of : Phase → ℕ
+pass_of phase_of.Start = 0
+pass_of (phase_of.Sizes zero one two frozen) = 1
+pass_of (phase_of.Telling next) = 2
+pass_of (phase_of.WeakClearing member weak) = 3
+pass_of phase_of.WeakCalling = 4
+pass_of (phase_of.AfterCallback weak) = 4
+pass_of (phase_of.AfterRelease weak died) = 4
+pass_of phase_of.Finalizing = 5
+pass_of (phase_of.AfterFinalizing o) = 5
+pass_of phase_of.Split = 6
+pass_of (phase_of.Living next) = 7
+pass_of (phase_of.Detaching next) = 8
+pass_of phase_of.Turns = 9
+pass_of (phase_of.Turn o) = 9
+pass_of (phase_of.AfterTurn o died) = 9
+pass_of phase_of.Ending = 10
+pass_of (phase_of.Uncollectable first next number) = 11
+pass_of (phase_of.Saved next number) = 12
+pass_of (phase_of.Stopping number) = 13
+pass_of (phase_of.Over number) = 14
+
+-- what a release has still to do
+abbrev pub still_released : Option Release → ℕ
+still_released None = 0
+still_released (Some release) = length (references_left release) + 1
+
+-- what the members of the final set have still to do: each is to be taken, and each of its entries
+abbrev pub still_cleared : Store → ℕ
+still_cleared store = sum_by (λ o. 16 + 4 * length (entries_of store o)) (list_at store Cand)
+
+-- the list in which the next of a walk stands
+abbrev pub list_around : Store → Option ℕ → List ℕ
+list_around store None = []
+list_around store (Some o) = list_at store (place_of store o)
+
+-- What is left in a pass, what is given up aside.
+abbrev pub left_in_pass : Phase → Store → ℕ
+left_in_pass (phase_of.WeakClearing member weak) store = length (from_on member (list_at store Cand)) * (length store.rows + 1) + length (to_look_at store weak)
+left_in_pass phase_of.WeakCalling store = 8 * length (list_at store Pend)
+left_in_pass (phase_of.AfterCallback weak) store = 8 * length (list_at store Pend) + 6
+left_in_pass (phase_of.AfterRelease weak died) store = 8 * length (list_at store Pend) + 1
+left_in_pass phase_of.Finalizing store = 8 * length (list_at store Cand)
+left_in_pass (phase_of.AfterFinalizing o) store = 8 * length (list_at store Cand) + 6
+left_in_pass (phase_of.Detaching next) store = length (from_on next (list_at store Cand))
+left_in_pass phase_of.Turns store = still_cleared store + 9
+left_in_pass (phase_of.Turn o) store = still_cleared store + 8
+left_in_pass (phase_of.AfterTurn o false) store = still_cleared store + 1
+left_in_pass (phase_of.AfterTurn o true) store = still_cleared store + 10
+left_in_pass (phase_of.Saved next number) store = length (from_on next (list_around store next))
+left_in_pass phase store = 0
+
+-- A later pass is reached, or in the same one less is left.
+abbrev pub ComesNearer : Store → Phase → Option Release → Store → Phase → Option Release → Type 0
+ComesNearer old phase release new phase_now release_now =
+    (pass_of phase < pass_of phase_now)
+    ⊎ ((pass_of phase ≡ pass_of phase_now) × (left_in_pass phase_now new + still_released release_now < left_in_pass phase old + still_released release))
+
+-- the same for a turn of a phase that goes on without a line
+abbrev pub TurnFalls : Store → Phase → Store → Turn → Type 0
+TurnFalls old phase new turn = turn.answer ≡ answer_of.Continue → ComesNearer old phase None new turn.phase turn.release
+
+-- What a turn leaves: the number of collected objects is small as before, and what is given up is so in a phase for it.
+pub record TurnLeaves (old : Store) (phase : Phase) (new : Store) (turn : Turn) : Type 0 where
+  pub few : (n : ℕ) → HasFewCollected n phase old → HasFewCollected (n + turn.collected) turn.phase new
+  pub gives_up : GivesUpIn turn.phase turn.release

@@ -1,0 +1,198 @@
+//! A collection of a generation.
+ghost use Rattle.std.specs.Prelude.{◌≡◌, ◌≤◌, false, true, Bool, None, IfNone, IfSome};
+ghost use Rattle.cg_machine.specs.World.{World, push};
+ghost use Rattle.cg_machine.specs.Collect.{begun};
+ghost use Rattle.cg_machine.specs.Commands.{new_collection};
+ghost use Rattle.cg_machine.specs.Represents.{Represents};
+ghost use Rattle.cg_heap.specs.Calls.{HasFewHolds};
+ghost use Rattle.cg_death.specs.Activities.{HasHolds};
+ghost use Rattle.cg_collect.specs.declared.answer.CollectStep.TheVariants as answer_of;
+ghost use Rattle.cg_collect.specs.Numbers.{IsBelow62};
+ghost use Rattle.cg_collect.specs.Ready.{IsClear, IsReadyAt};
+ghost use Rattle.cg_collect.specs.Turns.{TurnSteps, TurnFalls, TurnLeaves, StaysReady};
+ghost use Rattle.cg_collect.specs.Answers.{CollectSteps, Shows};
+ghost use Rattle.cg_collect.specs.Collections.{IsReady, KeepsReady, CollectFalls, GivesUpNext, held_by, given_up_by, own_holds_at, facts_of, died_in};
+
+use crate::answer::CollectStep;
+use crate::detection::{detach_one, detect, tell_living};
+use crate::ending::{end, tell_end, tell_saved, tell_uncollectable};
+use crate::finalizing::{after_finalizer, look_at_one};
+use crate::phase::{Phase, Turn};
+use crate::start::{start, tell_condemned, tell_sizes};
+use crate::turns::{after_turn, empty_one, take_turn};
+use crate::weak::{after_callback, after_release, call_one, clear_one};
+use cg_death::{DeathStep, Release};
+use cg_heap::{Heap, Steps};
+use cg_kind::Kind;
+use cg_policy::{Flagset, Policy};
+use cg_script::Script;
+use std::sync::ledger::Ledger;
+
+/// A collection of a generation, step by step. (Developer guide, "garbage collector design"; PEP 442.)
+///
+/// It runs no command: it hands out frames and deaths, and is resumed after them.
+#[derive(Drop)]
+pub struct Collection {
+    generation: u8,
+    // As they stood when it began.
+    flags: Flagset,
+    // The objects that it found to be garbage.
+    collected: u64,
+    phase: Phase,
+    release: Option<Release>,
+}
+
+/// What the phases know of their collection.
+#[derive(Clone, Copy)]
+pub struct Facts {
+    pub generation: u8,
+    pub flags: Flagset,
+    pub collected: u64,
+}
+
+impl Collection {
+    /// A collection of a generation, 0 to 2, begins: the counts change, and the debug flags are read.
+    pub fn begin<B: Kind>(heap: &mut Heap<B>, policy: &mut Policy, generation: u8) -> Collection
+        requires generation { generation ≤ 2 }
+        requires idle { policy.old.running ≡ false }
+        requires bounded { IsBelow62 policy.old.numbers }
+        requires clear { IsClear heap.old }
+        ensures heap { heap.new ≡ heap.old }
+        ensures policy { policy.new ≡ record { numbers = begun generation policy.old.numbers; running = true } }
+        ensures begins { (asked : Bool) (w : World) → Represents heap.old w → policy.old.numbers ≡ w.numbers
+            → Shows asked result heap.new policy.new (push (new_collection generation asked w) w) w.stack }
+        ensures ready { IsReady result heap.new }
+    {
+        let flags = policy.flags();
+        policy.begin(generation);
+        Collection {
+            generation,
+            flags,
+            collected: 0,
+            phase: Phase::Start,
+            release: None,
+        }
+    }
+
+    /// One action of the collection.
+    pub fn step<B: Kind, L: Ledger>(
+        &mut self,
+        heap: &mut Heap<B>,
+        policy: &mut Policy,
+        script: &Script,
+        steps: &mut Steps<L>,
+    ) -> CollectStep
+        requires few { HasFewHolds heap.old }
+        requires held { HasHolds heap.old (held_by self.old) }
+        requires ready { IsReady self.old heap.old }
+        requires bounded { IsBelow62 policy.old.numbers }
+        ensures steps { CollectSteps script.now self.old heap.old policy.old self.new heap.new policy.new result }
+        ensures ready { KeepsReady self.new heap.new result }
+        ensures falls { result ≡ answer_of.Continue → CollectFalls self.old heap.old self.new heap.new }
+    {
+        if let Some(answer) = self.give_up(heap) {
+            return answer;
+        }
+        let turn = self.turn(heap, policy, script, steps);
+        self.phase = turn.phase;
+        self.release = turn.release;
+        self.collected += turn.collected;
+        turn.answer
+    }
+
+    /// Gives up the next reference, if one is to be given up.
+    fn give_up<B: Kind>(&mut self, heap: &mut Heap<B>) -> Option<CollectStep>
+        requires { HasHolds heap.old (given_up_by self.old.release) }
+        ensures none { IfNone result ((self.new ≡ self.old) × (heap.new ≡ heap.old) × (self.old.release ≡ None)) }
+        ensures some { IfSome result (λ answer. GivesUpNext self.old heap.old self.new heap.new answer) }
+    {
+        let answer = match &mut self.release {
+            Some(release) => release.step(heap),
+            None => return None,
+        };
+        match answer {
+            DeathStep::Died(object) => {
+                self.phase = died(self.phase);
+                Some(CollectStep::Died(object))
+            }
+            DeathStep::Gone => {
+                self.release = None;
+                Some(CollectStep::Continue)
+            }
+            _ => Some(CollectStep::Continue),
+        }
+    }
+
+    /// One action of a phase.
+    fn turn<B: Kind, L: Ledger>(
+        &self,
+        heap: &mut Heap<B>,
+        policy: &mut Policy,
+        script: &Script,
+        steps: &mut Steps<L>,
+    ) -> Turn
+        requires generation { self.now.generation ≤ 2 }
+        requires ready { IsReadyAt heap.old self.now.generation self.now.phase }
+        requires few { HasFewHolds heap.old }
+        requires held { HasHolds heap.old (own_holds_at self.now.phase) }
+        requires bounded { IsBelow62 policy.old.numbers }
+        ensures steps { TurnSteps script.now (facts_of self.now) self.now.phase heap.old policy.old heap.new policy.new result }
+        ensures ready { StaysReady heap.new self.now.generation result.phase result.answer }
+        ensures falls { TurnFalls heap.old self.now.phase heap.new result }
+        ensures leaves { TurnLeaves heap.old self.now.phase heap.new result }
+    {
+        let facts = Facts {
+            generation: self.generation,
+            flags: self.flags,
+            collected: self.collected,
+        };
+        match self.phase {
+            Phase::Start => start(facts, heap, policy, script, steps),
+            Phase::Sizes {
+                zero,
+                one,
+                two,
+                frozen,
+            } => tell_sizes(facts, heap, zero, one, two, frozen),
+            Phase::Telling(next) => tell_condemned(heap, next),
+            Phase::WeakClearing { member, weak } => clear_one(heap, member, weak),
+            Phase::WeakCalling => call_one(heap),
+            Phase::AfterCallback(weak) => after_callback(weak),
+            Phase::AfterRelease { weak, died } => after_release(facts, heap, weak, died),
+            Phase::Finalizing => look_at_one(heap, script),
+            Phase::AfterFinalizing(object) => after_finalizer(object),
+            Phase::Split => detect(facts, heap, steps),
+            Phase::Living(next) => tell_living(facts, heap, next),
+            Phase::Detaching(next) => detach_one(heap, next),
+            Phase::Turns => take_turn(facts, heap),
+            Phase::Turn(object) => empty_one(heap, object),
+            Phase::AfterTurn { object, died } => after_turn(facts, heap, object, died),
+            Phase::Ending => end(facts, heap, policy, script),
+            Phase::Uncollectable {
+                first,
+                next,
+                number,
+            } => tell_uncollectable(facts, heap, first, next, number),
+            Phase::Saved { next, number } => tell_saved(facts, heap, script, next, number),
+            Phase::Stopping(number) => tell_end(facts, number),
+            Phase::Over(number) => Turn::answers(
+                Phase::Over(number),
+                CollectStep::Finished {
+                    collected: self.collected,
+                    uncollectable: number,
+                },
+            ),
+        }
+    }
+}
+
+/// What was given up has died of that.
+fn died(phase: Phase) -> Phase
+    ensures { result ≡ died_in phase }
+{
+    match phase {
+        Phase::AfterRelease { weak, .. } => Phase::AfterRelease { weak, died: true },
+        Phase::AfterTurn { object, .. } => Phase::AfterTurn { object, died: true },
+        other => other,
+    }
+}

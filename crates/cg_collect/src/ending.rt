@@ -1,0 +1,157 @@
+//! The end: what was set aside is told and saved. (`gc` manual, `gc.garbage`, `gc.DEBUG_UNCOLLECTABLE`.)
+ghost use Rattle.std.specs.Prelude.{◌≡◌, ◌≤◌, ℕ};
+ghost use Rattle.cg_script.specs.declared.Script.{Script as AnyScript};
+ghost use Rattle.cg_policy.specs.Policy.{Policy as Standing};
+ghost use Rattle.cg_policy.specs.Flagset.{bits_of};
+ghost use Rattle.cg_graph.specs.Store.{Store, IsLive};
+ghost use Rattle.cg_collect.specs.Phases.{is_saved_at};
+ghost use Rattle.cg_collect.specs.Saving.{with_saved, kept_aside};
+ghost use Rattle.cg_collect.specs.declared.collection.Facts.{Facts as AnyFacts};
+ghost use Rattle.cg_collect.specs.declared.phase.Phase.TheVariants as phase_of;
+ghost use Rattle.cg_collect.specs.Ready.{IsReadyAt};
+ghost use Rattle.cg_collect.specs.Turns.{TurnSteps, TurnFalls, TurnLeaves, StaysReady};
+
+use crate::collection::Facts;
+use crate::phase::{Phase, Turn, older};
+use bitflags::Flags;
+use cg_death::finalizers_of;
+use cg_heap::Heap;
+use cg_kind::Kind;
+use cg_machine::Event;
+use cg_policy::{Flagset, Policy};
+use cg_script::Script;
+use cg_value::Place;
+
+/// What was set aside is saved where it is to be, and goes to the older generation. No collection runs any more.
+pub fn end<B: Kind>(facts: Facts, heap: &mut Heap<B>, policy: &mut Policy, script: &Script) -> Turn
+    requires generation { facts.generation ≤ 2 }
+    requires ready { IsReadyAt heap.old facts.generation phase_of.Ending }
+    ensures steps { TurnSteps script.now facts phase_of.Ending heap.old policy.old heap.new policy.new result }
+    ensures ready { StaysReady heap.new facts.generation result.phase result.answer }
+    ensures falls { TurnFalls heap.old phase_of.Ending heap.new result }
+    ensures leaves { TurnLeaves heap.old phase_of.Ending heap.new result }
+{
+    heap.sound();
+    let number = heap.size(Place::Legacy);
+    let first = heap.first(Place::Legacy);
+    save_legacy(facts, heap, script);
+    heap.sound();
+    heap.merge(Place::Legacy, Place::Gen(older(facts.generation)));
+    heap.sound();
+    policy.ended();
+    if facts.flags.intersects(Flagset::UNCOLLECTABLE) {
+        Turn::to(Phase::Uncollectable {
+            first,
+            next: first,
+            number,
+        })
+    } else {
+        Turn::to(Phase::Saved {
+            next: first,
+            number,
+        })
+    }
+}
+
+/// The objects that were set aside are saved, if they are to be.
+fn save_legacy<B: Kind>(facts: Facts, heap: &mut Heap<B>, script: &Script)
+    requires { IsReadyAt heap.old facts.generation phase_of.Ending }
+    ensures { heap.new ≡ with_saved (kept_aside script.now (bits_of facts.flags) heap.old) heap.old }
+{
+    heap.sound();
+    let mut next = heap.first(Place::Legacy);
+    'objects: while let Some(object) = next {
+        next = heap.next(object);
+        if is_saved(facts, heap, script, object) {
+            heap.save(object);
+        }
+    }
+}
+
+/// Whether an object that was set aside is saved: with SAVEALL, or with a legacy finalizer.
+fn is_saved<B: Kind>(facts: Facts, heap: &Heap<B>, script: &Script, object: u64) -> bool
+    requires { IsLive heap.now object }
+    ensures { result ≡ is_saved_at script.now (bits_of facts.flags) heap.now object }
+{
+    if facts.flags.intersects(Flagset::SAVEALL) {
+        return true;
+    }
+    finalizers_of(heap, script, object).legacy.is_some()
+}
+
+/// Tells the next object that was set aside; then those that were saved are told.
+pub fn tell_uncollectable<B: Kind>(
+    facts: Facts,
+    heap: &Heap<B>,
+    first: Option<u64>,
+    next: Option<u64>,
+    number: u64,
+) -> Turn
+    requires generation { facts.generation ≤ 2 }
+    requires ready { IsReadyAt heap.now facts.generation (phase_of.Uncollectable first next number) }
+    ensures steps { (script : AnyScript) (policy : Standing) → TurnSteps script facts (phase_of.Uncollectable first next number) heap.now policy heap.now policy result }
+    ensures ready { StaysReady heap.now facts.generation result.phase result.answer }
+    ensures falls { TurnFalls heap.now (phase_of.Uncollectable first next number) heap.now result }
+    ensures leaves { TurnLeaves heap.now (phase_of.Uncollectable first next number) heap.now result }
+{
+    heap.sound();
+    match next {
+        Some(object) => Turn::tells(
+            Event::GcUncollectable(object),
+            Phase::Uncollectable {
+                first,
+                next: heap.next(object),
+                number,
+            },
+        ),
+        None => Turn::to(Phase::Saved {
+            next: first,
+            number,
+        }),
+    }
+}
+
+/// Tells the next object, if it was saved; then the end is told.
+pub fn tell_saved<B: Kind>(
+    facts: Facts,
+    heap: &Heap<B>,
+    script: &Script,
+    next: Option<u64>,
+    number: u64,
+) -> Turn
+    requires generation { facts.generation ≤ 2 }
+    requires ready { IsReadyAt heap.now facts.generation (phase_of.Saved next number) }
+    ensures steps { (policy : Standing) → TurnSteps script.now facts (phase_of.Saved next number) heap.now policy heap.now policy result }
+    ensures ready { StaysReady heap.now facts.generation result.phase result.answer }
+    ensures falls { TurnFalls heap.now (phase_of.Saved next number) heap.now result }
+    ensures leaves { TurnLeaves heap.now (phase_of.Saved next number) heap.now result }
+{
+    let Some(object) = next else {
+        return Turn::to(Phase::Stopping(number));
+    };
+    heap.sound();
+    let phase = Phase::Saved {
+        next: heap.next(object),
+        number,
+    };
+    if is_saved(facts, heap, script, object) {
+        Turn::tells(Event::GcSaved(object), phase)
+    } else {
+        Turn::to(phase)
+    }
+}
+
+/// Tells the end, with both numbers.
+pub fn tell_end(facts: Facts, number: u64) -> Turn
+    ensures steps { (script : AnyScript) (store : Store) (policy : Standing) → TurnSteps script facts (phase_of.Stopping number) store policy store policy result }
+    ensures ready { (store : Store) (g : ℕ) → StaysReady store g result.phase result.answer }
+    ensures falls { (store : Store) → TurnFalls store (phase_of.Stopping number) store result }
+    ensures leaves { (store : Store) → TurnLeaves store (phase_of.Stopping number) store result }
+{
+    let event = Event::GcStop {
+        generation: facts.generation,
+        collected: facts.collected,
+        uncollectable: number,
+    };
+    Turn::tells(event, Phase::Over(number))
+}

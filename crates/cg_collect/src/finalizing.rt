@@ -1,0 +1,110 @@
+//! The finalizer phase: condemned objects are looked at, and the finalizers that have not run are run. (PEP 442: a
+//! finalizer is called once.)
+ghost use Rattle.std.specs.Prelude.{◌≡◌, ◌∷◌, [], ℕ, Some, None, slice_get, option_and_then};
+ghost use Rattle.cg_script.specs.declared.Script.{Script as AnyScript};
+ghost use Rattle.cg_policy.specs.Policy.{Policy as Standing};
+ghost use Rattle.cg_value.specs.declared.Place.TheVariants as place_of;
+ghost use Rattle.cg_graph.specs.Object.{object_at};
+ghost use Rattle.cg_graph.specs.Store.{Store, IsLive, list_at, objects_of};
+ghost use Rattle.cg_graph.specs.Changes.{held, moved};
+ghost use Rattle.cg_heap.specs.Calls.{HasFewHolds, with_node, marked};
+ghost use Rattle.cg_machine.specs.declared.event.FrameSort.TheVariants as sort_of;
+ghost use Rattle.cg_machine.specs.Dying.{finalizer_to_run};
+ghost use Rattle.cg_collect.specs.declared.answer.CollectStep.TheVariants as answer_of;
+ghost use Rattle.cg_collect.specs.declared.collection.Facts.{Facts as AnyFacts};
+ghost use Rattle.cg_collect.specs.declared.phase.Phase.TheVariants as phase_of;
+ghost use Rattle.cg_collect.specs.Ready.{IsReadyAt};
+ghost use Rattle.cg_collect.specs.Turns.{TurnSteps, TurnFalls, TurnLeaves, StaysReady};
+
+use crate::phase::{Phase, Turn, release_of};
+use cg_death::finalizers_of;
+use cg_heap::Heap;
+use cg_kind::Kind;
+use cg_machine::{FrameSort, FrameSpec};
+use cg_script::Script;
+use cg_value::Place;
+
+/// Looks at a condemned object, if one is left; then all are condemned as before, and the second detection follows.
+pub fn look_at_one<B: Kind>(heap: &mut Heap<B>, script: &Script) -> Turn
+    requires ready { IsReadyAt heap.old 0 phase_of.Finalizing }
+    requires few { HasFewHolds heap.old }
+    ensures steps { (facts : AnyFacts) (policy : Standing) → TurnSteps script.now facts phase_of.Finalizing heap.old policy heap.new policy result }
+    ensures ready { (g : ℕ) → StaysReady heap.new g result.phase result.answer }
+    ensures falls { TurnFalls heap.old phase_of.Finalizing heap.new result }
+    ensures leaves { TurnLeaves heap.old phase_of.Finalizing heap.new result }
+{
+    heap.sound();
+    match heap.first(Place::Cand) {
+        Some(object) => look_at(heap, script, object),
+        None => {
+            heap.merge(Place::Seen, Place::Cand);
+            Turn::to(Phase::Split)
+        }
+    }
+}
+
+/// Its finalizer runs, if it has not.
+fn look_at<B: Kind>(heap: &mut Heap<B>, script: &Script, object: u64) -> Turn
+    requires ready { IsReadyAt heap.old 0 phase_of.Finalizing }
+    requires few { HasFewHolds heap.old }
+    requires first { slice_get (list_at heap.old place_of.Cand) 0 ≡ Some object }
+    ensures steps { (facts : AnyFacts) (policy : Standing) → TurnSteps script.now facts phase_of.Finalizing heap.old policy heap.new policy result }
+    ensures ready { (g : ℕ) → StaysReady heap.new g result.phase result.answer }
+    ensures falls { TurnFalls heap.old phase_of.Finalizing heap.new result }
+    ensures leaves { TurnLeaves heap.old phase_of.Finalizing heap.new result }
+{
+    heap.sound();
+    match finalizer_to_run(heap, script, object) {
+        Some(proc) => run(heap, object, proc),
+        None => {
+            heap.move_to(object, Place::Seen);
+            Turn::to(Phase::Finalizing)
+        }
+    }
+}
+
+/// The finalizer of an object, if it has not run.
+fn finalizer_to_run<B: Kind>(heap: &Heap<B>, script: &Script, object: u64) -> Option<u32>
+    requires { IsLive heap.now object }
+    ensures { result ≡ option_and_then (finalizer_to_run script.now) (object_at (objects_of heap.now) object) }
+{
+    if heap.is_finalized(object) {
+        None
+    } else {
+        finalizers_of(heap, script, object).del
+    }
+}
+
+/// A finalizer runs: its object is marked, and held for its frame.
+fn run<B: Kind>(heap: &mut Heap<B>, object: u64, proc: u32) -> Turn
+    requires live { IsLive heap.old object }
+    requires few { HasFewHolds heap.old }
+    ensures heap { heap.new ≡ held (object ∷ []) (with_node marked object (moved object place_of.Seen heap.old)) }
+    ensures turn { result ≡ record {
+      phase = phase_of.AfterFinalizing object;
+      release = None;
+      collected = 0;
+      answer = answer_of.Frame (record { sort = sort_of.Del; proc = proc; subject = object; func = None });
+    } }
+{
+    heap.move_to(object, Place::Seen);
+    heap.set_finalized(object);
+    heap.hold(object);
+    let frame = FrameSpec {
+        sort: FrameSort::Del,
+        proc,
+        subject: object,
+        func: None,
+    };
+    Turn::runs(frame, Phase::AfterFinalizing(object))
+}
+
+/// The frame of a finalizer has ended: the object is given up.
+pub fn after_finalizer(object: u64) -> Turn
+    ensures steps { (script : AnyScript) (facts : AnyFacts) (store : Store) (policy : Standing) → TurnSteps script facts (phase_of.AfterFinalizing object) store policy store policy result }
+    ensures ready { (store : Store) (g : ℕ) → IsReadyAt store g (phase_of.AfterFinalizing object) → StaysReady store g result.phase result.answer }
+    ensures falls { (store : Store) → TurnFalls store (phase_of.AfterFinalizing object) store result }
+    ensures leaves { (store : Store) → TurnLeaves store (phase_of.AfterFinalizing object) store result }
+{
+    Turn::gives_up(release_of(object), Phase::Finalizing)
+}

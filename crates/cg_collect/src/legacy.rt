@@ -1,0 +1,82 @@
+//! Unreachable objects whose class has a legacy finalizer, and what they lead to, are set aside. (`gc` manual, `gc.garbage`;
+//! PEP 442, "legacy finalizers".)
+ghost use Rattle.std.specs.Prelude.{◌≡◌, []};
+ghost use Rattle.cg_graph.specs.Value.{references};
+ghost use Rattle.cg_graph.specs.Store.{IsLive, entries_of};
+ghost use Rattle.cg_heap.specs.Calls.{IsLiveValue};
+ghost use Rattle.cg_collect.specs.Ready.{IsEmptyAt};
+ghost use Rattle.cg_collect.specs.Starting.{SetsLegacyAside, SetsFinalizedAside, Closes, SetsReferencesAside};
+ghost use Rattle.cg_trial.specs.View.{targets};
+
+use cg_death::finalizers_of;
+use cg_heap::Heap;
+use cg_kind::Kind;
+use cg_script::Script;
+use cg_value::{Place, Val};
+
+/// The candidates with a legacy finalizer, and the candidates that they lead to, are set aside.
+pub fn set_legacy_aside<B: Kind>(heap: &mut Heap<B>, script: &Script)
+    requires { IsEmptyAt heap.old Place.Legacy }
+    ensures { SetsLegacyAside script.now heap.old heap.new }
+{
+    heap.sound();
+    set_finalized_aside(heap, script);
+    close(heap);
+}
+
+/// The candidates with a legacy finalizer are set aside.
+fn set_finalized_aside<B: Kind>(heap: &mut Heap<B>, script: &Script)
+    ensures { SetsFinalizedAside script.now heap.old heap.new }
+{
+    heap.sound();
+    let mut next = heap.first(Place::Cand);
+    'objects: while let Some(object) = next {
+        heap.sound();
+        next = heap.next(object);
+        if finalizers_of(heap, script, object).legacy.is_some() {
+            heap.move_to(object, Place::Legacy);
+        }
+    }
+    heap.sound();
+}
+
+/// What they lead to is set aside: each stands behind them in the list, and is gone through in its turn.
+fn close<B: Kind>(heap: &mut Heap<B>)
+    ensures { Closes heap.old heap.new }
+{
+    heap.sound();
+    let mut next = heap.first(Place::Legacy);
+    'objects: while let Some(object) = next {
+        heap.sound();
+        set_references_aside(heap, object);
+        heap.sound();
+        next = heap.next(object);
+    }
+    heap.sound();
+}
+
+/// The candidates among the references of an object are set aside.
+fn set_references_aside<B: Kind>(heap: &mut Heap<B>, object: u64)
+    requires { IsLive heap.old object }
+    ensures { SetsReferencesAside (references (entries_of heap.old object)) heap.old heap.new }
+{
+    heap.sound();
+    'entries: for i in 0..heap.len(object) {
+        let entry = heap.entry_at(object, i);
+        set_aside(heap, entry.val);
+        set_aside(heap, entry.key);
+    }
+}
+
+/// A candidate is set aside.
+fn set_aside<B: Kind>(heap: &mut Heap<B>, val: Val)
+    requires { IsLiveValue heap.old val }
+    ensures { SetsReferencesAside (targets val) heap.old heap.new }
+{
+    heap.sound();
+    if let Val::Ref(object) = val {
+        if heap.place_of(object) == Place::Cand {
+            heap.move_to(object, Place::Legacy);
+        }
+    }
+}

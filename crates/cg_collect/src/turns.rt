@@ -1,0 +1,109 @@
+//! The clearing: each member of the final set has a turn. (Developer guide, "destroying unreachable objects". That it is
+//! emptied entry by entry is ours.)
+ghost use Rattle.std.specs.Prelude.{◌≡◌, ◌<◌, ◌≤◌, ℕ, Some, slice_get};
+ghost use Rattle.cg_value.specs.declared.Place.TheVariants as place_of;
+ghost use Rattle.cg_script.specs.declared.Script.{Script as AnyScript};
+ghost use Rattle.cg_policy.specs.Policy.{Policy as Standing};
+ghost use Rattle.cg_graph.specs.Store.{outside_of, list_at};
+ghost use Rattle.cg_heap.specs.Calls.{HasFewHolds};
+ghost use Rattle.cg_collect.specs.declared.collection.Facts.{Facts as AnyFacts};
+ghost use Rattle.cg_collect.specs.declared.phase.Phase.TheVariants as phase_of;
+ghost use Rattle.cg_collect.specs.Ready.{IsReadyAt};
+ghost use Rattle.cg_collect.specs.Turns.{TurnSteps, TurnFalls, TurnLeaves, StaysReady};
+
+use crate::collection::Facts;
+use crate::phase::{Phase, Turn, older, release_of};
+use bitflags::Flags;
+use cg_death::Release;
+use cg_heap::Heap;
+use cg_kind::Kind;
+use cg_machine::Event;
+use cg_policy::Flagset;
+use cg_value::{KindCode, Place};
+
+/// The next member has its turn; when all had theirs, the end follows.
+pub fn take_turn<B: Kind>(facts: Facts, heap: &mut Heap<B>) -> Turn
+    requires generation { facts.generation ≤ 2 }
+    requires ready { IsReadyAt heap.old facts.generation phase_of.Turns }
+    requires few { HasFewHolds heap.old }
+    ensures steps { (script : AnyScript) (policy : Standing) → TurnSteps script facts phase_of.Turns heap.old policy heap.new policy result }
+    ensures ready { StaysReady heap.new facts.generation result.phase result.answer }
+    ensures falls { TurnFalls heap.old phase_of.Turns heap.new result }
+    ensures leaves { TurnLeaves heap.old phase_of.Turns heap.new result }
+{
+    heap.sound();
+    match heap.first(Place::Cand) {
+        Some(object) => begin_turn(facts, heap, object),
+        None => Turn::to(Phase::Ending),
+    }
+}
+
+/// With SAVEALL it is saved. A tuple cannot be cleared. Another is held, to be emptied.
+fn begin_turn<B: Kind>(facts: Facts, heap: &mut Heap<B>, object: u64) -> Turn
+    requires generation { facts.generation ≤ 2 }
+    requires ready { IsReadyAt heap.old facts.generation phase_of.Turns }
+    requires few { HasFewHolds heap.old }
+    requires first { slice_get (list_at heap.old place_of.Cand) 0 ≡ Some object }
+    ensures steps { (script : AnyScript) (policy : Standing) → TurnSteps script facts phase_of.Turns heap.old policy heap.new policy result }
+    ensures ready { StaysReady heap.new facts.generation result.phase result.answer }
+    ensures falls { TurnFalls heap.old phase_of.Turns heap.new result }
+    ensures leaves { TurnLeaves heap.old phase_of.Turns heap.new result }
+{
+    heap.sound();
+    if facts.flags.intersects(Flagset::SAVEALL) {
+        heap.save(object);
+        heap.sound();
+        heap.move_to(object, Place::Gen(older(facts.generation)));
+        return Turn::tells(Event::GcSaved(object), Phase::Turns);
+    }
+    match heap.kind_of(object) {
+        KindCode::Tuple => {
+            heap.move_to(object, Place::Gen(older(facts.generation)));
+            Turn::to(Phase::Turns)
+        }
+        _ => {
+            heap.hold(object);
+            Turn::to(Phase::Turn(object))
+        }
+    }
+}
+
+/// Its last entry is taken out, to be given up; when none is left, it is given up itself.
+pub fn empty_one<B: Kind>(heap: &mut Heap<B>, object: u64) -> Turn
+    requires ready { IsReadyAt heap.old 0 (phase_of.Turn object) }
+    requires few { HasFewHolds heap.old }
+    requires held { 0 < outside_of heap.old object }
+    ensures steps { (script : AnyScript) (facts : AnyFacts) (policy : Standing) → TurnSteps script facts (phase_of.Turn object) heap.old policy heap.new policy result }
+    ensures ready { (g : ℕ) → StaysReady heap.new g result.phase result.answer }
+    ensures falls { TurnFalls heap.old (phase_of.Turn object) heap.new result }
+    ensures leaves { TurnLeaves heap.old (phase_of.Turn object) heap.new result }
+{
+    heap.sound();
+    match heap.detach(object) {
+        Some(entry) => Turn::gives_up(Release::new(entry), Phase::Turn(object)),
+        None => Turn::gives_up(
+            release_of(object),
+            Phase::AfterTurn {
+                object,
+                died: false,
+            },
+        ),
+    }
+}
+
+/// One that lives after its turn gets older.
+pub fn after_turn<B: Kind>(facts: Facts, heap: &mut Heap<B>, object: u64, died: bool) -> Turn
+    requires generation { facts.generation ≤ 2 }
+    requires ready { IsReadyAt heap.old facts.generation (phase_of.AfterTurn object died) }
+    ensures steps { (script : AnyScript) (policy : Standing) → TurnSteps script facts (phase_of.AfterTurn object died) heap.old policy heap.new policy result }
+    ensures ready { StaysReady heap.new facts.generation result.phase result.answer }
+    ensures falls { TurnFalls heap.old (phase_of.AfterTurn object died) heap.new result }
+    ensures leaves { TurnLeaves heap.old (phase_of.AfterTurn object died) heap.new result }
+{
+    if died {
+        return Turn::to(Phase::Turns);
+    }
+    heap.sound();
+    heap.move_to(object, Place::Gen(older(facts.generation)));
+    Turn::to(Phase::Turns)
+}

@@ -1,0 +1,230 @@
+//! The weak phase: weak references lose condemned objects, and the callbacks of those that are not condemned are called.
+//! (PEP 442; `weakref` manual.)
+ghost use Rattle.std.specs.Prelude.{◌≡◌, ◌≤◌, ◌∷◌, [], ℕ, Some, None, IsSome, true, false, slice_get, unwrap_or, option_map, option_and_then, if◌then◌else◌};
+ghost use Rattle.cg_value.specs.declared.Place.TheVariants as place_of;
+ghost use Rattle.cg_script.specs.declared.Script.{Script as AnyScript};
+ghost use Rattle.cg_policy.specs.Policy.{Policy as Standing};
+ghost use Rattle.cg_graph.specs.Object.{object_at};
+ghost use Rattle.cg_graph.specs.Rows.{referent_in, weak_references_in};
+ghost use Rattle.cg_graph.specs.Store.{Store, IsLive, objects_of};
+ghost use Rattle.cg_graph.specs.Changes.{held, moved};
+ghost use Rattle.cg_heap.specs.Calls.{HasFewHolds};
+ghost use Rattle.cg_heap.specs.Weak.{cleared_weak};
+ghost use Rattle.cg_machine.specs.declared.event.FrameSort.TheVariants as sort_of;
+ghost use Rattle.cg_machine.specs.Weak.{callback_of};
+ghost use Rattle.cg_machine.specs.Collect.{is_condemned_in, loses_in_weak_phase, waits};
+ghost use Rattle.cg_collect.specs.declared.collection.Facts.{Facts as AnyFacts};
+ghost use Rattle.cg_collect.specs.declared.phase.Phase.TheVariants as phase_of;
+ghost use Rattle.cg_collect.specs.Ready.{IsReadyAt};
+ghost use Rattle.cg_collect.specs.Turns.{TurnSteps, TurnFalls, TurnLeaves, StaysReady};
+
+use crate::answer::CollectStep;
+use crate::collection::Facts;
+use crate::phase::{Phase, Turn, older, release_of};
+use cg_heap::Heap;
+use cg_kind::Kind;
+use cg_machine::{Event, FrameSort, FrameSpec};
+use cg_value::{Place, Val};
+
+/// Looks at the next weak reference of the walk, or at the next condemned object.
+///
+/// For each condemned object all weak references to it are looked at, from the newest on; for a weak reference that is
+/// condemned, all to its referent. So each list is gone through once.
+pub fn clear_one<B: Kind>(heap: &mut Heap<B>, member: Option<u64>, weak: Option<u64>) -> Turn
+    requires ready { IsReadyAt heap.old 0 (phase_of.WeakClearing member weak) }
+    requires few { HasFewHolds heap.old }
+    ensures steps { (script : AnyScript) (facts : AnyFacts) (policy : Standing) → TurnSteps script facts (phase_of.WeakClearing member weak) heap.old policy heap.new policy result }
+    ensures ready { (g : ℕ) → StaysReady heap.new g result.phase result.answer }
+    ensures falls { TurnFalls heap.old (phase_of.WeakClearing member weak) heap.new result }
+    ensures leaves { TurnLeaves heap.old (phase_of.WeakClearing member weak) heap.new result }
+{
+    match weak {
+        Some(weak) => look_at(heap, member, weak),
+        None => next_member(heap, member),
+    }
+}
+
+/// A weak reference loses its referent, where one of the two is condemned.
+fn look_at<B: Kind>(heap: &mut Heap<B>, member: Option<u64>, weak: u64) -> Turn
+    requires ready { IsReadyAt heap.old 0 (phase_of.WeakClearing member (Some weak)) }
+    requires few { HasFewHolds heap.old }
+    ensures steps { (script : AnyScript) (facts : AnyFacts) (policy : Standing) → TurnSteps script facts (phase_of.WeakClearing member (Some weak)) heap.old policy heap.new policy result }
+    ensures ready { (g : ℕ) → StaysReady heap.new g result.phase result.answer }
+    ensures falls { TurnFalls heap.old (phase_of.WeakClearing member (Some weak)) heap.new result }
+    ensures leaves { TurnLeaves heap.old (phase_of.WeakClearing member (Some weak)) heap.new result }
+{
+    heap.sound();
+    let phase = Phase::WeakClearing {
+        member,
+        weak: heap.older_of(weak),
+    };
+    if loses(heap, weak) {
+        lose(heap, weak);
+        heap.sound();
+        Turn::tells(Event::Cleared(weak), phase)
+    } else {
+        Turn::to(phase)
+    }
+}
+
+/// Whether a weak reference has a referent, and one of the two is condemned.
+fn loses<B: Kind>(heap: &Heap<B>, weak: u64) -> bool
+    requires { IsLive heap.now weak }
+    ensures { result ≡ unwrap_or (option_map (loses_in_weak_phase (objects_of heap.now)) (object_at (objects_of heap.now) weak)) false }
+{
+    heap.sound();
+    match heap.referent_of(weak) {
+        Some(referent) => is_condemned(heap, referent) || is_condemned(heap, weak),
+        None => false,
+    }
+}
+
+/// Whether an object is condemned.
+fn is_condemned<B: Kind>(heap: &Heap<B>, object: u64) -> bool
+    requires { IsLive heap.now object }
+    ensures { result ≡ is_condemned_in (objects_of heap.now) object }
+{
+    match heap.place_of(object) {
+        Place::Cand => true,
+        Place::Seen => true,
+        _ => false,
+    }
+}
+
+/// A weak reference loses its referent. One that is not condemned and has a callback waits, and is held.
+fn lose<B: Kind>(heap: &mut Heap<B>, weak: u64)
+    requires few { HasFewHolds heap.old }
+    requires live { IsLive heap.old weak }
+    requires refers { IsSome (referent_in heap.old.rows weak) }
+    ensures { heap.new ≡ (if waits (objects_of heap.old) weak
+        then moved weak place_of.Pend (held (weak ∷ []) (cleared_weak weak false heap.old)) else cleared_weak weak false heap.old) }
+{
+    let waits = waits(heap, weak);
+    heap.clear_weak(weak, false);
+    if waits {
+        heap.hold(weak);
+        heap.move_to(weak, Place::Pend);
+    }
+}
+
+/// Whether a weak reference that loses its referent waits for its callback.
+fn waits<B: Kind>(heap: &Heap<B>, weak: u64) -> bool
+    requires { IsLive heap.now weak }
+    ensures { result ≡ waits (objects_of heap.now) weak }
+{
+    !is_condemned(heap, weak) && callback_of(heap, weak).is_some()
+}
+
+/// The callback of a weak reference, if it has one.
+fn callback_of<B: Kind>(heap: &Heap<B>, weak: u64) -> Option<u64>
+    requires { IsLive heap.now weak }
+    ensures { result ≡ callback_of (objects_of heap.now) weak }
+{
+    if heap.len(weak) == 0 {
+        return None;
+    }
+    match heap.entry_at(weak, 0).val {
+        Val::Ref(function) => Some(function),
+        _ => None,
+    }
+}
+
+/// The weak references to the next condemned object are looked at, or those to its referent; when all were, the callbacks
+/// follow.
+fn next_member<B: Kind>(heap: &mut Heap<B>, member: Option<u64>) -> Turn
+    requires ready { IsReadyAt heap.old 0 (phase_of.WeakClearing member None) }
+    ensures steps { (script : AnyScript) (facts : AnyFacts) (policy : Standing) → TurnSteps script facts (phase_of.WeakClearing member None) heap.old policy heap.new policy result }
+    ensures ready { (g : ℕ) → StaysReady heap.new g result.phase result.answer }
+    ensures falls { TurnFalls heap.old (phase_of.WeakClearing member None) heap.new result }
+    ensures leaves { TurnLeaves heap.old (phase_of.WeakClearing member None) heap.new result }
+{
+    heap.sound();
+    match member {
+        Some(object) => Turn::to(Phase::WeakClearing {
+            member: heap.next(object),
+            weak: first_to_look_at(heap, object),
+        }),
+        None => Turn::to(Phase::WeakCalling),
+    }
+}
+
+/// The newest weak reference to the referent of a condemned one, or to a condemned object.
+fn first_to_look_at<B: Kind>(heap: &Heap<B>, object: u64) -> Option<u64>
+    requires { IsLive heap.now object }
+    ensures { result ≡ slice_get (weak_references_in heap.now.rows (unwrap_or (referent_in heap.now.rows object) object)) 0 }
+{
+    heap.sound();
+    match heap.referent_of(object) {
+        Some(referent) => heap.newest_of(referent),
+        None => heap.newest_of(object),
+    }
+}
+
+/// The first of those that wait has its callback called; when none is left, the finalizers follow.
+pub fn call_one<B: Kind>(heap: &mut Heap<B>) -> Turn
+    requires ready { IsReadyAt heap.old 0 phase_of.WeakCalling }
+    ensures steps { (script : AnyScript) (facts : AnyFacts) (policy : Standing) → TurnSteps script facts phase_of.WeakCalling heap.old policy heap.new policy result }
+    ensures ready { (g : ℕ) → StaysReady heap.new g result.phase result.answer }
+    ensures falls { TurnFalls heap.old phase_of.WeakCalling heap.new result }
+    ensures leaves { TurnLeaves heap.old phase_of.WeakCalling heap.new result }
+{
+    heap.sound();
+    match heap.first(Place::Pend) {
+        Some(weak) => Turn::runs(callback_frame(heap, weak), Phase::AfterCallback(weak)),
+        None => Turn::to(Phase::Finalizing),
+    }
+}
+
+/// The frame of the callback of a weak reference.
+fn callback_frame<B: Kind>(heap: &Heap<B>, weak: u64) -> FrameSpec
+    requires live { IsLive heap.now weak }
+    requires callback { IsSome (callback_of (objects_of heap.now) weak) }
+    ensures { let f = unwrap_or (callback_of (objects_of heap.now) weak) 0 in result ≡ record {
+      sort = sort_of.Callback;
+      proc = unwrap_or (option_and_then (λ x. x.class) (object_at (objects_of heap.now) f)) 0;
+      subject = weak;
+      func = Some f;
+    } }
+{
+    heap.sound();
+    let callback = callback_of(heap, weak).unwrap_or(0);
+    FrameSpec {
+        sort: FrameSort::Callback,
+        proc: heap.class_of(callback).unwrap_or(0),
+        subject: weak,
+        func: Some(callback),
+    }
+}
+
+/// The frame of a callback has ended: the weak reference is given up.
+pub fn after_callback(weak: u64) -> Turn
+    ensures steps { (script : AnyScript) (facts : AnyFacts) (store : Store) (policy : Standing) → IsReadyAt store facts.generation (phase_of.AfterCallback weak)
+        → TurnSteps script facts (phase_of.AfterCallback weak) store policy store policy result }
+    ensures ready { (store : Store) (g : ℕ) → IsReadyAt store g (phase_of.AfterCallback weak) → StaysReady store g result.phase result.answer }
+    ensures falls { (store : Store) → TurnFalls store (phase_of.AfterCallback weak) store result }
+    ensures leaves { (store : Store) → TurnLeaves store (phase_of.AfterCallback weak) store result }
+{
+    Turn::gives_up(release_of(weak), Phase::AfterRelease { weak, died: false })
+}
+
+/// One that died when it was given up is counted as collected; another gets older.
+pub fn after_release<B: Kind>(facts: Facts, heap: &mut Heap<B>, weak: u64, died: bool) -> Turn
+    requires generation { facts.generation ≤ 2 }
+    requires ready { IsReadyAt heap.old facts.generation (phase_of.AfterRelease weak died) }
+    ensures steps { (script : AnyScript) (policy : Standing) → TurnSteps script facts (phase_of.AfterRelease weak died) heap.old policy heap.new policy result }
+    ensures ready { StaysReady heap.new facts.generation result.phase result.answer }
+    ensures falls { TurnFalls heap.old (phase_of.AfterRelease weak died) heap.new result }
+    ensures leaves { TurnLeaves heap.old (phase_of.AfterRelease weak died) heap.new result }
+{
+    heap.sound();
+    if died {
+        return Turn {
+            phase: Phase::WeakCalling,
+            release: None,
+            collected: 1,
+            answer: CollectStep::Continue,
+        };
+    }
+    heap.move_to(weak, Place::Gen(older(facts.generation)));
+    Turn::to(Phase::WeakCalling)
+}
