@@ -166,13 +166,16 @@ module _ (script : Script) (asked : Bool) (c : Collection) (store now : Store) (
   answered (death_answer.Emit event) r = absurd r
   answered (death_answer.Frame spec) r = absurd r
   answered (death_answer.Died o) r =
-      let later = died_at c.phase may in
-      (at.lines script asked c store, (gives_up_at (died_in c.phase) later.0).lines script asked (record c { phase = died_in c.phase; release = Some after }) now, record {
-        before = r.hands.before;
-        goes = r.hands.goes;
-        shows = shows_at (died_in c.phase) (Some after) later.0 later.1 r.hands.before r.hands.represents r.keeps.numbers r.hands.top;
-        keeps = record { budget = r.keeps.budget; outcome = r.keeps.outcome };
-      })
+      let later = died_at c.phase may in (
+        at.lines script asked c store,
+        (gives_up_at (died_in c.phase) later.0).lines script asked (record c { phase = died_in c.phase; release = Some after }) now,
+        record {
+          before = r.hands.before;
+          goes = r.hands.goes;
+          shows = shows_at (died_in c.phase) (Some after) later.0 later.1 r.hands.before r.hands.represents r.keeps.numbers r.hands.top;
+          keeps = record { budget = r.keeps.budget; outcome = r.keeps.outcome };
+        },
+      )
   answered death_answer.Gone r = record {
     events = [];
     after = r.goes.after;
