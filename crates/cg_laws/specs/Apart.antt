@@ -1,0 +1,64 @@
+-- What a collection sets apart, phase by phase. (Developer guide, "destroying unreachable objects"; `gc` manual, `gc.garbage`.)
+use Rattle.std.specs.Prelude.{◌≡◌, ◌≢◌, ℕ, false, List, ◌∷◌, ◌×◌}
+use Rattle.cg_value.specs.declared.Place.{Place}
+use Rattle.cg_value.specs.declared.Place.TheVariants.{Untracked, Cand, Seen, Back, Legacy, Pend}
+use Rattle.cg_value.specs.declared.KindCode.TheVariants.{List as ListKind}
+use Rattle.cg_script.specs.declared.Script.{Script}
+use Rattle.cg_graph.specs.Member.{Includes}
+use Rattle.cg_graph.specs.Value.{references}
+use Rattle.cg_graph.specs.Object.{Object, entries_of}
+use Rattle.cg_machine.specs.World.{World, Collecting, Collection, CollectPhase, Start, WeakClearing, WeakCalling, AfterCallback, AfterRelease, Finalizing, AfterFinalizing, Split, Turns, Turn, AfterTurn, Ending}
+use Rattle.cg_machine.specs.Holdings.{is_collecting}
+use Rattle.cg_machine.specs.Laws.{IsOfCollection}
+use Rattle.cg_machine.specs.Run.{StepTaken, IsRun, world_after}
+
+-- In the weak phase none was looked at for its finalizer, and what waits for its callback is one of these.
+pub record IsInWeakPhase (waiting : List ℕ) (x : Object) : Type 0 where
+  pub seen : x.place ≢ Seen
+  pub back : x.place ≢ Back
+  pub pending : x.place ≡ Pend → Includes waiting x.serial
+
+-- From the second detection on none is looked at for its finalizer, and none waits for its callback.
+pub record IsInLatePhase (x : Object) : Type 0 where
+  pub seen : x.place ≢ Seen
+  pub back : x.place ≢ Back
+  pub pending : x.place ≢ Pend
+
+-- Where an object may stand, by the phase of the collection. `Back` is a place within the second detection alone.
+abbrev pub StandsRightly : CollectPhase → Object → Type 0
+StandsRightly Start x = ¬ IsOfCollection x.place
+StandsRightly (WeakClearing waiting) x = IsInWeakPhase waiting x
+StandsRightly (WeakCalling waiting) x = IsInWeakPhase waiting x
+StandsRightly (AfterCallback weak waiting) x = IsInWeakPhase (weak ∷ waiting) x
+StandsRightly (AfterRelease weak waiting) x = IsInWeakPhase (weak ∷ waiting) x
+StandsRightly Finalizing x = (x.place ≢ Back) × (x.place ≢ Pend)
+StandsRightly (AfterFinalizing o) x = (x.place ≢ Back) × (x.place ≢ Pend)
+StandsRightly Split x = IsInLatePhase x
+StandsRightly Turns x = IsInLatePhase x
+StandsRightly (Turn o) x = IsInLatePhase x
+StandsRightly (AfterTurn o) x = IsInLatePhase x
+StandsRightly Ending x = IsInLatePhase x × (x.place ≢ Cand)
+
+-- the places of those that are condemned or set aside
+abbrev pub IsFound : Place → Type 0
+IsFound Cand = Unit {0}
+IsFound Seen = Unit {0}
+IsFound Legacy = Unit {0}
+IsFound place = ⊥
+
+-- the garbage list is a list, and untracked (`gc.garbage`; that it is untracked is ours)
+pub record IsGarbageList (x : Object) : Type 0 where
+  pub list : x.code ≡ ListKind
+  pub untracked : x.place ≡ Untracked
+
+-- Without a collection nothing is set apart; with one, each object stands rightly. The garbage list names none of those that
+-- are condemned or set aside: what it names is held from outside.
+pub record IsApart (w : World) : Type 0 where
+  pub garbage : (x : Object) → Includes w.objects x → x.serial ≡ 1 → IsGarbageList x
+  pub clear : is_collecting w ≡ false → (x : Object) → Includes w.objects x → ¬ IsOfCollection x.place
+  pub phases : (c : Collection) → Includes w.stack (Collecting c) → (x : Object) → Includes w.objects x → StandsRightly c.phase x
+  pub unsaved : (x : Object) → Includes w.objects x → IsFound x.place → ¬ Includes (references (entries_of w.objects 1)) x.serial
+
+-- Every world of a run is so.
+abbrev pub CollectionsAreApart : Type 0
+CollectionsAreApart = (script : Script) (budget : ℕ) (steps : List StepTaken) → IsRun script budget steps → IsApart (world_after script budget steps)
