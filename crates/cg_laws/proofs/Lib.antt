@@ -1,1 +1,4 @@
 pub mod SetsApart
+pub mod Numbers
+pub mod Counting
+pub mod NumbersOfRuns
