@@ -5,3 +5,6 @@ pub mod StepsPlain
 pub mod StepsApart
 pub mod RunsApart
 pub mod Kept
+pub mod Numbers
+pub mod Counting
+pub mod NumbersOfRuns
