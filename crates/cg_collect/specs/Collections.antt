@@ -1,5 +1,5 @@
 -- A collection as its callers see it. (Ours.)
-use Rattle.std.specs.Prelude.{◌≡◌, ℕ, ◌≤◌, List, [], ◌∷◌, ◌++◌, Option, Some, None, true, drop}
+use Rattle.std.specs.Prelude.{◌≡◌, ℕ, ◌≤◌, List, [], ◌∷◌, ◌++◌, Option, Some, None, IsSome, drop}
 use Rattle.cg_graph.specs.Store.{Store}
 use Rattle.cg_death.specs.declared.release.Release.{Release}
 use Rattle.cg_death.specs.Activities.{references_left}
@@ -12,7 +12,7 @@ use Rattle.cg_collect.specs.declared.answer.CollectStep.TheVariants as answer_of
 use Rattle.cg_collect.specs.declared.answer.CollectStep.{CollectStep}
 use Rattle.cg_collect.specs.declared.collection.Collection.{Collection}
 use Rattle.cg_collect.specs.declared.collection.Facts.{Facts}
-use Rattle.cg_collect.specs.Ready.{IsReadyAt, HasFewCollected, GivesUpIn}
+use Rattle.cg_collect.specs.Ready.{IsReadyAt, SparesGarbageList, HasFewCollected, GivesUpIn, RunsFrame, MayRun}
 use Rattle.cg_collect.specs.Turns.{ComesNearer}
 
 -- what the phases know of it
@@ -42,26 +42,31 @@ pub record IsReady (c : Collection) (store : Store) : Type 0 where
   pub collected : HasFewCollected c.collected c.phase store
   pub gives_up : GivesUpIn c.phase c.release
 
--- After an answer that hands nothing out, the heap is ready for the next step.
+-- What lasts while a frame or a death runs that was handed out. The number of what waits is that of the machine's phase, so
+-- `collected` lasts with it.
+pub record HandsOut (c : Collection) (store : Store) : Type 0 where
+  pub runs : MayRun c.phase
+  pub generation : c.generation ≤ 2
+  pub collected : HasFewCollected c.collected c.phase store
+  pub gives_up : GivesUpIn c.phase c.release
+  pub spares : SparesGarbageList c.phase
+
+-- After an answer that hands nothing out, the heap is ready for the next step. After another it is once the caller has shown
+-- that its phase is, from what frames and deaths leave.
 abbrev pub KeepsReady : Collection → Store → CollectStep → Type 0
 KeepsReady c store answer_of.Continue = IsReady c store
 KeepsReady c store (answer_of.Emit event) = IsReady c store
-KeepsReady c store answer = c.generation ≤ 2
+KeepsReady c store (answer_of.Frame spec) = HandsOut c store × RunsFrame c.phase c.release
+KeepsReady c store (answer_of.Died o) = HandsOut c store × IsSome c.release
+KeepsReady c store (answer_of.Finished collected set_aside) = c.generation ≤ 2
 
 -- A step that went on without an answer reached a later pass, or in the same pass less is left.
 abbrev pub CollectFalls : Collection → Store → Collection → Store → Type 0
 CollectFalls old store new now = ComesNearer store old.phase old.release now new.phase new.release
 
--- A release that dies leaves its phase with that.
-abbrev pub died_in : Phase → Phase
-died_in (phase_of.AfterRelease weak died) = phase_of.AfterRelease weak true
-died_in (phase_of.AfterTurn o died) = phase_of.AfterTurn o true
-died_in phase = phase
-
 -- what a step that gives up the next reference leaves of a collection, by the answer of the release
 abbrev pub once_given_up : Collection → Release → DeathStep → Collection
 once_given_up c release death_answer.Gone = record c { release = None }
-once_given_up c release (death_answer.Died o) = record c { phase = died_in c.phase; release = Some release }
 once_given_up c release answer = record c { release = Some release }
 
 -- and what it answers
