@@ -19,7 +19,6 @@ use Rattle.cg_heap.specs.Calls.{IsListed}
 use Rattle.cg_trial.specs.Split.{IsSameButPlaces}
 use Rattle.cg_policy.specs.Policy.{Policy, with_numbers, IsBounded}
 use Rattle.cg_policy.specs.Flagset.{bits_of}
-use Rattle.cg_collect.specs.declared.answer.CollectStep.{CollectStep}
 use Rattle.cg_collect.specs.declared.answer.CollectStep.TheVariants as answer_of
 use Rattle.cg_collect.specs.declared.collection.Facts.{Facts}
 use Rattle.cg_collect.specs.declared.phase.Phase.{Phase}
@@ -67,8 +66,8 @@ begun_start : (s b : Bool) (old store : Store) → IsBegun (told_start s b old s
 begun_start true b old store = tt
 begun_start false b old store = begun_told b store
 
-leaves_start : (s b : Bool) (old store : Store) (answer : CollectStep) → TurnLeaves old phase_of.Start store (record { phase = told_start s b old store; release = None; collected = 0; answer = answer })
-leaves_start s b old store answer = record { few = λ n h. few_start (n + 0) s b old store (omega (arith, h)); gives_up = tt; hands_out = tt; begun = begun_start s b old store }
+leaves_start : (s b : Bool) (old store : Store) (event : Event) → TurnLeaves old phase_of.Start store (record { phase = told_start s b old store; release = None; collected = 0; answer = answer_of.Emit event })
+leaves_start s b old store event = record { few = λ n h. few_start (n + 0) s b old store (omega (arith, h)); gives_up = tt; hands_out = tt; begun = begun_start s b old store }
 
 -- what the code tells first
 told_start-is : (s b : Bool) (old store : Store) → unwrap_or (if s then Some (told_sizes old) else None) (told_if b store) ≡ told_start s b old store
@@ -224,7 +223,7 @@ module _ (script : Script) (facts : Facts) (s0 s1 s2 s4 s5 s6 : Store) (t : Trac
       (ready_start facts.generation with_sizes with_members s0 s6 listed6 (apart_unseen script facts.generation s0 s1 s2 s4 s5 s6 t listed0 listed6 clear) waits_none)
 
   pub leaves_after : TurnLeaves s0 phase_of.Start s6 turn
-  leaves_after = subst (λ (x : Turn). TurnLeaves s0 phase_of.Start s6 x) (sym turn_is) (leaves_start with_sizes with_members s0 s6 (answer_of.Emit (GcStart facts.generation)))
+  leaves_after = subst (λ (x : Turn). TurnLeaves s0 phase_of.Start s6 x) (sym turn_is) (leaves_start with_sizes with_members s0 s6 (GcStart facts.generation))
 
   pub keeps_after : KeepsObjects s0 s6
   keeps_after = keeps-same s0 s6 (same_more s0 s1 s6 t.merges.same (same16 script facts.generation s0 s1 s2 s4 s5 s6 t))

@@ -1,22 +1,20 @@
 -- What a collection gives up: each reference is a step of the machine's release above it.
-use Rattle.std.proofs.Common.{◌≡◌, refl, sym, ◌∙◌, ap, subst, ℕ, ◌+◌, ◌*◌, ◌<◌, ◌≤◌, Bool, true, false, not, List, [], ◌∷◌, ◌++◌, length, Option, Some, None, IsSome, inl, inr, sum_by, arith}
-use Rattle.std.specs.Prelude.{◌==◌, ◌⊎◌, filter, is_some, drop, slice_get, option_map, if◌then◌else◌}
+use Rattle.std.proofs.Common.{◌≡◌, refl, sym, ◌∙◌, ap, subst, ℕ, ◌+◌, ◌*◌, ◌<◌, ◌≤◌, Bool, true, false, not, List, [], ◌∷◌, ◌++◌, length, Option, Some, None, IsSome, inr, sum_by, arith}
+use Rattle.std.specs.Prelude.{◌==◌, filter, is_some, drop, option_map, if◌then◌else◌}
 use Rattle.std.specs.FinMap as fin
 use Rattle.cg_value.specs.declared.Entry.{Entry}
 use Rattle.cg_value.specs.declared.KindCode.TheVariants.{Weak}
-use Rattle.cg_value.specs.declared.Place.{Place}
-use Rattle.cg_value.specs.declared.Place.TheVariants.{Cand, Seen, Back, Legacy, Pend}
+use Rattle.cg_value.specs.declared.Place.TheVariants.{Cand, Seen, Legacy, Pend}
 use Rattle.cg_script.specs.declared.Script.{Script}
-use Rattle.cg_graph.specs.Member.{Includes}
 use Rattle.cg_graph.specs.Holdings.{occurrences}
 use Rattle.cg_graph.specs.Places.{list_of, without_serial}
-use Rattle.cg_graph.specs.Store.{Store, Node, HasCode, list_at, objects_of, entries_of, entries_in, place_of, place_in, count_of}
+use Rattle.cg_graph.specs.Store.{Store, Node, list_at, entries_of, entries_in, place_of, place_in, count_of}
 use Rattle.cg_graph.specs.Changes.{unheld, less}
 use Rattle.cg_graph.proofs.Maps.{get-mapped}
 use Rattle.cg_heap.proofs.CallerLemmas.{kinds-unheld}
 use Rattle.cg_machine.specs.World as machine
 use Rattle.cg_machine.specs.World.{World, Activity, Releasing, Collecting, Numbers}
-use Rattle.cg_machine.specs.Weak.{callback_of, callback_in}
+use Rattle.cg_machine.specs.Weak.{callback_in}
 use Rattle.cg_machine.specs.Represents.{Represents}
 use Rattle.cg_policy.specs.Policy.{Policy}
 use Rattle.cg_death.specs.declared.release.Release.{Release}
@@ -36,7 +34,7 @@ use Rattle.cg_collect.specs.declared.phase.Phase.TheVariants as phase_of
 use Rattle.cg_collect.specs.Phases.{machine_phase, collecting, released_over, lines_left, store_after}
 use Rattle.cg_collect.specs.Ready.{IsApart, OthersHaveCallbacks, IsReadyAt, HasFewCollected, MayGiveUp, GivesUpIn, MayRun, IsBegun, SparesGarbageList}
 use Rattle.cg_collect.specs.Answers.{Shows, CollectAnswer, CollectSteps, numbers_at}
-use Rattle.cg_collect.specs.Turns.{TurnSteps, ComesNearer, KeepsObjects, left_in_pass, still_released, to_clear, others_cleared}
+use Rattle.cg_collect.specs.Turns.{TurnSteps, ComesNearer, KeepsObjects, left_in_pass, to_clear, others_cleared}
 use Rattle.cg_collect.specs.Collections.{IsReady, KeepsReady, CollectFalls, GivesUpNext, once_given_up, give_up_answer}
 use Rattle.cg_collect.proofs.Worlds.{turn_steps}
 use Rattle.cg_collect.proofs.Keeping.{keeps-released}

@@ -7,7 +7,7 @@ use Rattle.cg_value.specs.declared.Place.{Place}
 use Rattle.cg_value.specs.declared.Place.TheVariants.{Pend}
 use Rattle.cg_graph.specs.Maps.{mapped}
 use Rattle.cg_graph.specs.Store.{Store, Node}
-use Rattle.cg_graph.specs.Changes.{held, unheld, rewritten, moved}
+use Rattle.cg_graph.specs.Changes.{held, rewritten, moved}
 use Rattle.cg_graph.proofs.Maps.{same_map, get-mapped}
 use Rattle.cg_heap.specs.Calls.{with_node, merged, place_merged}
 use Rattle.cg_heap.specs.Weak.{cleared_weak}

@@ -1,6 +1,6 @@
 -- The weak references that wait: their callbacks are called one after the other, and then each is given up.
-use Rattle.std.proofs.Common.{◌≡◌, ◌≢◌, refl, sym, ◌∙◌, ap, subst, ℕ, ◌+◌, ◌*◌, ◌<◌, ◌≤◌, Bool, true, false, cond, not, List, [], ◌∷◌, ◌++◌, length, Option, Some, None, IsSome, inl, inr, arith}
-use Rattle.std.specs.Prelude.{◌==◌, ◌⊎◌, if◌then◌else◌, filter, flat_map, drop, IfSome, option_map, option_and_then, slice_get, unwrap_or, is_some}
+use Rattle.std.proofs.Common.{◌≡◌, ◌≢◌, refl, sym, ◌∙◌, ap, subst, ℕ, ◌+◌, ◌<◌, ◌≤◌, true, false, cond, not, List, [], ◌∷◌, ◌++◌, length, Option, Some, None, IsSome, inr, arith}
+use Rattle.std.specs.Prelude.{◌==◌, if◌then◌else◌, filter, drop, IfSome, option_map, option_and_then, slice_get, unwrap_or, is_some}
 use Rattle.std.specs.FinMap as fin
 use Rattle.std.proofs.lemmas.Bool.{eq-eqb}
 use Rattle.cg_value.specs.declared.Entry.{Entry}
@@ -8,14 +8,14 @@ use Rattle.cg_value.specs.declared.Val.{Val}
 use Rattle.cg_value.specs.declared.Val.TheVariants.{None as Nothing, Int, Str, Ref}
 use Rattle.cg_value.specs.declared.KindCode.TheVariants.{Weak}
 use Rattle.cg_value.specs.declared.Place.{Place}
-use Rattle.cg_value.specs.declared.Place.TheVariants.{Untracked, Gen, Frozen, Cand, Seen, Back, Legacy, Pend}
+use Rattle.cg_value.specs.declared.Place.TheVariants.{Gen, Cand, Seen, Back, Legacy, Pend}
 use Rattle.cg_script.specs.declared.Script.{Script}
 use Rattle.cg_graph.specs.Member.{Includes}
 use Rattle.cg_graph.specs.Value.{reference_in}
 use Rattle.cg_graph.specs.Holdings.{occurrences}
 use Rattle.cg_graph.specs.Object.{Object, object_at, is_in_map, change, with_place as object_placed}
 use Rattle.cg_graph.specs.Places.{without_serial}
-use Rattle.cg_graph.specs.Store.{Store, Node, IsLive, HasCode, list_at, objects_of, object_from, inner, entries_of, place_of}
+use Rattle.cg_graph.specs.Store.{Store, Node, IsLive, list_at, objects_of, object_from, inner, entries_of}
 use Rattle.cg_graph.specs.Changes.{moved, with_place}
 use Rattle.cg_graph.proofs.Members.{either, cases_of}
 use Rattle.cg_graph.proofs.Objects.{object-at, objects-changed, occurrences-append}
@@ -30,16 +30,15 @@ use Rattle.cg_machine.specs.World.{World, Activity, Releasing, Collecting, with_
 use Rattle.cg_machine.specs.Frame.{Transition, start_frame}
 use Rattle.cg_machine.specs.Weak.{callback_of, callback_in}
 use Rattle.cg_machine.specs.Collect.{older, calls_back, after_release}
-use Rattle.cg_machine.specs.Laws.{all_waits, waits_of}
+use Rattle.cg_machine.specs.Laws.{all_waits}
 use Rattle.cg_machine.proofs.PlainCollect.{occurrences-cons}
 use Rattle.cg_machine.proofs.Representing.{in_one}
 use Rattle.cg_policy.specs.Policy.{Policy}
-use Rattle.cg_trial.proofs.Lists.{Includes-without, absent, length-without, stands_or_not, without-absent, without-cons_yes, without-cons_no}
+use Rattle.cg_trial.proofs.Lists.{Includes-without, absent, length-without, without-absent, without-cons_yes, without-cons_no}
 use Rattle.cg_trial.proofs.Placed.{where_is}
 use Rattle.cg_death.specs.declared.release.Release.{Release}
 use Rattle.cg_death.specs.Activities.{references_left}
-use Rattle.cg_death.proofs.RowSplits.{head_in}
-use Rattle.cg_death.proofs.Clearing.{none_first, some_first}
+use Rattle.cg_death.proofs.Clearing.{none_first}
 use Rattle.cg_death.proofs.Calling.{callback-at}
 use Rattle.cg_collect.specs.declared.answer.CollectStep.TheVariants as answer_of
 use Rattle.cg_collect.specs.declared.collection.Facts.{Facts}
@@ -50,7 +49,7 @@ use Rattle.cg_collect.specs.Answers.{CollectSteps}
 use Rattle.cg_collect.specs.Turns.{collection_at}
 use Rattle.cg_collect.proofs.Standing.{entries_on}
 use Rattle.cg_collect.proofs.Moving.{moved_same, moved_not, moved_from, value_lives}
-use Rattle.cg_collect.proofs.Worlds.{steps_at, with_same_rows, pending_is, represents_on, represents_same, represents_giving_up}
+use Rattle.cg_collect.proofs.Worlds.{steps_at, with_same_rows, represents_on, represents_same, represents_giving_up}
 use Rattle.cg_collect.proofs.Looking.{still_unsaved}
 
 -- a list without a serial, by the test of the machine

@@ -1,5 +1,5 @@
 -- The clearing: what a heap does in the turn of a member of the final set is the step of the machine.
-use Rattle.std.proofs.Common.{◌≡◌, ◌≢◌, refl, sym, ◌∙◌, ap, subst, ℕ, ◌+◌, ◌*◌, ◌<◌, ◌≤◌, Bool, true, false, inl, inr, List, [], ◌∷◌, ◌++◌, length, length-append, Option, Some, None, IsSome, arith}
+use Rattle.std.proofs.Common.{◌≡◌, ◌≢◌, refl, sym, ◌∙◌, ap, subst, ℕ, ◌+◌, ◌*◌, ◌<◌, Bool, true, false, inl, inr, List, [], ◌∷◌, ◌++◌, length, length-append, Option, Some, None, IsSome, arith}
 use Rattle.std.specs.Prelude.{if◌then◌else◌, slice_get, sum_by, IfSome}
 use Rattle.std.specs.FinMap as fin
 use Rattle.cg_value.specs.declared.Val.TheVariants.{Ref}
@@ -14,7 +14,7 @@ use Rattle.cg_graph.specs.Value.{references, entry_references, last_entry, witho
 use Rattle.cg_graph.specs.Holdings.{occurrences}
 use Rattle.cg_graph.specs.Object.{Object, change, with_place as object_placed, with_entries as object_entries, entries_of as object_entries_of, is_at, is_tuple, objects_at, serials_at}
 use Rattle.cg_graph.specs.Places.{place_number, without_serial}
-use Rattle.cg_graph.specs.Store.{Store, Node, IsLive, list_at, objects_of, object_from, outside_of, entries_of, inner, place_of, place_in}
+use Rattle.cg_graph.specs.Store.{Store, Node, IsLive, list_at, objects_of, object_from, entries_of, inner, place_of, place_in}
 use Rattle.cg_graph.specs.Changes.{held, more, moved, rewritten, with_place, with_entries}
 use Rattle.cg_graph.proofs.Members.{either, Includes-filter}
 use Rattle.cg_graph.proofs.Objects.{objects-same, objects-changed, occurrences-append}
@@ -43,7 +43,7 @@ use Rattle.cg_collect.specs.declared.answer.CollectStep.TheVariants as answer_of
 use Rattle.cg_collect.specs.declared.collection.Facts.{Facts}
 use Rattle.cg_collect.specs.declared.phase.Phase.TheVariants as phase_of
 use Rattle.cg_collect.specs.Phases.{collection_of}
-use Rattle.cg_collect.specs.Ready.{IsApart, IsApartUnseen, IsUnsaved}
+use Rattle.cg_collect.specs.Ready.{IsApartUnseen, IsUnsaved}
 use Rattle.cg_collect.specs.Answers.{CollectSteps}
 use Rattle.cg_collect.specs.Turns.{collection_at, to_clear, still_cleared, others_cleared, still_released}
 use Rattle.cg_collect.proofs.Standing.{place_at_is, node_of_live, object_there, entries_on}

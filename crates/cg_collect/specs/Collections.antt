@@ -42,8 +42,8 @@ pub record IsReady (c : Collection) (store : Store) : Type 0 where
   pub collected : HasFewCollected c.collected c.phase store
   pub gives_up : GivesUpIn c.phase c.release
 
--- What lasts while a frame or a death runs that was handed out. The number of what waits is that of the machine's phase, so
--- `collected` lasts with it.
+-- What lasts while a frame or a death runs that was handed out. All but `collected` is on the collection alone; `collected` is on
+-- how many wait, which the phase of the machine tells.
 pub record HandsOut (c : Collection) (store : Store) : Type 0 where
   pub runs : MayRun c.phase
   pub generation : c.generation ≤ 2
@@ -51,8 +51,8 @@ pub record HandsOut (c : Collection) (store : Store) : Type 0 where
   pub gives_up : GivesUpIn c.phase c.release
   pub spares : SparesGarbageList c.phase
 
--- After an answer that hands nothing out, the heap is ready for the next step. After another it is once the caller has shown
--- that its phase is, from what frames and deaths leave.
+-- After an answer that hands nothing out, the heap is ready for the next step. After a frame or a death it is where its phase is
+-- (`IsReadyAt`), which is for the caller to show.
 abbrev pub KeepsReady : Collection → Store → CollectStep → Type 0
 KeepsReady c store answer_of.Continue = IsReady c store
 KeepsReady c store (answer_of.Emit event) = IsReady c store

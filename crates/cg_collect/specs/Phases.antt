@@ -1,6 +1,6 @@
 -- What a collection stands for on the stack of the machine, and which lines of the machine's last step it has still to tell.
 -- (Ours.)
-use Rattle.std.specs.Prelude.{◌≡◌, ℕ, ◌+◌, not, Bool, true, false, List, [], ◌∷◌, ◌++◌, ◌==◌, ◌&&◌, ◌||◌, Option, Some, None, if◌then◌else◌, map, filter, flat_map, drop, is_some, option_and_then}
+use Rattle.std.specs.Prelude.{ℕ, ◌+◌, not, Bool, List, [], ◌∷◌, ◌++◌, ◌==◌, ◌&&◌, ◌||◌, Option, Some, None, if◌then◌else◌, map, filter, flat_map, drop, is_some, option_and_then}
 use Rattle.cg_value.specs.declared.Place.TheVariants.{Gen, Cand, Pend}
 use Rattle.cg_script.specs.declared.Script.{Script}
 use Rattle.cg_graph.specs.Member.{includes}
@@ -12,7 +12,7 @@ use Rattle.cg_machine.specs.declared.event.Event.TheVariants.{Gens, Alive, Clear
 use Rattle.cg_machine.specs.Program.{legacy_of}
 use Rattle.cg_machine.specs.World as machine
 use Rattle.cg_machine.specs.World.{Activity, Releasing, Collecting}
-use Rattle.cg_machine.specs.Collect.{lines_if, has_flag, collectable, uncollectable, save_all, older}
+use Rattle.cg_machine.specs.Collect.{lines_if, has_flag, collectable, save_all, older}
 use Rattle.cg_death.specs.declared.release.Release.{Release}
 use Rattle.cg_death.specs.Activities.{references_left}
 use Rattle.cg_policy.specs.Flagset.{bits_of}

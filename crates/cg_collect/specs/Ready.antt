@@ -1,6 +1,6 @@
 -- What a step of a collection needs of the heap. Frames and deaths that run in it may change the heap between two steps; what
 -- they leave is said here. (Ours.)
-use Rattle.std.specs.Prelude.{◌≡◌, ◌≢◌, ℕ, ◌+◌, ◌≤◌, ◌⊎◌, ◌==◌, not, true, List, [], ◌∷◌, Option, Some, None, IsSome, slice_get, length, filter}
+use Rattle.std.specs.Prelude.{◌≡◌, ◌≢◌, ℕ, ◌+◌, ◌≤◌, ◌⊎◌, ◌==◌, not, true, List, [], Option, Some, None, IsSome, slice_get, length, filter}
 use Rattle.cg_value.specs.declared.Place.{Place}
 use Rattle.cg_value.specs.declared.Place.TheVariants.{Untracked, Gen, Cand, Seen, Back, Legacy, Pend}
 use Rattle.cg_graph.specs.Member.{Includes}

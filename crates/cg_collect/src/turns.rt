@@ -99,8 +99,9 @@ pub fn after_turn<B: Kind>(facts: Facts, heap: &mut Heap<B>, object: u64) -> Tur
     ensures keeps { KeepsObjects heap.old heap.new }
 {
     heap.sound();
-    if heap.has(object) {
-        heap.move_to(object, Place::Gen(older(facts.generation)));
+    if !heap.has(object) {
+        return Turn::to(Phase::Turns);
     }
+    heap.move_to(object, Place::Gen(older(facts.generation)));
     Turn::to(Phase::Turns)
 }

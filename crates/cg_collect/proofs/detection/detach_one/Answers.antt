@@ -1,12 +1,10 @@
-use Rattle.std.proofs.Common.{◌≡◌, ◌≢◌, ◌+◌, ◌<◌, ◌∷◌, [], List, ℕ, Some, None, IsSome, false, inl, inr, refl, subst, sym, ap, ◌∙◌, length, arith}
-use Rattle.std.specs.Prelude.{slice_get}
+use Rattle.std.proofs.Common.{◌≡◌, ◌∷◌, ℕ, Some, None, IsSome, false, inl, inr, refl, subst, sym, ap, ◌∙◌, length, arith}
 use Rattle.cg_value.specs.declared.KindCode.TheVariants.{Weak}
 use Rattle.cg_value.specs.declared.Place.TheVariants.{Cand}
 use Rattle.cg_graph.specs.Member.{Includes}
 use Rattle.cg_graph.specs.Rows.{referent_in, weak_references_in, without_row}
 use Rattle.cg_graph.specs.Store.{Store, list_at}
 use Rattle.cg_graph.proofs.Members.{either}
-use Rattle.cg_heap.specs.Weak.{cleared_weak}
 use Rattle.cg_heap.proofs.CallerLemmas.{live_of_kind}
 use Rattle.cg_heap.proofs.RowLemmas.{refers_live}
 use Rattle.cg_trial.proofs.Placed.{where_is}

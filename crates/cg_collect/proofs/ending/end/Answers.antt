@@ -1,4 +1,4 @@
-use Rattle.std.proofs.Common.{◌≡◌, ℕ, None, ◌++◌, map, subst, sym, ap, ◌∙◌, true, false}
+use Rattle.std.proofs.Common.{◌≡◌, ℕ, None, ◌++◌, map, subst, sym, ap, ◌∙◌, false}
 use Rattle.cg_graph.specs.Store.{IsLive}
 use Rattle.cg_value.specs.declared.KindCode.TheVariants.{List as ListKind}
 use Rattle.cg_value.specs.declared.Place.TheVariants.{Gen, Legacy}
@@ -20,7 +20,7 @@ use Rattle.cg_collect.specs.Ready.{IsAt}
 use Rattle.cg_collect.specs.Turns.{TurnSteps, StaysReady, KeepsObjects}
 use Rattle.cg_collect.proofs.Keeping.{keeps_then, keeps-rewritten, keeps-merged}
 use Rattle.cg_collect.proofs.Worlds.{turn_steps}
-use Rattle.cg_collect.proofs.Stopping.{turn-ended, turn-ended_told, ended, first_at}
+use Rattle.cg_collect.proofs.Stopping.{turn-ended, turn-ended_told, first_at}
 use Rattle.cg_collect.proofs.ending.end.Goals as goal
 
 -- With UNCOLLECTABLE the objects set aside are told.

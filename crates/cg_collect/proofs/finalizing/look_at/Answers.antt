@@ -1,4 +1,4 @@
-use Rattle.std.proofs.Common.{◌≡◌, ℕ, ◌*◌, ◌+◌, ◌<◌, [], ◌∷◌, length, Some, None, subst, sym, ap, ◌∙◌, inr, refl}
+use Rattle.std.proofs.Common.{◌*◌, ◌+◌, ◌<◌, length, None, subst, sym, inr, refl}
 use Rattle.cg_value.specs.declared.Place.TheVariants.{Cand, Seen}
 use Rattle.cg_graph.specs.Store.{Store, list_at}
 use Rattle.cg_machine.specs.declared.event.FrameSort.TheVariants.{Del}

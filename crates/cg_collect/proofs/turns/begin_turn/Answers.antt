@@ -1,8 +1,8 @@
-use Rattle.std.proofs.Common.{◌≡◌, ◌+◌, ◌<◌, ◌++◌, ◌∷◌, [], None, inr, refl, subst, sym, ap, ◌∙◌, arith}
+use Rattle.std.proofs.Common.{◌+◌, ◌<◌, ◌++◌, ◌∷◌, [], None, inr, refl, subst, sym, ap, ◌∙◌, arith}
 use Rattle.cg_value.specs.declared.Val.TheVariants.{Ref}
 use Rattle.cg_value.specs.declared.Place.TheVariants.{Gen, Cand}
 use Rattle.cg_graph.specs.Value.{item, references}
-use Rattle.cg_graph.specs.Changes.{moved, rewritten, held}
+use Rattle.cg_graph.specs.Changes.{moved, rewritten}
 use Rattle.cg_graph.specs.Store.{Store, IsLive, entries_of}
 use Rattle.cg_heap.specs.Calls.{IsListed}
 use Rattle.cg_heap.proofs.CallerLemmas.{lives_on, kinds-rewritten, live_of_kind}
@@ -119,11 +119,11 @@ returns-in_default-clause-falls g c =
       refl,
       subst (λ (now : Store). others_cleared now c.args.object + to_clear now c.args.object + 8 + 0 < still_cleared c.args.heap.now + 9 + 0) (sym c.hold.ensures)
           (omega (
-        arith,
-        as_much_for_it c.args.heap.now c.sound.ensures.listed c.args.object live,
-        as_much_for_others c.args.heap.now c.sound.ensures.listed c.args.object live,
-        one_and_others c.args.heap.now c.sound.ensures.listed c.args.object live at,
-      )),
+            arith,
+            as_much_for_it c.args.heap.now c.sound.ensures.listed c.args.object live,
+            as_much_for_others c.args.heap.now c.sound.ensures.listed c.args.object live,
+            one_and_others c.args.heap.now c.sound.ensures.listed c.args.object live at,
+          )),
     ))
 
 -- Each makes no object.

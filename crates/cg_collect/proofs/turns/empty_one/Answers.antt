@@ -1,8 +1,7 @@
-use Rattle.std.proofs.Common.{◌≡◌, ◌+◌, ◌<◌, ◌∷◌, [], Some, None, inr, refl, subst, sym, length, ap}
+use Rattle.std.proofs.Common.{◌+◌, ◌<◌, Some, inr, refl, subst, sym}
 use Rattle.cg_graph.specs.Store.{Store, entries_of}
 use Rattle.cg_graph.specs.Value.{entry_references, without_last}
 use Rattle.cg_heap.proofs.HoldLemmas.{outside_live}
-use Rattle.cg_death.specs.Activities.{references_left}
 use Rattle.cg_collect.specs.declared.answer.CollectStep.TheVariants as answer_of
 use Rattle.cg_collect.specs.declared.phase.Phase.TheVariants as phase_of
 use Rattle.cg_collect.specs.declared.phase.Turn.{Turn}

@@ -1,4 +1,4 @@
-use Rattle.std.proofs.Common.{◌≡◌, ◌≤◌, ◌<◌, ℕ, ◌+◌, ◌*◌, ◌∙◌, List, length, None, sym, ap, subst, refl, inr, arith}
+use Rattle.std.proofs.Common.{◌≡◌, ◌≤◌, ℕ, ◌∙◌, List, length, None, sym, ap, subst, refl, inr, arith}
 use Rattle.std.specs.Prelude.{◌==◌, not, filter}
 use Rattle.cg_value.specs.declared.Place.TheVariants.{Gen, Pend}
 use Rattle.cg_graph.specs.Store.{Store, IsLive, list_at}
@@ -8,7 +8,7 @@ use Rattle.cg_heap.specs.Calls.{IsListed}
 use Rattle.cg_collect.specs.declared.answer.CollectStep.TheVariants as answer_of
 use Rattle.cg_collect.specs.declared.phase.Phase.TheVariants as phase_of
 use Rattle.cg_collect.specs.declared.phase.Turn.{Turn}
-use Rattle.cg_collect.specs.Ready.{IsReadyAt, IsApartUnseen, HaveCallbacks}
+use Rattle.cg_collect.specs.Ready.{IsApartUnseen, HaveCallbacks}
 use Rattle.cg_collect.specs.Turns.{TurnSteps, TurnFalls, TurnLeaves, StaysReady, KeepsObjects}
 use Rattle.cg_collect.proofs.Worlds.{turn_steps}
 use Rattle.cg_collect.proofs.Keeping.{keeps_all, keeps-moved}

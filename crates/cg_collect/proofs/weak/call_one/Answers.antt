@@ -1,4 +1,4 @@
-use Rattle.std.proofs.Common.{◌≤◌, ◌+◌, None, length, refl, sym, subst, arith}
+use Rattle.std.proofs.Common.{None, refl, sym, subst, arith}
 use Rattle.cg_value.specs.declared.Place.TheVariants.{Pend}
 use Rattle.cg_graph.specs.Store.{list_at}
 use Rattle.cg_collect.specs.declared.answer.CollectStep.TheVariants as answer_of

@@ -1,6 +1,5 @@
-use Rattle.std.proofs.Common.{◌≡◌, ◌<◌, ◌∙◌, ℕ, ◌+◌, Some, None, IsSome, refl, sym, ap, subst, inr, true, arith}
+use Rattle.std.proofs.Common.{◌<◌, ◌∙◌, ℕ, ◌+◌, Some, None, IsSome, refl, sym, subst, inr, arith}
 use Rattle.cg_value.specs.declared.KindCode.TheVariants.{Weak}
-use Rattle.cg_graph.specs.Rows.{next_older_in}
 use Rattle.cg_graph.specs.Store.{Store, IsLive, objects_of}
 use Rattle.cg_machine.specs.Collect.{waits}
 use Rattle.cg_heap.specs.Weak.{AreRows}
@@ -15,7 +14,7 @@ use Rattle.cg_collect.specs.Answers.{CollectSteps}
 use Rattle.cg_collect.specs.Turns.{collection_at, TurnFalls, StaysReady, KeepsObjects}
 use Rattle.cg_collect.proofs.Keeping.{keeps_all, keeps-lost}
 use Rattle.cg_collect.proofs.Worlds.{turn_steps}
-use Rattle.cg_collect.proofs.Losing.{LosesThen, loses_then, passes_then}
+use Rattle.cg_collect.proofs.Losing.{loses_then, passes_then}
 use Rattle.cg_collect.proofs.weak.look_at.Goals as goal
 
 weak_lives : (store : Store) → AreRows store → (member : _) (weak : ℕ) → IsWalk store member (Some weak) → IsLive store weak

@@ -1,8 +1,8 @@
-use Rattle.std.proofs.Common.{◌≡◌, ◌∙◌, ℕ, ◌+◌, ◌≤◌, length, Option, Some, None, refl, sym, ap, subst, inr, arith}
-use Rattle.std.specs.Prelude.{◌⊎◌, unwrap_or, slice_get}
+use Rattle.std.proofs.Common.{◌≡◌, ℕ, ◌+◌, ◌≤◌, length, Option, Some, None, refl, sym, subst, inr, arith}
+use Rattle.std.specs.Prelude.{unwrap_or, slice_get}
 use Rattle.cg_value.specs.declared.Place.TheVariants.{Cand, Pend}
 use Rattle.cg_graph.specs.Rows.{referent_in, weak_references_in}
-use Rattle.cg_graph.specs.Store.{Store, IsLive, list_at, place_of}
+use Rattle.cg_graph.specs.Store.{Store, list_at, place_of}
 use Rattle.cg_arena.specs.Nodes.{following}
 use Rattle.cg_heap.specs.Calls.{IsSound}
 use Rattle.cg_trial.proofs.Placed.{where_is}

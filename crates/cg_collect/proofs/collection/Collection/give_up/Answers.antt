@@ -1,4 +1,4 @@
-use Rattle.std.proofs.Common.{◌∙◌, ap, subst, sym}
+use Rattle.std.proofs.Common.{◌∙◌, ap, subst}
 use Rattle.cg_death.specs.Activities.{references_left}
 use Rattle.cg_collect.specs.Collections.{once_given_up, give_up_answer}
 use Rattle.cg_collect.proofs.GivingUp.{goes_on_with}

@@ -1,8 +1,7 @@
-use Rattle.std.proofs.Common.{◌≤◌, subst, sym}
-use Rattle.cg_death.specs.Activities.{HasHolds}
+use Rattle.std.proofs.Common.{subst, sym}
 use Rattle.cg_heap.specs.Calls.{HasFewHolds}
 use Rattle.cg_collect.proofs.GivingUp.{gives_up-steps, gives_up-ready, gives_up-generation, gives_up-begun, gives_up-keeps, gives_up-falls}
-use Rattle.cg_collect.proofs.Stepping.{given_up_held, still_ready, still_held, turned-steps, turned-fits, turned-ready, turned-generation, turned-keeps, turned-falls}
+use Rattle.cg_collect.proofs.Stepping.{given_up_held, still_ready, still_held, turned-steps, turned-ready, turned-generation, turned-keeps, turned-falls}
 use Rattle.cg_collect.proofs.collection.Collection.step.Goals as goal
 
 pub give_up-requires : goal.give_up-requires
