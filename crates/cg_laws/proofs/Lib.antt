@@ -1,1 +1,2 @@
 pub mod SetsApart
+pub mod SortsApart
