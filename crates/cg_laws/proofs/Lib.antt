@@ -1,2 +1,3 @@
 pub mod SetsApart
 pub mod SortsApart
+pub mod WeakApart

@@ -16,6 +16,7 @@ use Rattle.cg_machine.specs.Program.{body_of}
 use Rattle.cg_machine.specs.World.{World, Activity, Framed, Releasing, Collecting, Collection, CollectPhase, BudgetIsSpent, push}
 use Rattle.cg_machine.specs.Holdings.{is_collection}
 use Rattle.cg_machine.specs.Frame.{Transition, start_frame}
+use Rattle.cg_machine.specs.Collect.{collection_at}
 use Rattle.cg_laws.specs.Apart.{StandsRightly, IsFound, IsGarbageList, handles, IsApart}
 
 -- the objects while a collection is at a phase
@@ -56,6 +57,13 @@ collects w d below s alone h = record {
   where
     same : (e : Collection) → Includes w.stack (Collecting e) → d ≡ e
     same e m = either (subst (λ st. Includes st (Collecting e)) s m) (λ i. let is : d ≡ e = cc in is) (λ k. absurd (alone e k))
+
+pub goes_to : (d : Collection) (next : CollectPhase) (below : List Activity) (v : World) → NoneCollects below → AreApart v.objects next → IsApart (collection_at d next below v)
+goes_to d next below v alone h = collects (collection_at d next below v) (record d { phase = next }) below refl alone h
+
+-- nothing changes but the phase
+pub restands : (phase next : CollectPhase) (objects : List Object) → ¬ Includes (handles next) 1 → ((x : Object) → Includes objects x → StandsRightly phase x → StandsRightly next x) → AreApart objects phase → AreApart objects next
+restands phase next objects unhandled right h = record { garbage = h.garbage; rightly = λ x m. right x m (h.rightly x m); unhandled = unhandled; unsaved = h.unsaved }
 
 -- a frame starts
 pub starts_apart : (script : Script) (spec : FrameSpec) (u : World) → IsApart u → IsApart (start_frame script spec u).1
