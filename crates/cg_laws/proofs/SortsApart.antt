@@ -1,10 +1,9 @@
 -- The start of a collection sets apart what it finds: none of that is named by the garbage list, since what it names is held
 -- from outside.
-use Rattle.std.proofs.Common.{◌≡◌, refl, sym, ◌∙◌, ap, subst, ℕ, ◌+◌, ◌<◌, Bool, true, false, cond, not, ◌&&◌, ◌||◌, List, [], ◌∷◌, ◌++◌, map, Option, Some, None, arith}
+use Rattle.std.proofs.Common.{◌≡◌, refl, sym, ◌∙◌, ap, subst, ℕ, ◌+◌, Bool, true, false, cond, not, ◌&&◌, ◌||◌, List, [], ◌∷◌, ◌++◌, Option, Some, None, arith}
 use Rattle.std.specs.Prelude.{◌==◌, nat_le, if◌then◌else◌, flat_map, filter, option_map, unwrap_or}
-use Rattle.std.proofs.lemmas.Bool.{not-true}
 use Rattle.cg_value.specs.declared.Place.{Place}
-use Rattle.cg_value.specs.declared.Place.TheVariants.{Untracked, Gen, Frozen, Cand, Seen, Back, Legacy, Pend}
+use Rattle.cg_value.specs.declared.Place.TheVariants.{Untracked, Gen, Cand, Legacy}
 use Rattle.cg_script.specs.declared.Script.{Script}
 use Rattle.cg_graph.specs.Member.{Includes}
 use Rattle.cg_graph.specs.Value.{references}
@@ -23,18 +22,8 @@ use Rattle.cg_machine.proofs.Lookups.{found_at}
 use Rattle.cg_machine.proofs.Releasing.{entry_held}
 use Rattle.cg_machine.proofs.Condemned.{present}
 use Rattle.cg_machine.proofs.Garbage.{survives, survives-Survives, garbage-IsGarbage, set_aside, set_aside-IsSetAside, IsSetAside-set_aside}
-use Rattle.cg_laws.specs.Apart.{StandsRightly, IsInWeakPhase, IsFound, IsApart}
-use Rattle.cg_laws.proofs.SetsApart.{NoneCollects, AreApart, Keeps, collects, moved}
-
-pub found_apart : (p : Place) → IsFound p → IsOfCollection p
-found_apart Cand k = tt
-found_apart Seen k = tt
-found_apart Legacy k = tt
-found_apart Untracked k = k
-found_apart (Gen i) k = k
-found_apart Frozen k = k
-found_apart Back k = tt
-found_apart Pend k = tt
+use Rattle.cg_laws.specs.Apart.{IsInWeakPhase, IsFound, IsApart}
+use Rattle.cg_laws.proofs.SetsApart.{NoneCollects, AreApart, collects, found_apart, is_tracked_at, moved}
 
 merged_clear : (g : ℕ) (p : Place) → ¬ IsOfCollection p → ¬ IsOfCollection (merged_place g p)
 merged_clear g (Gen i) h = go (nat_le i g)
@@ -135,10 +124,6 @@ module _ (script : Script) (c : Collection) (below : List Activity) (v : World) 
             found = λ x m t k n. merged_clear g x.place (h.rightly x m) (found_apart (merged_place g x.place) k);
           }) h
 
-      -- the garbage list is in no generation
-      tracked : (x : Object) → is_at (Gen g) x ≡ true → x.place ≡ Untracked → ⊥
-      tracked x t e = let no : true ≡ false = sym t ∙ ap (λ p. same_place p (Gen g)) e in cc
-
       unnamed : (x : Object) → Includes now.objects x → is_at (Gen g) x ≡ true → IsFound (step.places x) → ¬ Includes (references (entries_of now.objects 1)) x.serial
       unnamed x m t found names =
           let member = Includes-filter (is_at (Gen g)) now.objects x t m in
@@ -150,7 +135,7 @@ module _ (script : Script) (c : Collection) (below : List Activity) (v : World) 
       sorted_now : AreApart (start_world c step.places below now).objects (WeakClearing [])
       sorted_now = moved (λ x. with_place (step.places x) x) (is_at (Gen g)) now.objects Start (WeakClearing []) (record { serial = λ x. refl; code = λ x. refl; entries = λ x. refl }) (λ k. k)
           (record {
-            untracked = λ x m t one e. absurd (tracked x t e);
+            untracked = λ x m t one e. absurd (is_tracked_at (Gen g) x refl t e);
             chosen = λ x m t k. weak_of_sorted (step.places x) x (places_sorted script g now step.chosen step.places step.sorts x (Includes-filter (is_at (Gen g)) now.objects x t m));
             others = λ x m t k. weak_of_clear x k;
             found = unnamed;

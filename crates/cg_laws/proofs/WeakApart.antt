@@ -7,7 +7,7 @@ use Rattle.cg_value.specs.declared.Place.{Place}
 use Rattle.cg_value.specs.declared.Place.TheVariants.{Gen, Seen, Back, Pend}
 use Rattle.cg_script.specs.declared.Script.{Script}
 use Rattle.cg_graph.specs.Member.{Includes}
-use Rattle.cg_graph.specs.Object.{Object, change, object_at, is_in_map, with_place, with_referent, serials}
+use Rattle.cg_graph.specs.Object.{Object, change, object_at, is_in_map, with_place, with_referent}
 use Rattle.cg_graph.specs.Holdings.{name_holdings, entry_holdings, graph_of}
 use Rattle.cg_graph.proofs.Members.{either, Includes-append_left, Includes-append_right, Includes-map_cases}
 use Rattle.cg_machine.specs.declared.event.Event.{Event}
@@ -19,7 +19,7 @@ use Rattle.cg_machine.specs.Weak.{loses_referent, callback_of}
 use Rattle.cg_machine.specs.Laws.{IsOrderly, all_waits}
 use Rattle.cg_machine.specs.Collect.{collection_at, older, waits, ClearsOne, WeakClearingStep, calls_back, after_release}
 use Rattle.cg_laws.specs.Apart.{IsInWeakPhase, IsGarbageList, IsApart}
-use Rattle.cg_laws.proofs.SetsApart.{NoneCollects, AreApart, Keeps, goes_to, restands, starts_apart, gives_up_apart, moved}
+use Rattle.cg_laws.proofs.SetsApart.{NoneCollects, AreApart, goes_to, restands, starts_apart, gives_up_apart, moved}
 
 -- the garbage list is no weak reference
 no_weak : (x : Object) → IsGarbageList x → x.code ≢ Weak
