@@ -1,0 +1,10 @@
+pub mod SetsApart
+pub mod GarbageKept
+pub mod GarbageCommands
+pub mod StepsPlain
+pub mod StepsApart
+pub mod RunsApart
+pub mod Kept
+pub mod Numbers
+pub mod Counting
+pub mod NumbersOfRuns
