@@ -4,3 +4,12 @@ pub mod WeakApart
 pub mod FinalizersApart
 pub mod TurnsApart
 pub mod CollectApart
+pub mod GarbageKept
+pub mod GarbageCommands
+pub mod StepsPlain
+pub mod StepsApart
+pub mod RunsApart
+pub mod Kept
+pub mod Numbers
+pub mod Counting
+pub mod NumbersOfRuns
