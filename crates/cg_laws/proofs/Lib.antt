@@ -1,3 +1,4 @@
+pub mod CollectApart
 pub mod SetsApart
 pub mod GarbageKept
 pub mod GarbageCommands
