@@ -1,3 +1,4 @@
+pub mod CollectApart
 pub mod SetsApart
 pub mod SortsApart
 pub mod WeakApart
