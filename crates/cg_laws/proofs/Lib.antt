@@ -1,4 +1,3 @@
-pub mod CollectApart
 pub mod SetsApart
 pub mod SortsApart
 pub mod WeakApart
