@@ -23,6 +23,7 @@ use Rattle.cg_laws.proofs.SetsApart.{NoneCollects, AreApart, Keeps, goes_to, res
 pub root_not_at : (objects : List Object) (phase : CollectPhase) (p : Place) (o : ℕ) → same_place Untracked p ≡ false → AreApart objects phase → Includes (serials_at objects p) o → o ≢ 1
 root_not_at objects phase p o tracked h m e = let x = stands_at objects p o m in is_tracked_at p x.0 tracked x.2 (h.garbage x.0 x.1 (x.3 ∙ e)).untracked
 
+-- what is condemned counts as found
 condemned_found : (p : Place) → (same_place p Cand || same_place p Seen) ≡ true → IsFound p
 condemned_found Cand e = tt
 condemned_found Seen e = tt
@@ -33,6 +34,7 @@ condemned_found Frozen e = let no : false ≡ true = e in cc
 condemned_found Back e = let no : false ≡ true = e in cc
 condemned_found Pend e = let no : false ≡ true = e in cc
 
+-- from the second detection on: what gets older, and what stays condemned
 pub late_at_gen : (g : ℕ) (x : Object) → IsInLatePhase (with_place (Gen g) x)
 late_at_gen g x = record {
   seen = λ e. let no : Gen g ≡ Seen = e in cc;
@@ -81,6 +83,7 @@ module _ (script : Script) (c : Collection) (below : List Activity) (v : World) 
       seen : Object → Object
       seen x = marked (with_place Seen x)
 
+  -- then all that were looked at are condemned as before
   pub finalizing_apart : (events : List Event) (after : World) → FinalizingStep script c below (at Finalizing) events after → AreApart v.objects Finalizing → IsApart after
   finalizing_apart events after (inl step) h = to after _ step.yields.1 (looks_at_apart step.object (option_and_then (finalizer_to_run script) (object_at v.objects step.object)) step.condemned h)
   finalizing_apart events after (inr step) h = to after _ step.1.1 (goes_to c Split below (replaced_place Seen Cand (at Finalizing)) alone

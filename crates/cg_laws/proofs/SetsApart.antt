@@ -60,6 +60,7 @@ collects w d below s alone h = record {
     same : (e : Collection) → Includes w.stack (Collecting e) → d ≡ e
     same e m = either (subst (λ st. Includes st (Collecting e)) s m) (λ i. let is : d ≡ e = cc in is) (λ k. absurd (alone e k))
 
+-- a collection goes to a phase in which the objects stand rightly
 pub goes_to : (d : Collection) (next : CollectPhase) (below : List Activity) (v : World) → NoneCollects below → AreApart v.objects next → IsApart (collection_at d next below v)
 goes_to d next below v alone h = collects (collection_at d next below v) (record d { phase = next }) below refl alone h
 
@@ -94,9 +95,11 @@ pub record Keeps (f : Object → Object) : Type 0 where
   pub code : (x : Object) → (f x).code ≡ x.code
   pub entries : (x : Object) → (f x).entries ≡ x.entries
 
+-- another place is such a change
 pub places_kept : (places : Object → Place) → Keeps (λ x. with_place (places x) x)
 places_kept places = record { serial = λ x. refl; code = λ x. refl; entries = λ x. refl }
 
+-- so is one that a test decides on
 pub kept_if : (f : Object → Object) → Keeps f → (test : Object → Bool) → Keeps (λ x. if test x then f x else x)
 kept_if f k test = record { serial = λ x. serial (test x) x; code = λ x. code (test x) x; entries = λ x. entries (test x) x }
   where
@@ -112,6 +115,7 @@ kept_if f k test = record { serial = λ x. serial (test x) x; code = λ x. code 
     entries true x = k.entries x
     entries false x = refl
 
+-- the entries that are found by a serial stay
 pub entries_kept : (f : Object → Object) → Keeps f → (objects : List Object) (o : ℕ) → entries_of (map f objects) o ≡ entries_of objects o
 entries_kept f k [] o = refl
 entries_kept f k (x ∷ objects) o =

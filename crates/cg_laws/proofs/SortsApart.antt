@@ -106,6 +106,7 @@ weak_of_clear x clear = record {
 }
 
 module _ (script : Script) (c : Collection) (below : List Activity) (v : World) (alone : NoneCollects below) where
+  -- the merge and the sorting
   pub start_apart : (events : List Event) (after : World) → StartStep script (collection_at c Start below v) c below events after → AreApart v.objects Start → IsApart after
   start_apart events after step h = subst IsApart (sym step.world) (collects (start_world c step.places below now) (record c { phase = WeakClearing [] }) below refl alone sorted_now)
     where

@@ -146,6 +146,7 @@ module _ (script : Script) (c : Collection) (below : List Activity) (v : World) 
       one true x t found = absurd found
       one false x t found = λ e. let no : true ≡ false = sym (eq-eqb x.serial o (sym e)) ∙ t in cc
 
+  -- the turns
   turn_apart : (x : Object) → Includes (serials_at v.objects Cand) x.serial → AreApart v.objects Turns → IsApart (takes_turn c x below (at Turns)).1
   turn_apart x member h = go (has_flag c.flags save_all) (is_tuple x)
     where

@@ -43,6 +43,7 @@ none_at (y ∷ objects) o x e m same = go (y.serial == o) refl e m (λ k n. none
     go false t k (inl i) rest = let no : true ≡ false = sym (eq-eqb y.serial o (ap (λ (z : Object). z.serial) i ∙ same)) ∙ t in cc
     go false t k (inr n) rest = rest k n
 
+-- where one waits, and where one goes that does not wait any more
 weak_at_pend : (waiting : List ℕ) (x : Object) → Includes waiting x.serial → IsInWeakPhase waiting (with_place Pend x)
 weak_at_pend waiting x m = record {
   seen = λ e. let no : Pend ≡ Seen = e in cc;
@@ -64,6 +65,7 @@ module _ (script : Script) (c : Collection) (below : List Activity) (v : World) 
   to : (after next : World) → after ≡ next → IsApart next → IsApart after
   to after next e h = subst IsApart (sym e) h
 
+  -- a weak reference loses its referent, and may wait
   clears_apart : (waiting : List ℕ) (events : List Event) (after : World) → ClearsOne c waiting below (at (WeakClearing waiting)) events after → IsOrderly (at (WeakClearing waiting)) → AreApart v.objects (WeakClearing waiting) → IsApart after
   clears_apart waiting events after step orderly h = to after _ step.yields.1 (go (waits v.objects step.weak))
     where
@@ -103,6 +105,7 @@ module _ (script : Script) (c : Collection) (below : List Activity) (v : World) 
   clearing_apart waiting events after (inl step) orderly h = clears_apart waiting events after step orderly h
   clearing_apart waiting events after (inr step) orderly h = to after _ step.1.1 (goes_to c (WeakCalling waiting) below v alone (restands (WeakClearing waiting) (WeakCalling waiting) v.objects (λ k. k) (λ x m k. k) h))
 
+  -- the callbacks
   pub calls_back_apart : (waiting : List ℕ) → IsOrderly (at (WeakCalling waiting)) → AreApart v.objects (WeakCalling waiting) → IsApart (calls_back script c waiting below (at (WeakCalling waiting))).1
   calls_back_apart [] orderly h = goes_to c Finalizing below v alone (restands (WeakCalling []) Finalizing v.objects (λ k. k) (λ x m k. (k.back, λ e. k.pending e)) h)
   calls_back_apart (weak ∷ waiting) orderly h =
