@@ -1,4 +1,9 @@
 pub mod SetsApart
+pub mod SortsApart
+pub mod WeakApart
+pub mod FinalizersApart
+pub mod TurnsApart
+pub mod CollectApart
 pub mod GarbageKept
 pub mod GarbageCommands
 pub mod StepsPlain

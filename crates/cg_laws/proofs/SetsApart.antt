@@ -1,21 +1,24 @@
 -- What the steps of a collection keep of the objects: each stands rightly, and the garbage list stays untracked.
-use Rattle.std.proofs.Common.{◌≡◌, ◌≢◌, refl, sym, ◌∙◌, ap, subst, ℕ, ◌+◌, ◌-◌, ◌≤◌, Bool, true, false, cond, inl, inr, List, [], ◌∷◌, ◌++◌, map, Option, Some, None, arith}
+use Rattle.std.proofs.Common.{◌≡◌, ◌≢◌, refl, sym, ◌∙◌, ap, subst, ℕ, ◌-◌, ◌≤◌, Bool, true, false, cond, inl, inr, List, [], ◌∷◌, map, Some, None, arith}
 use Rattle.std.specs.Prelude.{◌==◌, if◌then◌else◌, count_by, option_map, unwrap_or}
 use Rattle.std.specs.List.{list_any}
 use Rattle.std.proofs.lemmas.List.Sums.{sum_by-cons}
 use Rattle.cg_value.specs.declared.Place.{Place}
-use Rattle.cg_value.specs.declared.Place.TheVariants.{Untracked}
+use Rattle.cg_value.specs.declared.Place.TheVariants.{Untracked, Gen, Frozen, Cand, Seen, Back, Legacy, Pend}
 use Rattle.cg_script.specs.declared.Script.{Script}
 use Rattle.cg_graph.specs.Member.{Includes}
 use Rattle.cg_graph.specs.Value.{references}
-use Rattle.cg_graph.specs.Object.{Object, object_at, entries_of}
-use Rattle.cg_graph.proofs.Members.{either, Includes-map_cases}
+use Rattle.cg_graph.specs.Object.{Object, object_at, entries_of, is_at, same_place, with_place, with_referent, objects_at, serials_at}
+use Rattle.cg_graph.proofs.Members.{either, Includes-map_cases, Includes-filter_cases}
 use Rattle.cg_machine.specs.declared.event.Event.TheVariants.{Enter, BudgetSpent}
 use Rattle.cg_machine.specs.declared.event.FrameSpec.{FrameSpec}
 use Rattle.cg_machine.specs.Program.{body_of}
 use Rattle.cg_machine.specs.World.{World, Activity, Framed, Releasing, Collecting, Collection, CollectPhase, BudgetIsSpent, push}
 use Rattle.cg_machine.specs.Holdings.{is_collection}
 use Rattle.cg_machine.specs.Frame.{Transition, start_frame}
+use Rattle.cg_machine.specs.Weak.{loses_referent}
+use Rattle.cg_machine.specs.Laws.{IsOfCollection}
+use Rattle.cg_machine.specs.Collect.{collection_at}
 use Rattle.cg_laws.specs.Apart.{StandsRightly, IsFound, IsGarbageList, handles, IsApart}
 
 -- the objects while a collection is at a phase
@@ -57,6 +60,14 @@ collects w d below s alone h = record {
     same : (e : Collection) → Includes w.stack (Collecting e) → d ≡ e
     same e m = either (subst (λ st. Includes st (Collecting e)) s m) (λ i. let is : d ≡ e = cc in is) (λ k. absurd (alone e k))
 
+-- a collection goes to a phase in which the objects stand rightly
+pub goes_to : (d : Collection) (next : CollectPhase) (below : List Activity) (v : World) → NoneCollects below → AreApart v.objects next → IsApart (collection_at d next below v)
+goes_to d next below v alone h = collects (collection_at d next below v) (record d { phase = next }) below refl alone h
+
+-- nothing changes but the phase
+pub restands : (phase next : CollectPhase) (objects : List Object) → ¬ Includes (handles next) 1 → ((x : Object) → Includes objects x → StandsRightly phase x → StandsRightly next x) → AreApart objects phase → AreApart objects next
+restands phase next objects unhandled right h = record { garbage = h.garbage; rightly = λ x m. right x m (h.rightly x m); unhandled = unhandled; unsaved = h.unsaved }
+
 -- a frame starts
 pub starts_apart : (script : Script) (spec : FrameSpec) (u : World) → IsApart u → IsApart (start_frame script spec u).1
 starts_apart script spec u h = go (u.budget == 0)
@@ -84,6 +95,11 @@ pub record Keeps (f : Object → Object) : Type 0 where
   pub code : (x : Object) → (f x).code ≡ x.code
   pub entries : (x : Object) → (f x).entries ≡ x.entries
 
+-- another place is such a change
+pub places_kept : (places : Object → Place) → Keeps (λ x. with_place (places x) x)
+places_kept places = record { serial = λ x. refl; code = λ x. refl; entries = λ x. refl }
+
+-- so is one that a test decides on
 pub kept_if : (f : Object → Object) → Keeps f → (test : Object → Bool) → Keeps (λ x. if test x then f x else x)
 kept_if f k test = record { serial = λ x. serial (test x) x; code = λ x. code (test x) x; entries = λ x. entries (test x) x }
   where
@@ -99,6 +115,7 @@ kept_if f k test = record { serial = λ x. serial (test x) x; code = λ x. code 
     entries true x = k.entries x
     entries false x = refl
 
+-- the entries that are found by a serial stay
 pub entries_kept : (f : Object → Object) → Keeps f → (objects : List Object) (o : ℕ) → entries_of (map f objects) o ≡ entries_of objects o
 entries_kept f k [] o = refl
 entries_kept f k (x ∷ objects) o =
@@ -116,9 +133,31 @@ pub record Moves (f : Object → Object) (test : Object → Bool) (objects : Lis
   pub others : (x : Object) → Includes objects x → test x ≡ false → StandsRightly phase x → StandsRightly next x
   pub found : (x : Object) → Includes objects x → test x ≡ true → IsFound (f x).place → ¬ Includes (references (entries_of objects 1)) x.serial
 
-pub moved : (f : Object → Object) (test : Object → Bool) (objects : List Object) (phase next : CollectPhase) → Keeps f → ¬ Includes (handles next) 1 → Moves f test objects phase next → AreApart objects phase
-    → AreApart (map (λ x. if test x then f x else x) objects) next
-moved f test objects phase next keeps unhandled moves h = record {
+-- what is condemned or set aside is of the collection
+pub found_apart : (p : Place) → IsFound p → IsOfCollection p
+found_apart Untracked k = k
+found_apart (Gen i) k = k
+found_apart Frozen k = k
+found_apart Cand k = tt
+found_apart Seen k = tt
+found_apart Back k = tt
+found_apart Legacy k = tt
+found_apart Pend k = tt
+
+-- what stands at a place is tracked, and has an object
+pub is_tracked_at : (p : Place) (x : Object) → same_place Untracked p ≡ false → is_at p x ≡ true → x.place ≢ Untracked
+is_tracked_at p x tracked t e = let no : true ≡ false = sym t ∙ ap (λ q. same_place q p) e ∙ tracked in cc
+
+pub stands_at : (objects : List Object) (p : Place) (o : ℕ) → Includes (serials_at objects p) o → (x : Object) × Includes objects x × (is_at p x ≡ true) × (x.serial ≡ o)
+stands_at objects p o m =
+    let x = Includes-map_cases (λ (z : Object). z.serial) (objects_at objects p) o m in
+    let kept = Includes-filter_cases (is_at p) objects x.0 x.1 in
+    (x.0, kept.0, kept.1, x.2)
+
+-- the objects change, and the garbage list keeps its entries
+pub changed : (f : Object → Object) (test : Object → Bool) (objects : List Object) (phase next : CollectPhase) → ((x : Object) → (f x).serial ≡ x.serial) → ((x : Object) → (f x).code ≡ x.code)
+    → entries_of (map (λ x. if test x then f x else x) objects) 1 ≡ entries_of objects 1 → ¬ Includes (handles next) 1 → Moves f test objects phase next → AreApart objects phase → AreApart (map (λ x. if test x then f x else x) objects) next
+changed f test objects phase next serial code same unhandled moves h = record {
   garbage = λ y m. let x = Includes-map_cases change_of objects y m in subst (λ (z : Object). z.serial ≡ 1 → IsGarbageList z) x.2 (garbage (test x.0) x.0 refl x.1);
   rightly = λ y m. let x = Includes-map_cases change_of objects y m in subst (λ (z : Object). StandsRightly next z) x.2 (rightly (test x.0) x.0 refl x.1);
   unhandled = unhandled;
@@ -131,14 +170,11 @@ moved f test objects phase next keeps unhandled moves h = record {
     after : List Object
     after = map change_of objects
 
-    same : entries_of after 1 ≡ entries_of objects 1
-    same = entries_kept change_of (kept_if f keeps test) objects 1
-
     garbage : (b : Bool) (x : Object) → test x ≡ b → Includes objects x → (if b then f x else x).serial ≡ 1 → IsGarbageList (if b then f x else x)
     garbage true x t m e =
-        let one : x.serial ≡ 1 = sym (keeps.serial x) ∙ e in
+        let one : x.serial ≡ 1 = sym (serial x) ∙ e in
         let was = h.garbage x m one in
-        record { list = keeps.code x ∙ was.list; untracked = moves.untracked x m t one was.untracked }
+        record { list = code x ∙ was.list; untracked = moves.untracked x m t one was.untracked }
     garbage false x t m e = h.garbage x m e
 
     rightly : (b : Bool) (x : Object) → test x ≡ b → Includes objects x → StandsRightly next (if b then f x else x)
@@ -146,5 +182,21 @@ moved f test objects phase next keeps unhandled moves h = record {
     rightly false x t m = moves.others x m t (h.rightly x m)
 
     unsaved : (b : Bool) (x : Object) → test x ≡ b → Includes objects x → IsFound (if b then f x else x).place → ¬ Includes (references (entries_of after 1)) (if b then f x else x).serial
-    unsaved true x t m found k = moves.found x m t found (subst (Includes (references (entries_of objects 1))) (keeps.serial x) (subst (λ es. Includes (references es) (f x).serial) same k))
+    unsaved true x t m found k = moves.found x m t found (subst (Includes (references (entries_of objects 1))) (serial x) (subst (λ es. Includes (references es) (f x).serial) same k))
     unsaved false x t m found k = h.unsaved x m found (subst (λ es. Includes (references es) x.serial) same k)
+
+-- they change places, marks or referents
+pub moved : (f : Object → Object) (test : Object → Bool) (objects : List Object) (phase next : CollectPhase) → Keeps f → ¬ Includes (handles next) 1 → Moves f test objects phase next → AreApart objects phase
+    → AreApart (map (λ x. if test x then f x else x) objects) next
+moved f test objects phase next keeps unhandled moves h =
+    changed f test objects phase next keeps.serial keeps.code (entries_kept (λ x. if test x then f x else x) (kept_if f keeps test) objects 1) unhandled moves h
+
+-- a weak reference loses its referent
+pub lost_apart : (weak : ℕ) (objects : List Object) (phase : CollectPhase) → ((x : Object) → StandsRightly phase x → StandsRightly phase (with_referent None x)) → AreApart objects phase → AreApart (loses_referent weak objects) phase
+lost_apart weak objects phase still h = moved (with_referent None) (λ x. x.serial == weak) objects phase phase (record { serial = λ x. refl; code = λ x. refl; entries = λ x. refl }) h.unhandled
+    (record {
+      untracked = λ x m t one e. e;
+      chosen = λ x m t k. still x k;
+      others = λ x m t k. k;
+      found = λ x m t k. h.unsaved x m k;
+    }) h
