@@ -1,23 +1,27 @@
 -- The activities that have commands, and what a command leaves. (Ours.)
-use Rattle.std.specs.Prelude.{◌≡◌, ℕ, List, ◌∷◌, Option, None, Some, option_to_list}
+use Rattle.std.specs.Prelude.{◌≡◌, ℕ, true, ◌⊎◌, List, [], ◌∷◌, Option, None, Some, option_to_list}
 use Rattle.cg_value.specs.declared.Entry.{Entry}
 use Rattle.cg_script.specs.declared.Script.{Script}
 use Rattle.cg_graph.specs.Value.{entry_references}
 use Rattle.cg_machine.specs.declared.event.Event.{Event}
-use Rattle.cg_machine.specs.World.{World, Releasing, Running, push}
+use Rattle.cg_machine.specs.declared.event.Event.TheVariants.{Made}
+use Rattle.cg_machine.specs.World.{World, Numbers, Releasing, Running, push}
 use Rattle.cg_machine.specs.Frame.{Transition, procedure_of}
-use Rattle.cg_machine.specs.Commands.{CommandStep}
+use Rattle.cg_machine.specs.Commands.{CommandStep, new_collection}
+use Rattle.cg_policy.specs.Policy.{with_one_made}
 use Rattle.cg_machine.specs.declared.event.FrameSpec.{FrameSpec}
 use Rattle.cg_machine.specs.declared.event.FrameSort.TheVariants.{Call}
 use Rattle.cg_script.specs.declared.Command.{Command}
 use Rattle.cg_graph.specs.Member.{Includes}
-use Rattle.cg_script.specs.Spelled.{IsSpelledCommand, IsForObjects}
+use Rattle.cg_script.specs.Spelled.{IsSpelledCommand}
 use Rattle.cg_interp.specs.declared.turned.Turned.{Turned}
 use Rattle.cg_interp.specs.Turns.{Makes}
+use Rattle.cg_laws.specs.Kept.{StaysKept}
+use Rattle.cg_interp.specs.Telling.{TurnsWith}
 use Rattle.cg_machine.specs.Represents.{Represents}
 use Rattle.cg_interp.specs.declared.activity.Activity.{Activity}
 use Rattle.cg_interp.specs.declared.activity.Activity.TheVariants as activity
-use Rattle.cg_interp.specs.Engines.{State, ShowsAll}
+use Rattle.cg_interp.specs.Engines.{State, ShowsAll, any_collecting}
 
 -- the script, or a frame
 abbrev pub IsCaller : Activity → Type 0
@@ -25,6 +29,7 @@ IsCaller (activity.Script next) = Unit {0}
 IsCaller (activity.Frame locals procedure next) = Unit {0}
 IsCaller (activity.Releasing release) = ⊥
 IsCaller (activity.Dying death) = ⊥
+IsCaller (activity.Collecting asked collection) = ⊥
 
 -- a frame that has no command left
 abbrev pub without_rest_in_frame : Activity → Activity
@@ -32,6 +37,7 @@ without_rest_in_frame (activity.Script next) = activity.Script next
 without_rest_in_frame (activity.Frame locals procedure next) = activity.Frame locals procedure None
 without_rest_in_frame (activity.Releasing release) = activity.Releasing release
 without_rest_in_frame (activity.Dying death) = activity.Dying death
+without_rest_in_frame (activity.Collecting asked collection) = activity.Collecting asked collection
 
 -- the same of the script too
 abbrev pub without_rest : Activity → Activity
@@ -39,15 +45,22 @@ without_rest (activity.Script next) = activity.Script None
 without_rest (activity.Frame locals procedure next) = activity.Frame locals procedure None
 without_rest (activity.Releasing release) = activity.Releasing release
 without_rest (activity.Dying death) = activity.Dying death
+without_rest (activity.Collecting asked collection) = activity.Collecting asked collection
 
--- A command left this world: the heap stands for it with the release of what was given up on top, and the activities for
--- the rest of its stack.
-pub record Changes (script : Script) (top : Activity) (e : State) (given_up : Entry) (after : World) : Type 0 where
+-- the numbers after the line of a command: that an object was made raises count 0 (`gc.set_threshold`)
+abbrev pub numbers_told : Option Event → Numbers → Numbers
+numbers_told (Some (Made code serial)) numbers = with_one_made numbers
+numbers_told line numbers = numbers
+
+-- A command left this world, with its line: the heap stands for it with the release of what was given up on top, and the
+-- activities for the rest of its stack. The policy has not counted the object that the line tells.
+pub record Changes (script : Script) (top : Activity) (e : State) (line : Option Event) (given_up : Entry) (after : World) : Type 0 where
   pub represents : Represents e.store (push (Releasing (entry_references given_up)) after)
   pub shows : ShowsAll script (top ∷ e.activities) after.stack
   pub budget : after.budget ≡ e.budget
   pub running : after.outcome ≡ Running
-  pub threshold : after.numbers.zero_threshold ≡ 0
+  pub numbers : after.numbers ≡ numbers_told line e.policy.numbers
+  pub collecting : e.policy.running ≡ any_collecting (top ∷ e.activities)
 
 -- its line, and that world
 abbrev pub transition_of_change : Option Event → Entry → World → Transition
@@ -63,6 +76,21 @@ pub record Does (script : Script) (w : World) (command : Command) (e : State) (a
   pub may : CommandStep script w command transition.0 transition.1
   pub makes : Makes script transition e answer
 
--- Each of these commands is spelled by a script with so many texts, and is not the collector's.
+-- A command asked for a collection, which has begun and taken its first step: the machine made the step of the command, and
+-- went on from there.
+pub record StartsCollection (script : Script) (w : World) (command : Command) (e : State) (answer : Turned) : Type 0 where
+  pub generation : ℕ
+  pub may : CommandStep script w command [] (push (new_collection generation true w) w)
+  pub turns : TurnsWith script (λ still. Unit {0}) (push (new_collection generation true w) w) [] e answer
+
+-- what is done for any command
+abbrev pub DoesAny : Script → World → Command → State → Turned → Type 0
+DoesAny script w command e answer = Does script w command e answer ⊎ StartsCollection script w command e answer
+
+-- Each world that a command may leave is kept.
+abbrev pub StaysKeptAfter : Script → ℕ → World → Command → Type 0
+StaysKeptAfter script budget w command = (events : List Event) (after : World) → CommandStep script w command events after → StaysKept script budget after
+
+-- Each of these commands is spelled by a script with so many texts.
 abbrev pub AreDoable : ℕ → List Command → Type 0
-AreDoable names commands = (c : Command) → Includes commands c → IsSpelledCommand names c × IsForObjects c
+AreDoable names commands = (c : Command) → Includes commands c → IsSpelledCommand names c

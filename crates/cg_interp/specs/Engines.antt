@@ -1,5 +1,6 @@
 -- What an engine is, and the worlds of the machine that it stands for. (Ours.)
-use Rattle.std.specs.Prelude.{◌≡◌, ◌≢◌, ℕ, ◌++◌, List, [], ◌∷◌, drop, Option, None, Some}
+use Rattle.std.specs.Prelude.{◌≡◌, ◌≢◌, ℕ, ◌++◌, Bool, true, false, List, [], ◌∷◌, drop, Option, None, Some}
+use Rattle.std.specs.List.{list_any}
 use Rattle.cg_script.specs.declared.Script.{Script}
 use Rattle.cg_script.specs.declared.Command.{Command}
 use Rattle.cg_graph.specs.Store.{Store}
@@ -12,13 +13,18 @@ use Rattle.cg_death.specs.Activities.{references_left, death_activities}
 use Rattle.cg_death.specs.declared.release.Release.{Release}
 use Rattle.cg_death.specs.declared.death.Death.{Death}
 use Rattle.cg_death.specs.Deaths.{IsSettled}
+use Rattle.cg_policy.specs.Policy.{Policy}
+use Rattle.cg_collect.specs.declared.collection.Collection.{Collection}
+use Rattle.cg_collect.specs.Phases.{on_stack}
+use Rattle.cg_collect.specs.Collections.{HandsOut}
 use Rattle.cg_interp.specs.declared.activity.Activity.{Activity}
 use Rattle.cg_interp.specs.declared.activity.Activity.TheVariants as activity
 
--- the value of an engine: its heap, its activities, the top first, how many more may be pushed, the frames that may still
--- start, and the frames that could start at first
+-- the value of an engine: its heap, the numbers of the collector, its activities, the top first, how many more may be
+-- pushed, the frames that may still start, and the frames that could start at first
 pub record State : Type 0 where
   pub store : Store
+  pub policy : Policy
   pub activities : List Activity
   pub room : ℕ
   pub budget : ℕ
@@ -50,6 +56,13 @@ released_first (Some release) rest = Releasing (references_left release) ∷ res
 abbrev pub death_shown : Death → List ℕ → List machine.Activity
 death_shown death waiting = released_first death.release (death_activities death.object death.phase waiting)
 
+-- A collection that has handed out a frame or a death stands for this on the stack. What runs above it may change the heap,
+-- and leaves that as it was.
+pub record HasHandedOut (asked : Bool) (c : Collection) (tops : List machine.Activity) : Type 0 where
+  pub then : Store
+  pub shown : tops ≡ on_stack asked c then
+  pub handing : HandsOut c then
+
 -- What an activity stands for among those of the machine, the top first. Which weak references wait with a dying object
 -- the world tells. What a death gives up it gives up between callbacks, or while entries are taken out.
 abbrev pub Shows : Script → Activity → List machine.Activity → Type 0
@@ -57,6 +70,7 @@ Shows script (activity.Script next) tops = tops ≡ TopLevel (commands_from next
 Shows script (activity.Frame locals procedure next) tops = tops ≡ Framed (frame_of script locals procedure next) ∷ []
 Shows script (activity.Releasing release) tops = tops ≡ Releasing (references_left release) ∷ []
 Shows script (activity.Dying death) tops = (waiting : List ℕ) × (tops ≡ death_shown death waiting) × IsSettled death
+Shows script (activity.Collecting asked collection) tops = HasHandedOut asked collection tops
 
 -- an activity that stands for the top of a stack, of one activity at least, over what lies below
 pub record ShowsTop (script : Script) (top : Activity) (rest : List machine.Activity → Type 0) (stack : List machine.Activity) : Type 0 where
@@ -72,11 +86,23 @@ abbrev pub ShowsAll : Script → List Activity → List machine.Activity → Typ
 ShowsAll script [] stack = stack ≡ []
 ShowsAll script (top ∷ activities) stack = ShowsTop script top (ShowsAll script activities) stack
 
--- An engine stands for a world: its heap stands for it, and its activities for the stack. The world runs, and no collection
--- is ever due, since threshold 0 is 0 until automatic collections are built.
+-- whether an activity is a collection, and whether one is under way
+abbrev pub is_collecting : Activity → Bool
+is_collecting (activity.Script next) = false
+is_collecting (activity.Frame locals procedure next) = false
+is_collecting (activity.Releasing release) = false
+is_collecting (activity.Dying death) = false
+is_collecting (activity.Collecting asked collection) = true
+
+abbrev pub any_collecting : List Activity → Bool
+any_collecting activities = list_any is_collecting activities
+
+-- An engine stands for a world: its heap stands for it, its policy has the numbers, and its activities stand for the stack.
+-- The world runs.
 pub record StandsFor (script : Script) (e : State) (w : World) : Type 0 where
   pub represents : Represents e.store w
   pub shows : ShowsAll script e.activities w.stack
   pub budget : w.budget ≡ e.budget
   pub running : w.outcome ≡ Running
-  pub threshold : w.numbers.zero_threshold ≡ 0
+  pub numbers : e.policy.numbers ≡ w.numbers
+  pub collecting : e.policy.running ≡ any_collecting e.activities

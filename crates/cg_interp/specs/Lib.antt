@@ -3,6 +3,8 @@ pub mod Tables
 pub mod Engines
 pub mod Releases
 pub mod Turns
+pub mod Collecting
+pub mod Telling
 pub mod Callers
 pub mod Written
 pub mod Running

@@ -12,7 +12,6 @@ use Rattle.cg_machine.specs.Laws.{IsHeldByItsDeathAlone}
 use Rattle.cg_machine.specs.Frame.{Transition, begin_death}
 use Rattle.cg_machine.specs.Run.{StepTaken, Run, last_world}
 use Rattle.cg_machine.specs.Represents.{Goes}
-use Rattle.cg_machine.specs.Lawful.{StaysLawful}
 use Rattle.cg_death.specs.declared.death.Death.{Death}
 use Rattle.cg_death.specs.Deaths.{IsGoing, IsOffStack}
 use Rattle.cg_interp.specs.declared.activity.Activity.{Activity}
@@ -21,7 +20,7 @@ use Rattle.cg_interp.specs.declared.turned.Turned.{Turned}
 use Rattle.cg_interp.specs.declared.turned.Turned.TheVariants as turned
 use Rattle.cg_interp.specs.declared.turned.Dies.{Dies}
 use Rattle.cg_interp.specs.declared.turned.Dies.TheVariants as dies
-use Rattle.cg_interp.specs.Engines.{State, StandsFor, under}
+use Rattle.cg_interp.specs.Engines.{State, StandsFor}
 
 -- A transition of the machine was made: its lines are those that were answered, and the engine stands for its world, or
 -- the run has ended.
@@ -112,11 +111,3 @@ HasRoomForOneMore e = e.frames + 2 * (length (objects_of e.store) + 1) + 8 ≤ l
 -- An engine that was fit is fit.
 abbrev pub StaysFit : State → State → Type 0
 StaysFit old new = (script : Script) → IsFit script old → IsFit script new
-
--- With this activity on top the engine stands for a world of a run.
-abbrev pub IsAtTurn : Script → Activity → State → Type 0
-IsAtTurn script top e = (w : World) × StandsFor script (under top e) w × StaysLawful script e.frames w
-
--- From each such world the machine goes on as is answered.
-abbrev pub TurnsFrom : Script → Activity → State → State → Turned → Type 0
-TurnsFrom script top old new answer = (w : World) → StandsFor script (under top old) w → StaysLawful script old.frames w → Turns script w new answer

@@ -1,4 +1,5 @@
 //! What is under way.
+use cg_collect::Collection;
 use cg_commands::Locals;
 use cg_death::{Death, Release};
 
@@ -19,4 +20,6 @@ pub enum Activity {
     Releasing(Release),
     /// The death of an object.
     Dying(Death),
+    /// A collection, and whether a command asked for it.
+    Collecting { asked: bool, collection: Collection },
 }

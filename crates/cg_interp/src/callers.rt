@@ -2,33 +2,71 @@
 ghost use Rattle.std.specs.Prelude.{◌≡◌, ◌<◌, ◌≤◌, true, length, Some};
 ghost use Rattle.cg_script.specs.declared.Script.{Script as AnyScript};
 ghost use Rattle.cg_heap.specs.Calls.{HasFewHolds};
-ghost use Rattle.cg_machine.specs.Program.{commands_of, body_of};
+ghost use Rattle.cg_machine.specs.Program.{body_of};
 ghost use Rattle.cg_machine.specs.World.{World};
-ghost use Rattle.cg_script.specs.Spelled.{IsSpelledCommand, IsForObjects};
+ghost use Rattle.cg_script.specs.Spelled.{IsSpelled, IsSpelledCommand, IsForObjects};
+ghost use Rattle.cg_collect.specs.Numbers.{AreSmall};
 ghost use Rattle.cg_commands.specs.Stands.{LocalsLive, HasLocals};
 ghost use Rattle.cg_interp.specs.declared.activity.Activity.TheVariants as activity_of;
-ghost use Rattle.cg_interp.specs.Engines.{StandsFor, under};
+ghost use Rattle.cg_interp.specs.Engines.{StandsFor, under, commands_from};
 ghost use Rattle.cg_interp.specs.Tables.{AreCommands};
-ghost use Rattle.cg_interp.specs.Turns.{Turns, StaysFit, HasRoomForOneMore, Keeps};
-ghost use Rattle.cg_interp.specs.Callers.{IsCaller, Does, AreDoable};
+ghost use Rattle.cg_interp.specs.Turns.{IsFit, StaysFit, HasRoomForOneMore};
+ghost use Rattle.cg_interp.specs.Telling.{IsAtTurn, TurnsFrom};
+ghost use Rattle.cg_interp.specs.Callers.{IsCaller, Does, DoesAny, StaysKeptAfter};
 
 use crate::activity::Activity;
 use crate::engine::Engine;
 use crate::table::{Table, next_of};
 use crate::turned::Turned;
-use cg_commands::{Locals, makes_object, perform};
+use cg_commands::{Locals, makes_object};
+use cg_controls::is_control;
+use cg_heap::Steps;
 use cg_kind::Kind;
 use cg_script::{Command, Script};
+use std::sync::ledger::Ledger;
 
 impl<B: Kind> Engine<B> {
     /// Does a command of the activity that was on top, which has gone on to the command after it.
-    pub fn run(&mut self, top: Activity, locals: Option<Locals>, command: &Command) -> Turned
+    pub fn run<L: Ledger>(
+        &mut self,
+        top: Activity,
+        locals: Option<Locals>,
+        command: &Command,
+        script: &Script,
+        steps: &mut Steps<L>,
+    ) -> Turned
+        requires caller { IsCaller top }
+        requires script { IsSpelled script.now }
+        requires spelled { IsSpelledCommand (length self.old.store.names) command.now }
+        requires locals { LocalsLive self.old.store locals }
+        requires few { HasFewHolds self.old.store }
+        requires last { self.old.store.last < 9223372036854775808 }
+        requires small { AreSmall self.old.policy.numbers }
+        requires fit { IsFit script.now self.old }
+        requires room { 2 < self.old.room }
+        requires stands { (w : World) × StandsFor script.now (under top self.old) w × HasLocals locals w
+            × StaysKeptAfter script.now self.old.frames w command.now }
+        ensures does { (w : World) → StandsFor script.now (under top self.old) w → HasLocals locals w
+            → StaysKeptAfter script.now self.old.frames w command.now → DoesAny script.now w command.now self.new result }
+        ensures fit { IsFit script.now self.new }
+        ensures frames { self.new.frames ≡ self.old.frames }
+    {
+        if is_control(command) {
+            self.control(top, command, script, steps)
+        } else {
+            self.perform(top, locals, command)
+        }
+    }
+
+    /// Does a command that is not the collector's.
+    fn perform(&mut self, top: Activity, locals: Option<Locals>, command: &Command) -> Turned
         requires caller { IsCaller top }
         requires spelled { IsSpelledCommand (length self.old.store.names) command.now }
         requires objects { IsForObjects command.now }
         requires locals { LocalsLive self.old.store locals }
         requires few { HasFewHolds self.old.store }
         requires last { self.old.store.last < 9223372036854775808 }
+        requires small { AreSmall self.old.policy.numbers }
         requires room { 1 < self.old.room }
         requires stands { (script : AnyScript) × (w : World)
             × StandsFor script (under top self.old) w × HasLocals locals w }
@@ -55,6 +93,7 @@ impl<B: Kind> Engine<B> {
         requires locals { LocalsLive self.old.store locals }
         requires few { HasFewHolds self.old.store }
         requires last { self.old.store.last < 9223372036854775808 }
+        requires small { AreSmall self.old.policy.numbers }
         requires room { 1 < self.old.room }
         requires stands { (script : AnyScript) × (w : World)
             × StandsFor script (under top self.old) w × HasLocals locals w }
@@ -64,7 +103,7 @@ impl<B: Kind> Engine<B> {
         ensures fit { StaysFit self.old self.new }
         ensures frames { self.new.frames ≡ self.old.frames }
     {
-        let done = perform(&mut self.heap, locals, command, room);
+        let done = cg_commands::perform(&mut self.heap, locals, command, room);
         self.answer(top, done)
     }
 
@@ -74,6 +113,7 @@ impl<B: Kind> Engine<B> {
         ensures one_more { result ≡ true → HasRoomForOneMore self.new }
         ensures more { self.old.room ≤ self.new.room }
         ensures store { self.new.store ≡ self.old.store }
+        ensures policy { self.new.policy ≡ self.old.policy }
         ensures activities { self.new.activities ≡ self.old.activities }
         ensures budget { self.new.budget ≡ self.old.budget }
         ensures frames { self.new.frames ≡ self.old.frames }
@@ -90,6 +130,7 @@ impl<B: Kind> Engine<B> {
         ensures one_more { result ≡ true → HasRoomForOneMore self.new }
         ensures more { self.old.room ≤ self.new.room }
         ensures store { self.new.store ≡ self.old.store }
+        ensures policy { self.new.policy ≡ self.old.policy }
         ensures activities { self.new.activities ≡ self.old.activities }
         ensures budget { self.new.budget ≡ self.old.budget }
         ensures frames { self.new.frames ≡ self.old.frames }
@@ -101,61 +142,107 @@ impl<B: Kind> Engine<B> {
         self.stack.reserve_up_to(height).is_ok()
     }
 
-    /// Goes on with the script, which was on top.
-    pub fn go_on(&mut self, table: &Table, script: &Script, next: Option<usize>) -> Turned
+    /// Goes on with the script, which was on top. A collection that is due comes first.
+    pub fn go_on<L: Ledger>(
+        &mut self,
+        table: &Table,
+        script: &Script,
+        next: Option<usize>,
+        steps: &mut Steps<L>,
+    ) -> Turned
         requires table { AreCommands script.now.items table.now.commands.items }
-        requires doable { AreDoable (length self.old.store.names) (commands_of script.now.items) }
+        requires spelled { IsSpelled script.now }
         requires few { HasFewHolds self.old.store }
         requires last { self.old.store.last < 9223372036854775808 }
-        requires room { 1 < self.old.room }
-        requires stands { (w : World) × StandsFor script.now (under (activity_of.Script next) self.old) w }
-        ensures turns { (w : World) → StandsFor script.now (under (activity_of.Script next) self.old) w
-            → Turns script.now w self.new result }
-        ensures fit { StaysFit self.old self.new }
+        requires small { AreSmall self.old.policy.numbers }
+        requires fit { IsFit script.now self.old }
+        requires room { 2 < self.old.room }
+        requires stands { IsAtTurn script.now (activity_of.Script next) self.old }
+        ensures turns { TurnsFrom script.now (activity_of.Script next) self.old self.new result }
+        ensures fit { IsFit script.now self.new }
         ensures frames { self.new.frames ≡ self.old.frames }
     {
+        if let Some(generation) = self.policy.due() {
+            return self.collect(Activity::Script { next }, false, generation, script, steps);
+        }
         match table.next(script, next) {
             Some((command, after)) => self.run(
                 Activity::Script { next: Some(after) },
                 None,
                 command,
+                script,
+                steps,
             ),
             None => Turned::Ended,
         }
     }
 
-    /// Goes on with a frame, which was on top.
-    pub fn go_on_in(
+    /// Goes on with a frame, which was on top. A collection that is due comes before its next command; its end waits for none.
+    pub fn go_on_in<L: Ledger>(
         &mut self,
         body: &[Command],
         locals: Locals,
         procedure: u32,
         next: Option<usize>,
+        script: &Script,
+        steps: &mut Steps<L>,
     ) -> Turned
-        requires doable { AreDoable (length self.old.store.names) body.now }
+        requires body { body.now ≡ body_of script.now procedure }
+        requires spelled { IsSpelled script.now }
         requires live { LocalsLive self.old.store (Some locals) }
         requires few { HasFewHolds self.old.store }
         requires last { self.old.store.last < 9223372036854775808 }
-        requires room { 1 < self.old.room }
-        requires stands { (script : AnyScript) × (w : World) × (body.now ≡ body_of script procedure)
-            × StandsFor script (under (activity_of.Frame locals procedure next) self.old) w }
-        ensures turns { (script : AnyScript) (w : World) → body.now ≡ body_of script procedure
-            → StandsFor script (under (activity_of.Frame locals procedure next) self.old) w
-            → Turns script w self.new result }
-        ensures fit { StaysFit self.old self.new }
+        requires small { AreSmall self.old.policy.numbers }
+        requires fit { IsFit script.now self.old }
+        requires room { 2 < self.old.room }
+        requires stands { IsAtTurn script.now (activity_of.Frame locals procedure next) self.old }
+        ensures turns { TurnsFrom script.now (activity_of.Frame locals procedure next) self.old self.new result }
+        ensures fit { IsFit script.now self.new }
         ensures frames { self.new.frames ≡ self.old.frames }
     {
         match next_of(body, next) {
-            Some((command, after)) => self.run(
-                Activity::Frame {
-                    locals,
-                    procedure,
-                    next: Some(after),
-                },
-                Some(locals),
-                command,
-            ),
+            Some((command, after)) => self.go_on_with(command, locals, procedure, next, after, script, steps),
             None => self.leave(locals),
         }
+    }
+
+    /// The same where the next command of the frame is known, and the number of the one after it.
+    fn go_on_with<L: Ledger>(
+        &mut self,
+        command: &Command,
+        locals: Locals,
+        procedure: u32,
+        next: Option<usize>,
+        after: usize,
+        script: &Script,
+        steps: &mut Steps<L>,
+    ) -> Turned
+        requires next { commands_from next (body_of script.now procedure) ≡ command.now ∷ commands_from (Some after) (body_of script.now procedure) }
+        requires spelled { IsSpelled script.now }
+        requires live { LocalsLive self.old.store (Some locals) }
+        requires few { HasFewHolds self.old.store }
+        requires last { self.old.store.last < 9223372036854775808 }
+        requires small { AreSmall self.old.policy.numbers }
+        requires fit { IsFit script.now self.old }
+        requires room { 2 < self.old.room }
+        requires stands { IsAtTurn script.now (activity_of.Frame locals procedure next) self.old }
+        ensures turns { TurnsFrom script.now (activity_of.Frame locals procedure next) self.old self.new result }
+        ensures fit { IsFit script.now self.new }
+        ensures frames { self.new.frames ≡ self.old.frames }
+    {
+        if let Some(generation) = self.policy.due() {
+            let top = Activity::Frame {
+                locals,
+                procedure,
+                next,
+            };
+            return self.collect(top, false, generation, script, steps);
+        }
+        let top = Activity::Frame {
+            locals,
+            procedure,
+            next: Some(after),
+        };
+        self.run(top, Some(locals), command, script, steps)
     }
 }

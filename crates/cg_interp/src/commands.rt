@@ -12,7 +12,9 @@ ghost use Rattle.cg_machine.specs.Frame.{start_frame, procedure_of};
 ghost use Rattle.cg_machine.specs.Represents.{Represents};
 ghost use Rattle.cg_machine.specs.Commands.{refused, without_commands, effect};
 ghost use Rattle.cg_interp.specs.Engines.{StandsFor, under, over};
-ghost use Rattle.cg_interp.specs.Callers.{IsCaller, without_rest, without_rest_in_frame, Changes, transition_of_change, call_of, Does};
+ghost use Rattle.cg_interp.specs.Callers.{IsCaller, without_rest, without_rest_in_frame, Changes, transition_of_change, call_of, Does, numbers_told};
+ghost use Rattle.cg_policy.specs.Policy.{with_numbers};
+ghost use Rattle.cg_collect.specs.Numbers.{AreSmall};
 ghost use Rattle.cg_interp.specs.Turns.{Makes, Keeps};
 
 use crate::activity::Activity;
@@ -27,7 +29,7 @@ use cg_value::Entry;
 
 impl<B: Kind> Engine<B> {
     /// A command was refused, which also ends the frame that it stood in.
-    fn refuse(&mut self, top: Activity, number: u8) -> Turned
+    pub fn refuse(&mut self, top: Activity, number: u8) -> Turned
         requires caller { IsCaller top }
         requires room { 0 < self.old.room }
         ensures refuses { (script : AnyScript) (w : World) → StandsFor script (under top self.old) w
@@ -39,18 +41,36 @@ impl<B: Kind> Engine<B> {
     }
 
     /// A command changed what it had to, and references are to be given up.
-    fn change(&mut self, top: Activity, line: Option<Event>, given_up: Entry) -> Turned
+    pub fn change(&mut self, top: Activity, line: Option<Event>, given_up: Entry) -> Turned
         requires caller { IsCaller top }
+        requires small { AreSmall self.old.policy.numbers }
         requires room { 1 < self.old.room }
-        ensures changes { (script : AnyScript) (after : World) → Changes script top self.old given_up after
+        ensures changes { (script : AnyScript) (after : World) → Changes script top self.old line given_up after
             → Makes script (transition_of_change line given_up after) self.new result }
         ensures keeps { Keeps self.old self.new }
     {
+        self.count_made(line);
         self.stack.push(top);
         self.stack.push(Activity::Releasing(Release::new(given_up)));
         match line {
             Some(event) => Turned::Line(event),
             None => Turned::Quiet,
+        }
+    }
+
+    /// The policy counts an object that a line tells to be made.
+    fn count_made(&mut self, line: Option<Event>)
+        requires small { AreSmall self.old.policy.numbers }
+        ensures counts { self.new.policy ≡ with_numbers (numbers_told line self.old.policy.numbers) self.old.policy }
+        ensures store { self.new.store ≡ self.old.store }
+        ensures activities { self.new.activities ≡ self.old.activities }
+        ensures room { self.new.room ≡ self.old.room }
+        ensures budget { self.new.budget ≡ self.old.budget }
+        ensures frames { self.new.frames ≡ self.old.frames }
+    {
+        match line {
+            Some(Event::Made { .. }) => self.policy.made(),
+            _ => {}
         }
     }
 
@@ -90,6 +110,7 @@ impl<B: Kind> Engine<B> {
         requires caller { IsCaller top }
         requires few { (f : ℕ) → done ≡ Ok (done_of.Calls f) → HasFewHolds self.old.store }
         requires live { (f : ℕ) → done ≡ Ok (done_of.Calls f) → IsLive self.old.store f }
+        requires small { AreSmall self.old.policy.numbers }
         requires room { 1 < self.old.room }
         ensures does { (script : AnyScript) (w : World) (command : AnyCommand) (before : Store)
             → StandsFor script (over before (under top self.old)) w → IsForObjects command
@@ -107,6 +128,7 @@ impl<B: Kind> Engine<B> {
         requires caller { IsCaller top }
         requires few { (f : ℕ) → done ≡ done_of.Calls f → HasFewHolds self.old.store }
         requires live { (f : ℕ) → done ≡ done_of.Calls f → IsLive self.old.store f }
+        requires small { AreSmall self.old.policy.numbers }
         requires room { 1 < self.old.room }
         ensures does { (script : AnyScript) (w : World) (command : AnyCommand) (before : Store)
             → StandsFor script (over before (under top self.old)) w → IsForObjects command

@@ -5,6 +5,8 @@ ghost use Rattle.cg_machine.specs.World.{World};
 ghost use Rattle.cg_machine.specs.Frame.{begin_death};
 ghost use Rattle.cg_death.specs.Activities.{IsUnheld, HasHolds};
 ghost use Rattle.cg_death.specs.Deaths.{held_by, IsReady};
+ghost use Rattle.cg_death.specs.Answers.{numbers_after};
+ghost use Rattle.cg_policy.specs.Policy.{with_numbers};
 ghost use Rattle.cg_heap.specs.Calls.{HasFewHolds};
 ghost use Rattle.cg_interp.specs.declared.activity.Activity.TheVariants as activity_of;
 ghost use Rattle.cg_interp.specs.Engines.{StandsFor, under};
@@ -15,6 +17,7 @@ use crate::engine::Engine;
 use crate::turned::{Dies, Turned};
 use cg_death::{Death, DeathStep};
 use cg_kind::Kind;
+use cg_machine::Event;
 use cg_script::Script;
 
 impl<B: Kind> Engine<B> {
@@ -52,9 +55,26 @@ impl<B: Kind> Engine<B> {
         match answer {
             DeathStep::Continue => Dies::Turned(Turned::Quiet),
             DeathStep::Gone => Dies::Turned(Turned::Quiet),
-            DeathStep::Emit(event) => Dies::Turned(Turned::Line(event)),
+            DeathStep::Emit(event) => {
+                self.count_freed(event);
+                Dies::Turned(Turned::Line(event))
+            }
             DeathStep::Frame(spec) => Dies::Turned(self.start(spec)),
             DeathStep::Died(object) => Dies::Died(object),
+        }
+    }
+
+    /// The policy counts an object that a line tells to be freed.
+    fn count_freed(&mut self, event: Event)
+        ensures counts { self.new.policy ≡ with_numbers (numbers_after event self.old.policy.numbers) self.old.policy }
+        ensures store { self.new.store ≡ self.old.store }
+        ensures activities { self.new.activities ≡ self.old.activities }
+        ensures budget { self.new.budget ≡ self.old.budget }
+        ensures keeps { Keeps self.old self.new }
+    {
+        match event {
+            Event::Free(_) => self.policy.freed(),
+            _ => {}
         }
     }
 
@@ -63,6 +83,7 @@ impl<B: Kind> Engine<B> {
         requires { 0 < self.old.room }
         ensures stays { StaysOn death self.old.activities self.new.activities }
         ensures store { self.new.store ≡ self.old.store }
+        ensures policy { self.new.policy ≡ self.old.policy }
         ensures budget { self.new.budget ≡ self.old.budget }
         ensures room { self.old.room ≤ self.new.room + 1 }
         ensures keeps { Keeps self.old self.new }

@@ -2,12 +2,14 @@
 use crate::stack::Stack;
 use cg_heap::Heap;
 use cg_kind::Kind;
+use cg_policy::Policy;
 use std::marker::Model;
 
-/// A heap, and what is under way over it.
+/// A heap, the numbers of the collector, and what is under way over them.
 #[derive(Drop)]
 pub struct Engine<B: Kind> {
     pub heap: Heap<B>,
+    pub policy: Policy,
     pub stack: Stack,
     // The frames that may still start.
     pub budget: u32,
@@ -27,6 +29,7 @@ impl<B: Kind> Model for Engine<B> {
 
     ghost view = { λ e. record {
       store = e.heap;
+      policy = e.policy;
       activities = e.stack.activities;
       room = e.stack.room;
       budget = e.budget;

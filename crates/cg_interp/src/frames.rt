@@ -74,6 +74,7 @@ impl<B: Kind> Engine<B> {
         requires room { 0 < self.old.room }
         ensures top { self.new.activities ≡ with_release_on release self.old.activities }
         ensures store { self.new.store ≡ self.old.store }
+        ensures policy { self.new.policy ≡ self.old.policy }
         ensures budget { self.new.budget ≡ self.old.budget }
         ensures keeps { Keeps self.old self.new }
     {

@@ -3,7 +3,9 @@
 
 mod activity;
 mod callers;
+mod collecting;
 mod commands;
+mod controls;
 mod deaths;
 mod engine;
 mod frames;

@@ -10,6 +10,7 @@ use crate::engine::Engine;
 use crate::stack::Stack;
 use cg_heap::Heap;
 use cg_kind::Kind;
+use cg_policy::Policy;
 use cg_script::Script;
 use std::alloc::{AllocError, Global};
 
@@ -28,11 +29,12 @@ impl<B: Kind> Engine<B> {
         ensures fit { IfOk result (λ e. IsFit script.now e) }
         ensures frames { IfOk result (λ e. e.frames ≡ budget) }
     {
-        // Room for the frames, two for the one object, and eight to spare.
+        // Room for the frames, two for the one object, and eight to spare, which is enough for a collection.
         let mut stack = Stack::new(alloc, budget as usize + 10)?;
         stack.push(Activity::Script { next: Some(0) });
         Ok(Engine {
             heap,
+            policy: Policy::new(),
             stack,
             budget,
             frames: budget,

@@ -1,13 +1,15 @@
 //! Runs of scripts.
-ghost use Rattle.std.specs.Prelude.{◌≡◌, ◌≢◌, ◌≤◌, length, IfOk, OnErr};
+ghost use Rattle.std.specs.Prelude.{◌≡◌, ◌≢◌, ◌<◌, ◌≤◌, List, length, IfOk, OnErr};
 ghost use Rattle.std.specs.Io.KnownBytes.{Keeps};
 ghost use Rattle.cg_io.specs.Causes.{Rose, HasCause};
 ghost use Rattle.cg_script.specs.Spelled.{IsSpelled};
 ghost use Rattle.cg_script.specs.Texts.{TextsAreKnown};
 ghost use Rattle.cg_graph.specs.Changes.{opening_store};
+ghost use Rattle.cg_machine.specs.declared.event.Event.{Event as AnyEvent};
 ghost use Rattle.cg_machine.specs.World.{World, Ended, BudgetIsSpent, opening};
-ghost use Rattle.cg_machine.specs.Lawful.{StaysLawful};
+ghost use Rattle.cg_laws.specs.Kept.{StaysKept};
 ghost use Rattle.cg_interp.specs.Engines.{StandsFor};
+ghost use Rattle.cg_interp.specs.Collecting.{StandsWith};
 ghost use Rattle.cg_interp.specs.Tables.{IsTableOf};
 ghost use Rattle.cg_interp.specs.Turns.{IsFit};
 ghost use Rattle.cg_interp.specs.Written.{WroteRun, WrotePart};
@@ -17,12 +19,15 @@ use crate::engine::Engine;
 use crate::table::Table;
 use crate::turned::Turned;
 use crate::writing::write_answer;
-use cg_heap::Heap;
+use cg_heap::{Heap, Steps};
 use cg_io::{Sink, WriteFailed};
 use cg_kind::Kind;
-use cg_machine::{fronts_begin_whole_texts, lines_are_printable, runs_stay_lawful};
+use cg_laws::worlds_stay_kept;
+use cg_machine::{fronts_begin_whole_texts, lines_are_printable};
 use cg_script::Script;
 use std::alloc::Global;
+use std::marker::Brand;
+use std::sync::ledger::{Blank, Ledger};
 
 /// How a run ended.
 #[derive(Clone, Copy, Debug, PartialEq, Eq)]
@@ -38,26 +43,29 @@ pub enum RunEnd {
 }
 
 /// One turn, and its line.
-fn turn_and_write<B: Kind, K: Sink>(
+fn turn_and_write<B: Kind, K: Sink, L: Ledger>(
     engine: &mut Engine<B>,
     table: &Table,
     script: &Script,
+    steps: &mut Steps<L>,
     sink: &mut K,
 ) -> Result<Turned, WriteFailed>
     requires table { IsTableOf script.now table.now.commands.items table.now.procedures.items }
     requires spelled { IsSpelled script.now }
     requires fit { IsFit script.now engine.old }
-    requires stands { (w : World) × StandsFor script.now engine.old w
-        × StaysLawful script.now engine.old.frames w × StaysPrintable script.now w }
-    ensures ok { IfOk result (λ answer. (w : World) → StandsFor script.now engine.old w → StaysLawful script.now engine.old.frames w
-        → WritesTurn script.now w engine.new answer (K.written sink.old) (K.written sink.new)) }
-    ensures err { OnErr result ((w : World) → StandsFor script.now engine.old w → StaysLawful script.now engine.old.frames w
-        → CutsTurn script.now w engine.new (K.written sink.old) (K.written sink.new)) }
+    requires stands { (w : World) × (left : List AnyEvent) × StandsWith script.now engine.old left w
+        × StaysKept script.now engine.old.frames w × StaysPrintable script.now left w }
+    ensures ok { IfOk result (λ answer. (w : World) (left : List AnyEvent) → StandsWith script.now engine.old left w
+        → StaysKept script.now engine.old.frames w
+        → WritesTurn script.now engine.old w left engine.new answer (K.written sink.old) (K.written sink.new)) }
+    ensures err { OnErr result ((w : World) (left : List AnyEvent) → StandsWith script.now engine.old left w
+        → StaysKept script.now engine.old.frames w
+        → CutsTurn script.now engine.old w left engine.new (K.written sink.old) (K.written sink.new)) }
     ensures cause { HasCause (K.faults sink.old) (K.faults sink.new) result }
     ensures fit { IsFit script.now engine.new }
     ensures frames { engine.new.frames ≡ engine.old.frames }
 {
-    let answer = engine.turn(table, script);
+    let answer = engine.turn(table, script, steps);
     match write_answer(answer, &script.names, sink) {
         Ok(()) => Ok(answer),
         Err(fault) => Err(fault),
@@ -65,10 +73,11 @@ fn turn_and_write<B: Kind, K: Sink>(
 }
 
 /// Turns, each with its line, until the run has ended or the sink has failed.
-fn run_turns<B: Kind, K: Sink>(
+fn run_turns<B: Kind, K: Sink, L: Ledger>(
     engine: &mut Engine<B>,
     table: &Table,
     script: &Script,
+    steps: &mut Steps<L>,
     sink: &mut K,
 ) -> RunEnd
     requires table { IsTableOf script.now table.now.commands.items table.now.procedures.items }
@@ -88,7 +97,7 @@ fn run_turns<B: Kind, K: Sink>(
 {
     fronts_begin_whole_texts();
     'turns: loop {
-        match turn_and_write(engine, table, script, sink) {
+        match turn_and_write(engine, table, script, steps, sink) {
             Ok(Turned::Quiet) => {}
             Ok(Turned::Line(_)) => {}
             Ok(Turned::Ended) => return RunEnd::Done,
@@ -96,6 +105,41 @@ fn run_turns<B: Kind, K: Sink>(
             Err(WriteFailed) => return RunEnd::WriteFault,
         }
     }
+}
+
+/// The same on a heap that is not yet run.
+fn open_and_run<B: Kind, K: Sink, L: Ledger>(
+    alloc: Global,
+    heap: Heap<B>,
+    script: &Script,
+    budget: u32,
+    sink: &mut K,
+    blank: Blank,
+) -> RunEnd
+    requires spelled { IsSpelled script.now }
+    requires known { TextsAreKnown script.now }
+    requires heap { heap ≡ opening_store (length script.now.names) }
+    requires budget { budget ≤ 100000 }
+    requires name { blank.name ≡ L.name }
+    requires parts { blank.parts ≡ L.parts }
+    requires some { 0 < blank.parts }
+    ensures done { result ≡ RunEnd.Done → WroteRun script.now budget Ended (K.written sink.old) (K.written sink.new) }
+    ensures spent { result ≡ RunEnd.Budget → WroteRun script.now budget BudgetIsSpent (K.written sink.old) (K.written sink.new) }
+    ensures part { result ≡ RunEnd.WriteFault → WrotePart script.now budget (K.written sink.old) (K.written sink.new) }
+    ensures cause { result ≡ RunEnd.WriteFault → Rose (K.faults sink.old) (K.faults sink.new) }
+    ensures memory { result ≡ RunEnd.OutOfMemory → Keeps (K.written sink.old) (K.written sink.new) }
+    ensures later { K.faults sink.old ≤ K.faults sink.new }
+{
+    worlds_stay_kept();
+    lines_are_printable();
+    let Ok(table) = Table::new(alloc, script) else {
+        return RunEnd::OutOfMemory;
+    };
+    let Ok(mut engine) = Engine::new(alloc, heap, script, budget) else {
+        return RunEnd::OutOfMemory;
+    };
+    let mut steps = Steps::<L>::new(blank);
+    run_turns(&mut engine, &table, script, &mut steps, sink)
 }
 
 /// Runs a script that some bytes spell, with a budget of at most 100,000 frames, on a heap as `Heap::new` leaves it for the
@@ -121,13 +165,6 @@ pub fn run_script<B: Kind, K: Sink>(
     ensures memory { result ≡ RunEnd.OutOfMemory → Keeps (K.written sink.old) (K.written sink.new) }
     ensures later { K.faults sink.old ≤ K.faults sink.new }
 {
-    runs_stay_lawful();
-    lines_are_printable();
-    let Ok(table) = Table::new(alloc, script) else {
-        return RunEnd::OutOfMemory;
-    };
-    let Ok(mut engine) = Engine::new(alloc, heap, script, budget) else {
-        return RunEnd::OutOfMemory;
-    };
-    run_turns(&mut engine, &table, script, sink)
+    // How many entries collections look at is counted by contracts alone.
+    open_and_run::<B, K, Brand>(alloc, heap, script, budget, sink, Blank::new(1))
 }

@@ -1,13 +1,12 @@
 //! One turn of a run.
 ghost use Rattle.std.specs.Prelude.{◌≡◌};
-ghost use Rattle.cg_machine.specs.World.{World};
-ghost use Rattle.cg_machine.specs.Lawful.{StaysLawful};
 ghost use Rattle.cg_script.specs.declared.Script.{Script as AnyScript};
 ghost use Rattle.cg_script.specs.Spelled.{IsSpelled};
 ghost use Rattle.cg_interp.specs.declared.activity.Activity.TheVariants as activity_of;
-ghost use Rattle.cg_interp.specs.Engines.{StandsFor};
 ghost use Rattle.cg_interp.specs.Tables.{IsTableOf};
-ghost use Rattle.cg_interp.specs.Turns.{Turns, IsFit, StaysFit, IsAtTurn, TurnsFrom};
+ghost use Rattle.cg_interp.specs.Engines.{under};
+ghost use Rattle.cg_interp.specs.Turns.{IsFit, StaysFit};
+ghost use Rattle.cg_interp.specs.Telling.{IsAtTurn, TurnsFrom, IsAtAnyTurn, TurnsAny};
 
 use crate::activity::Activity;
 use crate::engine::Engine;
@@ -15,51 +14,72 @@ use crate::table::Table;
 use crate::turned::{Dies, Turned};
 use cg_commands::Locals;
 use cg_death::{Death, Release};
+use cg_heap::Steps;
 use cg_kind::Kind;
 use cg_script::Script;
+use std::sync::ledger::Ledger;
 
 impl<B: Kind> Engine<B> {
     /// One turn: what is on top goes on.
-    pub fn turn(&mut self, table: &Table, script: &Script) -> Turned
+    pub fn turn<L: Ledger>(
+        &mut self,
+        table: &Table,
+        script: &Script,
+        steps: &mut Steps<L>,
+    ) -> Turned
         requires table { IsTableOf script.now table.now.commands.items table.now.procedures.items }
         requires spelled { IsSpelled script.now }
         requires fit { IsFit script.now self.old }
-        requires stands { (w : World) × StandsFor script.now self.old w × StaysLawful script.now self.old.frames w }
-        ensures turns { (w : World) → StandsFor script.now self.old w → StaysLawful script.now self.old.frames w
-            → Turns script.now w self.new result }
+        requires stands { IsAtAnyTurn script.now self.old }
+        ensures turns { TurnsAny script.now self.old self.new result }
         ensures fit { IsFit script.now self.new }
         ensures frames { self.new.frames ≡ self.old.frames }
     {
         match self.stack.pop() {
-            Some(top) => self.turn_of(top, table, script),
+            Some(top) => self.turn_of(top, table, script, steps),
             None => unreachable!(),
         }
     }
 
     /// A turn of the activity that was on top.
-    fn turn_of(&mut self, top: Activity, table: &Table, script: &Script) -> Turned
+    fn turn_of<L: Ledger>(
+        &mut self,
+        top: Activity,
+        table: &Table,
+        script: &Script,
+        steps: &mut Steps<L>,
+    ) -> Turned
         requires table { IsTableOf script.now table.now.commands.items table.now.procedures.items }
         requires spelled { IsSpelled script.now }
         requires fit { IsFit script.now self.old }
-        requires stands { IsAtTurn script.now top self.old }
-        ensures turns { TurnsFrom script.now top self.old self.new result }
+        requires stands { IsAtAnyTurn script.now (under top self.old) }
+        ensures turns { TurnsAny script.now (under top self.old) self.new result }
         ensures fit { IsFit script.now self.new }
         ensures frames { self.new.frames ≡ self.old.frames }
     {
         match top {
-            Activity::Script { next } => self.turn_of_script(table, script, next),
+            Activity::Script { next } => self.turn_of_script(table, script, next, steps),
             Activity::Frame {
                 locals,
                 procedure,
                 next,
-            } => self.turn_of_frame(table, script, locals, procedure, next),
+            } => self.turn_of_frame(table, script, locals, procedure, next, steps),
             Activity::Releasing(release) => self.turn_of_release(release),
             Activity::Dying(death) => self.turn_of_death(script, death),
+            Activity::Collecting { asked, collection } => {
+                self.turn_of_collection(asked, collection, script, steps)
+            }
         }
     }
 
     /// A turn of the script, which was on top.
-    fn turn_of_script(&mut self, table: &Table, script: &Script, next: Option<usize>) -> Turned
+    fn turn_of_script<L: Ledger>(
+        &mut self,
+        table: &Table,
+        script: &Script,
+        next: Option<usize>,
+        steps: &mut Steps<L>,
+    ) -> Turned
         requires table { IsTableOf script.now table.now.commands.items table.now.procedures.items }
         requires spelled { IsSpelled script.now }
         requires fit { IsFit script.now self.old }
@@ -69,17 +89,18 @@ impl<B: Kind> Engine<B> {
         ensures frames { self.new.frames ≡ self.old.frames }
     {
         self.heap.sound();
-        self.go_on(table, script, next)
+        self.go_on(table, script, next, steps)
     }
 
     /// A turn of a frame, which was on top.
-    fn turn_of_frame(
+    fn turn_of_frame<L: Ledger>(
         &mut self,
         table: &Table,
         script: &Script,
         locals: Locals,
         procedure: u32,
         next: Option<usize>,
+        steps: &mut Steps<L>,
     ) -> Turned
         requires table { IsTableOf script.now table.now.commands.items table.now.procedures.items }
         requires spelled { IsSpelled script.now }
@@ -91,7 +112,7 @@ impl<B: Kind> Engine<B> {
         ensures frames { self.new.frames ≡ self.old.frames }
     {
         self.heap.sound();
-        self.go_on_in(table.body(script, procedure), locals, procedure, next)
+        self.go_on_in(table.body(script, procedure), locals, procedure, next, script, steps)
     }
 
     /// A turn of a release, which was on top.

@@ -1,0 +1,70 @@
+-- What a turn answers where a collection on top may have lines left to tell. (Ours.)
+use Rattle.std.specs.Prelude.{◌≡◌, ◌≢◌, ℕ, ◌<◌, ◌⊎◌, Bool, List, [], ◌∷◌, ◌++◌, length}
+use Rattle.cg_script.specs.declared.Script.{Script}
+use Rattle.cg_graph.specs.Store.{Store}
+use Rattle.cg_machine.specs.declared.event.Event.{Event}
+use Rattle.cg_machine.specs.declared.event.Event.TheVariants.{End, BudgetSpent}
+use Rattle.cg_machine.specs.World.{World, Ended, BudgetIsSpent}
+use Rattle.cg_machine.specs.Represents.{Goes}
+use Rattle.cg_laws.specs.Kept.{StaysKept}
+use Rattle.cg_collect.specs.declared.collection.Collection.{Collection}
+use Rattle.cg_collect.specs.Collections.{CollectFalls}
+use Rattle.cg_interp.specs.declared.activity.Activity.{Activity}
+use Rattle.cg_interp.specs.declared.activity.Activity.TheVariants as activity
+use Rattle.cg_interp.specs.declared.turned.Turned.{Turned}
+use Rattle.cg_interp.specs.declared.turned.Turned.TheVariants as turned
+use Rattle.cg_interp.specs.Engines.{State, StandsFor, under}
+use Rattle.cg_interp.specs.Collecting.{StandsWith, Collects}
+use Rattle.cg_interp.specs.Turns.{EndsWith}
+
+-- The machine goes on, or rests where that is allowed: what it prints besides the lines that were left is what is told and
+-- the lines that are left now, for which the engine stands.
+pub record GoesOnTo (script : Script) (may_rest : List Event → Type 0) (w : World) (left told : List Event) (e : State) : Type 0 where
+  pub events : List Event
+  pub after : World
+  pub still : List Event
+  pub goes : Goes script w events after
+  pub lines : left ++ events ≡ told ++ still
+  pub moves : (goes.steps ≢ []) ⊎ may_rest still
+  pub stands : StandsWith script e still after
+
+-- what a turn answers; the run ends only where no line is left
+abbrev pub TurnsWith : Script → (List Event → Type 0) → World → List Event → State → Turned → Type 0
+TurnsWith script may_rest w left e turned.Quiet = GoesOnTo script may_rest w left [] e
+TurnsWith script may_rest w left e (turned.Line event) = GoesOnTo script may_rest w left (event ∷ []) e
+TurnsWith script may_rest w left e turned.Ended = (left ≡ []) × EndsWith script w End Ended
+TurnsWith script may_rest w left e turned.Spent = (left ≡ []) × EndsWith script w BudgetSpent BudgetIsSpent
+
+-- The collection on top has come nearer to its end, or is over.
+abbrev pub IsNearer : List Activity → Store → List Activity → Store → Type 0
+IsNearer (activity.Collecting asked c ∷ below) store (activity.Collecting also d ∷ rest) now = CollectFalls c store d now
+IsNearer (activity.Collecting asked c ∷ below) store rest now = Unit {0}
+IsNearer activities store rest now = ⊥
+
+-- Without a step of the machine there are fewer lines left, or the collection on top is nearer to its end.
+abbrev pub Advances : State → List Event → State → List Event → Type 0
+Advances old left new still = (length still < length left) ⊎ ((length still ≡ length left) × IsNearer old.activities old.store new.activities new.store)
+
+-- With this activity on top the engine stands for a world of a run.
+abbrev pub IsAtTurn : Script → Activity → State → Type 0
+IsAtTurn script top e = (w : World) × StandsFor script (under top e) w × StaysKept script e.frames w
+
+-- From each such world the machine goes on as is answered, by a step at least.
+abbrev pub TurnsFrom : Script → Activity → State → State → Turned → Type 0
+TurnsFrom script top old new answer = (w : World) → StandsFor script (under top old) w → StaysKept script old.frames w → TurnsWith script (λ still. ⊥) w [] new answer
+
+-- the same of an engine as it stands, where a collection may be on top and have lines left
+abbrev pub IsAtAnyTurn : Script → State → Type 0
+IsAtAnyTurn script e = (w : World) × (left : List Event) × StandsWith script e left w × StaysKept script e.frames w
+
+abbrev pub TurnsAny : Script → State → State → Turned → Type 0
+TurnsAny script old new answer = (w : World) (left : List Event) → StandsWith script old left w → StaysKept script old.frames w → TurnsWith script (Advances old left new) w left new answer
+
+-- A collection is on top of a world of a run, and may take its next step.
+abbrev pub CollectsNext : Script → Bool → Collection → State → Type 0
+CollectsNext script asked c e = (w : World) × (left : List Event) × Collects script asked c e left w × StaysKept script e.frames w
+
+-- From each such world the machine goes on as is answered.
+abbrev pub CollectTurns : Script → Bool → Collection → State → State → Turned → Type 0
+CollectTurns script asked c old new answer = (w : World) (left : List Event) → Collects script asked c old left w → StaysKept script old.frames w
+    → TurnsWith script (Advances (under (activity.Collecting asked c) old) left new) w left new answer
