@@ -6,7 +6,7 @@ ghost use Rattle.cg_policy.specs.Policy.{Policy as Standing};
 ghost use Rattle.cg_collect.specs.declared.collection.Facts.{Facts as AnyFacts};
 ghost use Rattle.cg_collect.specs.declared.phase.Phase.TheVariants as phase_of;
 ghost use Rattle.cg_collect.specs.Ready.{IsReadyAt};
-ghost use Rattle.cg_collect.specs.Turns.{TurnSteps, TurnFalls, TurnLeaves, StaysReady};
+ghost use Rattle.cg_collect.specs.Turns.{TurnSteps, TurnFalls, TurnLeaves, StaysReady, KeepsObjects};
 
 use crate::answer::CollectStep;
 use crate::collection::Facts;
@@ -26,6 +26,7 @@ pub fn detect<B: Kind, L: Ledger>(facts: Facts, heap: &mut Heap<B>, steps: &mut 
     ensures ready { StaysReady heap.new facts.generation result.phase result.answer }
     ensures falls { TurnFalls heap.old phase_of.Split heap.new result }
     ensures leaves { TurnLeaves heap.old phase_of.Split heap.new result }
+    ensures keeps { KeepsObjects heap.old heap.new }
 {
     heap.sound();
     split(heap, Place::Cand, steps);
@@ -64,6 +65,7 @@ pub fn detach_one<B: Kind>(heap: &mut Heap<B>, next: Option<u64>) -> Turn
     ensures ready { (g : ℕ) → StaysReady heap.new g result.phase result.answer }
     ensures falls { TurnFalls heap.old (phase_of.Detaching next) heap.new result }
     ensures leaves { TurnLeaves heap.old (phase_of.Detaching next) heap.new result }
+    ensures keeps { KeepsObjects heap.old heap.new }
 {
     let Some(object) = next else {
         return Turn::to(Phase::Turns);

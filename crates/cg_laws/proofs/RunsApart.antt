@@ -4,9 +4,8 @@ use Rattle.cg_script.specs.declared.Script.{Script}
 use Rattle.cg_graph.specs.Object.{Object}
 use Rattle.cg_graph.proofs.Members.{either}
 use Rattle.cg_machine.specs.declared.event.Event.{Event}
-use Rattle.cg_machine.specs.World.{World, Activity, TopLevel, Framed, Releasing, Dying, Collecting, Collection, opening}
+use Rattle.cg_machine.specs.World.{World, Activity, TopLevel, Framed, Releasing, Dying, Collecting, opening}
 use Rattle.cg_machine.specs.Holdings.{is_collection}
-use Rattle.cg_machine.specs.Collect.{CollectStep}
 use Rattle.cg_machine.specs.Run.{StepTaken, StepOf, Run, last_world}
 use Rattle.cg_machine.specs.Laws.{IsOfCollection}
 use Rattle.cg_machine.specs.Lawful.{IsLawful, StaysLawful}
@@ -20,12 +19,9 @@ use Rattle.cg_machine.proofs.RunsOrderly.{step_orderly_on, opening_orderly}
 use Rattle.cg_machine.proofs.LeftRuns.{LeavesUnder, step_leaves_on, leaves_below}
 use Rattle.cg_machine.proofs.Lawful.{stay_lawful}
 use Rattle.cg_laws.specs.Apart.{IsGarbageList, IsFound, IsApart, CollectionsAreApart}
+use Rattle.cg_laws.proofs.CollectApart.{collect_apart}
 use Rattle.cg_laws.proofs.StepsPlain.{IsPlainUnder, step_plain}
 use Rattle.cg_laws.proofs.StepsApart.{step_apart}
-
--- what a step of a collection keeps
-abbrev pub CollectionsKeepApart : Type 0
-CollectionsKeepApart = (script : Script) (budget : ℕ) (w : World) (c : Collection) (below : List Activity) (events : List Event) (after : World) → w.stack ≡ Collecting c ∷ below → IsLawful script budget w → IsApart w → CollectStep script w c below events after → IsApart after
 
 opening_apart : (script : Script) (budget : ℕ) → IsApart (opening script budget)
 opening_apart script budget = record {
@@ -45,14 +41,15 @@ other_apart script w a below events after top none step sound calm order h =
     let plain : IsPlainUnder w.objects (a ∷ below) after = subst (λ st. IsPlainUnder w.objects st after) top (step_plain script w w.stack events after h.garbage made.1 step calm) in
     step_apart w a below after top none sound.rises (leaves_below script w a below after top sound.rises stack.1 order left) (plain none) h
 
-module _ (keeps : CollectionsKeepApart) (script : Script) (budget : ℕ) where
+-- a step, and a run
+module _ (script : Script) (budget : ℕ) where
   step_keeps : (w : World) (stack : List Activity) (events : List Event) (after : World) → w.stack ≡ stack → StepOf script w w.stack events after → Sound w → Calm script w → HasOrder w → IsLawful script budget w → IsApart w → IsApart after
   step_keeps w [] events after top step sound calm order lawful h = absurd (subst (λ st. StepOf script w st events after) top step)
   step_keeps w (TopLevel commands ∷ below) events after top step sound calm order lawful h = other_apart script w (TopLevel commands) below events after top refl step sound calm order h
   step_keeps w (Framed f ∷ below) events after top step sound calm order lawful h = other_apart script w (Framed f) below events after top refl step sound calm order h
   step_keeps w (Releasing references ∷ below) events after top step sound calm order lawful h = other_apart script w (Releasing references) below events after top refl step sound calm order h
   step_keeps w (Dying d ∷ below) events after top step sound calm order lawful h = other_apart script w (Dying d) below events after top refl step sound calm order h
-  step_keeps w (Collecting c ∷ below) events after top step sound calm order lawful h = keeps script budget w c below events after top lawful h (subst (λ st. StepOf script w st events after) top step)
+  step_keeps w (Collecting c ∷ below) events after top step sound calm order lawful h = collect_apart script budget w c below events after top lawful h (subst (λ st. StepOf script w st events after) top step)
 
   apart_after : (w : World) (steps : List StepTaken) → Sound w → Calm script w → HasOrder w → StaysLawful script budget w → IsApart w → Run script w steps → IsApart (last_world w steps)
   apart_after w [] sound calm order lawful h run = h
@@ -60,5 +57,5 @@ module _ (keeps : CollectionsKeepApart) (script : Script) (budget : ℕ) where
       apart_after step.world steps (step_falls script w step.events step.world run.0 sound).0 (step_calm script w step.events step.world run.0 sound calm) (step_orderly_on script w w.stack step.events step.world sound.rises run.0.step calm order) (λ more goes. lawful (step ∷ more) (run.0, goes))
       (step_keeps w w.stack step.events step.world refl run.0.step sound calm order (lawful [] tt) h) run.1
 
-pub apart_if : CollectionsKeepApart → CollectionsAreApart
-apart_if keeps script budget steps run = apart_after keeps script budget (opening script budget) steps (opening_sound script budget) (opening_calm script budget) (opening_orderly script budget) (stay_lawful script budget [] tt) (opening_apart script budget) run
+pub runs_apart : CollectionsAreApart
+runs_apart script budget steps run = apart_after script budget (opening script budget) steps (opening_sound script budget) (opening_calm script budget) (opening_orderly script budget) (stay_lawful script budget [] tt) (opening_apart script budget) run

@@ -1,5 +1,5 @@
 -- What the steps of a collection keep of the objects: each stands rightly, and the garbage list stays untracked.
-use Rattle.std.proofs.Common.{◌≡◌, ◌≢◌, refl, sym, ◌∙◌, ap, subst, ℕ, ◌-◌, ◌≤◌, Bool, true, false, cond, inl, inr, List, [], ◌∷◌, map, Some, arith}
+use Rattle.std.proofs.Common.{◌≡◌, ◌≢◌, refl, sym, ◌∙◌, ap, subst, ℕ, ◌-◌, ◌≤◌, Bool, true, false, cond, inl, inr, List, [], ◌∷◌, map, Some, None, arith}
 use Rattle.std.specs.Prelude.{◌==◌, if◌then◌else◌, count_by, option_map, unwrap_or}
 use Rattle.std.specs.List.{list_any}
 use Rattle.std.proofs.lemmas.List.Sums.{sum_by-cons}
@@ -8,7 +8,7 @@ use Rattle.cg_value.specs.declared.Place.TheVariants.{Untracked, Gen, Frozen, Ca
 use Rattle.cg_script.specs.declared.Script.{Script}
 use Rattle.cg_graph.specs.Member.{Includes}
 use Rattle.cg_graph.specs.Value.{references}
-use Rattle.cg_graph.specs.Object.{Object, object_at, entries_of, is_at, same_place, objects_at, serials_at}
+use Rattle.cg_graph.specs.Object.{Object, object_at, entries_of, is_at, same_place, with_place, with_referent, objects_at, serials_at}
 use Rattle.cg_graph.proofs.Members.{either, Includes-map_cases, Includes-filter_cases}
 use Rattle.cg_machine.specs.declared.event.Event.TheVariants.{Enter, BudgetSpent}
 use Rattle.cg_machine.specs.declared.event.FrameSpec.{FrameSpec}
@@ -16,6 +16,7 @@ use Rattle.cg_machine.specs.Program.{body_of}
 use Rattle.cg_machine.specs.World.{World, Activity, Framed, Releasing, Collecting, Collection, CollectPhase, BudgetIsSpent, push}
 use Rattle.cg_machine.specs.Holdings.{is_collection}
 use Rattle.cg_machine.specs.Frame.{Transition, start_frame}
+use Rattle.cg_machine.specs.Weak.{loses_referent}
 use Rattle.cg_machine.specs.Laws.{IsOfCollection}
 use Rattle.cg_machine.specs.Collect.{collection_at}
 use Rattle.cg_laws.specs.Apart.{StandsRightly, IsFound, IsGarbageList, handles, IsApart}
@@ -59,6 +60,7 @@ collects w d below s alone h = record {
     same : (e : Collection) → Includes w.stack (Collecting e) → d ≡ e
     same e m = either (subst (λ st. Includes st (Collecting e)) s m) (λ i. let is : d ≡ e = cc in is) (λ k. absurd (alone e k))
 
+-- a collection goes to a phase in which the objects stand rightly
 pub goes_to : (d : Collection) (next : CollectPhase) (below : List Activity) (v : World) → NoneCollects below → AreApart v.objects next → IsApart (collection_at d next below v)
 goes_to d next below v alone h = collects (collection_at d next below v) (record d { phase = next }) below refl alone h
 
@@ -93,6 +95,11 @@ pub record Keeps (f : Object → Object) : Type 0 where
   pub code : (x : Object) → (f x).code ≡ x.code
   pub entries : (x : Object) → (f x).entries ≡ x.entries
 
+-- another place is such a change
+pub places_kept : (places : Object → Place) → Keeps (λ x. with_place (places x) x)
+places_kept places = record { serial = λ x. refl; code = λ x. refl; entries = λ x. refl }
+
+-- so is one that a test decides on
 pub kept_if : (f : Object → Object) → Keeps f → (test : Object → Bool) → Keeps (λ x. if test x then f x else x)
 kept_if f k test = record { serial = λ x. serial (test x) x; code = λ x. code (test x) x; entries = λ x. entries (test x) x }
   where
@@ -108,6 +115,7 @@ kept_if f k test = record { serial = λ x. serial (test x) x; code = λ x. code 
     entries true x = k.entries x
     entries false x = refl
 
+-- the entries that are found by a serial stay
 pub entries_kept : (f : Object → Object) → Keeps f → (objects : List Object) (o : ℕ) → entries_of (map f objects) o ≡ entries_of objects o
 entries_kept f k [] o = refl
 entries_kept f k (x ∷ objects) o =
@@ -182,3 +190,13 @@ pub moved : (f : Object → Object) (test : Object → Bool) (objects : List Obj
     → AreApart (map (λ x. if test x then f x else x) objects) next
 moved f test objects phase next keeps unhandled moves h =
     changed f test objects phase next keeps.serial keeps.code (entries_kept (λ x. if test x then f x else x) (kept_if f keeps test) objects 1) unhandled moves h
+
+-- a weak reference loses its referent
+pub lost_apart : (weak : ℕ) (objects : List Object) (phase : CollectPhase) → ((x : Object) → StandsRightly phase x → StandsRightly phase (with_referent None x)) → AreApart objects phase → AreApart (loses_referent weak objects) phase
+lost_apart weak objects phase still h = moved (with_referent None) (λ x. x.serial == weak) objects phase phase (record { serial = λ x. refl; code = λ x. refl; entries = λ x. refl }) h.unhandled
+    (record {
+      untracked = λ x m t one e. e;
+      chosen = λ x m t k. still x k;
+      others = λ x m t k. k;
+      found = λ x m t k. h.unsaved x m k;
+    }) h

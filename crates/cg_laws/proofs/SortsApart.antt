@@ -23,7 +23,7 @@ use Rattle.cg_machine.proofs.Releasing.{entry_held}
 use Rattle.cg_machine.proofs.Condemned.{present}
 use Rattle.cg_machine.proofs.Garbage.{survives, survives-Survives, garbage-IsGarbage, set_aside, set_aside-IsSetAside, IsSetAside-set_aside}
 use Rattle.cg_laws.specs.Apart.{IsInWeakPhase, IsFound, IsApart}
-use Rattle.cg_laws.proofs.SetsApart.{NoneCollects, AreApart, collects, found_apart, is_tracked_at, moved}
+use Rattle.cg_laws.proofs.SetsApart.{NoneCollects, AreApart, collects, found_apart, is_tracked_at, places_kept, moved}
 
 merged_clear : (g : ℕ) (p : Place) → ¬ IsOfCollection p → ¬ IsOfCollection (merged_place g p)
 merged_clear g (Gen i) h = go (nat_le i g)
@@ -106,6 +106,7 @@ weak_of_clear x clear = record {
 }
 
 module _ (script : Script) (c : Collection) (below : List Activity) (v : World) (alone : NoneCollects below) where
+  -- the merge and the sorting
   pub start_apart : (events : List Event) (after : World) → StartStep script (collection_at c Start below v) c below events after → AreApart v.objects Start → IsApart after
   start_apart events after step h = subst IsApart (sym step.world) (collects (start_world c step.places below now) (record c { phase = WeakClearing [] }) below refl alone sorted_now)
     where
@@ -116,7 +117,7 @@ module _ (script : Script) (c : Collection) (below : List Activity) (v : World) 
       now = merged g (collection_at c Start below v)
 
       merged_now : AreApart now.objects Start
-      merged_now = moved (λ x. with_place (merged_place g x.place) x) (λ x. true) v.objects Start Start (record { serial = λ x. refl; code = λ x. refl; entries = λ x. refl }) (λ k. k)
+      merged_now = moved (λ x. with_place (merged_place g x.place) x) (λ x. true) v.objects Start Start (places_kept (λ x. merged_place g x.place)) (λ k. k)
           (record {
             untracked = λ x m t one e. ap (merged_place g) e;
             chosen = λ x m t k. merged_clear g x.place k;
@@ -133,7 +134,7 @@ module _ (script : Script) (c : Collection) (below : List Activity) (v : World) 
           (survivor_sorted g (untrack g step.chosen now.objects) (untracked_if (step.chosen x) x)).1 (subst IsFound (step.sorts.survivors x member survives) found)
 
       sorted_now : AreApart (start_world c step.places below now).objects (WeakClearing [])
-      sorted_now = moved (λ x. with_place (step.places x) x) (is_at (Gen g)) now.objects Start (WeakClearing []) (record { serial = λ x. refl; code = λ x. refl; entries = λ x. refl }) (λ k. k)
+      sorted_now = moved (λ x. with_place (step.places x) x) (is_at (Gen g)) now.objects Start (WeakClearing []) (places_kept step.places) (λ k. k)
           (record {
             untracked = λ x m t one e. absurd (is_tracked_at (Gen g) x refl t e);
             chosen = λ x m t k. weak_of_sorted (step.places x) x (places_sorted script g now step.chosen step.places step.sorts x (Includes-filter (is_at (Gen g)) now.objects x t m));

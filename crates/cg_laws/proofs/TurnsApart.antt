@@ -20,7 +20,7 @@ use Rattle.cg_machine.specs.Laws.{IsOfCollection}
 use Rattle.cg_machine.specs.Collect.{collection_at, older, replaced_place, takes_turn, TurnsStep, saved, all_saved, has_flag, save_all, empties, after_turn, EndStep}
 use Rattle.cg_machine.proofs.Lookups.{references-append}
 use Rattle.cg_laws.specs.Apart.{StandsRightly, IsInLatePhase, IsFound, IsGarbageList, IsApart}
-use Rattle.cg_laws.proofs.SetsApart.{NoneCollects, AreApart, goes_to, restands, gives_up_apart, found_apart, is_tracked_at, changed, moved}
+use Rattle.cg_laws.proofs.SetsApart.{NoneCollects, AreApart, goes_to, restands, gives_up_apart, found_apart, is_tracked_at, changed, places_kept, moved}
 use Rattle.cg_laws.proofs.FinalizersApart.{root_not_at, late_at_gen}
 
 -- what is found by a serial, after a change of the object there or of another
@@ -130,7 +130,7 @@ module _ (script : Script) (c : Collection) (below : List Activity) (v : World) 
 
   -- one gets older
   older_apart : (o : ℕ) (phase : CollectPhase) → o ≢ 1 → ((x : Object) → StandsRightly phase x → IsInLatePhase x) → AreApart v.objects phase → AreApart (change (with_place place) o v.objects) Turns
-  older_apart o phase no_root late h = moved (with_place place) (λ x. x.serial == o) v.objects phase Turns (record { serial = λ x. refl; code = λ x. refl; entries = λ x. refl }) (λ k. k)
+  older_apart o phase no_root late h = moved (with_place place) (λ x. x.serial == o) v.objects phase Turns (places_kept (λ x. place)) (λ k. k)
       (record {
         untracked = λ x m t one e. absurd (no_root (sym (eqb-true x.serial o t) ∙ one));
         chosen = λ x m t k. late_at_gen (older c.generation) x;
@@ -146,6 +146,7 @@ module _ (script : Script) (c : Collection) (below : List Activity) (v : World) 
       one true x t found = absurd found
       one false x t found = λ e. let no : true ≡ false = sym (eq-eqb x.serial o (sym e)) ∙ t in cc
 
+  -- the turns
   turn_apart : (x : Object) → Includes (serials_at v.objects Cand) x.serial → AreApart v.objects Turns → IsApart (takes_turn c x below (at Turns)).1
   turn_apart x member h = go (has_flag c.flags save_all) (is_tuple x)
     where

@@ -7,7 +7,7 @@ use Rattle.cg_value.specs.declared.Place.{Place}
 use Rattle.cg_value.specs.declared.Place.TheVariants.{Gen, Seen, Back, Pend}
 use Rattle.cg_script.specs.declared.Script.{Script}
 use Rattle.cg_graph.specs.Member.{Includes}
-use Rattle.cg_graph.specs.Object.{Object, change, object_at, is_in_map, with_place, with_referent}
+use Rattle.cg_graph.specs.Object.{Object, change, object_at, is_in_map, with_place}
 use Rattle.cg_graph.specs.Holdings.{name_holdings, entry_holdings, graph_of}
 use Rattle.cg_graph.proofs.Members.{either, Includes-append_left, Includes-append_right, Includes-map_cases}
 use Rattle.cg_machine.specs.declared.event.Event.{Event}
@@ -19,7 +19,7 @@ use Rattle.cg_machine.specs.Weak.{loses_referent, callback_of}
 use Rattle.cg_machine.specs.Laws.{IsOrderly, all_waits}
 use Rattle.cg_machine.specs.Collect.{collection_at, older, waits, ClearsOne, WeakClearingStep, calls_back, after_release}
 use Rattle.cg_laws.specs.Apart.{IsInWeakPhase, IsGarbageList, IsApart}
-use Rattle.cg_laws.proofs.SetsApart.{NoneCollects, AreApart, goes_to, restands, starts_apart, gives_up_apart, moved}
+use Rattle.cg_laws.proofs.SetsApart.{NoneCollects, AreApart, goes_to, restands, starts_apart, gives_up_apart, places_kept, moved, lost_apart}
 
 -- the garbage list is no weak reference
 no_weak : (x : Object) → IsGarbageList x → x.code ≢ Weak
@@ -43,6 +43,7 @@ none_at (y ∷ objects) o x e m same = go (y.serial == o) refl e m (λ k n. none
     go false t k (inl i) rest = let no : true ≡ false = sym (eq-eqb y.serial o (ap (λ (z : Object). z.serial) i ∙ same)) ∙ t in cc
     go false t k (inr n) rest = rest k n
 
+-- where one waits, and where one goes that does not wait any more
 weak_at_pend : (waiting : List ℕ) (x : Object) → Includes waiting x.serial → IsInWeakPhase waiting (with_place Pend x)
 weak_at_pend waiting x m = record {
   seen = λ e. let no : Pend ≡ Seen = e in cc;
@@ -64,6 +65,7 @@ module _ (script : Script) (c : Collection) (below : List Activity) (v : World) 
   to : (after next : World) → after ≡ next → IsApart next → IsApart after
   to after next e h = subst IsApart (sym e) h
 
+  -- a weak reference loses its referent, and may wait
   clears_apart : (waiting : List ℕ) (events : List Event) (after : World) → ClearsOne c waiting below (at (WeakClearing waiting)) events after → IsOrderly (at (WeakClearing waiting)) → AreApart v.objects (WeakClearing waiting) → IsApart after
   clears_apart waiting events after step orderly h = to after _ step.yields.1 (go (waits v.objects step.weak))
     where
@@ -84,16 +86,10 @@ module _ (script : Script) (c : Collection) (below : List Activity) (v : World) 
       lost = loses_referent weak v.objects
 
       lost_now : AreApart lost (WeakClearing waiting)
-      lost_now = moved (with_referent None) (λ x. x.serial == weak) v.objects (WeakClearing waiting) (WeakClearing waiting) (record { serial = λ x. refl; code = λ x. refl; entries = λ x. refl }) (λ k. k)
-          (record {
-            untracked = λ x m t one e. e;
-            chosen = λ x m t k. record { seen = k.seen; back = k.back; pending = k.pending };
-            others = λ x m t k. k;
-            found = λ x m t k. h.unsaved x m k;
-          }) h
+      lost_now = lost_apart weak v.objects (WeakClearing waiting) (λ x k. record { seen = k.seen; back = k.back; pending = k.pending }) h
 
       pending_now : AreApart (change (with_place Pend) weak lost) (WeakClearing (waiting ++ weak ∷ []))
-      pending_now = moved (with_place Pend) (λ x. x.serial == weak) lost (WeakClearing waiting) (WeakClearing (waiting ++ weak ∷ [])) (record { serial = λ x. refl; code = λ x. refl; entries = λ x. refl }) (λ k. k)
+      pending_now = moved (with_place Pend) (λ x. x.serial == weak) lost (WeakClearing waiting) (WeakClearing (waiting ++ weak ∷ [])) (places_kept (λ x. Pend)) (λ k. k)
           (record {
             untracked = λ x m t one e. absurd (no_root (sym (eqb-true x.serial weak t) ∙ one));
             chosen = λ x m t k. weak_at_pend (waiting ++ weak ∷ []) x (Includes-append_right waiting (weak ∷ []) x.serial (inl (sym (eqb-true x.serial weak t))));
@@ -109,6 +105,7 @@ module _ (script : Script) (c : Collection) (below : List Activity) (v : World) 
   clearing_apart waiting events after (inl step) orderly h = clears_apart waiting events after step orderly h
   clearing_apart waiting events after (inr step) orderly h = to after _ step.1.1 (goes_to c (WeakCalling waiting) below v alone (restands (WeakClearing waiting) (WeakCalling waiting) v.objects (λ k. k) (λ x m k. k) h))
 
+  -- the callbacks
   pub calls_back_apart : (waiting : List ℕ) → IsOrderly (at (WeakCalling waiting)) → AreApart v.objects (WeakCalling waiting) → IsApart (calls_back script c waiting below (at (WeakCalling waiting))).1
   calls_back_apart [] orderly h = goes_to c Finalizing below v alone (restands (WeakCalling []) Finalizing v.objects (λ k. k) (λ x m k. (k.back, λ e. k.pending e)) h)
   calls_back_apart (weak ∷ waiting) orderly h =
@@ -132,7 +129,7 @@ module _ (script : Script) (c : Collection) (below : List Activity) (v : World) 
       others x apart k = record { seen = k.seen; back = k.back; pending = λ e. either (k.pending e) (λ i. absurd (apart (sym i))) (λ n. n) }
 
       lives : AreApart (change (with_place place) weak v.objects) (WeakCalling waiting)
-      lives = moved (with_place place) (λ x. x.serial == weak) v.objects (AfterRelease weak waiting) (WeakCalling waiting) (record { serial = λ x. refl; code = λ x. refl; entries = λ x. refl }) (λ k. k)
+      lives = moved (with_place place) (λ x. x.serial == weak) v.objects (AfterRelease weak waiting) (WeakCalling waiting) (places_kept (λ x. place)) (λ k. k)
           (record {
             untracked = λ x m t one e. absurd (h.unhandled (inl (sym (eqb-true x.serial weak t) ∙ one)));
             chosen = λ x m t k. weak_at_gen (older c.generation) waiting x;

@@ -1,16 +1,13 @@
-use Rattle.std.proofs.Common.{◌≡◌, ◌≤◌, ◌<◌, ◌∙◌, ℕ, [], ◌∷◌, None, subst, sym, ap, arith}
-use Rattle.cg_graph.specs.Holdings.{occurrences}
+use Rattle.std.proofs.Common.{◌<◌, ℕ, [], ◌∷◌, subst, sym, arith}
 use Rattle.cg_graph.specs.Store.{Store, outside_of}
 use Rattle.cg_death.specs.Activities.{HasHolds}
 use Rattle.cg_machine.proofs.Representing.{occurrences-one}
-use Rattle.cg_collect.specs.declared.answer.CollectStep.TheVariants as answer_of
 use Rattle.cg_collect.specs.declared.phase.Phase.{Phase}
-use Rattle.cg_collect.specs.declared.phase.Phase.TheVariants as phase_of
-use Rattle.cg_collect.specs.declared.phase.Turn.{Turn}
 use Rattle.cg_collect.specs.Ready.{IsReadyAt}
-use Rattle.cg_collect.specs.Turns.{TurnSteps, TurnFalls, TurnLeaves, StaysReady}
+use Rattle.cg_collect.specs.Turns.{TurnSteps, TurnFalls, TurnLeaves}
 use Rattle.cg_collect.specs.Collections.{facts_of, own_holds_at}
 use Rattle.cg_collect.proofs.GivingUp.{turn-over}
+use Rattle.cg_collect.proofs.Keeping.{keeps_all}
 use Rattle.cg_collect.proofs.collection.Collection.turn.Goals as goal
 
 pub start-requires-clause-ready : goal.start-requires-clause-ready
@@ -98,7 +95,9 @@ pub returns-in-AfterCallback-clause-falls : goal.returns-in-AfterCallback-clause
 returns-in-AfterCallback-clause-falls g c = subst (λ (p : Phase). TurnFalls c.args.heap.now p c.args.heap.now c.after_callback.result) (sym c.in-AfterCallback.is) (c.after_callback.ensures.falls c.args.heap.now)
 
 pub returns-in-AfterCallback-clause-leaves : goal.returns-in-AfterCallback-clause-leaves
-returns-in-AfterCallback-clause-leaves g c = subst (λ (p : Phase). TurnLeaves c.args.heap.now p c.args.heap.now c.after_callback.result) (sym c.in-AfterCallback.is) (c.after_callback.ensures.leaves c.args.heap.now)
+returns-in-AfterCallback-clause-leaves g c =
+    subst (λ (p : Phase). TurnLeaves c.args.heap.now p c.args.heap.now c.after_callback.result) (sym c.in-AfterCallback.is)
+    (c.after_callback.ensures.leaves c.args.heap.now c.args.self.now.generation (subst (IsReadyAt c.args.heap.now c.args.self.now.generation) c.in-AfterCallback.is c.requires.ready))
 
 pub after_release-requires-clause-ready : goal.after_release-requires-clause-ready
 after_release-requires-clause-ready g c = subst (IsReadyAt c.args.heap.now c.args.self.now.generation) c.in-AfterRelease.is c.requires.ready
@@ -288,3 +287,31 @@ pub returns-in-Over-clause-steps : goal.returns-in-Over-clause-steps
 returns-in-Over-clause-steps g c =
     subst (λ (p : Phase). TurnSteps c.args.script.now (facts_of c.args.self.now) p c.args.heap.now c.args.policy.now c.args.heap.now c.args.policy.now c.answers.result) (sym c.in-Over.is)
     (turn-over c.args.script.now (facts_of c.args.self.now) c.args.heap.now c.args.policy.now c.in-Over.number c.answers.result c.answers.ensures)
+
+-- the phases that leave the heap
+pub returns-in-Sizes-clause-keeps : goal.returns-in-Sizes-clause-keeps
+returns-in-Sizes-clause-keeps g c = keeps_all c.args.heap.now
+
+pub returns-in-Telling-clause-keeps : goal.returns-in-Telling-clause-keeps
+returns-in-Telling-clause-keeps g c = keeps_all c.args.heap.now
+
+pub returns-in-AfterCallback-clause-keeps : goal.returns-in-AfterCallback-clause-keeps
+returns-in-AfterCallback-clause-keeps g c = keeps_all c.args.heap.now
+
+pub returns-in-AfterFinalizing-clause-keeps : goal.returns-in-AfterFinalizing-clause-keeps
+returns-in-AfterFinalizing-clause-keeps g c = keeps_all c.args.heap.now
+
+pub returns-in-Living-clause-keeps : goal.returns-in-Living-clause-keeps
+returns-in-Living-clause-keeps g c = keeps_all c.args.heap.now
+
+pub returns-in-Uncollectable-clause-keeps : goal.returns-in-Uncollectable-clause-keeps
+returns-in-Uncollectable-clause-keeps g c = keeps_all c.args.heap.now
+
+pub returns-in-Saved-clause-keeps : goal.returns-in-Saved-clause-keeps
+returns-in-Saved-clause-keeps g c = keeps_all c.args.heap.now
+
+pub returns-in-Stopping-clause-keeps : goal.returns-in-Stopping-clause-keeps
+returns-in-Stopping-clause-keeps g c = keeps_all c.args.heap.now
+
+pub returns-in-Over-clause-keeps : goal.returns-in-Over-clause-keeps
+returns-in-Over-clause-keeps g c = keeps_all c.args.heap.now
