@@ -17,3 +17,7 @@ mod Lawfully
 mod ReadyLemmas
 mod ArmLemmas
 mod SpelledLemmas
+mod SmallNumbers
+mod CollectReady
+mod CollectHolds
+mod CollectTurns

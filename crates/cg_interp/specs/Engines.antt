@@ -3,11 +3,12 @@ use Rattle.std.specs.Prelude.{◌≡◌, ◌≢◌, ℕ, ◌++◌, Bool, true, f
 use Rattle.std.specs.List.{list_any}
 use Rattle.cg_script.specs.declared.Script.{Script}
 use Rattle.cg_script.specs.declared.Command.{Command}
-use Rattle.cg_graph.specs.Store.{Store}
+use Rattle.cg_value.specs.declared.Place.TheVariants.{Pend}
+use Rattle.cg_graph.specs.Store.{Store, list_at}
 use Rattle.cg_machine.specs.Program.{commands_of, body_of}
 use Rattle.cg_machine.specs.World as machine
 use Rattle.cg_machine.specs.World.{World, TopLevel, Framed, Releasing, Running}
-use Rattle.cg_machine.specs.Represents.{Represents}
+use Rattle.cg_machine.specs.Represents.{Represents, CollectionWaits}
 use Rattle.cg_commands.specs.declared.locals.Locals.{Locals}
 use Rattle.cg_death.specs.Activities.{references_left, death_activities}
 use Rattle.cg_death.specs.declared.release.Release.{Release}
@@ -15,7 +16,7 @@ use Rattle.cg_death.specs.declared.death.Death.{Death}
 use Rattle.cg_death.specs.Deaths.{IsSettled}
 use Rattle.cg_policy.specs.Policy.{Policy}
 use Rattle.cg_collect.specs.declared.collection.Collection.{Collection}
-use Rattle.cg_collect.specs.Phases.{on_stack}
+use Rattle.cg_collect.specs.Phases.{on_stack, machine_phase}
 use Rattle.cg_collect.specs.Collections.{HandsOut}
 use Rattle.cg_interp.specs.declared.activity.Activity.{Activity}
 use Rattle.cg_interp.specs.declared.activity.Activity.TheVariants as activity
