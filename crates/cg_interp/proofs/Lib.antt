@@ -21,3 +21,4 @@ mod SmallNumbers
 mod CollectReady
 mod CollectHolds
 mod CollectTurns
+mod Telling
