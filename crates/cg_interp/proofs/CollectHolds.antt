@@ -1,6 +1,6 @@
 -- What a collection on top holds, how many collections are under way, and that there is room for a step.
 use Rattle.std.proofs.Common.{◌≡◌, ◌≢◌, refl, sym, ◌∙◌, ap, subst, ℕ, ◌+◌, ◌<◌, ◌≤◌, ◌⊎◌, Bool, true, false, cond, inl, inr, List, [], ◌∷◌, ◌++◌, length, length-append, Option, None, Some, IsSome, sum_by, arith}
-use Rattle.std.specs.Prelude.{flat_map, count_by, is_some}
+use Rattle.std.specs.Prelude.{◌-◌, flat_map, count_by, is_some, map, drop}
 use Rattle.std.specs.List.{list_any}
 use Rattle.std.specs.FinMap as fin
 use Rattle.std.proofs.lemmas.List.Sums.{sum_by-cons, sum_by-append}
@@ -8,7 +8,8 @@ use Rattle.cg_value.specs.declared.Place.TheVariants.{Pend}
 use Rattle.cg_script.specs.declared.Script.{Script}
 use Rattle.cg_graph.specs.Maps.{total}
 use Rattle.cg_graph.specs.Holdings.{occurrences}
-use Rattle.cg_graph.specs.Store.{Store, Node, objects_of, outside_of, outside_in, list_at}
+use Rattle.cg_graph.specs.Rows.{Row}
+use Rattle.cg_graph.specs.Store.{Store, Node, object_from, objects_of, outside_of, outside_in, list_at}
 use Rattle.cg_graph.proofs.Objects.{occurrences-append}
 use Rattle.cg_heap.specs.Keeps.{one}
 use Rattle.cg_heap.specs.Calls.{IsSound, HasFewHolds, object_number}
@@ -30,7 +31,8 @@ use Rattle.cg_collect.specs.Phases.{machine_phase, collecting, collection_of, re
 use Rattle.cg_collect.specs.Collections.{held_by, given_up_by, own_holds_at}
 use Rattle.cg_interp.specs.declared.activity.Activity.{Activity as Own}
 use Rattle.cg_interp.specs.declared.activity.Activity.TheVariants as activity
-use Rattle.cg_interp.specs.Engines.{State, Shows, ShowsAll, HasHandedOut, released_first, is_collecting, any_collecting}
+use Rattle.cg_machine.specs.Program.{commands_of}
+use Rattle.cg_interp.specs.Engines.{State, commands_from, frame_of, Shows, ShowsAll, HasHandedOut, released_first, is_collecting, any_collecting}
 use Rattle.cg_interp.specs.Turns.{IsFit}
 use Rattle.cg_interp.proofs.Lawfully.{at_least, few_holds, few_objects}
 use Rattle.cg_interp.proofs.CollectReady.{phase_there}
@@ -50,7 +52,7 @@ held_over s None tops = omega arith
 held_over s (Some release) tops = occurrences-append s (references_left release) (flat_map holds tops)
 
 held_at : (s : ℕ) (asked : Bool) (c : Collection) (p : Phase) (pending : List ℕ) → occurrences s (own_holds_at p) ≤ occurrences s (flat_map holds (collecting asked c (machine_phase p pending)))
-held_at s asked c (phase_of.AfterCallback weak) pending = omega (arith, occurrences-cons s weak [], occurrences-cons s weak (Rattle.std.specs.Prelude.drop 1 pending ++ []))
+held_at s asked c (phase_of.AfterCallback weak) pending = omega (arith, occurrences-cons s weak [], occurrences-cons s weak (drop 1 pending ++ []))
 held_at s asked c (phase_of.AfterFinalizing o) pending = omega arith
 held_at s asked c (phase_of.Turn o) pending = omega arith
 held_at s asked c p pending = omega arith
@@ -70,7 +72,7 @@ module _ (asked : Bool) (c : Collection) (store : Store) (w : World) (below : Li
 -- The heap has few holds, in a world of a run.
 pub few_holds_after : (script : Script) (budget : ℕ) (p : Phase) (store : Store) (w : World) → IsSound store → Represents (store_after p store) w → IsLawful script budget w → budget ≤ 100000 → HasFewHolds store
 few_holds_after script budget p store w sound r lawful low =
-    let number : object_number (store_after p store) ≤ 1000000 = subst (λ m. total one m Rattle.std.specs.Prelude.- 1 ≤ 1000000) (sym (nodes_after p store)) sound.objects in
+    let number : object_number (store_after p store) ≤ 1000000 = subst (λ m. total one m - 1 ≤ 1000000) (sym (nodes_after p store)) sound.objects in
     let few = few_holds script budget (store_after p store) w r lawful low (few_objects (store_after p store) number) in
     subst (λ m. total (λ (n : Node). n.outside) m < 2147483646) (nodes_after p store) few
 
@@ -78,9 +80,9 @@ few_holds_after script budget p store w sound r lawful low =
 pub objects_after : (p : Phase) (store : Store) (w : World) → Represents (store_after p store) w → length w.objects ≡ length (objects_of store)
 objects_after p store w r = ap length (sym r.objects) ∙ each p
   where
-    entries : (rows rest : List Rattle.cg_graph.specs.Rows.Row) (es : List (ℕ × Node)) → length (Rattle.std.specs.Prelude.map (λ (e : ℕ × Node). Rattle.cg_graph.specs.Store.object_from rows e.0 e.1) es) ≡ length (Rattle.std.specs.Prelude.map (λ (e : ℕ × Node). Rattle.cg_graph.specs.Store.object_from rest e.0 e.1) es)
+    entries : (rows rest : List Row) (es : List (ℕ × Node)) → length (map (λ (e : ℕ × Node). object_from rows e.0 e.1) es) ≡ length (map (λ (e : ℕ × Node). object_from rest e.0 e.1) es)
     entries rows rest [] = refl
-    entries rows rest (e ∷ es) = ap (λ n. n + 1) (entries rows rest es)
+    entries rows rest (e ∷ es) = omega (arith, entries rows rest es)
 
     each : (p : Phase) → length (objects_of (store_after p store)) ≡ length (objects_of store)
     each (phase_of.Living next) = entries (store_after (phase_of.Living next) store).rows store.rows (fin.entries store.nodes)
@@ -104,7 +106,7 @@ room_above script e p w tops below r over top lawful fit =
 count_more : (a : Activity) (below : List Activity) → count_by is_collection (a ∷ below) ≡ cond (is_collection a) 1 0 + count_by is_collection below
 count_more a below = sum_by-cons (λ (b : Activity). cond {A = ℕ} (is_collection b) 1 0) a below
 
-count_own : (a : Own) (below : List Own) → count_by is_collecting (a ∷ below) ≡ cond (is_collecting a) 1 0 + count_by is_collecting below
+pub count_own : (a : Own) (below : List Own) → count_by is_collecting (a ∷ below) ≡ cond (is_collecting a) 1 0 + count_by is_collecting below
 count_own a below = sum_by-cons (λ (b : Own). cond {A = ℕ} (is_collecting b) 1 0) a below
 
 death_is_none : (o : ℕ) (phase : DeathPhase) (waiting : List ℕ) → count_by is_collection (death_activities o phase waiting) ≡ 0
@@ -134,9 +136,9 @@ counts_one asked c tops out =
     ap (count_by is_collection) (out.shown ∙ ap (λ x. released_over c.release (collecting asked c x)) is) ∙ one_collection c.release (collection_of asked c q)
 
 counts_alike : (script : Script) (a : Own) (tops : List Activity) → Shows script a tops → count_by is_collection tops ≡ cond (is_collecting a) 1 0
-counts_alike script (activity.Script next) tops is = ap (count_by is_collection) is ∙ count_more _ [] ∙ refl
-counts_alike script (activity.Frame locals procedure next) tops is = ap (count_by is_collection) is ∙ count_more _ [] ∙ refl
-counts_alike script (activity.Releasing release) tops is = ap (count_by is_collection) is ∙ count_more _ [] ∙ refl
+counts_alike script (activity.Script next) tops is = ap (count_by is_collection) is ∙ count_more (TopLevel (commands_from next (commands_of script.items))) []
+counts_alike script (activity.Frame locals procedure next) tops is = ap (count_by is_collection) is ∙ count_more (Framed (frame_of script locals procedure next)) []
+counts_alike script (activity.Releasing release) tops is = ap (count_by is_collection) is ∙ count_more (Releasing (references_left release)) []
 counts_alike script (activity.Dying death) tops (waiting, is, settled) = ap (count_by is_collection) is ∙ release_is_none death.release (death_activities death.object death.phase waiting) ∙ death_is_none death.object death.phase waiting
 counts_alike script (activity.Collecting asked c) tops out = counts_one asked c tops out
 

@@ -106,11 +106,11 @@ module _ (store : Store) (w : World) (sound : IsSound store) (same : objects_of 
             spares,
           )
       ready_again g (phase_of.AfterRelease weak) then runs spares is =
-          let others : List ℕ = filter (λ q. not (q == weak)) then in
-          let phase : c.phase ≡ machine.AfterRelease weak others = cc in
-          let pending : (list_at store Pend ≡ others) ⊎ (list_at store Pend ≡ weak ∷ others) = subst (λ q. CollectionWaits q (list_at store Pend)) phase waits in
+          let waiting : List ℕ = filter (λ q. not (q == weak)) then in
+          let phase : c.phase ≡ machine.AfterRelease weak waiting = cc in
+          let pending : (list_at store Pend ≡ waiting) ⊎ (list_at store Pend ≡ weak ∷ waiting) = subst (λ q. CollectionWaits q (list_at store Pend)) phase waits in
           (
-            in_weak_phase (weak ∷ others) (rightly (machine.AfterRelease weak others) phase),
+            in_weak_phase (weak ∷ waiting) (rightly (machine.AfterRelease weak waiting) phase),
             λ q m differs. has_callback q m (waits_among w.stack c q on (subst (λ r. Includes (collection_waits r) q) (sym phase)
                 (either pending (λ e. subst (λ l. Includes l q) e m) (λ e. either (subst (λ l. Includes l q) e m) (λ own. absurd (differs (sym own))) (λ k. k))))),
             spares,
@@ -122,16 +122,16 @@ module _ (store : Store) (w : World) (sound : IsSound store) (same : objects_of 
       ready_again g p then runs spares is = absurd runs
 
 -- a list without a serial, without it once more
-others_again : (weak : ℕ) (xs : List ℕ) → filter (λ q. not (q == weak)) (filter (λ q. not (q == weak)) xs) ≡ filter (λ q. not (q == weak)) xs
+abbrev others : ℕ → List ℕ → List ℕ
+others weak xs = filter (λ q. not (q == weak)) xs
+
+others_again : (weak : ℕ) (xs : List ℕ) → others weak (others weak xs) ≡ others weak xs
 others_again weak [] = refl
 others_again weak (x ∷ xs) = go (x == weak) refl (others_again weak xs)
   where
-    abbrev rest : List ℕ
-    rest = filter (λ q. not (q == weak)) xs
-
-    go : (b : Bool) → (x == weak) ≡ b → filter (λ q. not (q == weak)) rest ≡ rest → filter (λ q. not (q == weak)) (cond (not b) (x ∷ rest) rest) ≡ cond (not b) (x ∷ rest) rest
+    go : (b : Bool) → (x == weak) ≡ b → others weak (others weak xs) ≡ others weak xs → others weak (cond (not b) (x ∷ others weak xs) (others weak xs)) ≡ cond (not b) (x ∷ others weak xs) (others weak xs)
     go true e again = again
-    go false e again = ap (λ b. cond (not b) (x ∷ filter (λ q. not (q == weak)) rest) (filter (λ q. not (q == weak)) rest)) e ∙ ap (λ l. x ∷ l) again
+    go false e again = ap (λ b. cond (not b) (x ∷ others weak (others weak xs)) (others weak (others weak xs))) e ∙ ap (λ l. x ∷ l) again
 
 -- what waits besides one that was given up, whether it still stands before the others or not
 others_same : (weak : ℕ) (then now : List ℕ) → (now ≡ filter (λ q. not (q == weak)) then) ⊎ (now ≡ weak ∷ filter (λ q. not (q == weak)) then) → filter (λ q. not (q == weak)) then ≡ filter (λ q. not (q == weak)) now

@@ -1,6 +1,6 @@
 -- The turns of a collection on top: what a step of it answers is a turn of the engine.
 use Rattle.std.proofs.Common.{◌≡◌, ◌≢◌, refl, sym, ◌∙◌, ap, subst, ℕ, ◌+◌, ◌-◌, ◌<◌, ◌≤◌, ◌⊎◌, Bool, true, false, cond, inl, inr, List, [], ◌∷◌, ◌++◌, length, length-append, Option, None, Some, IsSome, arith, append-nil}
-use Rattle.std.specs.Prelude.{◌==◌, if◌then◌else◌, is_some, count_by, flat_map, IfSome}
+use Rattle.std.specs.Prelude.{◌==◌, ◌*◌, if◌then◌else◌, is_some, count_by, flat_map, IfSome}
 use Rattle.std.proofs.lemmas.Bool.{ne_eqb}
 use Rattle.cg_value.specs.declared.Place.TheVariants.{Pend}
 use Rattle.cg_script.specs.declared.Script.{Script}
@@ -222,29 +222,33 @@ module _ (script : Script) (asked : Bool) (c : Collection) (e : State) (left : L
 
       pub ends : (answer : Turned) (line : Event) → answer_lines true (collected + set_aside) ≡ line ∷ [] → (asked ≡ true → answer ≡ turned.Line line) → (asked ≡ false → answer ≡ turned.Quiet)
           → TurnsWith script (Advances (under (activity.Collecting asked c) e) left new) w left new answer
-      ends answer line is yes no = by asked refl
+      ends answer line is telling quiet = by asked refl
         where
           by : (b : Bool) → asked ≡ b → TurnsWith script (Advances (under (activity.Collecting asked c) e) left new) w left new answer
           by true same =
               let told : left ≡ line ∷ [] = f.lines ∙ ap (λ b. answer_lines b (collected + set_aside)) same ∙ is in
               let one : length left ≡ length (line ∷ []) = ap length told in
-              subst (TurnsWith script (Advances (under (activity.Collecting asked c) e) left new) w left new) (sym (yes same)) (ends_telling (line ∷ []) told (inl (omega (arith, one))))
+              subst (TurnsWith script (Advances (under (activity.Collecting asked c) e) left new) w left new) (sym (telling same)) (ends_telling (line ∷ []) told (inl (omega (arith, one))))
           by false same =
               let told : left ≡ [] = f.lines ∙ ap (λ b. answer_lines b (collected + set_aside)) same in
-              subst (TurnsWith script (Advances (under (activity.Collecting asked c) e) left new) w left new) (sym (no same))
+              subst (TurnsWith script (Advances (under (activity.Collecting asked c) e) left new) w left new) (sym (quiet same))
               (ends_telling [] told (inr (ap length (sym told), none_on_top new.activities (ap any_collecting activities ∙ k.alone))))
 
--- A frame that starts tells a line.
+-- A frame that starts, by whether the budget is spent.
+abbrev entered : Script → FrameSpec → World → World
+entered script spec w = record w {
+  budget = w.budget - 1;
+  stack = Framed (record { sort = spec.sort; subject = spec.subject; function = spec.func; commands = body_of script spec.proc }) ∷ w.stack;
+}
+
+abbrev started : Script → FrameSpec → World → Bool → Transition
+started script spec w b = if b then (BudgetSpent ∷ [], record w { outcome = BudgetIsSpent }) else (Enter spec.sort spec.subject ∷ [], entered script spec w)
+
+-- It tells a line.
 starts_telling : (script : Script) (spec : FrameSpec) (w : World) → (start_frame script spec w).0 ≡ [] → ⊥
 starts_telling script spec w = go (w.budget == 0)
   where
-    go : (b : Bool) → (if b
-        then (BudgetSpent ∷ [], record w { outcome = BudgetIsSpent })
-        else (
-          Enter spec.sort spec.subject ∷ [],
-          record w { budget = w.budget - 1; stack = Framed (record { sort = spec.sort; subject = spec.subject; function = spec.func; commands = body_of script spec.proc }) ∷ w.stack },
-        )).0
-        ≡ [] → ⊥
+    go : (b : Bool) → (started script spec w b).0 ≡ [] → ⊥
     go true e = cc
     go false e = cc
 
@@ -321,12 +325,6 @@ module _ (script : Script) (budget : ℕ) (spec : FrameSpec) (store : Store) (w 
   abbrev frame : machine.Frame
   frame = record { sort = spec.sort; subject = spec.subject; function = spec.func; commands = body_of script spec.proc }
 
-  abbrev entered : World
-  entered = record before { budget = before.budget - 1; stack = Framed frame ∷ before.stack }
-
-  abbrev started : Bool → Transition
-  started b = if b then (BudgetSpent ∷ [], record before { outcome = BudgetIsSpent }) else (Enter spec.sort spec.subject ∷ [], entered)
-
   kept_after : IsKept script budget (start_frame script spec before).1
   kept_after = subst (IsKept script budget) goes.ends (stays goes.steps goes.run)
 
@@ -334,8 +332,8 @@ module _ (script : Script) (budget : ℕ) (spec : FrameSpec) (store : Store) (w 
   pub function_lives : 0 < before.budget → IfSome spec.func (λ f. IsLive store f)
   function_lives some = by spec.func refl
     where
-      kept : IsKept script budget entered
-      kept = subst (IsKept script budget) (ap (λ b. (started b).1) (ne_eqb before.budget 0 (λ none. omega (arith, some, none)))) kept_after
+      kept : IsKept script budget (entered script spec before)
+      kept = subst (IsKept script budget) (ap (λ b. (started script spec before b).1) (ne_eqb before.budget 0 (λ none. omega (arith, some, none)))) kept_after
 
       by : (function : Option ℕ) → spec.func ≡ function → IfSome function (λ f. IsLive store f)
       by None is = tt
@@ -350,6 +348,6 @@ module _ (script : Script) (budget : ℕ) (spec : FrameSpec) (store : Store) (w 
       let same : length (objects_of store) ≡ length before.objects = ap length r.objects in
       omega (arith, held, same, by (before.budget == 0) kept_after.lawful.bounded.holds, low, few)
     where
-      by : (b : Bool) → length (flat_map holds (started b).1.stack) ≤ budget + 5 * length (started b).1.objects + 3 → length (flat_map holds before.stack) ≤ budget + 5 * length before.objects + 3
+      by : (b : Bool) → length (flat_map holds (started script spec before b).1.stack) ≤ budget + 5 * length (started script spec before b).1.objects + 3 → length (flat_map holds before.stack) ≤ budget + 5 * length before.objects + 3
       by true bound = bound
       by false bound = omega (arith, bound, length-append (holds (Framed frame)) (flat_map holds before.stack))

@@ -58,11 +58,12 @@ abbrev pub death_shown : Death → List ℕ → List machine.Activity
 death_shown death waiting = released_first death.release (death_activities death.object death.phase waiting)
 
 -- A collection that has handed out a frame or a death stands for this on the stack. What runs above it may change the heap,
--- and leaves that as it was.
+-- and leaves that as it was. What waited for its callback then is what the phase of the machine says.
 pub record HasHandedOut (asked : Bool) (c : Collection) (tops : List machine.Activity) : Type 0 where
   pub then : Store
   pub shown : tops ≡ on_stack asked c then
   pub handing : HandsOut c then
+  pub waited : (phase : machine.CollectPhase) → machine_phase c.phase (list_at then Pend) ≡ Some phase → CollectionWaits phase (list_at then Pend)
 
 -- What an activity stands for among those of the machine, the top first. Which weak references wait with a dying object
 -- the world tells. What a death gives up it gives up between callbacks, or while entries are taken out.
