@@ -17,3 +17,6 @@ mod Lawfully
 mod ReadyLemmas
 mod ArmLemmas
 mod SpelledLemmas
+mod Telling
+mod UnderWay
+mod ControlLemmas
