@@ -22,3 +22,5 @@ mod CollectReady
 mod CollectHolds
 mod CollectTurns
 mod Telling
+mod UnderWay
+mod ControlLemmas
