@@ -404,10 +404,10 @@ few_at_most n phase_of.Turns store few = few
 few_at_most n (phase_of.Turn o) store few = few
 few_at_most n (phase_of.AfterTurn o) store few = few
 few_at_most n phase_of.Ending store few = few
-few_at_most n (phase_of.Uncollectable first next number) store few = few
-few_at_most n (phase_of.Saved next number) store few = few
-few_at_most n (phase_of.Stopping number) store few = few
-few_at_most n (phase_of.Over number) store few = few
+few_at_most n (phase_of.Uncollectable first next number) store few = few.0
+few_at_most n (phase_of.Saved next number) store few = few.0
+few_at_most n (phase_of.Stopping number) store few = few.0
+few_at_most n (phase_of.Over number) store few = few.0
 
 -- A collection that is over says so.
 pub turn-over : (script : Script) (facts : Facts) (store : Store) (policy : Policy) (number : ℕ) (turn : Turn)

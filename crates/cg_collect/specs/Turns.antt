@@ -109,10 +109,12 @@ ComesNearer old phase release new phase_now release_now =
 abbrev pub TurnFalls : Store → Phase → Store → Turn → Type 0
 TurnFalls old phase new turn = turn.answer ≡ answer_of.Continue → ComesNearer old phase None new turn.phase turn.release
 
--- a frame is handed out in a phase for it, and a death in none: what is given up hands those out
+-- A frame is handed out in a phase for it, and a death in none: what is given up hands those out. The turn that ends a
+-- collection is told by `TurnEnds`.
 abbrev pub HandsOutIn : CollectStep → Phase → Option Release → Type 0
 HandsOutIn (answer_of.Frame spec) phase release = RunsFrame phase release × SparesGarbageList phase
 HandsOutIn (answer_of.Died o) phase release = ⊥
+HandsOutIn (answer_of.Finished collected set_aside) phase release = ⊥
 HandsOutIn answer phase release = Unit {0}
 
 -- What a turn leaves: the number of collected objects is small as before, and what is given up or handed out is so in a phase
@@ -122,6 +124,12 @@ pub record TurnLeaves (old : Store) (phase : Phase) (new : Store) (turn : Turn) 
   pub gives_up : GivesUpIn turn.phase turn.release
   pub hands_out : HandsOutIn turn.answer turn.phase turn.release
   pub begun : IsBegun turn.phase
+
+-- A turn of a collection that is over leaves it so, and answers with both numbers.
+pub record TurnEnds (c : Collection) (turn : Turn) : Type 0 where
+  pub number : ℕ
+  pub over : c.phase ≡ phase_of.Over number
+  pub is : turn ≡ record { phase = phase_of.Over number; release = None; collected = 0; answer = answer_of.Finished c.collected number }
 
 -- No object is made, no name gets another value, and no serial is given.
 pub record KeepsObjects (old new : Store) : Type 0 where

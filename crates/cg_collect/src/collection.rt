@@ -1,5 +1,5 @@
 //! A collection of a generation.
-ghost use Rattle.std.specs.Prelude.{◌≡◌, ◌≤◌, false, true, Bool, None, IfNone, IfSome};
+ghost use Rattle.std.specs.Prelude.{◌≡◌, ◌≤◌, ◌⊎◌, false, true, Bool, None, IfNone, IfSome};
 ghost use Rattle.cg_machine.specs.World.{World, push};
 ghost use Rattle.cg_machine.specs.Collect.{begun};
 ghost use Rattle.cg_machine.specs.Commands.{new_collection};
@@ -11,7 +11,7 @@ ghost use Rattle.cg_death.specs.Steady.{KeepsNames};
 ghost use Rattle.cg_collect.specs.declared.answer.CollectStep.TheVariants as answer_of;
 ghost use Rattle.cg_collect.specs.Numbers.{AreSmall};
 ghost use Rattle.cg_collect.specs.Ready.{IsClear, IsReadyAt, IsBegun};
-ghost use Rattle.cg_collect.specs.Turns.{TurnSteps, TurnFalls, TurnLeaves, StaysReady, KeepsObjects};
+ghost use Rattle.cg_collect.specs.Turns.{TurnSteps, TurnFalls, TurnLeaves, TurnEnds, StaysReady, KeepsObjects};
 ghost use Rattle.cg_collect.specs.Answers.{CollectSteps, Shows};
 ghost use Rattle.cg_collect.specs.Collections.{IsReady, KeepsReady, CollectFalls, DiesUnheld, GivesUpNext, held_by, given_up_by, own_holds_at, facts_of};
 
@@ -145,7 +145,7 @@ impl Collection {
         ensures steps { TurnSteps script.now (facts_of self.now) self.now.phase heap.old policy.old heap.new policy.new result }
         ensures ready { StaysReady heap.new self.now.generation result.phase result.answer }
         ensures falls { TurnFalls heap.old self.now.phase heap.new result }
-        ensures leaves { TurnLeaves heap.old self.now.phase heap.new result }
+        ensures leaves { TurnLeaves heap.old self.now.phase heap.new result ⊎ TurnEnds self.now result }
         ensures keeps { KeepsObjects heap.old heap.new }
     {
         let facts = Facts {
