@@ -1,5 +1,5 @@
 -- A step of a collection that gives nothing up is a turn of its phase.
-use Rattle.std.proofs.Common.{◌≡◌, sym, ◌∙◌, ap, subst, ◌+◌, ◌<◌, ◌≤◌, ◌^◌, ◌⊎◌, inl, inr, Option, None, arith}
+use Rattle.std.proofs.Common.{◌≡◌, sym, ◌∙◌, ap, subst, ◌+◌, ◌<◌, ◌≤◌, ◌^◌, ◌⊎◌, inl, inr, Option, None, ℕ, arith}
 use Rattle.cg_script.specs.declared.Script.{Script}
 use Rattle.cg_graph.specs.Store.{Store}
 use Rattle.cg_graph.proofs.Objects.{occurrences-append}
@@ -14,7 +14,8 @@ use Rattle.cg_collect.specs.declared.phase.Phase.TheVariants as phase_of
 use Rattle.cg_collect.specs.declared.phase.Turn.{Turn}
 use Rattle.cg_collect.specs.Ready.{HasFewCollected, RunsFrame, MayRun, IsBegun}
 use Rattle.cg_collect.specs.Answers.{CollectSteps}
-use Rattle.cg_collect.specs.Turns.{TurnSteps, TurnFalls, TurnLeaves, TurnEnds, StaysReady, HandsOutIn, KeepsObjects}
+use Rattle.cg_collect.specs.Turns.{pass_of, passes_on, TurnSteps, TurnFalls, TurnLeaves, TurnEnds, StaysReady, HandsOutIn, KeepsObjects}
+use Rattle.cg_collect.specs.Looks.{most_looks}
 use Rattle.cg_collect.specs.Collections.{IsReady, KeepsReady, CollectFalls, DiesUnheld, facts_of, given_up_by, own_holds_at, held_by}
 use Rattle.cg_collect.proofs.GivingUp.{few_at_most}
 
@@ -92,6 +93,13 @@ module _ (old mid : Collection) (store between : Store) (same : mid ≡ old) (he
     turned-begun (inl leaves) = leaves.begun
     turned-begun (inr e) = subst (λ (t : Turn). IsBegun t.phase) (sym e.is) tt
 
+    pub turned-onward : Left → pass_of old.phase + passes_on old.phase ≤ pass_of turn.phase
+    turned-onward left = subst (λ (c : Collection). pass_of c.phase + passes_on c.phase ≤ pass_of turn.phase) same (from_mid left)
+      where
+        from_mid : Left → pass_of mid.phase + passes_on mid.phase ≤ pass_of turn.phase
+        from_mid (inl leaves) = leaves.onward
+        from_mid (inr e) = subst (λ (p : Phase). pass_of p + passes_on p ≤ pass_of turn.phase) (sym e.over) (subst (λ (t : Turn). 14 ≤ pass_of t.phase) (sym e.is) (omega arith))
+
     pub turned-ready : IsReady old store → StaysReady now mid.generation turn.phase turn.answer → Left → KeepsReady (turned turn) now turn.answer
     turned-ready ready stays_ready (inl leaves) = known turn.answer stays_ready leaves.hands_out
       where
@@ -130,6 +138,11 @@ module _ (old mid : Collection) (store between : Store) (same : mid ≡ old) (he
 
     pub turned-generation : (turned turn).generation ≡ old.generation
     turned-generation = ap (λ (c : Collection). c.generation) same
+
+    pub turned-looks : (looked before : ℕ) → looked ≤ before + most_looks mid.generation mid.phase between → looked ≤ before + most_looks old.generation old.phase store
+    turned-looks looked before few =
+        subst (λ (c : Collection). looked ≤ before + most_looks c.generation c.phase store) same
+        (subst (λ st. looked ≤ before + most_looks mid.generation mid.phase st) heap few)
 
     pub turned-keeps : KeepsObjects between now → KeepsObjects store now
     turned-keeps = subst (λ st. KeepsObjects st now) heap

@@ -96,9 +96,9 @@ returns-else-intersects-clause-keeps g c =
 pub returns-then-intersects-clause-leaves : goal.returns-then-intersects-clause-leaves
 returns-then-intersects-clause-leaves g c =
     subst (λ (turn : Turn). TurnLeaves c.args.heap.now phase_of.Ending c.merge.new.self turn) (sym c.to.ensures)
-    (record { few = λ n few. (omega (arith, few), omega (arith, c.size-number.ensures, list_few c.args.heap.now c.sound.ensures.listed c.sound.ensures.objects Legacy)); gives_up = tt; hands_out = tt; begun = tt })
+    (record { few = λ n few. (omega (arith, few), omega (arith, c.size-number.ensures, list_few c.args.heap.now c.sound.ensures.listed c.sound.ensures.objects Legacy)); gives_up = tt; hands_out = tt; begun = tt; onward = omega arith })
 
 pub returns-else-intersects-clause-leaves : goal.returns-else-intersects-clause-leaves
 returns-else-intersects-clause-leaves g c =
     subst (λ (turn : Turn). TurnLeaves c.args.heap.now phase_of.Ending c.merge.new.self turn) (sym c.to-else-intersects.ensures)
-    (record { few = λ n few. (omega (arith, few), omega (arith, c.size-number.ensures, list_few c.args.heap.now c.sound.ensures.listed c.sound.ensures.objects Legacy)); gives_up = tt; hands_out = tt; begun = tt })
+    (record { few = λ n few. (omega (arith, few), omega (arith, c.size-number.ensures, list_few c.args.heap.now c.sound.ensures.listed c.sound.ensures.objects Legacy)); gives_up = tt; hands_out = tt; begun = tt; onward = omega arith })

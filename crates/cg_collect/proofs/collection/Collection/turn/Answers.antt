@@ -1,10 +1,11 @@
-use Rattle.std.proofs.Common.{◌<◌, ℕ, [], ◌∷◌, inl, inr, subst, sym, arith}
+use Rattle.std.proofs.Common.{◌+◌, ◌<◌, ◌≤◌, ℕ, [], ◌∷◌, inl, inr, subst, sym, arith}
 use Rattle.cg_graph.specs.Store.{Store, outside_of}
 use Rattle.cg_death.specs.Activities.{HasHolds}
 use Rattle.cg_machine.proofs.Representing.{occurrences-one}
 use Rattle.cg_collect.specs.declared.phase.Phase.{Phase}
 use Rattle.cg_collect.specs.Ready.{IsReadyAt}
 use Rattle.cg_collect.specs.Turns.{TurnSteps, TurnFalls, TurnLeaves}
+use Rattle.cg_collect.specs.Looks.{most_looks}
 use Rattle.cg_collect.specs.Collections.{facts_of, own_holds_at}
 use Rattle.cg_collect.proofs.GivingUp.{turn-over}
 use Rattle.cg_collect.proofs.Keeping.{keeps_all}
@@ -318,3 +319,10 @@ returns-in-Stopping-clause-keeps g c = keeps_all c.args.heap.now
 
 pub returns-in-Over-clause-keeps : goal.returns-in-Over-clause-keeps
 returns-in-Over-clause-keeps g c = keeps_all c.args.heap.now
+
+-- the detections
+pub returns-in-Start-clause-looks : goal.returns-in-Start-clause-looks
+returns-in-Start-clause-looks g c = subst (λ (p : Phase). c.start.new.steps ≤ c.args.steps.now + most_looks c.args.self.now.generation p c.args.heap.now) (sym c.in-Start.is) c.start.ensures.looks
+
+pub returns-in-Split-clause-looks : goal.returns-in-Split-clause-looks
+returns-in-Split-clause-looks g c = subst (λ (p : Phase). c.detect.new.steps ≤ c.args.steps.now + most_looks c.args.self.now.generation p c.args.heap.now) (sym c.in-Split.is) c.detect.ensures.looks
