@@ -19,23 +19,23 @@ use Rattle.cg_heap.specs.Calls.{IsListed}
 use Rattle.cg_trial.specs.Split.{IsSameButPlaces}
 use Rattle.cg_policy.specs.Policy.{Policy, with_numbers, IsBounded}
 use Rattle.cg_policy.specs.Flagset.{bits_of}
-use Rattle.cg_collect.specs.declared.answer.CollectStep.{CollectStep}
 use Rattle.cg_collect.specs.declared.answer.CollectStep.TheVariants as answer_of
 use Rattle.cg_collect.specs.declared.collection.Facts.{Facts}
 use Rattle.cg_collect.specs.declared.phase.Phase.{Phase}
 use Rattle.cg_collect.specs.declared.phase.Phase.TheVariants as phase_of
 use Rattle.cg_collect.specs.declared.phase.Turn.{Turn}
-use Rattle.cg_collect.specs.Numbers.{IsBelow62}
+use Rattle.cg_collect.specs.Numbers.{AreSmall}
 use Rattle.cg_collect.specs.Phases.{collection_of, lines_left}
-use Rattle.cg_collect.specs.Ready.{IsClear, IsReadyAt, IsApartUnseen, IsEmptyAt, HasFewCollected}
+use Rattle.cg_collect.specs.Ready.{IsClear, IsReadyAt, IsApartUnseen, IsEmptyAt, HasFewCollected, IsBegun}
 use Rattle.cg_collect.specs.Answers.{Shows, Stands, WentOn, CollectSteps}
-use Rattle.cg_collect.specs.Turns.{collection_at, TurnSteps, StaysReady, TurnLeaves}
+use Rattle.cg_collect.specs.Turns.{pass_of, collection_at, TurnSteps, StaysReady, TurnLeaves, KeepsObjects}
 use Rattle.cg_collect.specs.Starting.{told_sizes, told_if, told_after_sizes, told_start}
 use Rattle.cg_collect.proofs.Standing.{same_more, map_alike, place_there, objects_on, outside_on, list_has, list_length}
-use Rattle.cg_collect.proofs.Telling.{ready_told, few_told, told_lines, turn_to}
+use Rattle.cg_collect.proofs.Telling.{ready_told, few_told, begun_told, late_told, told_lines, turn_to}
 use Rattle.cg_collect.proofs.Apart.{nobody_waits, apart_unseen}
 use Rattle.cg_collect.proofs.Traces.{Trace, same16}
 use Rattle.cg_collect.proofs.Sorts.{chosen, places, sorts, objects_sorted, survivors_counted}
+use Rattle.cg_collect.proofs.Keeping.{keeps-same}
 use Rattle.cg_collect.proofs.Worlds.{steps_at, turn_steps, with_same_rows, represents_on}
 
 -- the phases after the start stand for the weak phase of the machine
@@ -62,8 +62,16 @@ few_start : (n : ℕ) (s b : Bool) (old store : Store) → n ≡ 0 → HasFewCol
 few_start n true b old store e = e
 few_start n false b old store e = few_told n b store e
 
-leaves_start : (s b : Bool) (old store : Store) (answer : CollectStep) → TurnLeaves old phase_of.Start store (record { phase = told_start s b old store; release = None; collected = 0; answer = answer })
-leaves_start s b old store answer = record { few = λ n h. few_start (n + 0) s b old store (omega (arith, h)); gives_up = tt }
+begun_start : (s b : Bool) (old store : Store) → IsBegun (told_start s b old store)
+begun_start true b old store = tt
+begun_start false b old store = begun_told b store
+
+late_start : (s b : Bool) (old store : Store) → 1 ≤ pass_of (told_start s b old store)
+late_start true b old store = omega arith
+late_start false b old store = omega (arith, late_told b store)
+
+leaves_start : (s b : Bool) (old store : Store) (event : Event) → TurnLeaves old phase_of.Start store (record { phase = told_start s b old store; release = None; collected = 0; answer = answer_of.Emit event })
+leaves_start s b old store event = record { few = λ n h. few_start (n + 0) s b old store (omega (arith, h)); gives_up = tt; hands_out = tt; begun = begun_start s b old store; onward = omega (arith, late_start s b old store) }
 
 -- what the code tells first
 told_start-is : (s b : Bool) (old store : Store) → unwrap_or (if s then Some (told_sizes old) else None) (told_if b store) ≡ told_start s b old store
@@ -71,7 +79,7 @@ told_start-is true b old store = refl
 told_start-is false b old store = refl
 
 -- the numbers stay small
-pub still_bounded : (g n : ℕ) (numbers : Numbers) → IsBelow62 numbers → n ≤ 1000001 → IsBounded (survived g n numbers)
+pub still_bounded : (g n : ℕ) (numbers : Numbers) → AreSmall numbers → n ≤ 1000001 → IsBounded (survived g n numbers)
 still_bounded g n numbers below few = record {
   zero = omega (arith, below.zero);
   one = omega (arith, below.one);
@@ -80,7 +88,7 @@ still_bounded g n numbers below few = record {
   total = left (g == 2);
 }
   where
-    waits : (b c : Bool) → (if b then numbers.pending else (if c then numbers.pending + n else 0)) < 2 ^ 63
+    waits : (b c : Bool) → (if b then numbers.pending else (if c then numbers.pending + n else 0)) < 2 ^ 127
     waits true c = omega (arith, below.pending)
     waits false true = omega (arith, below.pending, few)
     waits false false = omega arith
@@ -219,4 +227,7 @@ module _ (script : Script) (facts : Facts) (s0 s1 s2 s4 s5 s6 : Store) (t : Trac
       (ready_start facts.generation with_sizes with_members s0 s6 listed6 (apart_unseen script facts.generation s0 s1 s2 s4 s5 s6 t listed0 listed6 clear) waits_none)
 
   pub leaves_after : TurnLeaves s0 phase_of.Start s6 turn
-  leaves_after = subst (λ (x : Turn). TurnLeaves s0 phase_of.Start s6 x) (sym turn_is) (leaves_start with_sizes with_members s0 s6 (answer_of.Emit (GcStart facts.generation)))
+  leaves_after = subst (λ (x : Turn). TurnLeaves s0 phase_of.Start s6 x) (sym turn_is) (leaves_start with_sizes with_members s0 s6 (GcStart facts.generation))
+
+  pub keeps_after : KeepsObjects s0 s6
+  keeps_after = keeps-same s0 s6 (same_more s0 s1 s6 t.merges.same (same16 script facts.generation s0 s1 s2 s4 s5 s6 t))

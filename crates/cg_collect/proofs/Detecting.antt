@@ -1,38 +1,34 @@
 -- The second detection: what a heap does there is the step of the machine; its lines are told by the calls that follow,
 -- while weak references to the final set lose it.
-use Rattle.std.proofs.Common.{◌≡◌, ◌≢◌, refl, sym, ◌∙◌, ap, subst, ℕ, ◌+◌, ◌<◌, ◌≤◌, Bool, true, false, cond, not, ◌&&◌, inl, inr, List, [], ◌∷◌, ◌++◌, length, map, Option, Some, None, IsSome, append_assoc, arith}
-use Rattle.std.specs.Prelude.{◌==◌, ◌⊎◌, ◌↔◌, if◌then◌else◌, filter, flat_map, sum_by, option_map, unwrap_or, slice_get}
+use Rattle.std.proofs.Common.{◌≡◌, ◌≢◌, refl, sym, ◌∙◌, ap, subst, ℕ, ◌+◌, ◌≤◌, Bool, true, false, cond, not, inl, inr, List, [], ◌∷◌, ◌++◌, length, map, Option, Some, None, IsSome, arith}
+use Rattle.std.specs.Prelude.{◌⊎◌, ◌↔◌, if◌then◌else◌, filter, flat_map, sum_by, option_map, unwrap_or, slice_get}
 use Rattle.std.specs.FinMap as fin
 use Rattle.std.proofs.lemmas.List.{map-append}
 use Rattle.std.proofs.lemmas.List.Sums.{sum_by-cons}
 use Rattle.cg_value.specs.declared.KindCode.TheVariants.{Weak}
 use Rattle.cg_value.specs.declared.Place.{Place}
-use Rattle.cg_value.specs.declared.Place.TheVariants.{Untracked, Gen, Frozen, Cand, Seen, Back, Legacy, Pend}
+use Rattle.cg_value.specs.declared.Place.TheVariants.{Untracked, Gen, Cand, Seen, Back, Legacy, Pend}
 use Rattle.cg_script.specs.declared.Script.{Script}
 use Rattle.cg_graph.specs.Maps.{total}
 use Rattle.cg_graph.specs.Member.{Includes, includes}
-use Rattle.cg_graph.specs.Holdings.{occurrences}
 use Rattle.cg_graph.specs.Object.{Object, object_at, with_place as object_placed, is_at, same_place, serials, serials_at}
-use Rattle.cg_graph.specs.Reach.{Reach}
 use Rattle.cg_graph.specs.Reachable.{IsReachable, IsUnreachable, StandsAt}
 use Rattle.cg_graph.specs.Rows.{Row, IsRising, referent_in, refers_to, weak_references_in, waiting_in, without_row}
-use Rattle.cg_graph.specs.Store.{Store, Node, IsLive, HasCode, list_at, objects_of, object_from, outside_of, entries_of, place_of, place_in}
-use Rattle.cg_graph.proofs.Members.{either, cases_of, includes-of, Includes-of, Includes-append_left, Includes-append_right, Includes-map, Includes-filter_cases}
+use Rattle.cg_graph.specs.Store.{Store, Node, IsLive, HasCode, list_at, objects_of, object_from, place_of, place_in}
+use Rattle.cg_graph.proofs.Members.{either, cases_of, includes-of, Includes-of, Includes-append_left, Includes-append_right, Includes-filter_cases}
 use Rattle.cg_graph.proofs.Objects.{object-at}
 use Rattle.cg_graph.proofs.Reachable.{reachable_alike}
-use Rattle.cg_arena.specs.Nodes.{IsPlace, following}
+use Rattle.cg_arena.specs.Nodes.{IsPlace}
 use Rattle.cg_heap.specs.Calls.{IsListed, IsSound, merged}
 use Rattle.cg_heap.specs.Keeps.{one}
-use Rattle.cg_heap.specs.Weak.{AreRows}
 use Rattle.cg_heap.proofs.CallerLemmas.{live_of_kind}
-use Rattle.cg_machine.specs.declared.event.Event.{Event}
 use Rattle.cg_machine.specs.declared.event.Event.TheVariants.{Alive, Cleared}
 use Rattle.cg_machine.specs.World as machine
 use Rattle.cg_machine.specs.World.{World, Activity, Collecting, with_stack, with_objects}
 use Rattle.cg_machine.specs.Holdings.{holdings}
 use Rattle.cg_machine.specs.Represents.{Represents}
 use Rattle.cg_machine.specs.Weak.{AllLose}
-use Rattle.cg_machine.specs.Collect.{older, get_older, loses_at_split, Survives}
+use Rattle.cg_machine.specs.Collect.{older, get_older, loses_at_split}
 use Rattle.cg_machine.proofs.Representing.{in_one, count-in_degree}
 use Rattle.cg_policy.specs.Policy.{Policy}
 use Rattle.cg_trial.specs.View.{view_of, Merged}
@@ -42,20 +38,18 @@ use Rattle.cg_trial.proofs.Placed.{once_at, where_is, is_there}
 use Rattle.cg_trial.proofs.Ends.{same_but_places}
 use Rattle.cg_trial.proofs.Views.{merged_view}
 use Rattle.cg_death.proofs.RowSplits.{all_in, row_of_one, head_in}
-use Rattle.cg_death.proofs.Clearing.{none_first, some_first}
+use Rattle.cg_death.proofs.Clearing.{some_first}
 use Rattle.cg_collect.specs.declared.answer.CollectStep.TheVariants as answer_of
 use Rattle.cg_collect.specs.declared.collection.Facts.{Facts}
-use Rattle.cg_collect.specs.declared.collection.Collection.{Collection}
-use Rattle.cg_collect.specs.declared.phase.Phase.{Phase}
 use Rattle.cg_collect.specs.declared.phase.Phase.TheVariants as phase_of
 use Rattle.cg_collect.specs.Phases.{collection_of, from_on, cleared_lines, refers_to_any, without_rows_to}
-use Rattle.cg_collect.specs.Ready.{IsAt, IsApart, IsApartUnseen, HasNoneBehind}
-use Rattle.cg_collect.specs.Answers.{Shows, CollectSteps}
+use Rattle.cg_collect.specs.Ready.{IsAt, IsApartUnseen, HasNoneBehind}
+use Rattle.cg_collect.specs.Answers.{CollectSteps}
 use Rattle.cg_collect.specs.Turns.{collection_at}
-use Rattle.cg_collect.proofs.Standing.{place_is, place_at_is, stands_at, place_there, live_there, stood_at, same_more, live_on, entries_on, outside_on, objects_on, list_length, map_alike}
+use Rattle.cg_collect.proofs.Standing.{place_is, place_at_is, stands_at, place_there, live_there, stood_at, same_more, entries_on, outside_on, objects_on, list_length, map_alike}
 use Rattle.cg_collect.proofs.Telling.{from_ahead, from_first, at_first, split_at}
-use Rattle.cg_collect.proofs.Stopping.{next_from, next_at, at_right, tells_line, tells_none}
-use Rattle.cg_collect.proofs.FinalRows.{rising-filter, references_left, references_other, refers, flat_map_alike, lose_all, waiting-rest, none_to_lose, same_without}
+use Rattle.cg_collect.proofs.Stopping.{at_right, tells_line, tells_none}
+use Rattle.cg_collect.proofs.FinalRows.{references_left, references_other, refers, flat_map_alike, lose_all, waiting-rest, none_to_lose, same_without}
 use Rattle.cg_collect.proofs.Looking.{still_unsaved}
 use Rattle.cg_collect.proofs.Worlds.{steps_at, only_tells, LeavesRest, pending_is, represents_on}
 

@@ -1,17 +1,15 @@
 -- The rows of weak references to the members of the final set go one by one: each is the newest to its referent.
-use Rattle.std.proofs.Common.{◌≡◌, ◌≢◌, refl, sym, ◌∙◌, ap, subst, ℕ, ◌+◌, ◌<◌, ◌≤◌, Bool, true, false, cond, not, ◌&&◌, ◌||◌, inl, inr, List, [], ◌∷◌, ◌++◌, drop, map, reverse, Option, Some, None, arith}
-use Rattle.std.specs.Prelude.{◌==◌, if◌then◌else◌, filter, flat_map, option_map, unwrap_or, slice_get}
+use Rattle.std.proofs.Common.{◌≡◌, ◌≢◌, refl, sym, ◌∙◌, ap, subst, ℕ, ◌<◌, ◌≤◌, Bool, true, false, cond, not, ◌&&◌, ◌||◌, inl, inr, List, [], ◌∷◌, ◌++◌, drop, map, reverse, Some, arith}
+use Rattle.std.specs.Prelude.{◌==◌, filter, flat_map, slice_get}
 use Rattle.std.specs.List.{All}
-use Rattle.std.specs.FinMap as fin
-use Rattle.std.proofs.lemmas.Bool.{cases_eq, eq-eqb, eqb-true, ne_eqb}
+use Rattle.std.proofs.lemmas.Bool.{eq-eqb, eqb-true, ne_eqb}
 use Rattle.std.proofs.lemmas.List.Elements.{All-nil, All-cons, filter-append}
-use Rattle.cg_value.specs.declared.Place.TheVariants.{Cand}
 use Rattle.cg_graph.specs.Member.{Includes, includes}
 use Rattle.cg_graph.specs.Holdings.{occurrences}
 use Rattle.cg_graph.specs.Object.{Object}
 use Rattle.cg_graph.specs.Rows.{Row, IsRising, referent_in, refers_to, waits_with, newest_first, weak_references_in, waiting_in, without_row}
-use Rattle.cg_graph.specs.Store.{Store, Node, IsLive, objects_of, object_from}
-use Rattle.cg_graph.proofs.Members.{either, cases_of, true_and, includes-of, Includes-of, Includes-filter, Includes-filter_cases}
+use Rattle.cg_graph.specs.Store.{Store, IsLive, objects_of, object_from}
+use Rattle.cg_graph.proofs.Members.{either, cases_of, true_and, includes-of, Includes-of, Includes-filter_cases}
 use Rattle.cg_machine.specs.Weak.{loses_referent, MayLoseNext, NoneLeft, AllLose}
 use Rattle.cg_trial.proofs.Lists.{occurrences-cons, occurs}
 use Rattle.cg_death.proofs.RowSplits.{all_in, row_of_one, one_of_row, Split, split_at, newest_first-append, newest_first-skip, newest_first-pass, without-is, referent-is, referent-without}

@@ -1,21 +1,20 @@
 -- What a collection gives up: each reference is a step of the machine's release above it.
-use Rattle.std.proofs.Common.{◌≡◌, refl, sym, ◌∙◌, ap, subst, ℕ, ◌+◌, ◌*◌, ◌<◌, ◌≤◌, Bool, true, false, not, List, [], ◌∷◌, ◌++◌, length, Option, Some, None, IsSome, inl, inr, sum_by, arith}
-use Rattle.std.specs.Prelude.{◌==◌, ◌⊎◌, filter, is_some, drop, slice_get, option_map, if◌then◌else◌}
+use Rattle.std.proofs.Common.{◌≡◌, refl, sym, ◌∙◌, ap, subst, ℕ, ◌+◌, ◌*◌, ◌<◌, ◌≤◌, Bool, true, false, not, List, [], ◌∷◌, ◌++◌, length, Option, Some, None, IsSome, inr, sum_by, arith}
+use Rattle.std.specs.Prelude.{◌==◌, filter, is_some, drop, option_map, if◌then◌else◌}
 use Rattle.std.specs.FinMap as fin
+use Rattle.cg_value.specs.declared.Entry.{Entry}
 use Rattle.cg_value.specs.declared.KindCode.TheVariants.{Weak}
-use Rattle.cg_value.specs.declared.Place.{Place}
-use Rattle.cg_value.specs.declared.Place.TheVariants.{Cand, Seen, Back, Legacy, Pend}
+use Rattle.cg_value.specs.declared.Place.TheVariants.{Cand, Seen, Legacy, Pend}
 use Rattle.cg_script.specs.declared.Script.{Script}
-use Rattle.cg_graph.specs.Member.{Includes}
 use Rattle.cg_graph.specs.Holdings.{occurrences}
-use Rattle.cg_graph.specs.Places.{list_of}
-use Rattle.cg_graph.specs.Store.{Store, Node, IsLive, HasCode, list_at, objects_of, entries_of, entries_in, place_of, place_in, count_of}
+use Rattle.cg_graph.specs.Places.{list_of, without_serial}
+use Rattle.cg_graph.specs.Store.{Store, Node, list_at, entries_of, entries_in, place_of, place_in, count_of}
 use Rattle.cg_graph.specs.Changes.{unheld, less}
 use Rattle.cg_graph.proofs.Maps.{get-mapped}
 use Rattle.cg_heap.proofs.CallerLemmas.{kinds-unheld}
 use Rattle.cg_machine.specs.World as machine
 use Rattle.cg_machine.specs.World.{World, Activity, Releasing, Collecting, Numbers}
-use Rattle.cg_machine.specs.Weak.{callback_of, callback_in}
+use Rattle.cg_machine.specs.Weak.{callback_in}
 use Rattle.cg_machine.specs.Represents.{Represents}
 use Rattle.cg_policy.specs.Policy.{Policy}
 use Rattle.cg_death.specs.declared.release.Release.{Release}
@@ -33,35 +32,13 @@ use Rattle.cg_collect.specs.declared.phase.Turn.{Turn}
 use Rattle.cg_collect.specs.declared.phase.Phase.{Phase}
 use Rattle.cg_collect.specs.declared.phase.Phase.TheVariants as phase_of
 use Rattle.cg_collect.specs.Phases.{machine_phase, collecting, released_over, lines_left, store_after}
-use Rattle.cg_collect.specs.Ready.{IsApart, IsApartUnseen, HaveCallbacks, IsReadyAt, HasFewCollected, MayGiveUp, GivesUpIn}
+use Rattle.cg_collect.specs.Ready.{IsApart, OthersHaveCallbacks, IsReadyAt, HasFewCollected, MayGiveUp, GivesUpIn, MayRun, IsBegun, SparesGarbageList}
 use Rattle.cg_collect.specs.Answers.{Shows, CollectAnswer, CollectSteps, numbers_at}
-use Rattle.cg_collect.specs.Turns.{TurnSteps, ComesNearer, left_in_pass, still_released, still_cleared}
-use Rattle.cg_collect.specs.Collections.{IsReady, KeepsReady, CollectFalls, GivesUpNext, died_in, once_given_up, give_up_answer}
+use Rattle.cg_collect.specs.Turns.{pass_of, passes_on, TurnSteps, ComesNearer, KeepsObjects, left_in_pass, to_clear, others_cleared}
+use Rattle.cg_collect.specs.Collections.{IsReady, KeepsReady, CollectFalls, GivesUpNext, once_given_up, give_up_answer}
 use Rattle.cg_collect.proofs.Worlds.{turn_steps}
+use Rattle.cg_collect.proofs.Keeping.{keeps-released}
 use Rattle.cg_collect.proofs.Looking.{still_unsaved}
-
--- the other phases stay
-pub died_elsewhere : (phase : Phase) → ((weak : ℕ) (died : Bool) → phase ≡ phase_of.AfterRelease weak died → ⊥) → ((o : ℕ) (died : Bool) → phase ≡ phase_of.AfterTurn o died → ⊥) → phase ≡ died_in phase
-died_elsewhere phase_of.Start a b = refl
-died_elsewhere (phase_of.Sizes zero one two frozen) a b = refl
-died_elsewhere (phase_of.Telling next) a b = refl
-died_elsewhere (phase_of.WeakClearing member weak) a b = refl
-died_elsewhere phase_of.WeakCalling a b = refl
-died_elsewhere (phase_of.AfterCallback weak) a b = refl
-died_elsewhere (phase_of.AfterRelease weak died) a b = absurd (a weak died refl)
-died_elsewhere phase_of.Finalizing a b = refl
-died_elsewhere (phase_of.AfterFinalizing o) a b = refl
-died_elsewhere phase_of.Split a b = refl
-died_elsewhere (phase_of.Living next) a b = refl
-died_elsewhere (phase_of.Detaching next) a b = refl
-died_elsewhere phase_of.Turns a b = refl
-died_elsewhere (phase_of.Turn o) a b = refl
-died_elsewhere (phase_of.AfterTurn o died) a b = absurd (b o died refl)
-died_elsewhere phase_of.Ending a b = refl
-died_elsewhere (phase_of.Uncollectable first next number) a b = refl
-died_elsewhere (phase_of.Saved next number) a b = refl
-died_elsewhere (phase_of.Stopping number) a b = refl
-died_elsewhere (phase_of.Over number) a b = refl
 
 -- A release that neither died nor ended went on.
 pub goes_on_with : (c : Collection) (release : Release) (answer : DeathStep) → ((o : ℕ) → answer ≡ death_answer.Died o → ⊥) → (answer ≡ death_answer.Gone → ⊥)
@@ -81,10 +58,10 @@ record GivesUpAt (p : Phase) : Type 0 where
   stands : (pending : List ℕ) → machine_phase p pending ≡ Some (phase pending)
 
 gives_up_at : (p : Phase) → MayGiveUp p → GivesUpAt p
-gives_up_at (phase_of.AfterRelease weak died) may = record { lines = λ script asked c store. refl; heap = λ store. refl; numbers = λ g n. refl; phase = λ pending. machine.AfterRelease weak (filter (λ q. not (q == weak)) pending); stands = λ pending. refl }
+gives_up_at (phase_of.AfterRelease weak) may = record { lines = λ script asked c store. refl; heap = λ store. refl; numbers = λ g n. refl; phase = λ pending. machine.AfterRelease weak (filter (λ q. not (q == weak)) pending); stands = λ pending. refl }
 gives_up_at phase_of.Finalizing may = record { lines = λ script asked c store. refl; heap = λ store. refl; numbers = λ g n. refl; phase = λ pending. machine.Finalizing; stands = λ pending. refl }
 gives_up_at (phase_of.Turn o) may = record { lines = λ script asked c store. refl; heap = λ store. refl; numbers = λ g n. refl; phase = λ pending. machine.Turn o; stands = λ pending. refl }
-gives_up_at (phase_of.AfterTurn o died) may = record { lines = λ script asked c store. refl; heap = λ store. refl; numbers = λ g n. refl; phase = λ pending. machine.AfterTurn o; stands = λ pending. refl }
+gives_up_at (phase_of.AfterTurn o) may = record { lines = λ script asked c store. refl; heap = λ store. refl; numbers = λ g n. refl; phase = λ pending. machine.AfterTurn o; stands = λ pending. refl }
 gives_up_at phase_of.Start may = absurd may
 gives_up_at (phase_of.Sizes zero one two frozen) may = absurd may
 gives_up_at (phase_of.Telling next) may = absurd may
@@ -102,29 +79,6 @@ gives_up_at (phase_of.Saved next number) may = absurd may
 gives_up_at (phase_of.Stopping number) may = absurd may
 gives_up_at (phase_of.Over number) may = absurd may
 
--- one that died of it stands there as before
-died_at : (p : Phase) → MayGiveUp p → MayGiveUp (died_in p) × ((pending : List ℕ) → machine_phase (died_in p) pending ≡ machine_phase p pending)
-died_at (phase_of.AfterRelease weak died) may = (tt, λ pending. refl)
-died_at phase_of.Finalizing may = (tt, λ pending. refl)
-died_at (phase_of.Turn o) may = (tt, λ pending. refl)
-died_at (phase_of.AfterTurn o died) may = (tt, λ pending. refl)
-died_at phase_of.Start may = absurd may
-died_at (phase_of.Sizes zero one two frozen) may = absurd may
-died_at (phase_of.Telling next) may = absurd may
-died_at (phase_of.WeakClearing member weak) may = absurd may
-died_at phase_of.WeakCalling may = absurd may
-died_at (phase_of.AfterCallback weak) may = absurd may
-died_at (phase_of.AfterFinalizing o) may = absurd may
-died_at phase_of.Split may = absurd may
-died_at (phase_of.Living next) may = absurd may
-died_at (phase_of.Detaching next) may = absurd may
-died_at phase_of.Turns may = absurd may
-died_at phase_of.Ending may = absurd may
-died_at (phase_of.Uncollectable first next number) may = absurd may
-died_at (phase_of.Saved next number) may = absurd may
-died_at (phase_of.Stopping number) may = absurd may
-died_at (phase_of.Over number) may = absurd may
-
 -- A release leaves the lists, the entries, the places and the kinds of a heap.
 lists-released : (refs : List ℕ) (store : Store) → (once_released refs store).lists ≡ store.lists
 lists-released [] store = refl
@@ -140,16 +94,14 @@ module _ (script : Script) (asked : Bool) (c : Collection) (store now : Store) (
   under = collecting asked c (machine_phase c.phase (list_at store Pend)) ++ below
 
   -- what it shows then
-  shows_at : (p : Phase) (r : Option Release) → MayGiveUp p → ((pending : List ℕ) → machine_phase p pending ≡ machine_phase c.phase pending) → (v : World) → Represents now v → v.numbers ≡ w.numbers
-      → v.stack ≡ released_over r (collecting asked c (machine_phase c.phase (list_at store Pend))) ++ below → Shows asked (record c { phase = p; release = r }) now policy v below
-  shows_at p r may_now same v rep numbers_now top =
-      let there = gives_up_at p may_now in
-      record {
-        represents = subst (λ st. Represents st v) (sym (there.heap now)) rep;
-        numbers = numbers ∙ sym numbers_now ∙ sym (there.numbers c.generation v.numbers);
-        running = running ∙ sym (ap is_some (there.stands []));
-        top = top ∙ ap (λ l. released_over r (collecting asked c (machine_phase c.phase (list_of l 6))) ++ below) (sym lists) ∙ ap (λ m. released_over r (collecting asked c m) ++ below) (sym (same (list_at now Pend)));
-      }
+  shows_at : (r : Option Release) (v : World) → Represents now v → v.numbers ≡ w.numbers
+      → v.stack ≡ released_over r (collecting asked c (machine_phase c.phase (list_at store Pend))) ++ below → Shows asked (record c { release = r }) now policy v below
+  shows_at r v rep numbers_now top = record {
+    represents = subst (λ st. Represents st v) (sym (at.heap now)) rep;
+    numbers = numbers ∙ sym numbers_now ∙ sym (at.numbers c.generation v.numbers);
+    running = running ∙ sym (ap is_some (at.stands []));
+    top = top ∙ ap (λ l. released_over r (collecting asked c (machine_phase c.phase (list_of l 6))) ++ below) (sym lists);
+  }
 
   no_lines : [] ≡ lines_left script asked c c.phase store
   no_lines = sym (at.lines script asked c store)
@@ -160,28 +112,27 @@ module _ (script : Script) (asked : Bool) (c : Collection) (store now : Store) (
     after = r.goes.after;
     goes = r.goes.goes;
     lines = ap (λ l. l ++ []) (at.lines script asked c store) ∙ sym (at.lines script asked (record c { release = Some after }) now);
-    shows = shows_at c.phase (Some after) may (λ pending. refl) r.goes.after r.goes.represents r.keeps.numbers r.goes.top;
+    shows = shows_at (Some after) r.goes.after r.goes.represents r.keeps.numbers r.goes.top;
     keeps = record { budget = r.keeps.budget; outcome = r.keeps.outcome };
   }
   answered (death_answer.Emit event) r = absurd r
   answered (death_answer.Frame spec) r = absurd r
-  answered (death_answer.Died o) r =
-      let later = died_at c.phase may in (
-        at.lines script asked c store,
-        (gives_up_at (died_in c.phase) later.0).lines script asked (record c { phase = died_in c.phase; release = Some after }) now,
-        record {
-          before = r.hands.before;
-          goes = r.hands.goes;
-          shows = shows_at (died_in c.phase) (Some after) later.0 later.1 r.hands.before r.hands.represents r.keeps.numbers r.hands.top;
-          keeps = record { budget = r.keeps.budget; outcome = r.keeps.outcome };
-        },
-      )
+  answered (death_answer.Died o) r = (
+    at.lines script asked c store,
+    at.lines script asked (record c { release = Some after }) now,
+    record {
+      before = r.hands.before;
+      goes = r.hands.goes;
+      shows = shows_at (Some after) r.hands.before r.hands.represents r.keeps.numbers r.hands.top;
+      keeps = record { budget = r.keeps.budget; outcome = r.keeps.outcome };
+    },
+  )
   answered death_answer.Gone r = record {
     events = [];
     after = r.goes.after;
     goes = r.goes.goes;
     lines = ap (λ l. l ++ []) (at.lines script asked c store) ∙ sym (at.lines script asked (record c { release = None }) now);
-    shows = shows_at c.phase None may (λ pending. refl) r.goes.after r.goes.represents r.keeps.numbers r.goes.top;
+    shows = shows_at None r.goes.after r.goes.represents r.keeps.numbers r.goes.top;
     keeps = record { budget = r.keeps.budget; outcome = r.keeps.outcome };
   }
 
@@ -227,13 +178,6 @@ module _ (refs : List ℕ) (store : Store) where
       known None = refl
       known (Some n) = refl
 
-  dead_before : (s : ℕ) → ¬ IsLive store s → ¬ IsLive let_off s
-  dead_before s dead live = dead (known (fin.get store.nodes s) (subst IsSome (get-mapped (λ k n. less (occurrences k refs) n) store.nodes s) live))
-    where
-      known : (x : Option Node) → IsSome (option_map (less (occurrences s refs)) x) → IsSome x
-      known None h = absurd (cc)
-      known (Some n) h = refl
-
   apart-unheld : IsApart store → IsApart let_off
   apart-unheld apart = record {
     garbage = place_of-unheld 1 ∙ apart.garbage;
@@ -243,17 +187,15 @@ module _ (refs : List ℕ) (store : Store) where
     legacy = still_unsaved store let_off Legacy (entries_of-unheld 1) apart.legacy;
   }
 
-  callbacks-unheld : HaveCallbacks store → HaveCallbacks let_off
-  callbacks-unheld have u m = let has = have u m in (kinds-unheld refs store u Weak has.0, subst IsSome (sym (callback-at let_off u ∙ ap callback_in (entries_of-unheld u) ∙ sym (callback-at store u))) has.1)
+  others-unheld : (weak : ℕ) → OthersHaveCallbacks store weak → OthersHaveCallbacks let_off weak
+  others-unheld weak have u m differs = let has = have u m differs in (kinds-unheld refs store u Weak has.0, subst IsSome (sym (callback-at let_off u ∙ ap callback_in (entries_of-unheld u) ∙ sym (callback-at store u))) has.1)
 
   -- the phases that give something up are ready as before
   ready-unheld : (g : ℕ) (p : Phase) → MayGiveUp p → IsReadyAt store g p → IsReadyAt let_off g p
-  ready-unheld g (phase_of.AfterRelease weak true) may r = ((apart-unheld r.0.0, r.0.1), callbacks-unheld r.1, dead_before weak r.2)
-  ready-unheld g (phase_of.AfterRelease weak false) may r = ((apart-unheld r.0.0, r.0.1), callbacks-unheld r.1, r.2)
+  ready-unheld g (phase_of.AfterRelease weak) may r = ((apart-unheld r.0.0, r.0.1), others-unheld weak r.1, r.2)
   ready-unheld g phase_of.Finalizing may r = apart-unheld r
-  ready-unheld g (phase_of.Turn o) may r = ((apart-unheld r.0.0, r.0.1), place_of-unheld o ∙ r.1)
-  ready-unheld g (phase_of.AfterTurn o true) may r = ((apart-unheld r.0.0, r.0.1), dead_before o r.1)
-  ready-unheld g (phase_of.AfterTurn o false) may r = ((apart-unheld r.0.0, r.0.1), place_of-unheld o ∙ r.1)
+  ready-unheld g (phase_of.Turn o) may r = ((apart-unheld r.0.0, r.0.1), r.1)
+  ready-unheld g (phase_of.AfterTurn o) may r = ((apart-unheld r.0.0, r.0.1), r.1)
   ready-unheld g phase_of.Start may r = absurd may
   ready-unheld g (phase_of.Sizes zero one two frozen) may r = absurd may
   ready-unheld g (phase_of.Telling next) may r = absurd may
@@ -273,11 +215,10 @@ module _ (refs : List ℕ) (store : Store) where
 
   -- as few are collected
   few-unheld : (n : ℕ) (p : Phase) → MayGiveUp p → HasFewCollected n p store → HasFewCollected n p let_off
-  few-unheld n (phase_of.AfterRelease weak true) may few = few
-  few-unheld n (phase_of.AfterRelease weak false) may few = few
+  few-unheld n (phase_of.AfterRelease weak) may few = few
   few-unheld n phase_of.Finalizing may few = few
   few-unheld n (phase_of.Turn o) may few = few
-  few-unheld n (phase_of.AfterTurn o died) may few = few
+  few-unheld n (phase_of.AfterTurn o) may few = few
   few-unheld n phase_of.Start may few = absurd may
   few-unheld n (phase_of.Sizes zero one two frozen) may few = absurd may
   few-unheld n (phase_of.Telling next) may few = absurd may
@@ -295,16 +236,18 @@ module _ (refs : List ℕ) (store : Store) where
   few-unheld n (phase_of.Stopping number) may few = absurd may
   few-unheld n (phase_of.Over number) may few = absurd may
 
-  cleared-unheld : still_cleared let_off ≡ still_cleared store
-  cleared-unheld = λ i. sum_by (λ o. 16 + 4 * length (entries_of-unheld o i)) (list_at store Cand)
+  to_clear-unheld : (o : ℕ) → to_clear let_off o ≡ to_clear store o
+  to_clear-unheld o = ap (λ (es : List Entry). 16 + 4 * length es) (entries_of-unheld o)
+
+  others_cleared-unheld : (o : ℕ) → others_cleared let_off o ≡ others_cleared store o
+  others_cleared-unheld o = λ i. sum_by (λ q. to_clear-unheld q i) (without_serial o (list_at store Cand))
 
   -- and as much is left in the pass
   left-unheld : (p : Phase) → MayGiveUp p → left_in_pass p let_off ≡ left_in_pass p store
-  left-unheld (phase_of.AfterRelease weak died) may = refl
+  left-unheld (phase_of.AfterRelease weak) may = refl
   left-unheld phase_of.Finalizing may = refl
-  left-unheld (phase_of.Turn o) may = ap (λ n. n + 8) cleared-unheld
-  left-unheld (phase_of.AfterTurn o true) may = ap (λ n. n + 10) cleared-unheld
-  left-unheld (phase_of.AfterTurn o false) may = ap (λ n. n + 1) cleared-unheld
+  left-unheld (phase_of.Turn o) may = λ i. others_cleared-unheld o i + to_clear-unheld o i + 8
+  left-unheld (phase_of.AfterTurn o) may = ap (λ n. n + 10) (others_cleared-unheld o)
   left-unheld phase_of.Start may = absurd may
   left-unheld (phase_of.Sizes zero one two frozen) may = absurd may
   left-unheld (phase_of.Telling next) may = absurd may
@@ -321,6 +264,35 @@ module _ (refs : List ℕ) (store : Store) where
   left-unheld (phase_of.Saved next number) may = absurd may
   left-unheld (phase_of.Stopping number) may = absurd may
   left-unheld (phase_of.Over number) may = absurd may
+
+-- What lasts of a phase that gives something up: deaths run in it, it comes after the start, and it spares the garbage list.
+record Lasts (p : Phase) : Type 0 where
+  runs : MayRun p
+  begun : IsBegun p
+  onward : passes_on p ≡ 0
+  spares : (store : Store) (g : ℕ) → IsReadyAt store g p → SparesGarbageList p
+
+lasts_at : (p : Phase) → MayGiveUp p → Lasts p
+lasts_at (phase_of.AfterRelease weak) may = record { runs = tt; begun = tt; onward = refl; spares = λ store g r. r.2 }
+lasts_at phase_of.Finalizing may = record { runs = tt; begun = tt; onward = refl; spares = λ store g r. tt }
+lasts_at (phase_of.Turn o) may = record { runs = tt; begun = tt; onward = refl; spares = λ store g r. r.1 }
+lasts_at (phase_of.AfterTurn o) may = record { runs = tt; begun = tt; onward = refl; spares = λ store g r. r.1 }
+lasts_at phase_of.Start may = absurd may
+lasts_at (phase_of.Sizes zero one two frozen) may = absurd may
+lasts_at (phase_of.Telling next) may = absurd may
+lasts_at (phase_of.WeakClearing member weak) may = absurd may
+lasts_at phase_of.WeakCalling may = absurd may
+lasts_at (phase_of.AfterCallback weak) may = absurd may
+lasts_at (phase_of.AfterFinalizing o) may = absurd may
+lasts_at phase_of.Split may = absurd may
+lasts_at (phase_of.Living next) may = absurd may
+lasts_at (phase_of.Detaching next) may = absurd may
+lasts_at phase_of.Turns may = absurd may
+lasts_at phase_of.Ending may = absurd may
+lasts_at (phase_of.Uncollectable first next number) may = absurd may
+lasts_at (phase_of.Saved next number) may = absurd may
+lasts_at (phase_of.Stopping number) may = absurd may
+lasts_at (phase_of.Over number) may = absurd may
 
 -- all this of a step of a release
 record Unchanged (store now : Store) (p : Phase) : Type 0 where
@@ -352,8 +324,40 @@ module _ (c : Collection) (store : Store) (new : Collection) (now : Store) (answ
       known death_answer.Continue = record { generation = ready.generation; phase = same.ready c.generation ready.phase; collected = same.few c.collected ready.collected; gives_up = may }
       known (death_answer.Emit event) = record { generation = ready.generation; phase = same.ready c.generation ready.phase; collected = same.few c.collected ready.collected; gives_up = may }
       known (death_answer.Frame spec) = record { generation = ready.generation; phase = same.ready c.generation ready.phase; collected = same.few c.collected ready.collected; gives_up = may }
-      known (death_answer.Died o) = ready.generation
+      known (death_answer.Died o) = (
+        record {
+          runs = (lasts_at c.phase may).runs;
+          generation = ready.generation;
+          collected = same.few c.collected ready.collected;
+          gives_up = may;
+          spares = (lasts_at c.phase may).spares store c.generation ready.phase;
+        },
+        refl,
+      )
       known death_answer.Gone = record { generation = ready.generation; phase = same.ready c.generation ready.phase; collected = same.few c.collected ready.collected; gives_up = tt }
+
+  -- generation and phase stay
+  gives_up-stays : (new.generation ≡ c.generation) × (new.phase ≡ c.phase)
+  gives_up-stays = subst (λ (n : Collection). (n.generation ≡ c.generation) × (n.phase ≡ c.phase)) (sym g.collection) (known (release_answer (references_left g.before) now))
+    where
+      known : (a : DeathStep) → ((once_given_up c g.after a).generation ≡ c.generation) × ((once_given_up c g.after a).phase ≡ c.phase)
+      known death_answer.Continue = (refl, refl)
+      known (death_answer.Emit event) = (refl, refl)
+      known (death_answer.Frame spec) = (refl, refl)
+      known (death_answer.Died o) = (refl, refl)
+      known death_answer.Gone = (refl, refl)
+
+  pub gives_up-generation : new.generation ≡ c.generation
+  gives_up-generation = gives_up-stays.0
+
+  pub gives_up-begun : IsBegun new.phase
+  gives_up-begun = subst IsBegun (sym gives_up-stays.1) (lasts_at c.phase may).begun
+
+  pub gives_up-onward : pass_of c.phase + passes_on c.phase ≤ pass_of new.phase
+  gives_up-onward = omega (arith, (lasts_at c.phase may).onward, ap pass_of gives_up-stays.1)
+
+  pub gives_up-keeps : KeepsObjects store now
+  gives_up-keeps = subst (KeepsObjects store) (sym g.heap) (keeps-released (references_left g.before) store)
 
   -- and less is left
   pub gives_up-falls : answer ≡ answer_of.Continue → CollectFalls c store new now
@@ -394,8 +398,7 @@ few_at_most n (phase_of.Telling next) store few = omega (arith, few)
 few_at_most n (phase_of.WeakClearing member weak) store few = omega (arith, few)
 few_at_most n phase_of.WeakCalling store few = omega (arith, few)
 few_at_most n (phase_of.AfterCallback weak) store few = omega (arith, few)
-few_at_most n (phase_of.AfterRelease weak true) store few = omega (arith, few)
-few_at_most n (phase_of.AfterRelease weak false) store few = omega (arith, few)
+few_at_most n (phase_of.AfterRelease weak) store few = omega (arith, few)
 few_at_most n phase_of.Finalizing store few = omega (arith, few)
 few_at_most n (phase_of.AfterFinalizing o) store few = omega (arith, few)
 few_at_most n phase_of.Split store few = omega (arith, few)
@@ -403,12 +406,12 @@ few_at_most n (phase_of.Living next) store few = few
 few_at_most n (phase_of.Detaching next) store few = few
 few_at_most n phase_of.Turns store few = few
 few_at_most n (phase_of.Turn o) store few = few
-few_at_most n (phase_of.AfterTurn o died) store few = few
+few_at_most n (phase_of.AfterTurn o) store few = few
 few_at_most n phase_of.Ending store few = few
-few_at_most n (phase_of.Uncollectable first next number) store few = few
-few_at_most n (phase_of.Saved next number) store few = few
-few_at_most n (phase_of.Stopping number) store few = few
-few_at_most n (phase_of.Over number) store few = few
+few_at_most n (phase_of.Uncollectable first next number) store few = few.0
+few_at_most n (phase_of.Saved next number) store few = few.0
+few_at_most n (phase_of.Stopping number) store few = few.0
+few_at_most n (phase_of.Over number) store few = few.0
 
 -- A collection that is over says so.
 pub turn-over : (script : Script) (facts : Facts) (store : Store) (policy : Policy) (number : ℕ) (turn : Turn)

@@ -5,10 +5,12 @@ pub mod Garbage
 pub mod Sums
 pub mod Untracked
 pub mod Worlds
+pub mod Keeping
 pub mod Looking
 pub mod Turning
 pub mod Saved
 pub mod Merging
+pub mod Looks
 pub mod Telling
 pub mod FinalRows
 pub mod Stopping

@@ -1,24 +1,24 @@
 -- A weak reference loses its referent in the weak phase: what the heap does is the step of the machine.
-use Rattle.std.proofs.Common.{◌≡◌, ◌≢◌, refl, sym, ◌∙◌, ap, subst, ℕ, ◌+◌, ◌<◌, Bool, true, false, not, List, [], ◌∷◌, ◌++◌, length, Option, Some, None, IsSome, inl, inr, arith}
-use Rattle.std.specs.Prelude.{◌==◌, ◌⊎◌, ◌&&◌, ◌||◌, if◌then◌else◌, option_map, is_some}
+use Rattle.std.proofs.Common.{◌≡◌, ◌≢◌, refl, sym, ◌∙◌, ap, subst, ℕ, ◌<◌, Bool, true, false, not, List, [], ◌∷◌, ◌++◌, length, Option, Some, None, IsSome, inl, inr, arith}
+use Rattle.std.specs.Prelude.{◌==◌, ◌||◌, if◌then◌else◌, option_map, is_some}
 use Rattle.std.specs.FinMap as fin
 use Rattle.std.proofs.lemmas.Bool.{cases_eq, eq-eqb}
 use Rattle.cg_value.specs.declared.KindCode.TheVariants.{List as ListKind, Weak}
 use Rattle.cg_value.specs.declared.Place.{Place}
-use Rattle.cg_value.specs.declared.Place.TheVariants.{Untracked, Cand, Seen, Back, Legacy, Pend}
+use Rattle.cg_value.specs.declared.Place.TheVariants.{Cand, Seen, Back, Legacy, Pend}
 use Rattle.cg_script.specs.declared.Script.{Script}
 use Rattle.cg_graph.specs.Member.{Includes}
 use Rattle.cg_graph.specs.Holdings.{occurrences}
 use Rattle.cg_graph.specs.Object.{Object, change, with_place as object_placed, with_referent, same_place}
-use Rattle.cg_graph.specs.Places.{place_number, list_of, move_between, without_serial}
+use Rattle.cg_graph.specs.Places.{place_number, list_of, move_between}
 use Rattle.cg_graph.specs.Rows.{Row, IsRising, next_older_in, without_row}
-use Rattle.cg_graph.specs.Store.{Store, Node, IsLive, HasCode, list_at, objects_of, outside_of, entries_of, entries_in, place_of, place_in}
+use Rattle.cg_graph.specs.Store.{Store, Node, IsLive, HasCode, list_at, objects_of, entries_of, entries_in, place_of, place_in}
 use Rattle.cg_graph.specs.Changes.{held, more, moved, with_place}
 use Rattle.cg_graph.proofs.Maps.{get-mapped, get-changed_other}
 use Rattle.cg_graph.proofs.Members.{either, cases_of, true_and, Includes-append_cases}
 use Rattle.cg_graph.proofs.Objects.{objects-same, objects-changed, occurrences-append}
 use Rattle.cg_arena.specs.Nodes.{IsPlace}
-use Rattle.cg_heap.specs.Calls.{IsListed, IsSound}
+use Rattle.cg_heap.specs.Calls.{IsSound}
 use Rattle.cg_heap.specs.Weak.{AreRows, cleared_weak}
 use Rattle.cg_heap.proofs.CallerLemmas.{live_of_kind, lives_on, kinds-held, kinds-moved}
 use Rattle.cg_heap.proofs.HoldLemmas.{outside-moved, outside-held}
@@ -44,7 +44,7 @@ use Rattle.cg_collect.specs.Phases.{collection_of}
 use Rattle.cg_collect.specs.Ready.{IsApartUnseen, HaveCallbacks, IsWalk, to_look_at}
 use Rattle.cg_collect.specs.Answers.{CollectSteps}
 use Rattle.cg_collect.specs.Turns.{collection_at}
-use Rattle.cg_collect.proofs.Moving.{moved_there, moved_not, moved_last, moved_from}
+use Rattle.cg_collect.proofs.Moving.{moved_not, moved_last, moved_from}
 use Rattle.cg_collect.proofs.Worlds.{LeavesRest, steps_at, represents_on}
 use Rattle.cg_collect.proofs.Looking.{still_unsaved}
 use Rattle.cg_collect.proofs.Pending.{apart_away}

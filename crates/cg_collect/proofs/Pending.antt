@@ -1,6 +1,6 @@
 -- The weak references that wait: their callbacks are called one after the other, and then each is given up.
-use Rattle.std.proofs.Common.{◌≡◌, ◌≢◌, refl, sym, ◌∙◌, ap, subst, ℕ, ◌+◌, ◌*◌, ◌<◌, ◌≤◌, Bool, true, false, cond, not, List, [], ◌∷◌, ◌++◌, length, Option, Some, None, IsSome, inl, inr, arith}
-use Rattle.std.specs.Prelude.{◌==◌, ◌⊎◌, if◌then◌else◌, filter, flat_map, drop, IfSome, option_map, option_and_then, slice_get, unwrap_or, is_some}
+use Rattle.std.proofs.Common.{◌≡◌, ◌≢◌, refl, sym, ◌∙◌, ap, subst, ℕ, ◌+◌, ◌<◌, ◌≤◌, true, false, cond, not, List, [], ◌∷◌, ◌++◌, length, Option, Some, None, IsSome, inr, arith}
+use Rattle.std.specs.Prelude.{◌==◌, if◌then◌else◌, filter, drop, IfSome, option_map, option_and_then, slice_get, unwrap_or, is_some}
 use Rattle.std.specs.FinMap as fin
 use Rattle.std.proofs.lemmas.Bool.{eq-eqb}
 use Rattle.cg_value.specs.declared.Entry.{Entry}
@@ -8,14 +8,14 @@ use Rattle.cg_value.specs.declared.Val.{Val}
 use Rattle.cg_value.specs.declared.Val.TheVariants.{None as Nothing, Int, Str, Ref}
 use Rattle.cg_value.specs.declared.KindCode.TheVariants.{Weak}
 use Rattle.cg_value.specs.declared.Place.{Place}
-use Rattle.cg_value.specs.declared.Place.TheVariants.{Untracked, Gen, Frozen, Cand, Seen, Back, Legacy, Pend}
+use Rattle.cg_value.specs.declared.Place.TheVariants.{Gen, Cand, Seen, Back, Legacy, Pend}
 use Rattle.cg_script.specs.declared.Script.{Script}
 use Rattle.cg_graph.specs.Member.{Includes}
 use Rattle.cg_graph.specs.Value.{reference_in}
 use Rattle.cg_graph.specs.Holdings.{occurrences}
 use Rattle.cg_graph.specs.Object.{Object, object_at, is_in_map, change, with_place as object_placed}
 use Rattle.cg_graph.specs.Places.{without_serial}
-use Rattle.cg_graph.specs.Store.{Store, Node, IsLive, HasCode, list_at, objects_of, object_from, inner, entries_of, place_of}
+use Rattle.cg_graph.specs.Store.{Store, Node, IsLive, list_at, objects_of, object_from, inner, entries_of}
 use Rattle.cg_graph.specs.Changes.{moved, with_place}
 use Rattle.cg_graph.proofs.Members.{either, cases_of}
 use Rattle.cg_graph.proofs.Objects.{object-at, objects-changed, occurrences-append}
@@ -30,27 +30,26 @@ use Rattle.cg_machine.specs.World.{World, Activity, Releasing, Collecting, with_
 use Rattle.cg_machine.specs.Frame.{Transition, start_frame}
 use Rattle.cg_machine.specs.Weak.{callback_of, callback_in}
 use Rattle.cg_machine.specs.Collect.{older, calls_back, after_release}
-use Rattle.cg_machine.specs.Laws.{all_waits, waits_of}
+use Rattle.cg_machine.specs.Laws.{all_waits}
 use Rattle.cg_machine.proofs.PlainCollect.{occurrences-cons}
 use Rattle.cg_machine.proofs.Representing.{in_one}
 use Rattle.cg_policy.specs.Policy.{Policy}
-use Rattle.cg_trial.proofs.Lists.{Includes-without, absent, stands_or_not, without-absent, without-cons_yes, without-cons_no}
+use Rattle.cg_trial.proofs.Lists.{Includes-without, absent, length-without, without-absent, without-cons_yes, without-cons_no}
 use Rattle.cg_trial.proofs.Placed.{where_is}
 use Rattle.cg_death.specs.declared.release.Release.{Release}
 use Rattle.cg_death.specs.Activities.{references_left}
-use Rattle.cg_death.proofs.RowSplits.{head_in}
-use Rattle.cg_death.proofs.Clearing.{none_first, some_first}
+use Rattle.cg_death.proofs.Clearing.{none_first}
 use Rattle.cg_death.proofs.Calling.{callback-at}
 use Rattle.cg_collect.specs.declared.answer.CollectStep.TheVariants as answer_of
 use Rattle.cg_collect.specs.declared.collection.Facts.{Facts}
 use Rattle.cg_collect.specs.declared.phase.Phase.TheVariants as phase_of
 use Rattle.cg_collect.specs.Phases.{collection_of}
-use Rattle.cg_collect.specs.Ready.{IsApartUnseen, HaveCallbacks}
+use Rattle.cg_collect.specs.Ready.{IsApartUnseen, HaveCallbacks, OthersHaveCallbacks}
 use Rattle.cg_collect.specs.Answers.{CollectSteps}
 use Rattle.cg_collect.specs.Turns.{collection_at}
 use Rattle.cg_collect.proofs.Standing.{entries_on}
 use Rattle.cg_collect.proofs.Moving.{moved_same, moved_not, moved_from, value_lives}
-use Rattle.cg_collect.proofs.Worlds.{steps_at, with_same_rows, pending_is, represents_on, represents_same, represents_giving_up}
+use Rattle.cg_collect.proofs.Worlds.{steps_at, with_same_rows, represents_on, represents_same, represents_giving_up}
 use Rattle.cg_collect.proofs.Looking.{still_unsaved}
 
 -- a list without a serial, by the test of the machine
@@ -72,6 +71,23 @@ rest_is [] x e none = refl
 rest_is (y ∷ xs) x e none =
     let same : y ≡ x = cc in
     ap (λ b. cond (not b) (y ∷ filter (λ q. not (q == x)) xs) (filter (λ q. not (q == x)) xs)) (eq-eqb y x same) ∙ sym (without_serial-is x xs) ∙ without-absent x xs none
+
+-- without the first it is shorter
+pub first_left : (xs : List ℕ) (x : ℕ) → slice_get xs 0 ≡ Some x → length (filter (λ q. not (q == x)) xs) + 1 ≤ length xs
+first_left [] x e = absurd (cc)
+first_left (y ∷ xs) x e =
+    let same : y ≡ x = cc in
+    let gone : length (filter (λ q. not (q == x)) (y ∷ xs)) ≡ length (without_serial x xs) =
+    ap (λ b. length (cond (not b) (y ∷ filter (λ q. not (q == x)) xs) (filter (λ q. not (q == x)) xs))) (eq-eqb y x same) ∙ ap (λ (l : List ℕ). length l) (sym (without_serial-is x xs)) in
+    omega (arith, gone, length-without x xs)
+
+-- One that has died does not wait: the others are all.
+module _ (store : Store) (listed : IsListed store) (weak : ℕ) (dead : ¬ IsLive store weak) where
+  pub others_are_all : filter (λ q. not (q == weak)) (list_at store Pend) ≡ list_at store Pend
+  others_are_all = sym (without_serial-is weak (list_at store Pend)) ∙ without-absent weak (list_at store Pend) (absent (list_at store Pend) weak (λ m. dead (where_is store listed Pend weak m).0))
+
+  pub all_have_callbacks : OthersHaveCallbacks store weak → HaveCallbacks store
+  all_have_callbacks have w m = have w m (λ e. dead (subst (IsLive store) e (where_is store listed Pend w m).0))
 
 -- An object leaves the weak references that wait, or becomes one: what is set apart stays so.
 module _ (store : Store) (listed : IsListed store) (o : ℕ) (live : IsLive store o) (q : Place) (place : IsPlace q) where
@@ -100,8 +116,11 @@ module _ (store : Store) (listed : IsListed store) (o : ℕ) (live : IsLive stor
   pub callback_away : (s : ℕ) → callback_of (objects_of away) s ≡ callback_of (objects_of store) s
   callback_away s = callback-at away s ∙ ap callback_in (same_entries s) ∙ sym (callback-at store s)
 
-  pub callbacks_away : Pend ≢ q → HaveCallbacks store → HaveCallbacks away
-  callbacks_away not_pend have s m = let has = have s (left Pend not_pend s m) in (kinds-moved o q store s Weak has.0, subst IsSome (sym (callback_away s)) has.1)
+  pub callbacks_away : Pend ≢ q → OthersHaveCallbacks store o → HaveCallbacks away
+  callbacks_away not_pend have s m =
+      let there = Includes-without o (list_at store Pend) s (subst (λ l. Includes l s) (moved_from store listed o live q place Pend not_pend) m) in
+      let has = have s there.0 there.1 in
+      (kinds-moved o q store s Weak has.0, subst IsSome (sym (callback_away s)) has.1)
 
 -- a callback lives
 refers_to_it : (v : Val) (f : ℕ) → reference_in v ≡ Some f → v ≡ Ref f
@@ -144,6 +163,19 @@ dead_none (Some n) h = absurd (h refl)
 -- the older generation has a list
 pub older_place : (g : ℕ) → g ≤ 2 → IsPlace (Gen (older g))
 older_place g small = omega arith
+
+-- Once one of them got older the others wait.
+module _ (store : Store) (weak : ℕ) (listed : IsListed store) (live : IsLive store weak) (g : ℕ) (small : g ≤ 2) where
+  left_there : list_at (moved weak (Gen (older g)) store) Pend ≡ without_serial weak (list_at store Pend)
+  left_there = moved_from store listed weak live (Gen (older g)) (older_place g small) Pend (λ e. cc)
+
+  pub others_wait : list_at (moved weak (Gen (older g)) store) Pend ≡ filter (λ q. not (q == weak)) (list_at store Pend)
+  others_wait = left_there ∙ without_serial-is weak (list_at store Pend)
+
+  pub no_more_wait : length (list_at (moved weak (Gen (older g)) store) Pend) ≤ length (list_at store Pend)
+  no_more_wait =
+      let fewer : length (list_at (moved weak (Gen (older g)) store) Pend) ≡ length (without_serial weak (list_at store Pend)) = ap (λ (l : List ℕ). length l) left_there in
+      omega (arith, fewer, length-without weak (list_at store Pend))
 
 module _ (script : Script) (facts : Facts) (store : Store) (policy : Policy) where
   -- the first that waits is called back
@@ -204,9 +236,9 @@ module _ (script : Script) (facts : Facts) (store : Store) (policy : Policy) whe
 
   -- after its callback a weak reference is given up
   pub turn-released : (weak : ℕ) → slice_get (list_at store Pend) 0 ≡ Some weak → (release : Release) → references_left release ≡ weak ∷ []
-      → CollectSteps script (collection_at facts (phase_of.AfterCallback weak) None) store policy (collection_at facts (phase_of.AfterRelease weak false) (Some release)) store policy answer_of.Continue
+      → CollectSteps script (collection_at facts (phase_of.AfterCallback weak) None) store policy (collection_at facts (phase_of.AfterRelease weak) (Some release)) store policy answer_of.Continue
   turn-released weak first release refs =
-      steps_at script (collection_at facts (phase_of.AfterCallback weak) None) store policy (collection_at facts (phase_of.AfterRelease weak false) (Some release)) store policy answer_of.Continue
+      steps_at script (collection_at facts (phase_of.AfterCallback weak) None) store policy (collection_at facts (phase_of.AfterRelease weak) (Some release)) store policy answer_of.Continue
       (λ asked v below s.
       let pending : List ℕ = list_at store Pend in
       let rest : List ℕ = drop 1 pending in
@@ -234,9 +266,9 @@ module _ (script : Script) (facts : Facts) (store : Store) (policy : Policy) whe
 
   -- one that died when it was given up is counted
   pub turn-died : (weak : ℕ) → IsListed store → ¬ IsLive store weak
-      → CollectSteps script (collection_at facts (phase_of.AfterRelease weak true) None) store policy (record (collection_at facts phase_of.WeakCalling None) { collected = facts.collected + 1 }) store policy answer_of.Continue
+      → CollectSteps script (collection_at facts (phase_of.AfterRelease weak) None) store policy (record (collection_at facts phase_of.WeakCalling None) { collected = facts.collected + 1 }) store policy answer_of.Continue
   turn-died weak listed dead =
-      steps_at script (collection_at facts (phase_of.AfterRelease weak true) None) store policy (record (collection_at facts phase_of.WeakCalling None) { collected = facts.collected + 1 }) store policy answer_of.Continue
+      steps_at script (collection_at facts (phase_of.AfterRelease weak) None) store policy (record (collection_at facts phase_of.WeakCalling None) { collected = facts.collected + 1 }) store policy answer_of.Continue
       (λ asked v below s.
       let pending : List ℕ = list_at store Pend in
       let others : List ℕ = filter (λ q. not (q == weak)) pending in
@@ -245,7 +277,7 @@ module _ (script : Script) (facts : Facts) (store : Store) (policy : Policy) whe
       let w : World = with_stack (Collecting c ∷ below) v in
       let after : World = with_stack (Collecting (d (machine.WeakCalling others)) ∷ below) v in
       let gone : is_in_map v.objects weak ≡ false = ap (λ (os : List Object). is_in_map os weak) (sym s.shows.represents.objects) ∙ in_map store weak ∙ dead_none (fin.get store.nodes weak) dead in
-      let all : others ≡ pending = sym (without_serial-is weak pending) ∙ without-absent weak pending (absent pending weak (λ m. dead (where_is store listed Pend weak m).0)) in
+      let all : others ≡ pending = others_are_all store listed weak dead in
       let goes : ([], after) ≡ after_release c weak others below w =
       ap (λ b. if b then ([], Rattle.cg_machine.specs.Collect.collection_at c (machine.WeakCalling others) below (with_change (object_placed (Gen (older c.generation))) weak w)) else ([], after)) (sym gone) in
       record {
@@ -267,9 +299,9 @@ module _ (script : Script) (facts : Facts) (store : Store) (policy : Policy) whe
     abbrev aged : Store
     aged = moved weak (Gen (older g)) store
 
-    pub turn-aged : facts.generation ≡ g → CollectSteps script (collection_at facts (phase_of.AfterRelease weak false) None) store policy (collection_at facts phase_of.WeakCalling None) aged policy answer_of.Continue
+    pub turn-aged : facts.generation ≡ g → CollectSteps script (collection_at facts (phase_of.AfterRelease weak) None) store policy (collection_at facts phase_of.WeakCalling None) aged policy answer_of.Continue
     turn-aged generation =
-        steps_at script (collection_at facts (phase_of.AfterRelease weak false) None) store policy (collection_at facts phase_of.WeakCalling None) aged policy answer_of.Continue
+        steps_at script (collection_at facts (phase_of.AfterRelease weak) None) store policy (collection_at facts phase_of.WeakCalling None) aged policy answer_of.Continue
         (λ asked v below s.
         let pending : List ℕ = list_at store Pend in
         let others : List ℕ = filter (λ q. not (q == weak)) pending in
@@ -279,7 +311,7 @@ module _ (script : Script) (facts : Facts) (store : Store) (policy : Policy) whe
         let after : World = with_stack (Collecting (c (machine.WeakCalling others)) ∷ below) (with_objects objects v) in
         let same : objects_of store ≡ v.objects = s.shows.represents.objects in
         let there : is_in_map v.objects weak ≡ true = ap (λ (os : List Object). is_in_map os weak) (sym same) ∙ in_map store weak ∙ live_some (fin.get store.nodes weak) live in
-        let all : list_at aged Pend ≡ others = moved_from store listed weak live (Gen (older g)) (older_place g small) Pend (λ e. cc) ∙ without_serial-is weak pending in
+        let all : list_at aged Pend ≡ others = others_wait store weak listed live g small in
         let goes : ([], after) ≡ after_release (c (machine.AfterRelease weak others)) weak others below w =
         ap (λ b. if b then ([], after) else ([], Rattle.cg_machine.specs.Collect.collection_at (record (c (machine.AfterRelease weak others)) { collected = facts.collected + 1 }) (machine.WeakCalling others) below w)) (sym there) in
         record {

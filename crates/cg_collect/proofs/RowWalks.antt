@@ -1,5 +1,5 @@
 -- A walk over the weak references to one object, from the newest on, by the rows of a heap.
-use Rattle.std.proofs.Common.{◌≡◌, ◌≢◌, refl, sym, ◌∙◌, ap, subst, ℕ, ◌+◌, ◌<◌, ◌≤◌, Bool, true, false, cond, not, List, [], ◌∷◌, ◌++◌, length, map, reverse, append_assoc, Option, Some, None, inl, inr, arith}
+use Rattle.std.proofs.Common.{◌≡◌, ◌≢◌, refl, sym, ◌∙◌, ap, subst, ℕ, ◌<◌, ◌≤◌, Bool, true, false, cond, not, List, [], ◌∷◌, ◌++◌, length, map, append_assoc, Option, Some, None, inl, inr, arith}
 use Rattle.std.specs.Prelude.{◌==◌, ◌&&◌, if◌then◌else◌, filter, find, nat_lt, option_and_then, slice_get}
 use Rattle.std.specs.List.{All}
 use Rattle.std.proofs.lemmas.Bool.{eq-eqb, ne_eqb, eqb-true, lt-ltb, le-ltb}
@@ -9,7 +9,7 @@ use Rattle.std.proofs.lemmas.List.Sums.{length-filter, count_by-le-length}
 use Rattle.cg_graph.specs.Member.{Includes}
 use Rattle.cg_graph.specs.Rows.{Row, IsRising, referent_in, refers_to, newest_first, weak_references_in, next_older_in, without_row}
 use Rattle.cg_graph.specs.Store.{Store}
-use Rattle.cg_graph.proofs.Members.{either, true_and, Includes-append_left, Includes-append_right, Includes-append_cases}
+use Rattle.cg_graph.proofs.Members.{either, true_and, Includes-append_right, Includes-append_cases}
 use Rattle.cg_heap.specs.Weak.{AreRows}
 use Rattle.cg_death.proofs.RowSplits.{head_in, row_of_one, one_of_row, Split, split_at, newest_first-append, newest_first-pass, without-is, referent-is}
 use Rattle.cg_death.proofs.WeakObjects.{row_there}

@@ -6,14 +6,12 @@ use Rattle.std.proofs.lemmas.Bool.{cases_eq}
 use Rattle.std.proofs.lemmas.List.{map-append}
 use Rattle.std.proofs.lemmas.List.Elements.{filter-append}
 use Rattle.cg_value.specs.declared.Place.{Place}
-use Rattle.cg_value.specs.declared.Place.TheVariants.{Untracked, Legacy}
+use Rattle.cg_value.specs.declared.Place.TheVariants.{Legacy}
 use Rattle.cg_value.specs.declared.Val.TheVariants.{Ref}
 use Rattle.cg_value.specs.declared.Entry.{Entry}
 use Rattle.cg_script.specs.declared.Script.{Script}
-use Rattle.cg_graph.specs.Member.{Includes}
 use Rattle.cg_graph.specs.Value.{references, item}
 use Rattle.cg_graph.specs.Holdings.{occurrences}
-use Rattle.cg_graph.specs.Object.{object_at}
 use Rattle.cg_graph.specs.Store.{Store, Node, IsLive, list_at, objects_of, object_from, entries_of, entries_in, place_of}
 use Rattle.cg_graph.specs.Changes.{rewritten, with_entries}
 use Rattle.cg_graph.specs.Maps.{mapped, changed}
@@ -25,7 +23,6 @@ use Rattle.cg_heap.proofs.CallerLemmas.{lives_on, kinds-rewritten}
 use Rattle.cg_heap.proofs.ReferenceLemmas.{references-append}
 use Rattle.cg_machine.specs.Program.{legacy_of}
 use Rattle.cg_machine.specs.Collect.{has_flag, save_all, all_saved}
-use Rattle.cg_trial.specs.View.{head_of}
 use Rattle.cg_trial.proofs.Lists.{IsAt as Walked, ahead, ahead_is, occurrences-cons, once_before, absent}
 use Rattle.cg_trial.proofs.Placed.{once_at, where_is}
 use Rattle.cg_death.proofs.Worlds.{append_none}

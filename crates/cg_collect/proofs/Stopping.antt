@@ -1,7 +1,6 @@
 -- The end: what a heap does there is the step of the machine; its lines are told by the calls that follow.
-use Rattle.std.proofs.Common.{◌≡◌, ◌≢◌, refl, sym, ◌∙◌, ap, subst, ℕ, ◌+◌, ◌<◌, ◌≤◌, Bool, true, false, cond, ◌&&◌, ◌||◌, inl, inr, List, [], ◌∷◌, ◌++◌, length, map, Option, Some, None, is_some, append_assoc, arith}
-use Rattle.std.specs.Prelude.{◌==◌, ◌↔◌, if◌then◌else◌, filter, flat_map, count_by, option_map, option_and_then, slice_get}
-use Rattle.std.specs.FinMap as fin
+use Rattle.std.proofs.Common.{◌≡◌, refl, sym, ◌∙◌, ap, subst, ℕ, ◌+◌, Bool, true, false, cond, ◌&&◌, ◌||◌, inl, inr, List, [], ◌∷◌, ◌++◌, length, map, Option, Some, None, is_some, arith}
+use Rattle.std.specs.Prelude.{◌==◌, if◌then◌else◌, filter, flat_map, count_by, option_map, option_and_then, slice_get}
 use Rattle.std.proofs.lemmas.Bool.{ne_eqb}
 use Rattle.cg_value.specs.declared.Place.{Place}
 use Rattle.cg_value.specs.declared.Place.TheVariants.{Untracked, Gen, Frozen, Cand, Seen, Back, Legacy, Pend}
@@ -10,9 +9,8 @@ use Rattle.cg_script.specs.declared.Script.{Script}
 use Rattle.cg_graph.specs.Value.{item}
 use Rattle.cg_graph.specs.Member.{Includes}
 use Rattle.cg_graph.specs.Holdings.{occurrences}
-use Rattle.cg_graph.specs.Object.{Object, object_at, with_place as object_placed, is_at, same_place, serials, serials_at}
+use Rattle.cg_graph.specs.Object.{Object, with_place as object_placed, is_at, same_place, serials, serials_at}
 use Rattle.cg_graph.specs.Places.{place_number}
-use Rattle.cg_graph.specs.Rows.{Row}
 use Rattle.cg_graph.specs.Store.{Store, Node, IsLive, list_at, objects_of, object_from, outside_of, entries_of, place_of, place_in}
 use Rattle.cg_graph.specs.Changes.{with_place}
 use Rattle.cg_graph.proofs.Members.{either, true_and, Includes-append_right, Includes-map, Includes-map_cases, Includes-filter, Includes-filter_cases}
@@ -33,16 +31,15 @@ use Rattle.cg_policy.specs.Policy.{Policy}
 use Rattle.cg_policy.specs.Flagset.{bits_of}
 use Rattle.cg_trial.specs.View.{view_of, Merged}
 use Rattle.cg_trial.specs.Split.{IsSameButPlaces}
-use Rattle.cg_trial.proofs.Lists.{IsAt as Walked, ahead, ahead_is, occurs, occurs_in}
+use Rattle.cg_trial.proofs.Lists.{IsAt as Walked, ahead_is}
 use Rattle.cg_trial.proofs.Placed.{once_at, where_is, is_there}
 use Rattle.cg_trial.proofs.Ends.{same_but_places}
 use Rattle.cg_trial.proofs.Views.{merged_view}
-use Rattle.cg_collect.specs.declared.answer.CollectStep.{CollectStep}
 use Rattle.cg_collect.specs.declared.answer.CollectStep.TheVariants as answer_of
 use Rattle.cg_collect.specs.declared.collection.Facts.{Facts}
 use Rattle.cg_collect.specs.declared.phase.Phase.{Phase}
 use Rattle.cg_collect.specs.declared.phase.Phase.TheVariants as phase_of
-use Rattle.cg_collect.specs.Phases.{collection_of, from_on, lines_left, saved_lines, is_saved_at, stop_lines, answer_lines}
+use Rattle.cg_collect.specs.Phases.{collection_of, from_on, lines_left, saved_lines, is_saved_at, stop_lines}
 use Rattle.cg_collect.specs.Ready.{IsAt}
 use Rattle.cg_collect.specs.Saving.{with_saved, kept_aside}
 use Rattle.cg_collect.specs.Answers.{Shows, CollectSteps}
@@ -50,8 +47,8 @@ use Rattle.cg_collect.specs.Turns.{collection_at, list_around}
 use Rattle.cg_collect.proofs.Standing.{place_is, place_at_is, node_of_live, node_there, place_there, live_there, object_there, once_among, same_times, list_has, outside_on}
 use Rattle.cg_collect.proofs.Moving.{walk_passes, comes_next}
 use Rattle.cg_collect.proofs.Telling.{from_ahead, split_at, at_first}
-use Rattle.cg_collect.proofs.Saved.{occurrences-filter, objects-all_saved, saved-alike, saved-rewritten, live_saved}
-use Rattle.cg_collect.proofs.Worlds.{steps_at, only_tells, none_below, LeavesRest, with_same_rows, pending_is}
+use Rattle.cg_collect.proofs.Saved.{occurrences-filter, objects-all_saved, saved-alike, saved-rewritten}
+use Rattle.cg_collect.proofs.Worlds.{steps_at, only_tells, none_below, LeavesRest, with_same_rows}
 
 -- The next of a walk over the list of a place.
 module _ (store : Store) (listed : IsListed store) (p : Place) (o : ℕ) (here : Includes (list_at store p) o) (after : Option ℕ) (comes : after ≡ following o (list_at store (place_of store o))) where

@@ -1,5 +1,5 @@
 -- The clearing: what a heap does in the turn of a member of the final set is the step of the machine.
-use Rattle.std.proofs.Common.{◌≡◌, ◌≢◌, refl, sym, ◌∙◌, ap, subst, ℕ, ◌+◌, ◌*◌, ◌<◌, ◌≤◌, Bool, true, false, inl, inr, List, [], ◌∷◌, ◌++◌, length, length-append, Option, Some, None, IsSome, arith}
+use Rattle.std.proofs.Common.{◌≡◌, ◌≢◌, refl, sym, ◌∙◌, ap, subst, ℕ, ◌+◌, ◌*◌, ◌<◌, Bool, true, false, inl, inr, List, [], ◌∷◌, ◌++◌, length, length-append, Option, Some, None, IsSome, arith}
 use Rattle.std.specs.Prelude.{if◌then◌else◌, slice_get, sum_by, IfSome}
 use Rattle.std.specs.FinMap as fin
 use Rattle.cg_value.specs.declared.Val.TheVariants.{Ref}
@@ -14,7 +14,7 @@ use Rattle.cg_graph.specs.Value.{references, entry_references, last_entry, witho
 use Rattle.cg_graph.specs.Holdings.{occurrences}
 use Rattle.cg_graph.specs.Object.{Object, change, with_place as object_placed, with_entries as object_entries, entries_of as object_entries_of, is_at, is_tuple, objects_at, serials_at}
 use Rattle.cg_graph.specs.Places.{place_number, without_serial}
-use Rattle.cg_graph.specs.Store.{Store, Node, IsLive, list_at, objects_of, object_from, outside_of, entries_of, inner, place_of, place_in}
+use Rattle.cg_graph.specs.Store.{Store, Node, IsLive, list_at, objects_of, object_from, entries_of, inner, place_of, place_in}
 use Rattle.cg_graph.specs.Changes.{held, more, moved, rewritten, with_place, with_entries}
 use Rattle.cg_graph.proofs.Members.{either, Includes-filter}
 use Rattle.cg_graph.proofs.Objects.{objects-same, objects-changed, occurrences-append}
@@ -31,8 +31,8 @@ use Rattle.cg_machine.specs.Collect.{older, has_flag, save_all, saved, empties, 
 use Rattle.cg_machine.proofs.Representing.{in_one}
 use Rattle.cg_policy.specs.Policy.{Policy}
 use Rattle.cg_policy.specs.Flagset.{bits_of}
-use Rattle.cg_trial.proofs.Lists.{occurs, Includes-without}
-use Rattle.cg_trial.proofs.Placed.{once_at, is_there}
+use Rattle.cg_trial.proofs.Lists.{occurs, absent, without-absent, Includes-without}
+use Rattle.cg_trial.proofs.Placed.{once_at, is_there, where_is}
 use Rattle.cg_death.specs.declared.release.Release.{Release}
 use Rattle.cg_death.specs.Activities.{references_left}
 use Rattle.cg_death.proofs.Clearing.{none_first}
@@ -43,13 +43,14 @@ use Rattle.cg_collect.specs.declared.answer.CollectStep.TheVariants as answer_of
 use Rattle.cg_collect.specs.declared.collection.Facts.{Facts}
 use Rattle.cg_collect.specs.declared.phase.Phase.TheVariants as phase_of
 use Rattle.cg_collect.specs.Phases.{collection_of}
-use Rattle.cg_collect.specs.Ready.{IsApart, IsApartUnseen, IsUnsaved}
+use Rattle.cg_collect.specs.Ready.{IsApartUnseen, IsUnsaved}
 use Rattle.cg_collect.specs.Answers.{CollectSteps}
-use Rattle.cg_collect.specs.Turns.{collection_at, still_cleared, still_released}
+use Rattle.cg_collect.specs.Turns.{collection_at, to_clear, still_cleared, others_cleared, still_released}
 use Rattle.cg_collect.proofs.Standing.{place_at_is, node_of_live, object_there, entries_on}
 use Rattle.cg_collect.proofs.Moving.{moved_same, moved_from}
-use Rattle.cg_collect.proofs.Garbage.{not_garbage, garbage-moved}
-use Rattle.cg_collect.proofs.Sums.{sum_alike, sum-one_less, sum-one_other, saved_names, place-rewritten, place-held, entries-rewritten_other, objects-saved, change-absent, last_entry-append}
+use Rattle.cg_collect.proofs.Garbage.{garbage-moved}
+use Rattle.cg_collect.proofs.Pending.{apart_away}
+use Rattle.cg_collect.proofs.Sums.{sum_alike, sum-one_less, saved_names, place-rewritten, place-held, entries-rewritten_other, objects-saved, change-absent, last_entry-append}
 use Rattle.cg_collect.proofs.Looking.{still_unsaved, nobody_stands}
 use Rattle.cg_collect.proofs.Worlds.{steps_at, with_same_rows, pending_is, represents_on, represents_giving_up, represents_same}
 
@@ -85,8 +86,8 @@ module _ (store : Store) (listed : IsListed store) (none : slice_get (list_at st
         keeps = record { budget = refl; outcome = refl };
       })
 
--- A member of the final set.
-module _ (store : Store) (o : ℕ) (at : place_of store o ≡ Cand) where
+-- An object that gets older.
+module _ (store : Store) (o : ℕ) where
   none_waits : (q : Place) → 6 ≢ place_number q → list_at store Pend ≡ [] → list_at (moved o q store) Pend ≡ []
   none_waits q other none = either (moved-cases store o q other) (λ e. e ∙ none) (λ e. e ∙ ap (without_serial o) none)
 
@@ -95,9 +96,9 @@ module _ (store : Store) (o : ℕ) (at : place_of store o ≡ Cand) where
 
   -- it gets older after its turn
   pub turn-older : (script : Script) (facts : Facts) (policy : Policy)
-      → CollectSteps script (collection_at facts (phase_of.AfterTurn o false) None) store policy (collection_at facts phase_of.Turns None) (moved o (Gen (older facts.generation)) store) policy answer_of.Continue
+      → CollectSteps script (collection_at facts (phase_of.AfterTurn o) None) store policy (collection_at facts phase_of.Turns None) (moved o (Gen (older facts.generation)) store) policy answer_of.Continue
   turn-older script facts policy =
-      steps_at script (collection_at facts (phase_of.AfterTurn o false) None) store policy (collection_at facts phase_of.Turns None) (moved o (Gen (older facts.generation)) store) policy answer_of.Continue
+      steps_at script (collection_at facts (phase_of.AfterTurn o) None) store policy (collection_at facts phase_of.Turns None) (moved o (Gen (older facts.generation)) store) policy answer_of.Continue
       (λ asked v below s.
       let c : machine.CollectPhase → machine.Collection = collection_of asked (collection_at facts phase_of.Turns None) in
       let w : World = with_stack (Collecting (c (machine.AfterTurn o)) ∷ below) v in
@@ -122,6 +123,8 @@ module _ (store : Store) (o : ℕ) (at : place_of store o ≡ Cand) where
         keeps = record { budget = refl; outcome = refl };
       })
 
+-- A member of the final set.
+module _ (store : Store) (o : ℕ) (at : place_of store o ≡ Cand) where
   module _ (n : Node) (got : fin.get store.nodes o ≡ Some n) where
     abbrev x : Object
     x = object_from store.rows o n
@@ -156,7 +159,7 @@ module _ (store : Store) (o : ℕ) (at : place_of store o ≡ Cand) where
             represents = represents_on store (moved o p store) v below c c s.shows.represents s.alone objects
                 (objects-changed store o (with_place p) (object_placed p) (λ s n. refl) ∙ ap (change (object_placed p) o) s.shows.represents.objects)
                 (with_same_rows store (moved o p store) refl refl refl)
-                (none_waits p (older_apart facts.generation) (pending_is store store v below c c s.shows.represents s.alone))
+                (none_waits store o p (older_apart store o facts.generation) (pending_is store store v below c c s.shows.represents s.alone))
                 (λ q. omega (arith, outside-moved o p store q));
             numbers = s.shows.numbers;
             running = s.shows.running;
@@ -225,7 +228,7 @@ module _ (store : Store) (o : ℕ) (at : place_of store o ≡ Cand) where
             represents = represents_on store (moved o p kept) v below c c s.shows.represents s.alone objects
                 (objects-changed kept o (with_place p) (object_placed p) (λ s n. refl) ∙ ap (change (object_placed p) o) (objects-saved store o ∙ ap (saved o) s.shows.represents.objects))
                 (with_same_rows store (moved o p kept) refl refl refl)
-                (either (moved-cases kept o p (older_apart facts.generation)) (λ e. e ∙ pending_is store store v below c c s.shows.represents s.alone)
+                (either (moved-cases kept o p (older_apart store o facts.generation)) (λ e. e ∙ pending_is store store v below c c s.shows.represents s.alone)
                 (λ e. e ∙ ap (without_serial o) (pending_is store store v below c c s.shows.represents s.alone)))
                 (λ q. omega (arith, outside-moved o p kept q, outside-rewritten 1 (entries_of store 1 ++ item (Ref o) ∷ []) store q));
             numbers = s.shows.numbers;
@@ -239,9 +242,9 @@ module _ (store : Store) (o : ℕ) (at : place_of store o ≡ Cand) where
 module _ (store : Store) (o : ℕ) where
   -- one that died in its turn
   pub turn-died : ¬ IsLive store o → (script : Script) (facts : Facts) (policy : Policy)
-      → CollectSteps script (collection_at facts (phase_of.AfterTurn o true) None) store policy (collection_at facts phase_of.Turns None) store policy answer_of.Continue
+      → CollectSteps script (collection_at facts (phase_of.AfterTurn o) None) store policy (collection_at facts phase_of.Turns None) store policy answer_of.Continue
   turn-died gone script facts policy =
-      steps_at script (collection_at facts (phase_of.AfterTurn o true) None) store policy (collection_at facts phase_of.Turns None) store policy answer_of.Continue
+      steps_at script (collection_at facts (phase_of.AfterTurn o) None) store policy (collection_at facts phase_of.Turns None) store policy answer_of.Continue
       (λ asked v below s.
       let c : machine.CollectPhase → machine.Collection = collection_of asked (collection_at facts phase_of.Turns None) in
       let w : World = with_stack (Collecting (c (machine.AfterTurn o)) ∷ below) v in
@@ -268,9 +271,9 @@ module _ (store : Store) (o : ℕ) where
 
   -- none is left
   pub turn-emptied : (release : Release) → references_left release ≡ o ∷ [] → entries_of store o ≡ [] → (script : Script) (facts : Facts) (policy : Policy)
-      → CollectSteps script (collection_at facts (phase_of.Turn o) None) store policy (collection_at facts (phase_of.AfterTurn o false) (Some release)) store policy answer_of.Continue
+      → CollectSteps script (collection_at facts (phase_of.Turn o) None) store policy (collection_at facts (phase_of.AfterTurn o) (Some release)) store policy answer_of.Continue
   turn-emptied release left empty script facts policy =
-      steps_at script (collection_at facts (phase_of.Turn o) None) store policy (collection_at facts (phase_of.AfterTurn o false) (Some release)) store policy answer_of.Continue
+      steps_at script (collection_at facts (phase_of.Turn o) None) store policy (collection_at facts (phase_of.AfterTurn o) (Some release)) store policy answer_of.Continue
       (λ asked v below s.
       let c : machine.CollectPhase → machine.Collection = collection_of asked (collection_at facts phase_of.Turns None) in
       let w : World = with_stack (Collecting (c (machine.Turn o)) ∷ below) v in
@@ -337,45 +340,30 @@ module _ (store : Store) (o : ℕ) where
           keeps = record { budget = refl; outcome = refl };
         })
 
--- What each of them leaves.
-abbrev weight : Store → ℕ → ℕ
-weight store q = 16 + 4 * length (entries_of store q)
+-- What each of them leaves. One that has its turn may stand anywhere.
+module _ (store : Store) (listed : IsListed store) (o : ℕ) (live : IsLive store o) (g : ℕ) where
+  abbrev p : Place
+  p = Gen (older g)
 
-module _ (store : Store) (listed : IsListed store) (o : ℕ) (live : IsLive store o) (at : place_of store o ≡ Cand) where
-  once_there : occurrences o (list_at store Cand) ≡ 1
-  once_there = omega (arith, once_at store listed Cand o, occurs (list_at store Cand) o (is_there store listed Cand o live at))
+  older_place : IsPlace p
+  older_place = omega arith
 
-  module _ (g : ℕ) where
-    abbrev p : Place
-    p = Gen (older g)
+  pub apart_older : 1 ≢ o → IsApartUnseen store → IsApartUnseen (moved o p store)
+  apart_older other = apart_away store listed o live p older_place other (λ e. cc) (λ e. cc) (λ e. cc) (λ e. cc)
 
-    older_place : IsPlace p
-    older_place = omega arith
+  -- the others are left
+  pub others_left : still_cleared (moved o p store) ≡ others_cleared store o
+  others_left =
+      ap (sum_by (to_clear (moved o p store))) (moved_from store listed o live p older_place Cand (λ e. cc))
+      ∙ sum_alike (to_clear (moved o p store)) (to_clear store) (without_serial o (list_at store Cand)) (λ q m. ap (λ (es : List Entry). 16 + 4 * length es) (entries_on store (moved o p store) (moved_same store listed o live p older_place) q))
 
-    pub apart_older : IsApartUnseen store → IsApartUnseen (moved o p store)
-    apart_older (apart, unseen) = (
-      record {
-        garbage = garbage-moved store o Cand p apart.garbage at (λ e. cc);
-        back = from Back (λ e. cc) ∙ ap (without_serial o) apart.back;
-        candidates = still_unsaved store (moved o p store) Cand (same 1) (λ q m. apart.candidates q (Includes-without o (list_at store Cand) q (subst (λ l. Includes l q) (from Cand (λ e. cc)) m)).0);
-        seen = still_unsaved store (moved o p store) Seen (same 1) (λ q m. apart.seen q (Includes-without o (list_at store Seen) q (subst (λ l. Includes l q) (from Seen (λ e. cc)) m)).0);
-        legacy = still_unsaved store (moved o p store) Legacy (same 1) (λ q m. apart.legacy q (Includes-without o (list_at store Legacy) q (subst (λ l. Includes l q) (from Legacy (λ e. cc)) m)).0);
-      },
-      from Seen (λ e. cc) ∙ ap (without_serial o) unseen,
-    )
-      where
-        from : (q : Place) → q ≢ p → list_at (moved o p store) q ≡ without_serial o (list_at store q)
-        from = moved_from store listed o live p older_place
+-- one that has died is none of them
+pub none_but_others : (store : Store) → IsListed store → (o : ℕ) → ¬ IsLive store o → others_cleared store o ≡ still_cleared store
+none_but_others store listed o dead = ap (sum_by (to_clear store)) (without-absent o (list_at store Cand) (absent (list_at store Cand) o (λ m. dead (where_is store listed Cand o m).0)))
 
-        same : (q : ℕ) → entries_of (moved o p store) q ≡ entries_of store q
-        same = entries_on store (moved o p store) (moved_same store listed o live p older_place)
-
-    pub less_to_clear : still_cleared (moved o p store) + 16 ≤ still_cleared store
-    less_to_clear =
-        let list : sum_by (weight (moved o p store)) (list_at (moved o p store) Cand) ≡ sum_by (weight (moved o p store)) (without_serial o (list_at store Cand)) = ap (sum_by (weight (moved o p store))) (moved_from store listed o live p older_place Cand (λ e. cc)) in
-        let alike : sum_by (weight (moved o p store)) (without_serial o (list_at store Cand)) ≡ sum_by (weight store) (without_serial o (list_at store Cand)) =
-        sum_alike (weight (moved o p store)) (weight store) (without_serial o (list_at store Cand)) (λ q m. ap (λ (es : List Entry). 16 + 4 * length es) (entries_on store (moved o p store) (moved_same store listed o live p older_place) q)) in
-        omega (arith, list, alike, sum-one_less (weight store) o (list_at store Cand) once_there)
+module _ (store : Store) (listed : IsListed store) (o : ℕ) (live : IsLive store o) where
+  pub one_and_others : place_of store o ≡ Cand → others_cleared store o + to_clear store o ≡ still_cleared store
+  one_and_others at = sum-one_less (to_clear store) o (list_at store Cand) (omega (arith, once_at store listed Cand o, occurs (list_at store Cand) o (is_there store listed Cand o live at)))
 
   pub apart_held : IsApartUnseen store → IsApartUnseen (held (o ∷ []) store)
   apart_held (apart, unseen) = (
@@ -389,11 +377,11 @@ module _ (store : Store) (listed : IsListed store) (o : ℕ) (live : IsLive stor
     unseen,
   )
 
-  pub held_there : place_of (held (o ∷ []) store) o ≡ Cand
-  held_there = place-held (o ∷ []) store o ∙ at
+  pub as_much_for_it : to_clear (held (o ∷ []) store) o ≡ to_clear store o
+  as_much_for_it = ap (λ (es : List Entry). 16 + 4 * length es) (entries-held (o ∷ []) store o)
 
-  pub as_much_to_clear : still_cleared (held (o ∷ []) store) ≡ still_cleared store
-  as_much_to_clear = sum_alike (weight (held (o ∷ []) store)) (weight store) (list_at store Cand) (λ q m. ap (λ (es : List Entry). 16 + 4 * length es) (entries-held (o ∷ []) store q))
+  pub as_much_for_others : others_cleared (held (o ∷ []) store) o ≡ others_cleared store o
+  as_much_for_others = sum_alike (to_clear (held (o ∷ []) store)) (to_clear store) (without_serial o (list_at store Cand)) (λ q m. ap (λ (es : List Entry). 16 + 4 * length es) (entries-held (o ∷ []) store q))
 
   -- an entry was taken out
   module _ (e : Entry) (last : entries_of store o ≡ without_last (entries_of store o) ++ e ∷ []) where
@@ -406,8 +394,8 @@ module _ (store : Store) (listed : IsListed store) (o : ℕ) (live : IsLive stor
     place_now : (q : ℕ) → place_of now q ≡ place_of store q
     place_now q = place-held (entry_references e) (rewritten o (without_last (entries_of store o)) store) q ∙ place-rewritten store o (without_last (entries_of store o)) q
 
-    pub apart_taken : IsApartUnseen store → IsApartUnseen now
-    apart_taken (apart, unseen) = (
+    pub apart_taken : 1 ≢ o → IsApartUnseen store → IsApartUnseen now
+    apart_taken other (apart, unseen) = (
       record {
         garbage = place_now 1 ∙ apart.garbage;
         back = apart.back;
@@ -419,20 +407,17 @@ module _ (store : Store) (listed : IsListed store) (o : ℕ) (live : IsLive stor
     )
       where
         same : entries_of now 1 ≡ entries_of store 1
-        same = others_now 1 (not_garbage store o Cand apart.garbage at (λ e. cc))
+        same = others_now 1 other
 
-    pub taken_there : place_of now o ≡ Cand
-    taken_there = place_now o ∙ at
-
-    pub taken_falls : (release : Release) → references_left release ≡ entry_references e → still_cleared now + 8 + still_released (Some release) < still_cleared store + 8 + 0
+    pub taken_falls : (release : Release) → references_left release ≡ entry_references e → others_cleared now o + to_clear now o + 8 + still_released (Some release) < others_cleared store o + to_clear store o + 8 + 0
     taken_falls release left =
         let here : entries_of now o ≡ without_last (entries_of store o) = entries-held (entry_references e) (rewritten o (without_last (entries_of store o)) store) o ∙ entries-rewritten store o (without_last (entries_of store o)) live in
         let few : length (references_left release) ≡ length (entry_references e) = ap length left in
         let fewer : length (entries_of now o) ≡ length (without_last (entries_of store o)) = ap length here in
         let one_more : length (entries_of store o) ≡ length (without_last (entries_of store o) ++ e ∷ []) = ap length last in
-        let sums : sum_by (weight now) (list_at store Cand) + weight store o ≡ sum_by (weight store) (list_at store Cand) + weight now o =
-        sum-one_other (weight now) (weight store) o (list_at store Cand) once_there (λ q differs. ap (λ (es : List Entry). 16 + 4 * length es) (others_now q differs)) in
-        omega (arith, few, fewer, one_more, sums, entry-le e, length-append (without_last (entries_of store o)) (e ∷ []))
+        let others : others_cleared now o ≡ others_cleared store o =
+        sum_alike (to_clear now) (to_clear store) (without_serial o (list_at store Cand)) (λ q m. ap (λ (es : List Entry). 16 + 4 * length es) (others_now q (Includes-without o (list_at store Cand) q m).1)) in
+        omega (arith, few, fewer, one_more, others, entry-le e, length-append (without_last (entries_of store o)) (e ∷ []))
 
 -- what is left once one was saved, and moved
 module _ (store : Store) (o : ℕ) (root : IsLive store 1) (at : place_of store o ≡ Cand) (g : ℕ) where

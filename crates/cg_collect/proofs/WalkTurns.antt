@@ -1,24 +1,22 @@
 -- The walk of the weak phase goes on with the next condemned object, and ends.
-use Rattle.std.proofs.Common.{◌≡◌, ◌≢◌, refl, sym, ◌∙◌, ap, subst, ℕ, ◌+◌, ◌*◌, ◌<◌, ◌≤◌, Bool, true, false, List, [], ◌∷◌, ◌++◌, length, map, append_assoc, Option, Some, None, IsSome, inl, inr, sum_by, arith}
-use Rattle.std.specs.Prelude.{◌==◌, ◌⊎◌, ◌||◌, filter, option_map, unwrap_or, slice_get}
+use Rattle.std.proofs.Common.{◌≡◌, ◌≢◌, refl, sym, ◌∙◌, ap, subst, ℕ, ◌+◌, ◌*◌, ◌<◌, ◌≤◌, true, false, List, [], ◌∷◌, ◌++◌, length, append_assoc, Option, Some, None, inl, inr, sum_by, arith}
+use Rattle.std.specs.Prelude.{◌⊎◌, unwrap_or, slice_get}
 use Rattle.std.specs.FinMap as fin
 use Rattle.std.proofs.lemmas.List.{length-map}
 use Rattle.std.proofs.lemmas.List.Sums.{length-filter, count_by-le-length, sum_by-cons}
-use Rattle.cg_value.specs.declared.KindCode.{KindCode}
 use Rattle.cg_value.specs.declared.KindCode.TheVariants.{Weak}
 use Rattle.cg_value.specs.declared.Place.{Place}
 use Rattle.cg_value.specs.declared.Place.TheVariants.{Cand, Pend}
 use Rattle.cg_script.specs.declared.Script.{Script}
 use Rattle.cg_graph.specs.Member.{Includes}
-use Rattle.cg_graph.specs.Object.{Object, is_at, objects_at, serials, serials_at}
+use Rattle.cg_graph.specs.Object.{Object, is_at, objects_at, serials_at}
 use Rattle.cg_graph.specs.Holdings.{occurrences}
-use Rattle.cg_graph.specs.Maps.{total}
-use Rattle.cg_graph.specs.Rows.{Row, IsRising, referent_in, refers_to, weak_references_in}
-use Rattle.cg_graph.specs.Store.{Store, Node, IsLive, HasCode, list_at, objects_of, object_from, place_of}
+use Rattle.cg_graph.specs.Rows.{IsRising, referent_in, refers_to, weak_references_in}
+use Rattle.cg_graph.specs.Store.{Store, Node, HasCode, list_at, objects_of, object_from, place_of}
 use Rattle.cg_graph.proofs.Members.{either, cases_of, Includes-append_right}
 use Rattle.cg_arena.specs.Nodes.{following}
 use Rattle.cg_heap.specs.Keeps.{one}
-use Rattle.cg_heap.specs.Calls.{IsListed, IsSound, object_number}
+use Rattle.cg_heap.specs.Calls.{IsListed, IsSound}
 use Rattle.cg_heap.specs.Weak.{AreRows}
 use Rattle.cg_heap.proofs.RowLemmas.{refers_live}
 use Rattle.cg_machine.specs.World as machine
@@ -30,7 +28,7 @@ use Rattle.cg_machine.proofs.Representing.{in_one}
 use Rattle.cg_policy.specs.Policy.{Policy}
 use Rattle.cg_trial.specs.View.{head_of}
 use Rattle.cg_trial.proofs.Lists.{occurs, once_before}
-use Rattle.cg_trial.proofs.Placed.{once_at, where_is}
+use Rattle.cg_trial.proofs.Placed.{once_at}
 use Rattle.cg_death.proofs.Clearing.{none_first}
 use Rattle.cg_death.proofs.RowSplits.{head_in}
 use Rattle.cg_collect.specs.declared.answer.CollectStep.TheVariants as answer_of

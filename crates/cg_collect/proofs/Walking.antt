@@ -1,28 +1,26 @@
 -- The walk of the weak phase: which weak references lose their referents, and what is still to be looked at.
-use Rattle.std.proofs.Common.{◌≡◌, ◌≢◌, refl, sym, ◌∙◌, ap, subst, ℕ, ◌+◌, ◌*◌, ◌<◌, ◌≤◌, Bool, true, false, cond, not, List, [], ◌∷◌, ◌++◌, length, map, Option, Some, None, IsSome, inl, inr, arith}
+use Rattle.std.proofs.Common.{◌≡◌, ◌≢◌, refl, sym, ◌∙◌, ap, subst, ℕ, ◌<◌, ◌≤◌, Bool, true, false, List, [], ◌∷◌, Option, Some, None, inl, inr, arith}
 use Rattle.std.specs.Prelude.{◌==◌, ◌⊎◌, ◌||◌, if◌then◌else◌, option_map, unwrap_or, slice_get}
 use Rattle.std.specs.FinMap as fin
 use Rattle.std.proofs.lemmas.Bool.{cases_eq, eq-eqb, eqb-true}
-use Rattle.cg_value.specs.declared.KindCode.{KindCode}
 use Rattle.cg_value.specs.declared.KindCode.TheVariants.{Weak}
 use Rattle.cg_value.specs.declared.Place.{Place}
-use Rattle.cg_value.specs.declared.Place.TheVariants.{Untracked, Cand, Seen, Pend}
+use Rattle.cg_value.specs.declared.Place.TheVariants.{Cand, Seen, Pend}
 use Rattle.cg_graph.specs.Member.{Includes}
-use Rattle.cg_graph.specs.Object.{Object, object_at, change, with_referent, same_place}
-use Rattle.cg_graph.specs.Rows.{Row, IsRising, referent_in, weak_references_in, next_older_in, without_row}
+use Rattle.cg_graph.specs.Object.{Object, object_at, change, same_place}
+use Rattle.cg_graph.specs.Rows.{Row, IsRising, referent_in, next_older_in, without_row}
 use Rattle.cg_graph.specs.Store.{Store, Node, IsLive, HasCode, list_at, objects_of, object_from, place_of, place_in}
 use Rattle.cg_graph.proofs.Members.{either, cases_of, true_or, Includes-map_cases}
 use Rattle.cg_graph.proofs.Objects.{object-at}
-use Rattle.cg_heap.specs.Calls.{IsListed, IsSound}
+use Rattle.cg_heap.specs.Calls.{IsListed}
 use Rattle.cg_heap.specs.Weak.{AreRows}
-use Rattle.cg_heap.proofs.RowLemmas.{refers_live}
 use Rattle.cg_machine.specs.Weak.{MayLoseNext}
 use Rattle.cg_machine.specs.Collect.{is_condemned, is_condemned_in, loses_in_weak_phase}
-use Rattle.cg_trial.proofs.Placed.{where_is, is_there}
+use Rattle.cg_trial.proofs.Placed.{is_there}
 use Rattle.cg_death.proofs.RowSplits.{split_at, referent-without}
 use Rattle.cg_collect.specs.Phases.{from_on}
-use Rattle.cg_collect.specs.Ready.{IsAt, IsEmptyAt, IsWalk, RefersPlainly, to_look_at}
-use Rattle.cg_collect.proofs.Standing.{place_is, place_self, place_differs, lives_at, node_of_live, node_there, place_there, object_there}
+use Rattle.cg_collect.specs.Ready.{IsAt, IsEmptyAt, IsWalk, to_look_at}
+use Rattle.cg_collect.proofs.Standing.{place_is, lives_at, node_of_live, node_there, place_there, object_there}
 use Rattle.cg_collect.proofs.RowWalks.{from_on-first, refers, older_ones, older_below, looks_here, looks_on, looks_on_without, next_older, next_highest, older_refers, older_all}
 
 -- whether an object is condemned, by its place in the heap

@@ -1,8 +1,8 @@
 -- A collection as its callers see it. (Ours.)
-use Rattle.std.specs.Prelude.{◌≡◌, ℕ, ◌≤◌, List, [], ◌∷◌, ◌++◌, Option, Some, None, true, drop}
+use Rattle.std.specs.Prelude.{◌≡◌, ℕ, ◌+◌, ◌≤◌, List, [], ◌∷◌, ◌++◌, Option, Some, None, IsSome, drop}
 use Rattle.cg_graph.specs.Store.{Store}
 use Rattle.cg_death.specs.declared.release.Release.{Release}
-use Rattle.cg_death.specs.Activities.{references_left}
+use Rattle.cg_death.specs.Activities.{references_left, IsUnheld}
 use Rattle.cg_death.specs.Answers.{ReleaseSteps, once_released, release_answer}
 use Rattle.cg_death.specs.declared.answer.DeathStep.{DeathStep}
 use Rattle.cg_death.specs.declared.answer.DeathStep.TheVariants as death_answer
@@ -12,7 +12,7 @@ use Rattle.cg_collect.specs.declared.answer.CollectStep.TheVariants as answer_of
 use Rattle.cg_collect.specs.declared.answer.CollectStep.{CollectStep}
 use Rattle.cg_collect.specs.declared.collection.Collection.{Collection}
 use Rattle.cg_collect.specs.declared.collection.Facts.{Facts}
-use Rattle.cg_collect.specs.Ready.{IsReadyAt, HasFewCollected, GivesUpIn}
+use Rattle.cg_collect.specs.Ready.{IsReadyAt, SparesGarbageList, HasFewCollected, GivesUpIn, RunsFrame, MayRun}
 use Rattle.cg_collect.specs.Turns.{ComesNearer}
 
 -- what the phases know of it
@@ -42,26 +42,36 @@ pub record IsReady (c : Collection) (store : Store) : Type 0 where
   pub collected : HasFewCollected c.collected c.phase store
   pub gives_up : GivesUpIn c.phase c.release
 
--- After an answer that hands nothing out, the heap is ready for the next step.
+-- What lasts while a frame or a death runs that was handed out. All but `collected` is on the collection alone; `collected` is on
+-- how many wait, which the phase of the machine tells.
+pub record HandsOut (c : Collection) (store : Store) : Type 0 where
+  pub runs : MayRun c.phase
+  pub generation : c.generation ≤ 2
+  pub collected : HasFewCollected c.collected c.phase store
+  pub gives_up : GivesUpIn c.phase c.release
+  pub spares : SparesGarbageList c.phase
+
+-- After an answer that hands nothing out, the heap is ready for the next step. After a frame or a death it is where its phase is
+-- (`IsReadyAt`), which is for the caller to show. A collection that has finished found few.
 abbrev pub KeepsReady : Collection → Store → CollectStep → Type 0
 KeepsReady c store answer_of.Continue = IsReady c store
 KeepsReady c store (answer_of.Emit event) = IsReady c store
-KeepsReady c store answer = c.generation ≤ 2
+KeepsReady c store (answer_of.Frame spec) = HandsOut c store × RunsFrame c.phase c.release
+KeepsReady c store (answer_of.Died o) = HandsOut c store × IsSome c.release
+KeepsReady c store (answer_of.Finished collected set_aside) = (c.generation ≤ 2) × (collected + set_aside ≤ 3000003)
+
+-- The object whose death is to begin lives, and nothing holds it.
+abbrev pub DiesUnheld : CollectStep → Store → Type 0
+DiesUnheld (answer_of.Died o) store = IsUnheld store o
+DiesUnheld answer store = Unit {0}
 
 -- A step that went on without an answer reached a later pass, or in the same pass less is left.
 abbrev pub CollectFalls : Collection → Store → Collection → Store → Type 0
 CollectFalls old store new now = ComesNearer store old.phase old.release now new.phase new.release
 
--- A release that dies leaves its phase with that.
-abbrev pub died_in : Phase → Phase
-died_in (phase_of.AfterRelease weak died) = phase_of.AfterRelease weak true
-died_in (phase_of.AfterTurn o died) = phase_of.AfterTurn o true
-died_in phase = phase
-
 -- what a step that gives up the next reference leaves of a collection, by the answer of the release
 abbrev pub once_given_up : Collection → Release → DeathStep → Collection
 once_given_up c release death_answer.Gone = record c { release = None }
-once_given_up c release (death_answer.Died o) = record c { phase = died_in c.phase; release = Some release }
 once_given_up c release answer = record c { release = Some release }
 
 -- and what it answers
@@ -78,4 +88,5 @@ pub record GivesUpNext (old : Collection) (store : Store) (new : Collection) (no
   pub heap : now ≡ once_released (references_left before) store
   pub collection : new ≡ once_given_up old after (release_answer (references_left before) now)
   pub told : answer ≡ give_up_answer (release_answer (references_left before) now)
+  pub unheld : DiesUnheld answer now
   pub steps : ReleaseSteps store (references_left before) now (references_left after) (release_answer (references_left before) now)

@@ -1,6 +1,6 @@
 -- What a collection stands for on the stack of the machine, and which lines of the machine's last step it has still to tell.
 -- (Ours.)
-use Rattle.std.specs.Prelude.{◌≡◌, ℕ, ◌+◌, not, Bool, true, false, List, [], ◌∷◌, ◌++◌, ◌==◌, ◌&&◌, ◌||◌, Option, Some, None, if◌then◌else◌, map, filter, flat_map, drop, is_some, option_and_then}
+use Rattle.std.specs.Prelude.{ℕ, ◌+◌, not, Bool, List, [], ◌∷◌, ◌++◌, ◌==◌, ◌&&◌, ◌||◌, Option, Some, None, if◌then◌else◌, map, filter, flat_map, drop, is_some, option_and_then}
 use Rattle.cg_value.specs.declared.Place.TheVariants.{Gen, Cand, Pend}
 use Rattle.cg_script.specs.declared.Script.{Script}
 use Rattle.cg_graph.specs.Member.{includes}
@@ -12,7 +12,7 @@ use Rattle.cg_machine.specs.declared.event.Event.TheVariants.{Gens, Alive, Clear
 use Rattle.cg_machine.specs.Program.{legacy_of}
 use Rattle.cg_machine.specs.World as machine
 use Rattle.cg_machine.specs.World.{Activity, Releasing, Collecting}
-use Rattle.cg_machine.specs.Collect.{lines_if, has_flag, collectable, uncollectable, save_all, older}
+use Rattle.cg_machine.specs.Collect.{lines_if, has_flag, collectable, save_all, older}
 use Rattle.cg_death.specs.declared.release.Release.{Release}
 use Rattle.cg_death.specs.Activities.{references_left}
 use Rattle.cg_policy.specs.Flagset.{bits_of}
@@ -34,7 +34,7 @@ machine_phase (phase_of.Telling next) pending = Some (machine.WeakClearing pendi
 machine_phase (phase_of.WeakClearing member weak) pending = Some (machine.WeakClearing pending)
 machine_phase phase_of.WeakCalling pending = Some (machine.WeakCalling pending)
 machine_phase (phase_of.AfterCallback weak) pending = Some (machine.AfterCallback weak (drop 1 pending))
-machine_phase (phase_of.AfterRelease weak died) pending = Some (machine.AfterRelease weak (filter (λ q. not (q == weak)) pending))
+machine_phase (phase_of.AfterRelease weak) pending = Some (machine.AfterRelease weak (filter (λ q. not (q == weak)) pending))
 machine_phase phase_of.Finalizing pending = Some machine.Finalizing
 machine_phase (phase_of.AfterFinalizing o) pending = Some (machine.AfterFinalizing o)
 machine_phase phase_of.Split pending = Some machine.Split
@@ -42,7 +42,7 @@ machine_phase (phase_of.Living next) pending = Some machine.Turns
 machine_phase (phase_of.Detaching next) pending = Some machine.Turns
 machine_phase phase_of.Turns pending = Some machine.Turns
 machine_phase (phase_of.Turn o) pending = Some (machine.Turn o)
-machine_phase (phase_of.AfterTurn o died) pending = Some (machine.AfterTurn o)
+machine_phase (phase_of.AfterTurn o) pending = Some (machine.AfterTurn o)
 machine_phase phase_of.Ending pending = Some machine.Ending
 machine_phase (phase_of.Uncollectable first next number) pending = None
 machine_phase (phase_of.Saved next number) pending = None
@@ -63,9 +63,13 @@ abbrev pub released_over : Option Release → List Activity → List Activity
 released_over None tops = tops
 released_over (Some release) tops = Releasing (references_left release) ∷ tops
 
--- what a collection stands for on top of the stack
+-- what a collection stands for on top of the stack, by the list of what waits for its callback
+abbrev pub shown_with : Bool → Collection → List ℕ → List Activity
+shown_with asked c pending = released_over c.release (collecting asked c (machine_phase c.phase pending))
+
+-- the same over a heap
 abbrev pub on_stack : Bool → Collection → Store → List Activity
-on_stack asked c store = released_over c.release (collecting asked c (machine_phase c.phase (list_at store Pend)))
+on_stack asked c store = shown_with asked c (list_at store Pend)
 
 -- the lines `cleared` of the weak references to some objects, the newest first for each
 abbrev pub cleared_lines : List Row → List ℕ → List Event

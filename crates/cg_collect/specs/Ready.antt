@@ -1,13 +1,13 @@
 -- What a step of a collection needs of the heap. Frames and deaths that run in it may change the heap between two steps; what
 -- they leave is said here. (Ours.)
-use Rattle.std.specs.Prelude.{◌≡◌, ℕ, ◌+◌, ◌≤◌, ◌⊎◌, true, false, List, [], ◌∷◌, Option, Some, None, IsSome, slice_get, length}
+use Rattle.std.specs.Prelude.{◌≡◌, ◌≢◌, ℕ, ◌+◌, ◌≤◌, ◌⊎◌, ◌==◌, not, true, List, [], Option, Some, None, IsSome, slice_get, length, filter}
 use Rattle.cg_value.specs.declared.Place.{Place}
 use Rattle.cg_value.specs.declared.Place.TheVariants.{Untracked, Gen, Cand, Seen, Back, Legacy, Pend}
 use Rattle.cg_graph.specs.Member.{Includes}
 use Rattle.cg_graph.specs.Value.{references}
 use Rattle.cg_graph.specs.Object.{Object}
 use Rattle.cg_graph.specs.Rows.{referent_in, weak_references_in}
-use Rattle.cg_graph.specs.Store.{Store, IsLive, HasCode, list_at, objects_of, entries_of, place_of}
+use Rattle.cg_graph.specs.Store.{Store, HasCode, list_at, objects_of, entries_of, place_of}
 use Rattle.cg_value.specs.declared.KindCode.TheVariants.{Weak}
 use Rattle.cg_machine.specs.Collect.{loses_in_weak_phase, older}
 use Rattle.cg_machine.specs.Weak.{callback_of}
@@ -32,6 +32,10 @@ pub record IsClear (store : Store) : Type 0 where
 -- each that waits is a weak reference with a callback
 abbrev pub HaveCallbacks : Store → Type 0
 HaveCallbacks store = (w : ℕ) → Includes (list_at store Pend) w → HasCode store w Weak × IsSome (callback_of (objects_of store) w)
+
+-- the same for each but one, which was given up and may have died
+abbrev pub OthersHaveCallbacks : Store → ℕ → Type 0
+OthersHaveCallbacks store weak = (w : ℕ) → Includes (list_at store Pend) w → w ≢ weak → HasCode store w Weak × IsSome (callback_of (objects_of store) w)
 
 -- the garbage list names none of a place
 abbrev pub IsUnsaved : Store → Place → Type 0
@@ -93,6 +97,18 @@ pub record IsWalk (store : Store) (member weak : Option ℕ) : Type 0 where
   pub none_newer : HasNoneNewer store weak
   pub waiting : (v : ℕ) → Includes (list_at store Pend) v → referent_in store.rows v ≡ None  -- those that wait have lost theirs
 
+-- an object is not the garbage list, which stays untracked
+abbrev pub IsNotGarbageList : ℕ → Type 0
+IsNotGarbageList o = 1 ≢ o
+
+-- what a phase names and moves is not
+abbrev pub SparesGarbageList : Phase → Type 0
+SparesGarbageList (phase_of.AfterCallback weak) = IsNotGarbageList weak
+SparesGarbageList (phase_of.AfterRelease weak) = IsNotGarbageList weak
+SparesGarbageList (phase_of.Turn o) = IsNotGarbageList o
+SparesGarbageList (phase_of.AfterTurn o) = IsNotGarbageList o
+SparesGarbageList phase = Unit {0}
+
 -- What a step needs, phase by phase, its own holds aside.
 abbrev pub IsReadyAt : Store → ℕ → Phase → Type 0
 IsReadyAt store g phase_of.Start = IsClear store
@@ -100,18 +116,16 @@ IsReadyAt store g (phase_of.Sizes zero one two frozen) = IsApartUnseen store × 
 IsReadyAt store g (phase_of.Telling next) = IsApartUnseen store × IsEmptyAt store Pend × IsAt next (list_at store Cand)
 IsReadyAt store g (phase_of.WeakClearing member weak) = IsApartUnseen store × HaveCallbacks store × IsWalk store member weak
 IsReadyAt store g phase_of.WeakCalling = IsApartUnseen store × HaveCallbacks store
-IsReadyAt store g (phase_of.AfterCallback weak) = IsApartUnseen store × HaveCallbacks store × (slice_get (list_at store Pend) 0 ≡ Some weak)
-IsReadyAt store g (phase_of.AfterRelease weak false) = IsApartUnseen store × HaveCallbacks store × (slice_get (list_at store Pend) 0 ≡ Some weak)
-IsReadyAt store g (phase_of.AfterRelease weak true) = IsApartUnseen store × HaveCallbacks store × ¬ IsLive store weak
+IsReadyAt store g (phase_of.AfterCallback weak) = IsApartUnseen store × HaveCallbacks store × (slice_get (list_at store Pend) 0 ≡ Some weak) × IsNotGarbageList weak
+IsReadyAt store g (phase_of.AfterRelease weak) = IsApartUnseen store × OthersHaveCallbacks store weak × IsNotGarbageList weak
 IsReadyAt store g phase_of.Finalizing = IsApart store
 IsReadyAt store g (phase_of.AfterFinalizing o) = IsApart store
 IsReadyAt store g phase_of.Split = IsApartUnseen store
 IsReadyAt store g (phase_of.Living next) = IsApartUnseen store × IsAt next (list_at store (Gen (older g)))
 IsReadyAt store g (phase_of.Detaching next) = IsApartUnseen store × IsAt next (list_at store Cand) × HasNoneBehind store next
 IsReadyAt store g phase_of.Turns = IsApartUnseen store
-IsReadyAt store g (phase_of.Turn o) = IsApartUnseen store × (place_of store o ≡ Cand)
-IsReadyAt store g (phase_of.AfterTurn o false) = IsApartUnseen store × (place_of store o ≡ Cand)
-IsReadyAt store g (phase_of.AfterTurn o true) = IsApartUnseen store × ¬ IsLive store o
+IsReadyAt store g (phase_of.Turn o) = IsApartUnseen store × IsNotGarbageList o
+IsReadyAt store g (phase_of.AfterTurn o) = IsApartUnseen store × IsNotGarbageList o
 IsReadyAt store g phase_of.Ending = IsApartUnseen store × IsEmptyAt store Cand
 IsReadyAt store g (phase_of.Uncollectable first next number) = IsAt first (list_at store (Gen (older g))) × IsAt next (list_at store (Gen (older g)))
 IsReadyAt store g (phase_of.Saved next number) = IsAt next (list_at store (Gen (older g)))
@@ -119,7 +133,7 @@ IsReadyAt store g (phase_of.Stopping number) = Unit {0}
 IsReadyAt store g (phase_of.Over number) = Unit {0}
 
 -- The number of collected objects is small: it grows by one for each weak reference that waits and dies, and by the final
--- set, and no list of a heap is longer than a million and one.
+-- set, and no list of a heap is longer than a million and one. So is the number of those that were set aside.
 abbrev pub HasFewCollected : ℕ → Phase → Store → Type 0
 HasFewCollected collected phase_of.Start store = collected ≡ 0
 HasFewCollected collected (phase_of.Sizes zero one two frozen) store = collected ≡ 0
@@ -127,22 +141,42 @@ HasFewCollected collected (phase_of.Telling next) store = collected ≡ 0
 HasFewCollected collected (phase_of.WeakClearing member weak) store = collected ≡ 0
 HasFewCollected collected phase_of.WeakCalling store = collected + length (list_at store Pend) ≤ 1000001
 HasFewCollected collected (phase_of.AfterCallback weak) store = collected + length (list_at store Pend) ≤ 1000001
-HasFewCollected collected (phase_of.AfterRelease weak false) store = collected + length (list_at store Pend) ≤ 1000001
-HasFewCollected collected (phase_of.AfterRelease weak true) store = collected + length (list_at store Pend) + 1 ≤ 1000001
+HasFewCollected collected (phase_of.AfterRelease weak) store = collected + length (filter (λ q. not (q == weak)) (list_at store Pend)) + 1 ≤ 1000001
 HasFewCollected collected phase_of.Finalizing store = collected ≤ 1000001
 HasFewCollected collected (phase_of.AfterFinalizing o) store = collected ≤ 1000001
 HasFewCollected collected phase_of.Split store = collected ≤ 1000001
+HasFewCollected collected (phase_of.Uncollectable first next number) store = (collected ≤ 2000002) × (number ≤ 1000001)
+HasFewCollected collected (phase_of.Saved next number) store = (collected ≤ 2000002) × (number ≤ 1000001)
+HasFewCollected collected (phase_of.Stopping number) store = (collected ≤ 2000002) × (number ≤ 1000001)
+HasFewCollected collected (phase_of.Over number) store = (collected ≤ 2000002) × (number ≤ 1000001)
 HasFewCollected collected phase store = collected ≤ 2000002
 
 -- the phases that something is given up in
 abbrev pub MayGiveUp : Phase → Type 0
-MayGiveUp (phase_of.AfterRelease weak died) = Unit {0}
+MayGiveUp (phase_of.AfterRelease weak) = Unit {0}
 MayGiveUp phase_of.Finalizing = Unit {0}
 MayGiveUp (phase_of.Turn o) = Unit {0}
-MayGiveUp (phase_of.AfterTurn o died) = Unit {0}
+MayGiveUp (phase_of.AfterTurn o) = Unit {0}
 MayGiveUp phase = ⊥
 
 -- what is given up is given up in these
 abbrev pub GivesUpIn : Phase → Option Release → Type 0
 GivesUpIn phase None = Unit {0}
 GivesUpIn phase (Some release) = MayGiveUp phase
+
+-- the phases in which a frame runs, with nothing given up: that of a callback, and that of a finalizer
+abbrev pub RunsFrame : Phase → Option Release → Type 0
+RunsFrame (phase_of.AfterCallback weak) release = release ≡ None
+RunsFrame (phase_of.AfterFinalizing o) release = release ≡ None
+RunsFrame phase release = ⊥
+
+-- those in which frames and deaths run
+abbrev pub MayRun : Phase → Type 0
+MayRun (phase_of.AfterCallback weak) = Unit {0}
+MayRun (phase_of.AfterFinalizing o) = Unit {0}
+MayRun phase = MayGiveUp phase
+
+-- a collection has begun once its first step is done
+abbrev pub IsBegun : Phase → Type 0
+IsBegun phase_of.Start = ⊥
+IsBegun phase = Unit {0}

@@ -1,11 +1,14 @@
 -- The turns of the phases, and how a collection comes nearer to its end. (Ours.)
-use Rattle.std.specs.Prelude.{◌≡◌, ℕ, ◌+◌, ◌*◌, ◌<◌, ◌⊎◌, Bool, true, false, List, [], length, Option, Some, None, sum_by}
+use Rattle.std.specs.Prelude.{◌≡◌, ℕ, ◌+◌, ◌*◌, ◌<◌, ◌≤◌, ◌⊎◌, List, [], length, Option, Some, None, sum_by}
 use Rattle.cg_value.specs.declared.Place.TheVariants.{Cand, Pend}
 use Rattle.cg_script.specs.declared.Script.{Script}
+use Rattle.cg_graph.specs.Places.{without_serial}
 use Rattle.cg_graph.specs.Store.{Store, list_at, entries_of, place_of}
 use Rattle.cg_policy.specs.Policy.{Policy}
 use Rattle.cg_death.specs.declared.release.Release.{Release}
 use Rattle.cg_death.specs.Activities.{references_left}
+use Rattle.cg_death.specs.Answers.{MakesNone}
+use Rattle.cg_death.specs.Steady.{KeepsNames}
 use Rattle.cg_collect.specs.declared.answer.CollectStep.{CollectStep}
 use Rattle.cg_collect.specs.declared.answer.CollectStep.TheVariants as answer_of
 use Rattle.cg_collect.specs.declared.phase.Phase.{Phase}
@@ -14,7 +17,7 @@ use Rattle.cg_collect.specs.declared.phase.Turn.{Turn}
 use Rattle.cg_collect.specs.declared.collection.Facts.{Facts}
 use Rattle.cg_collect.specs.declared.collection.Collection.{Collection}
 use Rattle.cg_collect.specs.Phases.{from_on}
-use Rattle.cg_collect.specs.Ready.{IsReadyAt, to_look_at, HasFewCollected, GivesUpIn}
+use Rattle.cg_collect.specs.Ready.{IsReadyAt, SparesGarbageList, to_look_at, HasFewCollected, GivesUpIn, RunsFrame, IsBegun}
 use Rattle.cg_collect.specs.Answers.{CollectSteps}
 
 -- a collection with these facts, at a phase, which gives up this first
@@ -44,7 +47,7 @@ pass_of (phase_of.Telling next) = 2
 pass_of (phase_of.WeakClearing member weak) = 3
 pass_of phase_of.WeakCalling = 4
 pass_of (phase_of.AfterCallback weak) = 4
-pass_of (phase_of.AfterRelease weak died) = 4
+pass_of (phase_of.AfterRelease weak) = 4
 pass_of phase_of.Finalizing = 5
 pass_of (phase_of.AfterFinalizing o) = 5
 pass_of phase_of.Split = 6
@@ -52,21 +55,35 @@ pass_of (phase_of.Living next) = 7
 pass_of (phase_of.Detaching next) = 8
 pass_of phase_of.Turns = 9
 pass_of (phase_of.Turn o) = 9
-pass_of (phase_of.AfterTurn o died) = 9
+pass_of (phase_of.AfterTurn o) = 9
 pass_of phase_of.Ending = 10
 pass_of (phase_of.Uncollectable first next number) = 11
 pass_of (phase_of.Saved next number) = 12
 pass_of (phase_of.Stopping number) = 13
 pass_of (phase_of.Over number) = 14
 
+-- by how many passes the next step is later at least: a detection is over after one
+abbrev pub passes_on : Phase → ℕ
+passes_on phase_of.Start = 1
+passes_on phase_of.Split = 1
+passes_on phase = 0
+
 -- what a release has still to do
 abbrev pub still_released : Option Release → ℕ
 still_released None = 0
 still_released (Some release) = length (references_left release) + 1
 
--- what the members of the final set have still to do: each is to be taken, and each of its entries
+-- what an object has still to do in its turn: it is to be taken, and each of its entries
+abbrev pub to_clear : Store → ℕ → ℕ
+to_clear store o = 16 + 4 * length (entries_of store o)
+
+-- what the members of the final set have still to do
 abbrev pub still_cleared : Store → ℕ
-still_cleared store = sum_by (λ o. 16 + 4 * length (entries_of store o)) (list_at store Cand)
+still_cleared store = sum_by (to_clear store) (list_at store Cand)
+
+-- the same for all but one, which has its turn and may stand elsewhere
+abbrev pub others_cleared : Store → ℕ → ℕ
+others_cleared store o = sum_by (to_clear store) (without_serial o (list_at store Cand))
 
 -- the list in which the next of a walk stands
 abbrev pub list_around : Store → Option ℕ → List ℕ
@@ -78,14 +95,13 @@ abbrev pub left_in_pass : Phase → Store → ℕ
 left_in_pass (phase_of.WeakClearing member weak) store = length (from_on member (list_at store Cand)) * (length store.rows + 1) + length (to_look_at store weak)
 left_in_pass phase_of.WeakCalling store = 8 * length (list_at store Pend)
 left_in_pass (phase_of.AfterCallback weak) store = 8 * length (list_at store Pend) + 6
-left_in_pass (phase_of.AfterRelease weak died) store = 8 * length (list_at store Pend) + 1
+left_in_pass (phase_of.AfterRelease weak) store = 8 * length (list_at store Pend) + 1
 left_in_pass phase_of.Finalizing store = 8 * length (list_at store Cand)
 left_in_pass (phase_of.AfterFinalizing o) store = 8 * length (list_at store Cand) + 6
 left_in_pass (phase_of.Detaching next) store = length (from_on next (list_at store Cand))
 left_in_pass phase_of.Turns store = still_cleared store + 9
-left_in_pass (phase_of.Turn o) store = still_cleared store + 8
-left_in_pass (phase_of.AfterTurn o false) store = still_cleared store + 1
-left_in_pass (phase_of.AfterTurn o true) store = still_cleared store + 10
+left_in_pass (phase_of.Turn o) store = others_cleared store o + to_clear store o + 8
+left_in_pass (phase_of.AfterTurn o) store = others_cleared store o + 10
 left_in_pass (phase_of.Saved next number) store = length (from_on next (list_around store next))
 left_in_pass phase store = 0
 
@@ -99,7 +115,30 @@ ComesNearer old phase release new phase_now release_now =
 abbrev pub TurnFalls : Store → Phase → Store → Turn → Type 0
 TurnFalls old phase new turn = turn.answer ≡ answer_of.Continue → ComesNearer old phase None new turn.phase turn.release
 
--- What a turn leaves: the number of collected objects is small as before, and what is given up is so in a phase for it.
+-- A frame is handed out in a phase for it, and a death in none: what is given up hands those out. The turn that ends a
+-- collection is told by `TurnEnds`.
+abbrev pub HandsOutIn : CollectStep → Phase → Option Release → Type 0
+HandsOutIn (answer_of.Frame spec) phase release = RunsFrame phase release × SparesGarbageList phase
+HandsOutIn (answer_of.Died o) phase release = ⊥
+HandsOutIn (answer_of.Finished collected set_aside) phase release = ⊥
+HandsOutIn answer phase release = Unit {0}
+
+-- What a turn leaves: the number of collected objects is small as before, and what is given up or handed out is so in a phase
+-- for it. No earlier pass follows.
 pub record TurnLeaves (old : Store) (phase : Phase) (new : Store) (turn : Turn) : Type 0 where
   pub few : (n : ℕ) → HasFewCollected n phase old → HasFewCollected (n + turn.collected) turn.phase new
   pub gives_up : GivesUpIn turn.phase turn.release
+  pub hands_out : HandsOutIn turn.answer turn.phase turn.release
+  pub begun : IsBegun turn.phase
+  pub onward : pass_of phase + passes_on phase ≤ pass_of turn.phase
+
+-- A turn of a collection that is over leaves it so, and answers with both numbers.
+pub record TurnEnds (c : Collection) (turn : Turn) : Type 0 where
+  pub number : ℕ
+  pub over : c.phase ≡ phase_of.Over number
+  pub is : turn ≡ record { phase = phase_of.Over number; release = None; collected = 0; answer = answer_of.Finished c.collected number }
+
+-- No object is made, no name gets another value, and no serial is given.
+pub record KeepsObjects (old new : Store) : Type 0 where
+  pub objects : MakesNone old new
+  pub names : KeepsNames old new

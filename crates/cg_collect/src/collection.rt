@@ -1,17 +1,20 @@
 //! A collection of a generation.
-ghost use Rattle.std.specs.Prelude.{◌≡◌, ◌≤◌, false, true, Bool, None, IfNone, IfSome};
+ghost use Rattle.std.specs.Prelude.{◌≡◌, ◌+◌, ◌≤◌, ◌⊎◌, false, true, Bool, None, IfNone, IfSome};
 ghost use Rattle.cg_machine.specs.World.{World, push};
 ghost use Rattle.cg_machine.specs.Collect.{begun};
 ghost use Rattle.cg_machine.specs.Commands.{new_collection};
 ghost use Rattle.cg_machine.specs.Represents.{Represents};
 ghost use Rattle.cg_heap.specs.Calls.{HasFewHolds};
 ghost use Rattle.cg_death.specs.Activities.{HasHolds};
+ghost use Rattle.cg_death.specs.Answers.{MakesNone};
+ghost use Rattle.cg_death.specs.Steady.{KeepsNames};
 ghost use Rattle.cg_collect.specs.declared.answer.CollectStep.TheVariants as answer_of;
-ghost use Rattle.cg_collect.specs.Numbers.{IsBelow62};
-ghost use Rattle.cg_collect.specs.Ready.{IsClear, IsReadyAt};
-ghost use Rattle.cg_collect.specs.Turns.{TurnSteps, TurnFalls, TurnLeaves, StaysReady};
+ghost use Rattle.cg_collect.specs.Numbers.{AreSmall};
+ghost use Rattle.cg_collect.specs.Ready.{IsClear, IsReadyAt, IsBegun};
+ghost use Rattle.cg_collect.specs.Turns.{pass_of, passes_on, TurnSteps, TurnFalls, TurnLeaves, TurnEnds, StaysReady, KeepsObjects};
+ghost use Rattle.cg_collect.specs.Looks.{most_looks};
 ghost use Rattle.cg_collect.specs.Answers.{CollectSteps, Shows};
-ghost use Rattle.cg_collect.specs.Collections.{IsReady, KeepsReady, CollectFalls, GivesUpNext, held_by, given_up_by, own_holds_at, facts_of, died_in};
+ghost use Rattle.cg_collect.specs.Collections.{IsReady, KeepsReady, CollectFalls, DiesUnheld, GivesUpNext, held_by, given_up_by, own_holds_at, facts_of};
 
 use crate::answer::CollectStep;
 use crate::detection::{detach_one, detect, tell_living};
@@ -55,7 +58,7 @@ impl Collection {
     pub fn begin<B: Kind>(heap: &mut Heap<B>, policy: &mut Policy, generation: u8) -> Collection
         requires generation { generation ≤ 2 }
         requires idle { policy.old.running ≡ false }
-        requires bounded { IsBelow62 policy.old.numbers }
+        requires bounded { AreSmall policy.old.numbers }
         requires clear { IsClear heap.old }
         ensures heap { heap.new ≡ heap.old }
         ensures policy { policy.new ≡ record { numbers = begun generation policy.old.numbers; running = true } }
@@ -85,10 +88,19 @@ impl Collection {
         requires few { HasFewHolds heap.old }
         requires held { HasHolds heap.old (held_by self.old) }
         requires ready { IsReady self.old heap.old }
-        requires bounded { IsBelow62 policy.old.numbers }
+        requires bounded { AreSmall policy.old.numbers }
         ensures steps { CollectSteps script.now self.old heap.old policy.old self.new heap.new policy.new result }
         ensures ready { KeepsReady self.new heap.new result }
         ensures falls { result ≡ answer_of.Continue → CollectFalls self.old heap.old self.new heap.new }
+        ensures died { DiesUnheld result heap.new }
+
+        // What it leaves besides, whatever it answers.
+        ensures generation { self.new.generation ≡ self.old.generation }
+        ensures begun { IsBegun self.new.phase }
+        ensures onward { pass_of self.old.phase + passes_on self.old.phase ≤ pass_of self.new.phase }
+        ensures objects { MakesNone heap.old heap.new }
+        ensures names { KeepsNames heap.old heap.new }
+        ensures looks { steps.new ≤ steps.old + most_looks self.old.generation self.old.phase heap.old }
     {
         if let Some(answer) = self.give_up(heap) {
             return answer;
@@ -111,10 +123,7 @@ impl Collection {
             None => return None,
         };
         match answer {
-            DeathStep::Died(object) => {
-                self.phase = died(self.phase);
-                Some(CollectStep::Died(object))
-            }
+            DeathStep::Died(object) => Some(CollectStep::Died(object)),
             DeathStep::Gone => {
                 self.release = None;
                 Some(CollectStep::Continue)
@@ -135,11 +144,13 @@ impl Collection {
         requires ready { IsReadyAt heap.old self.now.generation self.now.phase }
         requires few { HasFewHolds heap.old }
         requires held { HasHolds heap.old (own_holds_at self.now.phase) }
-        requires bounded { IsBelow62 policy.old.numbers }
+        requires bounded { AreSmall policy.old.numbers }
         ensures steps { TurnSteps script.now (facts_of self.now) self.now.phase heap.old policy.old heap.new policy.new result }
         ensures ready { StaysReady heap.new self.now.generation result.phase result.answer }
         ensures falls { TurnFalls heap.old self.now.phase heap.new result }
-        ensures leaves { TurnLeaves heap.old self.now.phase heap.new result }
+        ensures leaves { TurnLeaves heap.old self.now.phase heap.new result ⊎ TurnEnds self.now result }
+        ensures keeps { KeepsObjects heap.old heap.new }
+        ensures looks { steps.new ≤ steps.old + most_looks self.now.generation self.now.phase heap.old }
     {
         let facts = Facts {
             generation: self.generation,
@@ -158,7 +169,7 @@ impl Collection {
             Phase::WeakClearing { member, weak } => clear_one(heap, member, weak),
             Phase::WeakCalling => call_one(heap),
             Phase::AfterCallback(weak) => after_callback(weak),
-            Phase::AfterRelease { weak, died } => after_release(facts, heap, weak, died),
+            Phase::AfterRelease(weak) => after_release(facts, heap, weak),
             Phase::Finalizing => look_at_one(heap, script),
             Phase::AfterFinalizing(object) => after_finalizer(object),
             Phase::Split => detect(facts, heap, steps),
@@ -166,7 +177,7 @@ impl Collection {
             Phase::Detaching(next) => detach_one(heap, next),
             Phase::Turns => take_turn(facts, heap),
             Phase::Turn(object) => empty_one(heap, object),
-            Phase::AfterTurn { object, died } => after_turn(facts, heap, object, died),
+            Phase::AfterTurn(object) => after_turn(facts, heap, object),
             Phase::Ending => end(facts, heap, policy, script),
             Phase::Uncollectable {
                 first,
@@ -183,16 +194,5 @@ impl Collection {
                 },
             ),
         }
-    }
-}
-
-/// What was given up has died of that.
-fn died(phase: Phase) -> Phase
-    ensures { result ≡ died_in phase }
-{
-    match phase {
-        Phase::AfterRelease { weak, .. } => Phase::AfterRelease { weak, died: true },
-        Phase::AfterTurn { object, .. } => Phase::AfterTurn { object, died: true },
-        other => other,
     }
 }

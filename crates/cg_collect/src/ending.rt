@@ -9,7 +9,7 @@ ghost use Rattle.cg_collect.specs.Saving.{with_saved, kept_aside};
 ghost use Rattle.cg_collect.specs.declared.collection.Facts.{Facts as AnyFacts};
 ghost use Rattle.cg_collect.specs.declared.phase.Phase.TheVariants as phase_of;
 ghost use Rattle.cg_collect.specs.Ready.{IsReadyAt};
-ghost use Rattle.cg_collect.specs.Turns.{TurnSteps, TurnFalls, TurnLeaves, StaysReady};
+ghost use Rattle.cg_collect.specs.Turns.{TurnSteps, TurnFalls, TurnLeaves, StaysReady, KeepsObjects};
 
 use crate::collection::Facts;
 use crate::phase::{Phase, Turn, older};
@@ -30,6 +30,7 @@ pub fn end<B: Kind>(facts: Facts, heap: &mut Heap<B>, policy: &mut Policy, scrip
     ensures ready { StaysReady heap.new facts.generation result.phase result.answer }
     ensures falls { TurnFalls heap.old phase_of.Ending heap.new result }
     ensures leaves { TurnLeaves heap.old phase_of.Ending heap.new result }
+    ensures keeps { KeepsObjects heap.old heap.new }
 {
     heap.sound();
     let number = heap.size(Place::Legacy);

@@ -14,7 +14,7 @@ ghost use Rattle.cg_collect.specs.declared.answer.CollectStep.TheVariants as ans
 ghost use Rattle.cg_collect.specs.declared.collection.Facts.{Facts as AnyFacts};
 ghost use Rattle.cg_collect.specs.declared.phase.Phase.TheVariants as phase_of;
 ghost use Rattle.cg_collect.specs.Ready.{IsReadyAt};
-ghost use Rattle.cg_collect.specs.Turns.{TurnSteps, TurnFalls, TurnLeaves, StaysReady};
+ghost use Rattle.cg_collect.specs.Turns.{TurnSteps, TurnFalls, TurnLeaves, StaysReady, KeepsObjects};
 
 use crate::phase::{Phase, Turn, release_of};
 use cg_death::finalizers_of;
@@ -32,6 +32,7 @@ pub fn look_at_one<B: Kind>(heap: &mut Heap<B>, script: &Script) -> Turn
     ensures ready { (g : ℕ) → StaysReady heap.new g result.phase result.answer }
     ensures falls { TurnFalls heap.old phase_of.Finalizing heap.new result }
     ensures leaves { TurnLeaves heap.old phase_of.Finalizing heap.new result }
+    ensures keeps { KeepsObjects heap.old heap.new }
 {
     heap.sound();
     match heap.first(Place::Cand) {
@@ -52,6 +53,7 @@ fn look_at<B: Kind>(heap: &mut Heap<B>, script: &Script, object: u64) -> Turn
     ensures ready { (g : ℕ) → StaysReady heap.new g result.phase result.answer }
     ensures falls { TurnFalls heap.old phase_of.Finalizing heap.new result }
     ensures leaves { TurnLeaves heap.old phase_of.Finalizing heap.new result }
+    ensures keeps { KeepsObjects heap.old heap.new }
 {
     heap.sound();
     match finalizer_to_run(heap, script, object) {

@@ -37,11 +37,8 @@ pub enum Phase {
     WeakCalling,
     /// The frame of a callback runs or has ended; the weak reference is held.
     AfterCallback(u64),
-    /// The weak reference is given up, and whether it died of that.
-    AfterRelease {
-        weak: u64,
-        died: bool,
-    },
+    /// The weak reference is given up; it lives or has died.
+    AfterRelease(u64),
     /// Condemned objects are looked at for their finalizers.
     Finalizing,
     /// The frame of a finalizer runs or has ended; the object is held.
@@ -56,11 +53,8 @@ pub enum Phase {
     Turns,
     /// The entries of a member are taken out; it is held.
     Turn(u64),
-    /// The member is given up, and whether it died of that.
-    AfterTurn {
-        object: u64,
-        died: bool,
-    },
+    /// The member is given up; it lives or has died.
+    AfterTurn(u64),
     /// What was set aside is to be told and saved.
     Ending,
     /// What was set aside, `number` objects from `first` on, is to be told, from `next` on.

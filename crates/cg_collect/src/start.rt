@@ -1,16 +1,17 @@
 //! All before the weak phase: trial subtraction, what survivors become, and what is set aside.
-ghost use Rattle.std.specs.Prelude.{◌≡◌, ◌<◌, ◌≤◌, ◌∷◌, [], ℕ, Some, None, true, false, unwrap_or, if◌then◌else◌};
+ghost use Rattle.std.specs.Prelude.{◌≡◌, ◌+◌, ◌<◌, ◌≤◌, ◌∷◌, [], ℕ, Some, None, true, false, unwrap_or, if◌then◌else◌};
 ghost use Rattle.cg_script.specs.declared.Script.{Script as AnyScript};
 ghost use Rattle.cg_machine.specs.Collect.{has_flag, stats};
 ghost use Rattle.cg_policy.specs.Policy.{Policy as Standing};
 ghost use Rattle.cg_policy.specs.Flagset.{bits_of};
 ghost use Rattle.cg_heap.specs.Calls.{HasFewHolds};
-ghost use Rattle.cg_collect.specs.Numbers.{IsBelow62};
+ghost use Rattle.cg_collect.specs.Numbers.{AreSmall};
 ghost use Rattle.cg_collect.specs.declared.collection.Facts.{Facts as AnyFacts};
 ghost use Rattle.cg_collect.specs.declared.phase.Phase.TheVariants as phase_of;
 ghost use Rattle.cg_collect.specs.Ready.{IsReadyAt};
 ghost use Rattle.cg_collect.specs.Starting.{MergesYounger, GetOlder, told_sizes, told_weak, told_after_sizes};
-ghost use Rattle.cg_collect.specs.Turns.{TurnSteps, TurnFalls, TurnLeaves, StaysReady};
+ghost use Rattle.cg_collect.specs.Turns.{TurnSteps, TurnFalls, TurnLeaves, StaysReady, KeepsObjects};
+ghost use Rattle.cg_collect.specs.Looks.{most_looks};
 
 use crate::answer::CollectStep;
 use crate::collection::Facts;
@@ -39,11 +40,13 @@ pub fn start<B: Kind, L: Ledger>(
     requires generation { facts.generation ≤ 2 }
     requires ready { IsReadyAt heap.old facts.generation phase_of.Start }
     requires few { HasFewHolds heap.old }
-    requires bounded { IsBelow62 policy.old.numbers }
+    requires bounded { AreSmall policy.old.numbers }
     ensures steps { TurnSteps script.now facts phase_of.Start heap.old policy.old heap.new policy.new result }
     ensures ready { StaysReady heap.new facts.generation result.phase result.answer }
     ensures falls { TurnFalls heap.old phase_of.Start heap.new result }
     ensures leaves { TurnLeaves heap.old phase_of.Start heap.new result }
+    ensures keeps { KeepsObjects heap.old heap.new }
+    ensures looks { steps.new ≤ steps.old + most_looks facts.generation phase_of.Start heap.old }
 {
     heap.sound();
     let next = first_phase(facts, heap);

@@ -9,7 +9,7 @@ ghost use Rattle.cg_heap.specs.Calls.{HasFewHolds};
 ghost use Rattle.cg_collect.specs.declared.collection.Facts.{Facts as AnyFacts};
 ghost use Rattle.cg_collect.specs.declared.phase.Phase.TheVariants as phase_of;
 ghost use Rattle.cg_collect.specs.Ready.{IsReadyAt};
-ghost use Rattle.cg_collect.specs.Turns.{TurnSteps, TurnFalls, TurnLeaves, StaysReady};
+ghost use Rattle.cg_collect.specs.Turns.{TurnSteps, TurnFalls, TurnLeaves, StaysReady, KeepsObjects};
 
 use crate::collection::Facts;
 use crate::phase::{Phase, Turn, older, release_of};
@@ -30,6 +30,7 @@ pub fn take_turn<B: Kind>(facts: Facts, heap: &mut Heap<B>) -> Turn
     ensures ready { StaysReady heap.new facts.generation result.phase result.answer }
     ensures falls { TurnFalls heap.old phase_of.Turns heap.new result }
     ensures leaves { TurnLeaves heap.old phase_of.Turns heap.new result }
+    ensures keeps { KeepsObjects heap.old heap.new }
 {
     heap.sound();
     match heap.first(Place::Cand) {
@@ -48,6 +49,7 @@ fn begin_turn<B: Kind>(facts: Facts, heap: &mut Heap<B>, object: u64) -> Turn
     ensures ready { StaysReady heap.new facts.generation result.phase result.answer }
     ensures falls { TurnFalls heap.old phase_of.Turns heap.new result }
     ensures leaves { TurnLeaves heap.old phase_of.Turns heap.new result }
+    ensures keeps { KeepsObjects heap.old heap.new }
 {
     heap.sound();
     if facts.flags.intersects(Flagset::SAVEALL) {
@@ -77,33 +79,29 @@ pub fn empty_one<B: Kind>(heap: &mut Heap<B>, object: u64) -> Turn
     ensures ready { (g : ℕ) → StaysReady heap.new g result.phase result.answer }
     ensures falls { TurnFalls heap.old (phase_of.Turn object) heap.new result }
     ensures leaves { TurnLeaves heap.old (phase_of.Turn object) heap.new result }
+    ensures keeps { KeepsObjects heap.old heap.new }
 {
     heap.sound();
     match heap.detach(object) {
         Some(entry) => Turn::gives_up(Release::new(entry), Phase::Turn(object)),
-        None => Turn::gives_up(
-            release_of(object),
-            Phase::AfterTurn {
-                object,
-                died: false,
-            },
-        ),
+        None => Turn::gives_up(release_of(object), Phase::AfterTurn(object)),
     }
 }
 
 /// One that lives after its turn gets older.
-pub fn after_turn<B: Kind>(facts: Facts, heap: &mut Heap<B>, object: u64, died: bool) -> Turn
+pub fn after_turn<B: Kind>(facts: Facts, heap: &mut Heap<B>, object: u64) -> Turn
     requires generation { facts.generation ≤ 2 }
-    requires ready { IsReadyAt heap.old facts.generation (phase_of.AfterTurn object died) }
-    ensures steps { (script : AnyScript) (policy : Standing) → TurnSteps script facts (phase_of.AfterTurn object died) heap.old policy heap.new policy result }
+    requires ready { IsReadyAt heap.old facts.generation (phase_of.AfterTurn object) }
+    ensures steps { (script : AnyScript) (policy : Standing) → TurnSteps script facts (phase_of.AfterTurn object) heap.old policy heap.new policy result }
     ensures ready { StaysReady heap.new facts.generation result.phase result.answer }
-    ensures falls { TurnFalls heap.old (phase_of.AfterTurn object died) heap.new result }
-    ensures leaves { TurnLeaves heap.old (phase_of.AfterTurn object died) heap.new result }
+    ensures falls { TurnFalls heap.old (phase_of.AfterTurn object) heap.new result }
+    ensures leaves { TurnLeaves heap.old (phase_of.AfterTurn object) heap.new result }
+    ensures keeps { KeepsObjects heap.old heap.new }
 {
-    if died {
+    heap.sound();
+    if !heap.has(object) {
         return Turn::to(Phase::Turns);
     }
-    heap.sound();
     heap.move_to(object, Place::Gen(older(facts.generation)));
     Turn::to(Phase::Turns)
 }

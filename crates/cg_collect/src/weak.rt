@@ -16,7 +16,7 @@ ghost use Rattle.cg_machine.specs.Collect.{is_condemned_in, loses_in_weak_phase,
 ghost use Rattle.cg_collect.specs.declared.collection.Facts.{Facts as AnyFacts};
 ghost use Rattle.cg_collect.specs.declared.phase.Phase.TheVariants as phase_of;
 ghost use Rattle.cg_collect.specs.Ready.{IsReadyAt};
-ghost use Rattle.cg_collect.specs.Turns.{TurnSteps, TurnFalls, TurnLeaves, StaysReady};
+ghost use Rattle.cg_collect.specs.Turns.{TurnSteps, TurnFalls, TurnLeaves, StaysReady, KeepsObjects};
 
 use crate::answer::CollectStep;
 use crate::collection::Facts;
@@ -37,6 +37,7 @@ pub fn clear_one<B: Kind>(heap: &mut Heap<B>, member: Option<u64>, weak: Option<
     ensures ready { (g : ℕ) → StaysReady heap.new g result.phase result.answer }
     ensures falls { TurnFalls heap.old (phase_of.WeakClearing member weak) heap.new result }
     ensures leaves { TurnLeaves heap.old (phase_of.WeakClearing member weak) heap.new result }
+    ensures keeps { KeepsObjects heap.old heap.new }
 {
     match weak {
         Some(weak) => look_at(heap, member, weak),
@@ -52,6 +53,7 @@ fn look_at<B: Kind>(heap: &mut Heap<B>, member: Option<u64>, weak: u64) -> Turn
     ensures ready { (g : ℕ) → StaysReady heap.new g result.phase result.answer }
     ensures falls { TurnFalls heap.old (phase_of.WeakClearing member (Some weak)) heap.new result }
     ensures leaves { TurnLeaves heap.old (phase_of.WeakClearing member (Some weak)) heap.new result }
+    ensures keeps { KeepsObjects heap.old heap.new }
 {
     heap.sound();
     let phase = Phase::WeakClearing {
@@ -137,6 +139,7 @@ fn next_member<B: Kind>(heap: &mut Heap<B>, member: Option<u64>) -> Turn
     ensures ready { (g : ℕ) → StaysReady heap.new g result.phase result.answer }
     ensures falls { TurnFalls heap.old (phase_of.WeakClearing member None) heap.new result }
     ensures leaves { TurnLeaves heap.old (phase_of.WeakClearing member None) heap.new result }
+    ensures keeps { KeepsObjects heap.old heap.new }
 {
     heap.sound();
     match member {
@@ -167,6 +170,7 @@ pub fn call_one<B: Kind>(heap: &mut Heap<B>) -> Turn
     ensures ready { (g : ℕ) → StaysReady heap.new g result.phase result.answer }
     ensures falls { TurnFalls heap.old phase_of.WeakCalling heap.new result }
     ensures leaves { TurnLeaves heap.old phase_of.WeakCalling heap.new result }
+    ensures keeps { KeepsObjects heap.old heap.new }
 {
     heap.sound();
     match heap.first(Place::Pend) {
@@ -202,29 +206,31 @@ pub fn after_callback(weak: u64) -> Turn
         → TurnSteps script facts (phase_of.AfterCallback weak) store policy store policy result }
     ensures ready { (store : Store) (g : ℕ) → IsReadyAt store g (phase_of.AfterCallback weak) → StaysReady store g result.phase result.answer }
     ensures falls { (store : Store) → TurnFalls store (phase_of.AfterCallback weak) store result }
-    ensures leaves { (store : Store) → TurnLeaves store (phase_of.AfterCallback weak) store result }
+    ensures leaves { (store : Store) (g : ℕ) → IsReadyAt store g (phase_of.AfterCallback weak) → TurnLeaves store (phase_of.AfterCallback weak) store result }
 {
-    Turn::gives_up(release_of(weak), Phase::AfterRelease { weak, died: false })
+    Turn::gives_up(release_of(weak), Phase::AfterRelease(weak))
 }
 
-/// One that died when it was given up is counted as collected; another gets older.
-pub fn after_release<B: Kind>(facts: Facts, heap: &mut Heap<B>, weak: u64, died: bool) -> Turn
+/// One that has died since it was given up is counted as collected; another gets older.
+pub fn after_release<B: Kind>(facts: Facts, heap: &mut Heap<B>, weak: u64) -> Turn
     requires generation { facts.generation ≤ 2 }
-    requires ready { IsReadyAt heap.old facts.generation (phase_of.AfterRelease weak died) }
-    ensures steps { (script : AnyScript) (policy : Standing) → TurnSteps script facts (phase_of.AfterRelease weak died) heap.old policy heap.new policy result }
+    requires ready { IsReadyAt heap.old facts.generation (phase_of.AfterRelease weak) }
+    ensures steps { (script : AnyScript) (policy : Standing) → TurnSteps script facts (phase_of.AfterRelease weak) heap.old policy heap.new policy result }
     ensures ready { StaysReady heap.new facts.generation result.phase result.answer }
-    ensures falls { TurnFalls heap.old (phase_of.AfterRelease weak died) heap.new result }
-    ensures leaves { TurnLeaves heap.old (phase_of.AfterRelease weak died) heap.new result }
+    ensures falls { TurnFalls heap.old (phase_of.AfterRelease weak) heap.new result }
+    ensures leaves { TurnLeaves heap.old (phase_of.AfterRelease weak) heap.new result }
+    ensures keeps { KeepsObjects heap.old heap.new }
 {
     heap.sound();
-    if died {
-        return Turn {
+    if heap.has(weak) {
+        heap.move_to(weak, Place::Gen(older(facts.generation)));
+        Turn::to(Phase::WeakCalling)
+    } else {
+        Turn {
             phase: Phase::WeakCalling,
             release: None,
             collected: 1,
             answer: CollectStep::Continue,
-        };
+        }
     }
-    heap.move_to(weak, Place::Gen(older(facts.generation)));
-    Turn::to(Phase::WeakCalling)
 }

@@ -122,6 +122,13 @@ impl<B: Kind> Heap<B> {
         self.entries
     }
 
+    /// Whether an object with this serial lives.
+    pub fn has(&self, object: u64) -> bool
+        ensures { IsTrue result ↔ IsLive self.now object }
+    {
+        self.arena.has(object)
+    }
+
     /// The kind.
     pub fn kind_of(&self, object: u64) -> KindCode
         requires { IsLive self.now object }

@@ -1,0 +1,15 @@
+pub mod SetsApart
+pub mod SortsApart
+pub mod WeakApart
+pub mod FinalizersApart
+pub mod TurnsApart
+pub mod CollectApart
+pub mod GarbageKept
+pub mod GarbageCommands
+pub mod StepsPlain
+pub mod StepsApart
+pub mod RunsApart
+pub mod Kept
+pub mod Numbers
+pub mod Counting
+pub mod NumbersOfRuns

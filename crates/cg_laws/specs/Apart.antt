@@ -1,5 +1,5 @@
 -- What a collection sets apart, phase by phase. (Developer guide, "destroying unreachable objects"; `gc` manual, `gc.garbage`.)
-use Rattle.std.specs.Prelude.{◌≡◌, ◌≢◌, ℕ, false, List, ◌∷◌, ◌×◌}
+use Rattle.std.specs.Prelude.{◌≡◌, ◌≢◌, ℕ, false, List, [], ◌∷◌}
 use Rattle.cg_value.specs.declared.Place.{Place}
 use Rattle.cg_value.specs.declared.Place.TheVariants.{Untracked, Cand, Seen, Back, Legacy, Pend}
 use Rattle.cg_value.specs.declared.KindCode.TheVariants.{List as ListKind}
@@ -51,12 +51,21 @@ pub record IsGarbageList (x : Object) : Type 0 where
   pub list : x.code ≡ ListKind
   pub untracked : x.place ≡ Untracked
 
+-- the weak reference that is called back and given up, and the object that has its turn
+abbrev pub handles : CollectPhase → List ℕ
+handles (AfterCallback weak waiting) = weak ∷ []
+handles (AfterRelease weak waiting) = weak ∷ []
+handles (Turn o) = o ∷ []
+handles (AfterTurn o) = o ∷ []
+handles phase = []
+
 -- Without a collection nothing is set apart; with one, each object stands rightly. The garbage list names none of those that
--- are condemned or set aside: what it names is held from outside.
+-- are condemned or set aside: what it names is held from outside. It is never called back and never has a turn.
 pub record IsApart (w : World) : Type 0 where
   pub garbage : (x : Object) → Includes w.objects x → x.serial ≡ 1 → IsGarbageList x
   pub clear : is_collecting w ≡ false → (x : Object) → Includes w.objects x → ¬ IsOfCollection x.place
   pub phases : (c : Collection) → Includes w.stack (Collecting c) → (x : Object) → Includes w.objects x → StandsRightly c.phase x
+  pub unhandled : (c : Collection) → Includes w.stack (Collecting c) → ¬ Includes (handles c.phase) 1
   pub unsaved : (x : Object) → Includes w.objects x → IsFound x.place → ¬ Includes (references (entries_of w.objects 1)) x.serial
 
 -- Every world of a run is so.

@@ -102,14 +102,13 @@ pub record World : Type 0 where
 abbrev pub garbage_list : Object
 garbage_list = record { serial = 1; code = ListKind; class = None; entries = []; place = Untracked; finalized = false; referent = None }
 
--- The numbers of a new run. Threshold 0 stands at 0 until automatic collections are built, and so turns them off by the
--- rule itself; then it becomes CPython's 700.
+-- The numbers of a new run: automatic collections are on, and the thresholds are CPython's. (`gc.get_threshold`.)
 abbrev pub first_numbers : Numbers
 first_numbers = record {
   zero_count = 0;
   one_count = 0;
   two_count = 0;
-  zero_threshold = 0;
+  zero_threshold = 700;
   one_threshold = 10;
   two_threshold = 10;
   pending = 0;

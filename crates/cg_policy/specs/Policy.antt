@@ -16,12 +16,13 @@ with_numbers n p = record p { numbers = n }
 abbrev pub due_of : Policy → Option ℕ
 due_of p = if is_due p.numbers && not p.running then Some (due_generation p.numbers) else None
 
--- the numbers that rise are below 2 ^ 63 (ours: a run makes far fewer objects)
+-- The numbers that rise are within bounds. (Ours: a run makes far fewer than 2 ^ 63 objects. Pending rises at each collection
+-- of generation 1 by all that survive it, the same ones again, so the number of objects does not bound it.)
 pub record IsBounded (n : Numbers) : Type 0 where
   pub zero : n.zero_count < 2 ^ 63
   pub one : n.one_count < 2 ^ 63
   pub two : n.two_count < 2 ^ 63
-  pub pending : n.pending < 2 ^ 63
+  pub pending : n.pending < 2 ^ 127
   pub total : n.total < 2 ^ 63
 
 -- The numbers after an object was made, and after one was freed. (`gc.set_threshold`, and CPython's

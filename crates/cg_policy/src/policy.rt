@@ -36,8 +36,9 @@ struct Thresholds {
 pub struct Policy {
     counts: Counts,
     thresholds: Thresholds,
-    // The objects that survived collections of generation 1 since the last of generation 2.
-    pending: u64,
+    // The objects that survived collections of generation 1 since the last of generation 2. An object counts again at
+    // each one that it survives, so the number of objects does not bound it: 64 bits are not known to be enough.
+    pending: u128,
     // The objects that the last collection of generation 2 left.
     total: u64,
     enabled: bool,
@@ -71,8 +72,7 @@ impl Model for Policy {
 impl Policy {
     /// The policy of a new run: the machine's opening numbers, no debug flag, and no collection running.
     ///
-    /// Collecting is enabled, and thresholds 1 and 2 are 10 (`gc.get_threshold`). Threshold 0 stands at 0 until automatic
-    /// collections are built (ours), so that none is due before `set_threshold` sets it.
+    /// Collecting is enabled, and the thresholds are CPython's 700, 10 and 10. (`gc.get_threshold`.)
     pub fn new() -> Policy
         ensures { result ≡ record { numbers = first_numbers; running = false } }
     {
@@ -83,7 +83,7 @@ impl Policy {
                 two: 0,
             },
             thresholds: Thresholds {
-                zero: 0,
+                zero: 700,
                 one: 10,
                 two: 10,
             },
@@ -139,7 +139,9 @@ impl Policy {
     fn oldest(&self) -> u8
         ensures { result ≡ due_generation self.now.numbers }
     {
-        if self.counts.two > u64::from(self.thresholds.two) && self.pending >= self.total / 4 {
+        if self.counts.two > u64::from(self.thresholds.two)
+            && self.pending >= u128::from(self.total / 4)
+        {
             2
         } else if self.counts.one > u64::from(self.thresholds.one) {
             1
@@ -179,7 +181,7 @@ impl Policy {
     {
         match generation {
             0 => {}
-            1 => self.pending += n,
+            1 => self.pending += u128::from(n),
             _ => self.pending = 0,
         }
         if generation == 2 {

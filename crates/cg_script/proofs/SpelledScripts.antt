@@ -1,11 +1,10 @@
--- What is true of each script that some bytes spell by the forms that are built.
+-- What is true of each script that some bytes spell.
 use Rattle.std.proofs.Common.{◌≡◌, ℕ, ◌≤◌, List, [], ◌∷◌, length, length-drop, drop, Bool, true, false, ap, subst, arith, Result, Ok, Err, Some, nat_le}
 use Rattle.std.specs.Prelude.{IfOk}
 use Rattle.std.specs.List.{All}
 use Rattle.std.proofs.lemmas.List.{length-map}
 use Rattle.std.proofs.lemmas.List.Elements.{All-nil, All-cons}
 use Rattle.std.proofs.lemmas.Bool.Decides.{nat_tests}
-use Rattle.cg_script.specs.declared.command.Command.{Command}
 use Rattle.cg_script.specs.declared.form.Form.{Form}
 use Rattle.cg_script.specs.declared.form.Form.TheVariants as forms
 use Rattle.cg_script.specs.declared.form.Grammar.TheVariants.{Built}
@@ -15,7 +14,7 @@ use Rattle.cg_script.specs.declared.part.Part.{Part}
 use Rattle.cg_script.specs.declared.part.Said.{Said}
 use Rattle.cg_script.specs.declared.part.Said.TheVariants.{Declares, Begins, Ends, Does}
 use Rattle.cg_script.specs.Texts.{command_texts}
-use Rattle.cg_script.specs.Spelled.{HasFewWords, IsSpelledCommand, IsForObjects, IsSpelledItem, IsSpelled}
+use Rattle.cg_script.specs.Spelled.{HasFewWords, IsSpelledCommand, IsSpelledItem, IsSpelled}
 use Rattle.cg_script.specs.Words.{are_digits, is_count, decimal_value}
 use Rattle.cg_script.specs.Forms.{row}
 use Rattle.cg_script.specs.Meanings.{all_fit}
@@ -46,24 +45,6 @@ has_few forms.MakeTuple ps most = omega (arith, few_values ps 3)
 has_few forms.MakeFunc ps most = few_cells ps most
 has_few form ps most = tt
 
--- no form of the collector is built
-IsObjects : Said → Type 0
-IsObjects (Does command) = IsForObjects command
-IsObjects other = Unit {0}
-
-is_objects : (form : Form) (ps : List Part) → (row form).fewest ≤ length ps → length ps ≤ (row form).built → IsObjects (said form ps)
-unfolding IsObjects
-is_objects forms.Collect ps enough few = absurd (omega arith)
-is_objects forms.Enable ps enough few = absurd (omega arith)
-is_objects forms.Disable ps enough few = absurd (omega arith)
-is_objects forms.Threshold ps enough few = absurd (omega arith)
-is_objects forms.Flags ps enough few = absurd (omega arith)
-is_objects forms.Freeze ps enough few = absurd (omega arith)
-is_objects forms.Unfreeze ps enough few = absurd (omega arith)
-is_objects forms.Count ps enough few = absurd (omega arith)
-is_objects forms.Gens ps enough few = absurd (omega arith)
-is_objects form ps enough few = tt
-
 -- a declaration of one line is a class, or a budget within the limit
 IsDeclared : Said → Type 0
 IsDeclared (Declares (items.Budget n)) = n ≤ 100000
@@ -82,20 +63,20 @@ is_declared known forms.Budget (word ∷ count ∷ words) fit enough = within 10
 is_declared known form words fit enough = tt
 
 IsSpelledSaid : ℕ → Said → Type 0
-IsSpelledSaid n (Does command) = IsSpelledCommand n command × IsForObjects command
+IsSpelledSaid n (Does command) = IsSpelledCommand n command
 IsSpelledSaid n (Declares item) = IsSpelledItem n item
 IsSpelledSaid n (Begins name) = Unit {0}
 IsSpelledSaid n Ends = Unit {0}
 
-is_spelled : (n : ℕ) (s : Said) → Below n (said_texts s) → HasFew s → IsObjects s → IsDeclared s → IsSpelledSaid n s
-unfolding HasFew IsObjects IsDeclared IsSpelledSaid
-is_spelled n (Does command) below few objects declared = (record { known = below_all n (command_texts command) below; few_words = few }, objects)
-is_spelled n (Declares (items.Budget m)) below few objects declared = declared
-is_spelled n (Declares (items.Class c)) below few objects declared = tt
-is_spelled n (Declares (items.Def p)) below few objects declared = absurd declared
-is_spelled n (Declares (items.Run c)) below few objects declared = absurd declared
-is_spelled n (Begins name) below few objects declared = tt
-is_spelled n Ends below few objects declared = tt
+is_spelled : (n : ℕ) (s : Said) → Below n (said_texts s) → HasFew s → IsDeclared s → IsSpelledSaid n s
+unfolding HasFew IsDeclared IsSpelledSaid
+is_spelled n (Does command) below few declared = record { known = below_all n (command_texts command) below; few_words = few }
+is_spelled n (Declares (items.Budget m)) below few declared = declared
+is_spelled n (Declares (items.Class c)) below few declared = tt
+is_spelled n (Declares (items.Def p)) below few declared = absurd declared
+is_spelled n (Declares (items.Run c)) below few declared = absurd declared
+is_spelled n (Begins name) below few declared = tt
+is_spelled n Ends below few declared = tt
 
 lines_spelled : Holds Built IsSpelledSaid
 lines_spelled n number known line form words m below =
@@ -103,10 +84,8 @@ lines_spelled n number known line form words m below =
     let ps = parts_of known form words in
     let count : length ps ≡ length words = length-parts_from known.procs known.classes form words known.texts 0 in
     let enough = fitting.enough in
-    let few = fitting.few in
     let most = fitting.most in
-    is_spelled n (said form ps) (texts_hold Built n number known line form words m below) (has_few form ps (omega arith)) (is_objects form ps (omega arith) (omega arith))
-    (is_declared known form words fitting.fit enough)
+    is_spelled n (said form ps) (texts_hold Built n number known line form words m below) (has_few form ps (omega arith)) (is_declared known form words fitting.fit enough)
 
 length-body_of : (saids : List Said) → length (body_of saids) ≤ length saids
 length-body_of [] = omega arith
@@ -123,16 +102,13 @@ length-items_of inside (Ends ∷ later) = let more = length-items_of false later
 length-items_of true (Does command ∷ later) = let more = length-items_of true later in omega arith
 length-items_of false (Does command ∷ later) = let more = length-items_of false later in omega arith
 
-abbrev IsSpelledObjects : ℕ → Command → Type 0
-IsSpelledObjects n c = IsSpelledCommand n c × IsForObjects c
-
-body_spelled : (n : ℕ) (saids : List Said) → EachSaid (IsSpelledSaid n) saids → All (IsSpelledObjects n) (body_of saids)
+body_spelled : (n : ℕ) (saids : List Said) → EachSaid (IsSpelledSaid n) saids → All (IsSpelledCommand n) (body_of saids)
 unfolding IsSpelledSaid
-body_spelled n [] each = All-nil (IsSpelledObjects n)
-body_spelled n (Does command ∷ later) each = All-cons (IsSpelledObjects n) command (body_of later) each.0 (body_spelled n later each.1)
-body_spelled n (Declares item ∷ later) each = All-nil (IsSpelledObjects n)
-body_spelled n (Begins name ∷ later) each = All-nil (IsSpelledObjects n)
-body_spelled n (Ends ∷ later) each = All-nil (IsSpelledObjects n)
+body_spelled n [] each = All-nil (IsSpelledCommand n)
+body_spelled n (Does command ∷ later) each = All-cons (IsSpelledCommand n) command (body_of later) each.0 (body_spelled n later each.1)
+body_spelled n (Declares item ∷ later) each = All-nil (IsSpelledCommand n)
+body_spelled n (Begins name ∷ later) each = All-nil (IsSpelledCommand n)
+body_spelled n (Ends ∷ later) each = All-nil (IsSpelledCommand n)
 
 items_spelled : (n : ℕ) (inside : Bool) (saids : List Said) → length saids ≤ 400000 → EachSaid (IsSpelledSaid n) saids → All (IsSpelledItem n) (items_of inside saids)
 unfolding IsSpelledSaid

@@ -37,11 +37,11 @@ IsForObjects command = Unit {0}
 abbrev pub IsSpelledItem : ℕ → Item → Type 0
 IsSpelledItem names (Budget n) = n ≤ 100000
 IsSpelledItem names (Class c) = Unit {0}
-IsSpelledItem names (Def p) = (length p.body ≤ 400000) × All (λ c. IsSpelledCommand names c × IsForObjects c) p.body
-IsSpelledItem names (Run c) = IsSpelledCommand names c × IsForObjects c
+IsSpelledItem names (Def p) = (length p.body ≤ 400000) × All (IsSpelledCommand names) p.body
+IsSpelledItem names (Run c) = IsSpelledCommand names c
 
 -- What is true of a script that some bytes spell: of its lines, and that a text, which stands in a line, has at most 1,024
--- bytes. The commands of the collector are not built yet.
+-- bytes.
 pub record IsSpelled (script : Script) : Type 0 where
   pub lines : All (IsSpelledItem (length script.names)) script.items
   pub few_lines : length script.items ≤ 400000

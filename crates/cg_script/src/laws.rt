@@ -6,7 +6,7 @@ ghost use Rattle.cg_script.specs.Reading.{reading_by, spells};
 ghost use Rattle.cg_script.specs.Canonical.{canonical};
 
 /// The canonical bytes of each script that some bytes spell are read as this script: its texts in the same order with the
-/// same numbers, and its items in the same order. So it is for the forms that are built, and for all.
+/// same numbers, and its items in the same order. So it is by either grammar.
 pub fn canonical_bytes_are_read_back()
     ensures { (grammar : AnyGrammar) (bytes : List ℕ) (names : List (List ℕ)) (items : List AnyItem) → reading_by grammar bytes ≡ spells names items
         → reading_by grammar (canonical names items) ≡ spells names items }

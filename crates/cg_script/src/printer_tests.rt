@@ -1,13 +1,11 @@
 //! Printing of each form, and reading what was printed.
-use crate::form::Grammar;
-use crate::reader::parse_by;
-use crate::{ScriptFault, print};
+use crate::{ScriptFault, parse, print};
 use std::alloc::{AllocError, Global};
 use std::test::Fail;
 
 /// What is printed of a script, or the number and the code of its first bad line.
 fn printed(alloc: Global, bytes: &[u8]) -> Result<String, AllocError> {
-    match parse_by(alloc, Grammar::Whole, bytes) {
+    match parse(alloc, bytes) {
         Ok(script) => Ok(String::from_utf8_lossy(alloc, &print(alloc, &script)?)?),
         Err(ScriptFault::Bad { line, code }) => format!(in alloc; "bad {line} {code}"),
         Err(ScriptFault::OutOfMemory) => Err(AllocError),

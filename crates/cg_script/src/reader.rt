@@ -103,10 +103,10 @@ pub(crate) fn parse_by(alloc: Global, grammar: Grammar, bytes: &[u8]) -> Result<
 /// The script that the bytes spell. Lines end with line feeds, and are counted from 1.
 ///
 /// `Bad` has the first bad line and its code: 1 where the line has a byte that is not printable ASCII, 5 where it is longer
-/// than 1,024 bytes, has more than 64 words or the number 400,001, 2 where its form is unknown or not built, 3 where the
-/// number of its words is wrong, 4 where a word has not the form that its place asks, 7 where a declaration stands in the
-/// wrong place or a procedure is open at the end, 8 where a procedure, a class or the budget is there already, 6 where no
-/// earlier line defines a procedure or class. `OutOfMemory` may come for any bytes. (Ours.)
+/// than 1,024 bytes, has more than 64 words or the number 400,001, 2 where its form is unknown, 3 where the number of its
+/// words is wrong, 4 where a word has not the form that its place asks, 7 where a declaration stands in the wrong place or
+/// a procedure is open at the end, 8 where a procedure, a class or the budget is there already, 6 where no earlier line
+/// defines a procedure or class. `OutOfMemory` may come for any bytes. (Ours.)
 pub fn parse(alloc: Global, bytes: &[u8]) -> Result<Script, ScriptFault>
     // The script is exactly the one that the bytes spell, and the fault is that of their first bad line.
     ensures ok { IfOk result (λ script. reading bytes.now ≡ spells script.names script.items) }

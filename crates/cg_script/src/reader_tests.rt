@@ -1,4 +1,4 @@
-//! Reading by the forms that are built.
+//! What bytes are read as, and which line is the first bad one.
 use crate::{Command, Item, Script, ScriptFault, parse};
 use std::alloc::{AllocError, Global};
 use std::test::Fail;
@@ -69,10 +69,9 @@ fn bad_lines(rt: HostRuntime) -> Result<(), Fail> {
         ("a = list\r\nlist = list", "bad 1 1"),
         ("# \x7f", "bad 1 1"),
         // Unknown forms, whatever else is wrong.
-        ("a = list\ntracked a", "bad 2 2"),
-        ("tracked", "bad 1 2"),
-        ("collect x", "bad 1 2"),
-        ("def p\nenable 9", "bad 2 2"),
+        ("a = list\ntrack a", "bad 2 2"),
+        ("collected x", "bad 1 2"),
+        ("def p\nable 9", "bad 2 2"),
         ("delete x", "bad 1 2"),
         ("a", "bad 1 2"),
         // The number of words.
@@ -97,7 +96,7 @@ fn bad_lines(rt: HostRuntime) -> Result<(), Fail> {
         ("class C\nclass C", "bad 2 8"),
         ("a = new C", "bad 1 6"),
         // The least bad line.
-        ("\n\n#\ndel\ncollect\n\x01", "bad 4 3"),
+        ("\n\n#\ndel\ncollect x\n\x01", "bad 4 3"),
     ] {
         assert_eq!(rt;
             told(rt.alloc(), script.as_bytes())?.as_str(),
@@ -108,8 +107,68 @@ fn bad_lines(rt: HostRuntime) -> Result<(), Fail> {
     Ok(())
 }
 
-/// One line of each form that is read, behind a procedure and a class.
-static BUILT: [&str; 28] = [
+/// Lines of the collector's commands and of `tracked` that are bad, behind a good one.
+static BAD_CONTROLS: [(&str, &str); 36] = [
+    // The number of words.
+    ("collect 1 2", "bad 2 3"),
+    ("enable 1", "bad 2 3"),
+    ("disable x", "bad 2 3"),
+    ("threshold", "bad 2 3"),
+    ("threshold 1 2 3 4", "bad 2 3"),
+    ("debug leak leak leak leak leak leak", "bad 2 3"),
+    ("freeze 2", "bad 2 3"),
+    ("unfreeze none", "bad 2 3"),
+    ("tracked", "bad 2 3"),
+    ("tracked x y", "bad 2 3"),
+    ("count 0", "bad 2 3"),
+    ("gens 0", "bad 2 3"),
+    // The form of a generation: a number.
+    ("collect x", "bad 2 4"),
+    ("collect '2", "bad 2 4"),
+    ("collect +2", "bad 2 4"),
+    ("collect 9223372036854775808", "bad 2 4"),
+    ("collect -9223372036854775809", "bad 2 4"),
+    // The form of a threshold: a count up to 2,147,483,647.
+    ("threshold x", "bad 2 4"),
+    ("threshold -1", "bad 2 4"),
+    ("threshold 2147483648", "bad 2 4"),
+    ("threshold 00000000700", "bad 2 4"),
+    ("threshold 1 2147483648", "bad 2 4"),
+    ("threshold 1 2 -3", "bad 2 4"),
+    ("threshold 1 2 none", "bad 2 4"),
+    // A flag.
+    ("debug Stats", "bad 2 4"),
+    ("debug 1", "bad 2 4"),
+    ("debug stats all", "bad 2 4"),
+    // A value.
+    ("tracked 9a", "bad 2 4"),
+    ("tracked list", "bad 2 4"),
+    // The number of words before their form.
+    ("threshold x 2 3 4", "bad 2 3"),
+    ("collect x y", "bad 2 3"),
+    ("tracked 9a y", "bad 2 3"),
+    // None of these words is a variable.
+    ("collect = 1", "bad 2 4"),
+    ("debug = 1", "bad 2 4"),
+    ("gens = list", "bad 2 4"),
+    ("del count", "bad 2 4"),
+];
+
+#[test]
+fn bad_controls(rt: HostRuntime) -> Result<(), Fail> {
+    for (line, want) in BAD_CONTROLS {
+        let text = format!(in rt.alloc(); "a = list\n{line}\n\x01")?;
+        assert_eq!(rt;
+            told(rt.alloc(), text.as_bytes())?.as_str(),
+            want,
+            "at {line:?}"
+        );
+    }
+    Ok(())
+}
+
+/// Lines of each form, behind a procedure and a class.
+static FORMS: [&str; 44] = [
     "x = list 1 x",
     "x = tuple x 'a",
     "x = dict",
@@ -132,41 +191,35 @@ static BUILT: [&str; 28] = [
     "x = deref y",
     "call f",
     "quit none",
+    "collect",
+    "collect 2",
+    "collect -1",
+    "collect 7",
+    "enable",
+    "disable",
+    "threshold 700",
+    "threshold 700 10",
+    "threshold 700 10 2147483647",
+    "debug",
+    "debug stats",
+    "freeze",
+    "unfreeze",
     "print garbage",
     "refs x",
+    "tracked x",
     "finalized self",
+    "count",
+    "gens",
     "budget 100000",
     "class D del=p legacy=p",
     "def q\nend",
 ];
 
-/// One line of each form that is not read yet.
-static NOT_BUILT: [&str; 10] = [
-    "collect 2",
-    "enable",
-    "disable",
-    "threshold 700 10 10",
-    "debug stats",
-    "freeze",
-    "unfreeze",
-    "tracked x",
-    "count",
-    "gens",
-];
-
 #[test]
-fn forms_that_are_built(rt: HostRuntime) -> Result<(), Fail> {
-    for line in BUILT {
+fn every_form_is_read(rt: HostRuntime) -> Result<(), Fail> {
+    for line in FORMS {
         let text = format!(in rt.alloc(); "def p\nend\nclass C\n{line}")?;
         assert!(rt; parse(rt.alloc(), text.as_bytes()).is_ok(), "at {line:?}");
-    }
-    for line in NOT_BUILT {
-        let text = format!(in rt.alloc(); "def p\nend\nclass C\n{line}")?;
-        assert_eq!(rt;
-            told(rt.alloc(), text.as_bytes())?.as_str(),
-            "bad 4 2",
-            "at {line:?}"
-        );
     }
     Ok(())
 }
@@ -189,7 +242,7 @@ fn lines_that_are_too_long(rt: HostRuntime) -> Result<(), Fail> {
         ("x = list", b' ', 1017, "bad 1 5"),
         ("", b'\n', 400_000, ""),
         ("", b'\n', 400_001, "bad 400001 5"),
-        ("collect", b'\n', 400_001, "bad 1 2"),
+        ("nonsense", b'\n', 400_001, "bad 1 2"),
         ("", b' ', 1025, "bad 1 5"),
     ] {
         let bytes = filled(rt.alloc(), front.as_bytes(), byte, count)?;
@@ -205,7 +258,9 @@ fn lines_that_are_too_long(rt: HostRuntime) -> Result<(), Fail> {
 #[test]
 fn lines_of_too_many_words(rt: HostRuntime) -> Result<(), Fail> {
     for (front, pairs, want) in [
-        ("tracked x y", 30, "bad 1 2"),
+        ("nonsense x y", 30, "bad 1 2"),
+        ("nonsense x y", 31, "bad 1 5"),
+        ("tracked x y", 30, "bad 1 3"),
         ("tracked x y", 31, "bad 1 5"),
         ("# #", 31, ""),
         ("# # #", 31, "bad 1 5"),

@@ -1,7 +1,7 @@
 //! Reading by the whole grammar.
 use crate::form::Grammar;
 use crate::reader::parse_by;
-use crate::{Command, Item, Operand, Script, ScriptFault};
+use crate::{Command, Item, Operand, Script, ScriptFault, parse};
 use std::alloc::{AllocError, Global};
 use std::test::Fail;
 
@@ -188,7 +188,7 @@ fn lines_and_their_codes(rt: HostRuntime) -> Result<(), Fail> {
 }
 
 fn read(alloc: Global, text: &str) -> Result<Script, ScriptFault> {
-    parse_by(alloc, Grammar::Whole, text.as_bytes())
+    parse(alloc, text.as_bytes())
 }
 
 /// Reads lines, and tells whether the last item is as the pattern says.
@@ -268,6 +268,11 @@ fn names(rt: HostRuntime) -> Result<(), Fail> {
 #[test]
 fn words_that_may_be_absent(rt: HostRuntime) -> Result<(), Fail> {
     assert_last!(rt, "collect", Item::Run(Command::Collect { generation: 2 }));
+    assert_last!(
+        rt,
+        "collect -03",
+        Item::Run(Command::Collect { generation: -3 })
+    );
     assert_last!(
         rt,
         "threshold 5 006",

@@ -1,12 +1,10 @@
-use Rattle.std.proofs.Common.{◌≡◌, ◌≢◌, ◌+◌, ◌<◌, ◌∷◌, [], List, ℕ, Some, None, IsSome, false, inl, inr, refl, subst, sym, ap, ◌∙◌, length, arith}
-use Rattle.std.specs.Prelude.{slice_get}
+use Rattle.std.proofs.Common.{◌≡◌, ◌∷◌, ℕ, Some, None, IsSome, false, inl, inr, refl, subst, sym, ap, ◌∙◌, length, arith}
 use Rattle.cg_value.specs.declared.KindCode.TheVariants.{Weak}
 use Rattle.cg_value.specs.declared.Place.TheVariants.{Cand}
 use Rattle.cg_graph.specs.Member.{Includes}
 use Rattle.cg_graph.specs.Rows.{referent_in, weak_references_in, without_row}
 use Rattle.cg_graph.specs.Store.{Store, list_at}
 use Rattle.cg_graph.proofs.Members.{either}
-use Rattle.cg_heap.specs.Weak.{cleared_weak}
 use Rattle.cg_heap.proofs.CallerLemmas.{live_of_kind}
 use Rattle.cg_heap.proofs.RowLemmas.{refers_live}
 use Rattle.cg_trial.proofs.Placed.{where_is}
@@ -18,7 +16,8 @@ use Rattle.cg_collect.specs.declared.phase.Turn.{Turn}
 use Rattle.cg_collect.specs.Phases.{from_on}
 use Rattle.cg_collect.specs.Ready.{IsReadyAt}
 use Rattle.cg_collect.specs.Answers.{CollectSteps}
-use Rattle.cg_collect.specs.Turns.{TurnSteps, TurnFalls, StaysReady, collection_at}
+use Rattle.cg_collect.specs.Turns.{TurnSteps, TurnFalls, StaysReady, KeepsObjects, collection_at}
+use Rattle.cg_collect.proofs.Keeping.{keeps_all, keeps-cleared}
 use Rattle.cg_collect.proofs.Worlds.{turn_steps}
 use Rattle.cg_collect.proofs.Stopping.{next_from, next_at}
 use Rattle.cg_collect.proofs.Detecting.{turn-passed, turn-detached, turn-lost, apart_lost, behind_lost, lost_refers, Newest, newest_row, from_here}
@@ -118,3 +117,13 @@ returns-in-None-clause-falls g c =
     let shorter : length (from_on (Some o) (list_at store Cand)) ≡ length (o ∷ from_on c.next.result (list_at store Cand)) = ap length (next_from store c.sound.ensures.listed Cand o ready.1 c.next.result c.next.ensures) in
     subst (λ m. TurnFalls store (phase_of.Detaching m) store c.to-in-None.result) (sym c.in-Some.is)
     (subst (λ (turn : Turn). TurnFalls store (phase_of.Detaching (Some o)) store turn) (sym c.to-in-None.ensures) (λ went. inr (refl, omega (arith, shorter))))
+
+-- Each makes no object.
+pub returns-in_default-clause-keeps : goal.returns-in_default-clause-keeps
+returns-in_default-clause-keeps g c = keeps_all c.args.heap.now
+
+pub returns-in-Some-newest_of-clause-keeps : goal.returns-in-Some-newest_of-clause-keeps
+returns-in-Some-newest_of-clause-keeps g c = subst (KeepsObjects c.args.heap.now) (sym c.clear_weak.ensures) (keeps-cleared c.in-Some-newest_of.weak false c.args.heap.now)
+
+pub returns-in-None-clause-keeps : goal.returns-in-None-clause-keeps
+returns-in-None-clause-keeps g c = keeps_all c.args.heap.now

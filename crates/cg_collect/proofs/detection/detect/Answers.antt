@@ -8,7 +8,8 @@ use Rattle.cg_machine.specs.Collect.{older}
 use Rattle.cg_collect.specs.declared.answer.CollectStep.TheVariants as answer_of
 use Rattle.cg_collect.specs.declared.phase.Phase.TheVariants as phase_of
 use Rattle.cg_collect.specs.Ready.{IsReadyAt}
-use Rattle.cg_collect.specs.Turns.{TurnSteps}
+use Rattle.cg_collect.specs.Turns.{TurnSteps, KeepsObjects}
+use Rattle.cg_collect.proofs.Keeping.{keeps_then, keeps-same, keeps-merged}
 use Rattle.cg_collect.proofs.Detecting.{turn-split, apart_parted, living_at, list-le}
 use Rattle.cg_collect.proofs.detection.detect.Goals as goal
 
@@ -37,4 +38,12 @@ pub returns-clause-leaves : goal.returns-clause-leaves
 returns-clause-leaves r c = record {
   few = λ n h. omega (arith, h, c.size.ensures, list-le c.merge.new.self c.sound-2.ensures.listed Cand, c.sound-2.ensures.objects);
   gives_up = tt;
+  hands_out = tt;
+  begun = tt;
+  onward = omega arith;
 }
+
+pub returns-clause-keeps : goal.returns-clause-keeps
+returns-clause-keeps r c =
+    keeps_then c.args.heap.now c.split.new.heap c.merge.new.self (keeps-same c.args.heap.now c.split.new.heap c.split.ensures.same)
+    (subst (KeepsObjects c.split.new.heap) (sym c.merge.ensures) (keeps-merged Back (Gen c.older.result) c.split.new.heap))

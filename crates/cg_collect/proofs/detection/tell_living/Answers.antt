@@ -1,5 +1,4 @@
 use Rattle.std.proofs.Common.{Some, None, inl, subst, sym, ap, ◌∙◌}
-use Rattle.std.specs.Prelude.{slice_get}
 use Rattle.cg_value.specs.declared.Place.TheVariants.{Gen, Cand}
 use Rattle.cg_graph.specs.Member.{Includes}
 use Rattle.cg_graph.specs.Store.{list_at}

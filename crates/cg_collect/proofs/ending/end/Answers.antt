@@ -1,8 +1,12 @@
-use Rattle.std.proofs.Common.{◌≡◌, None, subst, sym, ap, ◌∙◌, true, false}
+use Rattle.std.proofs.Common.{◌≡◌, ℕ, None, ◌++◌, map, subst, sym, ap, ◌∙◌, false, arith}
 use Rattle.cg_graph.specs.Store.{IsLive}
 use Rattle.cg_value.specs.declared.KindCode.TheVariants.{List as ListKind}
 use Rattle.cg_value.specs.declared.Place.TheVariants.{Gen, Legacy}
-use Rattle.cg_graph.specs.Store.{Store, list_at}
+use Rattle.cg_value.specs.declared.Place.{Place}
+use Rattle.cg_value.specs.declared.Val.TheVariants.{Ref}
+use Rattle.cg_script.specs.declared.Script.{Script}
+use Rattle.cg_graph.specs.Value.{item}
+use Rattle.cg_graph.specs.Store.{Store, list_at, entries_of}
 use Rattle.cg_heap.specs.Calls.{IsListed, merged}
 use Rattle.cg_heap.proofs.CallerLemmas.{live_of_kind}
 use Rattle.cg_machine.specs.Collect.{older}
@@ -13,9 +17,11 @@ use Rattle.cg_collect.specs.declared.answer.CollectStep.TheVariants as answer_of
 use Rattle.cg_collect.specs.declared.phase.Phase.TheVariants as phase_of
 use Rattle.cg_collect.specs.declared.phase.Turn.{Turn}
 use Rattle.cg_collect.specs.Ready.{IsAt}
-use Rattle.cg_collect.specs.Turns.{TurnSteps, StaysReady}
+use Rattle.cg_collect.specs.Turns.{TurnSteps, TurnLeaves, StaysReady, KeepsObjects}
+use Rattle.cg_collect.proofs.Keeping.{keeps_then, keeps-rewritten, keeps-merged}
+use Rattle.cg_collect.proofs.Apart.{list_few}
 use Rattle.cg_collect.proofs.Worlds.{turn_steps}
-use Rattle.cg_collect.proofs.Stopping.{turn-ended, turn-ended_told, ended, first_at}
+use Rattle.cg_collect.proofs.Stopping.{turn-ended, turn-ended_told, first_at}
 use Rattle.cg_collect.proofs.ending.end.Goals as goal
 
 -- With UNCOLLECTABLE the objects set aside are told.
@@ -71,3 +77,28 @@ returns-else-intersects-clause-ready g c =
     subst (λ (now : Store). IsAt c.first-first.result (list_at now (Gen (older facts.generation)))) (sym is)
     (first_at script facts store (live_of_kind store 1 ListKind c.sound.ensures.root) c.sound.ensures.listed (subst IsListed c.save_legacy.ensures c.sound-2.ensures.listed) (subst IsListed is c.sound-3.ensures.listed) c.first-first.result c.first-first.ensures) in
     subst (λ (turn : Turn). StaysReady c.merge.new.self facts.generation turn.phase turn.answer) (sym c.to-else-intersects.ensures) there
+
+-- Both make no object.
+saves : (script : Script) (flags : ℕ) (p : Place) (store now kept : Store) → kept ≡ with_saved (kept_aside script flags store) store → now ≡ merged Legacy p kept → KeepsObjects store now
+saves script flags p store now kept saved is =
+    keeps_then store kept now (subst (KeepsObjects store) (sym saved) (keeps-rewritten 1 (entries_of store 1 ++ map (λ o. item (Ref o)) (kept_aside script flags store)) store))
+    (subst (KeepsObjects kept) (sym is) (keeps-merged Legacy p kept))
+
+pub returns-then-intersects-clause-keeps : goal.returns-then-intersects-clause-keeps
+returns-then-intersects-clause-keeps g c =
+    saves c.args.script.now (bits_of c.args.facts.flags) (Gen c.older.result) c.args.heap.now c.merge.new.self c.save_legacy.new.heap c.save_legacy.ensures c.merge.ensures
+
+pub returns-else-intersects-clause-keeps : goal.returns-else-intersects-clause-keeps
+returns-else-intersects-clause-keeps g c =
+    saves c.args.script.now (bits_of c.args.facts.flags) (Gen c.older.result) c.args.heap.now c.merge.new.self c.save_legacy.new.heap c.save_legacy.ensures c.merge.ensures
+
+-- The number of those that were set aside is the length of a list.
+pub returns-then-intersects-clause-leaves : goal.returns-then-intersects-clause-leaves
+returns-then-intersects-clause-leaves g c =
+    subst (λ (turn : Turn). TurnLeaves c.args.heap.now phase_of.Ending c.merge.new.self turn) (sym c.to.ensures)
+    (record { few = λ n few. (omega (arith, few), omega (arith, c.size-number.ensures, list_few c.args.heap.now c.sound.ensures.listed c.sound.ensures.objects Legacy)); gives_up = tt; hands_out = tt; begun = tt; onward = omega arith })
+
+pub returns-else-intersects-clause-leaves : goal.returns-else-intersects-clause-leaves
+returns-else-intersects-clause-leaves g c =
+    subst (λ (turn : Turn). TurnLeaves c.args.heap.now phase_of.Ending c.merge.new.self turn) (sym c.to-else-intersects.ensures)
+    (record { few = λ n few. (omega (arith, few), omega (arith, c.size-number.ensures, list_few c.args.heap.now c.sound.ensures.listed c.sound.ensures.objects Legacy)); gives_up = tt; hands_out = tt; begun = tt; onward = omega arith })

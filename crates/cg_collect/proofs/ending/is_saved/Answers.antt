@@ -1,4 +1,4 @@
-use Rattle.std.proofs.Common.{◌≡◌, sym, ap, ◌∙◌, ◌||◌, is_some, true}
+use Rattle.std.proofs.Common.{sym, ap, ◌∙◌, ◌||◌, is_some}
 use Rattle.std.specs.Prelude.{option_and_then}
 use Rattle.cg_graph.specs.Object.{object_at}
 use Rattle.cg_graph.specs.Store.{objects_of}

@@ -1,11 +1,10 @@
-use Rattle.std.proofs.Common.{◌≡◌, ◌<◌, sym, ap, ◌∙◌, subst, refl, length, true, false}
+use Rattle.std.proofs.Common.{sym, ap, ◌∙◌, refl}
 use Rattle.cg_value.specs.declared.KindCode.TheVariants.{List as ListKind}
 use Rattle.cg_value.specs.declared.Place.TheVariants.{Legacy}
 use Rattle.cg_graph.specs.Store.{Store, list_at}
 use Rattle.cg_heap.proofs.CallerLemmas.{live_of_kind}
 use Rattle.cg_policy.specs.Flagset.{bits_of}
-use Rattle.cg_trial.proofs.Lists.{ahead}
-use Rattle.cg_collect.proofs.Saved.{Saving, saving_first, saving_done, saving_live, saving_other, saving_new, saving_shorter, saving_one, saving_none}
+use Rattle.cg_collect.proofs.Saved.{saving_first, saving_done, saving_live, saving_other, saving_new, saving_shorter, saving_one, saving_none}
 use Rattle.cg_collect.proofs.ending.save_legacy.Goals as goal
 
 pub objects-init : goal.objects-init

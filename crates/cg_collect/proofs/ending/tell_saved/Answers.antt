@@ -1,4 +1,4 @@
-use Rattle.std.proofs.Common.{◌≡◌, ◌+◌, ◌<◌, None, Some, inr, refl, subst, sym, ap, ◌∙◌, length, arith}
+use Rattle.std.proofs.Common.{None, Some, inr, refl, subst, sym, ◌∙◌, arith}
 use Rattle.cg_value.specs.declared.Place.TheVariants.{Gen}
 use Rattle.cg_graph.specs.Store.{list_at}
 use Rattle.cg_trial.proofs.Placed.{where_is}
@@ -7,9 +7,8 @@ use Rattle.cg_machine.specs.Collect.{older}
 use Rattle.cg_collect.specs.declared.answer.CollectStep.TheVariants as answer_of
 use Rattle.cg_collect.specs.declared.phase.Phase.TheVariants as phase_of
 use Rattle.cg_collect.specs.declared.phase.Turn.{Turn}
-use Rattle.cg_collect.specs.Phases.{from_on}
 use Rattle.cg_collect.specs.Ready.{IsAt}
-use Rattle.cg_collect.specs.Turns.{TurnSteps, TurnFalls, StaysReady, list_around}
+use Rattle.cg_collect.specs.Turns.{TurnSteps, TurnFalls, StaysReady}
 use Rattle.cg_collect.proofs.Worlds.{turn_steps}
 use Rattle.cg_collect.proofs.Stopping.{turn-saved_told, turn-not_saved, turn-stopping, next_from, next_at, around_shorter}
 use Rattle.cg_collect.proofs.ending.tell_saved.Goals as goal

@@ -1,4 +1,4 @@
-use Rattle.std.proofs.Common.{None, Some, subst, sym, ap}
+use Rattle.std.proofs.Common.{None, Some, subst, sym}
 use Rattle.cg_value.specs.declared.Place.TheVariants.{Gen}
 use Rattle.cg_graph.specs.Store.{list_at}
 use Rattle.cg_trial.proofs.Placed.{where_is}

@@ -1,12 +1,14 @@
-use Rattle.std.proofs.Common.{◌≡◌, ℕ, ◌*◌, ◌+◌, ◌<◌, [], ◌∷◌, length, Some, None, subst, sym, ap, ◌∙◌, inr, refl}
-use Rattle.cg_value.specs.declared.Place.TheVariants.{Cand}
+use Rattle.std.proofs.Common.{◌*◌, ◌+◌, ◌<◌, length, None, subst, sym, inr, refl}
+use Rattle.cg_value.specs.declared.Place.TheVariants.{Cand, Seen}
 use Rattle.cg_graph.specs.Store.{Store, list_at}
 use Rattle.cg_machine.specs.declared.event.FrameSort.TheVariants.{Del}
 use Rattle.cg_collect.specs.declared.answer.CollectStep.TheVariants as answer_of
 use Rattle.cg_collect.specs.declared.phase.Phase.TheVariants as phase_of
 use Rattle.cg_collect.specs.declared.phase.Turn.{Turn}
 use Rattle.cg_collect.specs.Ready.{IsApart}
-use Rattle.cg_collect.specs.Turns.{TurnSteps, TurnFalls, StaysReady}
+use Rattle.cg_collect.specs.Turns.{TurnSteps, TurnFalls, StaysReady, KeepsObjects}
+use Rattle.cg_heap.specs.Calls.{marked}
+use Rattle.cg_collect.proofs.Keeping.{keeps-moved, keeps-own_frame}
 use Rattle.cg_collect.proofs.Worlds.{turn_steps}
 use Rattle.cg_collect.proofs.Looking.{condemned, turn-looked, turn-runs, apart_looked, fewer_left}
 use Rattle.cg_collect.proofs.finalizing.look_at.Goals as goal
@@ -42,3 +44,9 @@ pub returns-in-None-clause-falls : goal.returns-in-None-clause-falls
 returns-in-None-clause-falls g c =
     subst (λ (turn : Turn). TurnFalls c.args.heap.now phase_of.Finalizing c.move_to.new.self turn) (sym c.to.ensures)
     (λ went. inr (refl, subst (λ (now : Store). 8 * length (list_at now Cand) + 0 < 8 * length (list_at c.args.heap.now Cand) + 0) (sym c.move_to.ensures) (fewer_left c.args.heap.now c.sound.ensures.listed c.args.object c.requires.first)))
+
+pub returns-in-Some-clause-keeps : goal.returns-in-Some-clause-keeps
+returns-in-Some-clause-keeps g c = subst (KeepsObjects c.args.heap.now) (sym c.run.ensures.heap) (keeps-own_frame marked c.args.object Seen c.args.heap.now)
+
+pub returns-in-None-clause-keeps : goal.returns-in-None-clause-keeps
+returns-in-None-clause-keeps g c = subst (KeepsObjects c.args.heap.now) (sym c.move_to.ensures) (keeps-moved c.args.object Seen c.args.heap.now)

@@ -4,7 +4,9 @@ use Rattle.cg_collect.specs.declared.answer.CollectStep.TheVariants as answer_of
 use Rattle.cg_collect.specs.declared.phase.Phase.TheVariants as phase_of
 use Rattle.cg_collect.specs.declared.phase.Turn.{Turn}
 use Rattle.cg_collect.specs.Ready.{IsApartUnseen}
-use Rattle.cg_collect.specs.Turns.{TurnSteps, StaysReady}
+use Rattle.cg_collect.specs.Turns.{TurnSteps, StaysReady, KeepsObjects}
+use Rattle.cg_value.specs.declared.Place.TheVariants.{Cand, Seen}
+use Rattle.cg_collect.proofs.Keeping.{keeps-merged}
 use Rattle.cg_collect.proofs.Worlds.{turn_steps}
 use Rattle.cg_collect.proofs.Looking.{turn-all_looked, apart_again}
 use Rattle.cg_collect.proofs.finalizing.look_at_one.Goals as goal
@@ -19,3 +21,6 @@ pub returns-in-None-clause-ready : goal.returns-in-None-clause-ready
 returns-in-None-clause-ready g c = λ k.
     subst (λ (turn : Turn). StaysReady c.merge.new.self k turn.phase turn.answer) (sym c.to.ensures)
     (subst IsApartUnseen (sym c.merge.ensures) (apart_again c.args.heap.now c.sound.ensures.listed (sym c.in-None.ensures) c.requires.ready))
+
+pub returns-in-None-clause-keeps : goal.returns-in-None-clause-keeps
+returns-in-None-clause-keeps g c = subst (KeepsObjects c.args.heap.now) (sym c.merge.ensures) (keeps-merged Seen Cand c.args.heap.now)

@@ -1,4 +1,4 @@
-use Rattle.std.proofs.Common.{refl, [], ◌∷◌, subst, sym, ap, ◌∙◌, arith}
+use Rattle.std.proofs.Common.{refl, subst, sym, ap, ◌∙◌, arith}
 use Rattle.cg_value.specs.declared.Place.TheVariants.{Seen}
 use Rattle.cg_graph.specs.Changes.{moved}
 use Rattle.cg_graph.specs.Store.{IsLive}

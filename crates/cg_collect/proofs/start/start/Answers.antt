@@ -1,9 +1,10 @@
-use Rattle.std.proofs.Common.{◌≡◌, sym, subst, ℕ, ◌≤◌, []}
+use Rattle.std.proofs.Common.{◌≡◌, sym, subst, ℕ, ◌≤◌, [], arith}
 use Rattle.cg_value.specs.declared.Place.TheVariants.{Gen, Cand, Back}
 use Rattle.cg_graph.specs.Store.{list_at}
 use Rattle.cg_collect.proofs.Traces.{Trace, splits_off}
 use Rattle.cg_collect.proofs.Apart.{empty_merged, none_aside_yet, list_few}
-use Rattle.cg_collect.proofs.Begins.{still_bounded, turn_start, ready_after, leaves_after}
+use Rattle.cg_collect.proofs.Looks.{entries-merged}
+use Rattle.cg_collect.proofs.Begins.{still_bounded, turn_start, ready_after, leaves_after, keeps_after}
 use Rattle.cg_collect.proofs.start.start.Goals as goal
 
 pub split-requires-clause-back : goal.split-requires-clause-back
@@ -69,3 +70,20 @@ returns-clause-leaves g c =
     } in
     leaves_after c.args.script.now c.args.facts c.args.heap.now c.merge_younger.new.heap c.split.new.heap c.untrack.new.heap c.get_older.new.heap c.set_legacy_aside.new.heap trace c.sound.ensures.listed c.sound-3.ensures.listed c.sound-5.ensures.listed c.requires.ready
     c.first_phase-next.result c.first_phase-next.ensures c.told_first.result c.told_first.ensures c.tells.result c.tells.ensures
+
+pub returns-clause-keeps : goal.returns-clause-keeps
+returns-clause-keeps g c =
+    let empty : list_at c.merge_younger.new.heap Cand ≡ [] =
+    empty_merged c.args.facts.generation c.args.heap.now c.merge_younger.new.heap c.merge_younger.ensures c.sound.ensures.listed c.sound-2.ensures.listed Cand (λ e. cc) (λ i e. cc) c.requires.ready.candidates in
+    let trace : Trace c.args.script.now c.args.facts.generation c.args.heap.now c.merge_younger.new.heap c.split.new.heap c.untrack.new.heap c.get_older.new.heap c.set_legacy_aside.new.heap = record {
+      merges = c.merge_younger.ensures;
+      splits = splits_off c.args.facts.generation c.merge_younger.new.heap c.split.new.heap c.sound-2.ensures.listed c.split.ensures.listed empty c.split.ensures.unreachable c.split.ensures.reachable c.split.ensures.others c.split.ensures.same;
+      untracks = c.untrack.ensures;
+      gets_older = c.get_older.ensures;
+      sets_aside = c.set_legacy_aside.ensures;
+    } in
+    keeps_after c.args.script.now c.args.facts c.args.heap.now c.merge_younger.new.heap c.split.new.heap c.untrack.new.heap c.get_older.new.heap c.set_legacy_aside.new.heap trace c.sound.ensures.listed c.sound-3.ensures.listed c.sound-5.ensures.listed c.requires.ready
+    c.first_phase-next.result c.first_phase-next.ensures c.told_first.result c.told_first.ensures c.tells.result c.tells.ensures
+
+pub returns-clause-looks : goal.returns-clause-looks
+returns-clause-looks g c = omega (arith, c.split.ensures.most, entries-merged c.args.facts.generation c.args.heap.now c.merge_younger.new.heap c.merge_younger.ensures)

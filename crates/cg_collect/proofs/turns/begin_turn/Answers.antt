@@ -1,8 +1,8 @@
-use Rattle.std.proofs.Common.{◌≡◌, ◌+◌, ◌<◌, ◌++◌, ◌∷◌, [], None, inr, refl, subst, sym, ap, ◌∙◌, arith}
+use Rattle.std.proofs.Common.{◌+◌, ◌<◌, ◌++◌, ◌∷◌, [], None, inr, refl, subst, sym, ap, ◌∙◌, arith}
 use Rattle.cg_value.specs.declared.Val.TheVariants.{Ref}
 use Rattle.cg_value.specs.declared.Place.TheVariants.{Gen, Cand}
 use Rattle.cg_graph.specs.Value.{item, references}
-use Rattle.cg_graph.specs.Changes.{moved, rewritten, held}
+use Rattle.cg_graph.specs.Changes.{moved, rewritten}
 use Rattle.cg_graph.specs.Store.{Store, IsLive, entries_of}
 use Rattle.cg_heap.specs.Calls.{IsListed}
 use Rattle.cg_heap.proofs.CallerLemmas.{lives_on, kinds-rewritten, live_of_kind}
@@ -15,12 +15,13 @@ use Rattle.cg_collect.specs.declared.answer.CollectStep.TheVariants as answer_of
 use Rattle.cg_collect.specs.declared.phase.Phase.TheVariants as phase_of
 use Rattle.cg_collect.specs.declared.phase.Turn.{Turn}
 use Rattle.cg_collect.specs.Ready.{IsReadyAt, IsApartUnseen}
-use Rattle.cg_collect.specs.Turns.{TurnSteps, TurnFalls, StaysReady, still_cleared}
+use Rattle.cg_collect.specs.Turns.{TurnSteps, TurnFalls, StaysReady, KeepsObjects, to_clear, still_cleared, others_cleared}
 use Rattle.cg_graph.specs.Store.{list_at}
 use Rattle.cg_collect.proofs.Garbage.{not_garbage}
 use Rattle.cg_collect.proofs.Looking.{condemned}
 use Rattle.cg_collect.proofs.Worlds.{turn_steps}
-use Rattle.cg_collect.proofs.Turning.{saved-turn, tuple-turn, held-turn, apart_saved, apart_older, apart_held, held_there, less_to_clear, as_much_to_clear}
+use Rattle.cg_collect.proofs.Keeping.{keeps-moved, keeps-held, keeps-saved}
+use Rattle.cg_collect.proofs.Turning.{saved-turn, tuple-turn, held-turn, apart_saved, apart_older, apart_held, others_left, one_and_others, as_much_for_it, as_much_for_others}
 use Rattle.cg_collect.proofs.turns.begin_turn.Goals as goal
 
 -- With SAVEALL it is saved.
@@ -78,7 +79,7 @@ returns-in-Tuple-clause-ready g c =
     let (live, at) = condemned c.args.heap.now c.sound.ensures.listed c.args.object c.requires.first in
     subst (λ (turn : Turn). StaysReady c.move_to-in-Tuple.new.self c.args.facts.generation turn.phase turn.answer) (sym c.to.ensures)
     (subst IsApartUnseen (sym (c.move_to-in-Tuple.ensures ∙ ap (λ k. moved c.args.object (Gen k) c.args.heap.now) c.older-in-Tuple.ensures))
-    (apart_older c.args.heap.now c.sound.ensures.listed c.args.object live at c.args.facts.generation c.requires.ready))
+    (apart_older c.args.heap.now c.sound.ensures.listed c.args.object live c.args.facts.generation (not_garbage c.args.heap.now c.args.object Cand c.requires.ready.0.garbage at (λ e. cc)) c.requires.ready))
 
 pub returns-in-Tuple-clause-falls : goal.returns-in-Tuple-clause-falls
 returns-in-Tuple-clause-falls g c =
@@ -87,7 +88,7 @@ returns-in-Tuple-clause-falls g c =
     (λ went. inr (
       refl,
       subst (λ (now : Store). still_cleared now + 9 + 0 < still_cleared c.args.heap.now + 9 + 0) (sym (c.move_to-in-Tuple.ensures ∙ ap (λ k. moved c.args.object (Gen k) c.args.heap.now) c.older-in-Tuple.ensures))
-          (omega (arith, less_to_clear c.args.heap.now c.sound.ensures.listed c.args.object live at c.args.facts.generation)),
+          (omega (arith, others_left c.args.heap.now c.sound.ensures.listed c.args.object live c.args.facts.generation, one_and_others c.args.heap.now c.sound.ensures.listed c.args.object live at)),
     ))
 
 -- Another is held.
@@ -106,8 +107,8 @@ returns-in_default-clause-ready g c =
     let (live, at) = condemned c.args.heap.now c.sound.ensures.listed c.args.object c.requires.first in
     subst (λ (turn : Turn). StaysReady c.hold.new.self c.args.facts.generation turn.phase turn.answer) (sym c.to-in_default.ensures)
     (subst (λ (now : Store). IsReadyAt now c.args.facts.generation (phase_of.Turn c.args.object)) (sym c.hold.ensures) (
-      apart_held c.args.heap.now c.sound.ensures.listed c.args.object live at c.requires.ready,
-      held_there c.args.heap.now c.sound.ensures.listed c.args.object live at,
+      apart_held c.args.heap.now c.sound.ensures.listed c.args.object live c.requires.ready,
+      not_garbage c.args.heap.now c.args.object Cand c.requires.ready.0.garbage at (λ e. cc),
     ))
 
 pub returns-in_default-clause-falls : goal.returns-in_default-clause-falls
@@ -116,6 +117,23 @@ returns-in_default-clause-falls g c =
     subst (λ (turn : Turn). TurnFalls c.args.heap.now phase_of.Turns c.hold.new.self turn) (sym c.to-in_default.ensures)
     (λ went. inr (
       refl,
-      subst (λ (now : Store). still_cleared now + 8 + 0 < still_cleared c.args.heap.now + 9 + 0) (sym c.hold.ensures)
-          (omega (arith, as_much_to_clear c.args.heap.now c.sound.ensures.listed c.args.object live at)),
+      subst (λ (now : Store). others_cleared now c.args.object + to_clear now c.args.object + 8 + 0 < still_cleared c.args.heap.now + 9 + 0) (sym c.hold.ensures)
+          (omega (
+            arith,
+            as_much_for_it c.args.heap.now c.sound.ensures.listed c.args.object live,
+            as_much_for_others c.args.heap.now c.sound.ensures.listed c.args.object live,
+            one_and_others c.args.heap.now c.sound.ensures.listed c.args.object live at,
+          )),
     ))
+
+-- Each makes no object.
+pub returns-then-intersects-clause-keeps : goal.returns-then-intersects-clause-keeps
+returns-then-intersects-clause-keeps g c =
+    subst (KeepsObjects c.args.heap.now) (sym (c.move_to.ensures ∙ ap (moved c.args.object (Gen c.older.result)) c.save.ensures))
+    (keeps-saved c.args.object (Gen c.older.result) (entries_of c.args.heap.now 1 ++ item (Ref c.args.object) ∷ []) c.args.heap.now)
+
+pub returns-in-Tuple-clause-keeps : goal.returns-in-Tuple-clause-keeps
+returns-in-Tuple-clause-keeps g c = subst (KeepsObjects c.args.heap.now) (sym c.move_to-in-Tuple.ensures) (keeps-moved c.args.object (Gen c.older-in-Tuple.result) c.args.heap.now)
+
+pub returns-in_default-clause-keeps : goal.returns-in_default-clause-keeps
+returns-in_default-clause-keeps g c = subst (KeepsObjects c.args.heap.now) (sym c.hold.ensures) (keeps-held (c.args.object ∷ []) c.args.heap.now)

@@ -6,6 +6,7 @@ use Rattle.cg_collect.specs.Turns.{StaysReady}
 use Rattle.cg_death.proofs.Clearing.{none_first}
 use Rattle.cg_graph.specs.Store.{list_at}
 use Rattle.cg_value.specs.declared.Place.TheVariants.{Cand}
+use Rattle.cg_collect.proofs.Keeping.{keeps_all}
 use Rattle.cg_collect.proofs.Worlds.{turn_steps}
 use Rattle.cg_collect.proofs.Turning.{turn-ending}
 use Rattle.cg_collect.proofs.turns.take_turn.Goals as goal
@@ -19,3 +20,6 @@ pub returns-in-None-clause-ready : goal.returns-in-None-clause-ready
 returns-in-None-clause-ready g c =
     subst (λ (turn : Turn). StaysReady c.args.heap.now c.args.facts.generation turn.phase turn.answer) (sym c.to.ensures)
     (c.requires.ready, none_first (list_at c.args.heap.now Cand) (sym c.in-None.ensures))
+
+pub returns-in-None-clause-keeps : goal.returns-in-None-clause-keeps
+returns-in-None-clause-keeps g c = keeps_all c.args.heap.now

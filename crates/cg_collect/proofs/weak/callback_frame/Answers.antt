@@ -1,9 +1,8 @@
-use Rattle.std.proofs.Common.{◌≡◌, ◌∙◌, sym, ap, subst, ℕ, Some, None}
+use Rattle.std.proofs.Common.{◌≡◌, ◌∙◌, sym, ap, subst, ℕ, Some}
 use Rattle.std.specs.Prelude.{unwrap_or, option_and_then}
 use Rattle.cg_graph.specs.Object.{Object, object_at}
 use Rattle.cg_graph.specs.Store.{objects_of, IsLive}
 use Rattle.cg_machine.specs.declared.event.FrameSort.TheVariants.{Callback}
-use Rattle.cg_machine.specs.declared.event.FrameSpec.{FrameSpec}
 use Rattle.cg_machine.specs.Weak.{callback_of}
 use Rattle.cg_collect.proofs.Pending.{callback_lives, callback_there, class-at}
 use Rattle.cg_collect.proofs.weak.callback_frame.Goals as goal

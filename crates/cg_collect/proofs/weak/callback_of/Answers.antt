@@ -1,7 +1,6 @@
-use Rattle.std.proofs.Common.{◌∙◌, sym, ap, Option, None, false, true}
+use Rattle.std.proofs.Common.{◌∙◌, sym, ap}
 use Rattle.cg_graph.specs.Value.{reference_in}
 use Rattle.cg_graph.specs.Store.{entries_of}
-use Rattle.cg_machine.specs.Weak.{callback_in}
 use Rattle.cg_death.proofs.Calling.{callback-at}
 use Rattle.cg_death.proofs.Querying.{first_entry}
 use Rattle.cg_collect.proofs.Pending.{no_reference, no_entry}

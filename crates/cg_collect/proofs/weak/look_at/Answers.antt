@@ -1,7 +1,7 @@
-use Rattle.std.proofs.Common.{◌≡◌, ◌<◌, ◌∙◌, ℕ, ◌+◌, Some, None, IsSome, refl, sym, ap, subst, inr, true, arith}
+use Rattle.std.proofs.Common.{◌<◌, ◌∙◌, ℕ, ◌+◌, Some, None, IsSome, refl, sym, subst, inr, arith}
 use Rattle.cg_value.specs.declared.KindCode.TheVariants.{Weak}
-use Rattle.cg_graph.specs.Rows.{next_older_in}
-use Rattle.cg_graph.specs.Store.{Store, IsLive}
+use Rattle.cg_graph.specs.Store.{Store, IsLive, objects_of}
+use Rattle.cg_machine.specs.Collect.{waits}
 use Rattle.cg_heap.specs.Weak.{AreRows}
 use Rattle.cg_heap.proofs.CallerLemmas.{live_of_kind}
 use Rattle.cg_heap.proofs.RowLemmas.{refers_live}
@@ -11,9 +11,10 @@ use Rattle.cg_collect.specs.declared.phase.Phase.TheVariants as phase_of
 use Rattle.cg_collect.specs.declared.phase.Turn.{Turn}
 use Rattle.cg_collect.specs.Ready.{IsWalk}
 use Rattle.cg_collect.specs.Answers.{CollectSteps}
-use Rattle.cg_collect.specs.Turns.{collection_at, TurnFalls, StaysReady}
+use Rattle.cg_collect.specs.Turns.{collection_at, TurnFalls, StaysReady, KeepsObjects}
+use Rattle.cg_collect.proofs.Keeping.{keeps_all, keeps-lost}
 use Rattle.cg_collect.proofs.Worlds.{turn_steps}
-use Rattle.cg_collect.proofs.Losing.{LosesThen, loses_then, passes_then}
+use Rattle.cg_collect.proofs.Losing.{loses_then, passes_then}
 use Rattle.cg_collect.proofs.weak.look_at.Goals as goal
 
 weak_lives : (store : Store) → AreRows store → (member : _) (weak : ℕ) → IsWalk store member (Some weak) → IsLive store weak
@@ -62,3 +63,9 @@ returns-else-loses-clause-falls g c =
     subst (λ (turn : Turn). TurnFalls c.args.heap.now (phase_of.WeakClearing c.args.member (Some c.args.weak)) c.args.heap.now turn) (sym c.to.ensures)
     (subst (λ k. TurnFalls c.args.heap.now (phase_of.WeakClearing c.args.member (Some c.args.weak)) c.args.heap.now (record { phase = phase_of.WeakClearing c.args.member k; release = None; collected = 0; answer = answer_of.Continue })) (sym c.older_of.ensures)
     (λ went. inr (refl, less_left _ _ _ passes.1)))
+
+pub returns-then-loses-clause-keeps : goal.returns-then-loses-clause-keeps
+returns-then-loses-clause-keeps g c = subst (KeepsObjects c.args.heap.now) (sym c.lose.ensures) (keeps-lost (waits (objects_of c.args.heap.now) c.args.weak) c.args.weak c.args.heap.now)
+
+pub returns-else-loses-clause-keeps : goal.returns-else-loses-clause-keeps
+returns-else-loses-clause-keeps g c = keeps_all c.args.heap.now

@@ -1,8 +1,8 @@
-use Rattle.std.proofs.Common.{◌≡◌, ◌∙◌, ℕ, ◌+◌, ◌≤◌, length, Option, Some, None, refl, sym, ap, subst, inr, arith}
-use Rattle.std.specs.Prelude.{◌⊎◌, unwrap_or, slice_get}
+use Rattle.std.proofs.Common.{◌≡◌, ℕ, ◌+◌, ◌≤◌, length, Option, Some, None, refl, sym, subst, inr, arith}
+use Rattle.std.specs.Prelude.{unwrap_or, slice_get}
 use Rattle.cg_value.specs.declared.Place.TheVariants.{Cand, Pend}
 use Rattle.cg_graph.specs.Rows.{referent_in, weak_references_in}
-use Rattle.cg_graph.specs.Store.{Store, IsLive, list_at, place_of}
+use Rattle.cg_graph.specs.Store.{Store, list_at, place_of}
 use Rattle.cg_arena.specs.Nodes.{following}
 use Rattle.cg_heap.specs.Calls.{IsSound}
 use Rattle.cg_trial.proofs.Placed.{where_is}
@@ -11,6 +11,7 @@ use Rattle.cg_collect.specs.declared.phase.Phase.TheVariants as phase_of
 use Rattle.cg_collect.specs.declared.phase.Turn.{Turn}
 use Rattle.cg_collect.specs.Ready.{IsReadyAt, IsWalk}
 use Rattle.cg_collect.specs.Turns.{TurnSteps, TurnFalls, TurnLeaves, StaysReady}
+use Rattle.cg_collect.proofs.Keeping.{keeps_all}
 use Rattle.cg_collect.proofs.Worlds.{turn_steps}
 use Rattle.cg_collect.proofs.WalkTurns.{walk_next, next_falls, turn-all_cleared, list_few}
 use Rattle.cg_collect.proofs.weak.next_member.Goals as goal
@@ -52,4 +53,10 @@ few_then n k none few = omega (arith, none, few)
 pub returns-in-None-clause-leaves : goal.returns-in-None-clause-leaves
 returns-in-None-clause-leaves g c =
     subst (λ (turn : Turn). TurnLeaves c.args.heap.now (phase_of.WeakClearing c.args.member None) c.args.heap.now turn) (sym c.to-in-None.ensures)
-    (record { few = λ n none. few_then n (length (list_at c.args.heap.now Pend)) none (list_few c.args.heap.now c.sound.ensures Pend); gives_up = tt })
+    (record { few = λ n none. few_then n (length (list_at c.args.heap.now Pend)) none (list_few c.args.heap.now c.sound.ensures Pend); gives_up = tt; hands_out = tt; begun = tt; onward = omega arith })
+
+pub returns-in-Some-clause-keeps : goal.returns-in-Some-clause-keeps
+returns-in-Some-clause-keeps g c = keeps_all c.args.heap.now
+
+pub returns-in-None-clause-keeps : goal.returns-in-None-clause-keeps
+returns-in-None-clause-keeps g c = keeps_all c.args.heap.now

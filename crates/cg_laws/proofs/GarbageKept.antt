@@ -1,0 +1,80 @@
+-- What no step but a collection's does to the garbage list: it stays an untracked list, and names nothing that it did not name.
+use Rattle.std.proofs.Common.{◌≡◌, ◌≢◌, refl, sym, ◌∙◌, ap, subst, ℕ, Bool, true, false, not, List, [], ◌∷◌, ◌++◌, map, None}
+use Rattle.std.specs.Prelude.{◌==◌, if◌then◌else◌}
+use Rattle.std.proofs.lemmas.Bool.{eqb-true}
+use Rattle.cg_value.specs.declared.Place.{Place}
+use Rattle.cg_value.specs.declared.Place.TheVariants.{Untracked}
+use Rattle.cg_graph.specs.Member.{Includes}
+use Rattle.cg_graph.specs.Value.{references}
+use Rattle.cg_graph.specs.Object.{Object, change, without, with_place, with_referent}
+use Rattle.cg_graph.proofs.Members.{either, Includes-append_cases, Includes-map_cases, Includes-filter_cases}
+use Rattle.cg_machine.specs.Weak.{loses_referent}
+use Rattle.cg_laws.specs.Apart.{IsGarbageList}
+
+-- the garbage list is an untracked list
+abbrev pub HasGarbageList : List Object → Type 0
+HasGarbageList objects = (x : Object) → Includes objects x → x.serial ≡ 1 → IsGarbageList x
+
+-- it does not name an object
+abbrev pub NamesNot : List Object → ℕ → Type 0
+NamesNot objects o = (x : Object) → Includes objects x → x.serial ≡ 1 → ¬ Includes (references x.entries) o
+
+-- what the garbage list is after a step: of the same kind, untracked where it was, and without new names
+pub record IsOfList (before : List Object) (y : Object) : Type 0 where
+  pub was : Object
+  pub member : Includes before was
+  pub serial : was.serial ≡ 1
+  pub code : y.code ≡ was.code
+  pub place : was.place ≡ Untracked → y.place ≡ Untracked
+  pub names : (o : ℕ) → NamesNot before o → ¬ Includes (references y.entries) o
+
+-- each object with its serial is so
+abbrev pub KeepsList : List Object → List Object → Type 0
+KeepsList before after = (y : Object) → Includes after y → y.serial ≡ 1 → IsOfList before y
+
+pub list_stays : (before after : List Object) → KeepsList before after → HasGarbageList before → HasGarbageList after
+list_stays before after k h y m e = let x = k y m e in let g = h x.was x.member x.serial in record { list = x.code ∙ g.list; untracked = x.place g.untracked }
+
+pub names_no_more : (before after : List Object) → KeepsList before after → (o : ℕ) → NamesNot before o → NamesNot after o
+names_no_more before after k o h y m e = (k y m e).names o h
+
+pub same_list : (objects : List Object) → KeepsList objects objects
+same_list objects y m e = record { was = y; member = m; serial = e; code = refl; place = λ p. p; names = λ o h. h y m e }
+
+-- one object changes, which is not the garbage list or keeps what it names
+pub list_kept : (f : Object → Object) (s : ℕ) (objects : List Object) → ((x : Object) → (f x).serial ≡ x.serial) → ((x : Object) → Includes objects x → x.serial ≡ s → x.serial ≡ 1 → IsOfList objects (f x)) → KeepsList objects (change f s objects)
+list_kept f s objects same keeps y m e =
+    let x = Includes-map_cases (λ x. if x.serial == s then f x else x) objects y m in
+    subst (IsOfList objects) x.2 (one (x.0.serial == s) x.0 refl x.1 (ap (λ (z : Object). z.serial) x.2 ∙ e))
+  where
+    one : (b : Bool) (x : Object) → (x.serial == s) ≡ b → Includes objects x → (if b then f x else x).serial ≡ 1 → IsOfList objects (if b then f x else x)
+    one true x t k i = keeps x k (eqb-true x.serial s t) (sym (same x) ∙ i)
+    one false x t k i = same_list objects x k i
+
+pub other_kept : (f : Object → Object) (s : ℕ) (objects : List Object) → ((x : Object) → (f x).serial ≡ x.serial) → s ≢ 1 → KeepsList objects (change f s objects)
+other_kept f s objects same apart = list_kept f s objects same (λ x m i e. absurd (apart (sym i ∙ e)))
+
+pub untracked_kept : (s : ℕ) (objects : List Object) → KeepsList objects (change (with_place Untracked) s objects)
+untracked_kept s objects = list_kept (with_place Untracked) s objects (λ x. refl) (λ x m i e. record { was = x; member = m; serial = e; code = refl; place = λ p. refl; names = λ o h. h x m e })
+
+pub dead_kept : (s : ℕ) (objects : List Object) → KeepsList objects (change (λ x. with_referent None (with_place Untracked x)) s objects)
+dead_kept s objects = list_kept (λ x. with_referent None (with_place Untracked x)) s objects (λ x. refl) (λ x m i e. record { was = x; member = m; serial = e; code = refl; place = λ p. refl; names = λ o h. h x m e })
+
+pub lost_kept : (s : ℕ) (objects : List Object) → KeepsList objects (loses_referent s objects)
+lost_kept s objects = list_kept (with_referent None) s objects (λ x. refl) (λ x m i e. record { was = x; member = m; serial = e; code = refl; place = λ p. p; names = λ o h. h x m e })
+
+pub without_kept : (s : ℕ) (objects : List Object) → KeepsList objects (without s objects)
+without_kept s objects y m e = same_list objects y (Includes-filter_cases (λ x. not (x.serial == s)) objects y m).0 e
+
+-- the places change, and untracked ones stay
+pub places_kept : (f : Place → Place) (objects : List Object) → f Untracked ≡ Untracked → KeepsList objects (map (λ x. with_place (f x.place) x) objects)
+places_kept f objects still y m e =
+    let x = Includes-map_cases (λ x. with_place (f x.place) x) objects y m in
+    subst (IsOfList objects) x.2 (one x.0 x.1 (ap (λ (z : Object). z.serial) x.2 ∙ e))
+  where
+    one : (x : Object) → Includes objects x → x.serial ≡ 1 → IsOfList objects (with_place (f x.place) x)
+    one x k i = record { was = x; member = k; serial = i; code = refl; place = λ p. ap f p ∙ still; names = λ o h. h x k i }
+
+-- an object is made
+pub new_kept : (objects : List Object) (new : Object) → new.serial ≢ 1 → KeepsList objects (objects ++ new ∷ [])
+new_kept objects new apart y m e = either (Includes-append_cases objects (new ∷ []) y m) (λ k. same_list objects y k e) (λ k. either k (λ i. absurd (apart (ap (λ (z : Object). z.serial) i ∙ e))) (λ n. absurd n))

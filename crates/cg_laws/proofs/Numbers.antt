@@ -1,0 +1,163 @@
+-- How high the numbers of the collector stand against the commands that are left, what a collection that starts makes of
+-- them, and that a command counts one object at most.
+use Rattle.std.proofs.Common.{◌≡◌, refl, sym, subst, ℕ, suc, ◌+◌, ◌*◌, ◌<◌, ◌≤◌, Bool, true, false, not, ◌&&◌, List, [], ◌∷◌, map, Option, Some, None, Ok, arith}
+use Rattle.std.specs.Prelude.{◌==◌, ◌/◌, nat_lt, ◌||◌, if◌then◌else◌, is_some}
+use Rattle.std.specs.List.{list_any}
+use Rattle.std.proofs.lemmas.Bool.{and_parts, ltb-true, or_parts}
+use Rattle.cg_value.specs.declared.Val.{Val}
+use Rattle.cg_value.specs.declared.Val.TheVariants.{None as Nothing, Int, Str, Ref}
+use Rattle.cg_value.specs.declared.Entry.{Entry}
+use Rattle.cg_value.specs.declared.KindCode.{KindCode}
+use Rattle.cg_value.specs.declared.KindCode.TheVariants.{List as ListKind, Tuple, Dict, Inst, Func, Weak}
+use Rattle.cg_script.specs.declared.Command.{Command}
+use Rattle.cg_script.specs.declared.Command.TheVariants.{MakeList, MakeTuple, MakeDict, MakeInst, MakeFunc, MakeRef, Bind, Del, Append, SetItem, DelItem, Put, Remove, SetAttr, DelAttr, Item, Get, Attr, Deref, Call, Quit, Collect, Enable, Disable, Threshold, Flags, Freeze, Unfreeze, Print, Refs, Tracked, Finalized, Count, Gens}
+use Rattle.cg_graph.specs.Object.{Object}
+use Rattle.cg_graph.specs.Value.{value_at, item}
+use Rattle.cg_machine.specs.World.{World, Activity, Numbers}
+use Rattle.cg_machine.specs.Effects.{Effect, Changes, Calls, Collects, Quits, makes, puts, has_room}
+use Rattle.cg_machine.specs.Collect.{begun, survived}
+use Rattle.cg_machine.specs.Commands.{effect}
+use Rattle.cg_machine.specs.Due.{due_generation, is_due}
+use Rattle.cg_machine.proofs.CommandLaws.{Each, checked}
+use Rattle.cg_machine.proofs.Making.{left_on}
+use Rattle.cg_machine.proofs.Measure.{is_starting}
+
+-- the three counts together
+abbrev pub counts : Numbers → ℕ
+counts n = n.zero_count + n.one_count + n.two_count
+
+-- what a run has at most: commands in a procedure, commands in all, and objects
+pub record Limits : Type 0 where
+  pub longest : ℕ
+  pub commands : ℕ
+  pub objects : ℕ
+
+-- No collection is about to start. The counts, and what was spent, are within two for each command that is left or may still
+-- come. One is spent for each collection of 1, which makes all objects pending at most.
+pub record Settled (limits : Limits) (n : Numbers) (budget : ℕ) (stack : List Activity) : Type 0 where
+  pub spent : ℕ
+  pub within : 2 * (left_on stack + budget * limits.longest) + counts n + spent ≤ 2 * limits.commands
+  pub pending : n.pending ≤ spent * limits.objects
+  pub total : n.total ≤ limits.objects
+  pub still : list_any is_starting stack ≡ false
+
+-- they stay so when a collection starts, however many objects survive
+abbrev pub StartsSettled : Limits → Numbers → ℕ → List Activity → ℕ → Type 0
+StartsSettled limits n budget stack g = (survivors : ℕ) → survivors ≤ limits.objects → Settled limits (survived g survivors (begun g n)) budget stack
+
+-- two counts more
+abbrev pub raised : Numbers → Numbers
+raised n = record n { zero_count = n.zero_count + 2 }
+
+module _ (limits : Limits) (n : Numbers) (budget : ℕ) (stack : List Activity) where
+  -- a count rises by one at most
+  begun_counts : (zero one : Bool) → 0 + (if zero then n.one_count + 1 else 0) + (if zero then n.two_count else (if one then n.two_count + 1 else 0)) ≤ counts n + 1
+  begun_counts true one = omega arith
+  begun_counts false true = omega arith
+  begun_counts false false = omega arith
+
+  survivors_pend : (spent survivors : ℕ) → n.pending ≤ spent * limits.objects → survivors ≤ limits.objects → (zero one : Bool) → (if zero then n.pending else (if one then n.pending + survivors else 0)) ≤ suc spent * limits.objects
+  survivors_pend spent survivors h fit true one = omega (arith, h)
+  survivors_pend spent survivors h fit false true = omega (arith, h, fit)
+  survivors_pend spent survivors h fit false false = omega arith
+
+  survivors_total : (survivors : ℕ) → n.total ≤ limits.objects → survivors ≤ limits.objects → (two : Bool) → (if two then survivors else n.total) ≤ limits.objects
+  survivors_total survivors h fit true = fit
+  survivors_total survivors h fit false = h
+
+  -- a collection that a command asks for
+  pub asked_settles : (g : ℕ) → Settled limits (raised n) budget stack → StartsSettled limits n budget stack g
+  asked_settles g h survivors fit = record {
+    spent = suc h.spent;
+    within = omega (arith, h.within, begun_counts (g == 0) (g == 1));
+    pending = survivors_pend h.spent survivors h.pending fit (g == 0) (g == 1);
+    total = survivors_total survivors h.total fit (g == 2);
+    still = h.still;
+  }
+
+  -- one that is due: its counts are above their thresholds, and become 0
+  pub due_settles : is_due n ≡ true → Settled limits n budget stack → StartsSettled limits n budget stack (due_generation n)
+  due_settles is h survivors fit = go (nat_lt n.two_threshold n.two_count && not (nat_lt n.pending (n.total / 4))) (nat_lt n.one_threshold n.one_count) (λ e. ltb-true n.one_threshold n.one_count e)
+    where
+      zero_above : n.zero_threshold < n.zero_count
+      zero_above = ltb-true n.zero_threshold n.zero_count (and_parts (n.enabled && not (n.zero_threshold == 0)) (nat_lt n.zero_threshold n.zero_count) is).1
+
+      go : (two one : Bool) → (one ≡ true → n.one_threshold < n.one_count) → (let g : ℕ = if two then 2 else (if one then 1 else 0) in Settled limits (survived g survivors (begun g n)) budget stack)
+      go true one above = record { spent = h.spent; within = omega (arith, h.within); pending = omega arith; total = fit; still = h.still }
+      go false true above = record { spent = suc h.spent; within = omega (arith, h.within, zero_above, above refl); pending = omega (arith, h.pending, fit); total = h.total; still = h.still }
+      go false false above = record { spent = h.spent; within = omega (arith, h.within, zero_above); pending = h.pending; total = h.total; still = h.still }
+
+-- activities without commands come and go
+module _ (limits : Limits) (n : Numbers) (budget : ℕ) (a : Activity) (below : List Activity) where
+  pub on_top : left_on (a ∷ []) ≡ 0 → is_starting a ≡ false → Settled limits n budget below → Settled limits n budget (a ∷ below)
+  on_top none quiet h = record { spent = h.spent; within = omega (arith, h.within, none); pending = h.pending; total = h.total; still = subst (λ b. (b || list_any is_starting below) ≡ false) (sym quiet) h.still }
+
+  pub off_top : Settled limits n budget (a ∷ below) → Settled limits n budget below
+  off_top h = record { spent = h.spent; within = omega (arith, h.within); pending = h.pending; total = h.total; still = (or_parts (is_starting a) (list_any is_starting below) h.still).1 }
+
+-- what a command makes of the numbers: it counts one object at most
+pub record CountsOne (n after : Numbers) : Type 0 where
+  pub counts_one : counts after ≤ counts n + 1
+  pub pending : after.pending ≡ n.pending
+  pub total : after.total ≡ n.total
+
+abbrev pub LeavesNumbers : World → Effect → Type 0
+LeavesNumbers w (Changes wants_memory lines given_up after) = CountsOne w.numbers after.numbers
+LeavesNumbers w (Calls f) = Unit {0}
+LeavesNumbers w (Collects g) = Unit {0}
+LeavesNumbers w Quits = Unit {0}
+
+kept : (n : Numbers) → CountsOne n n
+kept n = record { counts_one = omega arith; pending = refl; total = refl }
+
+counted : (n : Numbers) → CountsOne n (record n { zero_count = n.zero_count + 1 })
+counted n = record { counts_one = omega arith; pending = refl; total = refl }
+
+makes_leaves : (w : World) (name : ℕ) (kind : KindCode) (class : Option ℕ) (entries : List Entry) (referent : Option ℕ) → Each (LeavesNumbers w) (makes w name kind class entries referent)
+makes_leaves w name kind class entries referent = checked (LeavesNumbers w) _ _ (λ _. checked (LeavesNumbers w) _ _ (λ _. counted w.numbers))
+
+puts_leaves : (w : World) (x : Object) (key v : Val) → Each (LeavesNumbers w) (puts w x key v)
+puts_leaves w x key v = checked (LeavesNumbers w) (if is_some (value_at x.entries key) then Ok tt else has_room w 1) _ (λ _. kept w.numbers)
+
+quit_leaves : (w : World) (v : Val) → LeavesNumbers w (elim v [ Nothing ↦ Quits | _ ↦ Changes false [] [] w ])
+quit_leaves w Nothing = tt
+quit_leaves w (Int n) = kept w.numbers
+quit_leaves w (Str s) = kept w.numbers
+quit_leaves w (Ref o) = kept w.numbers
+
+-- any command
+pub numbers_left : (w : World) (command : Command) → Each (LeavesNumbers w) (effect w command)
+numbers_left w (MakeList name items) = checked (LeavesNumbers w) _ _ (λ vs. makes_leaves w name ListKind None (map item vs) None)
+numbers_left w (MakeTuple name items) = checked (LeavesNumbers w) _ _ (λ vs. makes_leaves w name Tuple None (map item vs) None)
+numbers_left w (MakeDict name) = makes_leaves w name Dict None [] None
+numbers_left w (MakeInst name class) = makes_leaves w name Inst (Some class) [] None
+numbers_left w (MakeFunc name proc cells) = checked (LeavesNumbers w) _ _ (λ vs. makes_leaves w name Func (Some proc) (map item vs) None)
+numbers_left w (MakeRef name target callback) = checked (LeavesNumbers w) _ _ (λ v. checked (LeavesNumbers w) _ _ (λ f. checked (LeavesNumbers w) _ _ (λ x. checked (LeavesNumbers w) _ _ (λ es. makes_leaves w name Weak None es (Some x.serial)))))
+numbers_left w (Bind name operand) = checked (LeavesNumbers w) _ _ (λ v. kept w.numbers)
+numbers_left w (Del name) = checked (LeavesNumbers w) _ _ (λ v. kept w.numbers)
+numbers_left w (Append list operand) = checked (LeavesNumbers w) _ _ (λ l. checked (LeavesNumbers w) _ _ (λ v. checked (LeavesNumbers w) _ _ (λ x. checked (LeavesNumbers w) _ _ (λ _. kept w.numbers))))
+numbers_left w (SetItem list index operand) = checked (LeavesNumbers w) _ _ (λ l. checked (LeavesNumbers w) _ _ (λ v. checked (LeavesNumbers w) _ _ (λ x. checked (LeavesNumbers w) _ _ (λ i. checked (LeavesNumbers w) _ _ (λ e. kept w.numbers)))))
+numbers_left w (DelItem list index) = checked (LeavesNumbers w) _ _ (λ l. checked (LeavesNumbers w) _ _ (λ x. checked (LeavesNumbers w) _ _ (λ i. checked (LeavesNumbers w) _ _ (λ e. kept w.numbers))))
+numbers_left w (Put dict key operand) = checked (LeavesNumbers w) _ _ (λ d. checked (LeavesNumbers w) _ _ (λ k. checked (LeavesNumbers w) _ _ (λ v. checked (LeavesNumbers w) _ _ (λ x. checked (LeavesNumbers w) _ _ (λ _. puts_leaves w x k v)))))
+numbers_left w (Remove dict key) = checked (LeavesNumbers w) _ _ (λ d. checked (LeavesNumbers w) _ _ (λ k. checked (LeavesNumbers w) _ _ (λ x. checked (LeavesNumbers w) _ _ (λ _. checked (LeavesNumbers w) _ _ (λ e. kept w.numbers)))))
+numbers_left w (SetAttr instance name operand) = checked (LeavesNumbers w) _ _ (λ o. checked (LeavesNumbers w) _ _ (λ v. checked (LeavesNumbers w) _ _ (λ x. puts_leaves w x (Str name) v)))
+numbers_left w (DelAttr instance name) = checked (LeavesNumbers w) _ _ (λ o. checked (LeavesNumbers w) _ _ (λ x. checked (LeavesNumbers w) _ _ (λ e. kept w.numbers)))
+numbers_left w (Item name list index) = checked (LeavesNumbers w) _ _ (λ l. checked (LeavesNumbers w) _ _ (λ x. checked (LeavesNumbers w) _ _ (λ i. checked (LeavesNumbers w) _ _ (λ e. kept w.numbers))))
+numbers_left w (Get name dict key) = checked (LeavesNumbers w) _ _ (λ d. checked (LeavesNumbers w) _ _ (λ k. checked (LeavesNumbers w) _ _ (λ x. checked (LeavesNumbers w) _ _ (λ _. checked (LeavesNumbers w) _ _ (λ v. kept w.numbers)))))
+numbers_left w (Attr name instance attribute) = checked (LeavesNumbers w) _ _ (λ o. checked (LeavesNumbers w) _ _ (λ x. checked (LeavesNumbers w) _ _ (λ v. kept w.numbers)))
+numbers_left w (Deref name weak) = checked (LeavesNumbers w) _ _ (λ v. checked (LeavesNumbers w) _ _ (λ x. kept w.numbers))
+numbers_left w (Call function) = checked (LeavesNumbers w) _ _ (λ v. checked (LeavesNumbers w) _ _ (λ x. tt))
+numbers_left w (Quit operand) = checked (LeavesNumbers w) _ _ (λ v. quit_leaves w v)
+numbers_left w (Collect generation) = checked (LeavesNumbers w) _ _ (λ g. tt)
+numbers_left w Enable = record { counts_one = omega arith; pending = refl; total = refl }
+numbers_left w Disable = record { counts_one = omega arith; pending = refl; total = refl }
+numbers_left w (Threshold zero one two) = record { counts_one = omega arith; pending = refl; total = refl }
+numbers_left w (Flags bits) = record { counts_one = omega arith; pending = refl; total = refl }
+numbers_left w Freeze = record { counts_one = omega arith; pending = refl; total = refl }
+numbers_left w Unfreeze = kept w.numbers
+numbers_left w (Print operand) = checked (LeavesNumbers w) _ _ (λ v. kept w.numbers)
+numbers_left w (Refs operand) = checked (LeavesNumbers w) _ _ (λ v. checked (LeavesNumbers w) _ _ (λ x. kept w.numbers))
+numbers_left w (Tracked operand) = checked (LeavesNumbers w) _ _ (λ v. kept w.numbers)
+numbers_left w (Finalized operand) = checked (LeavesNumbers w) _ _ (λ v. kept w.numbers)
+numbers_left w Count = kept w.numbers
+numbers_left w Gens = kept w.numbers

@@ -1,0 +1,5 @@
+use Rattle.cg_laws.proofs.NumbersOfRuns.{numbers_few}
+use Rattle.cg_laws.proofs.laws.numbers_are_few.Goals as goal
+
+pub returns : goal.returns
+returns c = numbers_few
