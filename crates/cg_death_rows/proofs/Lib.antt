@@ -1,0 +1,3 @@
+mod RoomLemmas
+mod NameLemmas
+mod ResumingLemmas
