@@ -72,6 +72,17 @@ module _ (script : Script) (asked : Bool) (g : ℕ) (top : Own) (e : State) (w :
     lines = sym (none_at_start script asked d d.phase (list_at mid.store Pend) mid.store (starts_there asked d begins_as w.stack d.release (machine_phase d.phase (list_at mid.store Pend)) shows.top));
   }
 
+-- An engine at which a collection is to begin above its top.
+abbrev pub IsAtStart : Script → Bool → ℕ → Own → State → Type 0
+IsAtStart script asked g top e = (w : World) × StandsFor script (under top e) w × StaysKept script e.frames (push (new_collection g asked w) w)
+
+module _ (script : Script) (asked : Bool) (g : ℕ) (top : Own) (e : State) where
+  pub starts_small : IsAtStart script asked g top e → IsSpelled script → e.frames ≤ 100000 → AreSmall e.policy.numbers
+  starts_small (w, stands, stays) spelled low = small_before script asked g top e w stands e.frames spelled low (stays [] tt)
+
+  pub starts_clear : IsAtStart script asked g top e → IsSound e.store → IsClear e.store
+  starts_clear (w, stands, stays) sound = clear_before script asked g top e w stands e.frames sound (stays [] tt)
+
 -- The machine may rest where it likes.
 rests : (script : Script) (may_rest : List Event → Type 0) (w : World) (left told : List Event) (e : State) → GoesOnTo script may_rest w left told e → GoesOnTo script (λ still. Unit {0}) w left told e
 rests script may_rest w left told e goes = record {

@@ -45,18 +45,23 @@ pub record MayStep (c : Collection) (e : State) : Type 0 where
   pub ready : IsReady c e.store
   pub small : AreSmall e.policy.numbers
 
-module _ (script : Script) (asked : Bool) (c : Collection) (e : State) (left : List Event) (w : World) (kept : IsKept script e.frames w) (k : Collects script asked c e left w) where
-  pub may_step : IsSound e.store → IsSpelled script → e.frames ≤ 100000 → MayStep c e
-  may_step sound spelled low = record {
-    few = few_holds_after script e.frames c.phase e.store w sound k.shows.represents kept.lawful low;
-    held = collection_is_held asked c e.store w k.below k.shows.represents k.shows.top;
-    ready = k.ready;
-    small = subst AreSmall (sym k.shows.numbers) (small_at script e.frames w spelled kept.few low c.phase c.generation);
-  }
+module _ (script : Script) (asked : Bool) (c : Collection) (e : State) where
+  pub may_step : CollectsNext script asked c e → IsSound e.store → IsSpelled script → e.frames ≤ 100000 → MayStep c e
+  may_step (w, left, k, stays) sound spelled low =
+      let kept : IsKept script e.frames w = stays [] tt in
+      record {
+        few = few_holds_after script e.frames c.phase e.store w sound k.shows.represents kept.lawful low;
+        held = collection_is_held asked c e.store w k.below k.shows.represents k.shows.top;
+        ready = k.ready;
+        small = subst AreSmall (sym k.shows.numbers) (small_at script e.frames w spelled kept.few low c.phase c.generation);
+      }
 
   -- and room for the activities that it may put on the stack
-  pub room_for_step : IsFit script e → 1 < e.room
-  room_for_step fit = let much : 4 < e.room = room_above script e c.phase w (on_stack asked c e.store) k.below k.shows.represents k.over k.shows.top kept.lawful fit in omega (arith, much)
+  pub room_for_step : CollectsNext script asked c e → IsFit script e → 1 < e.room
+  room_for_step (w, left, k, stays) fit =
+      let kept : IsKept script e.frames w = stays [] tt in
+      let much : 4 < e.room = room_above script e c.phase w (on_stack asked c e.store) k.below k.shows.represents k.over k.shows.top kept.lawful fit in
+      omega (arith, much)
 
 module _ (script : Script) (asked : Bool) (c : Collection) (e : State) where
   -- what a step answers, by the lines that are left

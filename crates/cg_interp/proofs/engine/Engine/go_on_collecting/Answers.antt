@@ -1,4 +1,4 @@
-use Rattle.std.proofs.Common.{sym, subst, refl, ◌≤◌}
+use Rattle.std.proofs.Common.{sym, subst, refl, ◌≤◌, arith}
 use Rattle.cg_interp.specs.declared.turned.Turned.TheVariants as turned
 use Rattle.cg_interp.specs.Engines.{State}
 use Rattle.cg_interp.specs.Telling.{CollectsNext, CollectTurns}
@@ -28,7 +28,7 @@ die-requires-clause-stands g c =
     death_stands c.args.script.now c.args.asked c.args.collection e c.step-answer.new.self mid c.push-in-Died.ensures.top refl c.in-Died.object c.in-Died.ensures.ready.0 c.in-Died.ensures.steps next
 
 pub overflow_add-collected : goal.overflow_add-collected
-overflow_add-collected g c = ?
+overflow_add-collected g c = let few = c.in-Finished.ensures.ready.1 in omega (arith, few)
 
 pub returns-in-Continue-clause-turns : goal.returns-in-Continue-clause-turns
 returns-in-Continue-clause-turns g c =
