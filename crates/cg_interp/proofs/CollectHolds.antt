@@ -1,7 +1,6 @@
 -- What a collection on top holds, how many collections are under way, and that there is room for a step.
-use Rattle.std.proofs.Common.{◌≡◌, ◌≢◌, refl, sym, ◌∙◌, ap, subst, ℕ, ◌+◌, ◌<◌, ◌≤◌, ◌⊎◌, Bool, true, false, cond, inl, inr, List, [], ◌∷◌, ◌++◌, length, length-append, Option, None, Some, IsSome, sum_by, arith}
-use Rattle.std.specs.Prelude.{◌-◌, flat_map, count_by, is_some, map, drop}
-use Rattle.std.specs.List.{list_any}
+use Rattle.std.proofs.Common.{◌≡◌, refl, sym, ◌∙◌, ap, subst, ℕ, ◌+◌, ◌<◌, ◌≤◌, Bool, true, false, cond, List, [], ◌∷◌, ◌++◌, length, length-append, Option, None, Some, arith}
+use Rattle.std.specs.Prelude.{◌-◌, flat_map, count_by, map, drop}
 use Rattle.std.specs.FinMap as fin
 use Rattle.std.proofs.lemmas.List.Sums.{sum_by-cons, sum_by-append}
 use Rattle.cg_value.specs.declared.Place.TheVariants.{Pend}

@@ -1,9 +1,9 @@
 -- What the machine goes on to after each answer of a step of a collection, and what is wanted before a step and within it.
-use Rattle.std.proofs.Common.{◌≡◌, refl, sym, ◌∙◌, ap, subst, ℕ, ◌+◌, ◌<◌, ◌≤◌, Bool, true, false, List, [], ◌∷◌, length, Option, IsSome, arith}
+use Rattle.std.proofs.Common.{◌≡◌, refl, sym, subst, ℕ, ◌+◌, ◌<◌, ◌≤◌, Bool, true, false, List, [], ◌∷◌, IsSome, arith}
 use Rattle.std.specs.Prelude.{IfSome}
 use Rattle.cg_script.specs.declared.Script.{Script}
 use Rattle.cg_script.specs.Spelled.{IsSpelled}
-use Rattle.cg_graph.specs.Store.{Store, IsLive, objects_of}
+use Rattle.cg_graph.specs.Store.{Store, IsLive}
 use Rattle.cg_heap.specs.Calls.{IsSound, HasFewHolds}
 use Rattle.cg_machine.specs.declared.event.Event.{Event}
 use Rattle.cg_machine.specs.declared.event.Event.TheVariants.{Collected}
@@ -11,11 +11,11 @@ use Rattle.cg_machine.specs.declared.event.FrameSpec.{FrameSpec}
 use Rattle.cg_machine.specs.World.{World}
 use Rattle.cg_machine.specs.Frame.{begin_death, start_frame}
 use Rattle.cg_machine.specs.Represents.{Represents}
-use Rattle.cg_laws.specs.Kept.{IsKept, StaysKept}
+use Rattle.cg_laws.specs.Kept.{IsKept}
 use Rattle.cg_death.specs.Activities.{HasHolds}
 use Rattle.cg_collect.specs.declared.answer.CollectStep.TheVariants as answer_of
 use Rattle.cg_collect.specs.declared.collection.Collection.{Collection}
-use Rattle.cg_collect.specs.Phases.{on_stack, lines_left}
+use Rattle.cg_collect.specs.Phases.{on_stack}
 use Rattle.cg_collect.specs.Numbers.{AreSmall}
 use Rattle.cg_collect.specs.Ready.{IsBegun}
 use Rattle.cg_collect.specs.Collections.{IsReady, HandsOut, CollectFalls, held_by}

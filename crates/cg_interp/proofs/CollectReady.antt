@@ -1,17 +1,17 @@
 -- What a collection needs of the heap follows from what the laws say of where objects stand: where one begins, and where one
 -- goes on after a frame or a death.
-use Rattle.std.proofs.Common.{◌≡◌, ◌≢◌, refl, sym, ◌∙◌, ap, subst, ℕ, ◌+◌, ◌≤◌, ◌⊎◌, Bool, true, false, not, cond, inl, inr, List, [], ◌∷◌, ◌++◌, length, Option, None, Some, IsSome, arith}
-use Rattle.std.specs.Prelude.{◌==◌, filter, flat_map, drop, slice_get}
+use Rattle.std.proofs.Common.{◌≡◌, ◌≢◌, refl, sym, ◌∙◌, ap, subst, ℕ, ◌+◌, ◌≤◌, ◌⊎◌, Bool, true, false, not, cond, inl, inr, List, [], ◌∷◌, ◌++◌, length, Option, None, Some, IsSome}
+use Rattle.std.specs.Prelude.{◌==◌, filter, drop, slice_get}
 use Rattle.std.specs.FinMap as fin
-use Rattle.std.proofs.lemmas.Bool.{eqb-true, eq-eqb, ne_eqb}
+use Rattle.std.proofs.lemmas.Bool.{eq-eqb}
 use Rattle.cg_value.specs.declared.KindCode.TheVariants.{Weak}
 use Rattle.cg_value.specs.declared.Place.{Place}
 use Rattle.cg_value.specs.declared.Place.TheVariants.{Untracked, Cand, Seen, Back, Legacy, Pend}
 use Rattle.cg_graph.specs.Member.{Includes}
 use Rattle.cg_graph.specs.Value.{references}
 use Rattle.cg_graph.specs.Object.{Object, entries_of as object_entries_of}
-use Rattle.cg_graph.specs.Store.{Store, Node, HasCode, objects_of, object_from, list_at, place_of, place_in, entries_in, entries_of}
-use Rattle.cg_graph.proofs.Members.{either, cases_of, Includes-append_left, Includes-append_right}
+use Rattle.cg_graph.specs.Store.{Store, Node, HasCode, objects_of, object_from, list_at, place_of, place_in, entries_in}
+use Rattle.cg_graph.proofs.Members.{either, Includes-append_left, Includes-append_right}
 use Rattle.cg_heap.specs.Calls.{IsSound}
 use Rattle.cg_machine.specs.World as machine
 use Rattle.cg_machine.specs.World.{World, Activity, Collecting, Releasing}
@@ -27,8 +27,8 @@ use Rattle.cg_collect.specs.declared.collection.Collection.{Collection}
 use Rattle.cg_collect.specs.declared.phase.Phase.{Phase}
 use Rattle.cg_collect.specs.declared.phase.Phase.TheVariants as phase_of
 use Rattle.cg_collect.specs.Phases.{machine_phase, collection_of, collecting, released_over, shown_with, on_stack}
-use Rattle.cg_collect.specs.Ready.{IsClear, IsApart as IsSetApart, IsApartUnseen, IsEmptyAt, IsUnsaved, IsReadyAt, HaveCallbacks, OthersHaveCallbacks, HasFewCollected, SparesGarbageList, MayRun}
-use Rattle.cg_collect.specs.Collections.{IsReady, HandsOut}
+use Rattle.cg_collect.specs.Ready.{IsClear, IsApart as IsSetApart, IsApartUnseen, IsEmptyAt, IsUnsaved, IsReadyAt, HasFewCollected, SparesGarbageList, MayRun}
+use Rattle.cg_collect.specs.Collections.{IsReady}
 use Rattle.cg_collect.proofs.Standing.{object_there, node_of_live, empty_at}
 use Rattle.cg_interp.specs.Engines.{HasHandedOut}
 

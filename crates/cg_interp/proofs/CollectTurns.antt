@@ -1,6 +1,6 @@
 -- The turns of a collection on top: what a step of it answers is a turn of the engine.
-use Rattle.std.proofs.Common.{◌≡◌, ◌≢◌, refl, sym, ◌∙◌, ap, subst, ℕ, ◌+◌, ◌-◌, ◌<◌, ◌≤◌, ◌⊎◌, Bool, true, false, cond, inl, inr, List, [], ◌∷◌, ◌++◌, length, length-append, Option, None, Some, IsSome, arith, append-nil}
-use Rattle.std.specs.Prelude.{◌==◌, ◌*◌, if◌then◌else◌, is_some, count_by, flat_map, IfSome}
+use Rattle.std.proofs.Common.{◌≡◌, ◌≢◌, refl, sym, ◌∙◌, ap, subst, ℕ, ◌+◌, ◌-◌, ◌<◌, ◌≤◌, ◌⊎◌, Bool, true, false, inl, inr, List, [], ◌∷◌, ◌++◌, length, length-append, Option, None, Some, IsSome, arith, append-nil}
+use Rattle.std.specs.Prelude.{◌==◌, ◌*◌, if◌then◌else◌, is_some, flat_map, IfSome}
 use Rattle.std.proofs.lemmas.Bool.{ne_eqb}
 use Rattle.cg_value.specs.declared.Place.TheVariants.{Pend}
 use Rattle.cg_script.specs.declared.Script.{Script}
@@ -17,26 +17,24 @@ use Rattle.cg_machine.specs.Program.{body_of}
 use Rattle.cg_machine.specs.World as machine
 use Rattle.cg_machine.specs.World.{World, Numbers, Activity, Dying, Framed, Releasing, Collecting, Finalizer, Running, BudgetIsSpent}
 use Rattle.cg_machine.specs.Frame.{Transition, begin_death, start_frame}
-use Rattle.cg_machine.specs.Holdings.{holds, is_collection}
+use Rattle.cg_machine.specs.Holdings.{holds}
 use Rattle.cg_machine.specs.Run.{StepTaken, events_of, last_world}
-use Rattle.cg_machine.specs.Represents.{Represents, Goes, CollectionWaits}
+use Rattle.cg_machine.specs.Represents.{Represents, Goes}
 use Rattle.cg_laws.specs.Kept.{IsKept, StaysKept}
 use Rattle.cg_death.specs.declared.release.Release.{Release}
-use Rattle.cg_death.specs.Activities.{references_left}
-use Rattle.cg_policy.specs.Policy.{Policy}
 use Rattle.cg_collect.specs.declared.collection.Collection.{Collection}
 use Rattle.cg_collect.specs.declared.phase.Phase.{Phase}
 use Rattle.cg_collect.specs.declared.phase.Phase.TheVariants as phase_of
-use Rattle.cg_collect.specs.Phases.{machine_phase, collecting, collection_of, released_over, shown_with, on_stack, store_after, lines_left, answer_lines}
+use Rattle.cg_collect.specs.Phases.{machine_phase, collecting, collection_of, released_over, on_stack, store_after, lines_left, answer_lines}
 use Rattle.cg_collect.specs.Ready.{MayRun, IsBegun}
 use Rattle.cg_collect.specs.Collections.{IsReady, HandsOut, CollectFalls}
-use Rattle.cg_collect.specs.Answers.{Shows as CollectionShows, Stands, WentOn, GaveDeath, GaveFrame, HasFinished, numbers_at}
+use Rattle.cg_collect.specs.Answers.{Shows as CollectionShows, Stands, WentOn, HasFinished, numbers_at}
 use Rattle.cg_interp.specs.declared.activity.Activity.{Activity as Own}
 use Rattle.cg_interp.specs.declared.activity.Activity.TheVariants as activity
 use Rattle.cg_interp.specs.declared.turned.Turned.{Turned}
 use Rattle.cg_interp.specs.declared.turned.Turned.TheVariants as turned
-use Rattle.cg_interp.specs.Engines.{State, StandsFor, ShowsAll, ShowsTop, under, any_collecting, is_collecting}
-use Rattle.cg_interp.specs.Collecting.{StandsWith, Collects, CollectsOnTop}
+use Rattle.cg_interp.specs.Engines.{State, StandsFor, ShowsAll, ShowsTop, under, any_collecting}
+use Rattle.cg_interp.specs.Collecting.{StandsWith, Collects}
 use Rattle.cg_interp.specs.Telling.{TurnsWith, GoesOnTo, Advances, IsNearer}
 use Rattle.cg_interp.specs.Turns.{Makes, DyingIsSound}
 use Rattle.cg_interp.proofs.Lawfully.{dying_sound, total_fits, is_live}
