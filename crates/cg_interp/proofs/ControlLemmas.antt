@@ -117,11 +117,3 @@ module _ (script : Script) (w : World) (command : Command) where
 
     pub idle_may : is_collecting w ≡ false → CommandStep script w command [] (push (new_collection g true w) w)
     idle_may idle = collects false [] (push (new_collection g true w) w) idle (refl, refl)
-
--- where only places change, the engine stays fit
-pub fit_by_places : (script : Script) (old : State) (store : Store) (policy : Policy) → KeepsAllButPlaces old.store store → IsFit script old → IsFit script (record old { store = store; policy = policy })
-fit_by_places script old store policy keeps fit = record {
-  names = ap length keeps.names ∙ fit.names;
-  frames = fit.frames;
-  room = omega (arith, keeps.objects, fit.room);
-}

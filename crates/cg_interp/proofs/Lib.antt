@@ -24,3 +24,4 @@ mod CollectTurns
 mod Telling
 mod UnderWay
 mod ControlLemmas
+mod TurnLemmas

@@ -39,21 +39,6 @@ pub none_due_in : (script : Script) (e : State) (w : World) (answer : Option ℕ
 none_due_in script e w None stands is never = due_in script e w None stands is
 none_due_in script e w (Some g) stands is never = absurd (never g refl)
 
--- It is of generation 0, 1 or 2, and none is running.
-low_generation : (two one : Bool) → (if two then 2 else if one then 1 else 0) ≤ 2
-low_generation true one = omega arith
-low_generation false true = omega arith
-low_generation false false = omega arith
-
-due_low : (n : Numbers) (yes running : Bool) (g : ℕ) → (if yes && not running then Some (due_generation n) else None) ≡ Some g → (due_generation n ≤ 2) → (g ≤ 2) × (running ≡ false)
-due_low n true false g is low = (let same : due_generation n ≡ g = cc in subst (λ k. k ≤ 2) same low, refl)
-due_low n true true g is low = absurd (cc)
-due_low n false true g is low = absurd (cc)
-due_low n false false g is low = absurd (cc)
-
-pub due_is_low : (p : Policy) (g : ℕ) → Some g ≡ due_of p → (g ≤ 2) × (p.running ≡ false)
-due_is_low p g is = due_low p.numbers (is_due p.numbers) p.running g (sym is) (low_generation _ _)
-
 -- a transition that the machine may make is what a turn answers
 pub turns : (script : Script) (w : World) (e : State) (t : Transition) (answer : Turned) → w.outcome ≡ Running → StepOf script w w.stack t.0 t.1 → Makes script t e answer → Turns script w e answer
 turns script w e t turned.Quiet running step makes = record { after = t.1; goes = one_step script w [] t.1 running (subst (λ es. StepOf script w w.stack es t.1) makes.0 step); moves = λ n. absurd (cc); stands = makes.1 }
