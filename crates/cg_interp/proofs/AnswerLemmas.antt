@@ -1,5 +1,5 @@
 -- What was done is what the machine may do for the command.
-use Rattle.std.proofs.Common.{◌≡◌, refl, sym, ◌∙◌, subst, ℕ, Bool, true, List, [], ◌∷◌, Option, inl, inr, Result, Ok, Err}
+use Rattle.std.proofs.Common.{◌≡◌, refl, sym, ◌∙◌, ap, subst, ℕ, Bool, true, List, [], ◌∷◌, Option, inl, inr, Result, Ok, Err}
 use Rattle.cg_value.specs.declared.Entry.{Entry}
 use Rattle.cg_script.specs.declared.Script.{Script}
 use Rattle.cg_script.specs.declared.Command.{Command}
@@ -23,8 +23,8 @@ use Rattle.cg_script.specs.Spelled.{IsForObjects}
 use Rattle.cg_commands.specs.Answers.{Performs, Refuses, HasChanged}
 use Rattle.cg_interp.specs.declared.activity.Activity.{Activity as Own}
 use Rattle.cg_interp.specs.Engines.{State, StandsFor, ShowsAll, under, over}
-use Rattle.cg_interp.specs.Callers.{Changes, call_of}
-use Rattle.cg_interp.proofs.EffectLemmas.{HasFitted, effect_fits}
+use Rattle.cg_interp.specs.Callers.{Changes, call_of, numbers_told}
+use Rattle.cg_interp.proofs.EffectLemmas.{HasFitted, effect_fits, one_line}
 use Rattle.cg_interp.proofs.CallerLemmas.{same_engine}
 
 -- what holds of each effect holds of this one
@@ -66,7 +66,7 @@ module _ (script : Script) (w : World) (r : Result Effect ℕ) where
 
 -- a command leaves the rest of the world as it was
 module _ (script : Script) (e : State) (top : Own) (w : World) (command : Command) (before : Store) (stands : StandsFor script (over before (under top e)) w) (own : IsForObjects command) where
-  pub changed : (line : Option Event) (given_up : Entry) (h : HasChanged (effect w command) line (entry_references given_up) e.store) → Changes script top e given_up h.after
+  pub changed : (line : Option Event) (given_up : Entry) (h : HasChanged (effect w command) line (entry_references given_up) e.store) → Changes script top e line given_up h.after
   changed line given_up h =
       let left : Leaves w h.after = of_effect (LeavesStack w) (effect w command) _ h.is (effect_leaves w command) in
       let fitted = of_effect (HasFitted w) (effect w command) _ h.is (effect_fits w command own) in
@@ -75,12 +75,13 @@ module _ (script : Script) (e : State) (top : Own) (w : World) (command : Comman
         shows = subst (λ st. ShowsAll script (top ∷ e.activities) st) (sym left.stack) stands.shows;
         budget = left.budget ∙ stands.budget;
         running = left.outcome ∙ stands.running;
-        threshold = fitted ∙ stands.threshold;
+        numbers = fitted ∙ one_line line w.numbers ∙ ap (numbers_told line) (sym stands.numbers);
+        collecting = stands.collecting;
       }
 
   -- it stands for the same world where the heap is as before
   pub as_before : e.store ≡ before → StandsFor script (under top e) w
-  as_before same = same_engine script (over before (under top e)) (under top e) w stands same refl refl
+  as_before same = same_engine script (over before (under top e)) (under top e) w stands same refl refl refl
 
 -- A command calls a function that lives, and leaves the heap.
 pub calls_known : (w : World) (command : Command) (locals : Option Locals) (old new : Store) (f : ℕ) → IsForObjects command → StandsBefore old locals w → Performs old locals (λ v. effect v command) new (Ok (done_of.Calls f)) → (new ≡ old) × IsLive old f

@@ -6,7 +6,8 @@ use Rattle.cg_heap.specs.Keeps.{IsWellMadeAt}
 use Rattle.cg_heap.specs.Weak.{AreRows}
 use Rattle.cg_machine.specs.World.{World, TopLevel, Releasing}
 use Rattle.cg_machine.specs.Frame.{begin_death}
-use Rattle.cg_machine.specs.Lawful.{IsLawful, StaysLawful}
+use Rattle.cg_machine.specs.Lawful.{IsLawful}
+use Rattle.cg_laws.specs.Kept.{StaysKept}
 use Rattle.cg_death.specs.declared.release.Release.{Release}
 use Rattle.cg_death.specs.declared.death.Death.{Death}
 use Rattle.cg_death.specs.Activities.{references_left, HasHolds}
@@ -33,8 +34,8 @@ pub death_may_step : (script : Script) (e : State) (death : Death) (w : World) (
 death_may_step script e death w budget stands lawful rows well = death_ready script budget e.store w stands.represents lawful rows well death stands.shows.shows.2 (death_inside script e death w stands)
 
 -- the death that is handed out is sound
-pub given_sound : (script : Script) (w : World) (o budget : ℕ) (given : State) → StaysLawful script budget w → (gives : GivesDeath script w o given) → DyingIsSound (begin_death o gives.before)
-given_sound script w o budget given stays gives = subst DyingIsSound gives.goes.ends (dying_sound script budget _ (stays gives.goes.steps gives.goes.run))
+pub given_sound : (script : Script) (w : World) (o budget : ℕ) (given : State) → StaysKept script budget w → (gives : GivesDeath script w o given) → DyingIsSound (begin_death o gives.before)
+given_sound script w o budget given stays gives = subst DyingIsSound gives.goes.ends (dying_sound script budget _ (stays gives.goes.steps gives.goes.run).lawful)
 
 -- Something is always under way: the script's own commands stand at the bottom.
 pub something_under_way : (script : Script) (e : State) (w : World) (budget : ℕ) → StandsFor script e w → IsLawful script budget w → e.activities ≢ []

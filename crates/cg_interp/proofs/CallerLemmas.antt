@@ -1,5 +1,5 @@
 -- What a command leaves on top of the stack: the activity that it stood in, which may have lost the rest of its commands.
-use Rattle.std.proofs.Common.{◌≡◌, refl, sym, ◌∙◌, ap, subst, ℕ, List, [], ◌∷◌, ◌++◌, Option, None, Some}
+use Rattle.std.proofs.Common.{◌≡◌, refl, sym, ◌∙◌, ap, subst, ℕ, ◌||◌, List, [], ◌∷◌, ◌++◌, Option, None, Some}
 use Rattle.std.specs.Prelude.{unwrap_or, option_and_then, option_map, IsSome, IfSome}
 use Rattle.std.specs.FinMap as fin
 use Rattle.cg_graph.specs.Object.{Object, object_at}
@@ -21,17 +21,18 @@ use Rattle.cg_death.specs.Activities.{references_left}
 use Rattle.cg_interp.specs.declared.activity.Activity.{Activity as Own}
 use Rattle.cg_interp.specs.declared.activity.Activity.TheVariants as activity
 use Rattle.cg_interp.specs.declared.turned.Turned.TheVariants as turned
-use Rattle.cg_interp.specs.Engines.{State, StandsFor, Shows, ShowsAll, commands_from, frame_of, under}
-use Rattle.cg_interp.specs.Callers.{IsCaller, without_rest, without_rest_in_frame, Changes, transition_of_change}
+use Rattle.cg_policy.specs.Policy.{Policy, with_numbers}
+use Rattle.cg_interp.specs.Engines.{State, StandsFor, Shows, ShowsAll, commands_from, frame_of, under, is_collecting, any_collecting}
+use Rattle.cg_interp.specs.Callers.{IsCaller, without_rest, without_rest_in_frame, Changes, transition_of_change, numbers_told}
 use Rattle.cg_interp.specs.Turns.{Makes}
 use Rattle.cg_interp.proofs.Standing.{IsPlain, plain_frame, plain_script, replaced, spelled}
 
 -- Another activity with the same holds comes in the place of the one on top.
 module _ (script : Script) (old new : State) (top top_after : Own) (a b : Activity) (f : List Activity → List Activity) (w : World)
     (plain_a : IsPlain a) (plain_b : IsPlain b) (same : holds b ≡ holds a) (turns : (below : List Activity) → f (a ∷ below) ≡ b ∷ below)
-    (shown : (tops : List Activity) → Shows script top tops → tops ≡ a ∷ []) (shows : Shows script top_after (b ∷ [])) where
-  pub retopped : StandsFor script (under top old) w → new.store ≡ old.store → new.activities ≡ top_after ∷ old.activities → new.budget ≡ old.budget → StandsFor script new (with_stack (f w.stack) w)
-  retopped stands store top_is budget =
+    (shown : (tops : List Activity) → Shows script top tops → tops ≡ a ∷ []) (shows : Shows script top_after (b ∷ [])) (none : is_collecting top_after ≡ is_collecting top) where
+  pub retopped : StandsFor script (under top old) w → new.store ≡ old.store → new.policy ≡ old.policy → new.activities ≡ top_after ∷ old.activities → new.budget ≡ old.budget → StandsFor script new (with_stack (f w.stack) w)
+  retopped stands store policy top_is budget =
       record {
         represents = subst (λ st. Represents new.store (with_stack (f st) w)) (sym at)
             (subst (λ st. Represents st (with_stack (f (a ∷ below)) w)) (sym store)
@@ -43,7 +44,9 @@ module _ (script : Script) (old new : State) (top top_after : Own) (a b : Activi
             (record { tops = b ∷ []; below = below; shows = shows; some = λ e. absurd (cc); over = stands.shows.over; is = refl })));
         budget = stands.budget ∙ sym budget;
         running = stands.running;
-        threshold = stands.threshold;
+        numbers = ap (λ (p : Policy). p.numbers) policy ∙ stands.numbers;
+        collecting =
+            ap (λ (p : Policy). p.running) policy ∙ stands.collecting ∙ ap (λ b. b || any_collecting old.activities) (sym none) ∙ ap any_collecting (sym top_is);
       }
     where
       below : List Activity
@@ -54,57 +57,60 @@ module _ (script : Script) (old new : State) (top top_after : Own) (a b : Activi
 
 module _ (script : Script) (old new : State) (w : World) where
   -- a command is refused
-  pub refuses : (top : Own) (number : ℕ) → IsCaller top → StandsFor script (under top old) w → new.store ≡ old.store → new.activities ≡ without_rest_in_frame top ∷ old.activities → new.budget ≡ old.budget
+  pub refuses : (top : Own) (number : ℕ) → IsCaller top → StandsFor script (under top old) w → new.store ≡ old.store → new.policy ≡ old.policy → new.activities ≡ without_rest_in_frame top ∷ old.activities → new.budget ≡ old.budget
       → Makes script (refused number w) new (turned.Line (Refused number))
-  refuses (activity.Script next) number caller stands store is budget = (
+  refuses (activity.Script next) number caller stands store policy is budget = (
     refl,
     retopped script old new (activity.Script next) (activity.Script next) (TopLevel (commands_from next (commands_of script.items))) (TopLevel (commands_from next (commands_of script.items))) stopped_frame w
-        (plain_script _) (plain_script _) refl (λ below. refl) (λ tops e. e) refl stands store is budget,
+        (plain_script _) (plain_script _) refl (λ below. refl) (λ tops e. e) refl refl stands store policy is budget,
   )
-  refuses (activity.Frame locals procedure next) number caller stands store is budget = (
+  refuses (activity.Frame locals procedure next) number caller stands store policy is budget = (
     refl,
     retopped script old new (activity.Frame locals procedure next) (activity.Frame locals procedure None) (Framed (frame_of script locals procedure next)) (Framed (frame_of script locals procedure None)) stopped_frame w
-        (plain_frame _) (plain_frame _) refl (λ below. refl) (λ tops e. e) refl stands store is budget,
+        (plain_frame _) (plain_frame _) refl (λ below. refl) (λ tops e. e) refl refl stands store policy is budget,
   )
-  refuses (activity.Releasing release) number caller stands store is budget = absurd caller
-  refuses (activity.Dying death) number caller stands store is budget = absurd caller
+  refuses (activity.Releasing release) number caller stands store policy is budget = absurd caller
+  refuses (activity.Dying death) number caller stands store policy is budget = absurd caller
+  refuses (activity.Collecting asked collection) number caller stands store policy is budget = absurd caller
 
   -- a command ends what it stands in
-  pub quits : (top : Own) → IsCaller top → StandsFor script (under top old) w → new.store ≡ old.store → new.activities ≡ without_rest top ∷ old.activities → new.budget ≡ old.budget
+  pub quits : (top : Own) → IsCaller top → StandsFor script (under top old) w → new.store ≡ old.store → new.policy ≡ old.policy → new.activities ≡ without_rest top ∷ old.activities → new.budget ≡ old.budget
       → Makes script ([], with_stack (without_commands w.stack) w) new turned.Quiet
-  quits (activity.Script next) caller stands store is budget = (
+  quits (activity.Script next) caller stands store policy is budget = (
     refl,
     retopped script old new (activity.Script next) (activity.Script None) (TopLevel (commands_from next (commands_of script.items))) (TopLevel []) without_commands w
-        (plain_script _) (plain_script _) refl (λ below. refl) (λ tops e. e) refl stands store is budget,
+        (plain_script _) (plain_script _) refl (λ below. refl) (λ tops e. e) refl refl stands store policy is budget,
   )
-  quits (activity.Frame locals procedure next) caller stands store is budget = (
+  quits (activity.Frame locals procedure next) caller stands store policy is budget = (
     refl,
     retopped script old new (activity.Frame locals procedure next) (activity.Frame locals procedure None) (Framed (frame_of script locals procedure next)) (Framed (frame_of script locals procedure None)) without_commands w
-        (plain_frame _) (plain_frame _) refl (λ below. refl) (λ tops e. e) refl stands store is budget,
+        (plain_frame _) (plain_frame _) refl (λ below. refl) (λ tops e. e) refl refl stands store policy is budget,
   )
-  quits (activity.Releasing release) caller stands store is budget = absurd caller
-  quits (activity.Dying death) caller stands store is budget = absurd caller
+  quits (activity.Releasing release) caller stands store policy is budget = absurd caller
+  quits (activity.Dying death) caller stands store policy is budget = absurd caller
+  quits (activity.Collecting asked collection) caller stands store policy is budget = absurd caller
 
 -- a command changed what it had to
 module _ (script : Script) (old new : State) (top : Own) (given_up : Entry) (release : Release) (after : World) where
-  stands_after : Changes script top old given_up after → references_left release ≡ entry_references given_up → new.store ≡ old.store → new.activities ≡ activity.Releasing release ∷ top ∷ old.activities → new.budget ≡ old.budget
+  stands_after : (line : Option Event) → Changes script top old line given_up after → references_left release ≡ entry_references given_up → new.store ≡ old.store → new.policy ≡ with_numbers (numbers_told line old.policy.numbers) old.policy → new.activities ≡ activity.Releasing release ∷ top ∷ old.activities → new.budget ≡ old.budget
       → StandsFor script new (push (Releasing (entry_references given_up)) after)
-  stands_after c left store is budget = record {
+  stands_after line c left store policy is budget = record {
     represents = subst (λ st. Represents st (push (Releasing (entry_references given_up)) after)) (sym store) c.represents;
     shows = subst (λ l. ShowsAll script l (Releasing (entry_references given_up) ∷ after.stack)) (sym is)
         (record { tops = Releasing (entry_references given_up) ∷ []; below = after.stack; shows = ap (λ l. Releasing l ∷ []) (sym left); some = λ e. absurd (cc); over = c.shows; is = refl });
     budget = c.budget ∙ sym budget;
     running = c.running;
-    threshold = c.threshold;
+    numbers = ap (λ (p : Policy). p.numbers) policy ∙ sym c.numbers;
+    collecting = ap (λ (p : Policy). p.running) policy ∙ c.collecting ∙ ap any_collecting (sym is);
   }
 
-  pub changes_with_line : (event : Event) → Changes script top old given_up after → references_left release ≡ entry_references given_up → new.store ≡ old.store → new.activities ≡ activity.Releasing release ∷ top ∷ old.activities → new.budget ≡ old.budget
+  pub changes_with_line : (event : Event) → Changes script top old (Some event) given_up after → references_left release ≡ entry_references given_up → new.store ≡ old.store → new.policy ≡ with_numbers (numbers_told (Some event) old.policy.numbers) old.policy → new.activities ≡ activity.Releasing release ∷ top ∷ old.activities → new.budget ≡ old.budget
       → Makes script (transition_of_change (Some event) given_up after) new (turned.Line event)
-  changes_with_line event c left store is budget = (refl, stands_after c left store is budget)
+  changes_with_line event c left store policy is budget = (refl, stands_after (Some event) c left store policy is budget)
 
-  pub changes_silently : Changes script top old given_up after → references_left release ≡ entry_references given_up → new.store ≡ old.store → new.activities ≡ activity.Releasing release ∷ top ∷ old.activities → new.budget ≡ old.budget
+  pub changes_silently : Changes script top old None given_up after → references_left release ≡ entry_references given_up → new.store ≡ old.store → new.policy ≡ with_numbers (numbers_told None old.policy.numbers) old.policy → new.activities ≡ activity.Releasing release ∷ top ∷ old.activities → new.budget ≡ old.budget
       → Makes script (transition_of_change None given_up after) new turned.Quiet
-  changes_silently c left store is budget = (refl, stands_after c left store is budget)
+  changes_silently c left store policy is budget = (refl, stands_after None c left store policy is budget)
 
 -- the procedure of a function, which the heap keeps beside it
 pub procedure_known : (store : Store) (w : World) (f : ℕ) (class : Option ℕ) → Represents store w → IsLive store f → IfSome (fin.get store.nodes f) (λ n. class ≡ n.class) → procedure_of w f ≡ unwrap_or class 0
@@ -117,11 +123,12 @@ procedure_known store w f class r live told =
     known (Some n) there told = ap (λ k. unwrap_or k 0) (sym told)
 
 -- another engine with the same parts stands for the same worlds
-pub same_engine : (script : Script) (old new : State) (w : World) → StandsFor script old w → new.store ≡ old.store → new.activities ≡ old.activities → new.budget ≡ old.budget → StandsFor script new w
-same_engine script old new w stands store activities budget = record {
+pub same_engine : (script : Script) (old new : State) (w : World) → StandsFor script old w → new.store ≡ old.store → new.policy ≡ old.policy → new.activities ≡ old.activities → new.budget ≡ old.budget → StandsFor script new w
+same_engine script old new w stands store policy activities budget = record {
   represents = subst (λ st. Represents st w) (sym store) stands.represents;
   shows = subst (λ l. ShowsAll script l w.stack) (sym activities) stands.shows;
   budget = stands.budget ∙ sym budget;
   running = stands.running;
-  threshold = stands.threshold;
+  numbers = ap (λ (p : Policy). p.numbers) policy ∙ stands.numbers;
+  collecting = ap (λ (p : Policy). p.running) policy ∙ stands.collecting ∙ ap any_collecting (sym activities);
 }

@@ -13,7 +13,7 @@ use Rattle.cg_graph.proofs.Members.{either, true_and, Includes-append_left}
 use Rattle.cg_machine.specs.World as machine
 use Rattle.cg_machine.specs.World.{World, Numbers, Activity, Dying, Finalizer}
 use Rattle.cg_machine.specs.declared.event.Event.{Event}
-use Rattle.cg_machine.specs.declared.event.Event.TheVariants.{Free, Enter, BudgetSpent}
+use Rattle.cg_machine.specs.declared.event.Event.TheVariants.{Enter, BudgetSpent}
 use Rattle.cg_machine.specs.declared.event.FrameSpec.{FrameSpec}
 use Rattle.cg_machine.specs.Holdings.{is_death_of}
 use Rattle.cg_machine.specs.Frame.{Transition, begin_death, start_frame}
@@ -31,7 +31,8 @@ use Rattle.cg_interp.specs.declared.turned.Turned.{Turned}
 use Rattle.cg_interp.specs.declared.turned.Turned.TheVariants as turned
 use Rattle.cg_death.specs.Deaths.{on_stack, DeathFalls, HasCause, IsSettled}
 use Rattle.cg_interp.specs.declared.activity.Activity.TheVariants as activity
-use Rattle.cg_interp.specs.Engines.{State, StandsFor, ShowsAll, released_first, death_shown, under}
+use Rattle.cg_policy.specs.Policy.{Policy, with_numbers}
+use Rattle.cg_interp.specs.Engines.{State, StandsFor, ShowsAll, released_first, death_shown, under, any_collecting}
 use Rattle.cg_interp.specs.Turns.{DyingIsSound, Makes, Turns, GoesTo, GivesDeath, StaysOn}
 use Rattle.cg_interp.proofs.DeathMoves.{no_fall, no_death_on_top}
 
@@ -76,15 +77,16 @@ none_waits script e o w stands sound =
     was_not_dying o w sound found.0 found.1 (found.2 ∙ is)))
 
 -- its death is on top then
-pub dies : (script : Script) (old new : State) (o : ℕ) (death : Death) (w : World) → StandsFor script old w → Represents new.store (begin_death o w) → on_stack death new.store ≡ death_of o Finalizer ∷ [] → IsSettled death → new.activities ≡ activity.Dying death ∷ old.activities → new.budget ≡ old.budget
+pub dies : (script : Script) (old new : State) (o : ℕ) (death : Death) (w : World) → StandsFor script old w → Represents new.store (begin_death o w) → on_stack death new.store ≡ death_of o Finalizer ∷ [] → IsSettled death → new.policy ≡ old.policy → new.activities ≡ activity.Dying death ∷ old.activities → new.budget ≡ old.budget
     → StandsFor script new (begin_death o w)
-dies script old new o death w stands represents shown settled top budget = record {
+dies script old new o death w stands represents shown settled policy top budget = record {
   represents = represents;
   shows = subst (λ l. ShowsAll script l (begin_death o w).stack) (sym top)
       (record { tops = death_of o Finalizer ∷ []; below = w.stack; shows = (waiting_for new.store death.object, sym shown ∙ shown_on_stack death new.store, settled); some = λ e. absurd (cc); over = stands.shows; is = refl });
   budget = stands.budget ∙ sym budget;
   running = stands.running;
-  threshold = stands.threshold;
+  numbers = ap (λ (p : Policy). p.numbers) policy ∙ stands.numbers;
+  collecting = ap (λ (p : Policy). p.running) policy ∙ stands.collecting ∙ ap any_collecting (sym top);
 }
 
 -- The world tells which weak references wait with a dying object: those of the heap.
@@ -104,11 +106,6 @@ waits_known store w o phase_of.Over waiting r inside = refl
 within : (release : Option Release) (rest below : List Activity) (a : Activity) → Includes rest a → Includes (released_first release rest ++ below) a
 within None rest below a m = Includes-append_left rest below a m
 within (Some release) rest below a m = inr (Includes-append_left rest below a m)
-
--- No line changes threshold 0.
-kept_threshold : (event : Event) (n : Numbers) → (numbers_after event n).zero_threshold ≡ n.zero_threshold
-kept_threshold (Free o) n = refl
-kept_threshold event n = refl
 
 -- the object whose death is handed out is another one
 pub another_dies : (death : Death) (new : Store) (answer : DeathStep) (o : ℕ) → HasCause death new answer → answer ≡ answer_of.Died o → o ≢ death.object
@@ -174,8 +171,12 @@ module _ (script : Script) (old new : State) (death after_death : Death) (answer
       subst (λ l. ShowsAll script l stack) (sym going.1) (record { tops = on_stack after_death new.store; below = stands.shows.below; shows = (waiting_for new.store after_death.object, shown_on_stack after_death new.store, settles stands.shows.shows.2); some = going.0 new.store; over = stands.shows.over; is = is }))
       (λ gone. subst (λ l. ShowsAll script l stack) (sym gone.1) (subst (ShowsAll script old.activities) (sym (is ∙ ap (λ l. l ++ stands.shows.below) (gone.0 new.store))) stands.shows.over))
 
-  went_on : (events : List Event) (numbers : Numbers) → numbers.zero_threshold ≡ w.numbers.zero_threshold → (went : WentOn script w events numbers new.store (on_stack after_death new.store ++ rest)) → went.goes.goes.steps ≢ [] → GoesTo script w events new
-  went_on events numbers same went moves = record {
+  -- a collection is under way if one was
+  under_way : any_collecting new.activities ≡ any_collecting old.activities
+  under_way = either put (λ going. ap any_collecting going.1) (λ gone. ap any_collecting gone.1)
+
+  went_on : (events : List Event) (numbers : Numbers) → new.policy.numbers ≡ numbers → new.policy.running ≡ old.policy.running → (went : WentOn script w events numbers new.store (on_stack after_death new.store ++ rest)) → went.goes.goes.steps ≢ [] → GoesTo script w events new
+  went_on events numbers counted running went moves = record {
     after = went.goes.after;
     goes = went.goes.goes;
     moves = moves;
@@ -184,7 +185,8 @@ module _ (script : Script) (old new : State) (death after_death : Death) (answer
       shows = with_rest went.goes.after.stack went.goes.top;
       budget = went.keeps.budget ∙ stands.budget ∙ sym budget;
       running = went.keeps.outcome ∙ stands.running;
-      threshold = ap (λ (n : Numbers). n.zero_threshold) went.keeps.numbers ∙ same ∙ stands.threshold;
+      numbers = counted ∙ sym went.keeps.numbers;
+      collecting = running ∙ stands.collecting ∙ sym under_way;
     };
   }
 
@@ -196,37 +198,38 @@ module _ (script : Script) (old new : State) (death after_death : Death) (answer
   same_top : (after : World) → after.stack ≡ on_stack after_death new.store ++ rest → w ≡ after → on_stack death old.store ≡ on_stack after_death new.store
   same_top after top same = append_cancel_right (on_stack death old.store) (on_stack after_death new.store) rest (sym at ∙ ap (λ (v : World). v.stack) same ∙ top)
 
-  pub death_continues : answer ≡ answer_of.Continue → AreRows old.store → AreRows new.store → after_death.object ≡ death.object → (answer ≡ answer_of.Continue → DeathFalls death old.store after_death new.store) → GoesTo script w [] new
-  death_continues is rows_old rows_new object falls = go (subst (DeathAnswer script w new.store (on_stack after_death new.store ++ rest)) is says)
+  pub death_continues : answer ≡ answer_of.Continue → new.policy ≡ old.policy → AreRows old.store → AreRows new.store → after_death.object ≡ death.object → (answer ≡ answer_of.Continue → DeathFalls death old.store after_death new.store) → GoesTo script w [] new
+  death_continues is policy rows_old rows_new object falls = go (subst (DeathAnswer script w new.store (on_stack after_death new.store ++ rest)) is says)
     where
       go : WentOn script w [] w.numbers new.store (on_stack after_death new.store ++ rest) → GoesTo script w [] new
-      go went = went_on [] w.numbers refl went (λ none.
+      go went = went_on [] w.numbers (ap (λ (p : Policy). p.numbers) policy ∙ stands.numbers) (ap (λ (p : Policy). p.running) policy) went (λ none.
           let same = stayed went.goes.after went.goes.goes.steps went.goes.goes.ends none in
           no_fall death after_death old.store new.store went.goes.after (subst (Represents old.store) same stands.represents) went.goes.represents rows_old rows_new object (same_top went.goes.after went.goes.top same) (falls is))
 
-  pub death_tells : (event : Event) → answer ≡ answer_of.Emit event → GoesTo script w (event ∷ []) new
-  death_tells event is = go (subst (DeathAnswer script w new.store (on_stack after_death new.store ++ rest)) is says)
+  pub death_tells : (event : Event) → answer ≡ answer_of.Emit event → new.policy ≡ with_numbers (numbers_after event old.policy.numbers) old.policy → GoesTo script w (event ∷ []) new
+  death_tells event is policy = go (subst (DeathAnswer script w new.store (on_stack after_death new.store ++ rest)) is says)
     where
       go : WentOn script w (event ∷ []) (numbers_after event w.numbers) new.store (on_stack after_death new.store ++ rest) → GoesTo script w (event ∷ []) new
-      go went = went_on (event ∷ []) (numbers_after event w.numbers) (kept_threshold event w.numbers) went (prints_moves went.goes.goes.steps event [] went.goes.goes.prints)
+      go went = went_on (event ∷ []) (numbers_after event w.numbers) (ap (λ (p : Policy). p.numbers) policy ∙ ap (numbers_after event) stands.numbers) (ap (λ (p : Policy). p.running) policy) went (prints_moves went.goes.goes.steps event [] went.goes.goes.prints)
 
-  pub death_ends : answer ≡ answer_of.Gone → on_stack after_death new.store ≡ [] → GoesTo script w [] new
-  death_ends is none = go (subst (DeathAnswer script w new.store (on_stack after_death new.store ++ rest)) is says)
+  pub death_ends : answer ≡ answer_of.Gone → new.policy ≡ old.policy → on_stack after_death new.store ≡ [] → GoesTo script w [] new
+  death_ends is policy none = go (subst (DeathAnswer script w new.store (on_stack after_death new.store ++ rest)) is says)
     where
       go : WentOn script w [] w.numbers new.store (on_stack after_death new.store ++ rest) → GoesTo script w [] new
-      go went = went_on [] w.numbers refl went (λ still. something_shown script old death w stands (same_top went.goes.after went.goes.top (stayed went.goes.after went.goes.goes.steps went.goes.goes.ends still) ∙ none))
+      go went = went_on [] w.numbers (ap (λ (p : Policy). p.numbers) policy ∙ stands.numbers) (ap (λ (p : Policy). p.running) policy) went (λ still. something_shown script old death w stands (same_top went.goes.after went.goes.top (stayed went.goes.after went.goes.goes.steps went.goes.goes.ends still) ∙ none))
 
-  handed : (u : World) → Represents new.store u → u.stack ≡ on_stack after_death new.store ++ rest → KeepsWorld w w.numbers u → StandsFor script new u
-  handed u represents is keeps = record {
+  handed : new.policy ≡ old.policy → (u : World) → Represents new.store u → u.stack ≡ on_stack after_death new.store ++ rest → KeepsWorld w w.numbers u → StandsFor script new u
+  handed policy u represents is keeps = record {
     represents = represents;
     shows = with_rest u.stack is;
     budget = keeps.budget ∙ stands.budget ∙ sym budget;
     running = keeps.outcome ∙ stands.running;
-    threshold = ap (λ (n : Numbers). n.zero_threshold) keeps.numbers ∙ stands.threshold;
+    numbers = ap (λ (p : Policy). p.numbers) policy ∙ stands.numbers ∙ sym keeps.numbers;
+    collecting = ap (λ (p : Policy). p.running) policy ∙ stands.collecting ∙ sym under_way;
   }
 
-  pub death_hands : (o : ℕ) → answer ≡ answer_of.Died o → o ≢ death.object → GivesDeath script w o new
-  death_hands o is other = go (subst (DeathAnswer script w new.store (on_stack after_death new.store ++ rest)) is says)
+  pub death_hands : (o : ℕ) → answer ≡ answer_of.Died o → new.policy ≡ old.policy → o ≢ death.object → GivesDeath script w o new
+  death_hands o is policy other = go (subst (DeathAnswer script w new.store (on_stack after_death new.store ++ rest)) is says)
     where
       go : GaveDeath script w o new.store (on_stack after_death new.store ++ rest) → GivesDeath script w o new
       go gave = record {
@@ -236,13 +239,13 @@ module _ (script : Script) (old new : State) (death after_death : Death) (answer
             let same = stayed (begin_death o gave.hands.before) gave.hands.goes.steps gave.hands.goes.ends none in
             no_death_on_top death old.store o (on_stack after_death new.store) other
             (append_cancel_right (death_of o Finalizer ∷ on_stack after_death new.store) (on_stack death old.store) rest (ap (λ l. death_of o Finalizer ∷ l) (sym gave.hands.top) ∙ sym (ap (λ (v : World). v.stack) same) ∙ at));
-        stands = handed gave.hands.before gave.hands.represents gave.hands.top gave.keeps;
+        stands = handed policy gave.hands.before gave.hands.represents gave.hands.top gave.keeps;
       }
 
   -- a frame that starts from the world in which it is handed out
-  pub death_calls : (spec : FrameSpec) (final : State) (turned_to : Turned) → answer ≡ answer_of.Frame spec
+  pub death_calls : (spec : FrameSpec) (final : State) (turned_to : Turned) → answer ≡ answer_of.Frame spec → new.policy ≡ old.policy
       → ((u : World) → StandsFor script new u → Makes script (start_frame script spec u) final turned_to) → Turns script w final turned_to
-  death_calls spec final turned_to is starts = go (subst (DeathAnswer script w new.store (on_stack after_death new.store ++ rest)) is says)
+  death_calls spec final turned_to is policy starts = go (subst (DeathAnswer script w new.store (on_stack after_death new.store ++ rest)) is says)
     where
       go : GaveFrame script w spec new.store (on_stack after_death new.store ++ rest) → Turns script w final turned_to
-      go gave = comes script w final (start_frame script spec gave.hands.before) turned_to gave.hands.goes (starts_moves script spec gave.hands.before gave.hands.goes.steps gave.hands.goes.prints) (starts gave.hands.before (handed gave.hands.before gave.hands.represents gave.hands.top gave.keeps))
+      go gave = comes script w final (start_frame script spec gave.hands.before) turned_to gave.hands.goes (starts_moves script spec gave.hands.before gave.hands.goes.steps gave.hands.goes.prints) (starts gave.hands.before (handed policy gave.hands.before gave.hands.represents gave.hands.top gave.keeps))

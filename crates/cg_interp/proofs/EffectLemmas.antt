@@ -1,6 +1,6 @@
--- What a command that is not the collector's leaves: threshold 0, and, where it calls, a function that lives.
-use Rattle.std.proofs.Common.{◌≡◌, refl, ◌∙◌, ap, ℕ, Bool, true, false, List, [], Option, Some, None, Ok, Err, map}
-use Rattle.std.specs.Prelude.{if◌then◌else◌, is_some, option_and_then, ok_or}
+-- What a command that is not the collector's leaves: the numbers that its lines tell, and, where it calls, a function that lives.
+use Rattle.std.proofs.Common.{◌≡◌, refl, ◌∙◌, ap, ℕ, Bool, true, false, List, [], ◌∷◌, Option, Some, None, Ok, Err, map}
+use Rattle.std.specs.Prelude.{if◌then◌else◌, is_some, option_and_then, option_to_list, ok_or}
 use Rattle.cg_value.specs.declared.Val.{Val}
 use Rattle.cg_value.specs.declared.Val.TheVariants.{None as Nothing, Int, Str, Ref}
 use Rattle.cg_value.specs.declared.Entry.{Entry}
@@ -10,7 +10,8 @@ use Rattle.cg_graph.specs.Object.{Object, object_at, is_in_map}
 use Rattle.cg_graph.specs.Value.{value_at, item, reference_in}
 use Rattle.cg_script.specs.declared.Command.{Command}
 use Rattle.cg_script.specs.declared.Command.TheVariants.{MakeList, MakeTuple, MakeDict, MakeInst, MakeFunc, MakeRef, Bind, Del, Append, SetItem, DelItem, Put, Remove, SetAttr, DelAttr, Item, Get, Attr, Deref, Call, Quit, Collect, Enable, Disable, Threshold, Flags, Freeze, Unfreeze, Print, Refs, Tracked, Finalized, Count, Gens}
-use Rattle.cg_machine.specs.World.{World}
+use Rattle.cg_machine.specs.declared.event.Event.{Event}
+use Rattle.cg_machine.specs.World.{World, Numbers}
 use Rattle.cg_machine.specs.Effects.{Effect, Changes, Calls, Collects, Quits, makes, puts, has_room}
 use Rattle.cg_machine.specs.Commands.{effect}
 use Rattle.cg_machine.specs.Refusals.{not_callable}
@@ -20,9 +21,20 @@ use Rattle.cg_machine.proofs.CommandLaws.{Each, checked}
 use Rattle.cg_machine.proofs.CommandRefs.{each_then, each_some}
 use Rattle.cg_machine.proofs.Lookups.{found_at}
 use Rattle.cg_script.specs.Spelled.{IsForObjects}
+use Rattle.cg_interp.specs.Callers.{numbers_told}
+
+-- the numbers after the lines of a command
+abbrev pub numbers_of_lines : List Event → Numbers → Numbers
+numbers_of_lines [] numbers = numbers
+numbers_of_lines (event ∷ lines) numbers = numbers_of_lines lines (numbers_told (Some event) numbers)
+
+-- it has one line, or none
+pub one_line : (line : Option Event) (numbers : Numbers) → numbers_of_lines (option_to_list line) numbers ≡ numbers_told line numbers
+one_line None numbers = refl
+one_line (Some event) numbers = refl
 
 abbrev pub HasFitted : World → Effect → Type 0
-HasFitted w (Changes wants_memory lines given_up after) = after.numbers.zero_threshold ≡ w.numbers.zero_threshold
+HasFitted w (Changes wants_memory lines given_up after) = after.numbers ≡ numbers_of_lines lines w.numbers
 HasFitted w (Calls f) = is_in_map w.objects f ≡ true
 HasFitted w (Collects g) = Unit {0}
 HasFitted w Quits = Unit {0}

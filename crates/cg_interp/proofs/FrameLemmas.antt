@@ -20,7 +20,8 @@ use Rattle.cg_interp.specs.Releases.{released_by, with_release, with_release_on}
 use Rattle.cg_commands.specs.declared.locals.Locals.{Locals}
 use Rattle.cg_interp.specs.declared.activity.Activity.TheVariants as activity
 use Rattle.cg_interp.specs.declared.turned.Turned.TheVariants as turned
-use Rattle.cg_interp.specs.Engines.{State, StandsFor, ShowsAll, ShowsTop, frame_of, commands_from, under}
+use Rattle.cg_policy.specs.Policy.{Policy}
+use Rattle.cg_interp.specs.Engines.{State, StandsFor, ShowsAll, ShowsTop, frame_of, commands_from, under, any_collecting}
 use Rattle.cg_interp.specs.Turns.{Makes, Turns}
 use Rattle.cg_interp.proofs.Standing.{plain_frame, plain_release, holding, taken, replaced, spelled, one_step}
 
@@ -60,11 +61,11 @@ module _ (script : Script) (old new : State) (spec : FrameSpec) (w : World) (sta
   unfolding chosen
   spends none = subst (λ b. Makes script (chosen b) new turned.Spent) (sym (eq-eqb w.budget 0 (stands.budget ∙ none))) (refl, refl)
 
-  pub enters : (called : Option ℕ) → old.budget ≢ 0 → call_holds spec.sort spec.func ≡ option_to_list called → IfSome called (λ f. IsLive old.store f) → new.store ≡ held (option_to_list called) old.store
+  pub enters : (called : Option ℕ) → old.budget ≢ 0 → call_holds spec.sort spec.func ≡ option_to_list called → IfSome called (λ f. IsLive old.store f) → new.store ≡ held (option_to_list called) old.store → new.policy ≡ old.policy
       → new.activities ≡ activity.Frame (record { sort = spec.sort; subject = spec.subject; func = spec.func }) spec.proc (Some 0) ∷ old.activities
       → new.budget ≡ old.budget - 1 → Makes script (start_frame script spec w) new (turned.Line (Enter spec.sort spec.subject))
   unfolding chosen
-  enters called some is live now top left =
+  enters called some is live now policy top left =
       subst (λ b. Makes script (chosen b) new (turned.Line (Enter spec.sort spec.subject))) (sym (ne_eqb w.budget 0 (λ z. some (sym stands.budget ∙ z)))) (
         refl,
         record {
@@ -72,7 +73,8 @@ module _ (script : Script) (old new : State) (spec : FrameSpec) (w : World) (sta
           shows = subst (λ l. ShowsAll script l (frame ∷ w.stack)) (sym top) (record { tops = frame ∷ []; below = w.stack; shows = refl; some = λ e. absurd (cc); over = stands.shows; is = refl });
           budget = ap (λ n. n - 1) stands.budget ∙ sym left;
           running = stands.running;
-          threshold = stands.threshold;
+          numbers = ap (λ (p : Policy). p.numbers) policy ∙ stands.numbers;
+          collecting = ap (λ (p : Policy). p.running) policy ∙ stands.collecting ∙ ap any_collecting (sym top);
         },
       )
     where
@@ -117,9 +119,13 @@ module _ (script : Script) (old new : State) (locals : Locals) (procedure : ℕ)
   budget-after None = (refl, refl, refl)
   budget-after (Some release) = (refl, refl, refl)
 
+  collecting-after : (release : Option Release) → any_collecting (with_release_on release old.activities) ≡ any_collecting old.activities
+  collecting-after None = refl
+  collecting-after (Some release) = refl
+
   pub leaves : (release : Option Release) → ((v : World) → gives_up_function locals.sort locals.func v ≡ with_release release v) → call_holds locals.sort locals.func ≡ released_by release
-      → new.activities ≡ with_release_on release old.activities → new.store ≡ old.store → new.budget ≡ old.budget → Turns script w new (turned.Line Leave)
-  leaves release is holds top same left = record {
+      → new.activities ≡ with_release_on release old.activities → new.store ≡ old.store → new.policy ≡ old.policy → new.budget ≡ old.budget → Turns script w new (turned.Line Leave)
+  leaves release is holds top same policy left = record {
     after = after release;
     goes = one_step script w (Leave ∷ []) (after release) stands.running (steps release is);
     moves = λ e. absurd (cc);
@@ -128,6 +134,7 @@ module _ (script : Script) (old new : State) (locals : Locals) (procedure : ℕ)
       shows = subst (λ l. ShowsAll script l (after release).stack) (sym top) (shows-after release);
       budget = (budget-after release).0 ∙ stands.budget ∙ sym left;
       running = (budget-after release).1 ∙ stands.running;
-      threshold = ap (λ n. n.zero_threshold) (budget-after release).2 ∙ stands.threshold;
+      numbers = ap (λ (p : Policy). p.numbers) policy ∙ stands.numbers ∙ sym (budget-after release).2;
+      collecting = ap (λ (p : Policy). p.running) policy ∙ stands.collecting ∙ sym (collecting-after release) ∙ ap any_collecting (sym top);
     };
   }

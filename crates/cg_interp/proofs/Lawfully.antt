@@ -19,7 +19,8 @@ use Rattle.cg_heap.proofs.CallerLemmas.{total-unheld_one}
 use Rattle.cg_machine.specs.World.{World, Activity, TopLevel, Framed, Releasing, Dying, Collecting, Death}
 use Rattle.cg_machine.specs.Holdings.{holds, is_death_of}
 use Rattle.cg_machine.specs.Laws.{AreDeathsOfOthers}
-use Rattle.cg_machine.specs.Lawful.{IsLawful, StaysLawful}
+use Rattle.cg_machine.specs.Lawful.{IsLawful}
+use Rattle.cg_laws.specs.Kept.{StaysKept}
 use Rattle.cg_machine.specs.Represents.{Represents}
 use Rattle.cg_machine.specs.Run.{last_world}
 use Rattle.cg_death.proofs.CallerLemmas.{lives_in_heap}
@@ -64,8 +65,8 @@ dying_once o (Dying d ∷ below) others = go (d.object == o) refl (dying_once o 
 pub dying_sound : (script : Script) (budget : ℕ) (w : World) → IsLawful script budget w → DyingIsSound w
 dying_sound script budget w lawful = record { unheld = lawful.unheld; once = λ o. dying_once o w.stack lawful.orderly.others }
 
-pub stays_sound : (script : Script) (budget : ℕ) (w : World) → StaysLawful script budget w → StaysSound script w
-stays_sound script budget w stays steps run = dying_sound script budget (last_world w steps) (stays steps run)
+pub stays_sound : (script : Script) (budget : ℕ) (w : World) → StaysKept script budget w → StaysSound script w
+stays_sound script budget w stays steps run = dying_sound script budget (last_world w steps) (stays steps run).lawful
 
 -- each activity stands for one of the machine at least
 pub at_least : (script : Script) (activities : List Own) (stack : List Activity) → ShowsAll script activities stack → length activities ≤ length stack

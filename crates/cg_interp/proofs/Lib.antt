@@ -17,3 +17,4 @@ mod Lawfully
 mod ReadyLemmas
 mod ArmLemmas
 mod SpelledLemmas
+mod Telling

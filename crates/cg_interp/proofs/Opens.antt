@@ -1,5 +1,5 @@
 -- The engine of a run that opens stands for the world in which runs begin.
-use Rattle.std.proofs.Common.{◌≡◌, refl, sym, ◌∙◌, ap, subst, ℕ, ◌+◌, ◌≤◌, inl, inr, List, [], ◌∷◌, length, map, None, Some, arith}
+use Rattle.std.proofs.Common.{◌≡◌, false, refl, sym, ◌∙◌, ap, subst, ℕ, ◌+◌, ◌≤◌, inl, inr, List, [], ◌∷◌, length, map, None, Some, arith}
 use Rattle.std.proofs.lemmas.Bool.{cases_eq}
 use Rattle.std.proofs.lemmas.List.{length-replicate}
 use Rattle.std.specs.Ordering.{nat_cmp}
@@ -11,10 +11,11 @@ use Rattle.cg_graph.specs.Changes.{opening_store, garbage_node}
 use Rattle.cg_graph.proofs.Maps.{get-insert_same, get-insert_other}
 use Rattle.cg_graph.proofs.Members.{either}
 use Rattle.cg_machine.specs.Program.{commands_of}
-use Rattle.cg_machine.specs.World.{opening, garbage_list, TopLevel}
+use Rattle.cg_machine.specs.World.{opening, garbage_list, first_numbers, TopLevel}
 use Rattle.cg_machine.specs.Represents.{Represents}
 use Rattle.cg_interp.specs.declared.activity.Activity.TheVariants as activity
-use Rattle.cg_interp.specs.Engines.{State, StandsFor, ShowsAll}
+use Rattle.cg_policy.specs.Policy.{Policy}
+use Rattle.cg_interp.specs.Engines.{State, StandsFor, ShowsAll, any_collecting}
 use Rattle.cg_interp.specs.Turns.{IsFit}
 
 -- the first heap has the garbage list alone
@@ -49,14 +50,15 @@ opening_represents script budget = record {
 }
 
 module _ (script : Script) (e : State) (store : e.store ≡ opening_store (length script.names)) (activities : e.activities ≡ activity.Script (Some 0) ∷ []) where
-  pub opening_stands : StandsFor script e (opening script e.budget)
-  opening_stands = record {
+  pub opening_stands : e.policy ≡ record { numbers = first_numbers; running = false } → StandsFor script e (opening script e.budget)
+  opening_stands policy = record {
     represents = subst (λ s. Represents s (opening script e.budget)) (sym store) (opening_represents script e.budget);
     shows = subst (λ l. ShowsAll script l (opening script e.budget).stack) (sym activities)
         (record { tops = TopLevel (commands_of script.items) ∷ []; below = []; shows = refl; some = λ n. absurd (cc); over = refl; is = refl });
     budget = refl;
     running = refl;
-    threshold = refl;
+    numbers = ap (λ (p : Policy). p.numbers) policy;
+    collecting = ap (λ (p : Policy). p.running) policy ∙ ap any_collecting (sym activities);
   }
 
   pub opening_fit : e.frames ≤ 100000 → e.frames + 9 ≤ e.room → IsFit script e

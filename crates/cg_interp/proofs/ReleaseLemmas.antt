@@ -10,7 +10,7 @@ use Rattle.cg_graph.specs.Changes.{unheld, less}
 use Rattle.cg_graph.specs.Store.{Store, Node, IsLive, count_of}
 use Rattle.cg_graph.proofs.Maps.{get-mapped}
 use Rattle.cg_heap.proofs.HoldLemmas.{outside_live}
-use Rattle.cg_machine.specs.World.{World, Activity, Releasing, Numbers}
+use Rattle.cg_machine.specs.World.{World, Activity, Releasing}
 use Rattle.cg_machine.specs.Frame.{begin_death}
 use Rattle.cg_machine.specs.Run.{StepTaken, last_world}
 use Rattle.cg_death.specs.declared.release.Release.{Release}
@@ -19,7 +19,8 @@ use Rattle.cg_death.specs.declared.answer.DeathStep.TheVariants as answer_of
 use Rattle.cg_death.specs.Activities.{references_left, HasHolds, IsUnheld}
 use Rattle.cg_death.specs.Answers.{ReleaseSteps, ReleaseAnswer, release_answer, once_released, WentOn, GaveDeath}
 use Rattle.cg_interp.specs.declared.activity.Activity.TheVariants as activity
-use Rattle.cg_interp.specs.Engines.{State, StandsFor, ShowsAll, under}
+use Rattle.cg_policy.specs.Policy.{Policy}
+use Rattle.cg_interp.specs.Engines.{State, StandsFor, ShowsAll, under, any_collecting}
 use Rattle.cg_interp.specs.Turns.{GoesTo, GivesDeath, DyingIsSound, StaysSound}
 
 -- a run to a world with another stack has a step
@@ -51,7 +52,7 @@ unheld_then (q ∷ left) old new o holds now is = go (count_of new q == 0) refl 
     go false e is = absurd (let clash : answer_of.Died o ≡ answer_of.Continue = is in cc)
 
 module _ (script : Script) (old new : State) (release after_release : Release) (answer : DeathStep) (w : World)
-    (stands : StandsFor script (under (activity.Releasing release) old) w) (sound : DyingIsSound w) (steps : ReleaseSteps old.store (references_left release) new.store (references_left after_release) answer) (budget : new.budget ≡ old.budget) where
+    (stands : StandsFor script (under (activity.Releasing release) old) w) (sound : DyingIsSound w) (steps : ReleaseSteps old.store (references_left release) new.store (references_left after_release) answer) (policy : new.policy ≡ old.policy) (budget : new.budget ≡ old.budget) where
   below : List Activity
   below = stands.shows.below
 
@@ -70,8 +71,8 @@ module _ (script : Script) (old new : State) (release after_release : Release) (
   with_rest : (stack : List Activity) → stack ≡ Releasing (references_left after_release) ∷ below → ShowsAll script (activity.Releasing after_release ∷ old.activities) stack
   with_rest stack is = record { tops = Releasing (references_left after_release) ∷ []; below = below; shows = refl; some = λ e. absurd (cc); over = over; is = is }
 
-  went_on : (stack : List Activity) → WentOn script w [] w.numbers new.store stack → (w.stack ≡ stack → ⊥) → ShowsAll script new.activities stack → GoesTo script w [] new
-  went_on stack went other shows = record {
+  went_on : (stack : List Activity) → WentOn script w [] w.numbers new.store stack → (w.stack ≡ stack → ⊥) → ShowsAll script new.activities stack → any_collecting new.activities ≡ any_collecting old.activities → GoesTo script w [] new
+  went_on stack went other shows under_way = record {
     after = went.goes.after;
     goes = went.goes.goes;
     moves = stack_moves w went.goes.after went.goes.goes.steps went.goes.goes.ends (λ e. other (e ∙ went.goes.top));
@@ -80,7 +81,8 @@ module _ (script : Script) (old new : State) (release after_release : Release) (
       shows = subst (ShowsAll script new.activities) (sym went.goes.top) shows;
       budget = went.keeps.budget ∙ stands.budget ∙ sym budget;
       running = went.keeps.outcome ∙ stands.running;
-      threshold = ap (λ (n : Numbers). n.zero_threshold) went.keeps.numbers ∙ stands.threshold;
+      numbers = ap (λ (p : Policy). p.numbers) policy ∙ stands.numbers ∙ sym went.keeps.numbers;
+      collecting = ap (λ (p : Policy). p.running) policy ∙ stands.collecting ∙ sym under_way;
     };
   }
 
@@ -88,6 +90,7 @@ module _ (script : Script) (old new : State) (release after_release : Release) (
   continues is fewer top =
       went_on (Releasing (references_left after_release) ∷ below) (subst (ReleaseAnswer script w below new.store (references_left after_release)) is says) (λ e. other (sym at ∙ e))
       (subst (λ l. ShowsAll script l (Releasing (references_left after_release) ∷ below)) (sym top) (with_rest _ refl))
+      (ap any_collecting top)
     where
       other : Releasing (references_left release) ∷ below ≡ Releasing (references_left after_release) ∷ below → ⊥
       other e = let same : references_left release ≡ references_left after_release = cc in absurd (omega (arith, fewer, ap length same))
@@ -96,6 +99,7 @@ module _ (script : Script) (old new : State) (release after_release : Release) (
   ends is top =
       went_on below (subst (ReleaseAnswer script w below new.store (references_left after_release)) is says) (λ e. let longer : length (Releasing (references_left release) ∷ below) ≡ length below = ap length (sym at ∙ e) in omega arith)
       (subst (λ l. ShowsAll script l below) (sym top) over)
+      (ap any_collecting top)
 
   pub gives_death : (o : ℕ) → answer ≡ answer_of.Died o → new.activities ≡ activity.Releasing after_release ∷ old.activities → GivesDeath script w o new
   gives_death o is top = given (subst (ReleaseAnswer script w below new.store (references_left after_release)) is says)
@@ -110,7 +114,8 @@ module _ (script : Script) (old new : State) (release after_release : Release) (
           shows = subst (λ l. ShowsAll script l gave.hands.before.stack) (sym top) (with_rest _ gave.hands.top);
           budget = gave.keeps.budget ∙ stands.budget ∙ sym budget;
           running = gave.keeps.outcome ∙ stands.running;
-          threshold = ap (λ (n : Numbers). n.zero_threshold) gave.keeps.numbers ∙ stands.threshold;
+          numbers = ap (λ (p : Policy). p.numbers) policy ∙ stands.numbers ∙ sym gave.keeps.numbers;
+          collecting = ap (λ (p : Policy). p.running) policy ∙ stands.collecting ∙ ap any_collecting (sym top);
         };
       }
 

@@ -8,7 +8,7 @@ use Rattle.cg_script.specs.declared.Command.{Command}
 use Rattle.cg_script.specs.declared.item.Item.{Item}
 use Rattle.cg_script.specs.declared.item.Item.TheVariants.{Budget, Class, Def, Run}
 use Rattle.cg_script.specs.declared.item.Proc.{Proc}
-use Rattle.cg_script.specs.Spelled.{IsSpelled, IsSpelledItem, IsSpelledCommand, IsForObjects}
+use Rattle.cg_script.specs.Spelled.{IsSpelled, IsSpelledItem, IsSpelledCommand}
 use Rattle.cg_graph.specs.Member.{Includes}
 use Rattle.cg_graph.specs.Object.{Object, serials}
 use Rattle.cg_graph.specs.Store.{Store, IsLive}
@@ -60,7 +60,7 @@ few_commands (Run c ∷ items) = omega (arith, few_commands items)
 module _ (script : Script) (spelled : IsSpelled script) where
   -- the commands outside procedures can be done
   pub script_doable : (names : ℕ) → names ≡ length script.names → AreDoable names (commands_of script.items)
-  script_doable names same c m = subst (λ n. IsSpelledCommand n c × IsForObjects c) (sym same) (of_all (IsSpelledItem (length script.names)) script.items (Run c) spelled.lines (command_line script.items c m))
+  script_doable names same c m = subst (λ n. IsSpelledCommand n c) (sym same) (of_all (IsSpelledItem (length script.names)) script.items (Run c) spelled.lines (command_line script.items c m))
 
   -- what holds of an empty body and of each procedure's holds of the body of a number
   of_body : (P : List Command → Type 0) (number : ℕ) → P [] → ((p : Proc) → Includes (procedures script.items) p → P p.body) → P (body_of script number)
@@ -73,8 +73,8 @@ module _ (script : Script) (spelled : IsSpelled script) where
   -- so can those of a procedure
   pub body_doable : (names number : ℕ) → names ≡ length script.names → AreDoable names (body_of script number)
   body_doable names number same = of_body (AreDoable names) number (λ c m. absurd m) (λ p i c m.
-      subst (λ n. IsSpelledCommand n c × IsForObjects c) (sym same)
-      (of_all (λ d. IsSpelledCommand (length script.names) d × IsForObjects d) p.body c (of_all (IsSpelledItem (length script.names)) script.items (Def p) spelled.lines (procedure_line script.items p i)).1 m))
+      subst (λ n. IsSpelledCommand n c) (sym same)
+      (of_all (IsSpelledCommand (length script.names)) p.body c (of_all (IsSpelledItem (length script.names)) script.items (Def p) spelled.lines (procedure_line script.items p i)).1 m))
 
   short_bodies : (number : ℕ) → length (body_of script number) ≤ 400000
   short_bodies number = of_body (λ body. length body ≤ 400000) number (omega arith) (λ p i. (of_all (IsSpelledItem (length script.names)) script.items (Def p) spelled.lines (procedure_line script.items p i)).0)
