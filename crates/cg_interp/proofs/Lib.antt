@@ -1,6 +1,8 @@
 mod Positions
 mod Opens
 mod Counting
+mod Sizes
+mod Falling
 mod RunLemmas
 mod Standing
 mod Fitting
