@@ -30,7 +30,7 @@ use Rattle.cg_interp.proofs.Standing.{IsPlain, plain_frame, plain_script, replac
 -- Another activity with the same holds comes in the place of the one on top.
 module _ (script : Script) (old new : State) (top top_after : Own) (a b : Activity) (f : List Activity → List Activity) (w : World)
     (plain_a : IsPlain a) (plain_b : IsPlain b) (same : holds b ≡ holds a) (turns : (below : List Activity) → f (a ∷ below) ≡ b ∷ below)
-    (shown : (tops : List Activity) → Shows script top tops → tops ≡ a ∷ []) (shows : Shows script top_after (b ∷ [])) (none : is_collecting top_after ≡ is_collecting top) where
+    (shown : (tops : List Activity) → Shows script top tops → tops ≡ a ∷ []) (shows : Shows script top_after (b ∷ [])) (alike : is_collecting top_after ≡ is_collecting top) where
   pub retopped : StandsFor script (under top old) w → new.store ≡ old.store → new.policy ≡ old.policy → new.activities ≡ top_after ∷ old.activities → new.budget ≡ old.budget → StandsFor script new (with_stack (f w.stack) w)
   retopped stands store policy top_is budget =
       record {
@@ -46,7 +46,7 @@ module _ (script : Script) (old new : State) (top top_after : Own) (a b : Activi
         running = stands.running;
         numbers = ap (λ (p : Policy). p.numbers) policy ∙ stands.numbers;
         collecting =
-            ap (λ (p : Policy). p.running) policy ∙ stands.collecting ∙ ap (λ b. b || any_collecting old.activities) (sym none) ∙ ap any_collecting (sym top_is);
+            ap (λ (p : Policy). p.running) policy ∙ stands.collecting ∙ ap (λ b. b || any_collecting old.activities) (sym alike) ∙ ap any_collecting (sym top_is);
       }
     where
       below : List Activity

@@ -19,4 +19,10 @@ mod Lawfully
 mod ReadyLemmas
 mod ArmLemmas
 mod SpelledLemmas
+mod SmallNumbers
+mod CollectReady
+mod CollectHolds
+mod CollectTurns
 mod Telling
+mod UnderWay
+mod ControlLemmas

@@ -50,7 +50,7 @@ procedure_line (Def q ∷ items) p (inl same) = inl (ap Def same)
 procedure_line (Def q ∷ items) p (inr m) = inr (procedure_line items p m)
 
 -- no more commands than lines
-few_commands : (items : List Item) → length (commands_of items) ≤ length items
+pub few_commands : (items : List Item) → length (commands_of items) ≤ length items
 few_commands [] = omega arith
 few_commands (Budget n ∷ items) = omega (arith, few_commands items)
 few_commands (Class d ∷ items) = omega (arith, few_commands items)
@@ -76,7 +76,7 @@ module _ (script : Script) (spelled : IsSpelled script) where
       subst (λ n. IsSpelledCommand n c) (sym same)
       (of_all (IsSpelledCommand (length script.names)) p.body c (of_all (IsSpelledItem (length script.names)) script.items (Def p) spelled.lines (procedure_line script.items p i)).1 m))
 
-  short_bodies : (number : ℕ) → length (body_of script number) ≤ 400000
+  pub short_bodies : (number : ℕ) → length (body_of script number) ≤ 400000
   short_bodies number = of_body (λ body. length body ≤ 400000) number (omega arith) (λ p i. (of_all (IsSpelledItem (length script.names)) script.items (Def p) spelled.lines (procedure_line script.items p i)).0)
 
   -- A serial is far below 2^63.

@@ -1,39 +1,54 @@
--- A step of the script or of a frame that goes on to its next command.
-use Rattle.std.proofs.Common.{◌≡◌, refl, sym, ◌∙◌, ap, subst, ℕ, Bool, true, false, not, ◌&&◌, List, [], ◌∷◌, ◌++◌, Option, None, Some, inl, take, drop}
-use Rattle.std.specs.Prelude.{◌==◌, nat_lt, if◌then◌else◌}
+-- A step of the script or of a frame: the next command, or a collection that is due before it.
+use Rattle.std.proofs.Common.{◌≡◌, refl, sym, ◌∙◌, ap, subst, ℕ, ◌≤◌, Bool, true, false, not, ◌&&◌, List, [], ◌∷◌, ◌++◌, Option, None, Some, inl, inr, take, drop, arith}
+use Rattle.std.specs.Prelude.{if◌then◌else◌}
 use Rattle.std.proofs.lemmas.List.{take-append-drop}
 use Rattle.cg_script.specs.declared.Script.{Script}
 use Rattle.cg_script.specs.declared.Command.{Command}
 use Rattle.cg_graph.specs.Member.{Includes}
-use Rattle.cg_graph.proofs.Members.{Includes-append_right}
+use Rattle.cg_graph.proofs.Members.{Includes-append_right, either}
+use Rattle.cg_machine.specs.declared.event.Event.{Event}
 use Rattle.cg_machine.specs.declared.event.Event.TheVariants.{End, BudgetSpent}
 use Rattle.cg_machine.specs.Program.{commands_of, body_of}
-use Rattle.cg_machine.specs.World.{World, Activity, TopLevel, Framed, Frame, Running, Ended, with_stack}
-use Rattle.cg_machine.specs.Holdings.{is_collecting}
+use Rattle.cg_machine.specs.World.{World, Activity, TopLevel, Framed, Frame, Numbers, Running, Ended, push, with_stack}
 use Rattle.cg_machine.specs.Frame.{Transition}
+use Rattle.cg_machine.specs.Commands.{CommandStep, new_collection}
 use Rattle.cg_machine.specs.Due.{due, is_due, due_generation}
 use Rattle.cg_machine.specs.Run.{StepOf, TopLevelStep, FrameStep, CommandInFrame}
-use Rattle.cg_machine.specs.Represents.{Represents}
+use Rattle.cg_machine.specs.Represents.{Represents, Goes}
+use Rattle.cg_policy.specs.Policy.{Policy, due_of}
+use Rattle.cg_policy.specs.Laws.{policy_of}
+use Rattle.cg_laws.specs.Kept.{StaysKept}
 use Rattle.cg_commands.specs.declared.locals.Locals.{Locals}
 use Rattle.cg_commands.specs.Stands.{HasLocals}
 use Rattle.cg_interp.specs.declared.activity.Activity.TheVariants as activity
 use Rattle.cg_interp.specs.declared.turned.Turned.{Turned}
 use Rattle.cg_interp.specs.declared.turned.Turned.TheVariants as turned
 use Rattle.cg_interp.specs.Engines.{State, StandsFor, commands_from, frame_of, under}
-use Rattle.cg_interp.specs.Callers.{Does, AreDoable}
+use Rattle.cg_interp.specs.Callers.{Does, StartsCollection, DoesAny, StaysKeptAfter, AreDoable}
+use Rattle.cg_interp.specs.Telling.{GoesOnTo, TurnsWith}
 use Rattle.cg_interp.specs.Turns.{Makes, Turns}
 use Rattle.cg_interp.proofs.Standing.{plain_frame, plain_script, replaced, spelled, one_step}
+use Rattle.cg_interp.proofs.Telling.{turns_plainly}
+use Rattle.cg_interp.proofs.UnderWay.{policy_is}
 
--- with threshold 0 at 0 no collection is due
-pub never_due : (w : World) → w.numbers.zero_threshold ≡ 0 → is_due w.numbers ≡ false
-never_due w none = ap (λ k. w.numbers.enabled && not (k == 0) && nat_lt w.numbers.zero_threshold w.numbers.zero_count) none ∙ by w.numbers.enabled
-  where
-    by : (b : Bool) → (b && not (0 == 0) && nat_lt w.numbers.zero_threshold w.numbers.zero_count) ≡ false
-    by true = refl
-    by false = refl
+-- What the policy finds due is what the machine finds due.
+pub due_in : (script : Script) (e : State) (w : World) (answer : Option ℕ) → StandsFor script e w → answer ≡ due_of e.policy → due w ≡ answer
+due_in script e w answer stands is = ap due_of (sym (policy_is script e w stands)) ∙ sym is
 
-not_due : (w : World) → w.numbers.zero_threshold ≡ 0 → due w ≡ None
-not_due w none = ap (λ b. if b && not (is_collecting w) then Some (due_generation w.numbers) else None) (never_due w none)
+-- It is of generation 0, 1 or 2, and none is running.
+low_generation : (two one : Bool) → (if two then 2 else if one then 1 else 0) ≤ 2
+low_generation true one = omega arith
+low_generation false true = omega arith
+low_generation false false = omega arith
+
+due_low : (n : Numbers) (yes running : Bool) (g : ℕ) → (if yes && not running then Some (due_generation n) else None) ≡ Some g → (due_generation n ≤ 2) → (g ≤ 2) × (running ≡ false)
+due_low n true false g is low = (let same : due_generation n ≡ g = cc in subst (λ k. k ≤ 2) same low, refl)
+due_low n true true g is low = absurd (cc)
+due_low n false true g is low = absurd (cc)
+due_low n false false g is low = absurd (cc)
+
+pub due_is_low : (p : Policy) (g : ℕ) → Some g ≡ due_of p → (g ≤ 2) × (p.running ≡ false)
+due_is_low p g is = due_low p.numbers (is_due p.numbers) p.running g (sym is) (low_generation _ _)
 
 -- a transition that the machine may make is what a turn answers
 pub turns : (script : Script) (w : World) (e : State) (t : Transition) (answer : Turned) → w.outcome ≡ Running → StepOf script w w.stack t.0 t.1 → Makes script t e answer → Turns script w e answer
@@ -41,6 +56,51 @@ turns script w e t turned.Quiet running step makes = record { after = t.1; goes 
 turns script w e t (turned.Line event) running step makes = record { after = t.1; goes = one_step script w (event ∷ []) t.1 running (subst (λ es. StepOf script w w.stack es t.1) makes.0 step); moves = λ n. absurd (cc); stands = makes.1 }
 turns script w e t turned.Ended running step makes = record { after = t.1; goes = one_step script w (End ∷ []) t.1 running (subst (λ es. StepOf script w w.stack es t.1) makes.0 step); ended = makes.1 }
 turns script w e t turned.Spent running step makes = record { after = t.1; goes = one_step script w (BudgetSpent ∷ []) t.1 running (subst (λ es. StepOf script w w.stack es t.1) makes.0 step); ended = makes.1 }
+
+-- A step of the machine comes first.
+module _ (script : Script) (w mid : World) (running : w.outcome ≡ Running) where
+  -- what stays kept stays so after it
+  pub kept_after : (budget : ℕ) (events : List Event) → StepOf script w w.stack events mid → StaysKept script budget w → StaysKept script budget mid
+  kept_after budget events step kept steps run = kept (record { events = events; world = mid } ∷ steps) (record { running = running; step = step }, run)
+
+  module _ (step : StepOf script w w.stack [] mid) where
+    goes_after : (events : List Event) (after : World) → Goes script mid events after → Goes script w events after
+    goes_after events after goes = record {
+      steps = record { events = []; world = mid } ∷ goes.steps;
+      run = (record { running = running; step = step }, goes.run);
+      prints = goes.prints;
+      ends = goes.ends;
+    }
+
+    goes_on_after : (may_rest : List Event → Type 0) (told : List Event) (e : State) → GoesOnTo script may_rest mid [] told e → GoesOnTo script (λ still. ⊥) w [] told e
+    unfolding goes_after
+    goes_on_after may_rest told e goes = record {
+      events = goes.events;
+      after = goes.after;
+      still = goes.still;
+      goes = goes_after goes.events goes.after goes.goes;
+      lines = goes.lines;
+      moves = inl (λ none. absurd (cc));
+      stands = goes.stands;
+    }
+
+    -- where it prints nothing, what is answered from the world that it leaves is answered from the one before
+    pub turns_after : (may_rest : List Event → Type 0) (e : State) (answer : Turned) → TurnsWith script may_rest mid [] e answer → TurnsWith script (λ still. ⊥) w [] e answer
+    turns_after may_rest e turned.Quiet goes = goes_on_after may_rest [] e goes
+    turns_after may_rest e (turned.Line event) goes = goes_on_after may_rest (event ∷ []) e goes
+    turns_after may_rest e turned.Ended ends = (refl, record { after = ends.1.after; goes = goes_after (End ∷ []) ends.1.after ends.1.goes; ended = ends.1.ended })
+    turns_after may_rest e turned.Spent ends = (refl, record { after = ends.1.after; goes = goes_after (BudgetSpent ∷ []) ends.1.after ends.1.goes; ended = ends.1.ended })
+
+-- A command is done from the world without it: what the machine may do for the command is its step.
+module _ (script : Script) (w without : World) (c : Command) (running : w.outcome ≡ Running) (step : (events : List Event) (after : World) → CommandStep script without c events after → StepOf script w w.stack events after) where
+  pub command_turns : (e : State) (answer : Turned) → DoesAny script without c e answer → TurnsWith script (λ still. ⊥) w [] e answer
+  command_turns e answer does = either does
+      (λ (done : Does script without c e answer). turns_plainly script w e answer (turns script w e done.transition answer running (step done.transition.0 done.transition.1 done.may) done.makes))
+      (λ (starts : StartsCollection script without c e answer).
+      turns_after script w (push (new_collection starts.generation true without) without) running (step [] (push (new_collection starts.generation true without) without) starts.may) (λ still. Unit {0}) e answer starts.turns)
+
+  pub command_keeps : (budget : ℕ) → StaysKept script budget w → StaysKeptAfter script budget without c
+  command_keeps budget kept events after may = kept_after script w after running budget events (step events after may) kept
 
 -- what is left was there before
 pub still_there : {X : Type 0} (n : ℕ) (xs : List X) (x : X) → Includes (drop n xs) x → Includes xs x
@@ -50,92 +110,96 @@ pub is_doable : (names : ℕ) (commands rest : List Command) (next : Option ℕ)
 is_doable names commands rest None c all is = absurd (cc)
 is_doable names commands rest (Some n) c all is = still_there n commands c (subst (λ l. Includes l c) (sym is) (inl refl))
 
--- The script is on top, and its next command is known.
-module _ (script : Script) (e : State) (next after : Option ℕ) (c : Command) (w : World) (stands : StandsFor script (under (activity.Script next) e) w) (is : commands_from next (commands_of script.items) ≡ c ∷ commands_from after (commands_of script.items)) where
-  below : List Activity
-  below = stands.shows.below
+-- The script is on top.
+module _ (script : Script) (e : State) (next : Option ℕ) (w : World) (stands : StandsFor script (under (activity.Script next) e) w) where
+  script_at : (commands : List Command) → commands_from next (commands_of script.items) ≡ commands → w.stack ≡ TopLevel commands ∷ stands.shows.below
+  script_at commands is = stands.shows.is ∙ ap (λ l. l ++ stands.shows.below) stands.shows.shows ∙ ap (λ cs. TopLevel cs ∷ stands.shows.below) is
 
-  abbrev rest : List Command
-  rest = commands_from after (commands_of script.items)
+  -- a collection is due
+  pub script_collects : (g : ℕ) → due w ≡ Some g → StepOf script w w.stack [] (push (new_collection g false w) w)
+  script_collects g is =
+      subst (λ st. StepOf script w st [] (push (new_collection g false w) w)) (sym (script_at _ refl))
+      (subst (λ d. TopLevelStep script w d (commands_from next (commands_of script.items)) stands.shows.below [] (push (new_collection g false w) w)) (sym is) (refl, refl))
 
-  at : w.stack ≡ TopLevel (c ∷ rest) ∷ below
-  unfolding below
-  at = stands.shows.is ∙ ap (λ l. l ++ stands.shows.below) stands.shows.shows ∙ ap (λ cs. TopLevel cs ∷ stands.shows.below) is
+  -- no command is left
+  pub script_ends : (new : State) → due w ≡ None → commands_from next (commands_of script.items) ≡ [] → Turns script w new turned.Ended
+  script_ends new none is =
+      turns script w new (End ∷ [], record w { outcome = Ended }) turned.Ended stands.running
+      (subst (λ st. StepOf script w st (End ∷ []) (record w { outcome = Ended })) (sym (script_at [] is))
+      (subst (λ d. TopLevelStep script w d [] stands.shows.below (End ∷ []) (record w { outcome = Ended })) (sym none) (refl, refl))) (refl, refl)
 
-  -- the world without that command
-  pub script_goes_on : World
-  script_goes_on = with_stack (TopLevel rest ∷ below) w
+  -- the next command is known
+  module _ (after : Option ℕ) (c : Command) (is : commands_from next (commands_of script.items) ≡ c ∷ commands_from after (commands_of script.items)) where
+    abbrev rest : List Command
+    rest = commands_from after (commands_of script.items)
 
-  pub script_stands : StandsFor script (under (activity.Script after) e) script_goes_on
-  unfolding below script_goes_on
-  script_stands = record {
-    represents = replaced e.store w (TopLevel (c ∷ rest)) (TopLevel rest) below (plain_script _) (plain_script _) refl (spelled (Represents e.store) w (TopLevel (c ∷ rest) ∷ below) at stands.represents);
-    shows = record { tops = TopLevel rest ∷ []; below = below; shows = refl; some = λ e. absurd (cc); over = stands.shows.over; is = refl };
-    budget = stands.budget;
-    running = stands.running;
-    threshold = stands.threshold;
-  }
+    -- the world without that command
+    pub script_goes_on : World
+    script_goes_on = with_stack (TopLevel rest ∷ stands.shows.below) w
 
-  pub script_locals : HasLocals None script_goes_on
-  unfolding script_goes_on
-  script_locals = refl
+    pub script_stands : StandsFor script (under (activity.Script after) e) script_goes_on
+    unfolding script_goes_on
+    script_stands = record {
+      represents = replaced e.store w (TopLevel (c ∷ rest)) (TopLevel rest) stands.shows.below (plain_script _) (plain_script _) refl (spelled (Represents e.store) w (TopLevel (c ∷ rest) ∷ stands.shows.below) (script_at (c ∷ rest) is) stands.represents);
+      shows = record { tops = TopLevel rest ∷ []; below = stands.shows.below; shows = refl; some = λ e. absurd (cc); over = stands.shows.over; is = refl };
+      budget = stands.budget;
+      running = stands.running;
+      numbers = stands.numbers;
+      collecting = stands.collecting;
+    }
 
-  pub script_turns : (new : State) (answer : Turned) → Does script script_goes_on c new answer → Turns script w new answer
-  unfolding script_goes_on
-  script_turns new answer does =
-      turns script w new does.transition answer stands.running
-      (subst (λ st. StepOf script w st does.transition.0 does.transition.1) (sym at) (subst (λ d. TopLevelStep script w d (c ∷ rest) below does.transition.0 does.transition.1) (sym (not_due w stands.threshold)) does.may)) does.makes
+    pub script_locals : HasLocals None script_goes_on
+    unfolding script_goes_on
+    script_locals = refl
 
--- The script is on top, and has no command left.
-pub script_ends : (script : Script) (e new : State) (next : Option ℕ) (w : World) → StandsFor script (under (activity.Script next) e) w → commands_from next (commands_of script.items) ≡ [] → Turns script w new turned.Ended
-script_ends script e new next w stands is =
-    turns script w new (End ∷ [], record w { outcome = Ended }) turned.Ended stands.running
-    (subst (λ st. StepOf script w st (End ∷ []) (record w { outcome = Ended })) (sym at) (subst (λ d. TopLevelStep script w d [] stands.shows.below (End ∷ []) (record w { outcome = Ended })) (sym (not_due w stands.threshold)) (refl, refl))) (refl, refl)
-  where
-    at : w.stack ≡ TopLevel [] ∷ stands.shows.below
-    at = stands.shows.is ∙ ap (λ l. l ++ stands.shows.below) stands.shows.shows ∙ ap (λ cs. TopLevel cs ∷ stands.shows.below) is
+    -- where no collection is due, it is done
+    pub script_does : due w ≡ None → (events : List Event) (done : World) → CommandStep script script_goes_on c events done → StepOf script w w.stack events done
+    unfolding script_goes_on
+    script_does none events done may =
+        subst (λ st. StepOf script w st events done) (sym (script_at (c ∷ rest) is)) (subst (λ d. TopLevelStep script w d (c ∷ rest) stands.shows.below events done) (sym none) may)
 
 -- A frame is on top, and its next command is known.
-module _ (script : Script) (e : State) (locals : Locals) (procedure : ℕ) (next after : Option ℕ) (body : List Command) (c : Command) (w : World) (body_is : body ≡ body_of script procedure)
-    (stands : StandsFor script (under (activity.Frame locals procedure next) e) w) (is : commands_from next body ≡ c ∷ commands_from after body) where
-  frame_below : List Activity
-  frame_below = stands.shows.below
-
+module _ (script : Script) (e : State) (locals : Locals) (procedure : ℕ) (next after : Option ℕ) (c : Command) (w : World)
+    (stands : StandsFor script (under (activity.Frame locals procedure next) e) w) (is : commands_from next (body_of script procedure) ≡ c ∷ commands_from after (body_of script procedure)) where
   abbrev running_frame : Frame
   running_frame = frame_of script locals procedure next
 
   abbrev frame_after : Frame
   frame_after = frame_of script locals procedure after
 
-  frame_at : w.stack ≡ Framed running_frame ∷ frame_below
-  unfolding frame_below
+  frame_at : w.stack ≡ Framed running_frame ∷ stands.shows.below
   frame_at = stands.shows.is ∙ ap (λ l. l ++ stands.shows.below) stands.shows.shows
 
-  has_next : running_frame.commands ≡ c ∷ frame_after.commands
-  has_next = ap (commands_from next) (sym body_is) ∙ is ∙ ap (λ b. c ∷ commands_from after b) body_is
+  frame_steps : (found : Option ℕ) (events : List Event) (done : World) → due w ≡ found → CommandInFrame script w found running_frame c frame_after.commands stands.shows.below events done → StepOf script w w.stack events done
+  frame_steps found events done same step =
+      subst (λ st. StepOf script w st events done) (sym frame_at)
+      (subst (λ cs. FrameStep script w running_frame cs stands.shows.below events done) (sym is)
+      (subst (λ d. CommandInFrame script w d running_frame c frame_after.commands stands.shows.below events done) (sym same) step))
+
+  -- a collection is due
+  pub frame_collects : (g : ℕ) → due w ≡ Some g → StepOf script w w.stack [] (push (new_collection g false w) w)
+  frame_collects g same = frame_steps (Some g) [] (push (new_collection g false w) w) same (refl, refl)
 
   -- the world without that command
   pub frame_goes_on : World
-  frame_goes_on = with_stack (Framed frame_after ∷ frame_below) w
+  frame_goes_on = with_stack (Framed frame_after ∷ stands.shows.below) w
 
   pub frame_stands : StandsFor script (under (activity.Frame locals procedure after) e) frame_goes_on
-  unfolding frame_below frame_goes_on
+  unfolding frame_goes_on
   frame_stands = record {
-    represents = replaced e.store w (Framed running_frame) (Framed frame_after) frame_below (plain_frame _) (plain_frame _) refl (spelled (Represents e.store) w (Framed running_frame ∷ frame_below) frame_at stands.represents);
-    shows = record { tops = Framed frame_after ∷ []; below = frame_below; shows = refl; some = λ e. absurd (cc); over = stands.shows.over; is = refl };
+    represents = replaced e.store w (Framed running_frame) (Framed frame_after) stands.shows.below (plain_frame _) (plain_frame _) refl (spelled (Represents e.store) w (Framed running_frame ∷ stands.shows.below) frame_at stands.represents);
+    shows = record { tops = Framed frame_after ∷ []; below = stands.shows.below; shows = refl; some = λ e. absurd (cc); over = stands.shows.over; is = refl };
     budget = stands.budget;
     running = stands.running;
-    threshold = stands.threshold;
+    numbers = stands.numbers;
+    collecting = stands.collecting;
   }
 
   pub frame_locals : HasLocals (Some locals) frame_goes_on
   unfolding frame_goes_on
   frame_locals = refl
 
-  pub frame_turns : (new : State) (answer : Turned) → Does script frame_goes_on c new answer → Turns script w new answer
+  -- where no collection is due, it is done
+  pub frame_does : due w ≡ None → (events : List Event) (done : World) → CommandStep script frame_goes_on c events done → StepOf script w w.stack events done
   unfolding frame_goes_on
-  frame_turns new answer does =
-      turns script w new does.transition answer stands.running
-      (subst (λ st. StepOf script w st does.transition.0 does.transition.1) (sym frame_at)
-      (subst (λ cs. FrameStep script w running_frame cs frame_below does.transition.0 does.transition.1) (sym has_next)
-      (subst (λ d. CommandInFrame script w d running_frame c frame_after.commands frame_below does.transition.0 does.transition.1) (sym (not_due w stands.threshold)) does.may))) does.makes
+  frame_does none events done may = frame_steps None events done none may

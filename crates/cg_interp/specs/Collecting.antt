@@ -1,5 +1,5 @@
 -- A collection on top. (Ours.)
-use Rattle.std.specs.Prelude.{◌≡◌, ◌⊎◌, ℕ, Bool, List, [], ◌∷◌}
+use Rattle.std.specs.Prelude.{◌≡◌, ◌⊎◌, ℕ, Bool, false, List, [], ◌∷◌}
 use Rattle.cg_script.specs.declared.Script.{Script}
 use Rattle.cg_machine.specs.declared.event.Event.{Event}
 use Rattle.cg_machine.specs.World as machine
@@ -11,16 +11,17 @@ use Rattle.cg_collect.specs.Collections.{IsReady}
 use Rattle.cg_collect.specs.Ready.{IsBegun}
 use Rattle.cg_interp.specs.declared.activity.Activity.{Activity}
 use Rattle.cg_interp.specs.declared.activity.Activity.TheVariants as activity
-use Rattle.cg_interp.specs.Engines.{State, StandsFor, ShowsAll}
+use Rattle.cg_interp.specs.Engines.{State, StandsFor, ShowsAll, any_collecting}
 
--- An engine and a collection on top of its activities stand for a world, once these lines are told. The collection may take
--- its next step.
+-- An engine and a collection on top of its activities stand for a world, once these lines are told. No other collection is
+-- under way, and this one may take its next step.
 pub record Collects (script : Script) (asked : Bool) (c : Collection) (e : State) (left : List Event) (w : World) : Type 0 where
   pub below : List machine.Activity
   pub shows : CollectionShows asked c e.store e.policy w below
   pub over : ShowsAll script e.activities below
   pub budget : w.budget ≡ e.budget
   pub running : w.outcome ≡ Running
+  pub alone : any_collecting e.activities ≡ false
   pub ready : IsReady c e.store
   pub lines : left ≡ lines_left script asked c c.phase e.store
 

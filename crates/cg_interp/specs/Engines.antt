@@ -3,11 +3,12 @@ use Rattle.std.specs.Prelude.{◌≡◌, ◌≢◌, ℕ, ◌++◌, Bool, true, f
 use Rattle.std.specs.List.{list_any}
 use Rattle.cg_script.specs.declared.Script.{Script}
 use Rattle.cg_script.specs.declared.Command.{Command}
-use Rattle.cg_graph.specs.Store.{Store}
+use Rattle.cg_value.specs.declared.Place.TheVariants.{Pend}
+use Rattle.cg_graph.specs.Store.{Store, list_at}
 use Rattle.cg_machine.specs.Program.{commands_of, body_of}
 use Rattle.cg_machine.specs.World as machine
 use Rattle.cg_machine.specs.World.{World, TopLevel, Framed, Releasing, Running}
-use Rattle.cg_machine.specs.Represents.{Represents}
+use Rattle.cg_machine.specs.Represents.{Represents, CollectionWaits}
 use Rattle.cg_commands.specs.declared.locals.Locals.{Locals}
 use Rattle.cg_death.specs.Activities.{references_left, death_activities}
 use Rattle.cg_death.specs.declared.release.Release.{Release}
@@ -15,7 +16,7 @@ use Rattle.cg_death.specs.declared.death.Death.{Death}
 use Rattle.cg_death.specs.Deaths.{IsSettled}
 use Rattle.cg_policy.specs.Policy.{Policy}
 use Rattle.cg_collect.specs.declared.collection.Collection.{Collection}
-use Rattle.cg_collect.specs.Phases.{on_stack}
+use Rattle.cg_collect.specs.Phases.{on_stack, machine_phase}
 use Rattle.cg_collect.specs.Collections.{HandsOut}
 use Rattle.cg_interp.specs.declared.activity.Activity.{Activity}
 use Rattle.cg_interp.specs.declared.activity.Activity.TheVariants as activity
@@ -57,11 +58,12 @@ abbrev pub death_shown : Death → List ℕ → List machine.Activity
 death_shown death waiting = released_first death.release (death_activities death.object death.phase waiting)
 
 -- A collection that has handed out a frame or a death stands for this on the stack. What runs above it may change the heap,
--- and leaves that as it was.
+-- and leaves that as it was. What waited for its callback then is what the phase of the machine says.
 pub record HasHandedOut (asked : Bool) (c : Collection) (tops : List machine.Activity) : Type 0 where
   pub then : Store
   pub shown : tops ≡ on_stack asked c then
   pub handing : HandsOut c then
+  pub waited : (phase : machine.CollectPhase) → machine_phase c.phase (list_at then Pend) ≡ Some phase → CollectionWaits phase (list_at then Pend)
 
 -- What an activity stands for among those of the machine, the top first. Which weak references wait with a dying object
 -- the world tells. What a death gives up it gives up between callbacks, or while entries are taken out.

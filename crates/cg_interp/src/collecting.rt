@@ -51,6 +51,7 @@ impl<B: Kind> Engine<B> {
         ensures frames { self.new.frames ≡ self.old.frames }
     {
         self.stack.push(top);
+        self.heap.sound();
         let collection = Collection::begin(&mut self.heap, &mut self.policy, generation);
         self.go_on_collecting(asked, collection, script, steps)
     }

@@ -29,7 +29,8 @@ impl<B: Kind> Engine<B> {
     /// Starts a frame, which takes one from the budget. Where none is left, the run ends.
     pub fn start(&mut self, spec: FrameSpec) -> Turned
         requires few { spec.sort ≡ sort_of.Call → HasFewHolds self.old.store }
-        requires live { spec.sort ≡ sort_of.Call → IfSome spec.func (λ f. IsLive self.old.store f) }
+        requires live { 0 < self.old.budget → spec.sort ≡ sort_of.Call
+            → IfSome spec.func (λ f. IsLive self.old.store f) }
         requires room { 0 < self.old.room }
         ensures starts { (script : AnyScript) (w : World) → StandsFor script self.old w
             → Makes script (start_frame script spec w) self.new result }

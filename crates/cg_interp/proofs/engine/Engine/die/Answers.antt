@@ -12,7 +12,7 @@ begin-death-requires-clause-none_waits g c =
 pub returns-clause-begins : goal.returns-clause-begins
 returns-clause-begins g c = λ script w stands.
     let before = subst (λ e. StandsFor script e w) (sym c.self.view_is) stands in
-    dies script _ _ c.args.object c.begin-death.result w before (c.begin-death.ensures.begins w before.represents) c.begin-death.ensures.stack c.begin-death.ensures.settled c.push.ensures.top refl
+    dies script _ _ c.args.object c.begin-death.result w before (c.begin-death.ensures.begins w before.represents) c.begin-death.ensures.stack c.begin-death.ensures.settled refl c.push.ensures.top refl
 
 pub returns-clause-keeps : goal.returns-clause-keeps
 returns-clause-keeps g c = keeps_pushed _ _ _ _ c.self.view_is c.begin-death.ensures.objects c.push.ensures.top c.push.ensures.room refl

@@ -22,7 +22,7 @@ returns-clause-starts g c = λ script w stands.
     enters script _ _ c.args.spec w (subst (λ e. StandsFor script e w) (sym c.self.view_is) stands) c.called.result (omega (arith, c.requires.budget, ap (λ e. e.budget) c.self.view_is)) c.called.ensures.holds
     (still_live (λ f. IsLive c.self.inside.heap f) _ c.called.result c.args.spec.func c.called.ensures.only c.called.ensures.call
     (λ is. subst (λ e. IfSome c.args.spec.func (λ f. IsLive e.store f)) (sym c.self.view_is) (c.requires.live is)))
-    c.hold_if.ensures c.push.ensures.top refl
+    c.hold_if.ensures refl c.push.ensures.top refl
 
 pub returns-clause-keeps : goal.returns-clause-keeps
 returns-clause-keeps g c = keeps_pushed _ _ _ _ c.self.view_is (subst (MakesNone c.self.inside.heap) (sym c.hold_if.ensures) (none-held (option_to_list c.called.result) c.self.inside.heap)) c.push.ensures.top c.push.ensures.room refl

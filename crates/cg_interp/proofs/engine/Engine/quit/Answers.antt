@@ -5,4 +5,4 @@ use Rattle.cg_interp.proofs.engine.Engine.quit.Goals as goal
 
 pub returns-clause-quits : goal.returns-clause-quits
 returns-clause-quits g c =
-    λ script w stands. quits script _ _ w c.args.top c.requires.caller (subst (λ e. StandsFor script (under c.args.top e) w) (sym c.self.view_is) stands) refl (c.push.ensures.top ∙ ap (λ a. a ∷ c.self.inside.stack.activities) c.stopped.ensures) refl
+    λ script w stands. quits script _ _ w c.args.top c.requires.caller (subst (λ e. StandsFor script (under c.args.top e) w) (sym c.self.view_is) stands) refl refl (c.push.ensures.top ∙ ap (λ a. a ∷ c.self.inside.stack.activities) c.stopped.ensures) refl

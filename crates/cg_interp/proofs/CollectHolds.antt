@@ -1,0 +1,166 @@
+-- What a collection on top holds, how many collections are under way, and that there is room for a step.
+use Rattle.std.proofs.Common.{◌≡◌, ◌≢◌, refl, sym, ◌∙◌, ap, subst, ℕ, ◌+◌, ◌<◌, ◌≤◌, ◌⊎◌, Bool, true, false, cond, inl, inr, List, [], ◌∷◌, ◌++◌, length, length-append, Option, None, Some, IsSome, sum_by, arith}
+use Rattle.std.specs.Prelude.{◌-◌, flat_map, count_by, is_some, map, drop}
+use Rattle.std.specs.List.{list_any}
+use Rattle.std.specs.FinMap as fin
+use Rattle.std.proofs.lemmas.List.Sums.{sum_by-cons, sum_by-append}
+use Rattle.cg_value.specs.declared.Place.TheVariants.{Pend}
+use Rattle.cg_script.specs.declared.Script.{Script}
+use Rattle.cg_graph.specs.Maps.{total}
+use Rattle.cg_graph.specs.Holdings.{occurrences}
+use Rattle.cg_graph.specs.Rows.{Row}
+use Rattle.cg_graph.specs.Store.{Store, Node, object_from, objects_of, outside_of, outside_in, list_at}
+use Rattle.cg_graph.proofs.Objects.{occurrences-append}
+use Rattle.cg_heap.specs.Keeps.{one}
+use Rattle.cg_heap.specs.Calls.{IsSound, HasFewHolds, object_number}
+use Rattle.cg_trial.proofs.Lists.{occurrences-cons}
+use Rattle.cg_machine.specs.World as machine
+use Rattle.cg_machine.specs.World.{World, Activity, Releasing, Collecting, TopLevel, Framed}
+use Rattle.cg_machine.specs.Holdings.{holds, is_collection}
+use Rattle.cg_machine.specs.Lawful.{IsLawful}
+use Rattle.cg_machine.specs.Represents.{Represents}
+use Rattle.cg_death.specs.declared.release.Release.{Release}
+use Rattle.cg_death.specs.declared.phase.Phase.{Phase as DeathPhase}
+use Rattle.cg_death.specs.declared.phase.Phase.TheVariants as death_phase
+use Rattle.cg_death.specs.Activities.{HasHolds, references_left, death_activities, death_of}
+use Rattle.cg_death.proofs.CallerLemmas.{held_on_top}
+use Rattle.cg_collect.specs.declared.collection.Collection.{Collection}
+use Rattle.cg_collect.specs.declared.phase.Phase.{Phase}
+use Rattle.cg_collect.specs.declared.phase.Phase.TheVariants as phase_of
+use Rattle.cg_collect.specs.Phases.{machine_phase, collecting, collection_of, released_over, on_stack, store_after}
+use Rattle.cg_collect.specs.Collections.{held_by, given_up_by, own_holds_at}
+use Rattle.cg_interp.specs.declared.activity.Activity.{Activity as Own}
+use Rattle.cg_interp.specs.declared.activity.Activity.TheVariants as activity
+use Rattle.cg_machine.specs.Program.{commands_of}
+use Rattle.cg_interp.specs.Engines.{State, commands_from, frame_of, Shows, ShowsAll, HasHandedOut, released_first, is_collecting, any_collecting}
+use Rattle.cg_interp.specs.Turns.{IsFit}
+use Rattle.cg_interp.proofs.Lawfully.{at_least, few_holds, few_objects}
+use Rattle.cg_interp.proofs.CollectReady.{phase_there}
+
+-- the heap once the lines that are left are told has the same nodes
+nodes_after : (p : Phase) (store : Store) → (store_after p store).nodes ≡ store.nodes
+nodes_after (phase_of.Living next) store = refl
+nodes_after (phase_of.Detaching next) store = refl
+nodes_after p store = refl
+
+outside_after : (p : Phase) (store : Store) (s : ℕ) → outside_of (store_after p store) s ≡ outside_of store s
+outside_after p store s = ap (λ m. outside_in (fin.get m s)) (nodes_after p store)
+
+-- what is given up is held, and what the phase holds
+held_over : (s : ℕ) (release : Option Release) (tops : List Activity) → occurrences s (flat_map holds (released_over release tops)) ≡ occurrences s (given_up_by release) + occurrences s (flat_map holds tops)
+held_over s None tops = omega arith
+held_over s (Some release) tops = occurrences-append s (references_left release) (flat_map holds tops)
+
+held_at : (s : ℕ) (asked : Bool) (c : Collection) (p : Phase) (pending : List ℕ) → occurrences s (own_holds_at p) ≤ occurrences s (flat_map holds (collecting asked c (machine_phase p pending)))
+held_at s asked c (phase_of.AfterCallback weak) pending = omega (arith, occurrences-cons s weak [], occurrences-cons s weak (drop 1 pending ++ []))
+held_at s asked c (phase_of.AfterFinalizing o) pending = omega arith
+held_at s asked c (phase_of.Turn o) pending = omega arith
+held_at s asked c p pending = omega arith
+
+module _ (asked : Bool) (c : Collection) (store : Store) (w : World) (below : List Activity) (r : Represents (store_after c.phase store) w) (top : w.stack ≡ on_stack asked c store ++ below) where
+  -- a collection on top has its holds
+  pub collection_is_held : HasHolds store (held_by c)
+  collection_is_held s = omega (
+    arith,
+    held_on_top (store_after c.phase store) w r (on_stack asked c store) below top s,
+    outside_after c.phase store s,
+    occurrences-append s (given_up_by c.release) (own_holds_at c.phase),
+    held_over s c.release (collecting asked c (machine_phase c.phase (list_at store Pend))),
+    held_at s asked c c.phase (list_at store Pend),
+  )
+
+-- The heap has few holds, in a world of a run.
+pub few_holds_after : (script : Script) (budget : ℕ) (p : Phase) (store : Store) (w : World) → IsSound store → Represents (store_after p store) w → IsLawful script budget w → budget ≤ 100000 → HasFewHolds store
+few_holds_after script budget p store w sound r lawful low =
+    let number : object_number (store_after p store) ≤ 1000000 = subst (λ m. total one m - 1 ≤ 1000000) (sym (nodes_after p store)) sound.objects in
+    let few = few_holds script budget (store_after p store) w r lawful low (few_objects (store_after p store) number) in
+    subst (λ m. total (λ (n : Node). n.outside) m < 2147483646) (nodes_after p store) few
+
+-- as many objects
+pub objects_after : (p : Phase) (store : Store) (w : World) → Represents (store_after p store) w → length w.objects ≡ length (objects_of store)
+objects_after p store w r = ap length (sym r.objects) ∙ each p
+  where
+    entries : (rows rest : List Row) (es : List (ℕ × Node)) → length (map (λ (e : ℕ × Node). object_from rows e.0 e.1) es) ≡ length (map (λ (e : ℕ × Node). object_from rest e.0 e.1) es)
+    entries rows rest [] = refl
+    entries rows rest (e ∷ es) = omega (arith, entries rows rest es)
+
+    each : (p : Phase) → length (objects_of (store_after p store)) ≡ length (objects_of store)
+    each (phase_of.Living next) = entries (store_after (phase_of.Living next) store).rows store.rows (fin.entries store.nodes)
+    each (phase_of.Detaching next) = entries (store_after (phase_of.Detaching next) store).rows store.rows (fin.entries store.nodes)
+    each p = refl
+
+-- There is room on the stack, above what lies below a collection.
+pub room_above : (script : Script) (e : State) (p : Phase) (w : World) (tops below : List Activity) → Represents (store_after p e.store) w → ShowsAll script e.activities below → w.stack ≡ tops ++ below → IsLawful script e.frames w → IsFit script e → 4 < e.room
+room_above script e p w tops below r over top lawful fit =
+    omega (
+      arith,
+      at_least script e.activities below over,
+      ap length top,
+      length-append tops below,
+      objects_after p e.store w r,
+      lawful.bounded.height,
+      fit.room,
+    )
+
+-- how many collections are under way
+count_more : (a : Activity) (below : List Activity) → count_by is_collection (a ∷ below) ≡ cond (is_collection a) 1 0 + count_by is_collection below
+count_more a below = sum_by-cons (λ (b : Activity). cond {A = ℕ} (is_collection b) 1 0) a below
+
+pub count_own : (a : Own) (below : List Own) → count_by is_collecting (a ∷ below) ≡ cond (is_collecting a) 1 0 + count_by is_collecting below
+count_own a below = sum_by-cons (λ (b : Own). cond {A = ℕ} (is_collecting b) 1 0) a below
+
+death_is_none : (o : ℕ) (phase : DeathPhase) (waiting : List ℕ) → count_by is_collection (death_activities o phase waiting) ≡ 0
+death_is_none o death_phase.Over waiting = omega arith
+death_is_none o death_phase.Finalizer waiting = omega (arith, count_more (death_of o machine.Finalizer) [])
+death_is_none o death_phase.AfterFinalizer waiting = omega (arith, count_more (death_of o machine.AfterFinalizer) [])
+death_is_none o death_phase.Clearing waiting = omega (arith, count_more (death_of o (machine.Clearing waiting)) [])
+death_is_none o death_phase.Calling waiting = omega (arith, count_more (death_of o (machine.Calling waiting)) [])
+death_is_none o (death_phase.AfterCall weak callback) waiting = omega (arith, count_more (death_of o (machine.AfterCall weak callback waiting)) [])
+death_is_none o death_phase.LegacyFinalizer waiting = omega (arith, count_more (death_of o machine.LegacyFinalizer) [])
+death_is_none o death_phase.AfterLegacy waiting = omega (arith, count_more (death_of o machine.AfterLegacy) [])
+death_is_none o death_phase.Detaching waiting = omega (arith, count_more (death_of o machine.Detaching) [])
+death_is_none o death_phase.Emptying waiting = omega (arith, count_more (death_of o machine.Emptying) [])
+
+release_is_none : (release : Option Release) (rest : List Activity) → count_by is_collection (released_first release rest) ≡ count_by is_collection rest
+release_is_none None rest = refl
+release_is_none (Some release) rest = omega (arith, count_more (Releasing (references_left release)) rest)
+
+one_collection : (release : Option Release) (c : machine.Collection) → count_by is_collection (released_over release (Collecting c ∷ [])) ≡ 1
+one_collection None c = omega (arith, count_more (Collecting c) [])
+one_collection (Some release) c = omega (arith, count_more (Releasing (references_left release)) (Collecting c ∷ []), count_more (Collecting c) [])
+
+-- a collection that has handed out is one
+pub counts_one : (asked : Bool) (c : Collection) (tops : List Activity) → HasHandedOut asked c tops → count_by is_collection tops ≡ 1
+counts_one asked c tops out =
+    let (q, is) = phase_there c.phase (list_at out.then Pend) out.handing.runs in
+    ap (count_by is_collection) (out.shown ∙ ap (λ x. released_over c.release (collecting asked c x)) is) ∙ one_collection c.release (collection_of asked c q)
+
+counts_alike : (script : Script) (a : Own) (tops : List Activity) → Shows script a tops → count_by is_collection tops ≡ cond (is_collecting a) 1 0
+counts_alike script (activity.Script next) tops is = ap (count_by is_collection) is ∙ count_more (TopLevel (commands_from next (commands_of script.items))) []
+counts_alike script (activity.Frame locals procedure next) tops is = ap (count_by is_collection) is ∙ count_more (Framed (frame_of script locals procedure next)) []
+counts_alike script (activity.Releasing release) tops is = ap (count_by is_collection) is ∙ count_more (Releasing (references_left release)) []
+counts_alike script (activity.Dying death) tops (waiting, is, settled) = ap (count_by is_collection) is ∙ release_is_none death.release (death_activities death.object death.phase waiting) ∙ death_is_none death.object death.phase waiting
+counts_alike script (activity.Collecting asked c) tops out = counts_one asked c tops out
+
+-- as many collections on the stack as among the activities
+pub count_same : (script : Script) (activities : List Own) (stack : List Activity) → ShowsAll script activities stack → count_by is_collection stack ≡ count_by is_collecting activities
+count_same script [] stack is = ap (count_by is_collection) is
+count_same script (a ∷ activities) stack shows =
+    let parts : count_by is_collection stack ≡ count_by is_collection shows.tops + count_by is_collection shows.below = ap (count_by is_collection) shows.is ∙ sum_by-append (λ (b : Activity). cond {A = ℕ} (is_collection b) 1 0) shows.tops shows.below in
+    omega (arith, parts, counts_alike script a shows.tops shows.shows, count_same script activities shows.below shows.over, count_own a activities)
+
+pub none_counted : (activities : List Own) → any_collecting activities ≡ false → count_by is_collecting activities ≡ 0
+none_counted [] none = omega arith
+none_counted (activity.Script next ∷ activities) none = omega (arith, count_own (activity.Script next) activities, none_counted activities none)
+none_counted (activity.Frame locals procedure next ∷ activities) none = omega (arith, count_own (activity.Frame locals procedure next) activities, none_counted activities none)
+none_counted (activity.Releasing release ∷ activities) none = omega (arith, count_own (activity.Releasing release) activities, none_counted activities none)
+none_counted (activity.Dying death ∷ activities) none = omega (arith, count_own (activity.Dying death) activities, none_counted activities none)
+none_counted (activity.Collecting asked c ∷ activities) none = absurd (let clash : true ≡ false = none in cc)
+
+pub none_found : (activities : List Own) → count_by is_collecting activities ≡ 0 → any_collecting activities ≡ false
+none_found [] none = refl
+none_found (activity.Script next ∷ activities) none = none_found activities (omega (arith, none, count_own (activity.Script next) activities))
+none_found (activity.Frame locals procedure next ∷ activities) none = none_found activities (omega (arith, none, count_own (activity.Frame locals procedure next) activities))
+none_found (activity.Releasing release ∷ activities) none = none_found activities (omega (arith, none, count_own (activity.Releasing release) activities))
+none_found (activity.Dying death ∷ activities) none = none_found activities (omega (arith, none, count_own (activity.Dying death) activities))
+none_found (activity.Collecting asked c ∷ activities) none = absurd (omega (arith, none, count_own (activity.Collecting asked c) activities))
