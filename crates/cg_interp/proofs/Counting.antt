@@ -3,6 +3,7 @@
 use Rattle.std.proofs.Common.{◌≡◌, refl, sym, ◌∙◌, ap, ℕ, ◌+◌, ◌*◌, suc, Bool, true, false, inl, inr, List, [], ◌∷◌, ◌++◌, Option, None, Some, arith}
 use Rattle.std.specs.Prelude.{flat_map, nat_lt, ◌||◌}
 use Rattle.std.specs.List.{list_any}
+use Rattle.std.proofs.lemmas.Bool.{lt-ltb}
 use Rattle.cg_script.specs.declared.Script.{Script}
 use Rattle.cg_graph.specs.Object.{Object}
 use Rattle.cg_graph.specs.Store.{Store, objects_of, list_at}
@@ -27,8 +28,8 @@ use Rattle.cg_collect.specs.Ready.{MayRun, IsBegun}
 use Rattle.cg_collect.specs.Answers.{numbers_at}
 use Rattle.cg_interp.specs.declared.activity.Activity.{Activity}
 use Rattle.cg_interp.specs.declared.activity.Activity.TheVariants as activity
-use Rattle.cg_interp.specs.Engines.{State, StandsFor, Shows, ShowsAll, commands_from, frame_of, released_first, death_shown}
-use Rattle.cg_interp.specs.Collecting.{Collects, CollectsOnTop, StandsWith}
+use Rattle.cg_interp.specs.Engines.{State, Shows, ShowsAll, commands_from, frame_of, released_first, death_shown}
+use Rattle.cg_interp.specs.Collecting.{StandsWith}
 
 -- the activities of the machine, as if no weak reference waited
 abbrev pub shown : Script → Activity → List machine.Activity
@@ -107,7 +108,7 @@ same_store script (activity.Collecting asked c ∷ below) stack store s = told_a
 -- The lines that an engine has left are read off it.
 pub lines_are : (script : Script) (e : State) (left : List Event) (w : World) → StandsWith script e left w → left ≡ lines_of script e.activities e.store
 lines_are script e left w (inl (stands, none)) = none ∙ sym (no_lines script e.activities w.stack e.store stands.shows)
-lines_are script e left w (inr top) = top.collects.lines ∙ ap (λ as. lines_of script as e.store) (sym top.top)
+lines_are script e left w (inr top) = top.collects.lines ∙ ap (λ list. lines_of script list e.store) (sym top.top)
 
 -- A sum over the activities that does not read which weak references wait with a death, or with a collection.
 record IsBlind (f : machine.Activity → ℕ) : Type 0 where
@@ -138,7 +139,7 @@ weights_of_collections : (asked : Bool) (c : Collection) (phase : Phase) (pendin
 weights_of_collections asked c phase_of.Start pending = refl
 weights_of_collections asked c _ pending = refl
 
-starting : machine.Activity → ℕ
+abbrev starting : machine.Activity → ℕ
 starting a = bit (is_starting a)
 
 starts_of_deaths : (o : ℕ) (phase : dying.Phase) (waiting : List ℕ) → tally starting (death_activities o phase waiting) ≡ tally starting (death_activities o phase [])
@@ -210,8 +211,8 @@ any_starting [] = refl
 any_starting (x ∷ xs) = go (is_starting x) (any_starting xs)
   where
     go : (b : Bool) → list_any is_starting xs ≡ nat_lt 0 (tally starting xs) → (b || list_any is_starting xs) ≡ nat_lt 0 (bit b + tally starting xs)
-    go true e = refl
-    go false e = e
+    go true e = sym (lt-ltb 0 (1 + tally starting xs) (omega arith))
+    go false e = let same : tally starting xs ≡ 0 + tally starting xs = omega arith in e ∙ ap (nat_lt 0) same
 
 -- A world that has what the engine tells of it, and a stack with the same sums, has its number.
 module _ (script : Script) (e : State) (w : World) (objects : w.objects ≡ objects_of (store_told e.activities e.store)) (numbers : w.numbers ≡ e.policy.numbers) (budget : w.budget ≡ e.budget) (running : w.outcome ≡ Running)
@@ -255,4 +256,4 @@ same_number script e left w (inr top) =
     let here : State = record e { activities = activity.Collecting top.asked c ∷ top.rest } in
     same script here w (sym h.shows.represents.objects) (sym (h.shows.numbers ∙ begun_numbers c.phase c.generation w.numbers top.begun)) h.budget h.running
     (λ f blind. same_on_top f blind script top.asked c (list_at e.store Pend) top.rest w.stack h.below h.shows.top h.over)
-    ∙ ap (λ as. number_of script (world_from script (record e { activities = as }))) (sym top.top)
+    ∙ ap (λ list. number_of script (world_from script (record e { activities = list }))) (sym top.top)

@@ -1,7 +1,7 @@
 -- The number that falls in the run of an engine: with each turn the machine makes a step, or a line that a collection has
 -- left is told, or the collection comes nearer to its end.
 use Rattle.std.proofs.Math.Nat.{mul-le-mul_right, mul-le-mul_left}
-use Rattle.std.proofs.Common.{◌≡◌, ◌≢◌, refl, sym, ◌∙◌, ap, ℕ, suc, ◌+◌, ◌*◌, ◌-◌, ◌<◌, ◌≤◌, ◌⊎◌, Bool, true, false, inl, inr, not, List, [], ◌∷◌, ◌++◌, length, map, Option, Some, None, length-append, sum_by, arith}
+use Rattle.std.proofs.Common.{◌≡◌, ◌≢◌, refl, sym, ap, ℕ, suc, ◌+◌, ◌*◌, ◌-◌, ◌<◌, ◌≤◌, ◌⊎◌, Bool, true, false, inl, inr, not, List, [], ◌∷◌, ◌++◌, length, map, Option, Some, None, length-append, sum_by, arith}
 use Rattle.std.specs.Prelude.{◌==◌, nat_eq, if◌then◌else◌, option_to_list, filter}
 use Rattle.std.proofs.lemmas.List.{length-map}
 use Rattle.std.proofs.lemmas.List.Sums.{length-filter, count_by-le-length, sum_by-cons}
@@ -9,7 +9,7 @@ use Rattle.cg_value.specs.declared.Place.TheVariants.{Gen, Cand, Pend}
 use Rattle.cg_script.specs.declared.Script.{Script}
 use Rattle.cg_graph.specs.Places.{without_serial}
 use Rattle.cg_graph.specs.Rows.{Row, weak_references_in, referent_in}
-use Rattle.cg_graph.specs.Store.{Store, list_at, entries_of, place_of}
+use Rattle.cg_graph.specs.Store.{Store, list_at, place_of}
 use Rattle.cg_machine.specs.declared.event.Event.{Event}
 use Rattle.cg_machine.specs.declared.event.Event.TheVariants.{Alive, Cleared, GcCollectable, GcUncollectable, GcSaved, Collected}
 use Rattle.cg_machine.specs.World.{World}
@@ -19,12 +19,11 @@ use Rattle.cg_machine.proofs.Sound.{Sound}
 use Rattle.cg_machine.proofs.Number.{number_of}
 use Rattle.cg_machine.proofs.Ending.{run_falls}
 use Rattle.cg_death.specs.declared.release.Release.{Release}
-use Rattle.cg_death.specs.Activities.{references_left}
 use Rattle.cg_policy.specs.Flagset.{bits_of}
 use Rattle.cg_collect.specs.declared.collection.Collection.{Collection}
 use Rattle.cg_collect.specs.declared.phase.Phase.{Phase}
 use Rattle.cg_collect.specs.declared.phase.Phase.TheVariants as phase_of
-use Rattle.cg_collect.specs.Phases.{from_on, lines_left, cleared_lines, saved_lines, stop_lines, answer_lines, is_saved_at, old_list}
+use Rattle.cg_collect.specs.Phases.{from_on, lines_left, cleared_lines, saved_lines, stop_lines, is_saved_at, old_list}
 use Rattle.cg_collect.specs.Ready.{references_to, to_look_at}
 use Rattle.cg_collect.specs.Turns.{pass_of, left_in_pass, still_released, to_clear, still_cleared, others_cleared, list_around}
 use Rattle.cg_collect.proofs.RowWalks.{references-le}
@@ -102,6 +101,16 @@ lines_if-le : (b : Bool) (lines : List Event) → length (lines_if b lines) ≤ 
 lines_if-le true lines = omega arith
 lines_if-le false lines = omega arith
 
+stop_few : (asked : Bool) (c : Collection) (number : ℕ) → length (stop_lines asked c number) ≤ 2
+stop_few asked c number = omega (arith, lines_if-le asked (Collected (c.collected + number) ∷ []))
+
+joined : (xs ys : List Event) (m n : ℕ) → length xs ≤ m → length ys ≤ n → length (xs ++ ys) ≤ m + n
+joined xs ys m n few some = omega (arith, length-append xs ys, few, some)
+
+below_limit : (xs : List Event) (n : ℕ) → length xs ≤ n → n ≤ 1000000000000 → length xs < lines_limit
+unfolding lines_limit
+below_limit xs n few low = omega (arith, few, low)
+
 -- products of what is small
 product : (a b x y : ℕ) → a ≤ b → x ≤ y → a * x ≤ b * y
 product a b x y h k = omega (arith, mul-le-mul_right x h, mul-le-mul_left b k)
@@ -113,6 +122,9 @@ sum_few f most few (o ∷ xs) = omega (arith, sum_by-cons f o xs, few o, sum_few
 module _ (store : Store) (small : IsSmall store) where
   cleared_few : (members : List ℕ) → length members ≤ 1000001 → length (cleared_lines store.rows members) ≤ 1000002000001
   cleared_few members few = omega (arith, cleared-le store.rows members, product (length members) 1000001 (length store.rows) 1000001 few small.rows)
+
+  saved_few : (script : Script) (c : Collection) (next : Option ℕ) → length (saved_lines script (bits_of c.flags) store (from_on next (old_list c store))) ≤ 1000001
+  saved_few script c next = omega (arith, saved-le script (bits_of c.flags) store (from_on next (old_list c store)), from_on-le next (old_list c store), small.lists (Gen (older c.generation)))
 
   -- few lines are left
   lines_few : (script : Script) (asked : Bool) (c : Collection) (phase : Phase) → length (lines_left script asked c phase store) < lines_limit
@@ -132,29 +144,11 @@ module _ (store : Store) (small : IsSmall store) where
       )
   lines_few script asked c (phase_of.Detaching next) = omega (arith, cleared_few (from_on next (list_at store Cand)) (omega (arith, from_on-le next (list_at store Cand), small.lists Cand)))
   lines_few script asked c (phase_of.Uncollectable first next number) =
-      let uncollectable : List Event = map GcUncollectable (from_on next (old_list c store)) in
-      let saved : List Event = saved_lines script (bits_of c.flags) store (from_on first (old_list c store)) in
-      omega (
-        arith,
-        length-append uncollectable (saved ++ stop_lines asked c number),
-        length-append saved (stop_lines asked c number),
-        length-map (from_on next (old_list c store)) GcUncollectable,
-        from_on-le next (old_list c store),
-        saved-le script (bits_of c.flags) store (from_on first (old_list c store)),
-        from_on-le first (old_list c store),
-        small.lists (Gen (older c.generation)),
-        lines_if-le asked (Collected (c.collected + number) ∷ []),
-      )
+      let told : length (map GcUncollectable (from_on next (old_list c store))) ≤ 1000001 = omega (arith, length-map (from_on next (old_list c store)) GcUncollectable, from_on-le next (old_list c store), small.lists (Gen (older c.generation))) in
+      below_limit (map GcUncollectable (from_on next (old_list c store)) ++ saved_lines script (bits_of c.flags) store (from_on first (old_list c store)) ++ stop_lines asked c number) (1000001 + 1000001 + 2)
+      (joined _ _ (1000001 + 1000001) 2 (joined _ _ 1000001 1000001 told (saved_few script c first)) (stop_few asked c number)) (omega arith)
   lines_few script asked c (phase_of.Saved next number) =
-      let saved : List Event = saved_lines script (bits_of c.flags) store (from_on next (old_list c store)) in
-      omega (
-        arith,
-        length-append saved (stop_lines asked c number),
-        saved-le script (bits_of c.flags) store (from_on next (old_list c store)),
-        from_on-le next (old_list c store),
-        small.lists (Gen (older c.generation)),
-        lines_if-le asked (Collected (c.collected + number) ∷ []),
-      )
+      below_limit (saved_lines script (bits_of c.flags) store (from_on next (old_list c store)) ++ stop_lines asked c number) (1000001 + 2) (joined _ _ 1000001 2 (saved_few script c next) (stop_few asked c number)) (omega arith)
   lines_few script asked c (phase_of.Stopping number) = omega (arith, lines_if-le asked (Collected (c.collected + number) ∷ []))
   lines_few script asked c (phase_of.Over number) = omega (arith, lines_if-le asked (Collected (c.collected + number) ∷ []))
   lines_few script asked c phase = omega arith
@@ -218,7 +212,7 @@ module _ (store : Store) (small : IsSmall store) where
   way_few (activity.Releasing release ∷ below) = some_way
   way_few (activity.Dying death ∷ below) = some_way
   way_few (activity.Collecting asked c ∷ below) =
-      let passes : (15 - pass_of c.phase) * pass_limit ≤ 15 * pass_limit = mul-le-mul_right pass_limit (omega arith) in
+      let passes : (15 - pass_of c.phase) * pass_limit ≤ 15 * pass_limit = product (15 - pass_of c.phase) 15 pass_limit pass_limit (omega arith) (omega arith) in
       omega (arith, passes, in_pass_few c)
 
   few_lines : (script : Script) (activities : List Activity) → length (lines_of script activities store) < lines_limit
@@ -235,7 +229,7 @@ passes_few phase_of.Start = omega arith
 passes_few _ = omega arith
 
 further : (a b l m limit : ℕ) → a < b → l < limit → a * limit + l < b * limit + m
-further a b l m limit less few = omega (arith, mul-le-mul_right {suc a} {b} limit (omega (arith, less)), few)
+further a b l m limit less few = omega (arith, product (suc a) b limit limit (omega (arith, less)) (omega arith), few)
 
 shorter : (activities below : List Activity) (old new : Store) → IsSmall new → IsNearer activities old below new → way_left below new < way_left activities old
 shorter [] below old new small near = absurd near
@@ -246,7 +240,7 @@ shorter (activity.Dying death ∷ rest) below old new small near = absurd near
 shorter (activity.Collecting asked c ∷ rest) below old new small near = go below near
   where
     over : 0 < (15 - pass_of c.phase) * pass_limit + (left_in_pass c.phase old + still_released c.release)
-    over = further 0 (15 - pass_of c.phase) 0 (left_in_pass c.phase old + still_released c.release) pass_limit (omega (arith, passes_few c.phase)) some_pass
+    over = omega (arith, further 0 (15 - pass_of c.phase) 0 (left_in_pass c.phase old + still_released c.release) pass_limit (omega (arith, passes_few c.phase)) some_pass)
 
     go : (below : List Activity) → IsNearer (activity.Collecting asked c ∷ rest) old below new → way_left below new < (15 - pass_of c.phase) * pass_limit + (left_in_pass c.phase old + still_released c.release)
     go [] near = over
@@ -267,15 +261,15 @@ module _ (lines_most way_most : ℕ) where
 
   first_falls : (n m lines more way further : ℕ) → n < m → lines < lines_most → way < way_most → three n lines way < three m more further
   first_falls n m lines more way further less few near =
-      omega (arith, mul-le-mul_right {suc n} {m} (lines_most * way_most) (omega (arith, less)), mul-le-mul_right {suc lines} {lines_most} way_most (omega (arith, few)), near)
+      omega (arith, product (suc n) m (lines_most * way_most) (lines_most * way_most) (omega (arith, less)) (omega arith), product (suc lines) lines_most way_most way_most (omega (arith, few)) (omega arith), near)
 
   second_falls : (n m lines more way further : ℕ) → n ≤ m → lines < more → way < way_most → three n lines way < three m more further
   second_falls n m lines more way further less fewer near =
-      omega (arith, mul-le-mul_right (lines_most * way_most) less, mul-le-mul_right {suc lines} {more} way_most (omega (arith, fewer)), near)
+      omega (arith, product n m (lines_most * way_most) (lines_most * way_most) less (omega arith), product (suc lines) more way_most way_most (omega (arith, fewer)) (omega arith), near)
 
   third_falls : (n m lines more way further : ℕ) → n ≤ m → lines ≡ more → way < further → three n lines way < three m more further
   third_falls n m lines more way further less same nearer =
-      omega (arith, mul-le-mul_right (lines_most * way_most) less, ap (λ l. l * way_most) same, nearer)
+      omega (arith, product n m (lines_most * way_most) (lines_most * way_most) less (omega arith), ap (λ l. l * way_most) same, nearer)
 
 -- A turn that goes on makes the number smaller.
 module _ (script : Script) (old new : State) (w : World) (left told : List Event) (stands : StandsWith script old left w) (sound : Sound w) (small : IsSmall new.store) (turn : GoesOnTo script (Advances old left new) w left told new) where

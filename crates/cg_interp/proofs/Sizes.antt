@@ -1,27 +1,24 @@
 -- How long the lists of a heap are, its rows, and the entries of an object.
-use Rattle.std.proofs.Common.{◌≡◌, refl, sym, ap, subst, ℕ, ◌+◌, ◌<◌, ◌≤◌, Bool, true, false, cond, List, [], ◌∷◌, ◌++◌, length, map, Option, Some, None, IsSome, length-append, arith}
+use Rattle.std.proofs.Common.{◌≡◌, refl, sym, ap, subst, ℕ, zero, suc, ◌+◌, ◌<◌, ◌≤◌, Bool, true, false, cond, List, [], ◌∷◌, length, map, Option, Some, None, IsSome, length-append, arith}
 use Rattle.std.specs.Prelude.{◌==◌, All}
 use Rattle.std.specs.FinMap as fin
 use Rattle.std.proofs.lemmas.Bool.{eqb-true}
 use Rattle.std.proofs.lemmas.List.{length-map}
 use Rattle.std.proofs.lemmas.List.Elements.{All-head, All-tail}
-use Rattle.std.proofs.lemmas.List.Sums.{sum_by-cons}
 use Rattle.cg_value.specs.declared.Entry.{Entry}
 use Rattle.cg_value.specs.declared.Place.{Place}
-use Rattle.cg_value.specs.declared.Val.TheVariants.{Ref}
 use Rattle.cg_value.specs.declared.KindCode.TheVariants.{Weak}
 use Rattle.cg_graph.specs.Maps.{total, part}
 use Rattle.cg_graph.specs.Member.{Includes}
 use Rattle.cg_graph.specs.Holdings.{occurrences}
-use Rattle.cg_graph.specs.Value.{item, references, entry_references}
+use Rattle.cg_graph.specs.Value.{references, entry_references}
 use Rattle.cg_graph.specs.Object.{Object, serials}
 use Rattle.cg_graph.specs.Rows.{Row, IsRising}
 use Rattle.cg_graph.specs.Store.{Store, Node, held_within, held_by, inner, list_at, objects_of, object_from, entries_of, entries_in, IsLive, HasCode}
 use Rattle.cg_graph.proofs.Maps.{total-remove}
-use Rattle.cg_graph.proofs.Members.{either, Includes-map, Includes-map_cases}
+use Rattle.cg_graph.proofs.Members.{Includes-map, Includes-map_cases}
 use Rattle.cg_heap.specs.Keeps.{size, IsSaved}
-use Rattle.cg_heap.specs.Calls.{IsSound, entry_number}
-use Rattle.cg_heap.proofs.ReferenceLemmas.{occurrences-append}
+use Rattle.cg_heap.specs.Calls.{IsSound}
 use Rattle.cg_machine.proofs.Saving.{count_cons, fewer_times}
 use Rattle.cg_machine.proofs.Condemned.{present, Includes-of_count}
 use Rattle.cg_death.proofs.RowSplits.{all_in}
@@ -47,8 +44,8 @@ different_few store sound xs once live =
         present s (serials (objects_of store)) (Includes-map (λ (x : Object). x.serial) (objects_of store) (object_from store.rows s n) (object_there store s n got))
 
     go : (s n : ℕ) → occurrences s xs ≡ n → occurrences s xs ≤ occurrences s (serials (objects_of store))
-    go s 0 e = omega (arith, e)
-    go s _ e = let some = once s in let more = there s (live s (omega (arith, e))) in omega (arith, some, more)
+    go s zero e = omega (arith, e)
+    go s (suc n) e = let some = once s in let more = there s (live s (omega (arith, e))) in omega (arith, some, more)
 
 -- Rows stand by rising weak reference, so each is that of another.
 above_all : (r : Row) (rows : List Row) → All (λ (x : Row). r.weak < x.weak) rows → (s : ℕ) → Includes (map (λ (x : Row). x.weak) rows) s → r.weak < s
@@ -58,18 +55,15 @@ above_all r rows above s m =
 
 weak_once : (rows : List Row) → IsRising rows → (s : ℕ) → occurrences s (map (λ (r : Row). r.weak) rows) ≤ 1
 weak_once [] rise s = omega arith
-weak_once (r ∷ rows) rise s = go (occurrences s (map (λ (x : Row). x.weak) rows)) refl (r.weak == s) refl
+weak_once (r ∷ rows) rise s = go (weak_once rows rise.1 s) (occurrences s (map (λ (x : Row). x.weak) rows)) refl (r.weak == s) refl
   where
     here : occurrences s (r.weak ∷ map (λ (x : Row). x.weak) rows) ≡ cond (r.weak == s) 1 0 + occurrences s (map (λ (x : Row). x.weak) rows)
     here = count_cons s r.weak (map (λ (x : Row). x.weak) rows)
 
-    rest : occurrences s (map (λ (x : Row). x.weak) rows) ≤ 1
-    rest = weak_once rows rise.1 s
-
-    go : (n : ℕ) → occurrences s (map (λ (x : Row). x.weak) rows) ≡ n → (b : Bool) → (r.weak == s) ≡ b → occurrences s (r.weak ∷ map (λ (x : Row). x.weak) rows) ≤ 1
-    go n e false is = let none : cond {A = ℕ} (r.weak == s) 1 0 ≡ 0 = ap (λ b. cond {A = ℕ} b 1 0) is in omega (arith, here, rest, none)
-    go 0 e true is = let one : cond {A = ℕ} (r.weak == s) 1 0 ≡ 1 = ap (λ b. cond {A = ℕ} b 1 0) is in omega (arith, here, one, e)
-    go _ e true is =
+    go : occurrences s (map (λ (x : Row). x.weak) rows) ≤ 1 → (n : ℕ) → occurrences s (map (λ (x : Row). x.weak) rows) ≡ n → (b : Bool) → (r.weak == s) ≡ b → occurrences s (r.weak ∷ map (λ (x : Row). x.weak) rows) ≤ 1
+    go rest n e false is = let none : cond {A = ℕ} (r.weak == s) 1 0 ≡ 0 = ap (λ b. cond {A = ℕ} b 1 0) is in omega (arith, here, rest, none)
+    go rest zero e true is = let one : cond {A = ℕ} (r.weak == s) 1 0 ≡ 1 = ap (λ b. cond {A = ℕ} b 1 0) is in omega (arith, here, one, e)
+    go rest (suc n) e true is =
         let same : r.weak ≡ s = eqb-true r.weak s is in
         let low = above_all r rows rise.0 s (Includes-of_count s (map (λ (x : Row). x.weak) rows) (omega (arith, e))) in
         absurd (omega (arith, low, same))

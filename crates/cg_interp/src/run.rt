@@ -68,6 +68,7 @@ fn turn_and_write<B: Kind, K: Sink, L: Ledger>(
     ensures sound { IsSound engine.new.store }
 {
     let answer = engine.turn(table, script, steps);
+    // No heap is large, so a collection has few lines left after a turn, and little to do.
     engine.heap.sound();
     match write_answer(answer, &script.names, sink) {
         Ok(()) => Ok(answer),

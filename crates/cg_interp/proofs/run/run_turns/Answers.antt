@@ -1,7 +1,10 @@
-use Rattle.std.proofs.Common.{◌∙◌, arith}
+use Rattle.std.proofs.Common.{◌∙◌, refl, arith}
 use Rattle.cg_interp.proofs.Sizes.{small}
-use Rattle.cg_interp.proofs.RunLemmas.{turn_may_be_taken, ran_quietly, ran_line, ran_to_end, ran_out, ran_cut, falls_quietly, falls_with_line}
+use Rattle.cg_interp.proofs.RunLemmas.{turn_may_be_taken, ran_quietly, ran_line, ran_to_end, ran_out, ran_cut, falls_quietly, falls_with_line, ran_start}
 use Rattle.cg_interp.proofs.run.run_turns.Goals as goal
+
+pub turns-init : goal.turns-init
+turns-init g c = record { ran = ran_start c.args.script.now _ _ _ c.requires.opens; fit = c.requires.fit; frames = refl; later = omega arith }
 
 pub turn_and_write-requires-clause-stands : goal.turn_and_write-requires-clause-stands
 turn_and_write-requires-clause-stands g c = turn_may_be_taken _ _ _ _ _ c.turns.invariant.ran c.requires.laws c.turns.invariant.frames
