@@ -23,6 +23,8 @@ mod SmallNumbers
 mod CollectReady
 mod CollectHolds
 mod CollectTurns
+mod CollectMoves
+mod CollectBegins
 mod Telling
 mod UnderWay
 mod ControlLemmas
