@@ -98,8 +98,7 @@ module _ (store : Store) (w : World) (sound : IsSound store) (same : objects_of 
       ready_again : (g : ℕ) (p : Phase) (then : List ℕ) → MayRun p → SparesGarbageList p → machine_phase p then ≡ Some c.phase → IsReadyAt store g p
       ready_again g (phase_of.AfterCallback weak) then runs spares is =
           let phase : c.phase ≡ machine.AfterCallback weak (drop 1 then) = cc in
-          let pending : list_at store Pend ≡ weak ∷ drop 1 then = subst (λ q. CollectionWaits q (list_at store Pend)) phase waits in
-          (
+          let pending : list_at store Pend ≡ weak ∷ drop 1 then = subst (λ q. CollectionWaits q (list_at store Pend)) phase waits in (
             in_weak_phase (weak ∷ drop 1 then) (rightly (machine.AfterCallback weak (drop 1 then)) phase),
             λ q m. has_callback q m (waits_among w.stack c q on (subst (λ r. Includes (collection_waits r) q) (sym phase) (subst (λ l. Includes l q) pending m))),
             ap (λ l. slice_get l 0) pending,
@@ -108,8 +107,7 @@ module _ (store : Store) (w : World) (sound : IsSound store) (same : objects_of 
       ready_again g (phase_of.AfterRelease weak) then runs spares is =
           let waiting : List ℕ = filter (λ q. not (q == weak)) then in
           let phase : c.phase ≡ machine.AfterRelease weak waiting = cc in
-          let pending : (list_at store Pend ≡ waiting) ⊎ (list_at store Pend ≡ weak ∷ waiting) = subst (λ q. CollectionWaits q (list_at store Pend)) phase waits in
-          (
+          let pending : (list_at store Pend ≡ waiting) ⊎ (list_at store Pend ≡ weak ∷ waiting) = subst (λ q. CollectionWaits q (list_at store Pend)) phase waits in (
             in_weak_phase (weak ∷ waiting) (rightly (machine.AfterRelease weak waiting) phase),
             λ q m differs. has_callback q m (waits_among w.stack c q on (subst (λ r. Includes (collection_waits r) q) (sym phase)
                 (either pending (λ e. subst (λ l. Includes l q) e m) (λ e. either (subst (λ l. Includes l q) e m) (λ own. absurd (differs (sym own))) (λ k. k))))),
@@ -139,9 +137,9 @@ others_same weak then now (inl e) = sym (ap (filter (λ q. not (q == weak))) e �
 others_same weak then now (inr e) =
     let rest : List ℕ = filter (λ q. not (q == weak)) then in
     sym (
-      ap (filter (λ q. not (q == weak))) e
-      ∙ ap (λ b. cond (not b) (weak ∷ filter (λ q. not (q == weak)) rest) (filter (λ q. not (q == weak)) rest)) (eq-eqb weak weak refl)
-      ∙ others_again weak then
+    ap (filter (λ q. not (q == weak))) e
+    ∙ ap (λ b. cond (not b) (weak ∷ filter (λ q. not (q == weak)) rest) (filter (λ q. not (q == weak)) rest)) (eq-eqb weak weak refl)
+    ∙ others_again weak then
     )
 
 -- The phase of the machine is the same by what waits now.

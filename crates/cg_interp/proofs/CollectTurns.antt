@@ -44,7 +44,7 @@ use Rattle.cg_interp.proofs.CollectReady.{resumes, phase_there, shown_there}
 use Rattle.cg_interp.proofs.CollectHolds.{count_same, count_own, none_counted, none_found}
 
 -- In a phase in which frames and deaths run no line is left, and heap and numbers are those of the world.
-store_in_run : (p : Phase) (store : Store) → MayRun p → store_after p store ≡ store
+pub store_in_run : (p : Phase) (store : Store) → MayRun p → store_after p store ≡ store
 store_in_run (phase_of.Living next) store runs = absurd runs
 store_in_run (phase_of.Detaching next) store runs = absurd runs
 store_in_run p store runs = refl
@@ -290,7 +290,7 @@ two_there asked c store runs gives = let (q, is) = phase_there c.phase (list_at 
     by (Some r) gives q = refl
 
 -- A death that is handed out was begun by a step.
-death_moves : (script : Script) (asked : Bool) (c d : Collection) (old new : Store) (w before : World) (below : List Activity) (o : ℕ) → w.stack ≡ on_stack asked c old ++ below → before.stack ≡ on_stack asked d new ++ below → MayRun d.phase → IsSome d.release
+pub death_moves : (script : Script) (asked : Bool) (c d : Collection) (old new : Store) (w before : World) (below : List Activity) (o : ℕ) → w.stack ≡ on_stack asked c old ++ below → before.stack ≡ on_stack asked d new ++ below → MayRun d.phase → IsSome d.release
     → (goes : Goes script w [] (begin_death o before)) → goes.steps ≢ []
 death_moves script asked c d old new w before below o top now runs gives goes none =
     let same : w ≡ begin_death o before = ap (last_world w) (sym none) ∙ goes.ends in

@@ -1,6 +1,8 @@
 mod Positions
 mod Opens
 mod Counting
+mod Sizes
+mod Falling
 mod RunLemmas
 mod Standing
 mod Fitting
@@ -21,6 +23,8 @@ mod SmallNumbers
 mod CollectReady
 mod CollectHolds
 mod CollectTurns
+mod CollectMoves
+mod CollectBegins
 mod Telling
 mod UnderWay
 mod ControlLemmas

@@ -21,5 +21,8 @@ pub enum Activity {
     /// The death of an object.
     Dying(Death),
     /// A collection, and whether a command asked for it.
-    Collecting { asked: bool, collection: Collection },
+    Collecting {
+        asked: bool,
+        collection: Collection,
+    },
 }

@@ -201,7 +201,9 @@ impl<B: Kind> Engine<B> {
         ensures frames { self.new.frames ≡ self.old.frames }
     {
         match next_of(body, next) {
-            Some((command, after)) => self.go_on_with(command, locals, procedure, next, after, script, steps),
+            Some((command, after)) => self.go_on_with(
+                command, locals, procedure, next, after, script, steps,
+            ),
             None => self.leave(locals),
         }
     }

@@ -20,7 +20,7 @@ ghost use Rattle.cg_interp.specs.Turns.{IsFit};
 use crate::activity::Activity;
 use crate::engine::Engine;
 use crate::turned::Turned;
-use cg_collect::{Collection, CollectStep};
+use cg_collect::{CollectStep, Collection};
 use cg_heap::Steps;
 use cg_kind::Kind;
 use cg_machine::Event;
@@ -112,6 +112,7 @@ impl<B: Kind> Engine<B> {
                 Turned::Line(event)
             }
             CollectStep::Frame(spec) => {
+                self.heap.sound();
                 self.stack.push(Activity::Collecting { asked, collection });
                 self.start(spec)
             }

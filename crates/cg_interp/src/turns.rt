@@ -112,7 +112,14 @@ impl<B: Kind> Engine<B> {
         ensures frames { self.new.frames ≡ self.old.frames }
     {
         self.heap.sound();
-        self.go_on_in(table.body(script, procedure), locals, procedure, next, script, steps)
+        self.go_on_in(
+            table.body(script, procedure),
+            locals,
+            procedure,
+            next,
+            script,
+            steps,
+        )
     }
 
     /// A turn of a release, which was on top.

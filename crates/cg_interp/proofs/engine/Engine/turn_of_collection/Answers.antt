@@ -1,23 +1,51 @@
-use Rattle.std.proofs.Common.{subst, sym}
+use Rattle.std.proofs.Common.{subst, sym, []}
+use Rattle.cg_heap.specs.Calls.{IsSound}
+use Rattle.cg_interp.proofs.CollectTurns.{collects}
+use Rattle.cg_interp.proofs.CollectMoves.{may_step, room_for_step}
 use Rattle.cg_interp.proofs.engine.Engine.turn_of_collection.Goals as goal
 
 pub go_on_collecting-requires-clause-few : goal.go_on_collecting-requires-clause-few
-go_on_collecting-requires-clause-few g c = let k = c.requires.stands in let s = c.sound.ensures in let v = c.self.view_is in ?
+go_on_collecting-requires-clause-few g c =
+    let (w, left, stands, stays) = c.requires.stands in
+    let sound = subst (λ e. IsSound e.store) c.self.view_is c.sound.ensures in
+    let k = collects c.args.script.now c.args.asked c.args.collection c.args.self.now left w sound (stays [] tt) stands in
+    (may_step c.args.script.now c.args.asked c.args.collection c.args.self.now left w (stays [] tt) k sound c.requires.spelled c.requires.fit.frames).few
 
 pub go_on_collecting-requires-clause-held : goal.go_on_collecting-requires-clause-held
-go_on_collecting-requires-clause-held g c = ?
+go_on_collecting-requires-clause-held g c =
+    let (w, left, stands, stays) = c.requires.stands in
+    let sound = subst (λ e. IsSound e.store) c.self.view_is c.sound.ensures in
+    let k = collects c.args.script.now c.args.asked c.args.collection c.args.self.now left w sound (stays [] tt) stands in
+    (may_step c.args.script.now c.args.asked c.args.collection c.args.self.now left w (stays [] tt) k sound c.requires.spelled c.requires.fit.frames).held
 
 pub go_on_collecting-requires-clause-ready : goal.go_on_collecting-requires-clause-ready
-go_on_collecting-requires-clause-ready g c = ?
+go_on_collecting-requires-clause-ready g c =
+    let (w, left, stands, stays) = c.requires.stands in
+    let sound = subst (λ e. IsSound e.store) c.self.view_is c.sound.ensures in
+    let k = collects c.args.script.now c.args.asked c.args.collection c.args.self.now left w sound (stays [] tt) stands in
+    (may_step c.args.script.now c.args.asked c.args.collection c.args.self.now left w (stays [] tt) k sound c.requires.spelled c.requires.fit.frames).ready
 
 pub go_on_collecting-requires-clause-small : goal.go_on_collecting-requires-clause-small
-go_on_collecting-requires-clause-small g c = ?
+go_on_collecting-requires-clause-small g c =
+    let (w, left, stands, stays) = c.requires.stands in
+    let sound = subst (λ e. IsSound e.store) c.self.view_is c.sound.ensures in
+    let k = collects c.args.script.now c.args.asked c.args.collection c.args.self.now left w sound (stays [] tt) stands in
+    (may_step c.args.script.now c.args.asked c.args.collection c.args.self.now left w (stays [] tt) k sound c.requires.spelled c.requires.fit.frames).small
 
 pub go_on_collecting-requires-clause-room : goal.go_on_collecting-requires-clause-room
-go_on_collecting-requires-clause-room g c = ?
+go_on_collecting-requires-clause-room g c =
+    let (w, left, stands, stays) = c.requires.stands in
+    let sound = subst (λ e. IsSound e.store) c.self.view_is c.sound.ensures in
+    let k = collects c.args.script.now c.args.asked c.args.collection c.args.self.now left w sound (stays [] tt) stands in
+    room_for_step c.args.script.now c.args.asked c.args.collection c.args.self.now left w (stays [] tt) k c.requires.fit
 
 pub go_on_collecting-requires-clause-stands : goal.go_on_collecting-requires-clause-stands
-go_on_collecting-requires-clause-stands g c = ?
+go_on_collecting-requires-clause-stands g c =
+    let (w, left, stands, stays) = c.requires.stands in
+    let sound = subst (λ e. IsSound e.store) c.self.view_is c.sound.ensures in
+    (w, left, collects c.args.script.now c.args.asked c.args.collection c.args.self.now left w sound (stays [] tt) stands, stays)
 
 pub returns-clause-turns : goal.returns-clause-turns
-returns-clause-turns g c = let a = c.go_on_collecting-result.ensures.turns in ?
+returns-clause-turns g c = λ w left stands stays.
+    let sound = subst (λ e. IsSound e.store) c.self.view_is c.sound.ensures in
+    c.go_on_collecting.ensures.turns w left (collects c.args.script.now c.args.asked c.args.collection c.args.self.now left w sound (stays [] tt) stands) stays

@@ -1,0 +1,112 @@
+-- What the machine goes on to after each answer of a step of a collection, and what is wanted before a step and within it.
+use Rattle.std.proofs.Common.{◌≡◌, refl, sym, ◌∙◌, ap, subst, ℕ, ◌+◌, ◌<◌, ◌≤◌, Bool, true, false, List, [], ◌∷◌, length, Option, IsSome, arith}
+use Rattle.std.specs.Prelude.{IfSome}
+use Rattle.cg_script.specs.declared.Script.{Script}
+use Rattle.cg_script.specs.Spelled.{IsSpelled}
+use Rattle.cg_graph.specs.Store.{Store, IsLive, objects_of}
+use Rattle.cg_heap.specs.Calls.{IsSound, HasFewHolds}
+use Rattle.cg_machine.specs.declared.event.Event.{Event}
+use Rattle.cg_machine.specs.declared.event.Event.TheVariants.{Collected}
+use Rattle.cg_machine.specs.declared.event.FrameSpec.{FrameSpec}
+use Rattle.cg_machine.specs.World.{World}
+use Rattle.cg_machine.specs.Frame.{begin_death, start_frame}
+use Rattle.cg_machine.specs.Represents.{Represents}
+use Rattle.cg_laws.specs.Kept.{IsKept, StaysKept}
+use Rattle.cg_death.specs.Activities.{HasHolds}
+use Rattle.cg_collect.specs.declared.answer.CollectStep.TheVariants as answer_of
+use Rattle.cg_collect.specs.declared.collection.Collection.{Collection}
+use Rattle.cg_collect.specs.Phases.{on_stack, lines_left}
+use Rattle.cg_collect.specs.Numbers.{AreSmall}
+use Rattle.cg_collect.specs.Ready.{IsBegun}
+use Rattle.cg_collect.specs.Collections.{IsReady, HandsOut, CollectFalls, held_by}
+use Rattle.cg_collect.specs.Answers.{CollectSteps, CollectAnswer}
+use Rattle.cg_interp.specs.declared.activity.Activity.TheVariants as activity
+use Rattle.cg_interp.specs.declared.turned.Turned.{Turned}
+use Rattle.cg_interp.specs.declared.turned.Turned.TheVariants as turned
+use Rattle.cg_policy.specs.Policy.{Policy}
+use Rattle.cg_interp.specs.Stacks.{Stacked}
+use Rattle.cg_interp.specs.Engines.{State, StandsFor, under}
+use Rattle.cg_interp.specs.Collecting.{Collects}
+use Rattle.cg_interp.specs.Telling.{Advances, CollectsNext, CollectTurns}
+use Rattle.cg_interp.specs.Turns.{Makes, DyingIsSound, IsFit}
+use Rattle.cg_interp.proofs.Lawfully.{few_objects}
+use Rattle.cg_interp.proofs.SmallNumbers.{small_at}
+use Rattle.cg_interp.proofs.CollectHolds.{collection_is_held, few_holds_after, room_above}
+use Rattle.cg_interp.proofs.CollectTurns.{stands_for_step, stands_before, goes_on_quietly, goes_on_telling, ends, starts_with, dies_with, death_moves, sound_at_death, function_lives, few_holds_before, store_in_run}
+
+-- an engine by its parts
+abbrev pub engine_of : Store → Policy → Stacked → ℕ → ℕ → State
+engine_of store policy stack budget frames = record { store = store; policy = policy; activities = stack.activities; room = stack.room; budget = budget; frames = frames }
+
+-- what a step of a collection wants
+pub record MayStep (c : Collection) (e : State) : Type 0 where
+  pub few : HasFewHolds e.store
+  pub held : HasHolds e.store (held_by c)
+  pub ready : IsReady c e.store
+  pub small : AreSmall e.policy.numbers
+
+module _ (script : Script) (asked : Bool) (c : Collection) (e : State) (left : List Event) (w : World) (kept : IsKept script e.frames w) (k : Collects script asked c e left w) where
+  pub may_step : IsSound e.store → IsSpelled script → e.frames ≤ 100000 → MayStep c e
+  may_step sound spelled low = record {
+    few = few_holds_after script e.frames c.phase e.store w sound k.shows.represents kept.lawful low;
+    held = collection_is_held asked c e.store w k.below k.shows.represents k.shows.top;
+    ready = k.ready;
+    small = subst AreSmall (sym k.shows.numbers) (small_at script e.frames w spelled kept.few low c.phase c.generation);
+  }
+
+  -- and room for the activities that it may put on the stack
+  pub room_for_step : IsFit script e → 1 < e.room
+  room_for_step fit = let much : 4 < e.room = room_above script e c.phase w (on_stack asked c e.store) k.below k.shows.represents k.over k.shows.top kept.lawful fit in omega (arith, much)
+
+module _ (script : Script) (asked : Bool) (c : Collection) (e : State) where
+  -- what a step answers, by the lines that are left
+  answered : (left : List Event) (w : World) (k : Collects script asked c e left w) → IsKept script e.frames w → (d : Collection) (new : State) (answer : Rattle.cg_collect.specs.declared.answer.CollectStep.CollectStep)
+      → CollectSteps script c e.store e.policy d new.store new.policy answer → CollectAnswer script asked w k.below left d new.store new.policy answer
+  answered left w k kept d new answer steps =
+      subst (λ l. CollectAnswer script asked w k.below l d new.store new.policy answer) (sym k.lines) (steps asked w k.below (stands_for_step script asked c e left w k kept))
+
+  module _ (d : Collection) (mid : State) (top : mid.activities ≡ activity.Collecting asked d ∷ e.activities) (budget : mid.budget ≡ e.budget) where
+    pub turns_quietly : IsReady d mid.store → IsBegun d.phase → CollectFalls c e.store d mid.store → CollectSteps script c e.store e.policy d mid.store mid.policy answer_of.Continue → CollectTurns script asked c e mid turned.Quiet
+    turns_quietly ready begun falls steps w left k stays = goes_on_quietly script asked c e left w k d mid top budget ready begun falls (answered left w k (stays [] tt) d mid answer_of.Continue steps)
+
+    pub turns_telling : (event : Event) → IsReady d mid.store → IsBegun d.phase → CollectSteps script c e.store e.policy d mid.store mid.policy (answer_of.Emit event) → CollectTurns script asked c e mid (turned.Line event)
+    turns_telling event ready begun steps w left k stays = goes_on_telling script asked c e left w k d mid top budget ready begun event (answered left w k (stays [] tt) d mid (answer_of.Emit event) steps)
+
+    -- a frame
+    module _ (spec : FrameSpec) (h : HandsOut d mid.store) (steps : CollectSteps script c e.store e.policy d mid.store mid.policy (answer_of.Frame spec)) where
+      pub turns_with_frame : (new : State) (answer : Turned) → ((w : World) → StandsFor script mid w → Makes script (start_frame script spec w) new answer) → CollectTurns script asked c e new answer
+      turns_with_frame new answer starts w left k stays =
+          let (none, left_none, gave) = answered left w k (stays [] tt) d mid (answer_of.Frame spec) steps in
+          starts_with script (Advances (under (activity.Collecting asked c) e) left new) w left spec gave.before new answer none gave.goes
+          (starts gave.before (stands_before script asked c e left w k d mid top budget gave.before h gave.shows gave.keeps.budget gave.keeps.outcome))
+
+      pub frame_has_few : CollectsNext script asked c e → IsSound mid.store → e.frames ≤ 100000 → HasFewHolds mid.store
+      frame_has_few (w, left, k, stays) sound low =
+          let (none, left_none, gave) = answered left w k (stays [] tt) d mid (answer_of.Frame spec) steps in
+          few_holds_before script e.frames spec mid.store w gave.before (subst (λ st. Represents st gave.before) (store_in_run d.phase mid.store h.runs) gave.shows.represents) gave.goes stays low (few_objects mid.store sound.objects)
+
+      pub frame_function_lives : CollectsNext script asked c e → 0 < e.budget → IfSome spec.func (λ f. IsLive mid.store f)
+      frame_function_lives (w, left, k, stays) some =
+          let (none, left_none, gave) = answered left w k (stays [] tt) d mid (answer_of.Frame spec) steps in
+          function_lives script e.frames spec mid.store w gave.before (subst (λ st. Represents st gave.before) (store_in_run d.phase mid.store h.runs) gave.shows.represents) gave.goes stays
+          (omega (arith, some, gave.keeps.budget, k.budget))
+
+    -- a death
+    module _ (o : ℕ) (h : HandsOut d mid.store) (steps : CollectSteps script c e.store e.policy d mid.store mid.policy (answer_of.Died o)) where
+      pub turns_with_death : IsSome d.release → (new : State) → ((w : World) → StandsFor script mid w → StandsFor script new (begin_death o w)) → CollectTurns script asked c e new turned.Quiet
+      turns_with_death gives new begins w left k stays =
+          let (none, left_none, gave) = answered left w k (stays [] tt) d mid (answer_of.Died o) steps in
+          dies_with script (Advances (under (activity.Collecting asked c) e) left new) w gave.before left o new none gave.goes
+          (death_moves script asked c d e.store mid.store w gave.before k.below o k.shows.top gave.shows.top h.runs gives gave.goes)
+          (begins gave.before (stands_before script asked c e left w k d mid top budget gave.before h gave.shows gave.keeps.budget gave.keeps.outcome))
+
+      pub death_stands : CollectsNext script asked c e → (s : Script) × (w : World) × StandsFor s mid w × DyingIsSound (begin_death o w)
+      death_stands (w, left, k, stays) =
+          let (none, left_none, gave) = answered left w k (stays [] tt) d mid (answer_of.Died o) steps in
+          (script, gave.before, stands_before script asked c e left w k d mid top budget gave.before h gave.shows gave.keeps.budget gave.keeps.outcome, sound_at_death script e.frames w gave.before o stays gave.goes)
+
+  -- its end
+  pub turns_to_end : (d : Collection) (new : State) (collected set_aside : ℕ) (answer : Turned) → new.activities ≡ e.activities → new.budget ≡ e.budget → CollectSteps script c e.store e.policy d new.store new.policy (answer_of.Finished collected set_aside)
+      → (asked ≡ true → answer ≡ turned.Line (Collected (collected + set_aside))) → (asked ≡ false → answer ≡ turned.Quiet) → CollectTurns script asked c e new answer
+  turns_to_end d new collected set_aside answer activities budget steps telling quiet w left k stays =
+      ends script asked c e left w k new activities budget collected set_aside (answered left w k (stays [] tt) d new (answer_of.Finished collected set_aside) steps) answer (Collected (collected + set_aside)) refl telling quiet
