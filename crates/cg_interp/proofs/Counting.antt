@@ -1,26 +1,35 @@
 -- The number that falls with each step of the machine, from an engine that stands for its world: it does not read which
 -- weak references wait.
-use Rattle.std.proofs.Common.{◌≡◌, refl, sym, ◌∙◌, ap, ℕ, ◌+◌, ◌*◌, suc, List, [], ◌∷◌, ◌++◌, Option, None, Some, arith}
-use Rattle.std.specs.Prelude.{flat_map}
+use Rattle.std.proofs.Common.{◌≡◌, refl, sym, ◌∙◌, ap, ℕ, ◌+◌, ◌*◌, suc, Bool, true, false, inl, inr, List, [], ◌∷◌, ◌++◌, Option, None, Some, arith}
+use Rattle.std.specs.Prelude.{flat_map, nat_lt, ◌||◌}
 use Rattle.std.specs.List.{list_any}
+use Rattle.std.proofs.lemmas.Bool.{lt-ltb}
 use Rattle.cg_script.specs.declared.Script.{Script}
 use Rattle.cg_graph.specs.Object.{Object}
-use Rattle.cg_graph.specs.Store.{objects_of}
+use Rattle.cg_graph.specs.Store.{Store, objects_of, list_at}
+use Rattle.cg_value.specs.declared.Place.TheVariants.{Pend}
+use Rattle.cg_machine.specs.declared.event.Event.{Event}
 use Rattle.cg_machine.specs.Program.{commands_of}
 use Rattle.cg_machine.specs.World as machine
-use Rattle.cg_machine.specs.World.{World, TopLevel, Framed, Releasing, Running, first_numbers}
+use Rattle.cg_machine.specs.World.{World, Numbers, TopLevel, Framed, Releasing, Running}
 use Rattle.cg_machine.specs.Due.{is_due}
-use Rattle.cg_machine.proofs.Tally.{tally, tally-append}
+use Rattle.cg_machine.proofs.Tally.{tally, tally-append, bit}
 use Rattle.cg_machine.proofs.Measure.{alive, commands_in, all_bodies, is_starting, due_rank, rank_in, left_in, entries_in, referents_in, weight_in, size_of, number, summary}
 use Rattle.cg_machine.proofs.Number.{number_of}
 use Rattle.cg_death.specs.Activities.{references_left, death_activities}
 use Rattle.cg_death.specs.declared.release.Release.{Release}
-use Rattle.cg_death.specs.declared.phase.Phase.{Phase}
-use Rattle.cg_death.specs.declared.phase.Phase.TheVariants as phase_of
-use Rattle.cg_interp.proofs.StepLemmas.{never_due}
+use Rattle.cg_death.specs.declared.phase.Phase as dying
+use Rattle.cg_death.specs.declared.phase.Phase.TheVariants as dying_phase
+use Rattle.cg_collect.specs.declared.collection.Collection.{Collection}
+use Rattle.cg_collect.specs.declared.phase.Phase.{Phase}
+use Rattle.cg_collect.specs.declared.phase.Phase.TheVariants as phase_of
+use Rattle.cg_collect.specs.Phases.{machine_phase, collecting, released_over, shown_with, lines_left, store_after}
+use Rattle.cg_collect.specs.Ready.{MayRun, IsBegun}
+use Rattle.cg_collect.specs.Answers.{numbers_at}
 use Rattle.cg_interp.specs.declared.activity.Activity.{Activity}
 use Rattle.cg_interp.specs.declared.activity.Activity.TheVariants as activity
-use Rattle.cg_interp.specs.Engines.{State, StandsFor, Shows, ShowsAll, commands_from, frame_of, released_first, death_shown}
+use Rattle.cg_interp.specs.Engines.{State, Shows, ShowsAll, commands_from, frame_of, released_first, death_shown}
+use Rattle.cg_interp.specs.Collecting.{StandsWith}
 
 -- the activities of the machine, as if no weak reference waited
 abbrev pub shown : Script → Activity → List machine.Activity
@@ -28,49 +37,146 @@ shown script (activity.Script next) = TopLevel (commands_from next (commands_of 
 shown script (activity.Frame locals procedure next) = Framed (frame_of script locals procedure next) ∷ []
 shown script (activity.Releasing release) = Releasing (references_left release) ∷ []
 shown script (activity.Dying death) = death_shown death []
+shown script (activity.Collecting asked c) = shown_with asked c []
+
+-- the heap once a collection on top has told the lines that it has left
+abbrev pub store_told : List Activity → Store → Store
+store_told [] store = store
+store_told (activity.Script next ∷ below) store = store
+store_told (activity.Frame locals procedure next ∷ below) store = store
+store_told (activity.Releasing release ∷ below) store = store
+store_told (activity.Dying death ∷ below) store = store
+store_told (activity.Collecting asked c ∷ below) store = store_after c.phase store
+
+-- these lines
+abbrev pub lines_of : Script → List Activity → Store → List Event
+lines_of script [] store = []
+lines_of script (activity.Script next ∷ below) store = []
+lines_of script (activity.Frame locals procedure next ∷ below) store = []
+lines_of script (activity.Releasing release ∷ below) store = []
+lines_of script (activity.Dying death ∷ below) store = []
+lines_of script (activity.Collecting asked c ∷ below) store = lines_left script asked c c.phase store
 
 -- a world for which an engine stands, as far as the number reads it
 abbrev pub world_from : Script → State → World
 world_from script e = record {
-  objects = objects_of e.store;
+  objects = objects_of (store_told e.activities e.store);
   next_serial = 0;
   names = [];
-  numbers = first_numbers;
+  numbers = e.policy.numbers;
   budget = e.budget;
   stack = flat_map (shown script) e.activities;
   outcome = Running;
 }
 
--- A sum over the activities that does not read which weak references wait with a death.
-abbrev IsBlind : (machine.Activity → ℕ) → Type 0
-IsBlind f = (o : ℕ) (phase : Phase) (waiting : List ℕ) → tally f (death_activities o phase waiting) ≡ tally f (death_activities o phase [])
+-- Where frames and deaths run no line is left.
+nothing_left : (script : Script) (asked : Bool) (c : Collection) (phase : Phase) (store : Store) → MayRun phase → lines_left script asked c phase store ≡ []
+nothing_left script asked c (phase_of.AfterCallback weak) store runs = refl
+nothing_left script asked c (phase_of.AfterFinalizing o) store runs = refl
+nothing_left script asked c (phase_of.AfterRelease weak) store runs = refl
+nothing_left script asked c phase_of.Finalizing store runs = refl
+nothing_left script asked c (phase_of.Turn o) store runs = refl
+nothing_left script asked c (phase_of.AfterTurn o) store runs = refl
+nothing_left script asked c _ store runs = absurd runs
 
-blind_commands : IsBlind commands_in
-blind_commands o phase_of.Finalizer waiting = refl
-blind_commands o _ waiting = refl
+told_already : (phase : Phase) (store : Store) → MayRun phase → store_after phase store ≡ store
+told_already (phase_of.AfterCallback weak) store runs = refl
+told_already (phase_of.AfterFinalizing o) store runs = refl
+told_already (phase_of.AfterRelease weak) store runs = refl
+told_already phase_of.Finalizing store runs = refl
+told_already (phase_of.Turn o) store runs = refl
+told_already (phase_of.AfterTurn o) store runs = refl
+told_already _ store runs = absurd runs
 
-blind_ranks : IsBlind rank_in
-blind_ranks o phase_of.Finalizer waiting = refl
-blind_ranks o _ waiting = refl
+-- So there is none in an engine that stands for a world, and its heap is that of the world.
+no_lines : (script : Script) (activities : List Activity) (stack : List machine.Activity) (store : Store) → ShowsAll script activities stack → lines_of script activities store ≡ []
+no_lines script [] stack store s = refl
+no_lines script (activity.Script next ∷ below) stack store s = refl
+no_lines script (activity.Frame locals procedure next ∷ below) stack store s = refl
+no_lines script (activity.Releasing release ∷ below) stack store s = refl
+no_lines script (activity.Dying death ∷ below) stack store s = refl
+no_lines script (activity.Collecting asked c ∷ below) stack store s = nothing_left script asked c c.phase store s.shows.handing.runs
 
-blind_left : (objects : List Object) → IsBlind (left_in objects)
-blind_left objects o phase_of.Finalizer waiting = refl
-blind_left objects o _ waiting = refl
+same_store : (script : Script) (activities : List Activity) (stack : List machine.Activity) (store : Store) → ShowsAll script activities stack → store_told activities store ≡ store
+same_store script [] stack store s = refl
+same_store script (activity.Script next ∷ below) stack store s = refl
+same_store script (activity.Frame locals procedure next ∷ below) stack store s = refl
+same_store script (activity.Releasing release ∷ below) stack store s = refl
+same_store script (activity.Dying death ∷ below) stack store s = refl
+same_store script (activity.Collecting asked c ∷ below) stack store s = told_already c.phase store s.shows.handing.runs
 
-blind_weights : IsBlind weight_in
-blind_weights o phase_of.Finalizer waiting = refl
-blind_weights o _ waiting = refl
+-- The lines that an engine has left are read off it.
+pub lines_are : (script : Script) (e : State) (left : List Event) (w : World) → StandsWith script e left w → left ≡ lines_of script e.activities e.store
+lines_are script e left w (inl (stands, none)) = none ∙ sym (no_lines script e.activities w.stack e.store stands.shows)
+lines_are script e left w (inr top) = top.collects.lines ∙ ap (λ list. lines_of script list e.store) (sym top.top)
+
+-- A sum over the activities that does not read which weak references wait with a death, or with a collection.
+record IsBlind (f : machine.Activity → ℕ) : Type 0 where
+  deaths : (o : ℕ) (phase : dying.Phase) (waiting : List ℕ) → tally f (death_activities o phase waiting) ≡ tally f (death_activities o phase [])
+  collections : (asked : Bool) (c : Collection) (phase : Phase) (pending : List ℕ) → tally f (collecting asked c (machine_phase phase pending)) ≡ tally f (collecting asked c (machine_phase phase []))
+
+commands_of_deaths : (o : ℕ) (phase : dying.Phase) (waiting : List ℕ) → tally commands_in (death_activities o phase waiting) ≡ tally commands_in (death_activities o phase [])
+commands_of_deaths o dying_phase.Finalizer waiting = refl
+commands_of_deaths o _ waiting = refl
+
+commands_of_collections : (asked : Bool) (c : Collection) (phase : Phase) (pending : List ℕ) → tally commands_in (collecting asked c (machine_phase phase pending)) ≡ tally commands_in (collecting asked c (machine_phase phase []))
+commands_of_collections asked c phase_of.Start pending = refl
+commands_of_collections asked c _ pending = refl
+
+ranks_of_deaths : (o : ℕ) (phase : dying.Phase) (waiting : List ℕ) → tally rank_in (death_activities o phase waiting) ≡ tally rank_in (death_activities o phase [])
+ranks_of_deaths o dying_phase.Finalizer waiting = refl
+ranks_of_deaths o _ waiting = refl
+
+ranks_of_collections : (asked : Bool) (c : Collection) (phase : Phase) (pending : List ℕ) → tally rank_in (collecting asked c (machine_phase phase pending)) ≡ tally rank_in (collecting asked c (machine_phase phase []))
+ranks_of_collections asked c phase_of.Start pending = refl
+ranks_of_collections asked c _ pending = refl
+
+weights_of_deaths : (o : ℕ) (phase : dying.Phase) (waiting : List ℕ) → tally weight_in (death_activities o phase waiting) ≡ tally weight_in (death_activities o phase [])
+weights_of_deaths o dying_phase.Finalizer waiting = refl
+weights_of_deaths o _ waiting = refl
+
+weights_of_collections : (asked : Bool) (c : Collection) (phase : Phase) (pending : List ℕ) → tally weight_in (collecting asked c (machine_phase phase pending)) ≡ tally weight_in (collecting asked c (machine_phase phase []))
+weights_of_collections asked c phase_of.Start pending = refl
+weights_of_collections asked c _ pending = refl
+
+abbrev starting : machine.Activity → ℕ
+starting a = bit (is_starting a)
+
+starts_of_deaths : (o : ℕ) (phase : dying.Phase) (waiting : List ℕ) → tally starting (death_activities o phase waiting) ≡ tally starting (death_activities o phase [])
+starts_of_deaths o dying_phase.Finalizer waiting = refl
+starts_of_deaths o _ waiting = refl
+
+starts_of_collections : (asked : Bool) (c : Collection) (phase : Phase) (pending : List ℕ) → tally starting (collecting asked c (machine_phase phase pending)) ≡ tally starting (collecting asked c (machine_phase phase []))
+starts_of_collections asked c phase_of.Start pending = refl
+starts_of_collections asked c _ pending = refl
+
+module _ (objects : List Object) where
+  left_of_deaths : (o : ℕ) (phase : dying.Phase) (waiting : List ℕ) → tally (left_in objects) (death_activities o phase waiting) ≡ tally (left_in objects) (death_activities o phase [])
+  left_of_deaths o dying_phase.Finalizer waiting = refl
+  left_of_deaths o _ waiting = refl
+
+  left_of_collections : (asked : Bool) (c : Collection) (phase : Phase) (pending : List ℕ) → tally (left_in objects) (collecting asked c (machine_phase phase pending)) ≡ tally (left_in objects) (collecting asked c (machine_phase phase []))
+  left_of_collections asked c phase_of.Start pending = refl
+  left_of_collections asked c _ pending = refl
 
 module _ (f : machine.Activity → ℕ) (blind : IsBlind f) (script : Script) where
   under_release : (release : Option Release) (xs ys : List machine.Activity) → tally f xs ≡ tally f ys → tally f (released_first release xs) ≡ tally f (released_first release ys)
   under_release None xs ys e = e
   under_release (Some release) xs ys e = omega (arith, e)
 
+  over_release : (release : Option Release) (xs ys : List machine.Activity) → tally f xs ≡ tally f ys → tally f (released_over release xs) ≡ tally f (released_over release ys)
+  over_release None xs ys e = e
+  over_release (Some release) xs ys e = omega (arith, e)
+
+  collection_alike : (asked : Bool) (c : Collection) (pending : List ℕ) → tally f (shown_with asked c pending) ≡ tally f (shown_with asked c [])
+  collection_alike asked c pending = over_release c.release (collecting asked c (machine_phase c.phase pending)) (collecting asked c (machine_phase c.phase [])) (blind.collections asked c c.phase pending)
+
   one : (a : Activity) (tops : List machine.Activity) → Shows script a tops → tally f tops ≡ tally f (shown script a)
   one (activity.Script next) tops e = ap (tally f) e
   one (activity.Frame locals procedure next) tops e = ap (tally f) e
   one (activity.Releasing release) tops e = ap (tally f) e
-  one (activity.Dying death) tops (waiting, e, settled) = ap (tally f) e ∙ under_release death.release (death_activities death.object death.phase waiting) (death_activities death.object death.phase []) (blind death.object death.phase waiting)
+  one (activity.Dying death) tops (waiting, e, settled) = ap (tally f) e ∙ under_release death.release (death_activities death.object death.phase waiting) (death_activities death.object death.phase []) (blind.deaths death.object death.phase waiting)
+  one (activity.Collecting asked c) tops s = ap (tally f) s.shown ∙ collection_alike asked c (list_at s.then Pend)
 
   same_tally : (activities : List Activity) (stack : List machine.Activity) → ShowsAll script activities stack → tally f stack ≡ tally f (flat_map (shown script) activities)
   same_tally [] stack e = ap (tally f) e
@@ -85,19 +191,45 @@ module _ (f : machine.Activity → ℕ) (blind : IsBlind f) (script : Script) wh
         tally-append f (shown script a) (flat_map (shown script) activities),
       )
 
-module _ (script : Script) (e : State) (w : World) (stands : StandsFor script e w) where
+  -- the same where a collection is on top
+  same_on_top : (asked : Bool) (c : Collection) (pending : List ℕ) (rest : List Activity) (stack below : List machine.Activity) → stack ≡ shown_with asked c pending ++ below → ShowsAll script rest below
+      → tally f stack ≡ tally f (flat_map (shown script) (activity.Collecting asked c ∷ rest))
+  same_on_top asked c pending rest stack below is over =
+      let here : tally f stack ≡ tally f (shown_with asked c pending ++ below) = ap (tally f) is in
+      omega (
+        arith,
+        here,
+        tally-append f (shown_with asked c pending) below,
+        collection_alike asked c pending,
+        same_tally rest below over,
+        tally-append f (shown_with asked c []) (flat_map (shown script) rest),
+      )
+
+-- whether one starts, by how many do
+any_starting : (xs : List machine.Activity) → list_any is_starting xs ≡ nat_lt 0 (tally starting xs)
+any_starting [] = refl
+any_starting (x ∷ xs) = go (is_starting x) (any_starting xs)
+  where
+    go : (b : Bool) → list_any is_starting xs ≡ nat_lt 0 (tally starting xs) → (b || list_any is_starting xs) ≡ nat_lt 0 (bit b + tally starting xs)
+    go true e = sym (lt-ltb 0 (1 + tally starting xs) (omega arith))
+    go false e = let same : tally starting xs ≡ 0 + tally starting xs = omega arith in e ∙ ap (nat_lt 0) same
+
+-- A world that has what the engine tells of it, and a stack with the same sums, has its number.
+module _ (script : Script) (e : State) (w : World) (objects : w.objects ≡ objects_of (store_told e.activities e.store)) (numbers : w.numbers ≡ e.policy.numbers) (budget : w.budget ≡ e.budget) (running : w.outcome ≡ Running)
+    (alike : (f : machine.Activity → ℕ) → IsBlind f → tally f w.stack ≡ tally f (flat_map (shown script) e.activities)) where
   same_summary : summary script w ≡ summary script (world_from script e)
   same_summary =
-      let objects : w.objects ≡ objects_of e.store = sym stands.represents.objects in
-      let commands : tally commands_in w.stack ≡ tally commands_in (flat_map (shown script) e.activities) = same_tally commands_in blind_commands script e.activities w.stack stands.shows in
-      let rank : tally rank_in w.stack ≡ tally rank_in (flat_map (shown script) e.activities) = same_tally rank_in blind_ranks script e.activities w.stack stands.shows in
-      let left : tally (left_in w.objects) w.stack ≡ tally (left_in (objects_of e.store)) (flat_map (shown script) e.activities) =
-      ap (λ os. tally (left_in os) w.stack) objects ∙ same_tally (left_in (objects_of e.store)) (blind_left (objects_of e.store)) script e.activities w.stack stands.shows in
-      let weight : tally weight_in w.stack ≡ tally weight_in (flat_map (shown script) e.activities) = same_tally weight_in blind_weights script e.activities w.stack stands.shows in
-      let due : due_rank (is_due w.numbers) (list_any is_starting w.stack) ≡ 0 = ap (λ b. due_rank b (list_any is_starting w.stack)) (never_due w stands.threshold) in
+      let now : List Object = objects_of (store_told e.activities e.store) in
+      let commands = alike commands_in (record { deaths = commands_of_deaths; collections = commands_of_collections }) in
+      let rank = alike rank_in (record { deaths = ranks_of_deaths; collections = ranks_of_collections }) in
+      let left : tally (left_in w.objects) w.stack ≡ tally (left_in now) (flat_map (shown script) e.activities) =
+      ap (λ os. tally (left_in os) w.stack) objects ∙ alike (left_in now) (record { deaths = left_of_deaths now; collections = left_of_collections now }) in
+      let weight = alike weight_in (record { deaths = weights_of_deaths; collections = weights_of_collections }) in
+      let starts : list_any is_starting w.stack ≡ list_any is_starting (flat_map (shown script) e.activities) =
+      any_starting w.stack ∙ ap (nat_lt 0) (alike starting (record { deaths = starts_of_deaths; collections = starts_of_collections })) ∙ sym (any_starting (flat_map (shown script) e.activities)) in
       λ i. record {
-        commands = alive (stands.running i) + stands.budget i * suc (all_bodies script) + commands i;
-        due = due i;
+        commands = alive (running i) + budget i * suc (all_bodies script) + commands i;
+        due = due_rank (is_due (numbers i)) (starts i);
         rank = rank i;
         left = left i;
         entries = entries_in (objects i);
@@ -106,6 +238,22 @@ module _ (script : Script) (e : State) (w : World) (stands : StandsFor script e 
         size = size_of (objects i);
       }
 
-  -- the number of a world for which an engine stands
-  pub same_number : number_of script w ≡ number_of script (world_from script e)
-  same_number = ap number same_summary
+  same : number_of script w ≡ number_of script (world_from script e)
+  same = ap number same_summary
+
+begun_numbers : (phase : Phase) (generation : ℕ) (numbers : Numbers) → IsBegun phase → numbers_at phase generation numbers ≡ numbers
+begun_numbers phase_of.Start generation numbers begun = absurd begun
+begun_numbers _ generation numbers begun = refl
+
+-- the number of a world for which an engine stands once its lines are told
+pub same_number : (script : Script) (e : State) (left : List Event) (w : World) → StandsWith script e left w → number_of script w ≡ number_of script (world_from script e)
+same_number script e left w (inl (stands, none)) =
+    same script e w (sym stands.represents.objects ∙ ap objects_of (sym (same_store script e.activities w.stack e.store stands.shows))) (sym stands.numbers) stands.budget stands.running
+    (λ f blind. same_tally f blind script e.activities w.stack stands.shows)
+same_number script e left w (inr top) =
+    let c : Collection = top.collection in
+    let h = top.collects in
+    let here : State = record e { activities = activity.Collecting top.asked c ∷ top.rest } in
+    same script here w (sym h.shows.represents.objects) (sym (h.shows.numbers ∙ begun_numbers c.phase c.generation w.numbers top.begun)) h.budget h.running
+    (λ f blind. same_on_top f blind script top.asked c (list_at e.store Pend) top.rest w.stack h.below h.shows.top h.over)
+    ∙ ap (λ list. number_of script (world_from script (record e { activities = list }))) (sym top.top)

@@ -1,6 +1,8 @@
 mod Positions
 mod Opens
 mod Counting
+mod Sizes
+mod Falling
 mod RunLemmas
 mod Standing
 mod Fitting
@@ -26,3 +28,4 @@ mod CollectBegins
 mod Telling
 mod UnderWay
 mod ControlLemmas
+mod TurnLemmas

@@ -24,7 +24,7 @@ use Rattle.cg_interp.specs.declared.activity.Activity.TheVariants as activity
 use Rattle.cg_interp.specs.declared.turned.Turned.{Turned}
 use Rattle.cg_interp.specs.declared.turned.Turned.TheVariants as turned
 use Rattle.cg_interp.specs.Engines.{State, StandsFor, commands_from, frame_of, under}
-use Rattle.cg_interp.specs.Callers.{Does, StartsCollection, DoesAny, StaysKeptAfter, AreDoable}
+use Rattle.cg_interp.specs.Callers.{Does, StartsCollection, DoesAny, StaysKeptAfter}
 use Rattle.cg_interp.specs.Telling.{GoesOnTo, TurnsWith}
 use Rattle.cg_interp.specs.Turns.{Makes, Turns}
 use Rattle.cg_interp.proofs.Standing.{plain_frame, plain_script, replaced, spelled, one_step}
@@ -35,20 +35,9 @@ use Rattle.cg_interp.proofs.UnderWay.{policy_is}
 pub due_in : (script : Script) (e : State) (w : World) (answer : Option ℕ) → StandsFor script e w → answer ≡ due_of e.policy → due w ≡ answer
 due_in script e w answer stands is = ap due_of (sym (policy_is script e w stands)) ∙ sym is
 
--- It is of generation 0, 1 or 2, and none is running.
-low_generation : (two one : Bool) → (if two then 2 else if one then 1 else 0) ≤ 2
-low_generation true one = omega arith
-low_generation false true = omega arith
-low_generation false false = omega arith
-
-due_low : (n : Numbers) (yes running : Bool) (g : ℕ) → (if yes && not running then Some (due_generation n) else None) ≡ Some g → (due_generation n ≤ 2) → (g ≤ 2) × (running ≡ false)
-due_low n true false g is low = (let same : due_generation n ≡ g = cc in subst (λ k. k ≤ 2) same low, refl)
-due_low n true true g is low = absurd (cc)
-due_low n false true g is low = absurd (cc)
-due_low n false false g is low = absurd (cc)
-
-pub due_is_low : (p : Policy) (g : ℕ) → Some g ≡ due_of p → (g ≤ 2) × (p.running ≡ false)
-due_is_low p g is = due_low p.numbers (is_due p.numbers) p.running g (sym is) (low_generation _ _)
+pub none_due_in : (script : Script) (e : State) (w : World) (answer : Option ℕ) → StandsFor script e w → answer ≡ due_of e.policy → ((g : ℕ) → answer ≡ Some g → ⊥) → due w ≡ None
+none_due_in script e w None stands is never = due_in script e w None stands is
+none_due_in script e w (Some g) stands is never = absurd (never g refl)
 
 -- a transition that the machine may make is what a turn answers
 pub turns : (script : Script) (w : World) (e : State) (t : Transition) (answer : Turned) → w.outcome ≡ Running → StepOf script w w.stack t.0 t.1 → Makes script t e answer → Turns script w e answer
@@ -103,12 +92,12 @@ module _ (script : Script) (w without : World) (c : Command) (running : w.outcom
   command_keeps budget kept events after may = kept_after script w after running budget events (step events after may) kept
 
 -- what is left was there before
-pub still_there : {X : Type 0} (n : ℕ) (xs : List X) (x : X) → Includes (drop n xs) x → Includes xs x
+still_there : {X : Type 0} (n : ℕ) (xs : List X) (x : X) → Includes (drop n xs) x → Includes xs x
 still_there n xs x m = subst (λ l. Includes l x) (take-append-drop n xs) (Includes-append_right (take n xs) (drop n xs) x m)
 
-pub is_doable : (names : ℕ) (commands rest : List Command) (next : Option ℕ) (c : Command) → AreDoable names commands → commands_from next commands ≡ c ∷ rest → Includes commands c
-is_doable names commands rest None c all is = absurd (cc)
-is_doable names commands rest (Some n) c all is = still_there n commands c (subst (λ l. Includes l c) (sym is) (inl refl))
+pub is_there : (commands rest : List Command) (next : Option ℕ) (c : Command) → commands_from next commands ≡ c ∷ rest → Includes commands c
+is_there commands rest None c is = absurd (cc)
+is_there commands rest (Some n) c is = still_there n commands c (subst (λ l. Includes l c) (sym is) (inl refl))
 
 -- The script is on top.
 module _ (script : Script) (e : State) (next : Option ℕ) (w : World) (stands : StandsFor script (under (activity.Script next) e) w) where

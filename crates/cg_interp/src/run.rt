@@ -5,6 +5,7 @@ ghost use Rattle.cg_io.specs.Causes.{Rose, HasCause};
 ghost use Rattle.cg_script.specs.Spelled.{IsSpelled};
 ghost use Rattle.cg_script.specs.Texts.{TextsAreKnown};
 ghost use Rattle.cg_graph.specs.Changes.{opening_store};
+ghost use Rattle.cg_heap.specs.Calls.{IsSound};
 ghost use Rattle.cg_machine.specs.declared.event.Event.{Event as AnyEvent};
 ghost use Rattle.cg_machine.specs.World.{World, Ended, BudgetIsSpent, opening};
 ghost use Rattle.cg_laws.specs.Kept.{StaysKept};
@@ -64,8 +65,11 @@ fn turn_and_write<B: Kind, K: Sink, L: Ledger>(
     ensures cause { HasCause (K.faults sink.old) (K.faults sink.new) result }
     ensures fit { IsFit script.now engine.new }
     ensures frames { engine.new.frames ≡ engine.old.frames }
+    ensures sound { IsSound engine.new.store }
 {
     let answer = engine.turn(table, script, steps);
+    // No heap is large, so a collection has few lines left after a turn, and little to do.
+    engine.heap.sound();
     match write_answer(answer, &script.names, sink) {
         Ok(()) => Ok(answer),
         Err(fault) => Err(fault),

@@ -1,12 +1,16 @@
-use Rattle.std.proofs.Common.{◌∙◌, arith}
-use Rattle.cg_interp.proofs.RunLemmas.{turn_may_be_taken, ran_quietly, ran_line, ran_to_end, ran_out, ran_cut, falls_quietly, falls_with_line}
+use Rattle.std.proofs.Common.{◌∙◌, refl, arith}
+use Rattle.cg_interp.proofs.Sizes.{small}
+use Rattle.cg_interp.proofs.RunLemmas.{turn_may_be_taken, ran_quietly, ran_line, ran_to_end, ran_out, ran_cut, falls_quietly, falls_with_line, ran_start}
 use Rattle.cg_interp.proofs.run.run_turns.Goals as goal
+
+pub turns-init : goal.turns-init
+turns-init g c = record { ran = ran_start c.args.script.now _ _ _ c.requires.opens; fit = c.requires.fit; frames = refl; later = omega arith }
 
 pub turn_and_write-requires-clause-stands : goal.turn_and_write-requires-clause-stands
 turn_and_write-requires-clause-stands g c = turn_may_be_taken _ _ _ _ _ c.turns.invariant.ran c.requires.laws c.turns.invariant.frames
 
 pub turns-smaller-in-Ok-Quiet : goal.turns-smaller-in-Ok-Quiet
-turns-smaller-in-Ok-Quiet g c = falls_quietly _ _ _ _ _ c.turns.invariant.ran c.requires.laws c.turns.invariant.frames _ _ _ c.in-Ok-Quiet.field-0-is c.in-Ok-Quiet.ensures.ok
+turns-smaller-in-Ok-Quiet g c = falls_quietly _ _ _ _ _ c.turns.invariant.ran c.requires.laws c.turns.invariant.frames _ _ _ (small _ c.turn_and_write.ensures.sound) c.in-Ok-Quiet.field-0-is c.in-Ok-Quiet.ensures.ok
 
 pub turns-preserved-in-Ok-Quiet : goal.turns-preserved-in-Ok-Quiet
 turns-preserved-in-Ok-Quiet g c = record {
@@ -17,7 +21,7 @@ turns-preserved-in-Ok-Quiet g c = record {
 }
 
 pub turns-smaller : goal.turns-smaller
-turns-smaller g c = falls_with_line _ _ _ _ _ c.turns.invariant.ran c.requires.laws c.turns.invariant.frames _ _ _ _ c.in-Ok-Line.field-0-is c.in-Ok-Line.ensures.ok
+turns-smaller g c = falls_with_line _ _ _ _ _ c.turns.invariant.ran c.requires.laws c.turns.invariant.frames _ _ _ _ (small _ c.turn_and_write.ensures.sound) c.in-Ok-Line.field-0-is c.in-Ok-Line.ensures.ok
 
 pub turns-preserved : goal.turns-preserved
 turns-preserved g c = record {

@@ -1,8 +1,7 @@
 use Rattle.std.proofs.Common.{◌≡◌, ◌≤◌}
-use Rattle.cg_machine.proofs.Number.{number_of}
 use Rattle.cg_interp.specs.Turns.{IsFit}
 use Rattle.cg_interp.specs.Running.{Ran}
-use Rattle.cg_interp.proofs.Counting.{world_from}
+use Rattle.cg_interp.proofs.Falling.{falling}
 use Rattle.cg_interp.proofs.run.run_turns.Given as goal
 
 -- the text of the run so far was written, and the engine stands for the world that it left
@@ -15,4 +14,4 @@ invariant-turns g l = record {
 }
 
 abbrev pub decreases-turns : goal.decreases-turns
-decreases-turns g l = number_of l.script (world_from l.script l.engine)
+decreases-turns g l = falling l.script l.engine

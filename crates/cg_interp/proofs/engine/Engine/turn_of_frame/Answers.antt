@@ -1,31 +1,34 @@
-use Rattle.std.proofs.Common.{subst, sym, arith, [], length}
+use Rattle.std.proofs.Common.{subst, sym, arith, []}
 use Rattle.cg_heap.specs.Calls.{IsSound}
+use Rattle.cg_collect.specs.Numbers.{AreSmall}
 use Rattle.cg_interp.specs.declared.activity.Activity.TheVariants as activity_of
-use Rattle.cg_interp.specs.Callers.{AreDoable}
 use Rattle.cg_interp.proofs.Lawfully.{has_room, few_holds, few_objects}
-use Rattle.cg_interp.proofs.SpelledLemmas.{body_doable, low_serials, locals_are_live}
+use Rattle.cg_interp.proofs.SmallNumbers.{small_numbers}
+use Rattle.cg_interp.proofs.SpelledLemmas.{low_serials, locals_are_live}
 use Rattle.cg_interp.proofs.engine.Engine.turn_of_frame.Goals as goal
-
-pub go_on_in-requires-clause-doable : goal.go_on_in-requires-clause-doable
-go_on_in-requires-clause-doable g c = subst (AreDoable (length c.args.self.now.store.names)) (sym c.body.ensures) (body_doable c.args.script.now c.requires.spelled _ c.args.procedure c.requires.fit.names)
 
 pub go_on_in-requires-clause-live : goal.go_on_in-requires-clause-live
 go_on_in-requires-clause-live g c =
     let s = c.requires.stands in
-    locals_are_live c.args.script.now c.args.self.now.frames c.args.self.now c.args.locals c.args.procedure c.args.next s.0 s.1 (s.2 [] tt)
+    locals_are_live c.args.script.now c.args.self.now.frames c.args.self.now c.args.locals c.args.procedure c.args.next s.0 s.1 (s.2 [] tt).lawful
 
 pub go_on_in-requires-clause-few : goal.go_on_in-requires-clause-few
 go_on_in-requires-clause-few g c =
     let s = c.requires.stands in
     let sound = subst (λ e. IsSound e.store) c.self.view_is c.sound.ensures in
-    few_holds c.args.script.now c.args.self.now.frames c.args.self.now.store s.0 s.1.represents (s.2 [] tt) c.requires.fit.frames (few_objects c.args.self.now.store sound.objects)
+    few_holds c.args.script.now c.args.self.now.frames c.args.self.now.store s.0 s.1.represents (s.2 [] tt).lawful c.requires.fit.frames (few_objects c.args.self.now.store sound.objects)
 
 pub go_on_in-requires-clause-last : goal.go_on_in-requires-clause-last
 go_on_in-requires-clause-last g c =
     let s = c.requires.stands in
-    low_serials c.args.script.now c.requires.spelled c.args.self.now.frames c.args.self.now.store s.0 s.1.represents (s.2 [] tt) c.requires.fit.frames
+    low_serials c.args.script.now c.requires.spelled c.args.self.now.frames c.args.self.now.store s.0 s.1.represents (s.2 [] tt).lawful c.requires.fit.frames
+
+pub go_on_in-requires-clause-small : goal.go_on_in-requires-clause-small
+go_on_in-requires-clause-small g c =
+    let s = c.requires.stands in
+    subst AreSmall (sym s.1.numbers) (small_numbers c.args.script.now c.args.self.now.frames s.0 c.requires.spelled (s.2 [] tt).few c.requires.fit.frames)
 
 pub go_on_in-requires-clause-room : goal.go_on_in-requires-clause-room
 go_on_in-requires-clause-room g c =
     let s = c.requires.stands in
-    omega (arith, has_room c.args.script.now (activity_of.Frame c.args.locals c.args.procedure c.args.next) c.args.self.now s.0 s.1 (s.2 [] tt) c.requires.fit)
+    omega (arith, has_room c.args.script.now (activity_of.Frame c.args.locals c.args.procedure c.args.next) c.args.self.now s.0 s.1 (s.2 [] tt).lawful c.requires.fit)

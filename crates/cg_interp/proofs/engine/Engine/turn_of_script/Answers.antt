@@ -1,25 +1,29 @@
-use Rattle.std.proofs.Common.{subst, arith, []}
+use Rattle.std.proofs.Common.{subst, sym, arith, []}
 use Rattle.cg_heap.specs.Calls.{IsSound}
+use Rattle.cg_collect.specs.Numbers.{AreSmall}
 use Rattle.cg_interp.specs.declared.activity.Activity.TheVariants as activity_of
 use Rattle.cg_interp.proofs.Lawfully.{has_room, few_holds, few_objects}
-use Rattle.cg_interp.proofs.SpelledLemmas.{script_doable, low_serials}
+use Rattle.cg_interp.proofs.SmallNumbers.{small_numbers}
+use Rattle.cg_interp.proofs.SpelledLemmas.{low_serials}
 use Rattle.cg_interp.proofs.engine.Engine.turn_of_script.Goals as goal
-
-pub go_on-requires-clause-doable : goal.go_on-requires-clause-doable
-go_on-requires-clause-doable g c = script_doable c.args.script.now c.requires.spelled _ c.requires.fit.names
 
 pub go_on-requires-clause-few : goal.go_on-requires-clause-few
 go_on-requires-clause-few g c =
     let s = c.requires.stands in
     let sound = subst (λ e. IsSound e.store) c.self.view_is c.sound.ensures in
-    few_holds c.args.script.now c.args.self.now.frames c.args.self.now.store s.0 s.1.represents (s.2 [] tt) c.requires.fit.frames (few_objects c.args.self.now.store sound.objects)
+    few_holds c.args.script.now c.args.self.now.frames c.args.self.now.store s.0 s.1.represents (s.2 [] tt).lawful c.requires.fit.frames (few_objects c.args.self.now.store sound.objects)
 
 pub go_on-requires-clause-last : goal.go_on-requires-clause-last
 go_on-requires-clause-last g c =
     let s = c.requires.stands in
-    low_serials c.args.script.now c.requires.spelled c.args.self.now.frames c.args.self.now.store s.0 s.1.represents (s.2 [] tt) c.requires.fit.frames
+    low_serials c.args.script.now c.requires.spelled c.args.self.now.frames c.args.self.now.store s.0 s.1.represents (s.2 [] tt).lawful c.requires.fit.frames
+
+pub go_on-requires-clause-small : goal.go_on-requires-clause-small
+go_on-requires-clause-small g c =
+    let s = c.requires.stands in
+    subst AreSmall (sym s.1.numbers) (small_numbers c.args.script.now c.args.self.now.frames s.0 c.requires.spelled (s.2 [] tt).few c.requires.fit.frames)
 
 pub go_on-requires-clause-room : goal.go_on-requires-clause-room
 go_on-requires-clause-room g c =
     let s = c.requires.stands in
-    omega (arith, has_room c.args.script.now (activity_of.Script c.args.next) c.args.self.now s.0 s.1 (s.2 [] tt) c.requires.fit)
+    omega (arith, has_room c.args.script.now (activity_of.Script c.args.next) c.args.self.now s.0 s.1 (s.2 [] tt).lawful c.requires.fit)

@@ -1,0 +1,62 @@
+-- A turn of what is on top, as a turn of the engine.
+use Rattle.std.proofs.Common.{◌≡◌, ◌≢◌, sym, ◌∙◌, ap, subst, ℕ, true, false, inl, inr, List, [], ◌∷◌}
+use Rattle.cg_script.specs.declared.Script.{Script}
+use Rattle.cg_graph.proofs.Members.{either}
+use Rattle.cg_machine.specs.declared.event.Event.{Event}
+use Rattle.cg_machine.specs.World.{World}
+use Rattle.cg_machine.specs.Lawful.{IsLawful}
+use Rattle.cg_collect.specs.Phases.{lines_left}
+use Rattle.cg_collect.specs.Answers.{Shows as CollectionShows}
+use Rattle.cg_collect.specs.Collections.{IsReady}
+use Rattle.cg_interp.specs.declared.activity.Activity.{Activity as Own}
+use Rattle.cg_interp.specs.declared.activity.Activity.TheVariants as activity
+use Rattle.cg_interp.specs.declared.turned.Turned.{Turned}
+use Rattle.cg_interp.specs.Engines.{State, StandsFor, is_collecting, under}
+use Rattle.cg_interp.specs.Collecting.{StandsWith, Collects, CollectsOnTop}
+use Rattle.cg_interp.specs.Telling.{Advances, TurnsWith, TurnsFrom, TurnsAny}
+use Rattle.cg_interp.proofs.ArmLemmas.{something_under_way}
+use Rattle.cg_interp.proofs.CallerLemmas.{same_engine}
+use Rattle.cg_interp.proofs.Telling.{turns_moving}
+
+-- With anything but a collection on top no line is left.
+pub stands_plainly : (script : Script) (top : Own) (e : State) (left : List Event) (w : World) → is_collecting top ≡ false → StandsWith script (under top e) left w → StandsFor script (under top e) w × (left ≡ [])
+stands_plainly script top e left w plain stands = either stands (λ plainly. plainly) (λ (on_top : CollectsOnTop script (under top e) left w).
+    let heads : (top ∷ e.activities) ≡ activity.Collecting on_top.asked on_top.collection ∷ on_top.rest = on_top.top in
+    let same : top ≡ activity.Collecting on_top.asked on_top.collection = cc in
+    let clash : false ≡ true = sym plain ∙ ap is_collecting same in
+    absurd (cc))
+
+-- So a turn of it is a turn of the engine.
+pub turns_any : (script : Script) (top : Own) (old new : State) (answer : Turned) → is_collecting top ≡ false → TurnsFrom script top old new answer → TurnsAny script (under top old) new answer
+turns_any script top old new answer plain turns w left stands kept =
+    let plainly = stands_plainly script top old left w plain stands in
+    subst (λ l. TurnsWith script (Advances (under top old) l new) w l new answer) (sym plainly.1) (turns_moving script (Advances (under top old) [] new) w [] new answer (turns w plainly.0 kept))
+
+-- another engine with the same parts, where a collection on top may have lines left
+pub stands_alike : (script : Script) (old new : State) (left : List Event) (w : World) → new.store ≡ old.store → new.policy ≡ old.policy → new.activities ≡ old.activities → new.budget ≡ old.budget → StandsWith script old left w → StandsWith script new left w
+stands_alike script old new left w store policy activities budget stands = either stands
+    (λ plainly. inl (same_engine script old new w plainly.0 store policy activities budget, plainly.1))
+    (λ (on_top : CollectsOnTop script old left w). inr (record {
+      asked = on_top.asked;
+      collection = on_top.collection;
+      rest = on_top.rest;
+      top = activities ∙ on_top.top;
+      begun = on_top.begun;
+      collects = record {
+        below = on_top.collects.below;
+        shows = subst (λ s. CollectionShows on_top.asked on_top.collection s new.policy w on_top.collects.below) (sym store)
+            (subst (λ p. CollectionShows on_top.asked on_top.collection old.store p w on_top.collects.below) (sym policy) on_top.collects.shows);
+        over = on_top.collects.over;
+        budget = on_top.collects.budget ∙ sym budget;
+        running = on_top.collects.running;
+        alone = on_top.collects.alone;
+        ready = subst (IsReady on_top.collection) (sym store) on_top.collects.ready;
+        lines = on_top.collects.lines ∙ ap (lines_left script on_top.asked on_top.collection on_top.collection.phase) (sym store);
+      };
+    }))
+
+-- something is always on top
+pub something_on_top : (script : Script) (e : State) (left : List Event) (w : World) (budget : ℕ) → StandsWith script e left w → IsLawful script budget w → e.activities ≢ []
+something_on_top script e left w budget stands lawful none = either stands
+    (λ plainly. something_under_way script e w budget plainly.0 lawful none)
+    (λ (on_top : CollectsOnTop script e left w). absurd (let clash : [] ≡ activity.Collecting on_top.asked on_top.collection ∷ on_top.rest = sym none ∙ on_top.top in cc))
