@@ -84,7 +84,7 @@ still_bounded g n numbers below few = record {
   total = left (g == 2);
 }
   where
-    waits : (b c : Bool) → (if b then numbers.pending else (if c then numbers.pending + n else 0)) < 2 ^ 63
+    waits : (b c : Bool) → (if b then numbers.pending else (if c then numbers.pending + n else 0)) < 2 ^ 127
     waits true c = omega (arith, below.pending)
     waits false true = omega (arith, below.pending, few)
     waits false false = omega arith

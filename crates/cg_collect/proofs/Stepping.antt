@@ -15,7 +15,7 @@ use Rattle.cg_collect.specs.declared.phase.Turn.{Turn}
 use Rattle.cg_collect.specs.Ready.{HasFewCollected, RunsFrame, MayRun}
 use Rattle.cg_collect.specs.Answers.{CollectSteps}
 use Rattle.cg_collect.specs.Turns.{TurnSteps, TurnFalls, TurnLeaves, StaysReady, HandsOutIn, KeepsObjects}
-use Rattle.cg_collect.specs.Collections.{IsReady, KeepsReady, CollectFalls, facts_of, given_up_by, own_holds_at, held_by}
+use Rattle.cg_collect.specs.Collections.{IsReady, KeepsReady, CollectFalls, DiesUnheld, facts_of, given_up_by, own_holds_at, held_by}
 use Rattle.cg_collect.proofs.GivingUp.{few_at_most}
 
 -- what is held of a collection: what it gives up, and what its phase holds
@@ -95,6 +95,16 @@ module _ (old mid : Collection) (store between : Store) (same : mid ≡ old) (he
         )
         known (answer_of.Died o) r out = absurd out
         known (answer_of.Finished collected set_aside) r out = (still_ready ready).generation
+
+    pub turned-died : TurnLeaves between mid.phase now turn → DiesUnheld turn.answer now
+    turned-died leaves = known turn.answer leaves.hands_out
+      where
+        known : (answer : CollectStep) → HandsOutIn answer turn.phase turn.release → DiesUnheld answer now
+        known answer_of.Continue out = tt
+        known (answer_of.Emit event) out = tt
+        known (answer_of.Frame spec) out = tt
+        known (answer_of.Died o) out = absurd out
+        known (answer_of.Finished collected set_aside) out = tt
 
     pub turned-generation : (turned turn).generation ≡ old.generation
     turned-generation = ap (λ (c : Collection). c.generation) same

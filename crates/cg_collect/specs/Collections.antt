@@ -2,7 +2,7 @@
 use Rattle.std.specs.Prelude.{◌≡◌, ℕ, ◌≤◌, List, [], ◌∷◌, ◌++◌, Option, Some, None, IsSome, drop}
 use Rattle.cg_graph.specs.Store.{Store}
 use Rattle.cg_death.specs.declared.release.Release.{Release}
-use Rattle.cg_death.specs.Activities.{references_left}
+use Rattle.cg_death.specs.Activities.{references_left, IsUnheld}
 use Rattle.cg_death.specs.Answers.{ReleaseSteps, once_released, release_answer}
 use Rattle.cg_death.specs.declared.answer.DeathStep.{DeathStep}
 use Rattle.cg_death.specs.declared.answer.DeathStep.TheVariants as death_answer
@@ -60,6 +60,11 @@ KeepsReady c store (answer_of.Frame spec) = HandsOut c store × RunsFrame c.phas
 KeepsReady c store (answer_of.Died o) = HandsOut c store × IsSome c.release
 KeepsReady c store (answer_of.Finished collected set_aside) = c.generation ≤ 2
 
+-- The object whose death is to begin lives, and nothing holds it.
+abbrev pub DiesUnheld : CollectStep → Store → Type 0
+DiesUnheld (answer_of.Died o) store = IsUnheld store o
+DiesUnheld answer store = Unit {0}
+
 -- A step that went on without an answer reached a later pass, or in the same pass less is left.
 abbrev pub CollectFalls : Collection → Store → Collection → Store → Type 0
 CollectFalls old store new now = ComesNearer store old.phase old.release now new.phase new.release
@@ -83,4 +88,5 @@ pub record GivesUpNext (old : Collection) (store : Store) (new : Collection) (no
   pub heap : now ≡ once_released (references_left before) store
   pub collection : new ≡ once_given_up old after (release_answer (references_left before) now)
   pub told : answer ≡ give_up_answer (release_answer (references_left before) now)
+  pub unheld : DiesUnheld answer now
   pub steps : ReleaseSteps store (references_left before) now (references_left after) (release_answer (references_left before) now)

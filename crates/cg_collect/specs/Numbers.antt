@@ -7,5 +7,5 @@ pub record AreSmall (n : Numbers) : Type 0 where
   pub zero : n.zero_count < 2 ^ 62
   pub one : n.one_count < 2 ^ 62
   pub two : n.two_count < 2 ^ 62
-  pub pending : n.pending < 2 ^ 62
+  pub pending : n.pending < 2 ^ 126
   pub total : n.total < 2 ^ 62

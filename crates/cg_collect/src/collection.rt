@@ -13,7 +13,7 @@ ghost use Rattle.cg_collect.specs.Numbers.{AreSmall};
 ghost use Rattle.cg_collect.specs.Ready.{IsClear, IsReadyAt, IsBegun};
 ghost use Rattle.cg_collect.specs.Turns.{TurnSteps, TurnFalls, TurnLeaves, StaysReady, KeepsObjects};
 ghost use Rattle.cg_collect.specs.Answers.{CollectSteps, Shows};
-ghost use Rattle.cg_collect.specs.Collections.{IsReady, KeepsReady, CollectFalls, GivesUpNext, held_by, given_up_by, own_holds_at, facts_of};
+ghost use Rattle.cg_collect.specs.Collections.{IsReady, KeepsReady, CollectFalls, DiesUnheld, GivesUpNext, held_by, given_up_by, own_holds_at, facts_of};
 
 use crate::answer::CollectStep;
 use crate::detection::{detach_one, detect, tell_living};
@@ -91,6 +91,7 @@ impl Collection {
         ensures steps { CollectSteps script.now self.old heap.old policy.old self.new heap.new policy.new result }
         ensures ready { KeepsReady self.new heap.new result }
         ensures falls { result ≡ answer_of.Continue → CollectFalls self.old heap.old self.new heap.new }
+        ensures died { DiesUnheld result heap.new }
 
         // What it leaves besides, whatever it answers.
         ensures generation { self.new.generation ≡ self.old.generation }

@@ -1,7 +1,7 @@
 use Rattle.std.proofs.Common.{subst, sym}
 use Rattle.cg_heap.specs.Calls.{HasFewHolds}
 use Rattle.cg_collect.proofs.GivingUp.{gives_up-steps, gives_up-ready, gives_up-generation, gives_up-begun, gives_up-keeps, gives_up-falls}
-use Rattle.cg_collect.proofs.Stepping.{given_up_held, still_ready, still_held, turned-steps, turned-ready, turned-generation, turned-keeps, turned-falls}
+use Rattle.cg_collect.proofs.Stepping.{given_up_held, still_ready, still_held, turned-steps, turned-ready, turned-died, turned-generation, turned-keeps, turned-falls}
 use Rattle.cg_collect.proofs.collection.Collection.step.Goals as goal
 
 pub give_up-requires : goal.give_up-requires
@@ -48,6 +48,14 @@ pub returns-clause-falls : goal.returns-clause-falls
 returns-clause-falls g c =
     let same = c.in_default.ensures.none in
     turned-falls c.args.self.now c.give_up.new.self c.args.heap.now c.give_up.new.heap same.0 same.1 same.2 c.turn-turn.result c.turn-turn.new.heap c.turn-turn.ensures.falls
+
+pub returns-in-Some-clause-died : goal.returns-in-Some-clause-died
+returns-in-Some-clause-died g c = c.in-Some.ensures.some.unheld
+
+pub returns-clause-died : goal.returns-clause-died
+returns-clause-died g c =
+    let same = c.in_default.ensures.none in
+    turned-died c.args.self.now c.give_up.new.self c.args.heap.now c.give_up.new.heap same.0 same.1 same.2 c.turn-turn.result c.turn-turn.new.heap c.turn-turn.ensures.leaves
 
 -- What it leaves besides.
 pub returns-in-Some-clause-generation : goal.returns-in-Some-clause-generation
