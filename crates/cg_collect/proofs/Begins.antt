@@ -28,10 +28,10 @@ use Rattle.cg_collect.specs.Numbers.{AreSmall}
 use Rattle.cg_collect.specs.Phases.{collection_of, lines_left}
 use Rattle.cg_collect.specs.Ready.{IsClear, IsReadyAt, IsApartUnseen, IsEmptyAt, HasFewCollected, IsBegun}
 use Rattle.cg_collect.specs.Answers.{Shows, Stands, WentOn, CollectSteps}
-use Rattle.cg_collect.specs.Turns.{collection_at, TurnSteps, StaysReady, TurnLeaves, KeepsObjects}
+use Rattle.cg_collect.specs.Turns.{pass_of, collection_at, TurnSteps, StaysReady, TurnLeaves, KeepsObjects}
 use Rattle.cg_collect.specs.Starting.{told_sizes, told_if, told_after_sizes, told_start}
 use Rattle.cg_collect.proofs.Standing.{same_more, map_alike, place_there, objects_on, outside_on, list_has, list_length}
-use Rattle.cg_collect.proofs.Telling.{ready_told, few_told, begun_told, told_lines, turn_to}
+use Rattle.cg_collect.proofs.Telling.{ready_told, few_told, begun_told, late_told, told_lines, turn_to}
 use Rattle.cg_collect.proofs.Apart.{nobody_waits, apart_unseen}
 use Rattle.cg_collect.proofs.Traces.{Trace, same16}
 use Rattle.cg_collect.proofs.Sorts.{chosen, places, sorts, objects_sorted, survivors_counted}
@@ -66,8 +66,12 @@ begun_start : (s b : Bool) (old store : Store) → IsBegun (told_start s b old s
 begun_start true b old store = tt
 begun_start false b old store = begun_told b store
 
+late_start : (s b : Bool) (old store : Store) → 1 ≤ pass_of (told_start s b old store)
+late_start true b old store = omega arith
+late_start false b old store = omega (arith, late_told b store)
+
 leaves_start : (s b : Bool) (old store : Store) (event : Event) → TurnLeaves old phase_of.Start store (record { phase = told_start s b old store; release = None; collected = 0; answer = answer_of.Emit event })
-leaves_start s b old store event = record { few = λ n h. few_start (n + 0) s b old store (omega (arith, h)); gives_up = tt; hands_out = tt; begun = begun_start s b old store }
+leaves_start s b old store event = record { few = λ n h. few_start (n + 0) s b old store (omega (arith, h)); gives_up = tt; hands_out = tt; begun = begun_start s b old store; onward = omega (arith, late_start s b old store) }
 
 -- what the code tells first
 told_start-is : (s b : Bool) (old store : Store) → unwrap_or (if s then Some (told_sizes old) else None) (told_if b store) ≡ told_start s b old store

@@ -34,7 +34,7 @@ use Rattle.cg_collect.specs.declared.phase.Phase.TheVariants as phase_of
 use Rattle.cg_collect.specs.Phases.{machine_phase, collecting, released_over, lines_left, store_after}
 use Rattle.cg_collect.specs.Ready.{IsApart, OthersHaveCallbacks, IsReadyAt, HasFewCollected, MayGiveUp, GivesUpIn, MayRun, IsBegun, SparesGarbageList}
 use Rattle.cg_collect.specs.Answers.{Shows, CollectAnswer, CollectSteps, numbers_at}
-use Rattle.cg_collect.specs.Turns.{TurnSteps, ComesNearer, KeepsObjects, left_in_pass, to_clear, others_cleared}
+use Rattle.cg_collect.specs.Turns.{pass_of, passes_on, TurnSteps, ComesNearer, KeepsObjects, left_in_pass, to_clear, others_cleared}
 use Rattle.cg_collect.specs.Collections.{IsReady, KeepsReady, CollectFalls, GivesUpNext, once_given_up, give_up_answer}
 use Rattle.cg_collect.proofs.Worlds.{turn_steps}
 use Rattle.cg_collect.proofs.Keeping.{keeps-released}
@@ -269,13 +269,14 @@ module _ (refs : List ℕ) (store : Store) where
 record Lasts (p : Phase) : Type 0 where
   runs : MayRun p
   begun : IsBegun p
+  onward : passes_on p ≡ 0
   spares : (store : Store) (g : ℕ) → IsReadyAt store g p → SparesGarbageList p
 
 lasts_at : (p : Phase) → MayGiveUp p → Lasts p
-lasts_at (phase_of.AfterRelease weak) may = record { runs = tt; begun = tt; spares = λ store g r. r.2 }
-lasts_at phase_of.Finalizing may = record { runs = tt; begun = tt; spares = λ store g r. tt }
-lasts_at (phase_of.Turn o) may = record { runs = tt; begun = tt; spares = λ store g r. r.1 }
-lasts_at (phase_of.AfterTurn o) may = record { runs = tt; begun = tt; spares = λ store g r. r.1 }
+lasts_at (phase_of.AfterRelease weak) may = record { runs = tt; begun = tt; onward = refl; spares = λ store g r. r.2 }
+lasts_at phase_of.Finalizing may = record { runs = tt; begun = tt; onward = refl; spares = λ store g r. tt }
+lasts_at (phase_of.Turn o) may = record { runs = tt; begun = tt; onward = refl; spares = λ store g r. r.1 }
+lasts_at (phase_of.AfterTurn o) may = record { runs = tt; begun = tt; onward = refl; spares = λ store g r. r.1 }
 lasts_at phase_of.Start may = absurd may
 lasts_at (phase_of.Sizes zero one two frozen) may = absurd may
 lasts_at (phase_of.Telling next) may = absurd may
@@ -352,6 +353,9 @@ module _ (c : Collection) (store : Store) (new : Collection) (now : Store) (answ
   pub gives_up-begun : IsBegun new.phase
   gives_up-begun = subst IsBegun (sym gives_up-stays.1) (lasts_at c.phase may).begun
 
+  pub gives_up-onward : pass_of c.phase + passes_on c.phase ≤ pass_of new.phase
+  gives_up-onward = omega (arith, (lasts_at c.phase may).onward, ap pass_of gives_up-stays.1)
+
   pub gives_up-keeps : KeepsObjects store now
   gives_up-keeps = subst (KeepsObjects store) (sym g.heap) (keeps-released (references_left g.before) store)
 
@@ -404,10 +408,10 @@ few_at_most n phase_of.Turns store few = few
 few_at_most n (phase_of.Turn o) store few = few
 few_at_most n (phase_of.AfterTurn o) store few = few
 few_at_most n phase_of.Ending store few = few
-few_at_most n (phase_of.Uncollectable first next number) store few = few
-few_at_most n (phase_of.Saved next number) store few = few
-few_at_most n (phase_of.Stopping number) store few = few
-few_at_most n (phase_of.Over number) store few = few
+few_at_most n (phase_of.Uncollectable first next number) store few = few.0
+few_at_most n (phase_of.Saved next number) store few = few.0
+few_at_most n (phase_of.Stopping number) store few = few.0
+few_at_most n (phase_of.Over number) store few = few.0
 
 -- A collection that is over says so.
 pub turn-over : (script : Script) (facts : Facts) (store : Store) (policy : Policy) (number : ℕ) (turn : Turn)

@@ -10,6 +10,7 @@ pub mod Looking
 pub mod Turning
 pub mod Saved
 pub mod Merging
+pub mod Looks
 pub mod Telling
 pub mod FinalRows
 pub mod Stopping

@@ -1,5 +1,5 @@
 -- A step of a collection that gives nothing up is a turn of its phase.
-use Rattle.std.proofs.Common.{◌≡◌, sym, ◌∙◌, ap, subst, ◌+◌, ◌<◌, ◌^◌, Option, None, arith}
+use Rattle.std.proofs.Common.{◌≡◌, sym, ◌∙◌, ap, subst, ◌+◌, ◌<◌, ◌≤◌, ◌^◌, ◌⊎◌, inl, inr, Option, None, ℕ, arith}
 use Rattle.cg_script.specs.declared.Script.{Script}
 use Rattle.cg_graph.specs.Store.{Store}
 use Rattle.cg_graph.proofs.Objects.{occurrences-append}
@@ -12,9 +12,10 @@ use Rattle.cg_collect.specs.declared.collection.Collection.{Collection}
 use Rattle.cg_collect.specs.declared.phase.Phase.{Phase}
 use Rattle.cg_collect.specs.declared.phase.Phase.TheVariants as phase_of
 use Rattle.cg_collect.specs.declared.phase.Turn.{Turn}
-use Rattle.cg_collect.specs.Ready.{HasFewCollected, RunsFrame, MayRun}
+use Rattle.cg_collect.specs.Ready.{HasFewCollected, RunsFrame, MayRun, IsBegun}
 use Rattle.cg_collect.specs.Answers.{CollectSteps}
-use Rattle.cg_collect.specs.Turns.{TurnSteps, TurnFalls, TurnLeaves, StaysReady, HandsOutIn, KeepsObjects}
+use Rattle.cg_collect.specs.Turns.{pass_of, passes_on, TurnSteps, TurnFalls, TurnLeaves, TurnEnds, StaysReady, HandsOutIn, KeepsObjects}
+use Rattle.cg_collect.specs.Looks.{most_looks}
 use Rattle.cg_collect.specs.Collections.{IsReady, KeepsReady, CollectFalls, DiesUnheld, facts_of, given_up_by, own_holds_at, held_by}
 use Rattle.cg_collect.proofs.GivingUp.{few_at_most}
 
@@ -71,33 +72,61 @@ module _ (old mid : Collection) (store between : Store) (same : mid ≡ old) (he
         (subst (λ r. CollectSteps script (record mid { release = r }) store policy (turned turn) now policy_now turn.answer) (sym (ap (λ (c : Collection). c.release) same ∙ none))
         (subst (λ st. CollectSteps script (record mid { release = None }) st policy (turned turn) now policy_now turn.answer) heap steps))
 
-    pub turned-few : IsReady old store → TurnLeaves between mid.phase now turn → HasFewCollected (mid.collected + turn.collected) turn.phase now
-    turned-few ready leaves = leaves.few mid.collected (still_ready ready).collected
+    -- the turn goes on, or it was the last
+    abbrev Left : Type 0
+    Left = TurnLeaves between mid.phase now turn ⊎ TurnEnds mid turn
 
-    pub turned-fits : IsReady old store → TurnLeaves between mid.phase now turn → mid.collected + turn.collected < 2 ^ 64
-    turned-fits ready leaves = let few = few_at_most (mid.collected + turn.collected) turn.phase now (turned-few ready leaves) in omega (arith, few)
+    -- the numbers of a collection that is over
+    over_few : IsReady old store → (e : TurnEnds mid turn) → (mid.collected ≤ 2000002) × (e.number ≤ 1000001)
+    over_few ready e = subst (λ (p : Phase). HasFewCollected mid.collected p between) e.over (still_ready ready).collected
 
-    pub turned-ready : IsReady old store → StaysReady now mid.generation turn.phase turn.answer → TurnLeaves between mid.phase now turn → KeepsReady (turned turn) now turn.answer
-    turned-ready ready stays_ready leaves = known turn.answer stays_ready leaves.hands_out
+    pub turned-few : IsReady old store → Left → HasFewCollected (mid.collected + turn.collected) turn.phase now
+    turned-few ready (inl leaves) = leaves.few mid.collected (still_ready ready).collected
+    turned-few ready (inr e) =
+        subst (λ (t : Turn). HasFewCollected (mid.collected + t.collected) t.phase now) (sym e.is)
+        (let few = over_few ready e in (omega (arith, few.0), few.1))
+
+    pub turned-fits : IsReady old store → Left → mid.collected + turn.collected < 2 ^ 64
+    turned-fits ready left = let few = few_at_most (mid.collected + turn.collected) turn.phase now (turned-few ready left) in omega (arith, few)
+
+    pub turned-begun : Left → IsBegun turn.phase
+    turned-begun (inl leaves) = leaves.begun
+    turned-begun (inr e) = subst (λ (t : Turn). IsBegun t.phase) (sym e.is) tt
+
+    pub turned-onward : Left → pass_of old.phase + passes_on old.phase ≤ pass_of turn.phase
+    turned-onward left = subst (λ (c : Collection). pass_of c.phase + passes_on c.phase ≤ pass_of turn.phase) same (from_mid left)
       where
+        from_mid : Left → pass_of mid.phase + passes_on mid.phase ≤ pass_of turn.phase
+        from_mid (inl leaves) = leaves.onward
+        from_mid (inr e) = subst (λ (p : Phase). pass_of p + passes_on p ≤ pass_of turn.phase) (sym e.over) (subst (λ (t : Turn). 14 ≤ pass_of t.phase) (sym e.is) (omega arith))
+
+    pub turned-ready : IsReady old store → StaysReady now mid.generation turn.phase turn.answer → Left → KeepsReady (turned turn) now turn.answer
+    turned-ready ready stays_ready (inl leaves) = known turn.answer stays_ready leaves.hands_out
+      where
+        few : HasFewCollected (mid.collected + turn.collected) turn.phase now
+        few = turned-few ready (inl leaves)
+
         known : (answer : CollectStep) → StaysReady now mid.generation turn.phase answer → HandsOutIn answer turn.phase turn.release → KeepsReady (turned turn) now answer
-        known answer_of.Continue r out = record { generation = (still_ready ready).generation; phase = r; collected = turned-few ready leaves; gives_up = leaves.gives_up }
-        known (answer_of.Emit event) r out = record { generation = (still_ready ready).generation; phase = r; collected = turned-few ready leaves; gives_up = leaves.gives_up }
+        known answer_of.Continue r out = record { generation = (still_ready ready).generation; phase = r; collected = few; gives_up = leaves.gives_up }
+        known (answer_of.Emit event) r out = record { generation = (still_ready ready).generation; phase = r; collected = few; gives_up = leaves.gives_up }
         known (answer_of.Frame spec) r out = (
           record {
             runs = runs_in turn.phase turn.release out.0;
             generation = (still_ready ready).generation;
-            collected = turned-few ready leaves;
+            collected = few;
             gives_up = leaves.gives_up;
             spares = out.1;
           },
           out.0,
         )
         known (answer_of.Died o) r out = absurd out
-        known (answer_of.Finished collected set_aside) r out = (still_ready ready).generation
+        known (answer_of.Finished collected set_aside) r out = absurd out
+    turned-ready ready stays_ready (inr e) =
+        subst (λ (t : Turn). KeepsReady (turned turn) now t.answer) (sym e.is)
+        (let few = over_few ready e in ((still_ready ready).generation, omega (arith, few.0, few.1)))
 
-    pub turned-died : TurnLeaves between mid.phase now turn → DiesUnheld turn.answer now
-    turned-died leaves = known turn.answer leaves.hands_out
+    pub turned-died : Left → DiesUnheld turn.answer now
+    turned-died (inl leaves) = known turn.answer leaves.hands_out
       where
         known : (answer : CollectStep) → HandsOutIn answer turn.phase turn.release → DiesUnheld answer now
         known answer_of.Continue out = tt
@@ -105,9 +134,15 @@ module _ (old mid : Collection) (store between : Store) (same : mid ≡ old) (he
         known (answer_of.Frame spec) out = tt
         known (answer_of.Died o) out = absurd out
         known (answer_of.Finished collected set_aside) out = tt
+    turned-died (inr e) = subst (λ (t : Turn). DiesUnheld t.answer now) (sym e.is) tt
 
     pub turned-generation : (turned turn).generation ≡ old.generation
     turned-generation = ap (λ (c : Collection). c.generation) same
+
+    pub turned-looks : (looked before : ℕ) → looked ≤ before + most_looks mid.generation mid.phase between → looked ≤ before + most_looks old.generation old.phase store
+    turned-looks looked before few =
+        subst (λ (c : Collection). looked ≤ before + most_looks c.generation c.phase store) same
+        (subst (λ st. looked ≤ before + most_looks mid.generation mid.phase st) heap few)
 
     pub turned-keeps : KeepsObjects between now → KeepsObjects store now
     turned-keeps = subst (λ st. KeepsObjects st now) heap

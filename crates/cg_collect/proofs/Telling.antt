@@ -1,5 +1,5 @@
 -- What is told after the start: the sizes, each condemned object, and then the weak phase follows.
-use Rattle.std.proofs.Common.{◌≡◌, ◌≢◌, refl, sym, ◌∙◌, ap, subst, ℕ, ◌+◌, ◌*◌, ◌<◌, ◌⊎◌, inl, inr, Bool, true, false, cond, not, ◌||◌, List, [], ◌∷◌, ◌++◌, map, Option, Some, None, arith}
+use Rattle.std.proofs.Common.{◌≡◌, ◌≢◌, refl, sym, ◌∙◌, ap, subst, ℕ, ◌+◌, ◌*◌, ◌<◌, ◌≤◌, ◌⊎◌, inl, inr, Bool, true, false, cond, not, ◌||◌, List, [], ◌∷◌, ◌++◌, map, Option, Some, None, arith}
 use Rattle.std.specs.Prelude.{◌==◌, if◌then◌else◌, bit_and, slice_get, option_map, unwrap_or}
 use Rattle.std.proofs.lemmas.Bool.{cases_eq, eq-eqb, ne_eqb}
 use Rattle.std.proofs.lemmas.Nat.Bits.{and_pow, bit_at-lt}
@@ -29,7 +29,7 @@ use Rattle.cg_collect.specs.declared.phase.Turn.{Turn}
 use Rattle.cg_collect.specs.Phases.{from_on, lines_left}
 use Rattle.cg_collect.specs.Ready.{IsReadyAt, IsApartUnseen, IsEmptyAt, IsAt, HasMissedNone, HasFewCollected, IsBegun}
 use Rattle.cg_collect.specs.Answers.{Shows, CollectSteps}
-use Rattle.cg_collect.specs.Turns.{collection_at, TurnLeaves}
+use Rattle.cg_collect.specs.Turns.{pass_of, passes_on, collection_at, TurnLeaves}
 use Rattle.cg_collect.specs.Starting.{told_weak, told_if}
 use Rattle.cg_collect.proofs.Standing.{place_is, place_there, live_there, nobody_at}
 use Rattle.cg_collect.proofs.Moving.{walk_passes, comes_next}
@@ -183,8 +183,18 @@ pub begun_told : (b : Bool) (store : Store) → IsBegun (told_if b store)
 begun_told true store = tt
 begun_told false store = tt
 
-pub leaves_told : (old now : Store) (phase : Phase) (b : Bool) (event : Event) → ((n : ℕ) → HasFewCollected n phase old → n ≡ 0) → TurnLeaves old phase now (record { phase = told_if b now; release = None; collected = 0; answer = answer_of.Emit event })
-leaves_told old now phase b event none = record { few = λ n h. few_told (n + 0) b now (let e = none n h in omega (arith, e)); gives_up = tt; hands_out = tt; begun = begun_told b now }
+pub late_told : (b : Bool) (store : Store) → 2 ≤ pass_of (told_if b store)
+late_told true store = omega arith
+late_told false store = omega arith
+
+pub leaves_told : (old now : Store) (phase : Phase) (b : Bool) (event : Event) → ((n : ℕ) → HasFewCollected n phase old → n ≡ 0) → pass_of phase + passes_on phase ≤ 2 → TurnLeaves old phase now (record { phase = told_if b now; release = None; collected = 0; answer = answer_of.Emit event })
+leaves_told old now phase b event none early = record {
+  few = λ n h. few_told (n + 0) b now (let e = none n h in omega (arith, e));
+  gives_up = tt;
+  hands_out = tt;
+  begun = begun_told b now;
+  onward = omega (arith, early, late_told b now);
+}
 
 -- the lines that are left
 module _ (script : Script) (asked : Bool) (facts : Facts) (store : Store) where

@@ -1,5 +1,5 @@
 -- A collection as its callers see it. (Ours.)
-use Rattle.std.specs.Prelude.{◌≡◌, ℕ, ◌≤◌, List, [], ◌∷◌, ◌++◌, Option, Some, None, IsSome, drop}
+use Rattle.std.specs.Prelude.{◌≡◌, ℕ, ◌+◌, ◌≤◌, List, [], ◌∷◌, ◌++◌, Option, Some, None, IsSome, drop}
 use Rattle.cg_graph.specs.Store.{Store}
 use Rattle.cg_death.specs.declared.release.Release.{Release}
 use Rattle.cg_death.specs.Activities.{references_left, IsUnheld}
@@ -52,13 +52,13 @@ pub record HandsOut (c : Collection) (store : Store) : Type 0 where
   pub spares : SparesGarbageList c.phase
 
 -- After an answer that hands nothing out, the heap is ready for the next step. After a frame or a death it is where its phase is
--- (`IsReadyAt`), which is for the caller to show.
+-- (`IsReadyAt`), which is for the caller to show. A collection that has finished found few.
 abbrev pub KeepsReady : Collection → Store → CollectStep → Type 0
 KeepsReady c store answer_of.Continue = IsReady c store
 KeepsReady c store (answer_of.Emit event) = IsReady c store
 KeepsReady c store (answer_of.Frame spec) = HandsOut c store × RunsFrame c.phase c.release
 KeepsReady c store (answer_of.Died o) = HandsOut c store × IsSome c.release
-KeepsReady c store (answer_of.Finished collected set_aside) = c.generation ≤ 2
+KeepsReady c store (answer_of.Finished collected set_aside) = (c.generation ≤ 2) × (collected + set_aside ≤ 3000003)
 
 -- The object whose death is to begin lives, and nothing holds it.
 abbrev pub DiesUnheld : CollectStep → Store → Type 0

@@ -2,6 +2,7 @@ pub mod Phases
 pub mod Answers
 pub mod Ready
 pub mod Turns
+pub mod Looks
 pub mod Numbers
 pub mod Collections
 pub mod Starting

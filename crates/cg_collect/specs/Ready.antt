@@ -133,7 +133,7 @@ IsReadyAt store g (phase_of.Stopping number) = Unit {0}
 IsReadyAt store g (phase_of.Over number) = Unit {0}
 
 -- The number of collected objects is small: it grows by one for each weak reference that waits and dies, and by the final
--- set, and no list of a heap is longer than a million and one.
+-- set, and no list of a heap is longer than a million and one. So is the number of those that were set aside.
 abbrev pub HasFewCollected : ℕ → Phase → Store → Type 0
 HasFewCollected collected phase_of.Start store = collected ≡ 0
 HasFewCollected collected (phase_of.Sizes zero one two frozen) store = collected ≡ 0
@@ -145,6 +145,10 @@ HasFewCollected collected (phase_of.AfterRelease weak) store = collected + lengt
 HasFewCollected collected phase_of.Finalizing store = collected ≤ 1000001
 HasFewCollected collected (phase_of.AfterFinalizing o) store = collected ≤ 1000001
 HasFewCollected collected phase_of.Split store = collected ≤ 1000001
+HasFewCollected collected (phase_of.Uncollectable first next number) store = (collected ≤ 2000002) × (number ≤ 1000001)
+HasFewCollected collected (phase_of.Saved next number) store = (collected ≤ 2000002) × (number ≤ 1000001)
+HasFewCollected collected (phase_of.Stopping number) store = (collected ≤ 2000002) × (number ≤ 1000001)
+HasFewCollected collected (phase_of.Over number) store = (collected ≤ 2000002) × (number ≤ 1000001)
 HasFewCollected collected phase store = collected ≤ 2000002
 
 -- the phases that something is given up in

@@ -1,5 +1,5 @@
 -- The turns of the phases, and how a collection comes nearer to its end. (Ours.)
-use Rattle.std.specs.Prelude.{◌≡◌, ℕ, ◌+◌, ◌*◌, ◌<◌, ◌⊎◌, List, [], length, Option, Some, None, sum_by}
+use Rattle.std.specs.Prelude.{◌≡◌, ℕ, ◌+◌, ◌*◌, ◌<◌, ◌≤◌, ◌⊎◌, List, [], length, Option, Some, None, sum_by}
 use Rattle.cg_value.specs.declared.Place.TheVariants.{Cand, Pend}
 use Rattle.cg_script.specs.declared.Script.{Script}
 use Rattle.cg_graph.specs.Places.{without_serial}
@@ -62,6 +62,12 @@ pass_of (phase_of.Saved next number) = 12
 pass_of (phase_of.Stopping number) = 13
 pass_of (phase_of.Over number) = 14
 
+-- by how many passes the next step is later at least: a detection is over after one
+abbrev pub passes_on : Phase → ℕ
+passes_on phase_of.Start = 1
+passes_on phase_of.Split = 1
+passes_on phase = 0
+
 -- what a release has still to do
 abbrev pub still_released : Option Release → ℕ
 still_released None = 0
@@ -109,19 +115,28 @@ ComesNearer old phase release new phase_now release_now =
 abbrev pub TurnFalls : Store → Phase → Store → Turn → Type 0
 TurnFalls old phase new turn = turn.answer ≡ answer_of.Continue → ComesNearer old phase None new turn.phase turn.release
 
--- a frame is handed out in a phase for it, and a death in none: what is given up hands those out
+-- A frame is handed out in a phase for it, and a death in none: what is given up hands those out. The turn that ends a
+-- collection is told by `TurnEnds`.
 abbrev pub HandsOutIn : CollectStep → Phase → Option Release → Type 0
 HandsOutIn (answer_of.Frame spec) phase release = RunsFrame phase release × SparesGarbageList phase
 HandsOutIn (answer_of.Died o) phase release = ⊥
+HandsOutIn (answer_of.Finished collected set_aside) phase release = ⊥
 HandsOutIn answer phase release = Unit {0}
 
 -- What a turn leaves: the number of collected objects is small as before, and what is given up or handed out is so in a phase
--- for it.
+-- for it. No earlier pass follows.
 pub record TurnLeaves (old : Store) (phase : Phase) (new : Store) (turn : Turn) : Type 0 where
   pub few : (n : ℕ) → HasFewCollected n phase old → HasFewCollected (n + turn.collected) turn.phase new
   pub gives_up : GivesUpIn turn.phase turn.release
   pub hands_out : HandsOutIn turn.answer turn.phase turn.release
   pub begun : IsBegun turn.phase
+  pub onward : pass_of phase + passes_on phase ≤ pass_of turn.phase
+
+-- A turn of a collection that is over leaves it so, and answers with both numbers.
+pub record TurnEnds (c : Collection) (turn : Turn) : Type 0 where
+  pub number : ℕ
+  pub over : c.phase ≡ phase_of.Over number
+  pub is : turn ≡ record { phase = phase_of.Over number; release = None; collected = 0; answer = answer_of.Finished c.collected number }
 
 -- No object is made, no name gets another value, and no serial is given.
 pub record KeepsObjects (old new : Store) : Type 0 where

@@ -1,5 +1,5 @@
 //! A collection of a generation.
-ghost use Rattle.std.specs.Prelude.{◌≡◌, ◌≤◌, false, true, Bool, None, IfNone, IfSome};
+ghost use Rattle.std.specs.Prelude.{◌≡◌, ◌+◌, ◌≤◌, ◌⊎◌, false, true, Bool, None, IfNone, IfSome};
 ghost use Rattle.cg_machine.specs.World.{World, push};
 ghost use Rattle.cg_machine.specs.Collect.{begun};
 ghost use Rattle.cg_machine.specs.Commands.{new_collection};
@@ -11,7 +11,8 @@ ghost use Rattle.cg_death.specs.Steady.{KeepsNames};
 ghost use Rattle.cg_collect.specs.declared.answer.CollectStep.TheVariants as answer_of;
 ghost use Rattle.cg_collect.specs.Numbers.{AreSmall};
 ghost use Rattle.cg_collect.specs.Ready.{IsClear, IsReadyAt, IsBegun};
-ghost use Rattle.cg_collect.specs.Turns.{TurnSteps, TurnFalls, TurnLeaves, StaysReady, KeepsObjects};
+ghost use Rattle.cg_collect.specs.Turns.{pass_of, passes_on, TurnSteps, TurnFalls, TurnLeaves, TurnEnds, StaysReady, KeepsObjects};
+ghost use Rattle.cg_collect.specs.Looks.{most_looks};
 ghost use Rattle.cg_collect.specs.Answers.{CollectSteps, Shows};
 ghost use Rattle.cg_collect.specs.Collections.{IsReady, KeepsReady, CollectFalls, DiesUnheld, GivesUpNext, held_by, given_up_by, own_holds_at, facts_of};
 
@@ -96,8 +97,10 @@ impl Collection {
         // What it leaves besides, whatever it answers.
         ensures generation { self.new.generation ≡ self.old.generation }
         ensures begun { IsBegun self.new.phase }
+        ensures onward { pass_of self.old.phase + passes_on self.old.phase ≤ pass_of self.new.phase }
         ensures objects { MakesNone heap.old heap.new }
         ensures names { KeepsNames heap.old heap.new }
+        ensures looks { steps.new ≤ steps.old + most_looks self.old.generation self.old.phase heap.old }
     {
         if let Some(answer) = self.give_up(heap) {
             return answer;
@@ -145,8 +148,9 @@ impl Collection {
         ensures steps { TurnSteps script.now (facts_of self.now) self.now.phase heap.old policy.old heap.new policy.new result }
         ensures ready { StaysReady heap.new self.now.generation result.phase result.answer }
         ensures falls { TurnFalls heap.old self.now.phase heap.new result }
-        ensures leaves { TurnLeaves heap.old self.now.phase heap.new result }
+        ensures leaves { TurnLeaves heap.old self.now.phase heap.new result ⊎ TurnEnds self.now result }
         ensures keeps { KeepsObjects heap.old heap.new }
+        ensures looks { steps.new ≤ steps.old + most_looks self.now.generation self.now.phase heap.old }
     {
         let facts = Facts {
             generation: self.generation,

@@ -1,12 +1,13 @@
 //! The second detection: what finalizers brought back is alive; the rest is the final set. (PEP 442, "disposal of cyclic
 //! isolates".)
-ghost use Rattle.std.specs.Prelude.{◌≤◌, ℕ};
+ghost use Rattle.std.specs.Prelude.{◌+◌, ◌≤◌, ℕ};
 ghost use Rattle.cg_script.specs.declared.Script.{Script as AnyScript};
 ghost use Rattle.cg_policy.specs.Policy.{Policy as Standing};
 ghost use Rattle.cg_collect.specs.declared.collection.Facts.{Facts as AnyFacts};
 ghost use Rattle.cg_collect.specs.declared.phase.Phase.TheVariants as phase_of;
 ghost use Rattle.cg_collect.specs.Ready.{IsReadyAt};
 ghost use Rattle.cg_collect.specs.Turns.{TurnSteps, TurnFalls, TurnLeaves, StaysReady, KeepsObjects};
+ghost use Rattle.cg_collect.specs.Looks.{most_looks};
 
 use crate::answer::CollectStep;
 use crate::collection::Facts;
@@ -27,6 +28,7 @@ pub fn detect<B: Kind, L: Ledger>(facts: Facts, heap: &mut Heap<B>, steps: &mut 
     ensures falls { TurnFalls heap.old phase_of.Split heap.new result }
     ensures leaves { TurnLeaves heap.old phase_of.Split heap.new result }
     ensures keeps { KeepsObjects heap.old heap.new }
+    ensures looks { steps.new ≤ steps.old + most_looks facts.generation phase_of.Split heap.old }
 {
     heap.sound();
     split(heap, Place::Cand, steps);

@@ -1,5 +1,5 @@
 //! All before the weak phase: trial subtraction, what survivors become, and what is set aside.
-ghost use Rattle.std.specs.Prelude.{◌≡◌, ◌<◌, ◌≤◌, ◌∷◌, [], ℕ, Some, None, true, false, unwrap_or, if◌then◌else◌};
+ghost use Rattle.std.specs.Prelude.{◌≡◌, ◌+◌, ◌<◌, ◌≤◌, ◌∷◌, [], ℕ, Some, None, true, false, unwrap_or, if◌then◌else◌};
 ghost use Rattle.cg_script.specs.declared.Script.{Script as AnyScript};
 ghost use Rattle.cg_machine.specs.Collect.{has_flag, stats};
 ghost use Rattle.cg_policy.specs.Policy.{Policy as Standing};
@@ -11,6 +11,7 @@ ghost use Rattle.cg_collect.specs.declared.phase.Phase.TheVariants as phase_of;
 ghost use Rattle.cg_collect.specs.Ready.{IsReadyAt};
 ghost use Rattle.cg_collect.specs.Starting.{MergesYounger, GetOlder, told_sizes, told_weak, told_after_sizes};
 ghost use Rattle.cg_collect.specs.Turns.{TurnSteps, TurnFalls, TurnLeaves, StaysReady, KeepsObjects};
+ghost use Rattle.cg_collect.specs.Looks.{most_looks};
 
 use crate::answer::CollectStep;
 use crate::collection::Facts;
@@ -45,6 +46,7 @@ pub fn start<B: Kind, L: Ledger>(
     ensures falls { TurnFalls heap.old phase_of.Start heap.new result }
     ensures leaves { TurnLeaves heap.old phase_of.Start heap.new result }
     ensures keeps { KeepsObjects heap.old heap.new }
+    ensures looks { steps.new ≤ steps.old + most_looks facts.generation phase_of.Start heap.old }
 {
     heap.sound();
     let next = first_phase(facts, heap);

@@ -40,6 +40,7 @@ returns-clause-leaves r c = record {
   gives_up = tt;
   hands_out = tt;
   begun = tt;
+  onward = omega arith;
 }
 
 pub returns-clause-keeps : goal.returns-clause-keeps

@@ -1,4 +1,4 @@
-use Rattle.std.proofs.Common.{◌≡◌, ℕ, None, ◌++◌, map, subst, sym, ap, ◌∙◌, false}
+use Rattle.std.proofs.Common.{◌≡◌, ℕ, None, ◌++◌, map, subst, sym, ap, ◌∙◌, false, arith}
 use Rattle.cg_graph.specs.Store.{IsLive}
 use Rattle.cg_value.specs.declared.KindCode.TheVariants.{List as ListKind}
 use Rattle.cg_value.specs.declared.Place.TheVariants.{Gen, Legacy}
@@ -17,8 +17,9 @@ use Rattle.cg_collect.specs.declared.answer.CollectStep.TheVariants as answer_of
 use Rattle.cg_collect.specs.declared.phase.Phase.TheVariants as phase_of
 use Rattle.cg_collect.specs.declared.phase.Turn.{Turn}
 use Rattle.cg_collect.specs.Ready.{IsAt}
-use Rattle.cg_collect.specs.Turns.{TurnSteps, StaysReady, KeepsObjects}
+use Rattle.cg_collect.specs.Turns.{TurnSteps, TurnLeaves, StaysReady, KeepsObjects}
 use Rattle.cg_collect.proofs.Keeping.{keeps_then, keeps-rewritten, keeps-merged}
+use Rattle.cg_collect.proofs.Apart.{list_few}
 use Rattle.cg_collect.proofs.Worlds.{turn_steps}
 use Rattle.cg_collect.proofs.Stopping.{turn-ended, turn-ended_told, first_at}
 use Rattle.cg_collect.proofs.ending.end.Goals as goal
@@ -90,3 +91,14 @@ returns-then-intersects-clause-keeps g c =
 pub returns-else-intersects-clause-keeps : goal.returns-else-intersects-clause-keeps
 returns-else-intersects-clause-keeps g c =
     saves c.args.script.now (bits_of c.args.facts.flags) (Gen c.older.result) c.args.heap.now c.merge.new.self c.save_legacy.new.heap c.save_legacy.ensures c.merge.ensures
+
+-- The number of those that were set aside is the length of a list.
+pub returns-then-intersects-clause-leaves : goal.returns-then-intersects-clause-leaves
+returns-then-intersects-clause-leaves g c =
+    subst (λ (turn : Turn). TurnLeaves c.args.heap.now phase_of.Ending c.merge.new.self turn) (sym c.to.ensures)
+    (record { few = λ n few. (omega (arith, few), omega (arith, c.size-number.ensures, list_few c.args.heap.now c.sound.ensures.listed c.sound.ensures.objects Legacy)); gives_up = tt; hands_out = tt; begun = tt; onward = omega arith })
+
+pub returns-else-intersects-clause-leaves : goal.returns-else-intersects-clause-leaves
+returns-else-intersects-clause-leaves g c =
+    subst (λ (turn : Turn). TurnLeaves c.args.heap.now phase_of.Ending c.merge.new.self turn) (sym c.to-else-intersects.ensures)
+    (record { few = λ n few. (omega (arith, few), omega (arith, c.size-number.ensures, list_few c.args.heap.now c.sound.ensures.listed c.sound.ensures.objects Legacy)); gives_up = tt; hands_out = tt; begun = tt; onward = omega arith })

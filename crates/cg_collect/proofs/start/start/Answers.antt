@@ -1,8 +1,9 @@
-use Rattle.std.proofs.Common.{◌≡◌, sym, subst, ℕ, ◌≤◌, []}
+use Rattle.std.proofs.Common.{◌≡◌, sym, subst, ℕ, ◌≤◌, [], arith}
 use Rattle.cg_value.specs.declared.Place.TheVariants.{Gen, Cand, Back}
 use Rattle.cg_graph.specs.Store.{list_at}
 use Rattle.cg_collect.proofs.Traces.{Trace, splits_off}
 use Rattle.cg_collect.proofs.Apart.{empty_merged, none_aside_yet, list_few}
+use Rattle.cg_collect.proofs.Looks.{entries-merged}
 use Rattle.cg_collect.proofs.Begins.{still_bounded, turn_start, ready_after, leaves_after, keeps_after}
 use Rattle.cg_collect.proofs.start.start.Goals as goal
 
@@ -83,3 +84,6 @@ returns-clause-keeps g c =
     } in
     keeps_after c.args.script.now c.args.facts c.args.heap.now c.merge_younger.new.heap c.split.new.heap c.untrack.new.heap c.get_older.new.heap c.set_legacy_aside.new.heap trace c.sound.ensures.listed c.sound-3.ensures.listed c.sound-5.ensures.listed c.requires.ready
     c.first_phase-next.result c.first_phase-next.ensures c.told_first.result c.told_first.ensures c.tells.result c.tells.ensures
+
+pub returns-clause-looks : goal.returns-clause-looks
+returns-clause-looks g c = omega (arith, c.split.ensures.most, entries-merged c.args.facts.generation c.args.heap.now c.merge_younger.new.heap c.merge_younger.ensures)

@@ -1,4 +1,4 @@
-use Rattle.std.proofs.Common.{sym, subst, None}
+use Rattle.std.proofs.Common.{sym, subst, None, arith}
 use Rattle.cg_machine.specs.declared.event.Event.TheVariants.{Gens}
 use Rattle.cg_machine.specs.Collect.{has_flag, collectable}
 use Rattle.cg_policy.specs.Flagset.{bits_of}
@@ -28,4 +28,4 @@ pub returns-clause-leaves : goal.returns-clause-leaves
 returns-clause-leaves g c =
     let is = turn_to c.tells.result c.after_sizes.result (told_after_sizes (bits_of c.args.facts.flags) c.args.heap.now) (answer_of.Emit (Gens c.args.zero c.args.one c.args.two c.args.frozen)) c.tells.ensures c.after_sizes.ensures in
     subst (λ (t : Turn). TurnLeaves c.args.heap.now (phase_of.Sizes c.args.zero c.args.one c.args.two c.args.frozen) c.args.heap.now t) (sym is)
-    (leaves_told c.args.heap.now c.args.heap.now (phase_of.Sizes c.args.zero c.args.one c.args.two c.args.frozen) (has_flag (bits_of c.args.facts.flags) collectable) (Gens c.args.zero c.args.one c.args.two c.args.frozen) (λ n h. h))
+    (leaves_told c.args.heap.now c.args.heap.now (phase_of.Sizes c.args.zero c.args.one c.args.two c.args.frozen) (has_flag (bits_of c.args.facts.flags) collectable) (Gens c.args.zero c.args.one c.args.two c.args.frozen) (λ n h. h) (omega arith))

@@ -25,4 +25,5 @@ returns-clause-leaves c = λ store g ready.
       gives_up = tt;
       hands_out = tt;
       begun = tt;
+      onward = omega arith;
     })

@@ -42,7 +42,7 @@ lives store now weak g small listed live is turn turn_is =
     let wait : length (list_at now Pend) ≡ length (filter (λ q. not (q == weak)) (list_at store Pend)) = ap (λ (s : Store). length (list_at s Pend)) is ∙ ap (λ (l : List ℕ). length l) (others_wait store weak listed live g small) in
     let less : length (list_at now Pend) ≤ length (list_at store Pend) = subst (λ (s : Store). length (list_at s Pend) ≤ length (list_at store Pend)) (sym is) (no_more_wait store weak listed live g small) in
     subst (λ (t : Turn). TurnFalls store (phase_of.AfterRelease weak) now t × TurnLeaves store (phase_of.AfterRelease weak) now t) (sym turn_is)
-    (λ went. inr (refl, omega (arith, less)), record { few = λ n few. omega (arith, few, wait); gives_up = tt; hands_out = tt; begun = tt })
+    (λ went. inr (refl, omega (arith, less)), record { few = λ n few. omega (arith, few, wait); gives_up = tt; hands_out = tt; begun = tt; onward = omega arith })
 
 pub returns-then-has-clause-falls : goal.returns-then-has-clause-falls
 returns-then-has-clause-falls g c =
@@ -70,7 +70,7 @@ pub returns-else-has-clause-leaves : goal.returns-else-has-clause-leaves
 returns-else-has-clause-leaves g c =
     let all : length (filter (λ q. not (q == c.args.weak)) (list_at c.args.heap.now Pend)) ≡ length (list_at c.args.heap.now Pend) =
     ap (λ (l : List ℕ). length l) (others_are_all c.args.heap.now c.sound.ensures.listed c.args.weak (λ live. absurd (let there = c.has.ensures.1 live in cc))) in
-    record { few = λ n few. omega (arith, few, all); gives_up = tt; hands_out = tt; begun = tt }
+    record { few = λ n few. omega (arith, few, all); gives_up = tt; hands_out = tt; begun = tt; onward = omega arith }
 
 pub returns-else-has-clause-keeps : goal.returns-else-has-clause-keeps
 returns-else-has-clause-keeps g c = keeps_all c.args.heap.now

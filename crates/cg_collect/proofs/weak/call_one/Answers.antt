@@ -34,7 +34,7 @@ pub returns-in-Some-clause-leaves : goal.returns-in-Some-clause-leaves
 returns-in-Some-clause-leaves g c =
     let at = (where_is c.args.heap.now c.sound.ensures.listed Pend c.in-Some.weak (head_in (list_at c.args.heap.now Pend) c.in-Some.weak (sym c.in-Some.ensures))).1 in
     subst (λ (turn : Turn). TurnLeaves c.args.heap.now phase_of.WeakCalling c.args.heap.now turn) (sym c.runs.ensures)
-    (record { few = λ n few. omega (arith, few); gives_up = tt; hands_out = (refl, not_garbage c.args.heap.now c.in-Some.weak Pend c.requires.ready.0.0.garbage at (λ e. cc)); begun = tt })
+    (record { few = λ n few. omega (arith, few); gives_up = tt; hands_out = (refl, not_garbage c.args.heap.now c.in-Some.weak Pend c.requires.ready.0.0.garbage at (λ e. cc)); begun = tt; onward = omega arith })
 
 pub returns-in-Some-clause-keeps : goal.returns-in-Some-clause-keeps
 returns-in-Some-clause-keeps g c = keeps_all c.args.heap.now

@@ -53,7 +53,7 @@ few_then n k none few = omega (arith, none, few)
 pub returns-in-None-clause-leaves : goal.returns-in-None-clause-leaves
 returns-in-None-clause-leaves g c =
     subst (λ (turn : Turn). TurnLeaves c.args.heap.now (phase_of.WeakClearing c.args.member None) c.args.heap.now turn) (sym c.to-in-None.ensures)
-    (record { few = λ n none. few_then n (length (list_at c.args.heap.now Pend)) none (list_few c.args.heap.now c.sound.ensures Pend); gives_up = tt; hands_out = tt; begun = tt })
+    (record { few = λ n none. few_then n (length (list_at c.args.heap.now Pend)) none (list_few c.args.heap.now c.sound.ensures Pend); gives_up = tt; hands_out = tt; begun = tt; onward = omega arith })
 
 pub returns-in-Some-clause-keeps : goal.returns-in-Some-clause-keeps
 returns-in-Some-clause-keeps g c = keeps_all c.args.heap.now

@@ -1,7 +1,7 @@
 use Rattle.std.proofs.Common.{subst, sym}
 use Rattle.cg_heap.specs.Calls.{HasFewHolds}
-use Rattle.cg_collect.proofs.GivingUp.{gives_up-steps, gives_up-ready, gives_up-generation, gives_up-begun, gives_up-keeps, gives_up-falls}
-use Rattle.cg_collect.proofs.Stepping.{given_up_held, still_ready, still_held, turned-steps, turned-ready, turned-died, turned-generation, turned-keeps, turned-falls}
+use Rattle.cg_collect.proofs.GivingUp.{gives_up-steps, gives_up-ready, gives_up-generation, gives_up-begun, gives_up-onward, gives_up-keeps, gives_up-falls}
+use Rattle.cg_collect.proofs.Stepping.{given_up_held, still_ready, still_held, turned-steps, turned-ready, turned-died, turned-begun, turned-onward, turned-looks, turned-generation, turned-keeps, turned-falls}
 use Rattle.cg_collect.proofs.collection.Collection.step.Goals as goal
 
 pub give_up-requires : goal.give_up-requires
@@ -76,7 +76,9 @@ returns-clause-generation g c =
     turned-generation c.args.self.now c.give_up.new.self c.args.heap.now c.give_up.new.heap same.0 same.1 same.2 c.turn-turn.result c.turn-turn.new.heap
 
 pub returns-clause-begun : goal.returns-clause-begun
-returns-clause-begun g c = c.turn-turn.ensures.leaves.begun
+returns-clause-begun g c =
+    let same = c.in_default.ensures.none in
+    turned-begun c.args.self.now c.give_up.new.self c.args.heap.now c.give_up.new.heap same.0 same.1 same.2 c.turn-turn.result c.turn-turn.new.heap c.turn-turn.ensures.leaves
 
 pub returns-clause-objects : goal.returns-clause-objects
 returns-clause-objects g c =
@@ -87,3 +89,16 @@ pub returns-clause-names : goal.returns-clause-names
 returns-clause-names g c =
     let same = c.in_default.ensures.none in
     (turned-keeps c.args.self.now c.give_up.new.self c.args.heap.now c.give_up.new.heap same.0 same.1 same.2 c.turn-turn.result c.turn-turn.new.heap c.turn-turn.ensures.keeps).names
+
+pub returns-in-Some-clause-onward : goal.returns-in-Some-clause-onward
+returns-in-Some-clause-onward g c = gives_up-onward c.args.self.now c.args.heap.now c.give_up.new.self c.give_up.new.heap c.in-Some.answer c.requires.ready.gives_up c.in-Some.ensures.some
+
+pub returns-clause-onward : goal.returns-clause-onward
+returns-clause-onward g c =
+    let same = c.in_default.ensures.none in
+    turned-onward c.args.self.now c.give_up.new.self c.args.heap.now c.give_up.new.heap same.0 same.1 same.2 c.turn-turn.result c.turn-turn.new.heap c.turn-turn.ensures.leaves
+
+pub returns-clause-looks : goal.returns-clause-looks
+returns-clause-looks g c =
+    let same = c.in_default.ensures.none in
+    turned-looks c.args.self.now c.give_up.new.self c.args.heap.now c.give_up.new.heap same.0 same.1 same.2 c.turn-turn.result c.turn-turn.new.heap c.turn-turn.new.steps c.args.steps.now c.turn-turn.ensures.looks

@@ -1,10 +1,11 @@
-use Rattle.std.proofs.Common.{◌<◌, ℕ, [], ◌∷◌, subst, sym, arith}
+use Rattle.std.proofs.Common.{◌+◌, ◌<◌, ◌≤◌, ℕ, [], ◌∷◌, inl, inr, subst, sym, arith}
 use Rattle.cg_graph.specs.Store.{Store, outside_of}
 use Rattle.cg_death.specs.Activities.{HasHolds}
 use Rattle.cg_machine.proofs.Representing.{occurrences-one}
 use Rattle.cg_collect.specs.declared.phase.Phase.{Phase}
 use Rattle.cg_collect.specs.Ready.{IsReadyAt}
 use Rattle.cg_collect.specs.Turns.{TurnSteps, TurnFalls, TurnLeaves}
+use Rattle.cg_collect.specs.Looks.{most_looks}
 use Rattle.cg_collect.specs.Collections.{facts_of, own_holds_at}
 use Rattle.cg_collect.proofs.GivingUp.{turn-over}
 use Rattle.cg_collect.proofs.Keeping.{keeps_all}
@@ -21,7 +22,7 @@ pub returns-in-Start-clause-falls : goal.returns-in-Start-clause-falls
 returns-in-Start-clause-falls g c = subst (λ (p : Phase). TurnFalls c.args.heap.now p c.start.new.heap c.start.result) (sym c.in-Start.is) (c.start.ensures.falls)
 
 pub returns-in-Start-clause-leaves : goal.returns-in-Start-clause-leaves
-returns-in-Start-clause-leaves g c = subst (λ (p : Phase). TurnLeaves c.args.heap.now p c.start.new.heap c.start.result) (sym c.in-Start.is) (c.start.ensures.leaves)
+returns-in-Start-clause-leaves g c = inl (subst (λ (p : Phase). TurnLeaves c.args.heap.now p c.start.new.heap c.start.result) (sym c.in-Start.is) (c.start.ensures.leaves))
 
 pub tell_sizes-requires-clause-ready : goal.tell_sizes-requires-clause-ready
 tell_sizes-requires-clause-ready g c = subst (IsReadyAt c.args.heap.now c.args.self.now.generation) c.in-Sizes.is c.requires.ready
@@ -34,7 +35,7 @@ pub returns-in-Sizes-clause-falls : goal.returns-in-Sizes-clause-falls
 returns-in-Sizes-clause-falls g c = subst (λ (p : Phase). TurnFalls c.args.heap.now p c.args.heap.now c.tell_sizes.result) (sym c.in-Sizes.is) (c.tell_sizes.ensures.falls)
 
 pub returns-in-Sizes-clause-leaves : goal.returns-in-Sizes-clause-leaves
-returns-in-Sizes-clause-leaves g c = subst (λ (p : Phase). TurnLeaves c.args.heap.now p c.args.heap.now c.tell_sizes.result) (sym c.in-Sizes.is) (c.tell_sizes.ensures.leaves)
+returns-in-Sizes-clause-leaves g c = inl (subst (λ (p : Phase). TurnLeaves c.args.heap.now p c.args.heap.now c.tell_sizes.result) (sym c.in-Sizes.is) (c.tell_sizes.ensures.leaves))
 
 pub tell_condemned-requires : goal.tell_condemned-requires
 tell_condemned-requires g c = record { ready = subst (IsReadyAt c.args.heap.now c.args.self.now.generation) c.in-Telling.is c.requires.ready }
@@ -50,7 +51,7 @@ pub returns-in-Telling-clause-falls : goal.returns-in-Telling-clause-falls
 returns-in-Telling-clause-falls g c = subst (λ (p : Phase). TurnFalls c.args.heap.now p c.args.heap.now c.tell_condemned.result) (sym c.in-Telling.is) (c.tell_condemned.ensures.falls)
 
 pub returns-in-Telling-clause-leaves : goal.returns-in-Telling-clause-leaves
-returns-in-Telling-clause-leaves g c = subst (λ (p : Phase). TurnLeaves c.args.heap.now p c.args.heap.now c.tell_condemned.result) (sym c.in-Telling.is) (c.tell_condemned.ensures.leaves)
+returns-in-Telling-clause-leaves g c = inl (subst (λ (p : Phase). TurnLeaves c.args.heap.now p c.args.heap.now c.tell_condemned.result) (sym c.in-Telling.is) (c.tell_condemned.ensures.leaves))
 
 pub clear_one-requires-clause-ready : goal.clear_one-requires-clause-ready
 clear_one-requires-clause-ready g c = subst (IsReadyAt c.args.heap.now c.args.self.now.generation) c.in-WeakClearing.is c.requires.ready
@@ -66,7 +67,7 @@ pub returns-in-WeakClearing-clause-falls : goal.returns-in-WeakClearing-clause-f
 returns-in-WeakClearing-clause-falls g c = subst (λ (p : Phase). TurnFalls c.args.heap.now p c.clear_one.new.heap c.clear_one.result) (sym c.in-WeakClearing.is) (c.clear_one.ensures.falls)
 
 pub returns-in-WeakClearing-clause-leaves : goal.returns-in-WeakClearing-clause-leaves
-returns-in-WeakClearing-clause-leaves g c = subst (λ (p : Phase). TurnLeaves c.args.heap.now p c.clear_one.new.heap c.clear_one.result) (sym c.in-WeakClearing.is) (c.clear_one.ensures.leaves)
+returns-in-WeakClearing-clause-leaves g c = inl (subst (λ (p : Phase). TurnLeaves c.args.heap.now p c.clear_one.new.heap c.clear_one.result) (sym c.in-WeakClearing.is) (c.clear_one.ensures.leaves))
 
 pub call_one-requires : goal.call_one-requires
 call_one-requires g c = record { ready = subst (IsReadyAt c.args.heap.now c.args.self.now.generation) c.in-WeakCalling.is c.requires.ready }
@@ -82,7 +83,7 @@ pub returns-in-WeakCalling-clause-falls : goal.returns-in-WeakCalling-clause-fal
 returns-in-WeakCalling-clause-falls g c = subst (λ (p : Phase). TurnFalls c.args.heap.now p c.call_one.new.heap c.call_one.result) (sym c.in-WeakCalling.is) (c.call_one.ensures.falls)
 
 pub returns-in-WeakCalling-clause-leaves : goal.returns-in-WeakCalling-clause-leaves
-returns-in-WeakCalling-clause-leaves g c = subst (λ (p : Phase). TurnLeaves c.args.heap.now p c.call_one.new.heap c.call_one.result) (sym c.in-WeakCalling.is) (c.call_one.ensures.leaves)
+returns-in-WeakCalling-clause-leaves g c = inl (subst (λ (p : Phase). TurnLeaves c.args.heap.now p c.call_one.new.heap c.call_one.result) (sym c.in-WeakCalling.is) (c.call_one.ensures.leaves))
 
 pub returns-in-AfterCallback-clause-steps : goal.returns-in-AfterCallback-clause-steps
 returns-in-AfterCallback-clause-steps g c =
@@ -96,8 +97,8 @@ returns-in-AfterCallback-clause-falls g c = subst (λ (p : Phase). TurnFalls c.a
 
 pub returns-in-AfterCallback-clause-leaves : goal.returns-in-AfterCallback-clause-leaves
 returns-in-AfterCallback-clause-leaves g c =
-    subst (λ (p : Phase). TurnLeaves c.args.heap.now p c.args.heap.now c.after_callback.result) (sym c.in-AfterCallback.is)
-    (c.after_callback.ensures.leaves c.args.heap.now c.args.self.now.generation (subst (IsReadyAt c.args.heap.now c.args.self.now.generation) c.in-AfterCallback.is c.requires.ready))
+    inl (subst (λ (p : Phase). TurnLeaves c.args.heap.now p c.args.heap.now c.after_callback.result) (sym c.in-AfterCallback.is)
+    (c.after_callback.ensures.leaves c.args.heap.now c.args.self.now.generation (subst (IsReadyAt c.args.heap.now c.args.self.now.generation) c.in-AfterCallback.is c.requires.ready)))
 
 pub after_release-requires-clause-ready : goal.after_release-requires-clause-ready
 after_release-requires-clause-ready g c = subst (IsReadyAt c.args.heap.now c.args.self.now.generation) c.in-AfterRelease.is c.requires.ready
@@ -110,7 +111,7 @@ pub returns-in-AfterRelease-clause-falls : goal.returns-in-AfterRelease-clause-f
 returns-in-AfterRelease-clause-falls g c = subst (λ (p : Phase). TurnFalls c.args.heap.now p c.after_release.new.heap c.after_release.result) (sym c.in-AfterRelease.is) (c.after_release.ensures.falls)
 
 pub returns-in-AfterRelease-clause-leaves : goal.returns-in-AfterRelease-clause-leaves
-returns-in-AfterRelease-clause-leaves g c = subst (λ (p : Phase). TurnLeaves c.args.heap.now p c.after_release.new.heap c.after_release.result) (sym c.in-AfterRelease.is) (c.after_release.ensures.leaves)
+returns-in-AfterRelease-clause-leaves g c = inl (subst (λ (p : Phase). TurnLeaves c.args.heap.now p c.after_release.new.heap c.after_release.result) (sym c.in-AfterRelease.is) (c.after_release.ensures.leaves))
 
 pub look_at_one-requires-clause-ready : goal.look_at_one-requires-clause-ready
 look_at_one-requires-clause-ready g c = subst (IsReadyAt c.args.heap.now c.args.self.now.generation) c.in-Finalizing.is c.requires.ready
@@ -126,7 +127,7 @@ pub returns-in-Finalizing-clause-falls : goal.returns-in-Finalizing-clause-falls
 returns-in-Finalizing-clause-falls g c = subst (λ (p : Phase). TurnFalls c.args.heap.now p c.look_at_one.new.heap c.look_at_one.result) (sym c.in-Finalizing.is) (c.look_at_one.ensures.falls)
 
 pub returns-in-Finalizing-clause-leaves : goal.returns-in-Finalizing-clause-leaves
-returns-in-Finalizing-clause-leaves g c = subst (λ (p : Phase). TurnLeaves c.args.heap.now p c.look_at_one.new.heap c.look_at_one.result) (sym c.in-Finalizing.is) (c.look_at_one.ensures.leaves)
+returns-in-Finalizing-clause-leaves g c = inl (subst (λ (p : Phase). TurnLeaves c.args.heap.now p c.look_at_one.new.heap c.look_at_one.result) (sym c.in-Finalizing.is) (c.look_at_one.ensures.leaves))
 
 pub returns-in-AfterFinalizing-clause-steps : goal.returns-in-AfterFinalizing-clause-steps
 returns-in-AfterFinalizing-clause-steps g c =
@@ -139,7 +140,7 @@ pub returns-in-AfterFinalizing-clause-falls : goal.returns-in-AfterFinalizing-cl
 returns-in-AfterFinalizing-clause-falls g c = subst (λ (p : Phase). TurnFalls c.args.heap.now p c.args.heap.now c.after_finalizer.result) (sym c.in-AfterFinalizing.is) (c.after_finalizer.ensures.falls c.args.heap.now)
 
 pub returns-in-AfterFinalizing-clause-leaves : goal.returns-in-AfterFinalizing-clause-leaves
-returns-in-AfterFinalizing-clause-leaves g c = subst (λ (p : Phase). TurnLeaves c.args.heap.now p c.args.heap.now c.after_finalizer.result) (sym c.in-AfterFinalizing.is) (c.after_finalizer.ensures.leaves c.args.heap.now)
+returns-in-AfterFinalizing-clause-leaves g c = inl (subst (λ (p : Phase). TurnLeaves c.args.heap.now p c.args.heap.now c.after_finalizer.result) (sym c.in-AfterFinalizing.is) (c.after_finalizer.ensures.leaves c.args.heap.now))
 
 pub detect-requires-clause-ready : goal.detect-requires-clause-ready
 detect-requires-clause-ready g c = subst (IsReadyAt c.args.heap.now c.args.self.now.generation) c.in-Split.is c.requires.ready
@@ -152,7 +153,7 @@ pub returns-in-Split-clause-falls : goal.returns-in-Split-clause-falls
 returns-in-Split-clause-falls g c = subst (λ (p : Phase). TurnFalls c.args.heap.now p c.detect.new.heap c.detect.result) (sym c.in-Split.is) (c.detect.ensures.falls)
 
 pub returns-in-Split-clause-leaves : goal.returns-in-Split-clause-leaves
-returns-in-Split-clause-leaves g c = subst (λ (p : Phase). TurnLeaves c.args.heap.now p c.detect.new.heap c.detect.result) (sym c.in-Split.is) (c.detect.ensures.leaves)
+returns-in-Split-clause-leaves g c = inl (subst (λ (p : Phase). TurnLeaves c.args.heap.now p c.detect.new.heap c.detect.result) (sym c.in-Split.is) (c.detect.ensures.leaves))
 
 pub tell_living-requires-clause-ready : goal.tell_living-requires-clause-ready
 tell_living-requires-clause-ready g c = subst (IsReadyAt c.args.heap.now c.args.self.now.generation) c.in-Living.is c.requires.ready
@@ -165,7 +166,7 @@ pub returns-in-Living-clause-falls : goal.returns-in-Living-clause-falls
 returns-in-Living-clause-falls g c = subst (λ (p : Phase). TurnFalls c.args.heap.now p c.args.heap.now c.tell_living.result) (sym c.in-Living.is) (c.tell_living.ensures.falls)
 
 pub returns-in-Living-clause-leaves : goal.returns-in-Living-clause-leaves
-returns-in-Living-clause-leaves g c = subst (λ (p : Phase). TurnLeaves c.args.heap.now p c.args.heap.now c.tell_living.result) (sym c.in-Living.is) (c.tell_living.ensures.leaves)
+returns-in-Living-clause-leaves g c = inl (subst (λ (p : Phase). TurnLeaves c.args.heap.now p c.args.heap.now c.tell_living.result) (sym c.in-Living.is) (c.tell_living.ensures.leaves))
 
 pub detach_one-requires : goal.detach_one-requires
 detach_one-requires g c = record { ready = subst (IsReadyAt c.args.heap.now c.args.self.now.generation) c.in-Detaching.is c.requires.ready }
@@ -181,7 +182,7 @@ pub returns-in-Detaching-clause-falls : goal.returns-in-Detaching-clause-falls
 returns-in-Detaching-clause-falls g c = subst (λ (p : Phase). TurnFalls c.args.heap.now p c.detach_one.new.heap c.detach_one.result) (sym c.in-Detaching.is) (c.detach_one.ensures.falls)
 
 pub returns-in-Detaching-clause-leaves : goal.returns-in-Detaching-clause-leaves
-returns-in-Detaching-clause-leaves g c = subst (λ (p : Phase). TurnLeaves c.args.heap.now p c.detach_one.new.heap c.detach_one.result) (sym c.in-Detaching.is) (c.detach_one.ensures.leaves)
+returns-in-Detaching-clause-leaves g c = inl (subst (λ (p : Phase). TurnLeaves c.args.heap.now p c.detach_one.new.heap c.detach_one.result) (sym c.in-Detaching.is) (c.detach_one.ensures.leaves))
 
 pub take_turn-requires-clause-ready : goal.take_turn-requires-clause-ready
 take_turn-requires-clause-ready g c = subst (IsReadyAt c.args.heap.now c.args.self.now.generation) c.in-Turns.is c.requires.ready
@@ -194,7 +195,7 @@ pub returns-in-Turns-clause-falls : goal.returns-in-Turns-clause-falls
 returns-in-Turns-clause-falls g c = subst (λ (p : Phase). TurnFalls c.args.heap.now p c.take_turn.new.heap c.take_turn.result) (sym c.in-Turns.is) (c.take_turn.ensures.falls)
 
 pub returns-in-Turns-clause-leaves : goal.returns-in-Turns-clause-leaves
-returns-in-Turns-clause-leaves g c = subst (λ (p : Phase). TurnLeaves c.args.heap.now p c.take_turn.new.heap c.take_turn.result) (sym c.in-Turns.is) (c.take_turn.ensures.leaves)
+returns-in-Turns-clause-leaves g c = inl (subst (λ (p : Phase). TurnLeaves c.args.heap.now p c.take_turn.new.heap c.take_turn.result) (sym c.in-Turns.is) (c.take_turn.ensures.leaves))
 
 pub empty_one-requires-clause-ready : goal.empty_one-requires-clause-ready
 empty_one-requires-clause-ready g c = subst (IsReadyAt c.args.heap.now c.args.self.now.generation) c.in-Turn.is c.requires.ready
@@ -210,7 +211,7 @@ pub returns-in-Turn-clause-falls : goal.returns-in-Turn-clause-falls
 returns-in-Turn-clause-falls g c = subst (λ (p : Phase). TurnFalls c.args.heap.now p c.empty_one.new.heap c.empty_one.result) (sym c.in-Turn.is) (c.empty_one.ensures.falls)
 
 pub returns-in-Turn-clause-leaves : goal.returns-in-Turn-clause-leaves
-returns-in-Turn-clause-leaves g c = subst (λ (p : Phase). TurnLeaves c.args.heap.now p c.empty_one.new.heap c.empty_one.result) (sym c.in-Turn.is) (c.empty_one.ensures.leaves)
+returns-in-Turn-clause-leaves g c = inl (subst (λ (p : Phase). TurnLeaves c.args.heap.now p c.empty_one.new.heap c.empty_one.result) (sym c.in-Turn.is) (c.empty_one.ensures.leaves))
 
 pub after_turn-requires-clause-ready : goal.after_turn-requires-clause-ready
 after_turn-requires-clause-ready g c = subst (IsReadyAt c.args.heap.now c.args.self.now.generation) c.in-AfterTurn.is c.requires.ready
@@ -223,7 +224,7 @@ pub returns-in-AfterTurn-clause-falls : goal.returns-in-AfterTurn-clause-falls
 returns-in-AfterTurn-clause-falls g c = subst (λ (p : Phase). TurnFalls c.args.heap.now p c.after_turn.new.heap c.after_turn.result) (sym c.in-AfterTurn.is) (c.after_turn.ensures.falls)
 
 pub returns-in-AfterTurn-clause-leaves : goal.returns-in-AfterTurn-clause-leaves
-returns-in-AfterTurn-clause-leaves g c = subst (λ (p : Phase). TurnLeaves c.args.heap.now p c.after_turn.new.heap c.after_turn.result) (sym c.in-AfterTurn.is) (c.after_turn.ensures.leaves)
+returns-in-AfterTurn-clause-leaves g c = inl (subst (λ (p : Phase). TurnLeaves c.args.heap.now p c.after_turn.new.heap c.after_turn.result) (sym c.in-AfterTurn.is) (c.after_turn.ensures.leaves))
 
 pub end-requires-clause-ready : goal.end-requires-clause-ready
 end-requires-clause-ready g c = subst (IsReadyAt c.args.heap.now c.args.self.now.generation) c.in-Ending.is c.requires.ready
@@ -236,7 +237,7 @@ pub returns-in-Ending-clause-falls : goal.returns-in-Ending-clause-falls
 returns-in-Ending-clause-falls g c = subst (λ (p : Phase). TurnFalls c.args.heap.now p c.end.new.heap c.end.result) (sym c.in-Ending.is) (c.end.ensures.falls)
 
 pub returns-in-Ending-clause-leaves : goal.returns-in-Ending-clause-leaves
-returns-in-Ending-clause-leaves g c = subst (λ (p : Phase). TurnLeaves c.args.heap.now p c.end.new.heap c.end.result) (sym c.in-Ending.is) (c.end.ensures.leaves)
+returns-in-Ending-clause-leaves g c = inl (subst (λ (p : Phase). TurnLeaves c.args.heap.now p c.end.new.heap c.end.result) (sym c.in-Ending.is) (c.end.ensures.leaves))
 
 pub tell_uncollectable-requires-clause-ready : goal.tell_uncollectable-requires-clause-ready
 tell_uncollectable-requires-clause-ready g c = subst (IsReadyAt c.args.heap.now c.args.self.now.generation) c.in-Uncollectable.is c.requires.ready
@@ -249,7 +250,7 @@ pub returns-in-Uncollectable-clause-falls : goal.returns-in-Uncollectable-clause
 returns-in-Uncollectable-clause-falls g c = subst (λ (p : Phase). TurnFalls c.args.heap.now p c.args.heap.now c.tell_uncollectable.result) (sym c.in-Uncollectable.is) (c.tell_uncollectable.ensures.falls)
 
 pub returns-in-Uncollectable-clause-leaves : goal.returns-in-Uncollectable-clause-leaves
-returns-in-Uncollectable-clause-leaves g c = subst (λ (p : Phase). TurnLeaves c.args.heap.now p c.args.heap.now c.tell_uncollectable.result) (sym c.in-Uncollectable.is) (c.tell_uncollectable.ensures.leaves)
+returns-in-Uncollectable-clause-leaves g c = inl (subst (λ (p : Phase). TurnLeaves c.args.heap.now p c.args.heap.now c.tell_uncollectable.result) (sym c.in-Uncollectable.is) (c.tell_uncollectable.ensures.leaves))
 
 pub tell_saved-requires-clause-ready : goal.tell_saved-requires-clause-ready
 tell_saved-requires-clause-ready g c = subst (IsReadyAt c.args.heap.now c.args.self.now.generation) c.in-Saved.is c.requires.ready
@@ -262,7 +263,7 @@ pub returns-in-Saved-clause-falls : goal.returns-in-Saved-clause-falls
 returns-in-Saved-clause-falls g c = subst (λ (p : Phase). TurnFalls c.args.heap.now p c.args.heap.now c.tell_saved.result) (sym c.in-Saved.is) (c.tell_saved.ensures.falls)
 
 pub returns-in-Saved-clause-leaves : goal.returns-in-Saved-clause-leaves
-returns-in-Saved-clause-leaves g c = subst (λ (p : Phase). TurnLeaves c.args.heap.now p c.args.heap.now c.tell_saved.result) (sym c.in-Saved.is) (c.tell_saved.ensures.leaves)
+returns-in-Saved-clause-leaves g c = inl (subst (λ (p : Phase). TurnLeaves c.args.heap.now p c.args.heap.now c.tell_saved.result) (sym c.in-Saved.is) (c.tell_saved.ensures.leaves))
 
 pub returns-in-Stopping-clause-steps : goal.returns-in-Stopping-clause-steps
 returns-in-Stopping-clause-steps g c =
@@ -275,7 +276,7 @@ pub returns-in-Stopping-clause-falls : goal.returns-in-Stopping-clause-falls
 returns-in-Stopping-clause-falls g c = subst (λ (p : Phase). TurnFalls c.args.heap.now p c.args.heap.now c.tell_end.result) (sym c.in-Stopping.is) (c.tell_end.ensures.falls c.args.heap.now)
 
 pub returns-in-Stopping-clause-leaves : goal.returns-in-Stopping-clause-leaves
-returns-in-Stopping-clause-leaves g c = subst (λ (p : Phase). TurnLeaves c.args.heap.now p c.args.heap.now c.tell_end.result) (sym c.in-Stopping.is) (c.tell_end.ensures.leaves c.args.heap.now)
+returns-in-Stopping-clause-leaves g c = inl (subst (λ (p : Phase). TurnLeaves c.args.heap.now p c.args.heap.now c.tell_end.result) (sym c.in-Stopping.is) (c.tell_end.ensures.leaves c.args.heap.now))
 
 one_held : (store : Store) (o : ℕ) → HasHolds store (o ∷ []) → 0 < outside_of store o
 one_held store o held = let here = held o in omega (arith, here, occurrences-one o)
@@ -287,6 +288,9 @@ pub returns-in-Over-clause-steps : goal.returns-in-Over-clause-steps
 returns-in-Over-clause-steps g c =
     subst (λ (p : Phase). TurnSteps c.args.script.now (facts_of c.args.self.now) p c.args.heap.now c.args.policy.now c.args.heap.now c.args.policy.now c.answers.result) (sym c.in-Over.is)
     (turn-over c.args.script.now (facts_of c.args.self.now) c.args.heap.now c.args.policy.now c.in-Over.number c.answers.result c.answers.ensures)
+
+pub returns-in-Over-clause-leaves : goal.returns-in-Over-clause-leaves
+returns-in-Over-clause-leaves g c = inr (record { number = c.in-Over.number; over = c.in-Over.is; is = c.answers.ensures })
 
 -- the phases that leave the heap
 pub returns-in-Sizes-clause-keeps : goal.returns-in-Sizes-clause-keeps
@@ -315,3 +319,10 @@ returns-in-Stopping-clause-keeps g c = keeps_all c.args.heap.now
 
 pub returns-in-Over-clause-keeps : goal.returns-in-Over-clause-keeps
 returns-in-Over-clause-keeps g c = keeps_all c.args.heap.now
+
+-- the detections
+pub returns-in-Start-clause-looks : goal.returns-in-Start-clause-looks
+returns-in-Start-clause-looks g c = subst (λ (p : Phase). c.start.new.steps ≤ c.args.steps.now + most_looks c.args.self.now.generation p c.args.heap.now) (sym c.in-Start.is) c.start.ensures.looks
+
+pub returns-in-Split-clause-looks : goal.returns-in-Split-clause-looks
+returns-in-Split-clause-looks g c = subst (λ (p : Phase). c.detect.new.steps ≤ c.args.steps.now + most_looks c.args.self.now.generation p c.args.heap.now) (sym c.in-Split.is) c.detect.ensures.looks
