@@ -1,7 +1,11 @@
 //! Worked scripts with collections, asked for and due, through the top call. The texts come from the rules of
 //! docs/RULES.md, worked out by hand.
 use crate::Status;
-use crate::rows::{check, check_done, check_one_of};
+use crate::rows::{check, check_done, check_one_of, lines};
+use crate::tests::answer_to;
+use cg_io::PlainSource;
+use itoa::Buffer;
+use std::alloc::AllocError;
 use std::test::Fail;
 
 #[test]
@@ -257,5 +261,43 @@ fn the_last_of_the_budget_in_a_collection(rt: HostRuntime) -> Result<(), Fail> {
         let words = ["run", "--budget", budget];
         check(&rt, alloc, words.as_slice(), script, Status::Budget, text)?;
     }
+    Ok(())
+}
+
+/// Appends a line that ends with a number.
+fn push_numbered(bytes: &mut Vec<u8>, text: &str, number: u32) -> Result<(), AllocError> {
+    let mut digits = Buffer::new();
+    bytes.extend_from_slice(text.as_bytes())?;
+    bytes.extend_from_slice(digits.format(number).as_bytes())?;
+    bytes.push(b'\n')?;
+    Ok(())
+}
+
+/// The number of the last list of the chain.
+const LAST: u32 = 300_002;
+
+#[test]
+fn a_chain_of_lists_is_collected_and_dropped(rt: HostRuntime) -> Result<(), Fail> {
+    let alloc = rt.alloc();
+    let mut script = lines(alloc, "threshold 0; c = list")?;
+    for _list in 2..LAST {
+        script.extend_from_slice(b"c = list c\n")?;
+    }
+    script.extend_from_slice(b"collect 2\ndel c\n")?;
+    let mut wanted = Vec::new(alloc);
+    for serial in 2..=LAST {
+        push_numbered(&mut wanted, "made list #", serial)?;
+    }
+    wanted.extend_from_slice(b"gc start 2\ngc stop 2 0 0\ncollected 0\n")?;
+    for serial in 2..=LAST {
+        push_numbered(&mut wanted, "free #", serial)?;
+    }
+    wanted.extend_from_slice(b"end\n")?;
+    let found = answer_to(alloc, &["run"], &mut PlainSource::new(script))?;
+    assert_eq!(rt; found.status, Status::Done);
+    assert!(rt;
+        found.text.as_slice() == wanted.as_slice(),
+        "the text of a chain"
+    );
     Ok(())
 }

@@ -10,7 +10,7 @@ use std::process::Abort;
 use std::test::Fail;
 
 /// The lines of a script or a text, each with a line feed.
-fn lines(alloc: Global, text: &str) -> Result<Vec<u8>, AllocError> {
+pub fn lines(alloc: Global, text: &str) -> Result<Vec<u8>, AllocError> {
     let mut bytes = Vec::new(alloc);
     for byte in text.as_bytes() {
         match *byte {
