@@ -125,6 +125,97 @@ const WEAK_REFERENCES: Example = Example {
     text: "made function #2; made instance #3; made weakref #4; made weakref #5; cleared #5; cleared #4; enter callback #5; leave; enter callback #4; leave; free #3; value none; end",
 };
 
+/// `examples/automatic.script`.
+const AUTOMATIC: Example = Example {
+    status: Status::Done,
+    script: "threshold 2; a = list; b = list; c = list; count; disable; d = list; e = list; f = list; count; enable; print 1",
+    text: "made list #2; made list #3; made list #4; gc start 0; gc stop 0 0 0; count 0 1 0; made list #5; made list #6; made list #7; count 3 1 0; gc start 0; gc stop 0 0 0; value 1; end",
+};
+
+/// `examples/budget-in-a-collection.script`.
+const BUDGET_IN_A_COLLECTION: Example = Example {
+    status: Status::Budget,
+    script: "budget 1; def cb; end; def d; end; class C del=d; f = func cb; a = new C; setattr a me a; w = ref a f; del a; collect",
+    text: "made function #2; made instance #3; made weakref #4; gc start 2; cleared #4; enter callback #4; leave; budget spent",
+};
+
+/// `examples/collection-callback.script`.
+const COLLECTION_CALLBACK: Example = Example {
+    status: Status::Done,
+    script: "def cb; collect; append q 1; print 7; end; class C; f = func cb; a = new C; setattr a me a; w = ref a f; del a; collect 2",
+    text: "made function #2; made instance #3; made weakref #4; gc start 2; cleared #4; enter callback #4; collected 0; refused 1; leave; free #3; gc stop 2 1 0; collected 1; end",
+};
+
+/// `examples/collection-in-a-death.script`.
+const COLLECTION_IN_A_DEATH: Example = Example {
+    status: Status::Done,
+    script: "def cb; z = list; print 1; end; class C; f = func cb; a = new C; l = list; append l l; setattr a items l; w = ref a f; threshold 4; del l; del a; collect 1",
+    text: "made function #2; made instance #3; made list #4; made weakref #5; cleared #5; enter callback #5; made list #6; gc start 0; gc stop 0 0 0; value 1; leave; free #3; gc start 1; free #4; gc stop 1 1 0; collected 1; end",
+};
+
+/// `examples/condemned-weak-reference.script`.
+const CONDEMNED_WEAK_REFERENCE: Example = Example {
+    status: Status::Done,
+    script: "def cb; end; class C; f = func cb; a = new C; w = ref a f; setattr a me a; setattr a w w; del w; del a; collect 2",
+    text: "made function #2; made instance #3; made weakref #4; gc start 2; cleared #4; free #4; free #3; gc stop 2 2 0; collected 2; end",
+};
+
+/// `examples/cycle.script`.
+const CYCLE: Example = Example {
+    status: Status::Done,
+    script: "a = list; append a a; del a; collect 2",
+    text: "made list #2; gc start 2; free #2; gc stop 2 1 0; collected 1; end",
+};
+
+/// `examples/debug-flags.script`.
+const DEBUG_FLAGS: Example = Example {
+    status: Status::Done,
+    script: "def d; end; class C del=d; a = new C; setattr a me a; del a; debug stats collectable saveall; collect; debug; delitem garbage 0; collect",
+    text: "made instance #2; gc start 2; gens 1 0 0 0; gc collectable #2; enter del #2; leave; gc saved #2; gc stop 2 1 0; collected 1; gc start 2; free #2; gc stop 2 1 0; collected 1; end",
+};
+
+/// `examples/freeze.script`.
+const FREEZE: Example = Example {
+    status: Status::Done,
+    script: "a = list; append a a; del a; freeze; gens; collect; unfreeze; collect",
+    text: "made list #2; gens 0 0 0 1; gc start 2; gc stop 2 0 0; collected 0; gc start 2; free #2; gc stop 2 1 0; collected 1; end",
+};
+
+/// `examples/garbage-list.script`.
+const GARBAGE_LIST: Example = Example {
+    status: Status::Done,
+    script: "def p; end; class C legacy=p; a = new C; setattr a me a; del a; collect 2; x = item garbage 0; refs x; delitem garbage 0; refs x",
+    text: "made instance #2; gc start 2; gc saved #2; gc stop 2 0 1; collected 1; refs 3; refs 2; end",
+};
+
+/// `examples/generations.script`.
+const GENERATIONS: Example = Example {
+    status: Status::Done,
+    script: "a = list; append a a; collect 0; gens; del a; collect 0; collect 1; gens",
+    text: "made list #2; gc start 0; gc stop 0 0 0; collected 0; gens 0 1 0 0; gc start 0; gc stop 0 0 0; collected 0; gc start 1; free #2; gc stop 1 1 0; collected 1; gens 0 0 0 0; end",
+};
+
+/// `examples/late-weak-reference.script`.
+const LATE_WEAK_REFERENCE: Example = Example {
+    status: Status::Done,
+    script: "def cb; end; def d; n = attr self other; w = ref n f; del n; end; class C del=d; class D; f = func cb; a = new C; b = new D; setattr a other b; setattr a me a; del a; del b; collect 2",
+    text: "made function #2; made instance #3; made instance #4; gc start 2; enter del #3; made weakref #5; leave; cleared #5; free #4; free #3; gc stop 2 2 0; collected 2; end",
+};
+
+/// `examples/saved-by-finalizer.script`.
+const SAVED_BY_FINALIZER: Example = Example {
+    status: Status::Done,
+    script: "def d; x = self; end; class C del=d; a = new C; setattr a me a; del a; collect; del x; collect",
+    text: "made instance #2; gc start 2; enter del #2; leave; alive #2; gc stop 2 0 0; collected 0; gc start 2; free #2; gc stop 2 1 0; collected 1; end",
+};
+
+/// `examples/tracking.script`.
+const TRACKING: Example = Example {
+    status: Status::Done,
+    script: "d = dict; tracked d; l = list; put d 1 l; tracked d; drop d 1; t = tuple 1 2; tracked t; collect; tracked d; tracked t",
+    text: "made dict #2; tracked no; made list #3; tracked yes; made tuple #4; tracked yes; gc start 2; gc stop 2 0 0; collected 0; tracked no; tracked no; end",
+};
+
 /// Runs an example.
 fn run(rt: &impl Abort, alloc: Global, example: Example) -> Result<(), AllocError> {
     check(
@@ -156,5 +247,24 @@ fn every_example_has_its_text(rt: HostRuntime) -> Result<(), Fail> {
     run(&rt, alloc, RESURRECTION)?;
     run(&rt, alloc, TUPLES)?;
     run(&rt, alloc, WEAK_REFERENCES)?;
+    Ok(())
+}
+
+#[test]
+fn every_example_with_collections_has_its_text(rt: HostRuntime) -> Result<(), Fail> {
+    let alloc = rt.alloc();
+    run(&rt, alloc, AUTOMATIC)?;
+    run(&rt, alloc, BUDGET_IN_A_COLLECTION)?;
+    run(&rt, alloc, COLLECTION_CALLBACK)?;
+    run(&rt, alloc, COLLECTION_IN_A_DEATH)?;
+    run(&rt, alloc, CONDEMNED_WEAK_REFERENCE)?;
+    run(&rt, alloc, CYCLE)?;
+    run(&rt, alloc, DEBUG_FLAGS)?;
+    run(&rt, alloc, FREEZE)?;
+    run(&rt, alloc, GARBAGE_LIST)?;
+    run(&rt, alloc, GENERATIONS)?;
+    run(&rt, alloc, LATE_WEAK_REFERENCE)?;
+    run(&rt, alloc, SAVED_BY_FINALIZER)?;
+    run(&rt, alloc, TRACKING)?;
     Ok(())
 }

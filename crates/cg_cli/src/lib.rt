@@ -18,6 +18,8 @@ pub use top::gc_run;
 pub use words::{Job, read_words};
 
 #[cfg(test)]
+mod collections;
+#[cfg(test)]
 mod examples;
 #[cfg(test)]
 mod kinds;

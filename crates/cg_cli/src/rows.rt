@@ -10,7 +10,7 @@ use std::process::Abort;
 use std::test::Fail;
 
 /// The lines of a script or a text, each with a line feed.
-fn lines(alloc: Global, text: &str) -> Result<Vec<u8>, AllocError> {
+pub fn lines(alloc: Global, text: &str) -> Result<Vec<u8>, AllocError> {
     let mut bytes = Vec::new(alloc);
     for byte in text.as_bytes() {
         match *byte {
@@ -46,8 +46,40 @@ pub fn check(
 }
 
 /// A run of the script is to end by `end`, and to write this text.
-fn check_done(rt: &impl Abort, alloc: Global, script: &str, text: &str) -> Result<(), AllocError> {
+pub fn check_done(
+    rt: &impl Abort,
+    alloc: Global,
+    script: &str,
+    text: &str,
+) -> Result<(), AllocError> {
     check(rt, alloc, &["run"], script, Status::Done, text)
+}
+
+/// Whether these bytes are one of some texts.
+fn is_one_of(alloc: Global, found: &[u8], texts: &[&str]) -> Result<bool, AllocError> {
+    for text in texts {
+        if lines(alloc, text)?.as_slice() == found {
+            return Ok(true);
+        }
+    }
+    Ok(false)
+}
+
+/// A run of the script is to end by `end`, and to write one of these texts: the rules leave the order of some lines free.
+pub fn check_one_of(
+    rt: &impl Abort,
+    alloc: Global,
+    script: &str,
+    texts: &[&str],
+) -> Result<(), AllocError> {
+    let mut source = PlainSource::new(lines(alloc, script)?);
+    let found = answer_to(alloc, &["run"], &mut source)?;
+    assert!(rt;
+        is_one_of(alloc, found.text.as_slice(), texts)?,
+        "at {script:?}"
+    );
+    assert_eq!(rt; found.status, Status::Done, "at {script:?}");
+    Ok(())
 }
 
 /// A run of the script is to end by `budget spent`, and to write this text.
