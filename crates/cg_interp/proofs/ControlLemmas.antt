@@ -1,5 +1,5 @@
 -- The collector's commands: what the machine may do for one, and what it leaves.
-use Rattle.std.proofs.Common.{◌≡◌, refl, sym, ◌∙◌, ap, subst, ℕ, ◌+◌, ◌≤◌, ◌<◌, Bool, true, false, List, [], ◌∷◌, Option, None, Some, Result, Ok, Err, length, arith}
+use Rattle.std.proofs.Common.{◌≡◌, refl, sym, ◌∙◌, ap, subst, ℕ, Bool, true, false, List, [], ◌∷◌, Option, None, Some, Ok, Err, arith}
 use Rattle.std.specs.Prelude.{option_to_list, if◌then◌else◌, unwrap_or}
 use Rattle.cg_value.specs.declared.Entry.{Entry}
 use Rattle.cg_script.specs.declared.Script.{Script}
@@ -19,12 +19,10 @@ use Rattle.cg_machine.specs.Represents.{Represents}
 use Rattle.cg_machine.proofs.CommandLaws.{Each, checked}
 use Rattle.cg_policy.specs.Policy.{Policy}
 use Rattle.cg_controls.specs.Answers.{IsControl, StandFor, HasChanged}
-use Rattle.cg_controls.specs.Places.{KeepsAllButPlaces}
 use Rattle.cg_collect.specs.Numbers.{AreSmall}
 use Rattle.cg_interp.specs.declared.activity.Activity.{Activity as Own}
 use Rattle.cg_interp.specs.Engines.{State, StandsFor, ShowsAll, under}
 use Rattle.cg_interp.specs.Callers.{Changes, numbers_told}
-use Rattle.cg_interp.specs.Turns.{IsFit}
 use Rattle.cg_interp.proofs.AnswerLemmas.{change_may}
 use Rattle.cg_interp.proofs.CallerLemmas.{same_engine}
 use Rattle.cg_interp.proofs.UnderWay.{under_way, policy_is}

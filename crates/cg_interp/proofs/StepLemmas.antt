@@ -1,6 +1,5 @@
 -- A step of the script or of a frame: the next command, or a collection that is due before it.
-use Rattle.std.proofs.Common.{◌≡◌, refl, sym, ◌∙◌, ap, subst, ℕ, ◌≤◌, Bool, true, false, not, ◌&&◌, List, [], ◌∷◌, ◌++◌, Option, None, Some, inl, inr, take, drop, arith}
-use Rattle.std.specs.Prelude.{if◌then◌else◌}
+use Rattle.std.proofs.Common.{◌≡◌, refl, sym, ◌∙◌, ap, subst, ℕ, true, false, List, [], ◌∷◌, ◌++◌, Option, None, Some, inl, take, drop}
 use Rattle.std.proofs.lemmas.List.{take-append-drop}
 use Rattle.cg_script.specs.declared.Script.{Script}
 use Rattle.cg_script.specs.declared.Command.{Command}
@@ -9,14 +8,13 @@ use Rattle.cg_graph.proofs.Members.{Includes-append_right, either}
 use Rattle.cg_machine.specs.declared.event.Event.{Event}
 use Rattle.cg_machine.specs.declared.event.Event.TheVariants.{End, BudgetSpent}
 use Rattle.cg_machine.specs.Program.{commands_of, body_of}
-use Rattle.cg_machine.specs.World.{World, Activity, TopLevel, Framed, Frame, Numbers, Running, Ended, push, with_stack}
+use Rattle.cg_machine.specs.World.{World, TopLevel, Framed, Frame, Running, Ended, push, with_stack}
 use Rattle.cg_machine.specs.Frame.{Transition}
 use Rattle.cg_machine.specs.Commands.{CommandStep, new_collection}
-use Rattle.cg_machine.specs.Due.{due, is_due, due_generation}
+use Rattle.cg_machine.specs.Due.{due}
 use Rattle.cg_machine.specs.Run.{StepOf, TopLevelStep, FrameStep, CommandInFrame}
 use Rattle.cg_machine.specs.Represents.{Represents, Goes}
-use Rattle.cg_policy.specs.Policy.{Policy, due_of}
-use Rattle.cg_policy.specs.Laws.{policy_of}
+use Rattle.cg_policy.specs.Policy.{due_of}
 use Rattle.cg_laws.specs.Kept.{StaysKept}
 use Rattle.cg_commands.specs.declared.locals.Locals.{Locals}
 use Rattle.cg_commands.specs.Stands.{HasLocals}

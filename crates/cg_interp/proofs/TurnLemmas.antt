@@ -12,7 +12,7 @@ use Rattle.cg_interp.specs.declared.activity.Activity.{Activity as Own}
 use Rattle.cg_interp.specs.declared.activity.Activity.TheVariants as activity
 use Rattle.cg_interp.specs.declared.turned.Turned.{Turned}
 use Rattle.cg_interp.specs.Engines.{State, StandsFor, is_collecting, under}
-use Rattle.cg_interp.specs.Collecting.{StandsWith, Collects, CollectsOnTop}
+use Rattle.cg_interp.specs.Collecting.{StandsWith, CollectsOnTop}
 use Rattle.cg_interp.specs.Telling.{Advances, TurnsWith, TurnsFrom, TurnsAny}
 use Rattle.cg_interp.proofs.ArmLemmas.{something_under_way}
 use Rattle.cg_interp.proofs.CallerLemmas.{same_engine}

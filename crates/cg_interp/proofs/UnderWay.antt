@@ -1,5 +1,5 @@
 -- A collection is under way in an engine exactly where one is on the stack of the machine.
-use Rattle.std.proofs.Common.{◌≡◌, refl, sym, ◌∙◌, ap, ℕ, Bool, true, false, ◌||◌, List, [], ◌∷◌, ◌++◌, Option, None, Some}
+use Rattle.std.proofs.Common.{◌≡◌, refl, sym, ◌∙◌, ap, ℕ, Bool, true, false, ◌||◌, List, [], ◌∷◌, Option, None, Some}
 use Rattle.std.specs.List.{list_any}
 use Rattle.std.proofs.lemmas.List.Folds.{list_any-append}
 use Rattle.cg_script.specs.declared.Script.{Script}
@@ -13,7 +13,7 @@ use Rattle.cg_policy.specs.Laws.{policy_of}
 use Rattle.cg_collect.specs.declared.phase.Phase.{Phase}
 use Rattle.cg_collect.specs.declared.phase.Phase.TheVariants as phase_of
 use Rattle.cg_collect.specs.declared.collection.Collection.{Collection}
-use Rattle.cg_collect.specs.Phases.{machine_phase, collecting, released_over, on_stack}
+use Rattle.cg_collect.specs.Phases.{machine_phase, collecting, released_over}
 use Rattle.cg_collect.specs.Ready.{MayRun}
 use Rattle.cg_graph.specs.Store.{list_at}
 use Rattle.cg_value.specs.declared.Place.TheVariants.{Pend}

@@ -1,4 +1,4 @@
-use Rattle.std.proofs.Common.{◌≡◌, refl, sym, ◌∙◌, ap, [], Some, false}
+use Rattle.std.proofs.Common.{refl, sym, ◌∙◌, ap, [], Some, false}
 use Rattle.cg_machine.specs.Program.{commands_of}
 use Rattle.cg_machine.specs.World.{push}
 use Rattle.cg_machine.specs.Commands.{new_collection}

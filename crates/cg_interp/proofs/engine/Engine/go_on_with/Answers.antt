@@ -1,4 +1,4 @@
-use Rattle.std.proofs.Common.{◌≡◌, sym, ◌∙◌, ap, [], Some, false}
+use Rattle.std.proofs.Common.{sym, ◌∙◌, ap, [], Some, false}
 use Rattle.cg_machine.specs.Program.{body_of}
 use Rattle.cg_machine.specs.World.{push}
 use Rattle.cg_machine.specs.Commands.{new_collection}
@@ -14,14 +14,14 @@ collect-requires-clause-stands g c =
     let s = c.requires.stands in
     let is = sym c.in-Some.is ∙ c.due.ensures ∙ ap (λ (e : State). due_of e.policy) c.self.view_is in
     let step = frame_collects c.args.script.now c.args.self.now c.args.locals c.args.procedure c.args.next (Some c.args.after) c.args.command.now s.0 s.1 c.requires.next c.in-Some.generation
-        (due_in c.args.script.now (under (activity_of.Frame c.args.locals c.args.procedure c.args.next) c.args.self.now) s.0 (Some c.in-Some.generation) s.1 is) in
+    (due_in c.args.script.now (under (activity_of.Frame c.args.locals c.args.procedure c.args.next) c.args.self.now) s.0 (Some c.in-Some.generation) s.1 is) in
     (s.0, s.1, kept_after c.args.script.now s.0 (push (new_collection c.in-Some.generation false s.0) s.0) s.1.running c.args.self.now.frames [] step s.2)
 
 pub returns-in-Some-clause-turns : goal.returns-in-Some-clause-turns
 returns-in-Some-clause-turns g c = λ w stands kept.
     let is = sym c.in-Some.is ∙ c.due.ensures ∙ ap (λ (e : State). due_of e.policy) c.self.view_is in
     let step = frame_collects c.args.script.now c.args.self.now c.args.locals c.args.procedure c.args.next (Some c.args.after) c.args.command.now w stands c.requires.next c.in-Some.generation
-        (due_in c.args.script.now (under (activity_of.Frame c.args.locals c.args.procedure c.args.next) c.args.self.now) w (Some c.in-Some.generation) stands is) in
+    (due_in c.args.script.now (under (activity_of.Frame c.args.locals c.args.procedure c.args.next) c.args.self.now) w (Some c.in-Some.generation) stands is) in
     let begun = push (new_collection c.in-Some.generation false w) w in
     turns_after c.args.script.now w begun stands.running step (λ still. Unit {0}) c.collect.new.self c.collect.result (c.collect.ensures.turns w stands (kept_after c.args.script.now w begun stands.running c.args.self.now.frames [] step kept))
 
