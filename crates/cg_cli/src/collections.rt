@@ -78,6 +78,11 @@ fn finalizers_in_cycles(rt: HostRuntime) -> Result<(), Fail> {
             "def d; del q; print 1; end; class C del=d; a = new C; setattr a me a; del a; collect",
             "made instance #2; gc start 2; enter del #2; refused 1; leave; free #2; gc stop 2 1 0; collected 1; end",
         ),
+        // It sets a threshold, by which the next collection is due.
+        (
+            "def d; threshold 1; end; class C del=d; threshold 0; a = new C; setattr a me a; del a; l = list; m = list; collect; n = list; o = list; count",
+            "made instance #2; made list #3; made list #4; gc start 2; enter del #2; leave; free #2; gc stop 2 1 0; collected 1; made list #5; made list #6; gc start 0; gc stop 0 0 0; count 0 1 0; end",
+        ),
         // What it makes is no part of the collection.
         (
             "def d; l = list; append l l; del l; collect; gens; end; class C del=d; a = new C; setattr a me a; del a; collect; collect",
