@@ -216,6 +216,41 @@ const TRACKING: Example = Example {
     text: "made dict #2; tracked no; made list #3; tracked yes; made tuple #4; tracked yes; gc start 2; gc stop 2 0 0; collected 0; tracked no; tracked no; end",
 };
 
+/// `examples/callback-in-turn.script`.
+const CALLBACK_IN_TURN: Example = Example {
+    status: Status::Done,
+    script: "def cb; print ref; del u; end; class C; f = func cb; a = new C; setattr a me a; u = ref a f; v = ref a f; del a; collect",
+    text: "made function #2; made instance #3; made weakref #4; made weakref #5; gc start 2; cleared #5; cleared #4; enter callback #5; value #5; leave; enter callback #4; value #4; refused 1; leave; free #4; free #3; gc stop 2 2 0; collected 2; end",
+};
+
+/// `examples/finalizer-frees.script`.
+const FINALIZER_FREES: Example = Example {
+    status: Status::Done,
+    script: "def d; delattr self me; end; class C del=d; a = new C; setattr a me a; del a; collect",
+    text: "made instance #2; gc start 2; enter del #2; leave; free #2; gc stop 2 0 0; collected 0; end",
+};
+
+/// `examples/finalizer-freezes.script`.
+const FINALIZER_FREEZES: Example = Example {
+    status: Status::Done,
+    script: "def d; freeze; gens; end; class C del=d; l = list; a = new C; setattr a me a; del a; collect; gens",
+    text: "made list #2; made instance #3; gc start 2; enter del #3; gens 0 0 0 1; leave; free #3; gc stop 2 1 0; collected 1; gens 0 0 0 1; end",
+};
+
+/// `examples/finalizer-makes.script`.
+const FINALIZER_MAKES: Example = Example {
+    status: Status::Done,
+    script: "def d; l = list; append l l; del l; collect; gens; end; class C del=d; a = new C; setattr a me a; del a; collect; collect",
+    text: "made instance #2; gc start 2; enter del #2; made list #3; collected 0; gens 1 0 0 0; leave; free #2; gc stop 2 1 0; collected 1; gc start 2; free #3; gc stop 2 1 0; collected 1; end",
+};
+
+/// `examples/finalizer-sets.script`.
+const FINALIZER_SETS: Example = Example {
+    status: Status::Done,
+    script: "def d; threshold 1; debug saveall; end; class C del=d; threshold 0; a = new C; setattr a me a; del a; collect; n = list; o = list; count; b = new C; setattr b me b; del b; collect",
+    text: "made instance #2; gc start 2; enter del #2; leave; free #2; gc stop 2 1 0; collected 1; made list #3; made list #4; gc start 0; gc stop 0 0 0; count 0 1 0; made instance #5; gc start 2; enter del #5; leave; gc saved #5; gc stop 2 1 0; collected 1; end",
+};
+
 /// Runs an example.
 fn run(rt: &impl Abort, alloc: Global, example: Example) -> Result<(), AllocError> {
     check(
@@ -266,5 +301,16 @@ fn every_example_with_collections_has_its_text(rt: HostRuntime) -> Result<(), Fa
     run(&rt, alloc, LATE_WEAK_REFERENCE)?;
     run(&rt, alloc, SAVED_BY_FINALIZER)?;
     run(&rt, alloc, TRACKING)?;
+    Ok(())
+}
+
+#[test]
+fn every_example_of_frames_in_a_collection_has_its_text(rt: HostRuntime) -> Result<(), Fail> {
+    let alloc = rt.alloc();
+    run(&rt, alloc, CALLBACK_IN_TURN)?;
+    run(&rt, alloc, FINALIZER_FREES)?;
+    run(&rt, alloc, FINALIZER_FREEZES)?;
+    run(&rt, alloc, FINALIZER_MAKES)?;
+    run(&rt, alloc, FINALIZER_SETS)?;
     Ok(())
 }
