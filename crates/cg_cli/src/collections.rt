@@ -17,6 +17,11 @@ fn cycles(rt: HostRuntime) -> Result<(), Fail> {
             "made list #2; gc start 2; free #2; gc stop 2 1 0; collected 1; end",
         ),
         (
+            "a = list; t = tuple a; append a t; del a; del t; collect 2",
+            "made list #2; made tuple #3; gc start 2; free #3; free #2; gc stop 2 2 0; collected 2; end",
+        ),
+        // Nothing is appended to a tuple.
+        (
             "a = list; t = tuple a; append t 1; append a t; del a; del t; collect 2",
             "made list #2; made tuple #3; refused 2; gc start 2; free #3; free #2; gc stop 2 2 0; collected 2; end",
         ),
@@ -67,6 +72,11 @@ fn finalizers_in_cycles(rt: HostRuntime) -> Result<(), Fail> {
         (
             "def cb; end; def d; n = attr self other; w = ref n f; del n; end; class C del=d; class D; f = func cb; a = new C; b = new D; setattr a other b; setattr a me a; del a; del b; collect 2",
             "made function #2; made instance #3; made instance #4; gc start 2; enter del #3; made weakref #5; leave; cleared #5; free #4; free #3; gc stop 2 2 0; collected 2; end",
+        ),
+        // Brought back by count, it is in generation 0.
+        (
+            "def d; x = self; end; class C del=d; a = new C; del a; gens; del x",
+            "made instance #2; enter del #2; leave; alive #2; gens 1 0 0 0; free #2; end",
         ),
         // The finalizer takes the object out of its cycle: it dies in the frame that lets it go.
         (

@@ -91,6 +91,7 @@ fn check_spent(rt: &impl Abort, alloc: Global, script: &str, text: &str) -> Resu
 fn names_and_lists(rt: HostRuntime) -> Result<(), Fail> {
     let alloc = rt.alloc();
     for (script, text) in [
+        ("", "end"),
         ("# nothing is run", "end"),
         ("a = list; del a", "made list #2; free #2; end"),
         (
@@ -159,8 +160,8 @@ fn refusals(rt: HostRuntime) -> Result<(), Fail> {
     let alloc = rt.alloc();
     for (script, text) in [
         (
-            "class C; a = list 1; x = item a 1; append 3 a; put a 1 2; x = deref a; call a; d = dict; put d a 1; x = get d 5; o = new C; x = attr o n; append garbage 1; del x",
-            "made list #2; refused 3; refused 2; refused 2; refused 6; refused 7; made dict #3; refused 9; refused 4; made instance #4; refused 5; refused 2; refused 1; end",
+            "class C; a = list 1; x = item a 1; append 3 a; put a 1 2; collect 7; x = deref a; call a; d = dict; put d a 1; x = get d 5; o = new C; x = attr o n; append garbage 1; del x",
+            "made list #2; refused 3; refused 2; refused 2; refused 8; refused 6; refused 7; made dict #3; refused 9; refused 4; made instance #4; refused 5; refused 2; refused 1; end",
         ),
         (
             "print 'a; print -5; x = list 1; print garbage; print c0; print self; print ref",
