@@ -39,6 +39,7 @@ pub mod LeftRuns
 pub mod Rooms
 pub mod RoomsOfRuns
 pub mod Heights
+pub mod Shapes
 pub mod Origins
 pub mod OriginsOfRuns
 pub mod PrintableTexts

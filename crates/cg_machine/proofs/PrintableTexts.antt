@@ -63,7 +63,7 @@ dropped_member zero xs x m = m
 dropped_member (suc n) [] x m = absurd m
 dropped_member (suc n) (y ∷ xs) x m = inr (dropped_member n xs x m)
 
-removed_member : {X : Type 0} (xs : List X) (i : ℕ) (x : X) → Includes (remove xs i) x → Includes xs x
+pub removed_member : {X : Type 0} (xs : List X) (i : ℕ) (x : X) → Includes (remove xs i) x → Includes xs x
 removed_member xs i x m = either (Includes-append_cases (take i xs) (drop (suc i) xs) x m) (taken_member i xs x) (dropped_member (suc i) xs x)
 
 pub set_member : {X : Type 0} (xs : List X) (i : ℕ) (y x : X) → Includes (slice_set xs i y) x → Includes xs x ⊎ (y ≡ x)

@@ -1,0 +1,419 @@
+-- What the effect of a command can be, in ten forms. What it binds, puts, gives up, calls or prints is at hand.
+use Rattle.std.proofs.Common.{◌≡◌, ◌≢◌, refl, sym, ◌∙◌, ap, subst, ℕ, zero, suc, ◌+◌, ◌≤◌, Bool, true, false, not, ◌&&◌, inl, inr, ◌⊎◌, List, [], ◌∷◌, ◌++◌, map, length, length-append, Option, Some, None, Result, Ok, Err, arith, take, drop, length-drop}
+use Rattle.std.specs.Prelude.{◌==◌, ◌||◌, nat_le, nat_lt, if◌then◌else◌, is_some, is_none, ok_or, option_and_then, option_to_list, slice_set, slice_get, remove}
+use Rattle.std.proofs.lemmas.List.{length-set, length-take}
+use Rattle.std.proofs.lemmas.Bool.{eq-eqb, leb-true}
+use Rattle.cg_value.specs.declared.Val.{Val}
+use Rattle.cg_value.specs.declared.Val.TheVariants.{None as Nothing, Int, Str, Ref}
+use Rattle.cg_value.specs.declared.Entry.{Entry}
+use Rattle.cg_value.specs.declared.KindCode.{KindCode}
+use Rattle.cg_value.specs.declared.KindCode.TheVariants.{List as ListKind, Tuple, Dict, Inst, Func, Weak}
+use Rattle.cg_script.specs.declared.Operand.{Operand}
+use Rattle.cg_script.specs.declared.Operand.TheVariants.{None as NoneWord, Str as StrWord, Name}
+use Rattle.cg_script.specs.declared.Command.{Command}
+use Rattle.cg_script.specs.declared.Command.TheVariants.{MakeList, MakeTuple, MakeDict, MakeInst, MakeFunc, MakeRef, Bind, Del, Append, SetItem, DelItem, Put, Remove, SetAttr, DelAttr, Item, Get, Attr, Deref, Call, Quit, Collect, Enable, Disable, Threshold, Flags, Freeze, Unfreeze, Print, Refs, Tracked, Finalized, Count, Gens}
+use Rattle.cg_script.specs.Texts.{operand_texts, operands_texts, command_texts}
+use Rattle.cg_graph.specs.Member.{Includes}
+use Rattle.cg_graph.specs.Object.{Object, object_at, with_entries}
+use Rattle.cg_graph.specs.Value.{reference_in, references, references_of_value, entry_references, value_at, entry_at, item, put, without_key, same_value}
+use Rattle.cg_graph.proofs.Members.{either, true_and, or_left, or_right, Includes-append_left, Includes-append_right, Includes-append_cases, Includes-map_cases}
+use Rattle.cg_machine.specs.declared.event.Event.{Event}
+use Rattle.cg_machine.specs.declared.event.Event.TheVariants.{Made, Value, RefCount, Tracked as TrackedLine, Finalized as FinalizedLine, Count as CountLine, Gens as GensLine}
+use Rattle.cg_machine.specs.World.{World, Numbers, with_change}
+use Rattle.cg_machine.specs.Effects.{Effect, Changes, Calls, Collects, Quits, makes, puts, has_room, live, entry_count, replaced, frozen, unfrozen, tracked_by, given_up_by, bound, with_new, callback_entries}
+use Rattle.cg_machine.specs.Commands.{effect}
+use Rattle.cg_machine.specs.Refusals.{◌>>=◌, unless, most_objects, most_entries, object_limit, entry_limit, no_name, no_index, no_key, no_attribute, not_callable, not_weak, wrong_kind}
+use Rattle.cg_machine.specs.Operands.{is_dict, is_list, is_script_list, is_sequence, is_weak, object_of, tested, object, value_of, value, values}
+use Rattle.cg_machine.specs.Weak.{is_instance, is_function, has_weak_references}
+use Rattle.cg_machine.specs.Laws.{HasFunction}
+use Rattle.cg_machine.proofs.CommandLaws.{Each, checked}
+use Rattle.cg_machine.proofs.CommandRefs.{each_then, each_some}
+use Rattle.cg_machine.proofs.Lookups.{found_at, slice_get_member}
+use Rattle.cg_machine.proofs.PrintableTexts.{removed_member, set_member}
+
+-- A value that a command has at hand: what a word of it stands for (`#1`, the value of a name or of a local), or what is in
+-- an entry, or is the referent, of an object that it has at hand.
+pub data IsAtHand (w : World) (command : Command) : Val → Type 0 where
+  Word : (operand : Operand) (v : Val) → ((t : ℕ) → Includes (operand_texts operand) t → Includes (command_texts command) t) → value_of w operand ≡ Some v → IsAtHand w command v
+  ValueIn : (x : Object) (e : Entry) → Includes w.objects x → IsAtHand w command (Ref x.serial) → Includes x.entries e → IsAtHand w command e.val
+  KeyIn : (x : Object) (e : Entry) → Includes w.objects x → IsAtHand w command (Ref x.serial) → Includes x.entries e → IsAtHand w command e.key
+  ReferentOf : (x : Object) (r : ℕ) → Includes w.objects x → IsAtHand w command (Ref x.serial) → x.referent ≡ Some r → IsAtHand w command (Ref r)
+
+-- an object at hand, which passes a test
+pub record HasObject (w : World) (command : Command) (test : Object → Bool) (x : Object) : Type 0 where
+  pub member : Includes w.objects x
+  pub hand : IsAtHand w command (Ref x.serial)
+  pub passes : test x ≡ true
+
+-- items at hand: no keys
+abbrev pub AreItems : World → Command → List Entry → Type 0
+AreItems w command entries = (e : Entry) → Includes entries e → (e.key ≡ Nothing) × IsAtHand w command e.val
+
+-- the commands that make instances and functions name their class and procedure
+pub record IsMadeBy (command : Command) (code : KindCode) (class : Option ℕ) : Type 0 where
+  pub instance : code ≡ Inst → (name number : ℕ) × (class ≡ Some number) × (command ≡ MakeInst name number)
+  pub function : code ≡ Func → (name number : ℕ) × (cells : List Operand) × (class ≡ Some number) × (command ≡ MakeFunc name number cells)
+
+-- the parts of a new object
+pub record HasParts (w : World) (command : Command) (kind : KindCode) (class : Option ℕ) (entries : List Entry) (referent : Option ℕ) : Type 0 where
+  pub room : nat_lt (live w) most_objects ≡ true
+  pub entry_room : entry_count w + length entries ≤ 4000000
+  pub by : IsMadeBy command kind class
+  pub items : AreItems w command entries
+  pub refers : (r : ℕ) → referent ≡ Some r → (kind ≡ Weak) × ((z : Object) × HasObject w command has_weak_references z × (z.serial ≡ r))
+  pub callbacks : kind ≡ Weak → (f : ℕ) → Includes (references entries) f → HasFunction w.objects f
+
+-- what may change: lists, dictionaries and instances
+abbrev pub IsMutable : KindCode → Type 0
+IsMutable ListKind = Unit {0}
+IsMutable Tuple = ⊥
+IsMutable Dict = Unit {0}
+IsMutable Inst = Unit {0}
+IsMutable Func = ⊥
+IsMutable Weak = ⊥
+
+-- other entries of an object: those it had, and one item at hand, which the garbage list does not get; at most one entry is given up
+pub record IsEdit (w : World) (command : Command) (x : Object) (entries : List Entry) (given_up : List ℕ) : Type 0 where
+  pub come : (e : Entry) → Includes entries e → Includes x.entries e ⊎ (x.serial ≢ 1) × (e.key ≡ Nothing) × IsAtHand w command e.val
+  pub longer : length entries ≤ length x.entries + 1
+  pub room : length entries ≤ length x.entries ⊎ (entry_count w + 1 ≤ 4000000)
+  pub given : (given_up ≡ []) ⊎ ((e : Entry) × Includes x.entries e × (given_up ≡ entry_references e))
+
+-- a line that tells numbers alone
+abbrev pub TellsNumbers : Event → Type 0
+TellsNumbers (RefCount n) = Unit {0}
+TellsNumbers (TrackedLine b) = Unit {0}
+TellsNumbers (FinalizedLine b) = Unit {0}
+TellsNumbers (CountLine first second third) = Unit {0}
+TellsNumbers (GensLine first second third frozen_ones) = Unit {0}
+TellsNumbers line = ⊥
+
+-- the counts stay
+pub record KeepsCounts (n after : Numbers) : Type 0 where
+  pub zero_count : after.zero_count ≡ n.zero_count
+  pub one_count : after.one_count ≡ n.one_count
+  pub two_count : after.two_count ≡ n.two_count
+  pub pending : after.pending ≡ n.pending
+  pub total : after.total ≡ n.total
+
+-- What an effect can be. A refused command has none.
+pub data Shape (w : World) (command : Command) : Effect → Type 0 where
+  Binds : (name : ℕ) (v : Option Val) → Includes (command_texts command) name → ((u : Val) → v ≡ Some u → IsAtHand w command u) → Shape w command (Changes false [] (given_up_by w name) (bound w name v))
+  Makes : (name : ℕ) (kind : KindCode) (class : Option ℕ) (entries : List Entry) (referent : Option ℕ) → Includes (command_texts command) name → HasParts w command kind class entries referent
+      → Shape w command (Changes true (Made kind w.next_serial ∷ []) (given_up_by w name) (bound (with_new w kind class entries referent) name (Some (Ref w.next_serial))))
+  Edits : (wants_memory : Bool) (x : Object) (entries : List Entry) (given_up : List ℕ) → HasObject w command (λ y. true) x → IsMutable x.code → IsEdit w command x entries given_up
+      → Shape w command (Changes wants_memory [] given_up (with_change (with_entries entries) x.serial w))
+  Puts : (x : Object) (key v : Val) → HasObject w command (λ y. is_dict y || is_instance y) x → IsMutable x.code → IsAtHand w command key → IsAtHand w command v → (is_some (value_at x.entries key) ≡ true) ⊎ (entry_count w + 1 ≤ 4000000)
+      → Shape w command (Changes (is_none (value_at x.entries key)) [] (references_of_value (value_at x.entries key)) (with_change (λ y. tracked_by w key v (with_entries (put x.entries key v) y)) x.serial w))
+  Shows : (v : Val) → IsAtHand w command v → Shape w command (Changes false (Value v ∷ []) [] w)
+  Tells : (line : Event) → TellsNumbers line → Shape w command (Changes false (line ∷ []) [] w)
+  Sets : (numbers : Numbers) → KeepsCounts w.numbers numbers → Shape w command (Changes false [] [] (record w { numbers = numbers }))
+  Freezes : Shape w command (Changes false [] [] (record w { objects = replaced frozen w; numbers = record w.numbers { zero_count = 0; one_count = 0; two_count = 0 } }))
+  Unfreezes : Shape w command (Changes false [] [] (record w { objects = replaced unfrozen w }))
+  StartsFrame : (f : Object) → HasObject w command is_function f → Shape w command (Calls f.serial)
+  StartsCollection : (g : ℕ) → Shape w command (Collects g)
+  Ends : Shape w command Quits
+
+-- Checks in order, where each result is known.
+each_unless : (b : Bool) (refusal : ℕ) → Each (λ u. b ≡ true) (unless b refusal)
+each_unless true refusal = refl
+each_unless false refusal = tt
+
+ref_is : (v : Val) (s : ℕ) → reference_in v ≡ Some s → v ≡ Ref s
+ref_is Nothing s e = absurd (let no : None ≡ Some s = e in cc)
+ref_is (Int n) s e = absurd (let no : None ≡ Some s = e in cc)
+ref_is (Str t) s e = absurd (let no : None ≡ Some s = e in cc)
+ref_is (Ref o) s e = let same : o ≡ s = cc in ap (λ n. Ref n) same
+
+-- an entry of two references at most, and the list of its parts
+option_two : (m : Option ℕ) → length (option_to_list m) ≤ 1
+option_two None = omega arith
+option_two (Some o) = omega arith
+
+entry_at_member : (entries : List Entry) (key : Val) (e : Entry) → entry_at entries key ≡ Some e → Includes entries e
+entry_at_member [] key e at = absurd (let no : None ≡ Some e = at in cc)
+entry_at_member (x ∷ entries) key e at = go (same_value x.key key) at (λ k. entry_at_member entries key e k)
+  where
+    go : (b : Bool) → (if b then Some x else entry_at entries key) ≡ Some e → (entry_at entries key ≡ Some e → Includes entries e) → Includes (x ∷ entries) e
+    go true k ih = let same : x ≡ e = cc in inl same
+    go false k ih = inr (ih k)
+
+pub value_at_member : (entries : List Entry) (key v : Val) → value_at entries key ≡ Some v → (e : Entry) × Includes entries e × (e.val ≡ v)
+value_at_member [] key v at = absurd (let no : None ≡ Some v = at in cc)
+value_at_member (x ∷ entries) key v at = go (same_value x.key key) at (λ k. value_at_member entries key v k)
+  where
+    go : (b : Bool) → (if b then Some x.val else value_at entries key) ≡ Some v → (value_at entries key ≡ Some v → (e : Entry) × Includes entries e × (e.val ≡ v)) → (e : Entry) × Includes (x ∷ entries) e × (e.val ≡ v)
+    go true k ih = let same : x.val ≡ v = cc in (x, inl refl, same)
+    go false k ih = let e = ih k in (e.0, inr e.1, e.2)
+
+without_key_part : (entries : List Entry) (key : Val) → ((e : Entry) → Includes (without_key entries key) e → Includes entries e) × (length (without_key entries key) ≤ length entries)
+without_key_part [] key = (λ e m. m, omega arith)
+without_key_part (x ∷ entries) key = go (same_value x.key key) (without_key_part entries key)
+  where
+    go : (b : Bool) → ((e : Entry) → Includes (without_key entries key) e → Includes entries e) × (length (without_key entries key) ≤ length entries)
+        → ((e : Entry) → Includes (if b then entries else x ∷ without_key entries key) e → Includes (x ∷ entries) e) × (length (if b then entries else x ∷ without_key entries key) ≤ length (x ∷ entries))
+    go true rest = (λ e m. inr m, omega arith)
+    go false rest = (λ e m. either m (λ i. inl i) (λ k. inr (rest.0 e k)), omega (arith, rest.1))
+
+removed_shorter : (xs : List Entry) (i : ℕ) (e : Entry) → slice_get xs i ≡ Some e → length (remove xs i) ≤ length xs
+removed_shorter [] i e at = absurd (let no : None ≡ Some e = at in cc)
+removed_shorter (x ∷ xs) zero e at = omega arith
+removed_shorter (x ∷ xs) (suc i) e at = omega (arith, removed_shorter xs i e at)
+
+module _ (w : World) (command : Command) where
+  -- the words of the command
+  abbrev IsOwn : List ℕ → Type 0
+  IsOwn texts = (t : ℕ) → Includes texts t → Includes (command_texts command) t
+
+  value_shaped : (operand : Operand) → IsOwn (operand_texts operand) → Each (IsAtHand w command) (value w operand)
+  value_shaped operand own = each_weaker (value_of w operand) refl
+    where
+      each_weaker : (m : Option Val) → value_of w operand ≡ m → Each (IsAtHand w command) (ok_or m no_name)
+      each_weaker None e = tt
+      each_weaker (Some v) e = Word operand v own e
+
+  abbrev AreAtHand : List Val → Type 0
+  AreAtHand vs = (v : Val) → Includes vs v → IsAtHand w command v
+
+  values_shaped : (operands : List Operand) → IsOwn (operands_texts operands) → Each AreAtHand (values w operands)
+  values_shaped [] own = λ v m. absurd m
+  values_shaped (operand ∷ operands) own =
+      let rest = values_shaped operands (λ t m. own t (Includes-append_right (operand_texts operand) (operands_texts operands) t m)) in
+      each_then (IsAtHand w command) AreAtHand (value w operand) _ (value_shaped operand (λ t m. own t (Includes-append_left (operand_texts operand) (operands_texts operands) t m)))
+      (λ v k. each_then AreAtHand AreAtHand (values w operands) _ rest (λ vs are u m. either m (λ e. subst (IsAtHand w command) e k) (are u)))
+
+  object_shaped : (test : Object → Bool) (refusal : ℕ) (v : Val) → IsAtHand w command v → Each (λ x. HasObject w command test x × (reference_in v ≡ Some x.serial)) (object w test refusal v)
+  object_shaped test refusal v hand = each_then (λ x. object_of w v ≡ Some x) (λ x. HasObject w command test x × (reference_in v ≡ Some x.serial)) (ok_or (object_of w v) refusal) _ (each_some (object_of w v) refusal) (λ x e. go (reference_in v) refl x e)
+    where
+      tests : (x : Object) → Includes w.objects x → IsAtHand w command (Ref x.serial) → reference_in v ≡ Some x.serial → (b : Bool) → test x ≡ b → Each (λ x. HasObject w command test x × (reference_in v ≡ Some x.serial)) (if b then Ok x else Err refusal)
+      tests x m h is true e = (record { member = m; hand = h; passes = e }, is)
+      tests x m h is false e = tt
+
+      go : (m : Option ℕ) → reference_in v ≡ m → (x : Object) → option_and_then (object_at w.objects) m ≡ Some x → Each (λ x. HasObject w command test x × (reference_in v ≡ Some x.serial)) (tested test refusal x)
+      go None at x e = absurd (let no : None ≡ Some x = e in cc)
+      go (Some s) at x e = let f = found_at w.objects s x e in tests x f.0 (subst (IsAtHand w command) (ref_is v s at ∙ ap (λ n. Ref n) (sym f.1)) hand) (at ∙ ap (λ n. Some n) (sym f.1)) (test x) refl
+
+  -- the same, where an effect follows
+  abbrev S : Result Effect ℕ → Type 0
+  S r = Each (Shape w command) r
+
+  valued : (f : Val → Result Effect ℕ) (operand : Operand) → IsOwn (operand_texts operand) → ((v : Val) → IsAtHand w command v → S (f v)) → S (value w operand >>= f)
+  valued f operand own h = each_then (IsAtHand w command) (Shape w command) (value w operand) f (value_shaped operand own) h
+
+  all_valued : (f : List Val → Result Effect ℕ) (operands : List Operand) → IsOwn (operands_texts operands) → ((vs : List Val) → AreAtHand vs → S (f vs)) → S (values w operands >>= f)
+  all_valued f operands own h = each_then AreAtHand (Shape w command) (values w operands) f (values_shaped operands own) h
+
+  is_found : {B : Type 0} (P : B → Type 0) (f : Object → Result B ℕ) (test : Object → Bool) (refusal : ℕ) (v : Val) → IsAtHand w command v → ((x : Object) → HasObject w command test x → reference_in v ≡ Some x.serial → Each P (f x)) → Each P (object w test refusal v >>= f)
+  is_found P f test refusal v hand h = each_then (λ x. HasObject w command test x × (reference_in v ≡ Some x.serial)) P (object w test refusal v) f (object_shaped test refusal v hand) (λ x k. h x k.0 k.1)
+
+  found : (f : Object → Result Effect ℕ) (test : Object → Bool) (refusal : ℕ) (v : Val) → IsAtHand w command v → ((x : Object) → HasObject w command test x → S (f x)) → S (object w test refusal v >>= f)
+  found f test refusal v hand h = is_found (Shape w command) f test refusal v hand (λ x k e. h x k)
+
+  there : {A : Type 0} (f : A → Result Effect ℕ) (m : Option A) (refusal : ℕ) → ((x : A) → m ≡ Some x → S (f x)) → S (ok_or m refusal >>= f)
+  there f m refusal h = each_then (λ x. m ≡ Some x) (Shape w command) (ok_or m refusal) f (each_some m refusal) h
+
+  any : {A : Type 0} (f : A → Result Effect ℕ) (m : Result A ℕ) → ((x : A) → S (f x)) → S (m >>= f)
+  any f m h = checked (Shape w command) m f h
+
+  -- the forms
+  binds_shaped : (name : ℕ) (v : Val) → Includes (command_texts command) name → IsAtHand w command v → Shape w command (Changes false [] (given_up_by w name) (bound w name (Some v)))
+  binds_shaped name v own hand = Binds name (Some v) own (λ u e. let same : v ≡ u = cc in subst (IsAtHand w command) same hand)
+
+  makes_shaped : (name : ℕ) (kind : KindCode) (class : Option ℕ) (entries : List Entry) (referent : Option ℕ) → Includes (command_texts command) name → IsMadeBy command kind class → AreItems w command entries
+      → ((r : ℕ) → referent ≡ Some r → (kind ≡ Weak) × ((z : Object) × HasObject w command has_weak_references z × (z.serial ≡ r)))
+      → (kind ≡ Weak → (f : ℕ) → Includes (references entries) f → HasFunction w.objects f) → S (makes w name kind class entries referent)
+  makes_shaped name kind class entries referent own by items refers callbacks = each_then (λ u. nat_lt (live w) most_objects ≡ true) (Shape w command) (unless (nat_lt (live w) most_objects) object_limit) _ (each_unless (nat_lt (live w) most_objects) object_limit) (λ u room.
+      each_then (λ u. nat_le (entry_count w + length entries) most_entries ≡ true) (Shape w command) (has_room w (length entries)) _ (each_unless (nat_le (entry_count w + length entries) most_entries) entry_limit) (λ u fits.
+      Makes name kind class entries referent own (record { room = room; entry_room = leb-true (entry_count w + length entries) 4000000 fits; by = by; items = items; refers = refers; callbacks = callbacks })))
+
+  no_referent : (kind : KindCode) (r : ℕ) → None ≡ Some r → (kind ≡ Weak) × ((z : Object) × HasObject w command has_weak_references z × (z.serial ≡ r))
+  no_referent kind r e = absurd (cc)
+
+  plain : (kind : KindCode) → kind ≢ Inst → kind ≢ Func → IsMadeBy command kind None
+  plain kind i f = record { instance = λ e. absurd (i e); function = λ e. absurd (f e) }
+
+  items_of : (vs : List Val) → AreAtHand vs → AreItems w command (map item vs)
+  items_of vs hand e m =
+      let v = Includes-map_cases item vs e m in
+      subst (λ (z : Entry). (z.key ≡ Nothing) × IsAtHand w command z.val) v.2 (refl, hand v.0 v.1)
+
+  any_object_at : (test : Object → Bool) (x : Object) → HasObject w command test x → HasObject w command (λ y. true) x
+  any_object_at test x h = record { member = h.member; hand = h.hand; passes = refl }
+
+  puts_shaped : (x : Object) (key v : Val) → HasObject w command (λ y. is_dict y || is_instance y) x → IsMutable x.code → IsAtHand w command key → IsAtHand w command v → S (puts w x key v)
+  puts_shaped x key v h mutable hand_key hand_v = each_then (λ u. (is_some (value_at x.entries key) ≡ true) ⊎ (entry_count w + 1 ≤ 4000000)) (Shape w command) (if is_some (value_at x.entries key) then Ok tt else has_room w 1) _ (room (is_some (value_at x.entries key)) refl) (λ u fits. Puts x key v h mutable hand_key hand_v fits)
+    where
+      new_room : (b : Bool) → nat_le (entry_count w + 1) most_entries ≡ b → Each (λ u. (is_some (value_at x.entries key) ≡ true) ⊎ (entry_count w + 1 ≤ 4000000)) (unless b entry_limit)
+      new_room true e = inr (leb-true (entry_count w + 1) 4000000 e)
+      new_room false e = tt
+
+      room : (b : Bool) → is_some (value_at x.entries key) ≡ b → Each (λ u. (is_some (value_at x.entries key) ≡ true) ⊎ (entry_count w + 1 ≤ 4000000)) (if b then Ok tt else has_room w 1)
+      room true e = inl e
+      room false e = new_room (nat_le (entry_count w + 1) most_entries) refl
+
+  edits : (wants_memory : Bool) (test : Object → Bool) (x : Object) (entries : List Entry) (given_up : List ℕ) → HasObject w command test x → IsMutable x.code → IsEdit w command x entries given_up → Shape w command (Changes wants_memory [] given_up (with_change (with_entries entries) x.serial w))
+  edits wants_memory test x entries given_up h mutable edit = Edits wants_memory x entries given_up (any_object_at test x h) mutable edit
+
+  appended : (x : Object) (v : Val) → x.serial ≢ 1 → IsAtHand w command v → entry_count w + 1 ≤ 4000000 → IsEdit w command x (x.entries ++ item v ∷ []) []
+  appended x v other hand fits = record {
+    come = λ e m. either (Includes-append_cases x.entries (item v ∷ []) e m) (λ k. inl k) (λ k. either k (λ i. inr (other, ap (λ (z : Entry). z.key) (sym i), subst (λ (z : Entry). IsAtHand w command z.val) i hand)) (λ n. absurd n));
+    longer = omega (arith, length-append x.entries (item v ∷ []));
+    room = inr fits;
+    given = inl refl;
+  }
+
+  replaced_at : (x : Object) (i : ℕ) (e : Entry) (v : Val) → x.serial ≢ 1 → IsAtHand w command v → slice_get x.entries i ≡ Some e → IsEdit w command x (slice_set x.entries i (item v)) (entry_references e)
+  replaced_at x i e v other hand at = record {
+    come = λ d m. either (set_member x.entries i (item v) d m) (λ k. inl k) (λ s. inr (other, ap (λ (z : Entry). z.key) (sym s), subst (λ (z : Entry). IsAtHand w command z.val) s hand));
+    longer = omega (arith, length-set x.entries i (item v));
+    room = inl (omega (arith, length-set x.entries i (item v)));
+    given = inr (e, slice_get_member x.entries i e at, refl);
+  }
+
+  removed_at : (x : Object) (i : ℕ) (e : Entry) → slice_get x.entries i ≡ Some e → IsEdit w command x (remove x.entries i) (entry_references e)
+  removed_at x i e at = record {
+    come = λ d m. inl (removed_member x.entries i d m);
+    longer = omega (arith, removed_shorter x.entries i e at);
+    room = inl (removed_shorter x.entries i e at);
+    given = inr (e, slice_get_member x.entries i e at, refl);
+  }
+
+  removed_key : (x : Object) (key : Val) (e : Entry) → entry_at x.entries key ≡ Some e → IsEdit w command x (without_key x.entries key) (entry_references e)
+  removed_key x key e at = let part = without_key_part x.entries key in record {
+    come = λ d m. inl (part.0 d m);
+    longer = omega (arith, part.1);
+    room = inl part.1;
+    given = inr (e, entry_at_member x.entries key e at, refl);
+  }
+
+  got : (x : Object) (i : ℕ) (e : Entry) → Includes w.objects x → IsAtHand w command (Ref x.serial) → slice_get x.entries i ≡ Some e → IsAtHand w command e.val
+  got x i e m hand at = ValueIn x e m hand (slice_get_member x.entries i e at)
+
+  got_key : (x : Object) (key v : Val) → Includes w.objects x → IsAtHand w command (Ref x.serial) → value_at x.entries key ≡ Some v → IsAtHand w command v
+  got_key x key v m hand at = let e = value_at_member x.entries key v at in subst (IsAtHand w command) e.2 (ValueIn x e.0 m hand e.1)
+
+  nothing_shaped : IsAtHand w command Nothing
+  nothing_shaped = Word NoneWord Nothing (λ t m. absurd m) refl
+
+  referent_shaped : (x : Object) → Includes w.objects x → IsAtHand w command (Ref x.serial) → IsAtHand w command (elim x.referent [ None ↦ Nothing | Some o ↦ Ref o ])
+  referent_shaped x m hand = go x.referent refl
+    where
+      go : (r : Option ℕ) → x.referent ≡ r → IsAtHand w command (elim r [ None ↦ Nothing | Some o ↦ Ref o ])
+      go None e = nothing_shaped
+      go (Some o) e = ReferentOf x o m hand e
+
+  same_numbers : KeepsCounts w.numbers w.numbers
+  same_numbers = record { zero_count = refl; one_count = refl; two_count = refl; pending = refl; total = refl }
+
+  quit_shaped : (v : Val) → Shape w command (elim v [ Nothing ↦ Quits | _ ↦ Changes false [] [] w ])
+  quit_shaped Nothing = Ends
+  quit_shaped (Int n) = Sets w.numbers same_numbers
+  quit_shaped (Str s) = Sets w.numbers same_numbers
+  quit_shaped (Ref o) = Sets w.numbers same_numbers
+
+  -- the callback of a new weak reference
+  pub record IsCallback (entries : List Entry) : Type 0 where
+    pub items : AreItems w command entries
+    pub functions : (f : ℕ) → Includes (references entries) f → HasFunction w.objects f
+
+  item_callback : (v : Val) → IsAtHand w command v → (x : Object) → HasObject w command is_function x → reference_in v ≡ Some x.serial → IsCallback (item v ∷ [])
+  item_callback v hand x h is = record {
+    items = λ e m. either m (λ i. subst (λ (z : Entry). (z.key ≡ Nothing) × IsAtHand w command z.val) i (refl, hand)) (λ n. absurd n);
+    functions = λ f k. (x, h.member, one (reference_in v) f is k, h.passes);
+  }
+    where
+      one : (m : Option ℕ) (f : ℕ) → m ≡ Some x.serial → Includes ((option_to_list m ++ []) ++ []) f → x.serial ≡ f
+      one None f e k = absurd k
+      one (Some s) f e k = let same : s ≡ x.serial = cc in either k (λ i. sym same ∙ i) (λ n. absurd n)
+
+  callback_shaped : (v : Val) → IsAtHand w command v → Each IsCallback (callback_entries w v)
+  callback_shaped Nothing hand = record { items = λ e m. absurd m; functions = λ f k. absurd k }
+  callback_shaped (Int n) hand = is_found IsCallback _ is_function not_callable (Int n) hand (λ x h is. item_callback (Int n) hand x h is)
+  callback_shaped (Str s) hand = is_found IsCallback _ is_function not_callable (Str s) hand (λ x h is. item_callback (Str s) hand x h is)
+  callback_shaped (Ref p) hand = is_found IsCallback _ is_function not_callable (Ref p) hand (λ x h is. item_callback (Ref p) hand x h is)
+
+-- the kinds that change
+list_mutable : (k : KindCode) → elim k [ ListKind ↦ true | _ ↦ false ] ≡ true → IsMutable k
+list_mutable ListKind e = tt
+list_mutable Tuple e = absurd (let no : false ≡ true = e in cc)
+list_mutable Dict e = tt
+list_mutable Inst e = tt
+list_mutable Func e = absurd (let no : false ≡ true = e in cc)
+list_mutable Weak e = absurd (let no : false ≡ true = e in cc)
+
+dict_mutable : (k : KindCode) → elim k [ Dict ↦ true | _ ↦ false ] ≡ true → IsMutable k
+dict_mutable ListKind e = tt
+dict_mutable Tuple e = absurd (let no : false ≡ true = e in cc)
+dict_mutable Dict e = tt
+dict_mutable Inst e = tt
+dict_mutable Func e = absurd (let no : false ≡ true = e in cc)
+dict_mutable Weak e = absurd (let no : false ≡ true = e in cc)
+
+instance_mutable : (k : KindCode) → elim k [ Inst ↦ true | _ ↦ false ] ≡ true → IsMutable k
+instance_mutable ListKind e = tt
+instance_mutable Tuple e = absurd (let no : false ≡ true = e in cc)
+instance_mutable Dict e = tt
+instance_mutable Inst e = tt
+instance_mutable Func e = absurd (let no : false ≡ true = e in cc)
+instance_mutable Weak e = absurd (let no : false ≡ true = e in cc)
+
+script_list_is : (x : Object) → is_script_list x ≡ true → (is_list x ≡ true) × (x.serial ≢ 1)
+script_list_is x t =
+    let parts = true_and (is_list x) (not (x.serial == 1)) t in
+    (parts.0, λ e. let no : false ≡ true = ap not (sym (eq-eqb x.serial 1 e)) ∙ parts.1 in cc)
+
+keyed : (w : World) (command : Command) (test : Object → Bool) (x : Object) → HasObject w command test x → (is_dict x || is_instance x) ≡ true → HasObject w command (λ y. is_dict y || is_instance y) x
+keyed w command test x h passes = record { member = h.member; hand = h.hand; passes = passes }
+
+-- the word of an attribute
+attribute : (w : World) (command : Command) (name : ℕ) → Includes (command_texts command) name → IsAtHand w command (Str name)
+attribute w command name own = Word (StrWord name) (Str name) (λ t m. either m (λ e. subst (Includes (command_texts command)) e own) (λ n. absurd n)) refl
+
+-- numbers that commands set
+sets_shaped : (w : World) (command : Command) (first second third flags : ℕ) (enabled : Bool) → Shape w command (Changes false [] [] (record w { numbers = record w.numbers { zero_threshold = first; one_threshold = second; two_threshold = third; flags = flags; enabled = enabled } }))
+sets_shaped w command first second third flags enabled = Sets (record w.numbers { zero_threshold = first; one_threshold = second; two_threshold = third; flags = flags; enabled = enabled }) (record { zero_count = refl; one_count = refl; two_count = refl; pending = refl; total = refl })
+
+-- The effect of each command in each world has a shape.
+pub effect_shaped : (w : World) (command : Command) → Each (Shape w command) (effect w command)
+effect_shaped w (MakeList name items) = all_valued w _ _ items (λ t m. inr m) (λ vs hand. makes_shaped w _ name ListKind None (map item vs) None (inl refl) (plain w _ ListKind (λ e. cc) (λ e. cc)) (items_of w _ vs hand) (no_referent w _ ListKind) (λ e. absurd (cc)))
+effect_shaped w (MakeTuple name items) = all_valued w _ _ items (λ t m. inr m) (λ vs hand. makes_shaped w _ name Tuple None (map item vs) None (inl refl) (plain w _ Tuple (λ e. cc) (λ e. cc)) (items_of w _ vs hand) (no_referent w _ Tuple) (λ e. absurd (cc)))
+effect_shaped w (MakeDict name) = makes_shaped w _ name Dict None [] None (inl refl) (plain w _ Dict (λ e. cc) (λ e. cc)) (λ e m. absurd m) (no_referent w _ Dict) (λ e. absurd (cc))
+effect_shaped w (MakeInst name class) = makes_shaped w _ name Inst (Some class) [] None (inl refl) (record { instance = λ e. (name, class, refl, refl); function = λ e. absurd (cc) }) (λ e m. absurd m) (no_referent w _ Inst) (λ e. absurd (cc))
+effect_shaped w (MakeFunc name proc cells) = all_valued w _ _ cells (λ t m. inr m) (λ vs hand. makes_shaped w _ name Func (Some proc) (map item vs) None (inl refl) (record { instance = λ e. absurd (cc); function = λ e. (name, proc, cells, refl, refl) }) (items_of w _ vs hand) (no_referent w _ Func) (λ e. absurd (cc)))
+effect_shaped w (MakeRef name target callback) = valued w _ _ target (λ t m. inr (Includes-append_left (operand_texts target) (operand_texts callback) t m)) (λ v hand. valued w _ _ callback (λ t m. inr (Includes-append_right (operand_texts target) (operand_texts callback) t m)) (λ c hand_c. found w _ _ has_weak_references wrong_kind v hand (λ x h.
+    each_then (IsCallback w (MakeRef name target callback)) (Shape w (MakeRef name target callback)) (callback_entries w c) _ (callback_shaped w (MakeRef name target callback) c hand_c) (λ entries k. makes_shaped w _ name Weak None entries (Some x.serial) (inl refl) (plain w _ Weak (λ e. cc) (λ e. cc)) k.items (λ r e. (refl, (x, h, let same : x.serial ≡ r = cc in same))) (λ e. k.functions)))))
+effect_shaped w (Bind name operand) = valued w _ _ operand (λ t m. inr m) (λ v hand. binds_shaped w _ name v (inl refl) hand)
+effect_shaped w (Del name) = any w _ _ _ (λ v. Binds name None (inl refl) (λ u e. absurd (let no : None ≡ Some u = e in cc)))
+effect_shaped w (Append list operand) = valued w _ _ list (Includes-append_left (operand_texts list) (operand_texts operand)) (λ l hand_l. valued w _ _ operand (Includes-append_right (operand_texts list) (operand_texts operand)) (λ v hand. found w _ _ is_script_list wrong_kind l hand_l (λ x h.
+    each_then (λ u. nat_le (entry_count w + 1) most_entries ≡ true) (Shape w (Append list operand)) (has_room w 1) _ (each_unless (nat_le (entry_count w + 1) most_entries) entry_limit) (λ u fits.
+    let is = script_list_is x h.passes in edits w _ true is_script_list x (x.entries ++ item v ∷ []) [] h (list_mutable x.code is.0) (appended w _ x v is.1 hand (leb-true (entry_count w + 1) 4000000 fits))))))
+effect_shaped w (SetItem list index operand) = valued w _ _ list (Includes-append_left (operand_texts list) (operand_texts operand)) (λ l hand_l. valued w _ _ operand (Includes-append_right (operand_texts list) (operand_texts operand)) (λ v hand. found w _ _ is_script_list wrong_kind l hand_l (λ x h.
+    any w _ _ _ (λ i. there w _ _ (slice_get x.entries i) no_index (λ e at. let is = script_list_is x h.passes in edits w _ false is_script_list x (slice_set x.entries i (item v)) (entry_references e) h (list_mutable x.code is.0) (replaced_at w _ x i e v is.1 hand at))))))
+effect_shaped w (DelItem list index) = valued w _ _ list (λ t m. m) (λ l hand. found w _ _ is_list wrong_kind l hand (λ x h. any w _ _ _ (λ i. there w _ _ (slice_get x.entries i) no_index (λ e at. edits w _ false is_list x (remove x.entries i) (entry_references e) h (list_mutable x.code h.passes) (removed_at w _ x i e at)))))
+effect_shaped w (Put dict key operand) = valued w _ _ dict (λ t m. Includes-append_left (operand_texts dict ++ operand_texts key) (operand_texts operand) t (Includes-append_left (operand_texts dict) (operand_texts key) t m)) (λ d hand_d. valued w _ _ key (λ t m. Includes-append_left (operand_texts dict ++ operand_texts key) (operand_texts operand) t (Includes-append_right (operand_texts dict) (operand_texts key) t m)) (λ k hand_k.
+    valued w _ _ operand (Includes-append_right (operand_texts dict ++ operand_texts key) (operand_texts operand)) (λ v hand. found w _ _ is_dict wrong_kind d hand_d (λ x h. any w _ _ _ (λ u. puts_shaped w _ x k v (keyed w _ is_dict x h (or_left (is_dict x) (is_instance x) h.passes)) (dict_mutable x.code h.passes) hand_k hand)))))
+effect_shaped w (Remove dict key) = valued w _ _ dict (Includes-append_left (operand_texts dict) (operand_texts key)) (λ d hand_d. valued w _ _ key (Includes-append_right (operand_texts dict) (operand_texts key)) (λ k hand_k. found w _ _ is_dict wrong_kind d hand_d (λ x h. any w _ _ _ (λ u.
+    there w _ _ (entry_at x.entries k) no_key (λ e at. edits w _ false is_dict x (without_key x.entries k) (entry_references e) h (dict_mutable x.code h.passes) (removed_key w _ x k e at))))))
+effect_shaped w (SetAttr instance name operand) = valued w _ _ instance (Includes-append_left (operand_texts instance) (name ∷ operand_texts operand)) (λ o hand_o. valued w _ _ operand (λ t m. Includes-append_right (operand_texts instance) (name ∷ operand_texts operand) t (inr m)) (λ v hand. found w _ _ is_instance wrong_kind o hand_o (λ x h.
+    puts_shaped w _ x (Str name) v (keyed w _ is_instance x h (or_right (is_dict x) (is_instance x) h.passes)) (instance_mutable x.code h.passes) (attribute w _ name (Includes-append_right (operand_texts instance) (name ∷ operand_texts operand) name (inl refl))) hand)))
+effect_shaped w (DelAttr instance name) = valued w _ _ instance (Includes-append_left (operand_texts instance) (name ∷ [])) (λ o hand_o. found w _ _ is_instance wrong_kind o hand_o (λ x h. there w _ _ (entry_at x.entries (Str name)) no_attribute (λ e at. edits w _ false is_instance x (without_key x.entries (Str name)) (entry_references e) h (instance_mutable x.code h.passes) (removed_key w _ x (Str name) e at))))
+effect_shaped w (Item name list index) = valued w _ _ list (λ t m. inr m) (λ l hand. found w _ _ is_sequence wrong_kind l hand (λ x h. any w _ _ _ (λ i. there w _ _ (slice_get x.entries i) no_index (λ e at. binds_shaped w _ name e.val (inl refl) (got w _ x i e h.member h.hand at)))))
+effect_shaped w (Get name dict key) = valued w _ _ dict (λ t m. inr (Includes-append_left (operand_texts dict) (operand_texts key) t m)) (λ d hand_d. valued w _ _ key (λ t m. inr (Includes-append_right (operand_texts dict) (operand_texts key) t m)) (λ k hand_k. found w _ _ is_dict wrong_kind d hand_d (λ x h. any w _ _ _ (λ u.
+    there w _ _ (value_at x.entries k) no_key (λ v at. binds_shaped w _ name v (inl refl) (got_key w _ x k v h.member h.hand at))))))
+effect_shaped w (Attr name instance attr) = valued w _ _ instance (λ t m. inr (Includes-append_left (operand_texts instance) (attr ∷ []) t m)) (λ o hand_o. found w _ _ is_instance wrong_kind o hand_o (λ x h. there w _ _ (value_at x.entries (Str attr)) no_attribute (λ v at. binds_shaped w _ name v (inl refl) (got_key w _ x (Str attr) v h.member h.hand at))))
+effect_shaped w (Deref name weak) = valued w _ _ weak (λ t m. inr m) (λ v hand. found w _ _ is_weak not_weak v hand (λ x h. binds_shaped w _ name (elim x.referent [ None ↦ Nothing | Some o ↦ Ref o ]) (inl refl) (referent_shaped w _ x h.member h.hand)))
+effect_shaped w (Call function) = valued w _ _ function (λ t m. m) (λ v hand. found w _ _ is_function not_callable v hand (λ x h. StartsFrame x h))
+effect_shaped w (Quit operand) = any w _ _ _ (λ v. quit_shaped w _ v)
+effect_shaped w (Collect generation) = any w _ _ _ (λ g. StartsCollection g)
+effect_shaped w Enable = sets_shaped w Enable _ _ _ _ _
+effect_shaped w Disable = sets_shaped w Disable _ _ _ _ _
+effect_shaped w (Threshold first second third) = sets_shaped w (Threshold first second third) _ _ _ _ _
+effect_shaped w (Flags bits) = sets_shaped w (Flags bits) _ _ _ _ _
+effect_shaped w Freeze = Freezes
+effect_shaped w Unfreeze = Unfreezes
+effect_shaped w (Print operand) = valued w _ _ operand (λ t m. m) (λ v hand. Shows v hand)
+effect_shaped w (Refs operand) = any w _ _ _ (λ v. any w _ _ _ (λ x. Tells _ tt))
+effect_shaped w (Tracked operand) = any w _ _ _ (λ v. Tells _ tt)
+effect_shaped w (Finalized operand) = any w _ _ _ (λ v. Tells _ tt)
+effect_shaped w Count = Tells _ tt
+effect_shaped w Gens = Tells _ tt
