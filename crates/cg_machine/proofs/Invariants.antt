@@ -1,0 +1,146 @@
+-- A property of the worlds of runs holds by what each kind of step does: which kinds there are is told here, once.
+use Rattle.std.proofs.Common.{◌≡◌, refl, sym, subst, ℕ, Bool, true, false, inl, inr, List, [], ◌∷◌, Option, Some, None, Result, Ok, Err}
+use Rattle.std.specs.Prelude.{if◌then◌else◌}
+use Rattle.cg_script.specs.declared.Script.{Script}
+use Rattle.cg_script.specs.declared.Command.{Command}
+use Rattle.cg_graph.specs.Object.{Object}
+use Rattle.cg_machine.specs.declared.event.Event.{Event}
+use Rattle.cg_machine.specs.declared.event.Event.TheVariants.{End, Refused, Collected}
+use Rattle.cg_machine.specs.declared.event.FrameSort.TheVariants.{Call as CallFrame}
+use Rattle.cg_machine.specs.World.{World, Activity, TopLevel, Framed, Releasing, Dying, Collecting, Frame, Death, Collection, Ended, opening, push, with_stack}
+use Rattle.cg_machine.specs.Holdings.{is_collecting}
+use Rattle.cg_machine.specs.Frame.{Transition, Yields, procedure_of, start_frame, frame_end, released}
+use Rattle.cg_machine.specs.Weak.{is_function}
+use Rattle.cg_machine.specs.Dying.{dying}
+use Rattle.cg_machine.specs.Collect.{PhaseStep}
+use Rattle.cg_machine.specs.Due.{due}
+use Rattle.cg_machine.specs.Refusals.{no_memory}
+use Rattle.cg_machine.specs.Effects.{Effect, Changes, Calls, Collects, Quits}
+use Rattle.cg_machine.specs.Commands.{effect, refused, without_commands, new_collection, DoesEffect}
+use Rattle.cg_machine.specs.Run.{StepTaken, Step, StepOf, Run, IsRun, TopLevelStep, CommandInFrame, FrameStep, last_world, world_after}
+use Rattle.cg_machine.proofs.CommandLaws.{Each}
+use Rattle.cg_machine.proofs.RunsCalm.{HasCommands}
+use Rattle.cg_machine.proofs.Shapes.{Shape, StartsFrame, HasObject, effect_shaped}
+
+-- an activity on others
+abbrev pub on : Activity → List Activity → World → World
+on a below v = with_stack (a ∷ below) v
+
+-- a command is taken from the activity on top, which has the others left
+pub data Takes (command : Command) : Activity → Activity → Type 0 where
+  FromTop : (commands : List Command) → Takes command (TopLevel (command ∷ commands)) (TopLevel commands)
+  FromFrame : (f : Frame) (commands : List Command) → f.commands ≡ command ∷ commands → Takes command (Framed f) (Framed (record f { commands = commands }))
+
+-- it has none left
+abbrev pub emptied : Activity → Activity
+emptied (TopLevel commands) = TopLevel []
+emptied (Framed f) = Framed (record f { commands = [] })
+emptied a = a
+
+-- what is printed where a command does nothing
+abbrev pub AreAnswers : List Event → Type 0
+AreAnswers [] = Unit {0}
+AreAnswers (Refused n ∷ []) = Unit {0}
+AreAnswers (Collected n ∷ []) = n ≡ 0
+AreAnswers lines = ⊥
+
+-- What a command does in u, where the step began in w.
+pub record CommandSteps (script : Script) (R : World → List Event → World → Type 0) (w : World) (command : Command) (u : World) (a : Activity) (below : List Activity) : Type 0 where
+  pub stays : (lines : List Event) → AreAnswers lines → R w lines u
+  pub stops : (lines : List Event) → AreAnswers lines → R w lines (on (emptied a) below u)
+  pub changes : (wants_memory : Bool) (lines : List Event) (given_up : List ℕ) (after : World) → Shape u command (Changes wants_memory lines given_up after) → R w lines (push (Releasing given_up) after)
+  pub calls : (f : Object) → HasObject u command is_function f → (let t : Transition = start_frame script (record { sort = CallFrame; proc = procedure_of u f.serial; subject = f.serial; func = Some f.serial }) u in R w t.0 t.1)
+  pub asks : (g : ℕ) → is_collecting u ≡ false → R w [] (push (new_collection g true u) u)
+
+-- What each kind of step does: R tells of the world before it, what it prints and the world after it.
+pub record Steps (script : Script) (Known : World → Type 0) (R : World → List Event → World → Type 0) : Type 0 where
+  pub starts_due : (a : Activity) (below : List Activity) (v : World) → HasCommands a → (g : ℕ) → due (on a below v) ≡ Some g → Known (on a below v) → R (on a below v) [] (push (new_collection g false (on a below v)) (on a below v))
+  pub ends : (below : List Activity) (v : World) → Known (on (TopLevel []) below v) → R (on (TopLevel []) below v) (End ∷ []) (record (on (TopLevel []) below v) { outcome = Ended })
+  pub commands : (command : Command) (a b : Activity) (below : List Activity) (v : World) → Takes command a b → HasCommands b → Known (on a below v) → CommandSteps script R (on a below v) command (on b below v) b below
+  pub frame_ends : (f : Frame) (below : List Activity) (v : World) → f.commands ≡ [] → Known (on (Framed f) below v) → R (on (Framed f) below v) (frame_end f (with_stack below v)).0 (frame_end f (with_stack below v)).1
+  pub releases : (references : List ℕ) (below : List Activity) (v : World) → Known (on (Releasing references) below v) → (let t : Transition = released references below (on (Releasing references) below v) in R (on (Releasing references) below v) t.0 t.1)
+  pub dies : (d : Death) (below : List Activity) (v : World) → Known (on (Dying d) below v) → (let t : Transition = dying script d.object d.phase below (on (Dying d) below v) in R (on (Dying d) below v) t.0 t.1)
+  pub collects : (c : Collection) (below : List Activity) (v : World) (events : List Event) (after : World) → PhaseStep script c c.phase below (on (Collecting c) below v) events after → Known (on (Collecting c) below v) → R (on (Collecting c) below v) events after
+
+-- the object of a call
+called : (u : World) (command : Command) (e : Effect) → Shape u command e → (f : ℕ) → e ≡ Calls f → (x : Object) × HasObject u command is_function x × (x.serial ≡ f)
+called u command e (StartsFrame x h) f is = (x, h, let same : x.serial ≡ f = cc in same)
+called u command e s f is = absurd (cc)
+
+module _ (script : Script) (Known : World → Type 0) (R : World → List Event → World → Type 0) (h : Steps script Known R) where
+  to : (w : World) (t : Transition) (events : List Event) (after : World) → Yields t events after → R w t.0 t.1 → R w events after
+  to w t events after y k = subst (λ (es : List Event). R w es after) (sym y.0) (subst (R w t.0) (sym y.1) k)
+
+  refuses : (w u : World) (command : Command) (a : Activity) (below : List Activity) → HasCommands a → CommandSteps script R w command (on a below u) a below → (n : ℕ) → R w (refused n (on a below u)).0 (refused n (on a below u)).1
+  refuses w u command (TopLevel commands) below ha k n = k.stays (Refused n ∷ []) tt
+  refuses w u command (Framed f) below ha k n = k.stops (Refused n ∷ []) tt
+  refuses w u command a below ha k n = absurd ha
+
+  quits : (w u : World) (command : Command) (a : Activity) (below : List Activity) → HasCommands a → CommandSteps script R w command (on a below u) a below → R w [] (with_stack (without_commands (a ∷ below)) u)
+  quits w u command (TopLevel commands) below ha k = k.stops [] tt
+  quits w u command (Framed f) below ha k = k.stops [] tt
+  quits w u command a below ha k = absurd ha
+
+  does : (w u : World) (command : Command) (a : Activity) (below : List Activity) → HasCommands a → CommandSteps script R w command (on a below u) a below
+      → (r : Result Effect ℕ) → Each (Shape (on a below u) command) r → (events : List Event) (after : World) → DoesEffect script (on a below u) r events after → R w events after
+  does w u command a below ha k (Err n) s events after step = to w _ events after step (refuses w u command a below ha k n)
+  does w u command a below ha k (Ok (Changes wants_memory lines given_up next)) s events after (inl step) = to w _ events after step (k.changes wants_memory lines given_up next s)
+  does w u command a below ha k (Ok (Changes wants_memory lines given_up next)) s events after (inr step) = to w _ events after step.1 (refuses w u command a below ha k no_memory)
+  does w u command a below ha k (Ok (Calls f)) s events after step =
+      let x = called (on a below u) command (Calls f) s f refl in
+      to w (start (on a below u) f) events after step (subst (λ (n : ℕ). R w (start (on a below u) n).0 (start (on a below u) n).1) x.2 (k.calls x.0 x.1))
+    where
+      start : World → ℕ → Transition
+      start z n = start_frame script (record { sort = CallFrame; proc = procedure_of z n; subject = n; func = Some n }) z
+  does w u command a below ha k (Ok (Collects g)) s events after step = asks (is_collecting (on a below u)) refl step
+    where
+      asks : (b : Bool) → is_collecting (on a below u) ≡ b → Yields (if b then (Collected 0 ∷ [], on a below u) else ([], push (new_collection g true (on a below u)) (on a below u))) events after → R w events after
+      asks true e y = to w _ events after y (k.stays (Collected 0 ∷ []) refl)
+      asks false e y = to w _ events after y (k.asks g e)
+  does w u command a below ha k (Ok Quits) s events after step = to w _ events after step (quits w u command a below ha k)
+
+  module _ (below : List Activity) (v : World) (events : List Event) (after : World) where
+    top_level : (commands : List Command) (d : Option ℕ) → due (on (TopLevel commands) below v) ≡ d → TopLevelStep script (on (TopLevel commands) below v) d commands below events after → Known (on (TopLevel commands) below v) → R (on (TopLevel commands) below v) events after
+    top_level commands (Some g) e step k = to _ _ events after step (h.starts_due (TopLevel commands) below v tt g e k)
+    top_level [] None e step k = to _ _ events after step (h.ends below v k)
+    top_level (command ∷ commands) None e step k = does _ v command (TopLevel commands) below tt (h.commands command (TopLevel (command ∷ commands)) (TopLevel commands) below v (FromTop commands) tt k) (effect (on (TopLevel commands) below v) command) (effect_shaped (on (TopLevel commands) below v) command) events after step
+
+    in_frame : (f : Frame) (command : Command) (commands : List Command) (d : Option ℕ) → due (on (Framed f) below v) ≡ d → f.commands ≡ command ∷ commands → CommandInFrame script (on (Framed f) below v) d f command commands below events after → Known (on (Framed f) below v) → R (on (Framed f) below v) events after
+    in_frame f command commands (Some g) e left step k = to _ _ events after step (h.starts_due (Framed f) below v tt g e k)
+    in_frame f command commands None e left step k =
+        let turned : Activity = Framed (record f { commands = commands }) in
+        does _ v command turned below tt (h.commands command (Framed f) turned below v (FromFrame f commands left) tt k) (effect (on turned below v) command) (effect_shaped (on turned below v) command) events after step
+
+    framed : (f : Frame) (commands : List Command) → f.commands ≡ commands → FrameStep script (on (Framed f) below v) f commands below events after → Known (on (Framed f) below v) → R (on (Framed f) below v) events after
+    framed f [] left step k = to _ _ events after step (h.frame_ends f below v left k)
+    framed f (command ∷ commands) left step k = in_frame f command commands (due (on (Framed f) below v)) refl left step k
+
+  step_is : (v : World) (stack : List Activity) (events : List Event) (after : World) → StepOf script (with_stack stack v) stack events after → Known (with_stack stack v) → R (with_stack stack v) events after
+  step_is v [] events after step k = absurd step
+  step_is v (TopLevel commands ∷ below) events after step k = top_level below v events after commands (due (on (TopLevel commands) below v)) refl step k
+  step_is v (Framed f ∷ below) events after step k = framed below v events after f f.commands refl step k
+  step_is v (Releasing references ∷ below) events after step k = to _ _ events after step (h.releases references below v k)
+  step_is v (Dying d ∷ below) events after step k = to _ _ events after step (h.dies d below v k)
+  step_is v (Collecting c ∷ below) events after step k = h.collects c below v events after step k
+
+  -- Each step does so.
+  pub any_step : (w : World) (events : List Event) (after : World) → Step script w events after → Known w → R w events after
+  any_step w events after step k = step_is w w.stack events after step.step k
+
+-- a property of each world of each run of a script with a budget
+abbrev pub InEachWorld : Script → ℕ → (World → Type 0) → Type 0
+InEachWorld script budget P = (steps : List StepTaken) → IsRun script budget steps → P (world_after script budget steps)
+
+-- A property of worlds that the first one has, and that each kind of step keeps. What is known of each world may be used.
+pub record Invariant (script : Script) (budget : ℕ) (Known P : World → Type 0) : Type 0 where
+  pub opens : P (opening script budget)
+  pub keeps : Steps script (λ w. Known w × P w) (λ w events after. P after)
+
+goes_on : (script : Script) (Known P : World → Type 0) → Steps script (λ w. Known w × P w) (λ w events after. P after) → (w : World) (steps : List StepTaken) → Run script w steps → ((front : List StepTaken) → Run script w front → Known (last_world w front)) → P w → P (last_world w steps)
+goes_on script Known P keeps w [] run known p = p
+goes_on script Known P keeps w (step ∷ steps) run known p = goes_on script Known P keeps step.world steps run.1
+    (λ front r. known (step ∷ front) (run.0, r)) (any_step script (λ u. Known u × P u) (λ u events after. P after) keeps w step.events step.world run.0 (known [] tt, p))
+
+-- So each world of each run has it.
+pub by_runs : (script : Script) (budget : ℕ) (Known P : World → Type 0) → Invariant script budget Known P → InEachWorld script budget Known → InEachWorld script budget P
+by_runs script budget Known P i known steps run = goes_on script Known P i.keeps (opening script budget) steps run known i.opens
