@@ -40,6 +40,7 @@ pub mod Rooms
 pub mod RoomsOfRuns
 pub mod Heights
 pub mod Shapes
+pub mod ShapeLaws
 pub mod Invariants
 pub mod Origins
 pub mod OriginsOfRuns

@@ -33,6 +33,7 @@ use Rattle.cg_machine.proofs.Forgotten.{IsLater, later_refl, Alters, change_alte
 use Rattle.cg_machine.proofs.RunsCalm.{HasCommands}
 use Rattle.cg_machine.proofs.Shapes.{effect_shaped}
 use Rattle.cg_machine.proofs.Invariants.{by_runs}
+use Rattle.cg_machine.proofs.ShapeLaws.{shape_comes}
 use Rattle.cg_machine.proofs.Origins.{AreOfScript, IsAllOfScript, later_of_script, starts_origin, frame_end_origin, either_origin, released_origin, popped_origin, dying_origin, phase_origin}
 
 -- an object that a command makes

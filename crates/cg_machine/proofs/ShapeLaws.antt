@@ -1,0 +1,114 @@
+-- What follows from the shape of an effect, for all commands at once: a clause for each form.
+use Rattle.std.proofs.Common.{◌≡◌, ◌≢◌, refl, sym, ap, subst, ℕ, ◌+◌, ◌≤◌, Bool, true, false, not, ◌&&◌, inl, inr, ◌⊎◌, List, [], ◌∷◌, ◌++◌, length, length-append, Option, Some, None, Result, Ok, Err, arith, option_to_list}
+use Rattle.std.specs.Prelude.{if◌then◌else◌, ◌||◌, option_and_then, slice_get}
+use Rattle.cg_value.specs.declared.Val.{Val}
+use Rattle.cg_value.specs.declared.Val.TheVariants.{Ref}
+use Rattle.cg_value.specs.declared.Entry.{Entry}
+use Rattle.cg_value.specs.declared.Place.{Place}
+use Rattle.cg_value.specs.declared.Place.TheVariants.{Gen}
+use Rattle.cg_value.specs.declared.KindCode.{KindCode}
+use Rattle.cg_script.specs.declared.Command.{Command}
+use Rattle.cg_graph.specs.Member.{Includes}
+use Rattle.cg_graph.specs.Object.{Object, change, first_place, is_tracked, with_entries, with_place}
+use Rattle.cg_graph.specs.Value.{reference_in, references_of_value, entry_references, value_at, put}
+use Rattle.cg_graph.proofs.Members.{either, Includes-append_cases}
+use Rattle.cg_machine.specs.declared.event.Event.{Event}
+use Rattle.cg_machine.specs.World.{World, Numbers, with_change}
+use Rattle.cg_machine.specs.Effects.{Effect, Changes, Calls, Collects, Quits, replaced, frozen, unfrozen, tracked_by, may_track, given_up_by}
+use Rattle.cg_machine.specs.Commands.{effect}
+use Rattle.cg_machine.specs.Operands.{is_dict}
+use Rattle.cg_machine.proofs.Serials.{Rises, Rises-map, Rises-change, Rises-new}
+use Rattle.cg_machine.proofs.CommandLaws.{Each, Leaves, LeavesStack}
+use Rattle.cg_machine.proofs.Forgotten.{IsLater, later_refl, Alters, change_alters, map_alters, place_later}
+use Rattle.cg_machine.proofs.Shapes.{IsAtHand, HasObject, IsMadeBy, HasParts, IsEdit, Shape, Binds, Makes, Edits, Puts, Shows, Tells, Sets, Freezes, Unfreezes, StartsFrame, StartsCollection, Ends, effect_shaped}
+
+-- from the shapes of effects to a law on effects
+each_implies : {A : Type 0} (P Q : A → Type 0) → ((x : A) → P x → Q x) → (r : Result A ℕ) → Each P r → Each Q r
+each_implies P Q h (Ok x) p = h x p
+each_implies P Q h (Err n) p = tt
+
+pub by_shape : (Q : Effect → Type 0) (w : World) (command : Command) → ((e : Effect) → Shape w command e → Q e) → Each Q (effect w command)
+by_shape Q w command h = each_implies (Shape w command) Q h (effect w command) (effect_shaped w command)
+
+-- an object under a key is the same object
+pub put_later : (w : World) (x : Object) (key v : Val) (y : Object) → IsLater y (tracked_by w key v (with_entries (put x.entries key v) y))
+put_later w x key v y = go (is_dict y && not (is_tracked y) && (may_track w key || may_track w v))
+  where
+    go : (b : Bool) → IsLater y (if b then with_place (Gen 0) (with_entries (put x.entries key v) y) else with_entries (put x.entries key v) y)
+    go true = record { serial = refl; code = refl; class = refl; referent = inl refl }
+    go false = record { serial = refl; code = refl; class = refl; referent = inl refl }
+
+-- The stack and the budget stay, serials rise, and one object is made at most.
+shape_leaves : (w : World) (command : Command) (e : Effect) → Shape w command e → LeavesStack w e
+shape_leaves w command e (Binds name v own hand) = record { stack = refl; budget = refl; outcome = refl; rises = λ r. r; serial = omega arith }
+shape_leaves w command e (Makes name kind class entries referent own parts) = record { stack = refl; budget = refl; outcome = refl; rises = λ r. Rises-new 1 w.next_serial w.objects _ refl r; serial = omega arith }
+shape_leaves w command e (Edits wants x entries given h mutable edit) = record { stack = refl; budget = refl; outcome = refl; rises = λ r. Rises-change (with_entries entries) (λ y. refl) x.serial 1 w.next_serial w.objects r; serial = omega arith }
+shape_leaves w command e (Puts x key v h mutable hand_key hand room) = record { stack = refl; budget = refl; outcome = refl; rises = λ r. Rises-change (λ y. tracked_by w key v (with_entries (put x.entries key v) y)) (λ y. (put_later w x key v y).serial) x.serial 1 w.next_serial w.objects r; serial = omega arith }
+shape_leaves w command e (Shows v hand) = record { stack = refl; budget = refl; outcome = refl; rises = λ r. r; serial = omega arith }
+shape_leaves w command e (Tells line tells) = record { stack = refl; budget = refl; outcome = refl; rises = λ r. r; serial = omega arith }
+shape_leaves w command e (Sets numbers keeps) = record { stack = refl; budget = refl; outcome = refl; rises = λ r. r; serial = omega arith }
+shape_leaves w command e Freezes = record { stack = refl; budget = refl; outcome = refl; rises = λ r. Rises-map (λ x. with_place (frozen x.place) x) (λ x. refl) 1 w.next_serial w.objects r; serial = omega arith }
+shape_leaves w command e Unfreezes = record { stack = refl; budget = refl; outcome = refl; rises = λ r. Rises-map (λ x. with_place (unfrozen x.place) x) (λ x. refl) 1 w.next_serial w.objects r; serial = omega arith }
+shape_leaves w command e (StartsFrame f h) = tt
+shape_leaves w command e (StartsCollection g) = tt
+shape_leaves w command e Ends = tt
+
+pub changes_leave : (w : World) (command : Command) (wants_memory : Bool) (lines : List Event) (given_up : List ℕ) (after : World) → Shape w command (Changes wants_memory lines given_up after) → Leaves w after
+changes_leave w command wants_memory lines given_up after s = shape_leaves w command (Changes wants_memory lines given_up after) s
+
+pub effect_leaves : (w : World) (command : Command) → Each (LeavesStack w) (effect w command)
+effect_leaves w command = by_shape (LeavesStack w) w command (shape_leaves w command)
+
+-- Two references are given up at most.
+abbrev pub GivesFew : Effect → Type 0
+GivesFew (Changes wants_memory lines given_up after) = length given_up ≤ 2
+GivesFew (Calls f) = Unit {0}
+GivesFew (Collects g) = Unit {0}
+GivesFew Quits = Unit {0}
+
+pub few_option : (m : Option ℕ) → length (option_to_list m) ≤ 1
+few_option None = omega arith
+few_option (Some n) = omega arith
+
+pub few_entry : (e : Entry) → length (entry_references e) ≤ 2
+few_entry e = omega (arith, length-append (option_to_list (reference_in e.val)) (option_to_list (reference_in e.key)), few_option (reference_in e.val), few_option (reference_in e.key))
+
+few_value : (m : Option Val) → length (references_of_value m) ≤ 2
+few_value m = omega (arith, few_option (option_and_then reference_in m))
+
+few_given : (w : World) (command : Command) (x : Object) (entries : List Entry) (given_up : List ℕ) → IsEdit w command x entries given_up → length given_up ≤ 2
+few_given w command x entries given_up edit = either edit.given (λ none. omega (arith, ap length none)) (λ some. omega (arith, ap length some.2, few_entry some.0))
+
+pub shape_gives_few : (w : World) (command : Command) (e : Effect) → Shape w command e → GivesFew e
+shape_gives_few w command e (Binds name v own hand) = few_value (option_and_then (λ v. v) (slice_get w.names name))
+shape_gives_few w command e (Makes name kind class entries referent own parts) = few_value (option_and_then (λ v. v) (slice_get w.names name))
+shape_gives_few w command e (Edits wants x entries given h mutable edit) = few_given w command x entries given edit
+shape_gives_few w command e (Puts x key v h mutable hand_key hand room) = few_value (value_at x.entries key)
+shape_gives_few w command e (StartsFrame f h) = tt
+shape_gives_few w command e (StartsCollection g) = tt
+shape_gives_few w command e Ends = tt
+shape_gives_few w command e s = omega arith
+
+-- Where an object comes from: it was there, or the command makes it.
+abbrev pub ComesBy : Command → List Object → Object → Type 0
+ComesBy command before y = ((x : Object) × Includes before x × IsLater x y) ⊎ IsMadeBy command y.code y.class
+
+abbrev pub ComeBy : World → Command → Effect → Type 0
+ComeBy w command (Changes wants_memory lines given_up after) = (y : Object) → Includes after.objects y → ComesBy command w.objects y
+ComeBy w command (Calls f) = Unit {0}
+ComeBy w command (Collects g) = Unit {0}
+ComeBy w command Quits = Unit {0}
+
+pub shape_comes : (w : World) (command : Command) (e : Effect) → Shape w command e → ComeBy w command e
+shape_comes w command e (Binds name v own hand) = λ y m. inl (y, m, later_refl y)
+shape_comes w command e (Makes name kind class entries referent own parts) = λ y m. either (Includes-append_cases w.objects (_ ∷ []) y m) (λ k. inl (y, k, later_refl y)) (λ k. either k (λ i. inr (subst (λ (z : Object). IsMadeBy command z.code z.class) i parts.by)) (λ n. absurd n))
+shape_comes w command e (Edits wants x entries given h mutable edit) = λ y m. inl ((change_alters (with_entries entries) (λ z. record { serial = refl; code = refl; class = refl; referent = inl refl }) x.serial w.objects).origin y m)
+shape_comes w command e (Puts x key v h mutable hand_key hand room) = λ y m. inl ((change_alters (λ z. tracked_by w key v (with_entries (put x.entries key v) z)) (put_later w x key v) x.serial w.objects).origin y m)
+shape_comes w command e (Shows v hand) = λ y m. inl (y, m, later_refl y)
+shape_comes w command e (Tells line tells) = λ y m. inl (y, m, later_refl y)
+shape_comes w command e (Sets numbers keeps) = λ y m. inl (y, m, later_refl y)
+shape_comes w command e Freezes = λ y m. inl ((map_alters (λ x. with_place (frozen x.place) x) (λ x. place_later (frozen x.place) x) w.objects).origin y m)
+shape_comes w command e Unfreezes = λ y m. inl ((map_alters (λ x. with_place (unfrozen x.place) x) (λ x. place_later (unfrozen x.place) x) w.objects).origin y m)
+shape_comes w command e (StartsFrame f h) = tt
+shape_comes w command e (StartsCollection g) = tt
+shape_comes w command e Ends = tt
