@@ -74,7 +74,7 @@ module _ (script : Script) (known : TextsAreKnown script) (short : All (λ text.
   run_prints w [] run origin h event m = absurd m
   run_prints w (step ∷ steps) run origin h event m =
       let p = step_prints w w.stack step.events step.world run.0.step (λ c k. commands_name_texts script known c (origin.commands c k)) h in
-      either (Includes-append_cases step.events (events_of steps) event m) (p.lines event) (run_prints step.world steps run.1 (step_origin script w w.stack step.events step.world run.0.step origin) p.known event)
+      either (Includes-append_cases step.events (events_of steps) event m) (p.lines event) (run_prints step.world steps run.1 (step_origin script w step.events step.world run.0 origin) p.known event)
 
 opening_texts : (script : Script) (budget : ℕ) → WorldHasTexts (length script.names) (opening script budget)
 opening_texts script budget = record {
