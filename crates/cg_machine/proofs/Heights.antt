@@ -24,7 +24,7 @@ use Rattle.cg_machine.proofs.Releasing.{absent, no_times}
 use Rattle.cg_machine.proofs.Orderly.{waits_held}
 use Rattle.cg_machine.proofs.RunsOrderly.{worlds_orderly}
 use Rattle.cg_machine.proofs.Rooms.{how_many, Room, few_option}
-use Rattle.cg_machine.proofs.RoomsOfRuns.{room_after, opening_room}
+use Rattle.cg_machine.proofs.RoomsOfRuns.{runs_have_room}
 
 -- the counts of the law, as sums
 counted : (sort : Activity → Bool) (stack : List Activity) → count_by sort stack ≡ how_many sort stack
@@ -186,4 +186,4 @@ module _ (b : ℕ) (w : World) (sound : Sound w) (h : IsOrderly w) (room : Room 
   }
 
 pub stacks_bounded : StacksAreBounded
-stacks_bounded script budget steps run = bounds budget (last_world (opening script budget) steps) (sound_after script (opening script budget) steps (opening_sound script budget) run) (worlds_orderly script budget steps run) (room_after budget script (opening script budget) steps run (opening_room script budget))
+stacks_bounded script budget steps run = bounds budget (last_world (opening script budget) steps) (sound_after script (opening script budget) steps (opening_sound script budget) run) (worlds_orderly script budget steps run) (runs_have_room script budget steps run)

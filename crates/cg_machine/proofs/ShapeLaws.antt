@@ -20,6 +20,7 @@ use Rattle.cg_machine.specs.Operands.{is_dict}
 use Rattle.cg_machine.proofs.Serials.{Rises, Rises-map, Rises-change, Rises-new}
 use Rattle.cg_machine.proofs.CommandLaws.{Each, Leaves, LeavesStack}
 use Rattle.cg_machine.proofs.Forgotten.{IsLater, later_refl, Alters, change_alters, map_alters, place_later}
+use Rattle.cg_machine.proofs.Rooms.{few_option, few_entry}
 use Rattle.cg_machine.proofs.Shapes.{IsAtHand, HasObject, IsMadeBy, HasParts, IsEdit, Shape, Binds, Makes, Edits, Puts, Shows, Tells, Sets, Freezes, Unfreezes, StartsFrame, StartsCollection, Ends, effect_shaped}
 
 -- from the shapes of effects to a law on effects
@@ -65,13 +66,6 @@ GivesFew (Changes wants_memory lines given_up after) = length given_up ≤ 2
 GivesFew (Calls f) = Unit {0}
 GivesFew (Collects g) = Unit {0}
 GivesFew Quits = Unit {0}
-
-pub few_option : (m : Option ℕ) → length (option_to_list m) ≤ 1
-few_option None = omega arith
-few_option (Some n) = omega arith
-
-pub few_entry : (e : Entry) → length (entry_references e) ≤ 2
-few_entry e = omega (arith, length-append (option_to_list (reference_in e.val)) (option_to_list (reference_in e.key)), few_option (reference_in e.val), few_option (reference_in e.key))
 
 few_value : (m : Option Val) → length (references_of_value m) ≤ 2
 few_value m = omega (arith, few_option (option_and_then reference_in m))
