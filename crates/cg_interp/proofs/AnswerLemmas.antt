@@ -14,7 +14,8 @@ use Rattle.cg_machine.specs.Frame.{start_frame}
 use Rattle.cg_machine.specs.Effects.{Effect, Changes as ChangesEffect, Calls as CallsEffect, Quits as QuitsEffect}
 use Rattle.cg_machine.specs.Refusals.{no_memory}
 use Rattle.cg_machine.specs.Commands.{effect, refused, without_commands, DoesEffect}
-use Rattle.cg_machine.proofs.CommandLaws.{Each, Leaves, LeavesStack, effect_leaves}
+use Rattle.cg_machine.proofs.CommandLaws.{Each, Leaves, LeavesStack}
+use Rattle.cg_machine.proofs.ShapeLaws.{effect_leaves}
 use Rattle.cg_commands.specs.declared.done.Done.TheVariants as done_of
 use Rattle.cg_commands.specs.declared.done.Refusal.{Refusal}
 use Rattle.cg_commands.specs.declared.done.Refusal.TheVariants as refusal_of

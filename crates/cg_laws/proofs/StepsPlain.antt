@@ -25,7 +25,8 @@ use Rattle.cg_machine.specs.Effects.{Effect, Changes, Calls, Collects, Quits}
 use Rattle.cg_machine.specs.Commands.{effect, stopped_frame, without_commands, new_collection, DoesEffect}
 use Rattle.cg_machine.specs.Due.{due, is_due, due_generation}
 use Rattle.cg_machine.specs.Run.{StepOf, TopLevelStep, CommandInFrame, FrameStep}
-use Rattle.cg_machine.proofs.CommandLaws.{Each, LeavesStack, effect_leaves}
+use Rattle.cg_machine.proofs.CommandLaws.{Each, LeavesStack}
+use Rattle.cg_machine.proofs.ShapeLaws.{effect_leaves}
 use Rattle.cg_machine.proofs.Unheld.{Calm}
 use Rattle.cg_machine.proofs.RunsCalm.{HasCommands}
 use Rattle.cg_laws.proofs.GarbageKept.{HasGarbageList, KeepsList, same_list, list_kept, other_kept, untracked_kept, dead_kept, lost_kept, without_kept}

@@ -16,7 +16,8 @@ use Rattle.cg_machine.specs.Commands.{effect, DoesEffect, stopped_frame, without
 use Rattle.cg_machine.specs.Due.{is_due, due, due_generation}
 use Rattle.cg_machine.specs.Run.{Step, StepOf, TopLevelStep, FrameStep, CommandInFrame}
 use Rattle.cg_machine.proofs.Tally.{tally}
-use Rattle.cg_machine.proofs.CommandLaws.{Leaves, LeavesStack, Each, effect_leaves}
+use Rattle.cg_machine.proofs.CommandLaws.{Leaves, LeavesStack, Each}
+use Rattle.cg_machine.proofs.ShapeLaws.{effect_leaves}
 use Rattle.cg_machine.proofs.Measure.{alive, commands_in, all_bodies, commands_left, is_starting, due_rank, by_commands, by_due, weight_in}
 use Rattle.cg_machine.proofs.Sound.{HasBottom, collections_in, Sound, Moves, starts, NoMore}
 use Rattle.cg_machine.proofs.FallsDeaths.{dying_moves, released_moves, frame_end_moves}

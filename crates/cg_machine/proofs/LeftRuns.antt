@@ -20,7 +20,8 @@ use Rattle.cg_machine.specs.Laws.{waits_of, all_waits, is_cleared, HadItsEntries
 use Rattle.cg_machine.proofs.Serials.{Rises}
 use Rattle.cg_machine.proofs.Sound.{Sound, opening_sound}
 use Rattle.cg_machine.proofs.Ending.{sound_after}
-use Rattle.cg_machine.proofs.CommandLaws.{Each, LeavesStack, effect_leaves}
+use Rattle.cg_machine.proofs.CommandLaws.{Each, LeavesStack}
+use Rattle.cg_machine.proofs.ShapeLaws.{effect_leaves}
 use Rattle.cg_machine.proofs.Forgotten.{Forgotten, alters_refl, still_forgotten, lives_within}
 use Rattle.cg_machine.proofs.Unheld.{Rests, AreResting, IsStack, Calm, turned_free}
 use Rattle.cg_machine.proofs.CommandCalm.{IsMild, Comes, was_there, is_new, effect_mild}

@@ -20,7 +20,8 @@ use Rattle.cg_machine.specs.Laws.{DyingIsUnheld, IsHeldByItsDeathAlone}
 use Rattle.cg_machine.proofs.Serials.{Rises}
 use Rattle.cg_machine.proofs.Sound.{Sound, opening_sound}
 use Rattle.cg_machine.proofs.Number.{step_falls}
-use Rattle.cg_machine.proofs.CommandLaws.{Each, LeavesStack, Leaves, effect_leaves}
+use Rattle.cg_machine.proofs.CommandLaws.{Each, LeavesStack, Leaves}
+use Rattle.cg_machine.proofs.ShapeLaws.{effect_leaves}
 use Rattle.cg_machine.proofs.Forgotten.{Forgotten, alters_refl, still_forgotten}
 use Rattle.cg_machine.proofs.Unheld.{IsOver, AreOver, AreResting, IsOnTop, IsStack, Stands, Calm, Keeps, stands, resting_after, same_objects, pushed_free, turned_free, held_by_member}
 use Rattle.cg_machine.proofs.Releasing.{none_holds, unheld_degree, starts_calm, released_calm, frame_end_calm}

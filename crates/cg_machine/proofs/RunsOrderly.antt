@@ -26,7 +26,8 @@ use Rattle.cg_machine.specs.Laws.{waits_of, all_waits, IsWaiting, HasFunction, A
 use Rattle.cg_machine.proofs.Serials.{Rises}
 use Rattle.cg_machine.proofs.Sound.{Sound, opening_sound}
 use Rattle.cg_machine.proofs.Number.{step_falls}
-use Rattle.cg_machine.proofs.CommandLaws.{Each, LeavesStack, effect_leaves}
+use Rattle.cg_machine.proofs.CommandLaws.{Each, LeavesStack}
+use Rattle.cg_machine.proofs.ShapeLaws.{effect_leaves}
 use Rattle.cg_machine.proofs.Forgotten.{Forgotten, AreReferred, some_later, none_later, lives_within}
 use Rattle.cg_machine.proofs.Unheld.{IsLocalHeld, IsOver, AreOver, not_dying, Stands, Calm, held_by_member}
 use Rattle.cg_machine.proofs.Releasing.{entry_holder}

@@ -24,7 +24,8 @@ use Rattle.cg_machine.specs.Newest.{DeathsClearNewestFirst}
 use Rattle.cg_machine.proofs.Serials.{Rises}
 use Rattle.cg_machine.proofs.Sound.{Sound, opening_sound}
 use Rattle.cg_machine.proofs.Number.{step_falls}
-use Rattle.cg_machine.proofs.CommandLaws.{Each, LeavesStack, effect_leaves}
+use Rattle.cg_machine.proofs.CommandLaws.{Each, LeavesStack}
+use Rattle.cg_machine.proofs.ShapeLaws.{effect_leaves}
 use Rattle.cg_machine.proofs.Growth.{GrowsBy, effect_grows}
 use Rattle.cg_machine.proofs.Lookups.{same_object}
 use Rattle.cg_machine.proofs.Unheld.{IsStack, Calm}
