@@ -12,7 +12,6 @@ use Rattle.cg_value.specs.declared.KindCode.TheVariants.{List as ListKind, Tuple
 use Rattle.cg_script.specs.declared.Script.{Script}
 use Rattle.cg_script.specs.declared.Operand.{Operand}
 use Rattle.cg_script.specs.declared.Command.{Command}
-use Rattle.cg_script.specs.declared.Command.TheVariants.{MakeList, MakeTuple, MakeDict, MakeInst, MakeFunc, MakeRef, Bind, Del, Append, SetItem, DelItem, Put, Remove, SetAttr, DelAttr, Item, Get, Attr, Deref, Call, Quit, Collect, Enable, Disable, Threshold, Flags, Freeze, Unfreeze, Print, Refs, Tracked, Finalized, Count, Gens}
 use Rattle.cg_graph.specs.Member.{Includes}
 use Rattle.cg_graph.specs.Value.{reference_in, references, references_of_value, entry_references, item, value_at, put, without_key, entry_at}
 use Rattle.cg_graph.specs.Object.{Object, change, with_entries, with_place, is_tracked, first_place, serials}
@@ -20,35 +19,25 @@ use Rattle.cg_graph.specs.Holdings.{name_holdings}
 use Rattle.cg_graph.proofs.Members.{either, Includes-append_left, Includes-append_right, Includes-append_cases, Includes-map, Includes-map_cases}
 use Rattle.cg_machine.specs.World.{World, Numbers, with_change}
 use Rattle.cg_machine.specs.Weak.{has_weak_references, is_instance, is_function}
-use Rattle.cg_machine.specs.Effects.{Effect, Changes, Calls, Collects, Quits, makes, binds, given_up_by, puts, has_room, replaced, frozen, unfrozen, tracked_by, may_track, callback_entries}
+use Rattle.cg_machine.specs.Effects.{Effect, Changes, Calls, Collects, Quits, bound, with_new, given_up_by, replaced, frozen, unfrozen, tracked_by, may_track, callback_entries}
 use Rattle.cg_machine.specs.Commands.{effect}
 use Rattle.cg_machine.specs.Refusals.{◌>>=◌, wrong_kind, no_index, no_key, no_attribute, not_weak, not_callable}
 use Rattle.cg_machine.specs.Operands.{is_dict, is_list, is_script_list, is_sequence, is_weak, value, values, object}
 use Rattle.cg_machine.specs.Collect.{is_condemned}
 use Rattle.cg_machine.proofs.Serials.{Rises}
-use Rattle.cg_machine.proofs.Lookups.{same_object}
+use Rattle.cg_machine.proofs.Lookups.{same_object, references_of_member}
 use Rattle.cg_machine.specs.Laws.{HasFunction, IsOfCollection}
 use Rattle.cg_machine.proofs.DyingOrderly.{false_true}
-use Rattle.cg_machine.proofs.CommandLaws.{Each, checked}
+use Rattle.cg_machine.proofs.CommandLaws.{Each}
 use Rattle.cg_machine.proofs.Forgotten.{IsQuiet, AreQuiet, Forgotten, Mortal, HasFinalizers, AreReferred, IsLater, later_refl, Alters, mortal_after, finalizers_after, change_alters, map_alters, place_later, map_quiet, test_quiet, entries_quiet, entries_alter, referred_after, still_forgotten, lives_within}
 use Rattle.cg_machine.proofs.Unheld.{AreOver}
-use Rattle.cg_machine.proofs.CommandRefs.{HoldNone, option_free, append_free, entry_val, item_free, cons_free, got_free, set_free, removed_free, put_free, without_key_free, value_at_free, entry_at_free, old_value_free, name_free, bound_free, each_then, each_some, IsKnown, AreKnown, value_known, values_known, IsFound, object_found}
+use Rattle.cg_machine.proofs.CommandRefs.{HoldNone, option_free, entry_val, entry_key, entry_free, cons_free, put_free, old_value_free, name_free, bound_free, IsKnown, operand_known}
+use Rattle.cg_machine.proofs.Shapes.{IsAtHand, Word, ValueIn, KeyIn, ReferentOf, HasObject, IsMutable, IsEdit, Shape, Binds, Makes, Edits, Puts, Shows, Tells, Sets, Freezes, Unfreezes, StartsFrame, StartsCollection, Ends}
+use Rattle.cg_machine.proofs.ShapeLaws.{by_shape}
 
 -- what is changed by a command is no weak reference
-list_code : (x : Object) → is_list x ≡ true → x.code ≢ Weak
-list_code x t e = let no : false ≡ true = sym (ap (λ (k : KindCode). elim k [ ListKind ↦ true | _ ↦ false ]) e) ∙ t in cc
-
-script_list_code : (x : Object) → is_script_list x ≡ true → x.code ≢ Weak
-script_list_code x t = list_code x (and_parts (is_list x) (not (x.serial == 1)) t).0
-
-dict_code : (x : Object) → is_dict x ≡ true → x.code ≢ Weak
-dict_code x t e = let no : false ≡ true = sym (ap (λ (k : KindCode). elim k [ Dict ↦ true | _ ↦ false ]) e) ∙ t in cc
-
-instance_code : (x : Object) → is_instance x ≡ true → x.code ≢ Weak
-instance_code x t e = let no : false ≡ true = sym (ap (λ (k : KindCode). elim k [ Inst ↦ true | _ ↦ false ]) e) ∙ t in cc
-
-no_referent : {P : Type 0} (r : ℕ) → None ≡ Some r → P
-no_referent r e = absurd (cc)
+mutable_code : (x : Object) → IsMutable x.code → x.code ≢ Weak
+mutable_code x m e = subst IsMutable e m
 
 -- a dictionary that becomes tracked is the same object
 pub tracked_later : (w : World) (key v : Val) (x : Object) → IsLater x (tracked_by w key v x)
@@ -106,9 +95,6 @@ module _ (script : Script) (w : World) (rises : Rises 1 w.next_serial w.objects)
   given_name : (x : ℕ) → AreGiven (given_up_by w x)
   given_name x o f = name_free w.names x o f.unheld.names
 
-  binds_mild : (x : ℕ) (v : Val) → IsKnown w over v → Each IsMild (binds w x v)
-  binds_mild x v known = names_mild (slice_set w.names x (Some v)) w.numbers (given_up_by w x) (λ o f. bound_free w.names x o (Some v) (option_free _ o (known o f)) f.unheld.names) (given_name x)
-
   -- an object changes
   changes_mild : (objects : List Object) (numbers : Numbers) (given_up : List ℕ) → Alters w.objects objects → ((o : ℕ) → Forgotten w o → AreQuiet o objects) → AreGiven given_up → ((y : Object) → Includes objects y → Comes y)
       → Mild (record w { objects = objects; numbers = numbers }) given_up
@@ -141,12 +127,6 @@ module _ (script : Script) (w : World) (rises : Rises 1 w.next_serial w.objects)
   own_free : (x : Object) → Includes w.objects x → (o : ℕ) → Forgotten w o → HoldNone o x.entries
   own_free x m o f = (f.unheld.quiet x m).entries
 
-  got_given : (x : Object) (i : ℕ) (e : Entry) → Includes w.objects x → slice_get x.entries i ≡ Some e → AreGiven (entry_references e)
-  got_given x i e m at o f = got_free x.entries i o e at (own_free x m o f)
-
-  keyed_given : (x : Object) (key : Val) (e : Entry) → Includes w.objects x → entry_at x.entries key ≡ Some e → AreGiven (entry_references e)
-  keyed_given x key e m at o f = entry_at_free x.entries key e o at (own_free x m o f)
-
   tracked_condemned : (key v : Val) (x : Object) → is_condemned (tracked_by w key v x) ≡ true → is_condemned x ≡ true
   tracked_condemned key v x = go (is_dict x && not (is_tracked x) && (may_track w key || may_track w v))
     where
@@ -168,15 +148,15 @@ module _ (script : Script) (w : World) (rises : Rises 1 w.next_serial w.objects)
       go true = refl
       go false = refl
 
-  puts_mild : (x : Object) (key v : Val) → Includes w.objects x → x.code ≢ Weak → ((o : ℕ) → Forgotten w o → x.serial ≢ o) → IsKnown w over key → IsKnown w over v → Each IsMild (puts w x key v)
-  puts_mild x key v m code apart known_key known_v = checked IsMild (if is_some (value_at x.entries key) then Ok tt else has_room w 1) _ (λ _.
+  puts_mild : (x : Object) (key v : Val) → Includes w.objects x → x.code ≢ Weak → ((o : ℕ) → Forgotten w o → x.serial ≢ o) → IsKnown w over key → IsKnown w over v → Mild (with_change (λ y. tracked_by w key v (with_entries (put x.entries key v) y)) x.serial w) (references_of_value (value_at x.entries key))
+  puts_mild x key v m code apart known_key known_v =
       changes_mild (change put_in x.serial w.objects) w.numbers (references_of_value (value_at x.entries key)) (change_alters put_in put_later x.serial w.objects)
       (λ o f. test_quiet o put_in (λ y. y.serial == x.serial) (λ y e k. record {
         entries = subst (λ es. ¬ Includes (references es) o) (sym (tracked_entries key v (with_entries (put x.entries key v) y))) (put_free x.entries key v o (own_free x m o f) (known_key o f) (known_v o f));
         untracked = λ i. absurd (apart o f (sym (eqb-true y.serial x.serial e) ∙ sym (put_later y).serial ∙ i));
         refers_to_none = λ i. absurd (apart o f (sym (eqb-true y.serial x.serial e) ∙ sym (put_later y).serial ∙ i));
       }) w.objects f.unheld.quiet)
-      (λ o f. old_value_free x.entries key o (own_free x m o f)) (comes_changed put_in x m code apart put_later put_condemned put_place))
+      (λ o f. old_value_free x.entries key o (own_free x m o f)) (comes_changed put_in x m code apart put_later put_condemned put_place)
     where
       put_in : Object → Object
       put_in y = tracked_by w key v (with_entries (put x.entries key v) y)
@@ -198,8 +178,8 @@ module _ (script : Script) (w : World) (rises : Rises 1 w.next_serial w.objects)
   referent_is : (m : Option ℕ) (r : ℕ) → IsReferent m → m ≡ Some r → IsReferent (Some r)
   referent_is m r h e = subst IsReferent e h
 
-  makes_mild : (x : ℕ) (kind : KindCode) (class : Option ℕ) (entries : List Entry) (referent : Option ℕ) → ((o : ℕ) → Forgotten w o → HoldNone o entries) → IsReferent referent → ((r : ℕ) → referent ≡ Some r → kind ≡ Weak) → (kind ≡ Weak → (f : ℕ) → Includes (references entries) f → HasFunction w.objects f) → Each IsMild (makes w x kind class entries referent)
-  makes_mild x kind class entries referent free refers code functions = checked IsMild _ _ (λ _. checked IsMild _ _ (λ _. record {
+  makes_mild : (x : ℕ) (kind : KindCode) (class : Option ℕ) (entries : List Entry) (referent : Option ℕ) → ((o : ℕ) → Forgotten w o → HoldNone o entries) → IsReferent referent → ((r : ℕ) → referent ≡ Some r → kind ≡ Weak) → (kind ≡ Weak → (f : ℕ) → Includes (references entries) f → HasFunction w.objects f) → Mild (bound (with_new w kind class entries referent) x (Some (Ref w.next_serial))) (given_up_by w x)
+  makes_mild x kind class entries referent free refers code functions = record {
     referred = referred;
     mortal = λ o l. record { lives = lives o l.lives; refers_to_none = λ y m e. either (old y m) (λ k. l.refers_to_none y k e) (λ i. absurd (not_new o (inr l) y i e)) };
     finalizers = λ o l h y m e. either (old y m) (λ k. h y k e) (λ i. absurd (not_new o (inr l) y i e));
@@ -215,7 +195,7 @@ module _ (script : Script) (w : World) (rises : Rises 1 w.next_serial w.objects)
     lasts = λ y m. (y, Includes-append_left w.objects (new ∷ []) y m, later_refl y);
     comes = λ y m. either (old y m) (λ k. was_there y k (later_refl y) (inl refl) (λ c. c) (λ c. refl)) (λ i. subst Comes i (is_new refl (uncondemned kind) (apart_from kind) code functions));
     given = given_name x;
-  }))
+  }
     where
       new : Object
       new = record { serial = w.next_serial; code = kind; class = class; entries = entries; place = first_place kind; finalized = false; referent = referent }
@@ -248,37 +228,6 @@ module _ (script : Script) (w : World) (rises : Rises 1 w.next_serial w.objects)
           (λ k. let z = h y k r e in (z.0, Includes-append_left w.objects (new ∷ []) z.0 z.1, z.2, z.3))
           (λ i. let z = referent_is referent r refers (ap (λ (z : Object). z.referent) i ∙ e) in (z.0, Includes-append_left w.objects (new ∷ []) z.0 z.1, z.2, z.3))
 
-  -- the object of a value
-  is_found : {B : Type 0} (P : B → Type 0) (f : Object → Result B ℕ) (test : Object → Bool) (refusal : ℕ) (v : Val) → IsKnown w over v → ((x : Object) → IsFound w over test v x → Each P (f x)) → Each P (object w test refusal v >>= f)
-  is_found P f test refusal v known h = each_then (IsFound w over test v) P (object w test refusal v) f (object_found w over test refusal v known) h
-
-  -- the callback of a new weak reference
-  pub record IsCallback (entries : List Entry) : Type 0 where
-    pub free : (o : ℕ) → Forgotten w o → HoldNone o entries
-    pub functions : (f : ℕ) → Includes (references entries) f → HasFunction w.objects f
-
-  item_callback : (v : Val) → IsKnown w over v → (x : Object) → IsFound w over is_function v x → IsCallback (item v ∷ [])
-  item_callback v known x h = record {
-    free = λ o f. cons_free (item v) [] o (item_free v o (known o f)) (λ k. k);
-    functions = λ f k. (x, h.member, one (reference_in v) f h.is k, h.passes);
-  }
-    where
-      one : (m : Option ℕ) (f : ℕ) → m ≡ Some x.serial → Includes ((option_to_list m ++ []) ++ []) f → x.serial ≡ f
-      one None f e k = absurd k
-      one (Some s) f e k = let same : s ≡ x.serial = cc in either k (λ i. sym same ∙ i) (λ n. absurd n)
-
-  callback_mild : (v : Val) → IsKnown w over v → Each IsCallback (callback_entries w v)
-  callback_mild Nothing known = record { free = λ o f k. k; functions = λ f k. absurd k }
-  callback_mild (Int n) known = is_found IsCallback _ is_function not_callable (Int n) known (λ x h. item_callback (Int n) known x h)
-  callback_mild (Str s) known = is_found IsCallback _ is_function not_callable (Str s) known (λ x h. item_callback (Str s) known x h)
-  callback_mild (Ref p) known = is_found IsCallback _ is_function not_callable (Ref p) known (λ x h. item_callback (Ref p) known x h)
-
-  quit_mild : (v : Val) → IsMild (elim v [ Nothing ↦ Quits | _ ↦ Changes false [] [] w ])
-  quit_mild Nothing = tt
-  quit_mild (Int n) = numbers_mild w.numbers
-  quit_mild (Str s) = numbers_mild w.numbers
-  quit_mild (Ref o) = numbers_mild w.numbers
-
   places_mild : (f : Place → Place) (numbers : Numbers) → f Untracked ≡ Untracked → ((p : Place) (x : Object) → is_condemned (with_place (f p) x) ≡ true → is_condemned (with_place p x) ≡ true) → ((p : Place) → IsOfCollection (f p) → p ≡ f p) → Mild (record w { objects = replaced f w; numbers = numbers }) []
   places_mild f numbers still condemned places = changes_mild (replaced f w) numbers [] (map_alters (λ x. with_place (f x.place) x) (λ x. place_later (f x.place) x) w.objects)
       (λ o g. map_quiet o (λ x. with_place (f x.place) x) (λ x k. record { entries = k.entries; untracked = λ i. ap f (k.untracked i) ∙ still; refers_to_none = k.refers_to_none }) w.objects g.unheld.quiet) (λ o g k. k)
@@ -300,56 +249,50 @@ module _ (script : Script) (w : World) (rises : Rises 1 w.next_serial w.objects)
   unfrozen_condemned Frozen x e = false_true e
   unfrozen_condemned p x e = e
 
-  referent_known : (x : Object) → Includes w.objects x → IsKnown w over (elim x.referent [ None ↦ Nothing | Some o ↦ Ref o ])
-  referent_known x m = go x.referent refl
-    where
-      go : (r : Option ℕ) → x.referent ≡ r → IsKnown w over (elim r [ None ↦ Nothing | Some o ↦ Ref o ])
-      go None e o f k = let no : None ≡ Some o = k in cc
-      go (Some p) e o f k = f.unreferred x m (e ∙ k)
+  -- What is at hand is not forgotten.
+  hand_known : (command : Command) (v : Val) → IsAtHand w command v → IsKnown w over v
+  hand_known command v (Word operand u own e) = operand_known w over operand u e
+  hand_known command v (ValueIn x e m h k) = λ o f. entry_val e o (λ i. own_free x m o f (references_of_member x.entries e o k i))
+  hand_known command v (KeyIn x e m h k) = λ o f. entry_key e o (λ i. own_free x m o f (references_of_member x.entries e o k i))
+  hand_known command v (ReferentOf x r m h e) = λ o f k. f.unreferred x m (e ∙ k)
 
-  -- the operands of a command
-  valued : {B : Type 0} (P : B → Type 0) (f : Val → Result B ℕ) (operand : Operand) → ((v : Val) → IsKnown w over v → Each P (f v)) → Each P (value w operand >>= f)
-  valued P f operand h = each_then (IsKnown w over) P (value w operand) f (value_known w over operand) h
+  object_apart : (command : Command) (test : Object → Bool) (x : Object) → HasObject w command test x → (o : ℕ) → Forgotten w o → x.serial ≢ o
+  object_apart command test x h o f e = hand_known command (Ref x.serial) h.hand o f (ap Some e)
 
-  all_valued : {B : Type 0} (P : B → Type 0) (f : List Val → Result B ℕ) (operands : List Operand) → ((vs : List Val) → AreKnown w over vs → Each P (f vs)) → Each P (values w operands >>= f)
-  all_valued P f operands h = each_then (AreKnown w over) P (values w operands) f (values_known w over operands) h
+  all_free : (o : ℕ) (entries : List Entry) → ((e : Entry) → Includes entries e → ¬ Includes (entry_references e) o) → HoldNone o entries
+  all_free o [] h = λ k. k
+  all_free o (e ∷ entries) h = cons_free e entries o (h e (inl refl)) (all_free o entries (λ d m. h d (inr m)))
 
-  -- something that is there
-  there : {A B : Type 0} (P : B → Type 0) (f : A → Result B ℕ) (m : Option A) (refusal : ℕ) → ((x : A) → m ≡ Some x → Each P (f x)) → Each P (ok_or m refusal >>= f)
-  there P f m refusal h = each_then (λ x. m ≡ Some x) P (ok_or m refusal) f (each_some m refusal) h
+  hand_free : (command : Command) (e : Entry) → e.key ≡ Nothing → IsAtHand w command e.val → (o : ℕ) → Forgotten w o → ¬ Includes (entry_references e) o
+  hand_free command e key hand o f = entry_free e o (hand_known command e.val hand o f) (λ i. let no : None ≡ Some o = ap reference_in (sym key) ∙ i in cc)
+
+  bound_known : (command : Command) (v : Option Val) → ((u : Val) → v ≡ Some u → IsAtHand w command u) → AreGiven (references_of_value v)
+  bound_known command None hand o f k = k
+  bound_known command (Some u) hand o f k = option_free _ o (hand_known command u (hand u refl) o f) k
+
+  referent_found : (command : Command) (kind : KindCode) (referent : Option ℕ) → ((r : ℕ) → referent ≡ Some r → (kind ≡ Weak) × ((z : Object) × HasObject w command has_weak_references z × (z.serial ≡ r))) → IsReferent referent
+  referent_found command kind None refers = tt
+  referent_found command kind (Some r) refers = let z = (refers r refl).1 in (z.0, z.1.member, z.2, z.1.passes, λ o f e. object_apart command has_weak_references z.0 z.1 o f (z.2 ∙ e))
+
+  edited_free : (command : Command) (x : Object) (entries : List Entry) (given_up : List ℕ) → Includes w.objects x → IsEdit w command x entries given_up → (o : ℕ) → Forgotten w o → HoldNone o entries
+  edited_free command x entries given_up m edit o f = all_free o entries (λ e k. either (edit.come e k) (λ was i. own_free x m o f (references_of_member x.entries e o was i)) (λ new. hand_free command e new.1 new.2 o f))
+
+  edited_given : (command : Command) (x : Object) (entries : List Entry) (given_up : List ℕ) → Includes w.objects x → IsEdit w command x entries given_up → AreGiven given_up
+  edited_given command x entries given_up m edit o f k = either edit.given (λ none. subst (λ os. Includes os o) none k) (λ some. own_free x m o f (references_of_member x.entries some.0 o some.1 (subst (λ os. Includes os o) some.2 k)))
+
+  shape_mild : (command : Command) (e : Effect) → Shape w command e → IsMild e
+  shape_mild command e (Binds name v own hand) = names_mild (slice_set w.names name v) w.numbers (given_up_by w name) (λ o f. bound_free w.names name o v (bound_known command v hand o f) f.unheld.names) (given_name name)
+  shape_mild command e (Makes name kind class entries referent own parts) = makes_mild name kind class entries referent (λ o f. all_free o entries (λ e m. let i = parts.items e m in hand_free command e i.0 i.1 o f)) (referent_found command kind referent parts.refers) (λ r i. (parts.refers r i).0) parts.callbacks
+  shape_mild command e (Edits wants x entries given h mutable edit) = sets_mild x entries given h.member (mutable_code x mutable) (object_apart command (λ y. true) x h) (edited_free command x entries given h.member edit) (edited_given command x entries given h.member edit)
+  shape_mild command e (Puts x key v h mutable hand_key hand room) = puts_mild x key v h.member (mutable_code x mutable) (object_apart command (λ y. is_dict y || is_instance y) x h) (hand_known command key hand_key) (hand_known command v hand)
+  shape_mild command e (Shows v hand) = numbers_mild w.numbers
+  shape_mild command e (Tells line tells) = numbers_mild w.numbers
+  shape_mild command e (Sets numbers keeps) = numbers_mild numbers
+  shape_mild command e Freezes = places_mild frozen _ refl frozen_condemned frozen_place
+  shape_mild command e Unfreezes = places_mild unfrozen _ refl unfrozen_condemned unfrozen_place
+  shape_mild command e (StartsFrame f h) = object_apart command is_function f h
+  shape_mild command e (StartsCollection g) = tt
+  shape_mild command e Ends = tt
 
   pub effect_mild : (command : Command) → Each IsMild (effect w command)
-  effect_mild (MakeList name items) = all_valued IsMild _ items (λ vs known. makes_mild name ListKind None (map item vs) None known tt no_referent (λ c. cc))
-  effect_mild (MakeTuple name items) = all_valued IsMild _ items (λ vs known. makes_mild name Tuple None (map item vs) None known tt no_referent (λ c. cc))
-  effect_mild (MakeDict name) = makes_mild name Dict None [] None (λ o f k. k) tt no_referent (λ c. cc)
-  effect_mild (MakeInst name class) = makes_mild name Inst (Some class) [] None (λ o f k. k) tt no_referent (λ c. cc)
-  effect_mild (MakeFunc name proc cells) = all_valued IsMild _ cells (λ vs known. makes_mild name Func (Some proc) (map item vs) None known tt no_referent (λ c. cc))
-  effect_mild (MakeRef name target callback) = valued IsMild _ target (λ v known. valued IsMild _ callback (λ c known_c. is_found IsMild _ has_weak_references wrong_kind v known (λ x h. each_then IsCallback IsMild (callback_entries w c) _ (callback_mild c known_c) (λ entries k. makes_mild name Weak None entries (Some x.serial) k.free (x, h.member, refl, h.passes, h.known) (λ r e. refl) (λ e. k.functions)))))
-  effect_mild (Bind name operand) = valued IsMild _ operand (λ v known. binds_mild name v known)
-  effect_mild (Del name) = checked IsMild _ _ (λ v. names_mild (slice_set w.names name None) w.numbers (given_up_by w name) (λ o f. bound_free w.names name o None (λ k. k) f.unheld.names) (given_name name))
-  effect_mild (Append list operand) = valued IsMild _ list (λ t known_t. valued IsMild _ operand (λ v known. is_found IsMild _ is_script_list wrong_kind t known_t (λ x h. checked IsMild _ _ (λ _. sets_mild x (x.entries ++ item v ∷ []) [] h.member (script_list_code x h.passes) h.known (λ o f. append_free x.entries v o (own_free x h.member o f) (known o f)) (λ o f k. k)))))
-  effect_mild (SetItem list index operand) = valued IsMild _ list (λ t known_t. valued IsMild _ operand (λ v known. is_found IsMild _ is_script_list wrong_kind t known_t (λ x h. checked IsMild _ _ (λ i. there IsMild _ (slice_get x.entries i) no_index (λ e at. sets_mild x (slice_set x.entries i (item v)) (entry_references e) h.member (script_list_code x h.passes) h.known (λ o f. set_free x.entries i (item v) o (own_free x h.member o f) (item_free v o (known o f))) (got_given x i e h.member at))))))
-  effect_mild (DelItem list index) = valued IsMild _ list (λ t known_t. is_found IsMild _ is_list wrong_kind t known_t (λ x h. checked IsMild _ _ (λ i. there IsMild _ (slice_get x.entries i) no_index (λ e at. sets_mild x (remove x.entries i) (entry_references e) h.member (list_code x h.passes) h.known (λ o f. removed_free x.entries i o (own_free x h.member o f)) (got_given x i e h.member at)))))
-  effect_mild (Put dict key operand) = valued IsMild _ dict (λ d known_d. valued IsMild _ key (λ k known_k. valued IsMild _ operand (λ v known. is_found IsMild _ is_dict wrong_kind d known_d (λ x h. checked IsMild _ _ (λ _. puts_mild x k v h.member (dict_code x h.passes) h.known known_k known)))))
-  effect_mild (Remove dict key) = valued IsMild _ dict (λ d known_d. valued IsMild _ key (λ k known_k. is_found IsMild _ is_dict wrong_kind d known_d (λ x h. checked IsMild _ _ (λ _. there IsMild _ (entry_at x.entries k) no_key (λ e at. sets_mild x (without_key x.entries k) (entry_references e) h.member (dict_code x h.passes) h.known (λ o f. without_key_free x.entries k o (own_free x h.member o f)) (keyed_given x k e h.member at))))))
-  effect_mild (SetAttr instance name operand) = valued IsMild _ instance (λ t known_t. valued IsMild _ operand (λ v known. is_found IsMild _ is_instance wrong_kind t known_t (λ x h. puts_mild x (Str name) v h.member (instance_code x h.passes) h.known (λ o f e. let no : None ≡ Some o = e in cc) known)))
-  effect_mild (DelAttr instance name) = valued IsMild _ instance (λ t known_t. is_found IsMild _ is_instance wrong_kind t known_t (λ x h. there IsMild _ (entry_at x.entries (Str name)) no_attribute (λ e at. sets_mild x (without_key x.entries (Str name)) (entry_references e) h.member (instance_code x h.passes) h.known (λ o f. without_key_free x.entries (Str name) o (own_free x h.member o f)) (keyed_given x (Str name) e h.member at))))
-  effect_mild (Item name list index) = valued IsMild _ list (λ t known_t. is_found IsMild _ is_sequence wrong_kind t known_t (λ x h. checked IsMild _ _ (λ i. there IsMild _ (slice_get x.entries i) no_index (λ e at. binds_mild name e.val (λ o f. entry_val e o (got_given x i e h.member at o f))))))
-  effect_mild (Get name dict key) = valued IsMild _ dict (λ d known_d. valued IsMild _ key (λ k known_k. is_found IsMild _ is_dict wrong_kind d known_d (λ x h. checked IsMild _ _ (λ _. there IsMild _ (value_at x.entries k) no_key (λ v at. binds_mild name v (λ o f. value_at_free x.entries k v o at (own_free x h.member o f)))))))
-  effect_mild (Attr name instance attribute) = valued IsMild _ instance (λ t known_t. is_found IsMild _ is_instance wrong_kind t known_t (λ x h. there IsMild _ (value_at x.entries (Str attribute)) no_attribute (λ v at. binds_mild name v (λ o f. value_at_free x.entries (Str attribute) v o at (own_free x h.member o f)))))
-  effect_mild (Deref name weak) = valued IsMild _ weak (λ v known. is_found IsMild _ is_weak not_weak v known (λ x h. binds_mild name _ (referent_known x h.member)))
-  effect_mild (Call function) = valued IsMild _ function (λ v known. is_found IsMild _ is_function not_callable v known (λ x h. h.known))
-  effect_mild (Quit operand) = checked IsMild _ _ (λ v. quit_mild v)
-  effect_mild (Collect generation) = checked IsMild _ _ (λ g. tt)
-  effect_mild Enable = numbers_mild _
-  effect_mild Disable = numbers_mild _
-  effect_mild (Threshold zero one two) = numbers_mild _
-  effect_mild (Flags bits) = numbers_mild _
-  effect_mild Freeze = places_mild frozen _ refl frozen_condemned frozen_place
-  effect_mild Unfreeze = places_mild unfrozen _ refl unfrozen_condemned unfrozen_place
-  effect_mild (Print operand) = checked IsMild _ _ (λ v. numbers_mild w.numbers)
-  effect_mild (Refs operand) = checked IsMild _ _ (λ v. checked IsMild _ _ (λ x. numbers_mild w.numbers))
-  effect_mild (Tracked operand) = checked IsMild _ _ (λ v. numbers_mild w.numbers)
-  effect_mild (Finalized operand) = checked IsMild _ _ (λ v. numbers_mild w.numbers)
-  effect_mild Count = numbers_mild w.numbers
-  effect_mild Gens = numbers_mild w.numbers
+  effect_mild command = by_shape IsMild w command (shape_mild command)

@@ -42,7 +42,7 @@ entry_free e o h k m = either (Includes-append_cases (option_to_list (reference_
 pub entry_val : (e : Entry) (o : ℕ) → ¬ Includes (entry_references e) o → IsNotTo o e.val
 entry_val e o h k = h (Includes-append_left (option_to_list (reference_in e.val)) (option_to_list (reference_in e.key)) o (option_held (reference_in e.val) o k))
 
-entry_key : (e : Entry) (o : ℕ) → ¬ Includes (entry_references e) o → IsNotTo o e.key
+pub entry_key : (e : Entry) (o : ℕ) → ¬ Includes (entry_references e) o → IsNotTo o e.key
 entry_key e o h k = h (Includes-append_right (option_to_list (reference_in e.val)) (option_to_list (reference_in e.key)) o (option_held (reference_in e.key) o k))
 
 nothing_free : (o : ℕ) → IsNotTo o Nothing
@@ -198,7 +198,7 @@ module _ (w : World) (over : AreOver w.stack) where
   cell_known None i v e = none_known v e
   cell_known (Some f) i v e = function_known f.function i v e
 
-  operand_known : (operand : Operand) (v : Val) → value_of w operand ≡ Some v → IsKnown v
+  pub operand_known : (operand : Operand) (v : Val) → value_of w operand ≡ Some v → IsKnown v
   operand_known NoneWord v e = same_known Nothing v e (λ o f k. let no : None ≡ Some o = k in cc)
   operand_known (IntWord n) v e = same_known (Int n) v e (λ o f k. let no : None ≡ Some o = k in cc)
   operand_known (StrWord s) v e = same_known (Str s) v e (λ o f k. let no : None ≡ Some o = k in cc)
