@@ -48,9 +48,6 @@ entry_key e o h k = h (Includes-append_right (option_to_list (reference_in e.val
 nothing_free : (o : ℕ) → IsNotTo o Nothing
 nothing_free o e = let no : None ≡ Some o = e in cc
 
-pub item_free : (v : Val) (o : ℕ) → IsNotTo o v → ¬ Includes (entry_references (item v)) o
-item_free v o h = entry_free (item v) o h (nothing_free o)
-
 pub cons_free : (e : Entry) (entries : List Entry) (o : ℕ) → ¬ Includes (entry_references e) o → HoldNone o entries → HoldNone o (e ∷ entries)
 cons_free e entries o h k m = either (Includes-append_cases (entry_references e) (references entries) o m) h k
 
@@ -61,16 +58,8 @@ pub tail_free : (e : Entry) (entries : List Entry) (o : ℕ) → HoldNone o (e �
 tail_free e entries o h m = h (Includes-append_right (entry_references e) (references entries) o m)
 
 -- lists of entries
-pub append_free : (entries : List Entry) (v : Val) (o : ℕ) → HoldNone o entries → IsNotTo o v → HoldNone o (entries ++ item v ∷ [])
-append_free entries v o h k m = either (references-append entries (item v ∷ []) o m) h (cons_free (item v) [] o (item_free v o k) (λ n. n))
-
 pub got_free : (entries : List Entry) (i o : ℕ) (e : Entry) → slice_get entries i ≡ Some e → HoldNone o entries → ¬ Includes (entry_references e) o
 got_free entries i o e at h m = h (references_of_member entries e o (slice_get_member entries i e at) m)
-
-pub set_free : (entries : List Entry) (i : ℕ) (e : Entry) (o : ℕ) → HoldNone o entries → ¬ Includes (entry_references e) o → HoldNone o (slice_set entries i e)
-set_free [] i e o h k = h
-set_free (x ∷ entries) zero e o h k = cons_free e entries o k (tail_free x entries o h)
-set_free (x ∷ entries) (suc i) e o h k = cons_free x (slice_set entries i e) o (head_free x entries o h) (set_free entries i e o (tail_free x entries o h) k)
 
 drop_free : (i : ℕ) (entries : List Entry) (o : ℕ) → HoldNone o entries → HoldNone o (drop i entries)
 drop_free zero entries o h = h
@@ -88,28 +77,12 @@ put_free (e ∷ entries) key v o h k n = go (same_value e.key key) (put_free ent
     go true rest = cons_free (record { key = e.key; val = v }) entries o (entry_free (record { key = e.key; val = v }) o n (entry_key e o (head_free e entries o h))) (tail_free e entries o h)
     go false rest = cons_free e (put entries key v) o (head_free e entries o h) rest
 
-pub without_key_free : (entries : List Entry) (key : Val) (o : ℕ) → HoldNone o entries → HoldNone o (without_key entries key)
-without_key_free [] key o h = h
-without_key_free (e ∷ entries) key o h = go (same_value e.key key) (without_key_free entries key o (tail_free e entries o h))
-  where
-    go : (b : Bool) → HoldNone o (without_key entries key) → HoldNone o (if b then entries else e ∷ without_key entries key)
-    go true rest = tail_free e entries o h
-    go false rest = cons_free e (without_key entries key) o (head_free e entries o h) rest
-
 pub value_at_free : (entries : List Entry) (key v : Val) (o : ℕ) → value_at entries key ≡ Some v → HoldNone o entries → IsNotTo o v
 value_at_free [] key v o e h = absurd (let no : None ≡ Some v = e in cc)
 value_at_free (x ∷ entries) key v o e h = go (same_value x.key key) e (λ k. value_at_free entries key v o k (tail_free x entries o h))
   where
     go : (b : Bool) → (if b then Some x.val else value_at entries key) ≡ Some v → (value_at entries key ≡ Some v → IsNotTo o v) → IsNotTo o v
     go true k ih = let same : x.val ≡ v = cc in subst (IsNotTo o) same (entry_val x o (head_free x entries o h))
-    go false k ih = ih k
-
-pub entry_at_free : (entries : List Entry) (key : Val) (e : Entry) (o : ℕ) → entry_at entries key ≡ Some e → HoldNone o entries → ¬ Includes (entry_references e) o
-entry_at_free [] key e o at h = absurd (let no : None ≡ Some e = at in cc)
-entry_at_free (x ∷ entries) key e o at h = go (same_value x.key key) at (λ k. entry_at_free entries key e o k (tail_free x entries o h))
-  where
-    go : (b : Bool) → (if b then Some x else entry_at entries key) ≡ Some e → (entry_at entries key ≡ Some e → ¬ Includes (entry_references e) o) → ¬ Includes (entry_references e) o
-    go true k ih = let same : x ≡ e = cc in subst (λ (z : Entry). ¬ Includes (entry_references z) o) same (head_free x entries o h)
     go false k ih = ih k
 
 pub old_value_free : (entries : List Entry) (key : Val) (o : ℕ) → HoldNone o entries → ¬ Includes (references_of_value (value_at entries key)) o
@@ -207,42 +180,3 @@ module _ (w : World) (over : AreOver w.stack) where
   operand_known WeakLocal v e = local_known (option_and_then (λ f. weak_in f.sort f.subject) (frame_on w.stack)) v (λ o k. weak_held w.stack o over k) e
   operand_known (Cell i) v e = cell_known (frame_on w.stack) i v e
   operand_known Garbage v e = same_known (Ref 1) v e (λ o f k. f.unheld.root (let same : 1 ≡ o = cc in sym same))
-
-  pub value_known : (operand : Operand) → Each IsKnown (value w operand)
-  value_known operand = go (value_of w operand) refl
-    where
-      go : (m : Option Val) → value_of w operand ≡ m → Each IsKnown (ok_or m 1)
-      go None e = tt
-      go (Some v) e = operand_known operand v e
-
-  abbrev pub AreKnown : List Val → Type 0
-  AreKnown vs = (o : ℕ) → Forgotten w o → HoldNone o (map item vs)
-
-  pub values_known : (operands : List Operand) → Each AreKnown (values w operands)
-  values_known [] = λ o f k. k
-  values_known (operand ∷ operands) =
-      let rest = values_known operands in
-      each_then IsKnown AreKnown (value w operand) _ (value_known operand) (λ v known. each_then AreKnown AreKnown (values w operands) _ rest (λ vs are o f. cons_free (item v) (map item vs) o (item_free v o (known o f)) (are o f)))
-
-  -- the object of a value
-  pub record IsFound (test : Object → Bool) (v : Val) (x : Object) : Type 0 where
-    pub is : reference_in v ≡ Some x.serial
-    pub member : Includes w.objects x
-    pub passes : test x ≡ true
-    pub known : (o : ℕ) → Forgotten w o → x.serial ≢ o
-
-  tested_found : (test : Object → Bool) (refusal : ℕ) (v : Val) (x : Object) → reference_in v ≡ Some x.serial → Includes w.objects x → ((o : ℕ) → Forgotten w o → x.serial ≢ o) → Each (IsFound test v) (tested test refusal x)
-  tested_found test refusal v x is m known = go (test x) refl
-    where
-      go : (b : Bool) → test x ≡ b → Each (IsFound test v) (if b then Ok x else Err refusal)
-      go true e = record { is = is; member = m; passes = e; known = known }
-      go false e = tt
-
-  pub object_found : (test : Object → Bool) (refusal : ℕ) (v : Val) → IsKnown v → Each (IsFound test v) (object w test refusal v)
-  object_found test refusal v known = each_then (λ x. object_of w v ≡ Some x) (IsFound test v) (ok_or (object_of w v) refusal) _ (each_some (object_of w v) refusal) (λ x e. go (reference_in v) refl x e)
-    where
-      go : (m : Option ℕ) → reference_in v ≡ m → (x : Object) → option_and_then (object_at w.objects) m ≡ Some x → Each (IsFound test v) (tested test refusal x)
-      go None at x e = absurd (let no : None ≡ Some x = e in cc)
-      go (Some s) at x e =
-          let f = found_at w.objects s x e in
-          tested_found test refusal v x (at ∙ ap (λ q. Some q) (sym f.1)) f.0 (λ o g same. known o g (at ∙ ap (λ q. Some q) (sym f.1 ∙ same)))
