@@ -1,5 +1,5 @@
 -- Each line of a run of a script that names its own texts alone, each of them short, can be printed.
-use Rattle.std.proofs.Common.{◌≡◌, refl, subst, ℕ, ◌≤◌, true, inl, inr, List, [], ◌∷◌, length, Option, Some, None, Result, Ok, Err}
+use Rattle.std.proofs.Common.{◌≡◌, sym, refl, subst, ℕ, ◌≤◌, true, inl, inr, List, [], ◌∷◌, length, Option, Some, None, Result, Ok, Err}
 use Rattle.std.specs.Prelude.{flat_map}
 use Rattle.std.specs.List.{All}
 use Rattle.cg_script.specs.declared.Script.{Script}
@@ -27,53 +27,49 @@ use Rattle.cg_machine.proofs.Origins.{IsAllOfScript}
 use Rattle.cg_machine.proofs.OriginsOfRuns.{step_origin, opening_origin}
 use Rattle.cg_machine.proofs.PrintableTexts.{HaveTexts, WorldHasTexts, NamesTexts, commands_name_texts, replicated_member}
 use Rattle.cg_machine.proofs.PrintableSteps.{Prints, yielded, silent, says, either_prints, starts_prints, frame_end_prints, released_prints, dying_prints, phase_prints}
-use Rattle.cg_machine.proofs.PrintableCommands.{EffectPrints, effect_prints}
+use Rattle.cg_machine.proofs.PrintableCommands.{shape_prints}
+use Rattle.cg_machine.proofs.Invariants.{Takes, FromTop, FromFrame, emptied, on, AreAnswers, CommandSteps, Steps, any_step}
 
 module _ (script : Script) (known : TextsAreKnown script) (short : All (λ text. length text ≤ 1024) script.names) where
+  answers_print : (lines : List Event) → AreAnswers lines → (after : World) → WorldHasTexts (length script.names) after → Prints script.names lines after
+  answers_print [] k after h = silent script.names after h
+  answers_print (Refused n ∷ []) k after h = says script.names (Refused n) after tt h
+  answers_print (Collected n ∷ []) k after h = says script.names (Collected n) after tt h
+  answers_print lines k after h = absurd k
+
   -- a command is done
-  module _ (now : World) (h : WorldHasTexts (length script.names) now) where
-    stops : (refusal : ℕ) → Prints script.names (refused refusal now).0 (refused refusal now).1
-    stops refusal = says script.names (Refused refusal) _ tt h
+  command_prints : (w : World) (command : Command) (a : Activity) (below : List Activity) (v : World) → WorldHasTexts (length script.names) v → NamesTexts (length script.names) command → CommandSteps script (λ w. Prints script.names) w command (on a below v) a below
+  command_prints w command a below v h named = record {
+    stays = λ lines answers. answers_print lines answers (on a below v) h;
+    stops = λ lines answers. answers_print lines answers (on (emptied a) below v) h;
+    changes = λ wants_memory lines given_up after shape. let p = shape_prints script.names short (on a below v) h command named (Changes wants_memory lines given_up after) shape in record { lines = p.lines; known = p.known };
+    calls = λ f k. starts_prints script.names script (record { sort = CallFrame; proc = procedure_of (on a below v) f.serial; subject = f.serial; func = Some f.serial }) (on a below v) h;
+    asks = λ g e. silent script.names _ h;
+  }
 
-    does_print : (r : Result Effect ℕ) → Each (EffectPrints script.names short now h) r → (events : List Event) (after : World) → DoesEffect script now r events after → Prints script.names events after
-    does_print (Err refusal) p events after step = yielded script.names _ events after step (stops refusal)
-    does_print (Ok (Changes wants_memory lines given_up next)) p events after (inl step) = yielded script.names (lines, push (Releasing given_up) next) events after step (record { lines = p.lines; known = p.known })
-    does_print (Ok (Changes wants_memory lines given_up next)) p events after (inr step) = yielded script.names _ events after step.1 (stops no_memory)
-    does_print (Ok (Calls f)) p events after step = yielded script.names _ events after step (starts_prints script.names script (record { sort = CallFrame; proc = procedure_of now f; subject = f; func = Some f }) now h)
-    does_print (Ok (Collects g)) p events after step = yielded script.names _ events after step (either_prints script.names (is_collecting now) (Collected 0 ∷ [], now) ([], push (new_collection g true now) now) (says script.names (Collected 0) now tt h) (silent script.names _ h))
-    does_print (Ok Quits) p events after step = yielded script.names _ events after step (silent script.names _ h)
+  taken_names : (command : Command) (a b : Activity) (below : List Activity) → Takes command a b → ((c : Command) → Includes (flat_map commands_on (a ∷ below)) c → NamesTexts (length script.names) c) → NamesTexts (length script.names) command
+  taken_names command a b below (FromTop commands) named = named command (inl refl)
+  taken_names command a b below (FromFrame f commands left) named = named command (Includes-append_left f.commands (flat_map commands_on below) command (subst (λ (cs : List Command). Includes cs command) (sym left) (inl refl)))
 
-    command_prints : (command : Command) → NamesTexts (length script.names) command → (events : List Event) (after : World) → DoesEffect script now (effect now command) events after → Prints script.names events after
-    command_prints command named events after step = does_print (effect now command) (effect_prints script.names short now h command named) events after step
+  -- what is known of a world: its commands name texts of the script, and its texts are known
+  abbrev Named : World → Type 0
+  Named w = ((c : Command) → Includes (flat_map commands_on w.stack) c → NamesTexts (length script.names) c) × WorldHasTexts (length script.names) w
 
-  -- the next step of commands
-  module _ (below : List Activity) (v : World) (h : WorldHasTexts (length script.names) v) (events : List Event) (after : World) where
-    top_level_prints : (commands : List Command) (d : Option ℕ) → ((c : Command) → Includes commands c → NamesTexts (length script.names) c) → TopLevelStep script (with_stack (TopLevel commands ∷ below) v) d commands below events after → Prints script.names events after
-    top_level_prints commands (Some g) named step = yielded script.names _ events after step (silent script.names _ h)
-    top_level_prints [] None named step = yielded script.names _ events after step (says script.names End _ tt h)
-    top_level_prints (command ∷ commands) None named step = command_prints (with_stack (TopLevel commands ∷ below) v) h command (named command (inl refl)) events after step
-
-    in_frame_prints : (f : Frame) (command : Command) (commands : List Command) (d : Option ℕ) → NamesTexts (length script.names) command → CommandInFrame script (with_stack (Framed f ∷ below) v) d f command commands below events after → Prints script.names events after
-    in_frame_prints f command commands (Some g) named step = yielded script.names _ events after step (silent script.names _ h)
-    in_frame_prints f command commands None named step = command_prints (with_stack (Framed (record f { commands = commands }) ∷ below) v) h command named events after step
-
-    framed_prints : (f : Frame) (commands : List Command) → ((c : Command) → Includes commands c → NamesTexts (length script.names) c) → FrameStep script (with_stack (Framed f ∷ below) v) f commands below events after → Prints script.names events after
-    framed_prints f [] named step = yielded script.names _ events after step (frame_end_prints script.names f (with_stack below v) h)
-    framed_prints f (command ∷ commands) named step = in_frame_prints f command commands (due (with_stack (Framed f ∷ below) v)) (named command (inl refl)) step
-
-  -- any step
-  step_prints : (v : World) (stack : List Activity) (events : List Event) (after : World) → StepOf script (with_stack stack v) stack events after → ((c : Command) → Includes (flat_map commands_on stack) c → NamesTexts (length script.names) c) → WorldHasTexts (length script.names) v → Prints script.names events after
-  step_prints v [] events after step named h = absurd step
-  step_prints v (TopLevel commands ∷ below) events after step named h = top_level_prints below v h events after commands (due (with_stack (TopLevel commands ∷ below) v)) (λ c m. named c (Includes-append_left commands (flat_map commands_on below) c m)) step
-  step_prints v (Framed f ∷ below) events after step named h = framed_prints below v h events after f f.commands (λ c m. named c (Includes-append_left f.commands (flat_map commands_on below) c m)) step
-  step_prints v (Releasing references ∷ below) events after step named h = yielded script.names _ events after step (released_prints script.names references below (with_stack (Releasing references ∷ below) v) h)
-  step_prints v (Dying d ∷ below) events after step named h = yielded script.names _ events after step (dying_prints script.names script d.object below v h d.phase)
-  step_prints v (Collecting c ∷ below) events after step named h = phase_prints script.names script c below v h c.phase events after step
+  steps_print : Steps script Named (λ w. Prints script.names)
+  steps_print = record {
+    starts_due = λ a below v ha g e k. silent script.names _ k.1;
+    ends = λ below v k. says script.names End _ tt k.1;
+    commands = λ command a b below v takes hb k. command_prints (on a below v) command b below v k.1 (taken_names command a b below takes k.0);
+    frame_ends = λ f below v left k. frame_end_prints script.names f (with_stack below v) k.1;
+    releases = λ references below v k. released_prints script.names references below (on (Releasing references) below v) k.1;
+    dies = λ d below v k. dying_prints script.names script d.object below v k.1 d.phase;
+    collects = λ c below v events after step k. phase_prints script.names script c below v k.1 c.phase events after step;
+  }
 
   run_prints : (w : World) (steps : List StepTaken) → Run script w steps → IsAllOfScript script w → WorldHasTexts (length script.names) w → (event : Event) → Includes (events_of steps) event → IsPrintable script.names event
   run_prints w [] run origin h event m = absurd m
   run_prints w (step ∷ steps) run origin h event m =
-      let p = step_prints w w.stack step.events step.world run.0.step (λ c k. commands_name_texts script known c (origin.commands c k)) h in
+      let p = any_step script Named (λ w. Prints script.names) steps_print w step.events step.world run.0 (λ c k. commands_name_texts script known c (origin.commands c k), h) in
       either (Includes-append_cases step.events (events_of steps) event m) (p.lines event) (run_prints step.world steps run.1 (step_origin script w step.events step.world run.0 origin) p.known event)
 
 opening_texts : (script : Script) (budget : ℕ) → WorldHasTexts (length script.names) (opening script budget)
