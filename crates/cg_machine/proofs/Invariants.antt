@@ -136,11 +136,17 @@ pub record Invariant (script : Script) (budget : ℕ) (Known P : World → Type 
   pub opens : P (opening script budget)
   pub keeps : Steps script (λ w. Known w × P w) (λ w events after. P after)
 
-goes_on : (script : Script) (Known P : World → Type 0) → Steps script (λ w. Known w × P w) (λ w events after. P after) → (w : World) (steps : List StepTaken) → Run script w steps → ((front : List StepTaken) → Run script w front → Known (last_world w front)) → P w → P (last_world w steps)
+goes_on : (script : Script) (Known P : World → Type 0) → ((w : World) (events : List Event) (after : World) → Step script w events after → Known w → P w → P after)
+    → (w : World) (steps : List StepTaken) → Run script w steps → ((front : List StepTaken) → Run script w front → Known (last_world w front)) → P w → P (last_world w steps)
 goes_on script Known P keeps w [] run known p = p
-goes_on script Known P keeps w (step ∷ steps) run known p = goes_on script Known P keeps step.world steps run.1
-    (λ front r. known (step ∷ front) (run.0, r)) (any_step script (λ u. Known u × P u) (λ u events after. P after) keeps w step.events step.world run.0 (known [] tt, p))
+goes_on script Known P keeps w (step ∷ steps) run known p = goes_on script Known P keeps step.world steps run.1 (λ front r. known (step ∷ front) (run.0, r)) (keeps w step.events step.world run.0 (known [] tt) p)
 
 -- So each world of each run has it.
 pub by_runs : (script : Script) (budget : ℕ) (Known P : World → Type 0) → Invariant script budget Known P → InEachWorld script budget Known → InEachWorld script budget P
-by_runs script budget Known P i known steps run = goes_on script Known P i.keeps (opening script budget) steps run known i.opens
+by_runs script budget Known P i known steps run = goes_on script Known P (λ w events after step k p. any_step script (λ u. Known u × P u) (λ u events after. P after) i.keeps w events after step (k, p)) (opening script budget) steps run known i.opens
+
+-- What a law on steps says of the step may be used too.
+pub by_runs_and_steps : (script : Script) (budget : ℕ) (Known P : World → Type 0) (Also : World → List Event → World → Type 0) → P (opening script budget) → Steps script (λ w. Known w × P w) (λ w events after. Also w events after → P after)
+    → ((w : World) (events : List Event) (after : World) → Step script w events after → Known w → P w → Also w events after) → InEachWorld script budget Known → InEachWorld script budget P
+by_runs_and_steps script budget Known P Also opens keeps also known steps run =
+    goes_on script Known P (λ w events after step k p. any_step script (λ u. Known u × P u) (λ u events after. Also u events after → P after) keeps w events after step (k, p) (also w events after step k p)) (opening script budget) steps run known opens

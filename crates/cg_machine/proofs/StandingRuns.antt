@@ -12,7 +12,7 @@ use Rattle.cg_machine.specs.declared.event.FrameSort.{FrameSort}
 use Rattle.cg_machine.specs.declared.event.FrameSort.TheVariants.{Del, Legacy, Callback, Call}
 use Rattle.cg_machine.specs.World.{World, Activity, TopLevel, Framed, Releasing, Dying, Collecting, Frame, Death, opening, push, with_stack}
 use Rattle.cg_machine.specs.Holdings.{holds, is_collecting}
-use Rattle.cg_machine.specs.Frame.{procedure_of}
+use Rattle.cg_machine.specs.Frame.{procedure_of, start_frame}
 use Rattle.cg_machine.specs.Effects.{Effect, Changes, Calls, Collects, Quits}
 use Rattle.cg_machine.specs.Commands.{effect, stopped_frame, without_commands, new_collection, DoesEffect}
 use Rattle.cg_machine.specs.Due.{due}
@@ -23,77 +23,23 @@ use Rattle.cg_machine.specs.Locals.{LocalsLive}
 use Rattle.cg_machine.specs.Newest.{DeathsClearNewestFirst}
 use Rattle.cg_machine.proofs.Serials.{Rises}
 use Rattle.cg_machine.proofs.Sound.{Sound, opening_sound}
-use Rattle.cg_machine.proofs.Number.{step_falls}
+use Rattle.cg_machine.proofs.Ending.{sound_after}
 use Rattle.cg_machine.proofs.CommandLaws.{Each, LeavesStack}
-use Rattle.cg_machine.proofs.ShapeLaws.{effect_leaves}
-use Rattle.cg_machine.proofs.Growth.{GrowsBy, effect_grows}
+use Rattle.cg_machine.proofs.ShapeLaws.{changes_leave}
+use Rattle.cg_machine.proofs.Invariants.{Takes, FromTop, FromFrame, emptied, on, CommandSteps, Steps, InEachWorld, by_runs_and_steps}
 use Rattle.cg_machine.proofs.Lookups.{same_object}
 use Rattle.cg_machine.proofs.Unheld.{IsStack, Calm}
 use Rattle.cg_machine.proofs.DyingOrderly.{HasOrder}
-use Rattle.cg_machine.proofs.RunsCalm.{HasCommands, no_death, step_calm, opening_calm}
-use Rattle.cg_machine.proofs.RunsOrderly.{step_orderly_on, opening_orderly, worlds_orderly, orderly_after}
+use Rattle.cg_machine.proofs.RunsCalm.{HasCommands, no_death, calm_after, opening_calm}
+use Rattle.cg_machine.proofs.RunsOrderly.{opening_orderly, worlds_orderly, orderly_after}
 use Rattle.cg_machine.proofs.LeftRuns.{LeavesUnder, step_leaves_on, leaves_below}
 use Rattle.cg_machine.proofs.Standing.{AreFunctions, KnowsFunction, ClearsInOrder, IsKnown, AreKnown, IsAllKnown, function_lives, below_kept, top_kept}
 use Rattle.cg_machine.proofs.StandingSteps.{Stays, either_stays, starts_known, frame_end_known, released_known, dying_known, phase_known}
-
--- A command is done.
-module _ (script : Script) (a : Activity) (below : List Activity) (v : World) (ha : HasCommands a) (rises : Rises 1 v.next_serial v.objects) where
-  abbrev now : World
-  now = with_stack (a ∷ below) v
-
-  to : (after next : World) → after ≡ next → Stays (a ∷ below) next → Stays (a ∷ below) after
-  to after next e k = subst (Stays (a ∷ below)) (sym e) k
-
-  stopped : (top : Activity) → HasCommands top → Stays (top ∷ below) (with_stack (stopped_frame (top ∷ below)) v)
-  stopped (TopLevel commands) k = λ r. r
-  stopped (Framed f) k = λ r. r
-  stopped top k = absurd k
-
-  quits : (top : Activity) → HasCommands top → Stays (top ∷ below) (with_stack (without_commands (top ∷ below)) v)
-  quits (TopLevel commands) k = λ r. r
-  quits (Framed f) k = λ r. r
-  quits top k = absurd k
-
-  functions : (f : ℕ) → HasFunction v.objects f → AreFunctions v.objects f
-  functions f z x m e = let same : x ≡ z.0 = same_object 1 v.next_serial v.objects x z.0 rises m z.1 (e ∙ sym z.2) in ap is_function same ∙ z.3
-
-  effect_known : (r : Result Effect ℕ) → Each (LeavesStack now) r → Each (GrowsBy now) r → (events : List Event) (after : World) → DoesEffect script now r events after → Stays (a ∷ below) after
-  effect_known (Err refusal) l g events after step = to after _ step.1 (stopped a ha)
-  effect_known (Ok (Changes wants_memory lines given_up next)) l g events after (inl step) = to after _ step.1 (λ r. (tt, subst (AreKnown next.objects) (sym l.stack) r))
-  effect_known (Ok (Changes wants_memory lines given_up next)) l g events after (inr step) = to after _ step.1.1 (stopped a ha)
-  effect_known (Ok (Calls f)) l g events after step = to after _ step.1 (starts_known script (record { sort = Call; proc = procedure_of now f; subject = f; func = Some f }) now (a ∷ below) (refl, functions f g) (λ r. r))
-  effect_known (Ok (Collects g)) l grows events after step = to after _ step.1 (either_stays (a ∷ below) (is_collecting now) (Collected 0 ∷ [], now) ([], push (new_collection g true now) now) (λ r. r) (λ r. (tt, r)))
-  effect_known (Ok Quits) l g events after step = to after _ step.1 (quits a ha)
-
-  pub done_known : (command : Command) (events : List Event) (after : World) → DoesEffect script now (effect now command) events after → Stays (a ∷ below) after
-  done_known command events after step = effect_known (effect now command) (effect_leaves now command) (effect_grows now rises command) events after step
-
-module _ (script : Script) (below : List Activity) (v : World) (rises : Rises 1 v.next_serial v.objects) (events : List Event) (after : World) where
-  top_level_known : (commands : List Command) (d : Option ℕ) → TopLevelStep script (with_stack (TopLevel commands ∷ below) v) d commands below events after → Stays (TopLevel commands ∷ below) after
-  top_level_known commands (Some g) step = to script (TopLevel commands) below v tt rises after _ step.1 (λ r. (tt, r))
-  top_level_known [] None step = to script (TopLevel []) below v tt rises after _ step.1 (λ r. r)
-  top_level_known (command ∷ commands) None step = done_known script (TopLevel commands) below v tt rises command events after step
-
-  in_frame_known : (f : Frame) (command : Command) (commands : List Command) (d : Option ℕ) → CommandInFrame script (with_stack (Framed f ∷ below) v) d f command commands below events after → Stays (Framed f ∷ below) after
-  in_frame_known f command commands (Some g) step = to script (Framed f) below v tt rises after _ step.1 (λ r. (tt, r))
-  in_frame_known f command commands None step = done_known script (Framed (record f { commands = commands })) below v tt rises command events after step
-
-  framed_known : (f : Frame) (commands : List Command) → FrameStep script (with_stack (Framed f ∷ below) v) f commands below events after → Stays (Framed f ∷ below) after
-  framed_known f [] step = λ r. subst (Stays below) (sym step.1) (frame_end_known f below v) r.1
-  framed_known f (command ∷ commands) step = in_frame_known f command commands (due (with_stack (Framed f ∷ below) v)) step
 
 -- what a step keeps: what is below, and the commands on top
 abbrev Kept : List Object → List Activity → Type 0
 Kept objects [] = Unit {0}
 Kept objects (a ∷ below) = (HasCommands a → IsKnown objects a below) × AreKnown objects below
-
-step_known_on : (script : Script) (v : World) (stack : List Activity) (events : List Event) (after : World) → Rises 1 v.next_serial v.objects → StepOf script (with_stack stack v) stack events after → HasOrder (with_stack stack v) → AreKnown v.objects stack → Kept after.objects stack → IsAllKnown after
-step_known_on script v [] events after rises step h k kept = absurd step
-step_known_on script v (TopLevel commands ∷ below) events after rises step h k kept = top_level_known script below v rises events after commands (due (with_stack (TopLevel commands ∷ below) v)) step (kept.0 tt, kept.1)
-step_known_on script v (Framed f ∷ below) events after rises step h k kept = framed_known script below v rises events after f f.commands step (kept.0 tt, kept.1)
-step_known_on script v (Releasing references ∷ below) events after rises step h k kept = subst (Stays below) (sym step.1) (released_known references below v) kept.1
-step_known_on script v (Dying d ∷ below) events after rises step h k kept = subst (Stays below) (sym step.1) (dying_known script d.object below v rises d.phase h k.0) kept.1
-step_known_on script v (Collecting c ∷ below) events after rises step h k kept = phase_known script c below v rises c.phase events after step h kept.1
 
 kept_on : (script : Script) (w : World) (stack : List Activity) (after : World) → w.stack ≡ stack → Rises 1 w.next_serial w.objects → IsStack script w stack → HasOrder w → LeavesUnder w stack after → AreKnown w.objects stack → Kept after.objects stack
 kept_on script w [] after top rises rest h l k = tt
@@ -101,24 +47,66 @@ kept_on script w (a ∷ below) after top rises rest h l k =
     let b = leaves_below script w a below after top rises rest.1 h l in
     (λ ha. top_kept script w a below after top rises h l b (no_death a ha) k.0, below_kept script w a below after top rises h l b rest.1 k.1)
 
-step_known : (script : Script) (w : World) (events : List Event) (after : World) → Step script w events after → Sound w → Calm script w → HasOrder w → IsAllKnown w → IsAllKnown after
-step_known script w events after step sound calm h k =
-    step_known_on script w w.stack events after sound.rises step.step h k (kept_on script w w.stack after refl sound.rises calm.stack h (step_leaves_on script w w.stack events after sound.rises step.step calm h) k)
+-- a command is taken from what stays so, and it may have none left
+taken : (command : Command) (a b : Activity) (below : List Activity) (objects : List Object) → Takes command a b → Kept objects (a ∷ below) → AreKnown objects (b ∷ below)
+taken command a b below objects (FromTop commands) k = (tt, k.1)
+taken command a b below objects (FromFrame f commands left) k = (k.0 tt, k.1)
 
-known_after : (script : Script) (w : World) (steps : List StepTaken) → Sound w → Calm script w → HasOrder w → IsAllKnown w → Run script w steps → IsAllKnown (last_world w steps)
-known_after script w [] sound calm h k run = k
-known_after script w (step ∷ steps) sound calm h k run = known_after script step.world steps
-    (step_falls script w step.events step.world run.0 sound).0
-    (step_calm script w step.events step.world run.0 sound calm)
-    (step_orderly_on script w w.stack step.events step.world sound.rises run.0.step calm h)
-    (step_known script w step.events step.world run.0 sound calm h k) run.1
+stopped : (a : Activity) (below : List Activity) (objects : List Object) → HasCommands a → AreKnown objects (a ∷ below) → AreKnown objects (emptied a ∷ below)
+stopped (TopLevel commands) below objects ha k = k
+stopped (Framed f) below objects ha k = k
+stopped a below objects ha k = absurd ha
+
+functions : (v : World) (f : Object) → Rises 1 v.next_serial v.objects → Includes v.objects f → is_function f ≡ true → AreFunctions v.objects f.serial
+functions v f rises m passes x k e = ap is_function (same_object 1 v.next_serial v.objects x f rises k m e) ∙ passes
+
+abbrev Keeps : World → List Event → World → Type 0
+Keeps w events after = Kept after.objects w.stack → IsAllKnown after
+
+module _ (script : Script) where
+  abbrev Holds : World → Type 0
+  Holds w = (Sound w × Calm script w × HasOrder w) × IsAllKnown w
+
+  command_known : (command : Command) (a b : Activity) (below : List Activity) (v : World) → Takes command a b → HasCommands b → Rises 1 v.next_serial v.objects → CommandSteps script Keeps (on a below v) command (on b below v) b below
+  command_known command a b below v takes hb rises = record {
+    stays = λ lines answers kept. taken command a b below v.objects takes kept;
+    stops = λ lines answers kept. stopped b below v.objects hb (taken command a b below v.objects takes kept);
+    changes = λ wants_memory lines given_up after shape kept. (tt, subst (AreKnown after.objects) (sym (changes_leave (on b below v) command wants_memory lines given_up after shape).stack) (taken command a b below after.objects takes kept));
+    calls = λ f h kept. starts_known script (record { sort = Call; proc = procedure_of (on b below v) f.serial; subject = f.serial; func = Some f.serial }) (on b below v) (b ∷ below) (refl, functions v f rises h.member h.passes) (λ r. r)
+        (taken command a b below (start_frame script (record { sort = Call; proc = procedure_of (on b below v) f.serial; subject = f.serial; func = Some f.serial }) (on b below v)).1.objects takes kept);
+    asks = λ g e kept. (tt, taken command a b below v.objects takes kept);
+  }
+
+  keeps_known : Steps script Holds Keeps
+  keeps_known = record {
+    starts_due = λ a below v ha g e k kept. (tt, (kept.0 ha, kept.1));
+    ends = λ below v k kept. (tt, kept.1);
+    commands = λ command a b below v takes hb k. command_known command a b below v takes hb k.0.0.rises;
+    frame_ends = λ f below v left k kept. frame_end_known f below v kept.1;
+    releases = λ references below v k kept. released_known references below v kept.1;
+    dies = λ d below v k kept. dying_known script d.object below v k.0.0.rises d.phase k.0.2 k.1.0 kept.1;
+    collects = λ c below v events after step k kept. phase_known script c below v k.0.0.rises c.phase events after step k.0.2 kept.1;
+  }
+
+  step_kept : (w : World) (events : List Event) (after : World) → Step script w events after → Sound w × Calm script w × HasOrder w → IsAllKnown w → Kept after.objects w.stack
+  step_kept w events after step k known = kept_on script w w.stack after refl k.0.rises k.1.stack k.2 (step_leaves_on script w w.stack events after k.0.rises step.step k.1 k.2) known
+
+  lawful : (budget : ℕ) → InEachWorld script budget (λ w. Sound w × Calm script w × HasOrder w)
+  lawful budget steps run = (
+    sound_after script (opening script budget) steps (opening_sound script budget) run,
+    calm_after script (opening script budget) steps (opening_sound script budget) (opening_calm script budget) run,
+    (orderly_after script (opening script budget) steps (opening_sound script budget) (opening_calm script budget) (opening_orderly script budget) run).1,
+  )
+
+  all_known : (budget : ℕ) → InEachWorld script budget IsAllKnown
+  all_known budget = by_runs_and_steps script budget (λ w. Sound w × Calm script w × HasOrder w) IsAllKnown (λ w events after. Kept after.objects w.stack) (tt, tt) keeps_known step_kept (lawful budget)
 
 module _ (script : Script) (budget : ℕ) (steps : List StepTaken) (run : Run script (opening script budget) steps) where
   abbrev last : World
   last = last_world (opening script budget) steps
 
   known : IsAllKnown last
-  known = known_after script (opening script budget) steps (opening_sound script budget) (opening_calm script budget) (opening_orderly script budget) (tt, tt) run
+  known = all_known script budget steps run
 
   order : HasOrder last
   order = (orderly_after script (opening script budget) steps (opening_sound script budget) (opening_calm script budget) (opening_orderly script budget) run).1
