@@ -20,7 +20,7 @@ use Rattle.cg_machine.specs.Due.{due, due_generation, is_due}
 use Rattle.cg_machine.specs.Run.{StepTaken, StepOf, Run, TopLevelStep, CommandInFrame, FrameStep, last_world}
 use Rattle.cg_machine.proofs.CommandLaws.{Each, LeavesStack}
 use Rattle.cg_machine.proofs.ShapeLaws.{effect_leaves}
-use Rattle.cg_machine.proofs.RunsCalm.{HasCommands}
+use Rattle.cg_machine.proofs.Invariants.{HasCommands}
 use Rattle.cg_machine.proofs.Making.{left_on}
 use Rattle.cg_machine.proofs.MakingOfRuns.{few_serials}
 use Rattle.cg_machine.proofs.Measure.{is_first, is_starting}

@@ -28,7 +28,7 @@ use Rattle.cg_machine.specs.Run.{StepOf, TopLevelStep, CommandInFrame, FrameStep
 use Rattle.cg_machine.proofs.CommandLaws.{Each, LeavesStack}
 use Rattle.cg_machine.proofs.ShapeLaws.{effect_leaves}
 use Rattle.cg_machine.proofs.Unheld.{Calm}
-use Rattle.cg_machine.proofs.RunsCalm.{HasCommands}
+use Rattle.cg_machine.proofs.Invariants.{HasCommands}
 use Rattle.cg_laws.proofs.GarbageKept.{HasGarbageList, KeepsList, same_list, list_kept, other_kept, untracked_kept, dead_kept, lost_kept, without_kept}
 use Rattle.cg_laws.proofs.GarbageCommands.{IsKept, effect_kept}
 

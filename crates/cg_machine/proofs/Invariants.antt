@@ -19,8 +19,13 @@ use Rattle.cg_machine.specs.Effects.{Effect, Changes, Calls, Collects, Quits}
 use Rattle.cg_machine.specs.Commands.{effect, refused, without_commands, new_collection, DoesEffect}
 use Rattle.cg_machine.specs.Run.{StepTaken, Step, StepOf, Run, IsRun, TopLevelStep, CommandInFrame, FrameStep, last_world, world_after}
 use Rattle.cg_machine.proofs.CommandLaws.{Each}
-use Rattle.cg_machine.proofs.RunsCalm.{HasCommands}
 use Rattle.cg_machine.proofs.Shapes.{Shape, StartsFrame, HasObject, effect_shaped}
+
+-- what has commands
+abbrev pub HasCommands : Activity → Type 0
+HasCommands (TopLevel commands) = Unit {0}
+HasCommands (Framed f) = Unit {0}
+HasCommands a = ⊥
 
 -- an activity on others
 abbrev pub on : Activity → List Activity → World → World

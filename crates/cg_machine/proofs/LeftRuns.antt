@@ -27,7 +27,8 @@ use Rattle.cg_machine.proofs.Unheld.{Rests, AreResting, IsStack, Calm, turned_fr
 use Rattle.cg_machine.proofs.CommandCalm.{IsMild, Comes, was_there, is_new, effect_mild}
 use Rattle.cg_machine.proofs.Orderly.{waits_held}
 use Rattle.cg_machine.proofs.DyingOrderly.{HasOrder}
-use Rattle.cg_machine.proofs.RunsCalm.{HasCommands, turned, opening_calm}
+use Rattle.cg_machine.proofs.RunsCalm.{turned, opening_calm}
+use Rattle.cg_machine.proofs.Invariants.{HasCommands}
 use Rattle.cg_machine.proofs.RunsOrderly.{turned_orderly, opening_orderly, orderly_after}
 use Rattle.cg_machine.proofs.Left.{MayChange, ComesFrom, IsCollectionOnTop, from_refl, LeavesIt, leaves_from}
 use Rattle.cg_machine.proofs.LeftDeaths.{starts_leaves, frame_end_leaves, released_leaves, dying_leaves}

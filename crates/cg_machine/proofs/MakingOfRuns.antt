@@ -7,9 +7,8 @@ use Rattle.cg_machine.specs.World.{World, Activity, TopLevel, Framed, Releasing}
 use Rattle.cg_machine.specs.Program.{body_of, commands_of}
 use Rattle.cg_machine.specs.Frame.{procedure_of}
 use Rattle.cg_machine.specs.Made.{SerialsAreFew}
-use Rattle.cg_machine.proofs.RunsCalm.{HasCommands}
 use Rattle.cg_machine.proofs.ShapeLaws.{changes_leave}
-use Rattle.cg_machine.proofs.Invariants.{Takes, FromTop, FromFrame, emptied, on, CommandSteps, Steps, by_runs}
+use Rattle.cg_machine.proofs.Invariants.{HasCommands, Takes, FromTop, FromFrame, emptied, on, CommandSteps, Steps, by_runs}
 use Rattle.cg_machine.proofs.Making.{Few, IsFew, starts_makes, frame_end_makes, released_makes, dying_makes, phase_makes}
 
 -- A command is taken, for which an object may be made.

@@ -14,10 +14,9 @@ use Rattle.cg_machine.specs.Frame.{procedure_of}
 use Rattle.cg_machine.specs.Effects.{Changes}
 use Rattle.cg_machine.specs.Run.{Step}
 use Rattle.cg_machine.specs.Origins.{all_commands, commands_on, IsOfScript, WorldsHaveOrigins}
-use Rattle.cg_machine.proofs.RunsCalm.{HasCommands}
 use Rattle.cg_machine.proofs.Shapes.{IsMadeBy}
 use Rattle.cg_machine.proofs.ShapeLaws.{changes_leave, shape_comes}
-use Rattle.cg_machine.proofs.Invariants.{Takes, FromTop, FromFrame, emptied, on, CommandSteps, Steps, Invariant, any_step, by_runs}
+use Rattle.cg_machine.proofs.Invariants.{HasCommands, Takes, FromTop, FromFrame, emptied, on, CommandSteps, Steps, Invariant, any_step, by_runs}
 use Rattle.cg_machine.proofs.Origins.{AreOfScript, IsAllOfScript, later_of_script, starts_origin, frame_end_origin, released_origin, popped_origin, dying_origin, phase_origin}
 
 module _ (script : Script) where

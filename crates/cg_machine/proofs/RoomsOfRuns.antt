@@ -7,9 +7,8 @@ use Rattle.cg_machine.specs.World.{World, Activity, TopLevel, Framed, Releasing}
 use Rattle.cg_machine.specs.Frame.{procedure_of}
 use Rattle.cg_machine.specs.Effects.{Changes}
 use Rattle.cg_machine.specs.Bounds.{HasNoRelease}
-use Rattle.cg_machine.proofs.RunsCalm.{HasCommands}
 use Rattle.cg_machine.proofs.ShapeLaws.{changes_leave, shape_gives_few}
-use Rattle.cg_machine.proofs.Invariants.{Takes, FromTop, FromFrame, emptied, on, CommandSteps, Steps, InEachWorld, by_runs}
+use Rattle.cg_machine.proofs.Invariants.{HasCommands, Takes, FromTop, FromFrame, emptied, on, CommandSteps, Steps, InEachWorld, by_runs}
 use Rattle.cg_machine.proofs.Rooms.{Room, HasRoom, starts_room, frame_end_room, released_room, dying_room, phase_room}
 
 -- what has commands on top has no release there

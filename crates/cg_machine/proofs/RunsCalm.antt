@@ -21,20 +21,17 @@ use Rattle.cg_machine.proofs.Serials.{Rises}
 use Rattle.cg_machine.proofs.Sound.{Sound, opening_sound}
 use Rattle.cg_machine.proofs.Number.{step_falls}
 use Rattle.cg_machine.proofs.CommandLaws.{Each, LeavesStack, Leaves}
-use Rattle.cg_machine.proofs.ShapeLaws.{effect_leaves}
+use Rattle.cg_machine.proofs.ShapeLaws.{changes_leave}
+use Rattle.cg_machine.proofs.Shapes.{StartsFrame}
 use Rattle.cg_machine.proofs.Forgotten.{Forgotten, alters_refl, still_forgotten}
 use Rattle.cg_machine.proofs.Unheld.{IsOver, AreOver, AreResting, IsOnTop, IsStack, Stands, Calm, Keeps, stands, resting_after, same_objects, pushed_free, turned_free, held_by_member}
 use Rattle.cg_machine.proofs.Releasing.{none_holds, unheld_degree, starts_calm, released_calm, frame_end_calm}
 use Rattle.cg_machine.proofs.DyingCalm.{dying_calm}
 use Rattle.cg_machine.proofs.CollectCalm.{phase_calm}
-use Rattle.cg_machine.proofs.CommandCalm.{Mild, IsMild, effect_mild}
+use Rattle.cg_machine.proofs.Invariants.{HasCommands, Takes, FromTop, FromFrame, emptied, on, CommandSteps, Steps, any_step}
+use Rattle.cg_machine.proofs.CommandCalm.{Mild, IsMild, shape_mild}
 
 -- commands stand on top, and may get fewer
-abbrev pub HasCommands : Activity → Type 0
-HasCommands (TopLevel commands) = Unit {0}
-HasCommands (Framed f) = Unit {0}
-HasCommands a = ⊥
-
 pub no_death : (a : Activity) → HasCommands a → (d : Death) → a ≢ Dying d
 no_death (TopLevel commands) h d e = cc
 no_death (Framed f) h d e = cc
@@ -70,99 +67,64 @@ module _ (script : Script) (below : List Activity) (v : World) where
     );
   }
 
-  stopped : (a : Activity) → HasCommands a → Calm script (with_stack (a ∷ below) v) → Calm script (with_stack (stopped_frame (a ∷ below)) v)
-  stopped (TopLevel commands) h c = c
-  stopped (Framed f) h c = turned (Framed f) (Framed (record f { commands = [] })) tt (λ k. k) (λ o k. k) c
-  stopped a h c = absurd h
+  emptied_calm : (a : Activity) → HasCommands a → Calm script (on a below v) → Calm script (on (emptied a) below v)
+  emptied_calm (TopLevel commands) h c = turned (TopLevel commands) (TopLevel []) tt (λ k. k) (λ o k. k) c
+  emptied_calm (Framed f) h c = turned (Framed f) (Framed (record f { commands = [] })) tt (λ k. k) (λ o k. k) c
+  emptied_calm a h c = absurd h
 
-  quits : (a : Activity) → HasCommands a → Calm script (with_stack (a ∷ below) v) → Calm script (with_stack (without_commands (a ∷ below)) v)
-  quits (TopLevel commands) h c = turned (TopLevel commands) (TopLevel []) tt (λ k. k) (λ o k. k) c
-  quits (Framed f) h c = turned (Framed f) (Framed (record f { commands = [] })) tt (λ k. k) (λ o k. k) c
-  quits a h c = absurd h
+  pub taken_calm : (command : Command) (a b : Activity) → Takes command a b → Calm script (on a below v) → Calm script (on b below v)
+  taken_calm command a b (FromTop commands) c = turned (TopLevel (command ∷ commands)) (TopLevel commands) tt (λ k. k) (λ o k. k) c
+  taken_calm command a b (FromFrame f commands left) c = turned (Framed f) (Framed (record f { commands = commands })) tt (λ k. k) (λ o k. k) c
 
--- A command is done in u.
-module _ (script : Script) (a : Activity) (below : List Activity) (v : World) (h : HasCommands a) (rises : Rises 1 v.next_serial v.objects) (c : Calm script (with_stack (a ∷ below) v)) where
-  abbrev now : World
-  now = with_stack (a ∷ below) v
+-- A command is done.
+module _ (script : Script) (a : Activity) (below : List Activity) (v : World) (h : HasCommands a) (rises : Rises 1 v.next_serial v.objects) (c : Calm script (on a below v)) where
+  resting : AreResting script (on a below v) (a ∷ below)
+  resting = all_rest script (on a below v) a below h c.stack.1
 
-  resting : AreResting script now (a ∷ below)
-  resting = all_rest script now a below h c.stack.1
-
-  to : (after next : World) → after ≡ next → Calm script next → Calm script after
-  to after next e k = subst (Calm script) (sym e) k
-
-  changes : (after : World) (given_up : List ℕ) → Leaves now after → Mild script now rises c.over after given_up → Calm script (push (Releasing given_up) after)
+  changes : (after : World) (given_up : List ℕ) → Leaves (on a below v) after → Mild script (on a below v) rises c.over after given_up → Calm script (push (Releasing given_up) after)
   changes after given_up l m = record {
     referred = m.referred c.referred;
     over = (tt, subst AreOver (sym l.stack) c.over);
-    stack = (tt, subst (AreResting script pushed) (sym l.stack) (resting_after script now pushed (a ∷ below) (λ d k. kept d.object) resting));
+    stack = (tt, subst (AreResting script pushed) (sym l.stack) (resting_after script (on a below v) pushed (a ∷ below) (λ d k. kept d.object) resting));
   }
     where
       pushed : World
       pushed = push (Releasing given_up) after
 
-      kept : (o : ℕ) → Keeps script now pushed o
+      kept : (o : ℕ) → Keeps script (on a below v) pushed o
       kept o = record {
         mortal = m.mortal o;
         finalizers = m.finalizers o;
         forgotten = λ l f. still_forgotten after pushed o refl (alters_refl after.objects) (λ q. q) (pushed_free (Releasing given_up) after.stack o (m.given o f)) (m.forgotten o (inr l) f);
       }
 
-  calls : (f : ℕ) → ((o : ℕ) → Forgotten now o → f ≢ o) → Calm script (start_frame script (record { sort = CallFrame; proc = procedure_of now f; subject = f; func = Some f }) now).1
-  calls f known = starts_calm script (record { sort = CallFrame; proc = procedure_of now f; subject = f; func = Some f }) now c.referred c.over resting tt (λ o l g k. either k (known o g) (λ n. n))
+  command_calm : (w : World) (command : Command) → CommandSteps script (λ w events. Calm script) w command (on a below v) a below
+  command_calm w command = record {
+    stays = λ lines answers. c;
+    stops = λ lines answers. emptied_calm script below v a h c;
+    changes = λ wants_memory lines given_up after shape. changes after given_up (changes_leave (on a below v) command wants_memory lines given_up after shape) (shape_mild script (on a below v) rises c.over command (Changes wants_memory lines given_up after) shape);
+    calls = λ f k. starts_calm script (record { sort = CallFrame; proc = procedure_of (on a below v) f.serial; subject = f.serial; func = Some f.serial }) (on a below v) c.referred c.over resting tt
+        (λ o l g i. either i (shape_mild script (on a below v) rises c.over command (Calls f.serial) (StartsFrame f k) o g) (λ n. n));
+    asks = λ g e. collects script below v a g true h c;
+  }
 
-  asks : (g : ℕ) → (b : Bool) → (let t : Transition = if b then (Collected 0 ∷ [], now) else ([], push (new_collection g true now) now) in Calm script t.1)
-  asks g true = c
-  asks g false = collects script below v a g true h c
-
-  effect_calm : (r : Result Effect ℕ) → Each (LeavesStack now) r → Each (IsMild script now rises c.over) r → (events : List Event) (after : World) → DoesEffect script now r events after → Calm script after
-  effect_calm (Err refusal) l m events after step = to after _ step.1 (stopped script below v a h c)
-  effect_calm (Ok (Changes wants_memory lines given_up next)) l m events after (inl step) = to after _ step.1 (changes next given_up l m)
-  effect_calm (Ok (Changes wants_memory lines given_up next)) l m events after (inr step) = to after _ step.1.1 (stopped script below v a h c)
-  effect_calm (Ok (Calls f)) l m events after step = to after _ step.1 (calls f m)
-  effect_calm (Ok (Collects g)) l m events after step = to after _ step.1 (asks g (is_collecting now))
-  effect_calm (Ok Quits) l m events after step = to after _ step.1 (quits script below v a h c)
-
-  command_calm : (command : Command) (events : List Event) (after : World) → DoesEffect script now (effect now command) events after → Calm script after
-  command_calm command events after step = effect_calm (effect now command) (effect_leaves now command) (effect_mild script now rises c.over command) events after step
-
-module _ (script : Script) (below : List Activity) (v : World) (rises : Rises 1 v.next_serial v.objects) (events : List Event) (after : World) where
-  reach : (next : World) → after ≡ next → Calm script next → Calm script after
-  reach next e k = subst (Calm script) (sym e) k
-
-  top_level_calm : (commands : List Command) (d : Option ℕ) → TopLevelStep script (with_stack (TopLevel commands ∷ below) v) d commands below events after → Calm script (with_stack (TopLevel commands ∷ below) v) → Calm script after
-  top_level_calm commands (Some g) step c = reach _ step.1 (collects script below v (TopLevel commands) g false tt c)
-  top_level_calm [] None step c = reach _ step.1 (record {
-    referred = c.referred;
-    over = c.over;
-    stack = (tt, resting_after script now (record now { outcome = Ended }) below (λ d m. same_objects script now (record now { outcome = Ended }) d.object refl refl (λ k. k)) c.stack.1);
-  })
-    where
-      now : World
-      now = with_stack (TopLevel [] ∷ below) v
-  top_level_calm (command ∷ commands) None step c =
-      command_calm script (TopLevel commands) below v tt rises (turned script below v (TopLevel (command ∷ commands)) (TopLevel commands) tt (λ k. k) (λ o k. k) c) command events after step
-
-  in_frame_calm : (f : Frame) (command : Command) (commands : List Command) (d : Option ℕ) → CommandInFrame script (with_stack (Framed f ∷ below) v) d f command commands below events after → Calm script (with_stack (Framed f ∷ below) v) → Calm script after
-  in_frame_calm f command commands (Some g) step c = reach _ step.1 (collects script below v (Framed f) g false tt c)
-  in_frame_calm f command commands None step c =
-      command_calm script (Framed (record f { commands = commands })) below v tt rises (turned script below v (Framed f) (Framed (record f { commands = commands })) tt (λ k. k) (λ o k. k) c) command events after step
-
-  framed_calm : (f : Frame) (commands : List Command) → FrameStep script (with_stack (Framed f ∷ below) v) f commands below events after → Calm script (with_stack (Framed f ∷ below) v) → Calm script after
-  framed_calm f [] step c = reach _ step.1 (frame_end_calm script f below v c)
-  framed_calm f (command ∷ commands) step c = in_frame_calm f command commands (due (with_stack (Framed f ∷ below) v)) step c
-
--- any step
-step_calm_on : (script : Script) (v : World) (stack : List Activity) (events : List Event) (after : World) → Rises 1 v.next_serial v.objects → StepOf script (with_stack stack v) stack events after → Calm script (with_stack stack v) → Calm script after
-step_calm_on script v [] events after rises step c = absurd step
-step_calm_on script v (TopLevel commands ∷ below) events after rises step c = top_level_calm script below v rises events after commands (due (with_stack (TopLevel commands ∷ below) v)) step c
-step_calm_on script v (Framed f ∷ below) events after rises step c = framed_calm script below v rises events after f f.commands step c
-step_calm_on script v (Releasing references ∷ below) events after rises step c = subst (Calm script) (sym step.1) (released_calm script references below v c)
-step_calm_on script v (Dying d ∷ below) events after rises step c = subst (Calm script) (sym step.1) (dying_calm script d.object below v rises d.phase c)
-step_calm_on script v (Collecting g ∷ below) events after rises step c = phase_calm script g below v g.phase events after step c
+keeps_calm : (script : Script) → Steps script (λ w. Sound w × Calm script w) (λ w events. Calm script)
+keeps_calm script = record {
+  starts_due = λ a below v ha g e k. collects script below v a g false ha k.1;
+  ends = λ below v k. record {
+    referred = k.1.referred;
+    over = k.1.over;
+    stack = (tt, resting_after script (on (TopLevel []) below v) (record (on (TopLevel []) below v) { outcome = Ended }) below (λ d m. same_objects script (on (TopLevel []) below v) (record (on (TopLevel []) below v) { outcome = Ended }) d.object refl refl (λ i. i)) k.1.stack.1);
+  };
+  commands = λ command a b below v takes hb k. command_calm script b below v hb k.0.rises (taken_calm script below v command a b takes k.1) (on a below v) command;
+  frame_ends = λ f below v left k. frame_end_calm script f below v k.1;
+  releases = λ references below v k. released_calm script references below v k.1;
+  dies = λ d below v k. dying_calm script d.object below v k.0.rises d.phase k.1;
+  collects = λ c below v events after step k. phase_calm script c below v c.phase events after step k.1;
+}
 
 pub step_calm : (script : Script) (w : World) (events : List Event) (after : World) → Step script w events after → Sound w → Calm script w → Calm script after
-step_calm script w events after step sound c = step_calm_on script w w.stack events after sound.rises step.step c
+step_calm script w events after step sound c = any_step script (λ u. Sound u × Calm script u) (λ u events. Calm script) (keeps_calm script) w events after step (sound, c)
 
 pub opening_calm : (script : Script) (budget : ℕ) → Calm script (opening script budget)
 opening_calm script budget = record {

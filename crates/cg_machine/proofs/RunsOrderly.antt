@@ -35,7 +35,8 @@ use Rattle.cg_machine.proofs.CommandCalm.{Mild, IsMild, Comes, was_there, is_new
 use Rattle.cg_machine.proofs.Orderly.{IsClearing, Orderly, push_orderly, turns_fewer, waits_held}
 use Rattle.cg_machine.proofs.DyingOrderly.{HasOrder, starts_orderly, gives_up_orderly, frame_end_orderly, released_orderly, dying_orderly}
 use Rattle.cg_machine.proofs.CollectOrderly.{phase_orderly}
-use Rattle.cg_machine.proofs.RunsCalm.{HasCommands, no_death, turned, step_calm, opening_calm, death_stands}
+use Rattle.cg_machine.proofs.RunsCalm.{no_death, turned, step_calm, opening_calm, death_stands}
+use Rattle.cg_machine.proofs.Invariants.{HasCommands}
 
 -- what does not live is forgotten
 pub gone_forgotten : (w : World) → HasOrder w → AreReferred w.objects → (o : ℕ) → ¬ Includes (serials w.objects) o → Forgotten w o

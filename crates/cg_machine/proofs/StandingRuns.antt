@@ -26,11 +26,11 @@ use Rattle.cg_machine.proofs.Sound.{Sound, opening_sound}
 use Rattle.cg_machine.proofs.Ending.{sound_after}
 use Rattle.cg_machine.proofs.CommandLaws.{Each, LeavesStack}
 use Rattle.cg_machine.proofs.ShapeLaws.{changes_leave}
-use Rattle.cg_machine.proofs.Invariants.{Takes, FromTop, FromFrame, emptied, on, CommandSteps, Steps, InEachWorld, by_runs_and_steps}
+use Rattle.cg_machine.proofs.Invariants.{HasCommands, Takes, FromTop, FromFrame, emptied, on, CommandSteps, Steps, InEachWorld, by_runs_and_steps}
 use Rattle.cg_machine.proofs.Lookups.{same_object}
 use Rattle.cg_machine.proofs.Unheld.{IsStack, Calm}
 use Rattle.cg_machine.proofs.DyingOrderly.{HasOrder}
-use Rattle.cg_machine.proofs.RunsCalm.{HasCommands, no_death, calm_after, opening_calm}
+use Rattle.cg_machine.proofs.RunsCalm.{no_death, calm_after, opening_calm}
 use Rattle.cg_machine.proofs.RunsOrderly.{opening_orderly, worlds_orderly, orderly_after}
 use Rattle.cg_machine.proofs.LeftRuns.{LeavesUnder, step_leaves_on, leaves_below}
 use Rattle.cg_machine.proofs.Standing.{AreFunctions, KnowsFunction, ClearsInOrder, IsKnown, AreKnown, IsAllKnown, function_lives, below_kept, top_kept}
