@@ -21,15 +21,15 @@ use Rattle.cg_machine.proofs.Serials.{Rises}
 use Rattle.cg_machine.proofs.Sound.{Sound, opening_sound}
 use Rattle.cg_machine.proofs.Ending.{sound_after}
 use Rattle.cg_machine.proofs.CommandLaws.{Each, LeavesStack}
-use Rattle.cg_machine.proofs.ShapeLaws.{effect_leaves}
+use Rattle.cg_machine.proofs.ShapeLaws.{changes_leave}
 use Rattle.cg_machine.proofs.Forgotten.{Forgotten, alters_refl, still_forgotten, lives_within}
 use Rattle.cg_machine.proofs.Unheld.{Rests, AreResting, IsStack, Calm, turned_free}
-use Rattle.cg_machine.proofs.CommandCalm.{IsMild, Comes, was_there, is_new, effect_mild}
+use Rattle.cg_machine.proofs.CommandCalm.{IsMild, Comes, was_there, is_new, shape_mild}
 use Rattle.cg_machine.proofs.Orderly.{waits_held}
 use Rattle.cg_machine.proofs.DyingOrderly.{HasOrder}
-use Rattle.cg_machine.proofs.RunsCalm.{turned, opening_calm}
-use Rattle.cg_machine.proofs.Invariants.{HasCommands}
-use Rattle.cg_machine.proofs.RunsOrderly.{turned_orderly, opening_orderly, orderly_after}
+use Rattle.cg_machine.proofs.RunsCalm.{taken_calm, opening_calm}
+use Rattle.cg_machine.proofs.Invariants.{HasCommands, Takes, FromTop, FromFrame, emptied, on, CommandSteps, Steps, any_step}
+use Rattle.cg_machine.proofs.RunsOrderly.{taken_orderly, opening_orderly, orderly_after}
 use Rattle.cg_machine.proofs.Left.{MayChange, ComesFrom, IsCollectionOnTop, from_refl, LeavesIt, leaves_from}
 use Rattle.cg_machine.proofs.LeftDeaths.{starts_leaves, frame_end_leaves, released_leaves, dying_leaves}
 use Rattle.cg_machine.proofs.LeftCollections.{phase_leaves}
@@ -42,9 +42,6 @@ module _ (script : Script) (b a : Activity) (below : List Activity) (v : World) 
 
   abbrev u : World
   u = with_stack (a ∷ below) v
-
-  to : (after next : World) → after ≡ next → LeavesIt w below next → LeavesIt w below after
-  to after next e k = subst (LeavesIt w below) (sym e) k
 
   forgotten : (o : ℕ) → Forgotten w o → Forgotten u o
   forgotten o f = still_forgotten w u o refl (alters_refl v.objects) (λ q. q) (turned_free b a below o (held o)) f
@@ -63,67 +60,59 @@ module _ (script : Script) (b a : Activity) (below : List Activity) (v : World) 
   unchanged : (top : Activity) → LeavesIt w below (with_stack (top ∷ below) v)
   unchanged top = leaves_from w below (with_stack (top ∷ below) v) (top ∷ []) refl (from_refl w below v.objects)
 
-  stopped : (top : Activity) → HasCommands top → LeavesIt w below (with_stack (stopped_frame (top ∷ below)) v)
-  stopped (TopLevel commands) k = unchanged (TopLevel commands)
-  stopped (Framed f) k = unchanged (Framed (record f { commands = [] }))
-  stopped top k = absurd k
+  emptied_leaves : (top : Activity) → HasCommands top → LeavesIt w below (on (emptied top) below v)
+  emptied_leaves (TopLevel commands) k = unchanged (TopLevel [])
+  emptied_leaves (Framed f) k = unchanged (Framed (record f { commands = [] }))
+  emptied_leaves top k = absurd k
 
-  quits : (top : Activity) → HasCommands top → LeavesIt w below (with_stack (without_commands (top ∷ below)) v)
-  quits (TopLevel commands) k = unchanged (TopLevel [])
-  quits (Framed f) k = unchanged (Framed (record f { commands = [] }))
-  quits top k = absurd k
-
-  asks : (g : ℕ) (t : Bool) → (let s : Transition = if t then (Collected 0 ∷ [], u) else ([], push (new_collection g true u) u) in LeavesIt w below s.1)
-  asks g true = unchanged a
-  asks g false = leaves_from w below (push (new_collection g true u) u) (new_collection g true u ∷ a ∷ []) refl (from_refl w below v.objects)
-
-  effect_leaves_it : (r : Result Effect ℕ) → Each (LeavesStack u) r → Each (IsMild script u rises c.over) r → (events : List Event) (after : World) → DoesEffect script u r events after → LeavesIt w below after
-  effect_leaves_it (Err refusal) l m events after step = to after _ step.1 (stopped a ha)
-  effect_leaves_it (Ok (Changes wants_memory lines given_up next)) l m events after (inl step) =
-      to after _ step.1 (record { tops = Releasing given_up ∷ a ∷ []; stack = ap (λ st. Releasing given_up ∷ st) l.stack; from = λ y k. from y (m.comes y k) })
-  effect_leaves_it (Ok (Changes wants_memory lines given_up next)) l m events after (inr step) = to after _ step.1.1 (stopped a ha)
-  effect_leaves_it (Ok (Calls f)) l m events after step = to after _ step.1 (starts_leaves script (record { sort = CallFrame; proc = procedure_of u f; subject = f; func = Some f }) w below u (unchanged a))
-  effect_leaves_it (Ok (Collects g)) l m events after step = to after _ step.1 (asks g (is_collecting u))
-  effect_leaves_it (Ok Quits) l m events after step = to after _ step.1 (quits a ha)
-
-  done_leaves : (command : Command) (events : List Event) (after : World) → DoesEffect script u (effect u command) events after → LeavesIt w below after
-  done_leaves command events after step = effect_leaves_it (effect u command) (effect_leaves u command) (effect_mild script u rises c.over command) events after step
-
-module _ (script : Script) (below : List Activity) (v : World) (rises : Rises 1 v.next_serial v.objects) (events : List Event) (after : World) where
-  -- a collection that is due starts
-  starts : (a : Activity) (g : ℕ) → LeavesIt (with_stack (a ∷ below) v) below (push (new_collection g false (with_stack (a ∷ below) v)) (with_stack (a ∷ below) v))
-  starts a g = leaves_from (with_stack (a ∷ below) v) below (push (new_collection g false (with_stack (a ∷ below) v)) (with_stack (a ∷ below) v)) (new_collection g false (with_stack (a ∷ below) v) ∷ a ∷ []) refl (from_refl (with_stack (a ∷ below) v) below v.objects)
-
-  reach : (a : Activity) (next : World) → after ≡ next → LeavesIt (with_stack (a ∷ below) v) below next → LeavesIt (with_stack (a ∷ below) v) below after
-  reach a next e k = subst (LeavesIt (with_stack (a ∷ below) v) below) (sym e) k
-
-  top_level_leaves : (commands : List Command) (d : Option ℕ) → TopLevelStep script (with_stack (TopLevel commands ∷ below) v) d commands below events after → Calm script (with_stack (TopLevel commands ∷ below) v) → HasOrder (with_stack (TopLevel commands ∷ below) v) → LeavesIt (with_stack (TopLevel commands ∷ below) v) below after
-  top_level_leaves commands (Some g) step c h = reach (TopLevel commands) _ step.1 (starts (TopLevel commands) g)
-  top_level_leaves [] None step c h = reach (TopLevel []) _ step.1 (leaves_from (with_stack (TopLevel [] ∷ below) v) below (record v { stack = TopLevel [] ∷ below; outcome = Ended }) (TopLevel [] ∷ []) refl (from_refl (with_stack (TopLevel [] ∷ below) v) below v.objects))
-  top_level_leaves (command ∷ commands) None step c h =
-      done_leaves script (TopLevel (command ∷ commands)) (TopLevel commands) below v tt (λ o k. k) rises (turned script below v (TopLevel (command ∷ commands)) (TopLevel commands) tt (λ k. k) (λ o k. k) c) (turned_orderly (TopLevel (command ∷ commands)) (TopLevel commands) below v tt tt (λ o k. k) h) command events after step
-
-  in_frame_leaves : (f : Frame) (command : Command) (commands : List Command) (d : Option ℕ) → CommandInFrame script (with_stack (Framed f ∷ below) v) d f command commands below events after → Calm script (with_stack (Framed f ∷ below) v) → HasOrder (with_stack (Framed f ∷ below) v) → LeavesIt (with_stack (Framed f ∷ below) v) below after
-  in_frame_leaves f command commands (Some g) step c h = reach (Framed f) _ step.1 (starts (Framed f) g)
-  in_frame_leaves f command commands None step c h =
-      done_leaves script (Framed f) (Framed (record f { commands = commands })) below v tt (λ o k. k) rises (turned script below v (Framed f) (Framed (record f { commands = commands })) tt (λ k. k) (λ o k. k) c) (turned_orderly (Framed f) (Framed (record f { commands = commands })) below v tt tt (λ o k. k) h) command events after step
-
-  framed_leaves : (f : Frame) (commands : List Command) → FrameStep script (with_stack (Framed f ∷ below) v) f commands below events after → Calm script (with_stack (Framed f ∷ below) v) → HasOrder (with_stack (Framed f ∷ below) v) → LeavesIt (with_stack (Framed f ∷ below) v) below after
-  framed_leaves f [] step c h = reach (Framed f) _ step.1 (frame_end_leaves f below v)
-  framed_leaves f (command ∷ commands) step c h = in_frame_leaves f command commands (due (with_stack (Framed f ∷ below) v)) step c h
+  command_leaves : (command : Command) → CommandSteps script (λ x events after. LeavesIt x below after) w command u a below
+  command_leaves command = record {
+    stays = λ lines answers. unchanged a;
+    stops = λ lines answers. emptied_leaves a ha;
+    changes = λ wants_memory lines given_up after shape. record {
+      tops = Releasing given_up ∷ a ∷ [];
+      stack = ap (λ st. Releasing given_up ∷ st) (changes_leave u command wants_memory lines given_up after shape).stack;
+      from = λ y k. from y ((shape_mild script u rises c.over command (Changes wants_memory lines given_up after) shape).comes y k);
+    };
+    calls = λ f k. starts_leaves script (record { sort = CallFrame; proc = procedure_of u f.serial; subject = f.serial; func = Some f.serial }) w below u (unchanged a);
+    asks = λ g e. leaves_from w below (push (new_collection g true u) u) (new_collection g true u ∷ a ∷ []) refl (from_refl w below v.objects);
+  }
 
 -- any step
 abbrev pub LeavesUnder : World → List Activity → World → Type 0
 LeavesUnder w [] after = Unit {0}
 LeavesUnder w (a ∷ below) after = LeavesIt w below after
 
-pub step_leaves_on : (script : Script) (v : World) (stack : List Activity) (events : List Event) (after : World) → Rises 1 v.next_serial v.objects → StepOf script (with_stack stack v) stack events after → Calm script (with_stack stack v) → HasOrder (with_stack stack v) → LeavesUnder (with_stack stack v) stack after
-step_leaves_on script v [] events after rises step c h = tt
-step_leaves_on script v (TopLevel commands ∷ below) events after rises step c h = top_level_leaves script below v rises events after commands (due (with_stack (TopLevel commands ∷ below) v)) step c h
-step_leaves_on script v (Framed f ∷ below) events after rises step c h = framed_leaves script below v rises events after f f.commands step c h
-step_leaves_on script v (Releasing references ∷ below) events after rises step c h = subst (LeavesIt (with_stack (Releasing references ∷ below) v) below) (sym step.1) (released_leaves references below v)
-step_leaves_on script v (Dying d ∷ below) events after rises step c h = subst (LeavesIt (with_stack (Dying d ∷ below) v) below) (sym step.1) (dying_leaves script d.object below v d.phase c h)
-step_leaves_on script v (Collecting g ∷ below) events after rises step c h = phase_leaves script g below v g.phase events after step h
+-- nothing more is held when a command is taken
+taken_held : (command : Command) (a b : Activity) → Takes command a b → (o : ℕ) → ¬ Includes (holds a) o → ¬ Includes (holds b) o
+taken_held command a b (FromTop commands) o k = k
+taken_held command a b (FromFrame f commands left) o k = k
+
+under : (script : Script) (command : Command) (w u : World) (a b : Activity) (below : List Activity) → w.stack ≡ a ∷ below → CommandSteps script (λ x events after. LeavesIt x below after) w command u b below → CommandSteps script (λ x events after. LeavesUnder x x.stack after) w command u b below
+under script command w u a b below top k = record {
+  stays = λ lines answers. to u (k.stays lines answers);
+  stops = λ lines answers. to (on (emptied b) below u) (k.stops lines answers);
+  changes = λ wants_memory lines given_up after shape. to (push (Releasing given_up) after) (k.changes wants_memory lines given_up after shape);
+  calls = λ f h. to _ (k.calls f h);
+  asks = λ g e. to (push (new_collection g true u) u) (k.asks g e);
+}
+  where
+    to : (after : World) → LeavesIt w below after → LeavesUnder w w.stack after
+    to after l = subst (λ st. LeavesUnder w st after) (sym top) l
+
+steps_leave_it : (script : Script) → Steps script (λ w. (Sound w × Calm script w) × HasOrder w) (λ w events after. LeavesUnder w w.stack after)
+steps_leave_it script = record {
+  starts_due = λ a below v ha g e k. leaves_from (on a below v) below (push (new_collection g false (on a below v)) (on a below v)) (new_collection g false (on a below v) ∷ a ∷ []) refl (from_refl (on a below v) below v.objects);
+  ends = λ below v k. leaves_from (on (TopLevel []) below v) below (record v { stack = TopLevel [] ∷ below; outcome = Ended }) (TopLevel [] ∷ []) refl (from_refl (on (TopLevel []) below v) below v.objects);
+  commands = λ command a b below v takes hb k. under script command (on a below v) (on b below v) a b below refl (command_leaves script a b below v hb (taken_held command a b takes) k.0.0.rises (taken_calm script below v command a b takes k.0.1) (taken_orderly command a b below v takes k.1) command);
+  frame_ends = λ f below v left k. frame_end_leaves f below v;
+  releases = λ references below v k. released_leaves references below v;
+  dies = λ d below v k. dying_leaves script d.object below v d.phase k.0.1 k.1;
+  collects = λ c below v events after step k. phase_leaves script c below v c.phase events after step k.1;
+}
+
+pub step_leaves : (script : Script) (w : World) (events : List Event) (after : World) → Step script w events after → Sound w → Calm script w → HasOrder w → LeavesUnder w w.stack after
+step_leaves script w events after step sound c h = any_step script (λ u. (Sound u × Calm script u) × HasOrder u) (λ u events after. LeavesUnder u u.stack after) (steps_leave_it script) w events after step ((sound, c), h)
 
 -- what that says of the objects that are dying or wait below
 cleared_forgotten : (script : Script) (w : World) (o : ℕ) (phase : DyingPhase) → Rests script w o phase → is_cleared phase ≡ true → Forgotten w o
@@ -174,5 +163,5 @@ steps_leave script budget steps step run a below top =
     let sound : Sound w = sound_after script (opening script budget) steps (opening_sound script budget) split.0 in
     let both = orderly_after script (opening script budget) steps (opening_sound script budget) (opening_calm script budget) (opening_orderly script budget) split.0 in
     let stack : IsStack script w (a ∷ below) = subst (IsStack script w) top both.0.stack in
-    let left : LeavesUnder w (a ∷ below) step.world = subst (λ st. LeavesUnder w st step.world) top (step_leaves_on script w w.stack step.events step.world sound.rises split.1.step both.0 both.1) in
+    let left : LeavesUnder w (a ∷ below) step.world = subst (λ st. LeavesUnder w st step.world) top (step_leaves script w step.events step.world split.1 sound both.0 both.1) in
     leaves_below script w a below step.world top sound.rises stack.1 both.1 left

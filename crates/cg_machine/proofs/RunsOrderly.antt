@@ -21,22 +21,22 @@ use Rattle.cg_machine.specs.Effects.{Effect, Changes, Calls, Collects, Quits}
 use Rattle.cg_machine.specs.Commands.{effect, stopped_frame, without_commands, new_collection, DoesEffect}
 use Rattle.cg_machine.specs.Collect.{is_condemned}
 use Rattle.cg_machine.specs.Due.{due}
-use Rattle.cg_machine.specs.Run.{StepTaken, StepOf, Run, TopLevelStep, CommandInFrame, FrameStep, last_world}
+use Rattle.cg_machine.specs.Run.{StepTaken, Step, Run, last_world}
 use Rattle.cg_machine.specs.Laws.{waits_of, all_waits, IsWaiting, HasFunction, AreDeathsOfOthers, IsDeathIn, WorldsAreOrderly}
 use Rattle.cg_machine.proofs.Serials.{Rises}
 use Rattle.cg_machine.proofs.Sound.{Sound, opening_sound}
 use Rattle.cg_machine.proofs.Number.{step_falls}
 use Rattle.cg_machine.proofs.CommandLaws.{Each, LeavesStack}
-use Rattle.cg_machine.proofs.ShapeLaws.{effect_leaves}
+use Rattle.cg_machine.proofs.ShapeLaws.{changes_leave}
 use Rattle.cg_machine.proofs.Forgotten.{Forgotten, AreReferred, some_later, none_later, lives_within}
 use Rattle.cg_machine.proofs.Unheld.{IsLocalHeld, IsOver, AreOver, not_dying, Stands, Calm, held_by_member}
 use Rattle.cg_machine.proofs.Releasing.{entry_holder}
-use Rattle.cg_machine.proofs.CommandCalm.{Mild, IsMild, Comes, was_there, is_new, effect_mild}
+use Rattle.cg_machine.proofs.CommandCalm.{Mild, IsMild, Comes, was_there, is_new, shape_mild}
 use Rattle.cg_machine.proofs.Orderly.{IsClearing, Orderly, push_orderly, turns_fewer, waits_held}
 use Rattle.cg_machine.proofs.DyingOrderly.{HasOrder, starts_orderly, gives_up_orderly, frame_end_orderly, released_orderly, dying_orderly}
 use Rattle.cg_machine.proofs.CollectOrderly.{phase_orderly}
-use Rattle.cg_machine.proofs.RunsCalm.{no_death, turned, step_calm, opening_calm, death_stands}
-use Rattle.cg_machine.proofs.Invariants.{HasCommands}
+use Rattle.cg_machine.proofs.RunsCalm.{no_death, taken_calm, step_calm, opening_calm, death_stands}
+use Rattle.cg_machine.proofs.Invariants.{HasCommands, Takes, FromTop, FromFrame, emptied, on, CommandSteps, Steps, any_step}
 
 -- what does not live is forgotten
 pub gone_forgotten : (w : World) → HasOrder w → AreReferred w.objects → (o : ℕ) → ¬ Includes (serials w.objects) o → Forgotten w o
@@ -162,68 +162,42 @@ collects_orderly a g asked below v ha h = push_orderly (new_collection g asked (
         let phase : Start ≡ c.phase = let same : record { generation = g; flags = v.numbers.flags; asked = asked; collected = 0; phase = Start } ≡ c = cc in ap (λ (z : Collection). z.phase) same in
         let no : Start ≡ Turn o = phase ∙ k in cc
 
-stopped_orderly : (a : Activity) (below : List Activity) (v : World) → HasCommands a → HasOrder (with_stack (a ∷ below) v) → HasOrder (with_stack (stopped_frame (a ∷ below)) v)
-stopped_orderly (TopLevel commands) below v ha h = h
-stopped_orderly (Framed f) below v ha h = turned_orderly (Framed f) (Framed (record f { commands = [] })) below v tt tt (λ o k. k) h
-stopped_orderly a below v ha h = absurd ha
+emptied_orderly : (a : Activity) (below : List Activity) (v : World) → HasCommands a → HasOrder (on a below v) → HasOrder (on (emptied a) below v)
+emptied_orderly (TopLevel commands) below v ha h = turned_orderly (TopLevel commands) (TopLevel []) below v tt tt (λ o k. k) h
+emptied_orderly (Framed f) below v ha h = turned_orderly (Framed f) (Framed (record f { commands = [] })) below v tt tt (λ o k. k) h
+emptied_orderly a below v ha h = absurd ha
 
-quits_orderly : (a : Activity) (below : List Activity) (v : World) → HasCommands a → HasOrder (with_stack (a ∷ below) v) → HasOrder (with_stack (without_commands (a ∷ below)) v)
-quits_orderly (TopLevel commands) below v ha h = turned_orderly (TopLevel commands) (TopLevel []) below v tt tt (λ o k. k) h
-quits_orderly (Framed f) below v ha h = turned_orderly (Framed f) (Framed (record f { commands = [] })) below v tt tt (λ o k. k) h
-quits_orderly a below v ha h = absurd ha
+pub taken_orderly : (command : Command) (a b : Activity) (below : List Activity) (v : World) → Takes command a b → HasOrder (on a below v) → HasOrder (on b below v)
+taken_orderly command a b below v (FromTop commands) h = turned_orderly (TopLevel (command ∷ commands)) (TopLevel commands) below v tt tt (λ o k. k) h
+taken_orderly command a b below v (FromFrame f commands left) h = turned_orderly (Framed f) (Framed (record f { commands = commands })) below v tt tt (λ o k. k) h
 
-module _ (script : Script) (a : Activity) (below : List Activity) (v : World) (ha : HasCommands a) (rises : Rises 1 v.next_serial v.objects) (c : Calm script (with_stack (a ∷ below) v)) (h : HasOrder (with_stack (a ∷ below) v)) where
-  abbrev now : World
-  now = with_stack (a ∷ below) v
+-- A command is done.
+command_does : (script : Script) (w : World) (command : Command) (a : Activity) (below : List Activity) (v : World) → HasCommands a → Rises 1 v.next_serial v.objects → Calm script (on a below v) → HasOrder (on a below v) → CommandSteps script (λ w events. HasOrder) w command (on a below v) a below
+command_does script w command a below v ha rises c h = record {
+  stays = λ lines answers. h;
+  stops = λ lines answers. emptied_orderly a below v ha h;
+  changes = λ wants_memory lines given_up after shape.
+      let l = changes_leave (on a below v) command wants_memory lines given_up after shape in
+      let m = shape_mild script (on a below v) rises c.over command (Changes wants_memory lines given_up after) shape in
+      gives_up_orderly given_up after (λ k. no_clearing a below ha (subst IsClearing l.stack k)) (given_live script (on a below v) rises c.over c.referred h after given_up l.stack m) (command_orderly script (on a below v) rises c.over c.referred h after given_up l.stack m);
+  calls = λ f k. starts_orderly script (record { sort = CallFrame; proc = procedure_of (on a below v) f.serial; subject = f.serial; func = Some f.serial }) (on a below v) (no_clearing a below ha)
+      (λ o m. either m (λ e. subst (Includes (serials v.objects)) e (Includes-map (λ (z : Object). z.serial) v.objects f k.member)) (λ n. absurd n)) h;
+  asks = λ g e. collects_orderly a g true below v ha h;
+}
 
-  to : (after next : World) → after ≡ next → HasOrder next → HasOrder after
-  to after next e k = subst HasOrder (sym e) k
+keeps_order : (script : Script) → Steps script (λ w. (Sound w × Calm script w) × HasOrder w) (λ w events. HasOrder)
+keeps_order script = record {
+  starts_due = λ a below v ha g e k. collects_orderly a g false below v ha k.1;
+  ends = λ below v k. k.1;
+  commands = λ command a b below v takes hb k. command_does script (on a below v) command b below v hb k.0.0.rises (taken_calm script below v command a b takes k.0.1) (taken_orderly command a b below v takes k.1);
+  frame_ends = λ f below v left k. frame_end_orderly f below v k.1;
+  releases = λ references below v k. released_orderly references below v k.1;
+  dies = λ d below v k. dying_orderly script d.object below v k.0.0.rises d.phase k.0.1 k.1;
+  collects = λ c below v events after step k. phase_orderly script c below v k.0.0.rises c.phase events after step k.1;
+}
 
-  called : (f : ℕ) → ((o : ℕ) → Forgotten now o → f ≢ o) → (o : ℕ) → Includes (f ∷ []) o → Includes (serials v.objects) o
-  called f known o m = either (lives_or_not v.objects o) (λ k. k) (λ gone. absurd (either m (known o (gone_forgotten now h c.referred o gone)) (λ n. n)))
-
-  asks : (g : ℕ) (b : Bool) → (let t : Transition = if b then (Collected 0 ∷ [], now) else ([], push (new_collection g true now) now) in HasOrder t.1)
-  asks g true = h
-  asks g false = collects_orderly a g true below v ha h
-
-  effect_orderly : (r : Result Effect ℕ) → Each (LeavesStack now) r → Each (IsMild script now rises c.over) r → (events : List Event) (after : World) → DoesEffect script now r events after → HasOrder after
-  effect_orderly (Err refusal) l m events after step = to after _ step.1 (stopped_orderly a below v ha h)
-  effect_orderly (Ok (Changes wants_memory lines given_up next)) l m events after (inl step) =
-      to after _ step.1 (gives_up_orderly given_up next (λ k. no_clearing a below ha (subst IsClearing l.stack k)) (given_live script now rises c.over c.referred h next given_up l.stack m) (command_orderly script now rises c.over c.referred h next given_up l.stack m))
-  effect_orderly (Ok (Changes wants_memory lines given_up next)) l m events after (inr step) = to after _ step.1.1 (stopped_orderly a below v ha h)
-  effect_orderly (Ok (Calls f)) l m events after step = to after _ step.1 (starts_orderly script (record { sort = CallFrame; proc = procedure_of now f; subject = f; func = Some f }) now (no_clearing a below ha) (called f m) h)
-  effect_orderly (Ok (Collects g)) l m events after step = to after _ step.1 (asks g (is_collecting now))
-  effect_orderly (Ok Quits) l m events after step = to after _ step.1 (quits_orderly a below v ha h)
-
-  done_orderly : (command : Command) (events : List Event) (after : World) → DoesEffect script now (effect now command) events after → HasOrder after
-  done_orderly command events after step = effect_orderly (effect now command) (effect_leaves now command) (effect_mild script now rises c.over command) events after step
-
-module _ (script : Script) (below : List Activity) (v : World) (rises : Rises 1 v.next_serial v.objects) (events : List Event) (after : World) where
-  reach : (next : World) → after ≡ next → HasOrder next → HasOrder after
-  reach next e k = subst HasOrder (sym e) k
-
-  top_level_orderly : (commands : List Command) (d : Option ℕ) → TopLevelStep script (with_stack (TopLevel commands ∷ below) v) d commands below events after → Calm script (with_stack (TopLevel commands ∷ below) v) → HasOrder (with_stack (TopLevel commands ∷ below) v) → HasOrder after
-  top_level_orderly commands (Some g) step c h = reach _ step.1 (collects_orderly (TopLevel commands) g false below v tt h)
-  top_level_orderly [] None step c h = reach _ step.1 h
-  top_level_orderly (command ∷ commands) None step c h =
-      done_orderly script (TopLevel commands) below v tt rises (turned script below v (TopLevel (command ∷ commands)) (TopLevel commands) tt (λ k. k) (λ o k. k) c) (turned_orderly (TopLevel (command ∷ commands)) (TopLevel commands) below v tt tt (λ o k. k) h) command events after step
-
-  in_frame_orderly : (f : Frame) (command : Command) (commands : List Command) (d : Option ℕ) → CommandInFrame script (with_stack (Framed f ∷ below) v) d f command commands below events after → Calm script (with_stack (Framed f ∷ below) v) → HasOrder (with_stack (Framed f ∷ below) v) → HasOrder after
-  in_frame_orderly f command commands (Some g) step c h = reach _ step.1 (collects_orderly (Framed f) g false below v tt h)
-  in_frame_orderly f command commands None step c h =
-      done_orderly script (Framed (record f { commands = commands })) below v tt rises (turned script below v (Framed f) (Framed (record f { commands = commands })) tt (λ k. k) (λ o k. k) c) (turned_orderly (Framed f) (Framed (record f { commands = commands })) below v tt tt (λ o k. k) h) command events after step
-
-  framed_orderly : (f : Frame) (commands : List Command) → FrameStep script (with_stack (Framed f ∷ below) v) f commands below events after → Calm script (with_stack (Framed f ∷ below) v) → HasOrder (with_stack (Framed f ∷ below) v) → HasOrder after
-  framed_orderly f [] step c h = reach _ step.1 (frame_end_orderly f below v h)
-  framed_orderly f (command ∷ commands) step c h = in_frame_orderly f command commands (due (with_stack (Framed f ∷ below) v)) step c h
-
-pub step_orderly_on : (script : Script) (v : World) (stack : List Activity) (events : List Event) (after : World) → Rises 1 v.next_serial v.objects → StepOf script (with_stack stack v) stack events after → Calm script (with_stack stack v) → HasOrder (with_stack stack v) → HasOrder after
-step_orderly_on script v [] events after rises step c h = absurd step
-step_orderly_on script v (TopLevel commands ∷ below) events after rises step c h = top_level_orderly script below v rises events after commands (due (with_stack (TopLevel commands ∷ below) v)) step c h
-step_orderly_on script v (Framed f ∷ below) events after rises step c h = framed_orderly script below v rises events after f f.commands step c h
-step_orderly_on script v (Releasing references ∷ below) events after rises step c h = subst HasOrder (sym step.1) (released_orderly references below v h)
-step_orderly_on script v (Dying d ∷ below) events after rises step c h = subst HasOrder (sym step.1) (dying_orderly script d.object below v rises d.phase c h)
-step_orderly_on script v (Collecting g ∷ below) events after rises step c h = phase_orderly script g below v rises g.phase events after step h
+pub step_orderly : (script : Script) (w : World) (events : List Event) (after : World) → Step script w events after → Sound w → Calm script w → HasOrder w → HasOrder after
+step_orderly script w events after step sound c h = any_step script (λ u. (Sound u × Calm script u) × HasOrder u) (λ u events. HasOrder) (keeps_order script) w events after step ((sound, c), h)
 
 pub opening_orderly : (script : Script) (budget : ℕ) → HasOrder (opening script budget)
 opening_orderly script budget = record {
@@ -251,7 +225,7 @@ opening_orderly script budget = record {
 pub orderly_after : (script : Script) (w : World) (steps : List StepTaken) → Sound w → Calm script w → HasOrder w → Run script w steps → Calm script (last_world w steps) × HasOrder (last_world w steps)
 orderly_after script w [] sound calm h run = (calm, h)
 orderly_after script w (step ∷ steps) sound calm h run =
-    orderly_after script step.world steps (step_falls script w step.events step.world run.0 sound).0 (step_calm script w step.events step.world run.0 sound calm) (step_orderly_on script w w.stack step.events step.world sound.rises run.0.step calm h) run.1
+    orderly_after script step.world steps (step_falls script w step.events step.world run.0 sound).0 (step_calm script w step.events step.world run.0 sound calm) (step_orderly script w step.events step.world run.0 sound calm h) run.1
 
 -- what the invariants say of a death
 death_in : (script : Script) (w : World) (o : ℕ) (phase : DyingPhase) → Includes (serials w.objects) o → Stands script w o phase → IsDeathIn w.objects (record { object = o; phase = phase })

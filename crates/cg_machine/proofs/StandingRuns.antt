@@ -32,7 +32,7 @@ use Rattle.cg_machine.proofs.Unheld.{IsStack, Calm}
 use Rattle.cg_machine.proofs.DyingOrderly.{HasOrder}
 use Rattle.cg_machine.proofs.RunsCalm.{no_death, calm_after, opening_calm}
 use Rattle.cg_machine.proofs.RunsOrderly.{opening_orderly, worlds_orderly, orderly_after}
-use Rattle.cg_machine.proofs.LeftRuns.{LeavesUnder, step_leaves_on, leaves_below}
+use Rattle.cg_machine.proofs.LeftRuns.{LeavesUnder, step_leaves, leaves_below}
 use Rattle.cg_machine.proofs.Standing.{AreFunctions, KnowsFunction, ClearsInOrder, IsKnown, AreKnown, IsAllKnown, function_lives, below_kept, top_kept}
 use Rattle.cg_machine.proofs.StandingSteps.{Stays, either_stays, starts_known, frame_end_known, released_known, dying_known, phase_known}
 
@@ -89,7 +89,7 @@ module _ (script : Script) where
   }
 
   step_kept : (w : World) (events : List Event) (after : World) → Step script w events after → Sound w × Calm script w × HasOrder w → IsAllKnown w → Kept after.objects w.stack
-  step_kept w events after step k known = kept_on script w w.stack after refl k.0.rises k.1.stack k.2 (step_leaves_on script w w.stack events after k.0.rises step.step k.1 k.2) known
+  step_kept w events after step k known = kept_on script w w.stack after refl k.0.rises k.1.stack k.2 (step_leaves script w events after step k.0 k.1 k.2) known
 
   lawful : (budget : ℕ) → InEachWorld script budget (λ w. Sound w × Calm script w × HasOrder w)
   lawful budget steps run = (
