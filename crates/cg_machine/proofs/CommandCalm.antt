@@ -33,7 +33,6 @@ use Rattle.cg_machine.proofs.Forgotten.{IsQuiet, AreQuiet, Forgotten, Mortal, Ha
 use Rattle.cg_machine.proofs.Unheld.{AreOver}
 use Rattle.cg_machine.proofs.CommandRefs.{HoldNone, option_free, entry_val, entry_key, entry_free, cons_free, put_free, old_value_free, name_free, bound_free, IsKnown, operand_known}
 use Rattle.cg_machine.proofs.Shapes.{IsAtHand, Word, ValueIn, KeyIn, ReferentOf, HasObject, IsMutable, IsEdit, Shape, Binds, Makes, Edits, Puts, Shows, Tells, Sets, Freezes, Unfreezes, StartsFrame, StartsCollection, Ends}
-use Rattle.cg_machine.proofs.ShapeLaws.{by_shape}
 
 -- what is changed by a command is no weak reference
 mutable_code : (x : Object) → IsMutable x.code → x.code ≢ Weak
@@ -293,6 +292,3 @@ module _ (script : Script) (w : World) (rises : Rises 1 w.next_serial w.objects)
   shape_mild command e (StartsFrame f h) = object_apart command is_function f h
   shape_mild command e (StartsCollection g) = tt
   shape_mild command e Ends = tt
-
-  pub effect_mild : (command : Command) → Each IsMild (effect w command)
-  effect_mild command = by_shape IsMild w command (shape_mild command)

@@ -1,6 +1,6 @@
 -- Steps of commands, and that each step of the machine keeps the invariant and makes the measure smaller.
-use Rattle.cg_machine.proofs.Growth.{Grows, GrowsBy, effect_grows}
-use Rattle.std.proofs.Common.{◌≡◌, refl, sym, ap, subst, ℕ, suc, ◌*◌, ◌<◌, ◌≤◌, Bool, true, false, not, ◌&&◌, inl, inr, List, [], ◌∷◌, Option, Some, None, Result, Ok, Err, arith}
+use Rattle.cg_machine.proofs.Growth.{Grows, shape_grows}
+use Rattle.std.proofs.Common.{◌≡◌, refl, sym, ap, subst, ℕ, suc, ◌*◌, ◌<◌, ◌≤◌, Bool, true, false, not, ◌&&◌, inl, inr, length, List, [], ◌∷◌, Option, Some, None, Result, Ok, Err, arith}
 use Rattle.std.specs.Prelude.{if◌then◌else◌}
 use Rattle.std.specs.List.{list_any}
 use Rattle.cg_script.specs.declared.Script.{Script}
@@ -17,7 +17,8 @@ use Rattle.cg_machine.specs.Due.{is_due, due, due_generation}
 use Rattle.cg_machine.specs.Run.{Step, StepOf, TopLevelStep, FrameStep, CommandInFrame}
 use Rattle.cg_machine.proofs.Tally.{tally}
 use Rattle.cg_machine.proofs.CommandLaws.{Leaves, LeavesStack, Each}
-use Rattle.cg_machine.proofs.ShapeLaws.{effect_leaves}
+use Rattle.cg_machine.proofs.ShapeLaws.{changes_leave}
+use Rattle.cg_machine.proofs.Invariants.{HasCommands, Takes, FromTop, FromFrame, emptied, on, CommandSteps, Steps, any_step}
 use Rattle.cg_machine.proofs.Measure.{alive, commands_in, all_bodies, commands_left, is_starting, due_rank, by_commands, by_due, weight_in}
 use Rattle.cg_machine.proofs.Sound.{HasBottom, collections_in, Sound, Moves, starts, NoMore}
 use Rattle.cg_machine.proofs.FallsDeaths.{dying_moves, released_moves, frame_end_moves}
@@ -39,20 +40,13 @@ pub record Shortened (old new : List Activity) : Type 0 where
 untouched : (stack : List Activity) → Shortened stack stack
 untouched stack = record { commands = omega arith; collections = refl; bottom = λ b. b; weight = omega arith }
 
-stopped_shortened : (stack : List Activity) → Shortened stack (stopped_frame stack)
-stopped_shortened (Framed f ∷ stack) = record { commands = omega arith; collections = refl; bottom = λ b. b; weight = omega arith }
-stopped_shortened stack = untouched stack
-
-quit_shortened : (stack : List Activity) → Shortened stack (without_commands stack)
-quit_shortened (TopLevel commands ∷ stack) = record { commands = omega arith; collections = refl; bottom = λ b. b; weight = omega arith }
-quit_shortened (Framed f ∷ stack) = record { commands = omega arith; collections = refl; bottom = λ b. b; weight = omega arith }
-quit_shortened stack = untouched stack
+emptied_shortened : (a : Activity) (below : List Activity) → HasCommands a → Shortened (a ∷ below) (emptied a ∷ below)
+emptied_shortened (TopLevel commands) below h = record { commands = omega arith; collections = refl; bottom = λ b. b; weight = omega arith }
+emptied_shortened (Framed f) below h = record { commands = omega arith; collections = refl; bottom = λ b. b; weight = omega arith }
+emptied_shortened a below h = absurd h
 
 -- A command is taken from w, which leaves u. Then its effect is done.
 module _ (script : Script) (w u : World) (sound : Sound u) (running : u.outcome ≡ Running) (taken : commands_left script u < commands_left script w) (less : NoMore script w u) where
-  to : (after now : World) → after ≡ now → Moves script w now → Moves script w after
-  to after now e m = subst (λ x. Moves script w x) (sym e) m
-
   shortened_moves : (stack : List Activity) → Shortened u.stack stack → Moves script w (with_stack stack u)
   shortened_moves stack s = record {
     sound = record { rises = sound.rises; bottom = s.bottom sound.bottom; single = omega (arith, s.collections, sound.single) };
@@ -83,20 +77,20 @@ module _ (script : Script) (w u : World) (sound : Sound u) (running : u.outcome 
       fewer : commands_left script after < commands_left script w
       fewer = omega (arith, taken, same_alive, same_budget, same_stack)
 
-  collects_moves : (g : ℕ) (b : Bool) → is_collecting u ≡ b → (let t : Transition = if b then (Collected 0 ∷ [], u) else ([], push (new_collection g true u) u) in Moves script w t.1)
-  collects_moves g true e = record { sound = sound; lower = by_commands taken (omega (arith, taken, less.size)) (omega (arith, less.entries)) (omega (arith, less.referents)) (omega (arith, less.weight)) }
-  collects_moves g false e = record {
+  collects_moves : (g : ℕ) → is_collecting u ≡ false → Moves script w (push (new_collection g true u) u)
+  collects_moves g e = record {
     sound = record { rises = sound.rises; bottom = sound.bottom; single = omega (arith, none_collects u.stack e) };
     lower = by_commands (omega (arith, taken)) (omega (arith, taken, less.size)) (omega (arith, less.entries)) (omega (arith, less.referents)) (omega (arith, less.weight));
   }
 
-  pub effect_moves : (r : Result Effect ℕ) → Each (LeavesStack u) r → Each (GrowsBy u) r → (events : List Event) (after : World) → DoesEffect script u r events after → Moves script w after
-  effect_moves (Err refusal) l g events after step = to after _ step.1 (shortened_moves (stopped_frame u.stack) (stopped_shortened u.stack))
-  effect_moves (Ok (Changes wants_memory lines given_up now)) l g events after (inl step) = to after _ step.1 (changes_moves given_up now l g)
-  effect_moves (Ok (Changes wants_memory lines given_up now)) l g events after (inr step) = to after _ step.1.1 (shortened_moves (stopped_frame u.stack) (stopped_shortened u.stack))
-  effect_moves (Ok (Calls f)) l g events after step = to after _ step.1 (starts script (record { sort = CallFrame; proc = procedure_of u f; subject = f; func = Some f }) w u sound running less)
-  effect_moves (Ok (Collects i)) l g events after step = to after _ step.1 (collects_moves i (is_collecting u) refl)
-  effect_moves (Ok Quits) l g events after step = to after _ step.1 (shortened_moves (without_commands u.stack) (quit_shortened u.stack))
+command_moves : (script : Script) (w : World) (command : Command) (a : Activity) (below : List Activity) (v : World) → HasCommands a → Sound (on a below v) → v.outcome ≡ Running → commands_left script (on a below v) < commands_left script w → NoMore script w (on a below v) → CommandSteps script (λ w events after. Moves script w after) w command (on a below v) a below
+command_moves script w command a below v ha sound running taken less = record {
+  stays = λ lines answers. shortened_moves script w (on a below v) sound running taken less (a ∷ below) (untouched (a ∷ below));
+  stops = λ lines answers. shortened_moves script w (on a below v) sound running taken less (emptied a ∷ below) (emptied_shortened a below ha);
+  changes = λ wants_memory lines given_up after shape. changes_moves script w (on a below v) sound running taken less given_up after (changes_leave (on a below v) command wants_memory lines given_up after shape) (shape_grows (on a below v) sound.rises command (Changes wants_memory lines given_up after) shape);
+  calls = λ f k. starts script (record { sort = CallFrame; proc = procedure_of (on a below v) f.serial; subject = f.serial; func = Some f.serial }) w (on a below v) sound running less;
+  asks = λ g e. collects_moves script w (on a below v) sound running taken less g e;
+}
 
 -- A due collection is pushed.
 due_cases : (a b : Bool) (g k : ℕ) → (if a && not b then Some g else None) ≡ Some k → (a ≡ true) × (b ≡ false)
@@ -116,36 +110,22 @@ due_moves script w g e sound = record {
     none : tally collections_in w.stack ≡ 0
     none = none_collects w.stack parts.1
 
-module _ (script : Script) (v : World) (below : List Activity) (events : List Event) (after : World) where
-  top_level_moves : (commands : List Command) (d : Option ℕ) → due (with_stack (TopLevel commands ∷ below) v) ≡ d → TopLevelStep script (with_stack (TopLevel commands ∷ below) v) d commands below events after
-      → Sound (with_stack (TopLevel commands ∷ below) v) → v.outcome ≡ Running → Moves script (with_stack (TopLevel commands ∷ below) v) after
-  top_level_moves commands (Some g) e step sound running = subst (λ x. Moves script (with_stack (TopLevel commands ∷ below) v) x) (sym step.1) (due_moves script (with_stack (TopLevel commands ∷ below) v) g e sound)
-  top_level_moves [] None e step sound running = subst (λ x. Moves script (with_stack (TopLevel [] ∷ below) v) x) (sym step.1) (record { sound = record { rises = sound.rises; bottom = sound.bottom; single = sound.single }; lower = by_commands (omega (arith, ap alive running)) (omega arith) (omega arith) (omega arith) (omega arith) })
-  top_level_moves (command ∷ commands) None e step sound running =
-      effect_moves script (with_stack (TopLevel (command ∷ commands) ∷ below) v) (with_stack (TopLevel commands ∷ below) v) (record { rises = sound.rises; bottom = sound.bottom; single = sound.single }) running (omega arith) (record { commands = omega arith; size = omega arith; entries = omega arith; referents = omega arith; weight = omega arith })
-      (effect (with_stack (TopLevel commands ∷ below) v) command) (effect_leaves (with_stack (TopLevel commands ∷ below) v) command) (effect_grows (with_stack (TopLevel commands ∷ below) v) sound.rises command) events after step
+taken_moves : (script : Script) (command : Command) (a b : Activity) (below : List Activity) (v : World) → Takes command a b → HasCommands b → Sound (on a below v) → v.outcome ≡ Running → CommandSteps script (λ w events after. Moves script w after) (on a below v) command (on b below v) b below
+taken_moves script command a b below v (FromTop commands) hb sound running = command_moves script (on (TopLevel (command ∷ commands)) below v) command (TopLevel commands) below v tt (record { rises = sound.rises; bottom = sound.bottom; single = sound.single }) running (omega arith) (record { commands = omega arith; size = omega arith; entries = omega arith; referents = omega arith; weight = omega arith })
+taken_moves script command a b below v (FromFrame f commands left) hb sound running =
+    let one : length f.commands ≡ length (command ∷ commands) = ap length left in
+    command_moves script (on (Framed f) below v) command (Framed (record f { commands = commands })) below v tt (record { rises = sound.rises; bottom = sound.bottom; single = sound.single }) running (omega (arith, one)) (record { commands = omega (arith, one); size = omega (arith, one); entries = omega arith; referents = omega arith; weight = omega arith })
 
-  in_frame_moves : (f : Frame) (command : Command) (commands : List Command) (d : Option ℕ) → due (with_stack (Framed (record f { commands = command ∷ commands }) ∷ below) v) ≡ d
-      → CommandInFrame script (with_stack (Framed (record f { commands = command ∷ commands }) ∷ below) v) d (record f { commands = command ∷ commands }) command commands below events after
-      → Sound (with_stack (Framed (record f { commands = command ∷ commands }) ∷ below) v) → v.outcome ≡ Running → Moves script (with_stack (Framed (record f { commands = command ∷ commands }) ∷ below) v) after
-  in_frame_moves f command commands (Some g) e step sound running = subst (λ x. Moves script (with_stack (Framed (record f { commands = command ∷ commands }) ∷ below) v) x) (sym step.1) (due_moves script (with_stack (Framed (record f { commands = command ∷ commands }) ∷ below) v) g e sound)
-  in_frame_moves f command commands None e step sound running =
-      effect_moves script (with_stack (Framed (record f { commands = command ∷ commands }) ∷ below) v) (with_stack (Framed (record f { commands = commands }) ∷ below) v) (record { rises = sound.rises; bottom = sound.bottom; single = sound.single }) running (omega arith) (record { commands = omega arith; size = omega arith; entries = omega arith; referents = omega arith; weight = omega arith })
-      (effect (with_stack (Framed (record f { commands = commands }) ∷ below) v) command) (effect_leaves (with_stack (Framed (record f { commands = commands }) ∷ below) v) command) (effect_grows (with_stack (Framed (record f { commands = commands }) ∷ below) v) sound.rises command) events after step
-
-  framed_moves : (f : Frame) (commands : List Command) → FrameStep script (with_stack (Framed (record f { commands = commands }) ∷ below) v) (record f { commands = commands }) commands below events after
-      → Sound (with_stack (Framed (record f { commands = commands }) ∷ below) v) → v.outcome ≡ Running → Moves script (with_stack (Framed (record f { commands = commands }) ∷ below) v) after
-  framed_moves f [] step sound running = subst (λ x. Moves script (with_stack (Framed (record f { commands = [] }) ∷ below) v) x) (sym step.1) (frame_end_moves script (record f { commands = [] }) below v sound)
-  framed_moves f (command ∷ commands) step sound running = in_frame_moves f command commands (due (with_stack (Framed (record f { commands = command ∷ commands }) ∷ below) v)) refl step sound running
-
--- any step
-pub step_moves_on : (script : Script) (v : World) (stack : List Activity) (events : List Event) (after : World) → StepOf script (with_stack stack v) stack events after → Sound (with_stack stack v) → v.outcome ≡ Running → Moves script (with_stack stack v) after
-step_moves_on script v [] events after step sound running = absurd step
-step_moves_on script v (TopLevel commands ∷ below) events after step sound running = top_level_moves script v below events after commands (due (with_stack (TopLevel commands ∷ below) v)) refl step sound running
-step_moves_on script v (Framed f ∷ below) events after step sound running = framed_moves script v below events after f f.commands step sound running
-step_moves_on script v (Releasing references ∷ below) events after step sound running = subst (λ x. Moves script (with_stack (Releasing references ∷ below) v) x) (sym step.1) (released_moves script references below v sound)
-step_moves_on script v (Dying d ∷ below) events after step sound running = subst (λ x. Moves script (with_stack (Dying d ∷ below) v) x) (sym step.1) (dying_moves script d.object below v d.phase sound running)
-step_moves_on script v (Collecting c ∷ below) events after step sound running = phase_moves script c below v c.phase events after step sound running
+steps_move : (script : Script) → Steps script (λ w. Sound w × (w.outcome ≡ Running)) (λ w events after. Moves script w after)
+steps_move script = record {
+  starts_due = λ a below v ha g e k. due_moves script (on a below v) g e k.0;
+  ends = λ below v k. record { sound = record { rises = k.0.rises; bottom = k.0.bottom; single = k.0.single }; lower = by_commands (omega (arith, ap alive k.1)) (omega arith) (omega arith) (omega arith) (omega arith) };
+  commands = λ command a b below v takes hb k. taken_moves script command a b below v takes hb k.0 k.1;
+  frame_ends = λ f below v left k. frame_end_moves script f below v k.0;
+  releases = λ references below v k. released_moves script references below v k.0;
+  dies = λ d below v k. dying_moves script d.object below v d.phase k.0 k.1;
+  collects = λ c below v events after step k. phase_moves script c below v c.phase events after step k.0 k.1;
+}
 
 pub step_moves : (script : Script) (w : World) (events : List Event) (after : World) → Step script w events after → Sound w → Moves script w after
-step_moves script w events after step sound = step_moves_on script w w.stack events after step.step sound step.running
+step_moves script w events after step sound = any_step script (λ u. Sound u × (u.outcome ≡ Running)) (λ u events after. Moves script u after) (steps_move script) w events after step (sound, step.running)

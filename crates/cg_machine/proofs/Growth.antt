@@ -28,7 +28,7 @@ use Rattle.cg_machine.proofs.Fading.{Same, map_stays, if_same}
 use Rattle.cg_machine.proofs.FallsDeaths.{references_two}
 use Rattle.cg_machine.proofs.CommandLaws.{Each}
 use Rattle.cg_machine.proofs.Shapes.{Shape, Binds, Makes, Edits, Puts, Shows, Tells, Sets, Freezes, Unfreezes, StartsFrame, StartsCollection, Ends}
-use Rattle.cg_machine.proofs.ShapeLaws.{by_shape, shape_gives_few}
+use Rattle.cg_machine.proofs.ShapeLaws.{shape_gives_few}
 use Rattle.cg_machine.proofs.Lookups.{found_at, serial_from}
 
 pub record Grows (w after : World) (given_up : List ℕ) : Type 0 where
@@ -117,7 +117,7 @@ tracked_same w key v x = go (is_dict x && not (is_tracked x) && (may_track w key
 with_entries_same : (es : List Entry) → Same (with_entries es)
 with_entries_same es = record { serial = λ x. refl; referent = λ x. refl }
 
-shape_grows : (w : World) → Rises 1 w.next_serial w.objects → (command : Command) (e : Effect) → Shape w command e → GrowsBy w e
+pub shape_grows : (w : World) → Rises 1 w.next_serial w.objects → (command : Command) (e : Effect) → Shape w command e → GrowsBy w e
 shape_grows w r command e (Binds name v own hand) = binding w name _
 shape_grows w r command e (Makes name kind class entries referent own parts) = record {
   size = omega (arith, tally-append (λ (x : Object). 1) w.objects (made w kind class entries referent ∷ []));
@@ -138,6 +138,3 @@ shape_grows w r command e Unfreezes = places w unfrozen _
 shape_grows w r command e (StartsFrame f h) = (f, h.member, refl, h.passes)
 shape_grows w r command e (StartsCollection g) = tt
 shape_grows w r command e Ends = tt
-
-pub effect_grows : (w : World) → Rises 1 w.next_serial w.objects → (command : Command) → Each (GrowsBy w) (effect w command)
-effect_grows w r command = by_shape (GrowsBy w) w command (shape_grows w r command)

@@ -34,6 +34,11 @@ use Rattle.cg_machine.proofs.Left.{MayChange, ComesFrom, IsCollectionOnTop, from
 use Rattle.cg_machine.proofs.LeftDeaths.{starts_leaves, frame_end_leaves, released_leaves, dying_leaves}
 use Rattle.cg_machine.proofs.LeftCollections.{phase_leaves}
 
+-- what a step leaves, if there is an activity to take it
+abbrev pub LeavesUnder : World → List Activity → World → Type 0
+LeavesUnder w [] after = Unit {0}
+LeavesUnder w (a ∷ below) after = LeavesIt w below after
+
 -- The command of w leaves u, in which it is done.
 module _ (script : Script) (b a : Activity) (below : List Activity) (v : World) (ha : HasCommands a) (held : (o : ℕ) → ¬ Includes (holds b) o → ¬ Includes (holds a) o)
     (rises : Rises 1 v.next_serial v.objects) (c : Calm script (with_stack (a ∷ below) v)) (h : HasOrder (with_stack (a ∷ below) v)) where
@@ -65,7 +70,7 @@ module _ (script : Script) (b a : Activity) (below : List Activity) (v : World) 
   emptied_leaves (Framed f) k = unchanged (Framed (record f { commands = [] }))
   emptied_leaves top k = absurd k
 
-  command_leaves : (command : Command) → CommandSteps script (λ x events after. LeavesIt x below after) w command u a below
+  command_leaves : (command : Command) → CommandSteps script (λ x events after. LeavesUnder x x.stack after) w command u a below
   command_leaves command = record {
     stays = λ lines answers. unchanged a;
     stops = λ lines answers. emptied_leaves a ha;
@@ -78,33 +83,16 @@ module _ (script : Script) (b a : Activity) (below : List Activity) (v : World) 
     asks = λ g e. leaves_from w below (push (new_collection g true u) u) (new_collection g true u ∷ a ∷ []) refl (from_refl w below v.objects);
   }
 
--- any step
-abbrev pub LeavesUnder : World → List Activity → World → Type 0
-LeavesUnder w [] after = Unit {0}
-LeavesUnder w (a ∷ below) after = LeavesIt w below after
-
 -- nothing more is held when a command is taken
 taken_held : (command : Command) (a b : Activity) → Takes command a b → (o : ℕ) → ¬ Includes (holds a) o → ¬ Includes (holds b) o
 taken_held command a b (FromTop commands) o k = k
 taken_held command a b (FromFrame f commands left) o k = k
 
-under : (script : Script) (command : Command) (w u : World) (a b : Activity) (below : List Activity) → w.stack ≡ a ∷ below → CommandSteps script (λ x events after. LeavesIt x below after) w command u b below → CommandSteps script (λ x events after. LeavesUnder x x.stack after) w command u b below
-under script command w u a b below top k = record {
-  stays = λ lines answers. to u (k.stays lines answers);
-  stops = λ lines answers. to (on (emptied b) below u) (k.stops lines answers);
-  changes = λ wants_memory lines given_up after shape. to (push (Releasing given_up) after) (k.changes wants_memory lines given_up after shape);
-  calls = λ f h. to _ (k.calls f h);
-  asks = λ g e. to (push (new_collection g true u) u) (k.asks g e);
-}
-  where
-    to : (after : World) → LeavesIt w below after → LeavesUnder w w.stack after
-    to after l = subst (λ st. LeavesUnder w st after) (sym top) l
-
 steps_leave_it : (script : Script) → Steps script (λ w. (Sound w × Calm script w) × HasOrder w) (λ w events after. LeavesUnder w w.stack after)
 steps_leave_it script = record {
   starts_due = λ a below v ha g e k. leaves_from (on a below v) below (push (new_collection g false (on a below v)) (on a below v)) (new_collection g false (on a below v) ∷ a ∷ []) refl (from_refl (on a below v) below v.objects);
   ends = λ below v k. leaves_from (on (TopLevel []) below v) below (record v { stack = TopLevel [] ∷ below; outcome = Ended }) (TopLevel [] ∷ []) refl (from_refl (on (TopLevel []) below v) below v.objects);
-  commands = λ command a b below v takes hb k. under script command (on a below v) (on b below v) a b below refl (command_leaves script a b below v hb (taken_held command a b takes) k.0.0.rises (taken_calm script below v command a b takes k.0.1) (taken_orderly command a b below v takes k.1) command);
+  commands = λ command a b below v takes hb k. command_leaves script a b below v hb (taken_held command a b takes) k.0.0.rises (taken_calm script below v command a b takes k.0.1) (taken_orderly command a b below v takes k.1) command;
   frame_ends = λ f below v left k. frame_end_leaves f below v;
   releases = λ references below v k. released_leaves references below v;
   dies = λ d below v k. dying_leaves script d.object below v d.phase k.0.1 k.1;
