@@ -1,34 +1,30 @@
 -- Each command keeps the invariant of dying objects: it works only with what is held, or what a weak reference refers to.
-use Rattle.std.proofs.Common.{◌≡◌, ◌≢◌, refl, sym, ◌∙◌, ap, subst, ℕ, Bool, true, false, not, ◌&&◌, inl, inr, ◌⊎◌, List, [], ◌∷◌, ◌++◌, map, Option, Some, None, Result, Ok, arith}
-use Rattle.std.specs.Prelude.{◌==◌, ◌||◌, if◌then◌else◌, is_some, option_to_list, ok_or, slice_get, slice_set, remove}
-use Rattle.std.proofs.lemmas.Bool.{eqb-true, and_parts}
+use Rattle.std.proofs.Common.{◌≡◌, ◌≢◌, refl, sym, ◌∙◌, ap, subst, ℕ, Bool, true, false, not, ◌&&◌, inl, inr, ◌⊎◌, List, [], ◌∷◌, ◌++◌, Option, Some, None, arith}
+use Rattle.std.specs.Prelude.{◌==◌, ◌||◌, if◌then◌else◌, slice_set}
+use Rattle.std.proofs.lemmas.Bool.{eqb-true}
 use Rattle.cg_value.specs.declared.Place.{Place}
 use Rattle.cg_value.specs.declared.Place.TheVariants.{Untracked, Gen, Frozen}
 use Rattle.cg_value.specs.declared.Entry.{Entry}
 use Rattle.cg_value.specs.declared.Val.{Val}
-use Rattle.cg_value.specs.declared.Val.TheVariants.{None as Nothing, Int, Str, Ref}
+use Rattle.cg_value.specs.declared.Val.TheVariants.{None as Nothing, Ref}
 use Rattle.cg_value.specs.declared.KindCode.{KindCode}
-use Rattle.cg_value.specs.declared.KindCode.TheVariants.{List as ListKind, Tuple, Dict, Inst, Func, Weak}
+use Rattle.cg_value.specs.declared.KindCode.TheVariants.{Dict, Weak}
 use Rattle.cg_script.specs.declared.Script.{Script}
-use Rattle.cg_script.specs.declared.Operand.{Operand}
 use Rattle.cg_script.specs.declared.Command.{Command}
 use Rattle.cg_graph.specs.Member.{Includes}
-use Rattle.cg_graph.specs.Value.{reference_in, references, references_of_value, entry_references, item, value_at, put, without_key, entry_at}
+use Rattle.cg_graph.specs.Value.{reference_in, references, references_of_value, entry_references, value_at, put}
 use Rattle.cg_graph.specs.Object.{Object, change, with_entries, with_place, is_tracked, first_place, serials}
 use Rattle.cg_graph.specs.Holdings.{name_holdings}
 use Rattle.cg_graph.proofs.Members.{either, Includes-append_left, Includes-append_right, Includes-append_cases, Includes-map, Includes-map_cases}
 use Rattle.cg_machine.specs.World.{World, Numbers, with_change}
 use Rattle.cg_machine.specs.Weak.{has_weak_references, is_instance, is_function}
-use Rattle.cg_machine.specs.Effects.{Effect, Changes, Calls, Collects, Quits, bound, with_new, given_up_by, replaced, frozen, unfrozen, tracked_by, may_track, callback_entries}
-use Rattle.cg_machine.specs.Commands.{effect}
-use Rattle.cg_machine.specs.Refusals.{◌>>=◌, wrong_kind, no_index, no_key, no_attribute, not_weak, not_callable}
-use Rattle.cg_machine.specs.Operands.{is_dict, is_list, is_script_list, is_sequence, is_weak, value, values, object}
+use Rattle.cg_machine.specs.Effects.{Effect, Changes, Calls, Collects, Quits, bound, with_new, given_up_by, replaced, frozen, unfrozen, tracked_by, may_track}
+use Rattle.cg_machine.specs.Operands.{is_dict}
 use Rattle.cg_machine.specs.Collect.{is_condemned}
 use Rattle.cg_machine.proofs.Serials.{Rises}
 use Rattle.cg_machine.proofs.Lookups.{same_object, references_of_member}
 use Rattle.cg_machine.specs.Laws.{HasFunction, IsOfCollection}
 use Rattle.cg_machine.proofs.DyingOrderly.{false_true}
-use Rattle.cg_machine.proofs.CommandLaws.{Each}
 use Rattle.cg_machine.proofs.Forgotten.{IsQuiet, AreQuiet, Forgotten, Mortal, HasFinalizers, AreReferred, IsLater, later_refl, Alters, mortal_after, finalizers_after, change_alters, map_alters, place_later, map_quiet, test_quiet, entries_quiet, entries_alter, referred_after, still_forgotten, lives_within}
 use Rattle.cg_machine.proofs.Unheld.{AreOver}
 use Rattle.cg_machine.proofs.CommandRefs.{HoldNone, option_free, entry_val, entry_key, entry_free, cons_free, put_free, old_value_free, name_free, bound_free, IsKnown, operand_known}

@@ -1,23 +1,9 @@
 -- What each command leaves, and checks in order.
-use Rattle.std.proofs.Common.{◌≡◌, refl, ℕ, ◌+◌, ◌≤◌, Bool, true, false, not, ◌&&◌, List, [], Option, Some, None, Result, Ok, Err, map, arith}
-use Rattle.std.specs.Prelude.{if◌then◌else◌, is_some, ◌||◌}
-use Rattle.cg_value.specs.declared.Place.{Place}
-use Rattle.cg_value.specs.declared.Place.TheVariants.{Gen}
-use Rattle.cg_value.specs.declared.Val.{Val}
-use Rattle.cg_value.specs.declared.Val.TheVariants.{None as Nothing, Int, Str, Ref}
-use Rattle.cg_value.specs.declared.Entry.{Entry}
-use Rattle.cg_value.specs.declared.KindCode.{KindCode}
-use Rattle.cg_value.specs.declared.KindCode.TheVariants.{List as ListKind, Tuple, Dict, Inst, Func, Weak}
-use Rattle.cg_graph.specs.Object.{Object, with_place, with_entries, is_tracked}
-use Rattle.cg_graph.specs.Value.{value_at, item, put}
-use Rattle.cg_script.specs.declared.Command.{Command}
-use Rattle.cg_script.specs.declared.Command.TheVariants.{MakeList, MakeTuple, MakeDict, MakeInst, MakeFunc, MakeRef, Bind, Del, Append, SetItem, DelItem, Put, Remove, SetAttr, DelAttr, Item, Get, Attr, Deref, Call, Quit, Collect, Enable, Disable, Threshold, Flags, Freeze, Unfreeze, Print, Refs, Tracked, Finalized, Count, Gens}
-use Rattle.cg_machine.specs.World.{World, Numbers, with_change}
-use Rattle.cg_machine.specs.Effects.{Effect, Changes, Calls, Collects, Quits, makes, puts, has_room, replaced, frozen, unfrozen, tracked_by, may_track}
-use Rattle.cg_machine.specs.Commands.{effect}
+use Rattle.std.proofs.Common.{◌≡◌, ℕ, ◌+◌, ◌≤◌, Result, Ok, Err}
+use Rattle.cg_machine.specs.World.{World}
+use Rattle.cg_machine.specs.Effects.{Effect, Changes, Calls, Collects, Quits}
 use Rattle.cg_machine.specs.Refusals.{◌>>=◌}
-use Rattle.cg_machine.specs.Operands.{is_dict}
-use Rattle.cg_machine.proofs.Serials.{Rises, Rises-map, Rises-change, Rises-new}
+use Rattle.cg_machine.proofs.Serials.{Rises}
 
 -- an effect leaves the stack and the budget, does not end the run, keeps that serials rise, and makes one object at most
 pub record Leaves (w after : World) : Type 0 where

@@ -1,5 +1,5 @@
 -- The references that a command works with: what its operands stand for, and what lists of entries and names hold after it.
-use Rattle.std.proofs.Common.{◌≡◌, ◌≢◌, refl, sym, ◌∙◌, ap, subst, ℕ, zero, suc, Bool, true, false, inl, List, [], ◌∷◌, ◌++◌, map, Option, Some, None, Result, Ok, Err, take, drop}
+use Rattle.std.proofs.Common.{◌≡◌, ◌≢◌, refl, sym, ap, subst, ℕ, zero, suc, Bool, true, false, inl, List, [], ◌∷◌, Option, Some, None, Result, Ok, Err, take, drop}
 use Rattle.std.specs.Prelude.{if◌then◌else◌, flat_map, slice_get, slice_set, remove, ok_or, option_to_list, option_map, option_and_then}
 use Rattle.cg_value.specs.declared.Entry.{Entry}
 use Rattle.cg_value.specs.declared.Val.{Val}
@@ -7,8 +7,8 @@ use Rattle.cg_value.specs.declared.Val.TheVariants.{None as Nothing, Int, Str, R
 use Rattle.cg_script.specs.declared.Operand.{Operand}
 use Rattle.cg_script.specs.declared.Operand.TheVariants.{None as NoneWord, Int as IntWord, Str as StrWord, Name, SelfLocal, WeakLocal, Cell, Garbage}
 use Rattle.cg_graph.specs.Member.{Includes}
-use Rattle.cg_graph.specs.Value.{references, references_of_value, entry_references, reference_in, item, same_value, value_at, put, without_key, entry_at}
-use Rattle.cg_graph.specs.Object.{Object, object_at, entries_of}
+use Rattle.cg_graph.specs.Value.{references, references_of_value, entry_references, reference_in, same_value, value_at, put}
+use Rattle.cg_graph.specs.Object.{entries_of}
 use Rattle.cg_graph.specs.Holdings.{name_holdings}
 use Rattle.cg_graph.proofs.Members.{either, Includes-append_left, Includes-append_right, Includes-append_cases}
 use Rattle.cg_machine.specs.declared.event.FrameSort.{FrameSort}
@@ -16,11 +16,11 @@ use Rattle.cg_machine.specs.declared.event.FrameSort.TheVariants.{Del, Legacy, C
 use Rattle.cg_machine.specs.World.{World, Activity, Framed, Frame}
 use Rattle.cg_machine.specs.Holdings.{holds}
 use Rattle.cg_machine.specs.Refusals.{◌>>=◌}
-use Rattle.cg_machine.specs.Operands.{frame_on, self_in, weak_in, value_of, value, values, object_of, object, tested}
+use Rattle.cg_machine.specs.Operands.{frame_on, self_in, weak_in, value_of}
 use Rattle.cg_machine.proofs.CommandLaws.{Each}
 use Rattle.cg_machine.proofs.Forgotten.{Forgotten}
 use Rattle.cg_machine.proofs.Unheld.{IsLocalHeld, AreOver}
-use Rattle.cg_machine.proofs.Lookups.{found_at, slice_get_member, references_of_member, references_take, references-append, entries_free}
+use Rattle.cg_machine.proofs.Lookups.{slice_get_member, references_of_member, references_take, references-append, entries_free}
 
 -- entries hold nothing of o, and a value does not refer to it
 abbrev pub HoldNone : ℕ → List Entry → Type 0

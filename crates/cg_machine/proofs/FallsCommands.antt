@@ -1,22 +1,21 @@
 -- Steps of commands, and that each step of the machine keeps the invariant and makes the measure smaller.
 use Rattle.cg_machine.proofs.Growth.{Grows, shape_grows}
-use Rattle.std.proofs.Common.{◌≡◌, refl, sym, ap, subst, ℕ, suc, ◌*◌, ◌<◌, ◌≤◌, Bool, true, false, not, ◌&&◌, inl, inr, length, List, [], ◌∷◌, Option, Some, None, Result, Ok, Err, arith}
+use Rattle.std.proofs.Common.{◌≡◌, refl, sym, ap, subst, ℕ, suc, ◌*◌, ◌<◌, ◌≤◌, Bool, true, false, not, ◌&&◌, length, List, [], ◌∷◌, Some, None, arith}
 use Rattle.std.specs.Prelude.{if◌then◌else◌}
 use Rattle.std.specs.List.{list_any}
 use Rattle.cg_script.specs.declared.Script.{Script}
 use Rattle.cg_script.specs.declared.Command.{Command}
 use Rattle.cg_machine.specs.declared.event.Event.{Event}
-use Rattle.cg_machine.specs.declared.event.Event.TheVariants.{Collected}
 use Rattle.cg_machine.specs.declared.event.FrameSort.TheVariants.{Call as CallFrame}
-use Rattle.cg_machine.specs.World.{World, Activity, TopLevel, Framed, Releasing, Dying, Collecting, Frame, Running, push, with_stack}
+use Rattle.cg_machine.specs.World.{World, Activity, TopLevel, Framed, Releasing, Collecting, Running, push, with_stack}
 use Rattle.cg_machine.specs.Holdings.{is_collection, is_collecting}
-use Rattle.cg_machine.specs.Frame.{Transition, procedure_of}
-use Rattle.cg_machine.specs.Effects.{Effect, Changes, Calls, Collects, Quits}
-use Rattle.cg_machine.specs.Commands.{effect, DoesEffect, stopped_frame, without_commands, new_collection}
+use Rattle.cg_machine.specs.Frame.{procedure_of}
+use Rattle.cg_machine.specs.Effects.{Changes}
+use Rattle.cg_machine.specs.Commands.{new_collection}
 use Rattle.cg_machine.specs.Due.{is_due, due, due_generation}
-use Rattle.cg_machine.specs.Run.{Step, StepOf, TopLevelStep, FrameStep, CommandInFrame}
+use Rattle.cg_machine.specs.Run.{Step}
 use Rattle.cg_machine.proofs.Tally.{tally}
-use Rattle.cg_machine.proofs.CommandLaws.{Leaves, LeavesStack, Each}
+use Rattle.cg_machine.proofs.CommandLaws.{Leaves}
 use Rattle.cg_machine.proofs.ShapeLaws.{changes_leave}
 use Rattle.cg_machine.proofs.Invariants.{HasCommands, Takes, FromTop, FromFrame, emptied, on, CommandSteps, Steps, any_step}
 use Rattle.cg_machine.proofs.Measure.{alive, commands_in, all_bodies, commands_left, is_starting, due_rank, by_commands, by_due, weight_in}

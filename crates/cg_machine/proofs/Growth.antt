@@ -1,35 +1,27 @@
 -- How far a command makes the world grow, and that what it calls is a function.
-use Rattle.std.proofs.Common.{◌≡◌, refl, sym, ◌∙◌, ap, ℕ, suc, ◌+◌, ◌≤◌, Bool, true, false, not, ◌&&◌, inl, inr, List, [], ◌∷◌, ◌++◌, map, length, length-append, Option, Some, None, Result, Ok, Err, arith, option_to_list, take, drop, length-drop}
-use Rattle.std.specs.Prelude.{◌==◌, ◌||◌, nat_le, if◌then◌else◌, is_some, ok_or, option_and_then, slice_set, slice_get, remove}
-use Rattle.std.proofs.lemmas.List.{length-set, length-take}
-use Rattle.std.proofs.lemmas.Bool.{eq-eqb, ne_eqb, leb-true}
+use Rattle.std.proofs.Common.{◌≡◌, refl, ap, ℕ, suc, ◌+◌, ◌≤◌, Bool, true, false, not, ◌&&◌, inl, inr, List, [], ◌∷◌, length, Option, Some, None, arith, option_to_list}
+use Rattle.std.specs.Prelude.{◌==◌, ◌||◌, if◌then◌else◌, is_some, option_and_then, slice_get}
+use Rattle.std.proofs.lemmas.Bool.{eq-eqb, ne_eqb}
 use Rattle.cg_value.specs.declared.Val.{Val}
-use Rattle.cg_value.specs.declared.Val.TheVariants.{None as Nothing, Int, Str, Ref}
 use Rattle.cg_value.specs.declared.Entry.{Entry}
 use Rattle.cg_value.specs.declared.Place.{Place}
 use Rattle.cg_value.specs.declared.Place.TheVariants.{Gen}
 use Rattle.cg_value.specs.declared.KindCode.{KindCode}
-use Rattle.cg_value.specs.declared.KindCode.TheVariants.{List as ListKind, Tuple, Dict, Inst, Func, Weak}
 use Rattle.cg_graph.specs.Member.{Includes}
-use Rattle.cg_graph.specs.Object.{Object, change, object_at, with_entries, with_place, is_tracked, first_place}
-use Rattle.cg_graph.specs.Value.{reference_in, value_at, item, put, without_key, same_value, entry_references, references_of_value}
+use Rattle.cg_graph.specs.Object.{Object, change, with_entries, with_place, is_tracked, first_place}
+use Rattle.cg_graph.specs.Value.{reference_in, value_at, put, same_value, references_of_value}
 use Rattle.cg_script.specs.declared.Command.{Command}
 use Rattle.cg_machine.specs.World.{World, Numbers, with_change}
-use Rattle.cg_machine.specs.Effects.{Effect, Changes, Calls, Collects, Quits, makes, puts, has_room, entry_count, replaced, frozen, unfrozen, tracked_by, may_track, given_up_by}
-use Rattle.cg_machine.specs.Commands.{effect}
-use Rattle.cg_machine.specs.Refusals.{◌>>=◌, unless, entry_limit, not_callable, wrong_kind}
-use Rattle.cg_machine.specs.Operands.{is_dict, object_of, tested, is_script_list, is_list, object}
-use Rattle.cg_machine.specs.Weak.{is_instance, is_function}
+use Rattle.cg_machine.specs.Effects.{Effect, Changes, Calls, Collects, Quits, replaced, frozen, unfrozen, tracked_by, may_track, given_up_by}
+use Rattle.cg_machine.specs.Operands.{is_dict}
 use Rattle.cg_machine.specs.Laws.{HasFunction}
 use Rattle.cg_machine.proofs.Tally.{bit, tally-append, tally-map_le}
 use Rattle.cg_machine.proofs.Serials.{Rises, change-below}
 use Rattle.cg_machine.proofs.Measure.{entries_in, referents_in, size_of}
 use Rattle.cg_machine.proofs.Fading.{Same, map_stays, if_same}
-use Rattle.cg_machine.proofs.FallsDeaths.{references_two}
-use Rattle.cg_machine.proofs.CommandLaws.{Each}
 use Rattle.cg_machine.proofs.Shapes.{Shape, Binds, Makes, Edits, Puts, Shows, Tells, Sets, Freezes, Unfreezes, StartsFrame, StartsCollection, Ends}
 use Rattle.cg_machine.proofs.ShapeLaws.{shape_gives_few}
-use Rattle.cg_machine.proofs.Lookups.{found_at, serial_from}
+use Rattle.cg_machine.proofs.Lookups.{serial_from}
 
 pub record Grows (w after : World) (given_up : List ℕ) : Type 0 where
   pub size : size_of after.objects ≤ size_of w.objects + 1

@@ -1,30 +1,26 @@
 -- Every step of a run leaves what lies below the activity that takes it.
-use Rattle.std.proofs.Common.{◌≡◌, refl, sym, ap, subst, ℕ, Bool, true, false, inl, inr, ◌⊎◌, List, [], ◌∷◌, ◌++◌, Option, Some, None, Result, Ok, Err, arith}
-use Rattle.std.specs.Prelude.{if◌then◌else◌}
+use Rattle.std.proofs.Common.{◌≡◌, refl, sym, ap, subst, ℕ, true, false, inl, inr, ◌⊎◌, List, [], ◌∷◌, ◌++◌, Some, arith}
 use Rattle.cg_script.specs.declared.Script.{Script}
 use Rattle.cg_script.specs.declared.Command.{Command}
 use Rattle.cg_graph.specs.Member.{Includes}
 use Rattle.cg_graph.specs.Object.{Object, serials}
 use Rattle.cg_graph.proofs.Members.{either, Includes-append_right}
 use Rattle.cg_machine.specs.declared.event.Event.{Event}
-use Rattle.cg_machine.specs.declared.event.Event.TheVariants.{Collected}
 use Rattle.cg_machine.specs.declared.event.FrameSort.TheVariants.{Call as CallFrame}
-use Rattle.cg_machine.specs.World.{World, Activity, TopLevel, Framed, Releasing, Dying, Collecting, Frame, DyingPhase, Finalizer, AfterFinalizer, Clearing, Calling, AfterCall, LegacyFinalizer, AfterLegacy, Detaching, Emptying, Ended, opening, push, with_stack}
-use Rattle.cg_machine.specs.Holdings.{holds, is_collection, is_collecting}
-use Rattle.cg_machine.specs.Frame.{Transition, procedure_of}
-use Rattle.cg_machine.specs.Effects.{Effect, Changes, Calls, Collects, Quits}
-use Rattle.cg_machine.specs.Commands.{effect, stopped_frame, without_commands, new_collection, DoesEffect}
-use Rattle.cg_machine.specs.Due.{due}
-use Rattle.cg_machine.specs.Run.{StepTaken, Step, StepOf, Run, TopLevelStep, CommandInFrame, FrameStep, last_world}
+use Rattle.cg_machine.specs.World.{World, Activity, TopLevel, Framed, Releasing, Dying, Collecting, DyingPhase, Finalizer, AfterFinalizer, Clearing, Calling, AfterCall, LegacyFinalizer, AfterLegacy, Detaching, Emptying, Ended, opening, push, with_stack}
+use Rattle.cg_machine.specs.Holdings.{holds, is_collection}
+use Rattle.cg_machine.specs.Frame.{procedure_of}
+use Rattle.cg_machine.specs.Effects.{Changes}
+use Rattle.cg_machine.specs.Commands.{new_collection}
+use Rattle.cg_machine.specs.Run.{StepTaken, Step, Run, last_world}
 use Rattle.cg_machine.specs.Laws.{waits_of, all_waits, is_cleared, HadItsEntries, HadItsPlace, IsOfCollection, LeavesBelow, StepsLeaveWhatIsBelow}
 use Rattle.cg_machine.proofs.Serials.{Rises}
 use Rattle.cg_machine.proofs.Sound.{Sound, opening_sound}
 use Rattle.cg_machine.proofs.Ending.{sound_after}
-use Rattle.cg_machine.proofs.CommandLaws.{Each, LeavesStack}
 use Rattle.cg_machine.proofs.ShapeLaws.{changes_leave}
 use Rattle.cg_machine.proofs.Forgotten.{Forgotten, alters_refl, still_forgotten, lives_within}
 use Rattle.cg_machine.proofs.Unheld.{Rests, AreResting, IsStack, Calm, turned_free}
-use Rattle.cg_machine.proofs.CommandCalm.{IsMild, Comes, was_there, is_new, shape_mild}
+use Rattle.cg_machine.proofs.CommandCalm.{Comes, was_there, is_new, shape_mild}
 use Rattle.cg_machine.proofs.Orderly.{waits_held}
 use Rattle.cg_machine.proofs.DyingOrderly.{HasOrder}
 use Rattle.cg_machine.proofs.RunsCalm.{taken_calm, opening_calm}

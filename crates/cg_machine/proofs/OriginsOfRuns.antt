@@ -1,5 +1,5 @@
 -- Every step of a run leaves what a world has of its script: a command that makes an object names its class or procedure.
-use Rattle.std.proofs.Common.{◌≡◌, refl, sym, subst, ℕ, inl, inr, List, [], ◌∷◌, ◌++◌, Some}
+use Rattle.std.proofs.Common.{refl, sym, subst, ℕ, inl, inr, List, [], ◌∷◌, ◌++◌, Some}
 use Rattle.std.specs.Prelude.{flat_map}
 use Rattle.cg_script.specs.declared.Script.{Script}
 use Rattle.cg_script.specs.declared.Command.{Command}
@@ -9,14 +9,14 @@ use Rattle.cg_graph.proofs.Members.{either, Includes-append_left, Includes-appen
 use Rattle.cg_machine.specs.declared.event.Event.{Event}
 use Rattle.cg_machine.specs.declared.event.FrameSort.TheVariants.{Call as CallFrame}
 use Rattle.cg_machine.specs.Program.{commands_of, procedures}
-use Rattle.cg_machine.specs.World.{World, Activity, TopLevel, Framed, Dying, Collecting, Frame, opening, with_stack}
+use Rattle.cg_machine.specs.World.{World, Activity, TopLevel, Framed, Dying, Collecting, opening}
 use Rattle.cg_machine.specs.Frame.{procedure_of}
 use Rattle.cg_machine.specs.Effects.{Changes}
 use Rattle.cg_machine.specs.Run.{Step}
 use Rattle.cg_machine.specs.Origins.{all_commands, commands_on, IsOfScript, WorldsHaveOrigins}
 use Rattle.cg_machine.proofs.Shapes.{IsMadeBy}
 use Rattle.cg_machine.proofs.ShapeLaws.{changes_leave, shape_comes}
-use Rattle.cg_machine.proofs.Invariants.{HasCommands, Takes, FromTop, FromFrame, emptied, on, CommandSteps, Steps, Invariant, any_step, by_runs}
+use Rattle.cg_machine.proofs.Invariants.{HasCommands, Takes, FromTop, FromFrame, emptied, on, CommandSteps, Steps, any_step, by_runs}
 use Rattle.cg_machine.proofs.Origins.{AreOfScript, IsAllOfScript, later_of_script, starts_origin, frame_end_origin, released_origin, popped_origin, dying_origin, phase_origin}
 
 module _ (script : Script) where

@@ -1,7 +1,7 @@
 -- Each command leaves the texts of names and entries, and prints a value with such a text alone: what it stores it has
 -- from names, entries and its own operands.
-use Rattle.std.proofs.Common.{◌≡◌, refl, sym, subst, ℕ, ◌<◌, ◌≤◌, Bool, true, false, not, ◌&&◌, inl, inr, List, [], ◌∷◌, ◌++◌, length, map, Option, Some, None, Result, Ok, Err}
-use Rattle.std.specs.Prelude.{◌||◌, if◌then◌else◌, is_some, ok_or, option_and_then, option_map, slice_get, slice_set, remove}
+use Rattle.std.proofs.Common.{◌≡◌, refl, sym, subst, ℕ, ◌<◌, ◌≤◌, Bool, true, false, not, ◌&&◌, inl, List, [], ◌∷◌, length, Option, Some, None}
+use Rattle.std.specs.Prelude.{◌||◌, if◌then◌else◌, option_and_then, option_map, slice_get, slice_set}
 use Rattle.std.specs.List.{All}
 use Rattle.cg_value.specs.declared.Entry.{Entry}
 use Rattle.cg_value.specs.declared.Place.{Place}
@@ -9,29 +9,23 @@ use Rattle.cg_value.specs.declared.Place.TheVariants.{Gen}
 use Rattle.cg_value.specs.declared.Val.{Val}
 use Rattle.cg_value.specs.declared.Val.TheVariants.{None as Nothing, Int, Str, Ref}
 use Rattle.cg_value.specs.declared.KindCode.{KindCode}
-use Rattle.cg_value.specs.declared.KindCode.TheVariants.{List as ListKind, Tuple, Dict, Inst, Func, Weak}
 use Rattle.cg_script.specs.declared.Operand.{Operand}
 use Rattle.cg_script.specs.declared.Operand.TheVariants.{None as NoneWord, Int as IntWord, Str as StrWord, Name, SelfLocal, WeakLocal, Cell, Garbage}
 use Rattle.cg_script.specs.declared.Command.{Command}
-use Rattle.cg_script.specs.Texts.{operand_texts, operands_texts}
+use Rattle.cg_script.specs.Texts.{operand_texts}
 use Rattle.cg_graph.specs.Member.{Includes}
-use Rattle.cg_graph.specs.Value.{reference_in, item, value_at, put, without_key}
-use Rattle.cg_graph.specs.Object.{Object, object_at, entries_of, first_place, is_tracked, with_entries, with_place}
-use Rattle.cg_graph.proofs.Members.{either, Includes-append_left, Includes-append_right, Includes-append_cases}
+use Rattle.cg_graph.specs.Value.{put}
+use Rattle.cg_graph.specs.Object.{Object, entries_of, first_place, is_tracked, with_entries, with_place}
+use Rattle.cg_graph.proofs.Members.{either, Includes-append_cases}
 use Rattle.cg_machine.specs.declared.event.Event.{Event}
-use Rattle.cg_machine.specs.declared.event.Event.TheVariants.{Count as CountLine, Finalized as FinalizedLine, Made, RefCount, Tracked as TrackedLine, Value}
+use Rattle.cg_machine.specs.declared.event.Event.TheVariants.{Made, Value}
 use Rattle.cg_machine.specs.World.{World, Frame, Numbers, with_change}
-use Rattle.cg_machine.specs.Holdings.{in_degree}
-use Rattle.cg_machine.specs.Refusals.{◌>>=◌, no_attribute, no_index, no_key, no_name, not_callable, wrong_kind}
-use Rattle.cg_machine.specs.Operands.{frame_on, is_dict, is_list, is_script_list, is_sequence, object, object_of, self_in, value, value_of, values, weak_in}
-use Rattle.cg_machine.specs.Effects.{Effect, Changes, Calls, Collects, Quits, bound, with_new, frozen, gens_line, has_room, makes, may_track, puts, replaced, tracked_by, unfrozen}
-use Rattle.cg_machine.specs.Commands.{effect}
-use Rattle.cg_machine.specs.Weak.{is_function, is_instance}
+use Rattle.cg_machine.specs.Operands.{frame_on, is_dict, self_in, value_of, weak_in}
+use Rattle.cg_machine.specs.Effects.{Effect, Changes, Calls, Collects, Quits, bound, with_new, frozen, may_track, replaced, tracked_by, unfrozen}
 use Rattle.cg_machine.specs.Lines.{IsPrintable}
-use Rattle.cg_machine.proofs.CommandLaws.{Each, checked}
 use Rattle.cg_machine.proofs.Shapes.{IsAtHand, Word, ValueIn, KeyIn, ReferentOf, TellsNumbers, Shape, Binds, Makes, Edits, Puts, Shows, Tells, Sets, Freezes, Unfreezes, StartsFrame, StartsCollection, Ends}
-use Rattle.cg_machine.proofs.Lookups.{found_at, slice_get_member}
-use Rattle.cg_machine.proofs.PrintableTexts.{HasText, EntryHasTexts, HaveTexts, WorldHasTexts, KeepsTexts, NamesTexts, set_member, text_printable, entries_item, entries_items, entries_put, entries_removed, entries_set, entries_texts, entries_without, value_text_at, mapped_texts, changed_texts}
+use Rattle.cg_machine.proofs.Lookups.{slice_get_member}
+use Rattle.cg_machine.proofs.PrintableTexts.{HasText, EntryHasTexts, HaveTexts, WorldHasTexts, KeepsTexts, NamesTexts, set_member, text_printable, entries_put, entries_texts, mapped_texts, changed_texts}
 use Rattle.cg_machine.proofs.PrintableSteps.{Prints, silent, says}
 
 module _ (texts : List (List ℕ)) (short : All (λ text. length text ≤ 1024) texts) (w : World) (known : WorldHasTexts (length texts) w) where

@@ -1,5 +1,5 @@
 -- Each line of a run of a script that names its own texts alone, each of them short, can be printed.
-use Rattle.std.proofs.Common.{◌≡◌, sym, refl, subst, ℕ, ◌≤◌, true, inl, inr, List, [], ◌∷◌, length, Option, Some, None, Result, Ok, Err}
+use Rattle.std.proofs.Common.{◌≡◌, sym, refl, subst, ℕ, ◌≤◌, inl, List, [], ◌∷◌, length, Some, None}
 use Rattle.std.specs.Prelude.{flat_map}
 use Rattle.std.specs.List.{All}
 use Rattle.cg_script.specs.declared.Script.{Script}
@@ -11,22 +11,17 @@ use Rattle.cg_graph.proofs.Members.{either, Includes-append_left, Includes-appen
 use Rattle.cg_machine.specs.declared.event.Event.{Event}
 use Rattle.cg_machine.specs.declared.event.Event.TheVariants.{Collected, End, Refused}
 use Rattle.cg_machine.specs.declared.event.FrameSort.TheVariants.{Call as CallFrame}
-use Rattle.cg_machine.specs.World.{World, Activity, TopLevel, Framed, Releasing, Dying, Collecting, Frame, opening, push, with_stack}
-use Rattle.cg_machine.specs.Holdings.{is_collecting}
+use Rattle.cg_machine.specs.World.{World, Activity, Releasing, opening, with_stack}
 use Rattle.cg_machine.specs.Frame.{procedure_of}
-use Rattle.cg_machine.specs.Refusals.{no_memory}
-use Rattle.cg_machine.specs.Effects.{Effect, Changes, Calls, Collects, Quits}
-use Rattle.cg_machine.specs.Commands.{effect, new_collection, refused, DoesEffect}
-use Rattle.cg_machine.specs.Due.{due}
-use Rattle.cg_machine.specs.Run.{StepTaken, StepOf, Run, TopLevelStep, CommandInFrame, FrameStep, events_of}
+use Rattle.cg_machine.specs.Effects.{Changes}
+use Rattle.cg_machine.specs.Run.{StepTaken, Run, events_of}
 use Rattle.cg_machine.specs.Lines.{IsPrintable}
 use Rattle.cg_machine.specs.Origins.{commands_on}
 use Rattle.cg_machine.specs.Printing.{LinesArePrintable}
-use Rattle.cg_machine.proofs.CommandLaws.{Each}
 use Rattle.cg_machine.proofs.Origins.{IsAllOfScript}
 use Rattle.cg_machine.proofs.OriginsOfRuns.{step_origin, opening_origin}
 use Rattle.cg_machine.proofs.PrintableTexts.{HaveTexts, WorldHasTexts, NamesTexts, commands_name_texts, replicated_member}
-use Rattle.cg_machine.proofs.PrintableSteps.{Prints, yielded, silent, says, either_prints, starts_prints, frame_end_prints, released_prints, dying_prints, phase_prints}
+use Rattle.cg_machine.proofs.PrintableSteps.{Prints, silent, says, starts_prints, frame_end_prints, released_prints, dying_prints, phase_prints}
 use Rattle.cg_machine.proofs.PrintableCommands.{shape_prints}
 use Rattle.cg_machine.proofs.Invariants.{Takes, FromTop, FromFrame, emptied, on, AreAnswers, CommandSteps, Steps, any_step}
 

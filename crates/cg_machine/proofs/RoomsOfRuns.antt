@@ -1,5 +1,5 @@
 -- Every step of a run leaves room, commands among them: no command gives up more than an entry.
-use Rattle.std.proofs.Common.{◌≡◌, sym, subst, ap, ℕ, ◌≤◌, List, [], ◌∷◌, length, Some, arith}
+use Rattle.std.proofs.Common.{◌≡◌, sym, subst, ℕ, ◌≤◌, List, ◌∷◌, length, Some, arith}
 use Rattle.cg_script.specs.declared.Script.{Script}
 use Rattle.cg_script.specs.declared.Command.{Command}
 use Rattle.cg_machine.specs.declared.event.FrameSort.TheVariants.{Call as CallFrame}

@@ -1,35 +1,32 @@
 -- Every world of a run has the invariant of dying objects, and so a dying object is unheld.
-use Rattle.std.proofs.Common.{◌≡◌, ◌≢◌, refl, sym, ◌∙◌, ap, subst, ℕ, Bool, true, false, inl, inr, List, [], ◌∷◌, Option, Some, None, Result, Ok, Err}
-use Rattle.std.specs.Prelude.{if◌then◌else◌}
+use Rattle.std.proofs.Common.{◌≡◌, ◌≢◌, refl, sym, ◌∙◌, ap, subst, ℕ, Bool, true, false, inl, inr, List, [], ◌∷◌, Some, None}
 use Rattle.cg_script.specs.declared.Script.{Script}
 use Rattle.cg_script.specs.declared.Command.{Command}
 use Rattle.cg_graph.specs.Member.{Includes}
 use Rattle.cg_graph.specs.Object.{Object}
 use Rattle.cg_graph.proofs.Members.{either}
 use Rattle.cg_machine.specs.declared.event.Event.{Event}
-use Rattle.cg_machine.specs.declared.event.Event.TheVariants.{Collected}
 use Rattle.cg_machine.specs.declared.event.FrameSort.TheVariants.{Call as CallFrame}
-use Rattle.cg_machine.specs.World.{World, Activity, TopLevel, Framed, Releasing, Dying, Collecting, Frame, Death, DyingPhase, Finalizer, AfterFinalizer, Clearing, Calling, AfterCall, LegacyFinalizer, AfterLegacy, Detaching, Emptying, Ended, opening, garbage_list, push, with_stack}
-use Rattle.cg_machine.specs.Holdings.{holds, holdings, is_collecting}
-use Rattle.cg_machine.specs.Frame.{Transition, start_frame, procedure_of}
-use Rattle.cg_machine.specs.Effects.{Effect, Changes, Calls, Collects, Quits}
-use Rattle.cg_machine.specs.Commands.{effect, stopped_frame, without_commands, new_collection, DoesEffect}
-use Rattle.cg_machine.specs.Due.{due}
-use Rattle.cg_machine.specs.Run.{StepTaken, Step, StepOf, Run, TopLevelStep, CommandInFrame, FrameStep, last_world}
+use Rattle.cg_machine.specs.World.{World, Activity, TopLevel, Framed, Releasing, Dying, Death, DyingPhase, Finalizer, AfterFinalizer, Clearing, Calling, AfterCall, LegacyFinalizer, AfterLegacy, Detaching, Emptying, Ended, opening, garbage_list, push, with_stack}
+use Rattle.cg_machine.specs.Holdings.{holds, holdings}
+use Rattle.cg_machine.specs.Frame.{procedure_of}
+use Rattle.cg_machine.specs.Effects.{Changes, Calls}
+use Rattle.cg_machine.specs.Commands.{new_collection}
+use Rattle.cg_machine.specs.Run.{StepTaken, Step, Run, last_world}
 use Rattle.cg_machine.specs.Laws.{DyingIsUnheld, IsHeldByItsDeathAlone}
 use Rattle.cg_machine.proofs.Serials.{Rises}
 use Rattle.cg_machine.proofs.Sound.{Sound, opening_sound}
 use Rattle.cg_machine.proofs.Number.{step_falls}
-use Rattle.cg_machine.proofs.CommandLaws.{Each, LeavesStack, Leaves}
+use Rattle.cg_machine.proofs.CommandLaws.{Leaves}
 use Rattle.cg_machine.proofs.ShapeLaws.{changes_leave}
 use Rattle.cg_machine.proofs.Shapes.{StartsFrame}
-use Rattle.cg_machine.proofs.Forgotten.{Forgotten, alters_refl, still_forgotten}
+use Rattle.cg_machine.proofs.Forgotten.{alters_refl, still_forgotten}
 use Rattle.cg_machine.proofs.Unheld.{IsOver, AreOver, AreResting, IsOnTop, IsStack, Stands, Calm, Keeps, stands, resting_after, same_objects, pushed_free, turned_free, held_by_member}
 use Rattle.cg_machine.proofs.Releasing.{none_holds, unheld_degree, starts_calm, released_calm, frame_end_calm}
 use Rattle.cg_machine.proofs.DyingCalm.{dying_calm}
 use Rattle.cg_machine.proofs.CollectCalm.{phase_calm}
 use Rattle.cg_machine.proofs.Invariants.{HasCommands, Takes, FromTop, FromFrame, emptied, on, CommandSteps, Steps, any_step}
-use Rattle.cg_machine.proofs.CommandCalm.{Mild, IsMild, shape_mild}
+use Rattle.cg_machine.proofs.CommandCalm.{Mild, shape_mild}
 
 -- commands stand on top, and may get fewer
 pub no_death : (a : Activity) → HasCommands a → (d : Death) → a ≢ Dying d

@@ -1,6 +1,6 @@
 -- In every world of a run what is held lives, and what waits has its callback.
-use Rattle.std.proofs.Common.{◌≡◌, ◌≢◌, refl, sym, ◌∙◌, ap, subst, ℕ, zero, suc, length, replicate, Bool, true, false, inl, inr, ◌⊎◌, List, [], ◌∷◌, ◌++◌, Option, Some, None, Result, Ok, Err, arith}
-use Rattle.std.specs.Prelude.{if◌then◌else◌, flat_map}
+use Rattle.std.proofs.Common.{◌≡◌, ◌≢◌, refl, sym, ◌∙◌, ap, subst, ℕ, zero, suc, length, replicate, Bool, true, false, inl, inr, ◌⊎◌, List, [], ◌∷◌, ◌++◌, Some, None, arith}
+use Rattle.std.specs.Prelude.{flat_map}
 use Rattle.cg_value.specs.declared.KindCode.TheVariants.{List as ListKind, Weak}
 use Rattle.cg_script.specs.declared.Script.{Script}
 use Rattle.cg_script.specs.declared.Command.{Command}
@@ -10,28 +10,25 @@ use Rattle.cg_graph.specs.Object.{Object, serials}
 use Rattle.cg_graph.specs.Holdings.{name_holdings, occurrences, graph_of, entry_holdings}
 use Rattle.cg_graph.proofs.Members.{either, Includes-of, includes-of, Includes-append_left, Includes-append_right, Includes-append_cases, Includes-map, Includes-map_cases}
 use Rattle.cg_machine.specs.declared.event.Event.{Event}
-use Rattle.cg_machine.specs.declared.event.Event.TheVariants.{Collected}
 use Rattle.cg_machine.specs.declared.event.FrameSort.{FrameSort}
 use Rattle.cg_machine.specs.declared.event.FrameSort.TheVariants.{Del, Legacy, Callback, Call as CallFrame}
-use Rattle.cg_machine.specs.World.{World, Activity, TopLevel, Framed, Releasing, Dying, Collecting, Frame, Collection, Start, Turn, DyingPhase, Finalizer, AfterFinalizer, Clearing, Calling, AfterCall, LegacyFinalizer, AfterLegacy, Detaching, Emptying, opening, garbage_list, push, with_stack}
-use Rattle.cg_machine.specs.Holdings.{holds, collect_holds, holdings, is_collecting}
-use Rattle.cg_machine.specs.Frame.{Transition, procedure_of}
+use Rattle.cg_machine.specs.World.{World, Activity, TopLevel, Framed, Collecting, Frame, Collection, Start, Turn, DyingPhase, Finalizer, AfterFinalizer, Clearing, Calling, AfterCall, LegacyFinalizer, AfterLegacy, Detaching, Emptying, opening, garbage_list, push, with_stack}
+use Rattle.cg_machine.specs.Holdings.{holds, collect_holds, holdings}
+use Rattle.cg_machine.specs.Frame.{procedure_of}
 use Rattle.cg_machine.specs.Weak.{callback_in, is_function}
-use Rattle.cg_machine.specs.Effects.{Effect, Changes, Calls, Collects, Quits}
-use Rattle.cg_machine.specs.Commands.{effect, stopped_frame, without_commands, new_collection, DoesEffect}
+use Rattle.cg_machine.specs.Effects.{Changes}
+use Rattle.cg_machine.specs.Commands.{new_collection}
 use Rattle.cg_machine.specs.Collect.{is_condemned}
-use Rattle.cg_machine.specs.Due.{due}
 use Rattle.cg_machine.specs.Run.{StepTaken, Step, Run, last_world}
 use Rattle.cg_machine.specs.Laws.{waits_of, all_waits, IsWaiting, HasFunction, AreDeathsOfOthers, IsDeathIn, WorldsAreOrderly}
 use Rattle.cg_machine.proofs.Serials.{Rises}
 use Rattle.cg_machine.proofs.Sound.{Sound, opening_sound}
 use Rattle.cg_machine.proofs.Number.{step_falls}
-use Rattle.cg_machine.proofs.CommandLaws.{Each, LeavesStack}
 use Rattle.cg_machine.proofs.ShapeLaws.{changes_leave}
 use Rattle.cg_machine.proofs.Forgotten.{Forgotten, AreReferred, some_later, none_later, lives_within}
 use Rattle.cg_machine.proofs.Unheld.{IsLocalHeld, IsOver, AreOver, not_dying, Stands, Calm, held_by_member}
 use Rattle.cg_machine.proofs.Releasing.{entry_holder}
-use Rattle.cg_machine.proofs.CommandCalm.{Mild, IsMild, Comes, was_there, is_new, shape_mild}
+use Rattle.cg_machine.proofs.CommandCalm.{Mild, Comes, was_there, is_new, shape_mild}
 use Rattle.cg_machine.proofs.Orderly.{IsClearing, Orderly, push_orderly, turns_fewer, waits_held}
 use Rattle.cg_machine.proofs.DyingOrderly.{HasOrder, starts_orderly, gives_up_orderly, frame_end_orderly, released_orderly, dying_orderly}
 use Rattle.cg_machine.proofs.CollectOrderly.{phase_orderly}

@@ -1,27 +1,24 @@
 -- What follows from the shape of an effect, for all commands at once: a clause for each form.
-use Rattle.std.proofs.Common.{◌≡◌, ◌≢◌, refl, sym, ap, subst, ℕ, ◌+◌, ◌≤◌, Bool, true, false, not, ◌&&◌, inl, inr, ◌⊎◌, List, [], ◌∷◌, ◌++◌, length, length-append, Option, Some, None, Result, Ok, Err, arith, option_to_list}
+use Rattle.std.proofs.Common.{refl, ap, subst, ℕ, ◌≤◌, Bool, true, false, not, ◌&&◌, inl, inr, ◌⊎◌, List, [], ◌∷◌, length, Option, Result, Ok, Err, arith}
 use Rattle.std.specs.Prelude.{if◌then◌else◌, ◌||◌, option_and_then, slice_get}
 use Rattle.cg_value.specs.declared.Val.{Val}
-use Rattle.cg_value.specs.declared.Val.TheVariants.{Ref}
 use Rattle.cg_value.specs.declared.Entry.{Entry}
-use Rattle.cg_value.specs.declared.Place.{Place}
 use Rattle.cg_value.specs.declared.Place.TheVariants.{Gen}
-use Rattle.cg_value.specs.declared.KindCode.{KindCode}
 use Rattle.cg_script.specs.declared.Command.{Command}
 use Rattle.cg_graph.specs.Member.{Includes}
-use Rattle.cg_graph.specs.Object.{Object, change, first_place, is_tracked, with_entries, with_place}
-use Rattle.cg_graph.specs.Value.{reference_in, references_of_value, entry_references, value_at, put}
+use Rattle.cg_graph.specs.Object.{Object, is_tracked, with_entries, with_place}
+use Rattle.cg_graph.specs.Value.{reference_in, references_of_value, value_at, put}
 use Rattle.cg_graph.proofs.Members.{either, Includes-append_cases}
 use Rattle.cg_machine.specs.declared.event.Event.{Event}
-use Rattle.cg_machine.specs.World.{World, Numbers, with_change}
-use Rattle.cg_machine.specs.Effects.{Effect, Changes, Calls, Collects, Quits, replaced, frozen, unfrozen, tracked_by, may_track, given_up_by}
+use Rattle.cg_machine.specs.World.{World}
+use Rattle.cg_machine.specs.Effects.{Effect, Changes, Calls, Collects, Quits, frozen, unfrozen, tracked_by, may_track}
 use Rattle.cg_machine.specs.Commands.{effect}
 use Rattle.cg_machine.specs.Operands.{is_dict}
-use Rattle.cg_machine.proofs.Serials.{Rises, Rises-map, Rises-change, Rises-new}
+use Rattle.cg_machine.proofs.Serials.{Rises-map, Rises-change, Rises-new}
 use Rattle.cg_machine.proofs.CommandLaws.{Each, Leaves, LeavesStack}
-use Rattle.cg_machine.proofs.Forgotten.{IsLater, later_refl, Alters, change_alters, map_alters, place_later}
+use Rattle.cg_machine.proofs.Forgotten.{IsLater, later_refl, change_alters, map_alters, place_later}
 use Rattle.cg_machine.proofs.Rooms.{few_option, few_entry}
-use Rattle.cg_machine.proofs.Shapes.{IsAtHand, HasObject, IsMadeBy, HasParts, IsEdit, Shape, Binds, Makes, Edits, Puts, Shows, Tells, Sets, Freezes, Unfreezes, StartsFrame, StartsCollection, Ends, effect_shaped}
+use Rattle.cg_machine.proofs.Shapes.{IsMadeBy, IsEdit, Shape, Binds, Makes, Edits, Puts, Shows, Tells, Sets, Freezes, Unfreezes, StartsFrame, StartsCollection, Ends, effect_shaped}
 
 -- from the shapes of effects to a law on effects
 each_implies : {A : Type 0} (P Q : A → Type 0) → ((x : A) → P x → Q x) → (r : Result A ℕ) → Each P r → Each Q r

@@ -1,5 +1,5 @@
 -- In every world of a run the locals of frames live, and weak references lose a dying object the newest first.
-use Rattle.std.proofs.Common.{◌≡◌, ◌≢◌, refl, sym, ◌∙◌, ap, subst, ℕ, true, inl, inr, List, [], ◌∷◌, Option, Some, None, Result, Ok, Err}
+use Rattle.std.proofs.Common.{◌≡◌, ◌≢◌, refl, sym, ◌∙◌, ap, subst, ℕ, true, inl, inr, List, [], ◌∷◌, Option, Some}
 use Rattle.std.specs.Prelude.{flat_map}
 use Rattle.cg_script.specs.declared.Script.{Script}
 use Rattle.cg_script.specs.declared.Command.{Command}
@@ -7,16 +7,12 @@ use Rattle.cg_graph.specs.Member.{Includes}
 use Rattle.cg_graph.specs.Object.{Object, serials}
 use Rattle.cg_graph.proofs.Members.{Includes-append_right, Includes-map_cases}
 use Rattle.cg_machine.specs.declared.event.Event.{Event}
-use Rattle.cg_machine.specs.declared.event.Event.TheVariants.{Collected}
 use Rattle.cg_machine.specs.declared.event.FrameSort.{FrameSort}
 use Rattle.cg_machine.specs.declared.event.FrameSort.TheVariants.{Del, Legacy, Callback, Call}
-use Rattle.cg_machine.specs.World.{World, Activity, TopLevel, Framed, Releasing, Dying, Collecting, Frame, Death, opening, push, with_stack}
-use Rattle.cg_machine.specs.Holdings.{holds, is_collecting}
+use Rattle.cg_machine.specs.World.{World, Activity, TopLevel, Framed, Dying, Frame, Death, opening}
+use Rattle.cg_machine.specs.Holdings.{holds}
 use Rattle.cg_machine.specs.Frame.{procedure_of, start_frame}
-use Rattle.cg_machine.specs.Effects.{Effect, Changes, Calls, Collects, Quits}
-use Rattle.cg_machine.specs.Commands.{effect, stopped_frame, without_commands, new_collection, DoesEffect}
-use Rattle.cg_machine.specs.Due.{due}
-use Rattle.cg_machine.specs.Run.{StepTaken, Step, StepOf, Run, TopLevelStep, CommandInFrame, FrameStep, last_world}
+use Rattle.cg_machine.specs.Run.{StepTaken, Step, Run, last_world}
 use Rattle.cg_machine.specs.Weak.{is_function}
 use Rattle.cg_machine.specs.Laws.{HasFunction, IsOrderly}
 use Rattle.cg_machine.specs.Locals.{LocalsLive}
@@ -24,7 +20,6 @@ use Rattle.cg_machine.specs.Newest.{DeathsClearNewestFirst}
 use Rattle.cg_machine.proofs.Serials.{Rises}
 use Rattle.cg_machine.proofs.Sound.{Sound, opening_sound}
 use Rattle.cg_machine.proofs.Ending.{sound_after}
-use Rattle.cg_machine.proofs.CommandLaws.{Each, LeavesStack}
 use Rattle.cg_machine.proofs.ShapeLaws.{changes_leave}
 use Rattle.cg_machine.proofs.Invariants.{HasCommands, Takes, FromTop, FromFrame, emptied, on, CommandSteps, Steps, InEachWorld, by_runs_and_steps}
 use Rattle.cg_machine.proofs.Lookups.{same_object}
@@ -34,7 +29,7 @@ use Rattle.cg_machine.proofs.RunsCalm.{no_death, calm_after, opening_calm}
 use Rattle.cg_machine.proofs.RunsOrderly.{opening_orderly, worlds_orderly, orderly_after}
 use Rattle.cg_machine.proofs.LeftRuns.{LeavesUnder, step_leaves, leaves_below}
 use Rattle.cg_machine.proofs.Standing.{AreFunctions, KnowsFunction, ClearsInOrder, IsKnown, AreKnown, IsAllKnown, function_lives, below_kept, top_kept}
-use Rattle.cg_machine.proofs.StandingSteps.{Stays, either_stays, starts_known, frame_end_known, released_known, dying_known, phase_known}
+use Rattle.cg_machine.proofs.StandingSteps.{starts_known, frame_end_known, released_known, dying_known, phase_known}
 
 -- what a step keeps: what is below, and the commands on top
 abbrev Kept : List Object → List Activity → Type 0
