@@ -1,24 +1,15 @@
 -- How high the numbers of the collector stand against the commands that are left, what a collection that starts makes of
 -- them, and that a command counts one object at most.
-use Rattle.std.proofs.Common.{◌≡◌, refl, sym, subst, ℕ, suc, ◌+◌, ◌*◌, ◌<◌, ◌≤◌, Bool, true, false, not, ◌&&◌, List, [], ◌∷◌, map, Option, Some, None, Ok, arith}
-use Rattle.std.specs.Prelude.{◌==◌, ◌/◌, nat_lt, ◌||◌, if◌then◌else◌, is_some}
+use Rattle.std.proofs.Common.{◌≡◌, refl, sym, subst, ℕ, suc, ◌+◌, ◌*◌, ◌<◌, ◌≤◌, Bool, true, false, not, ◌&&◌, List, [], ◌∷◌, arith}
+use Rattle.std.specs.Prelude.{◌==◌, ◌/◌, nat_lt, ◌||◌, if◌then◌else◌}
 use Rattle.std.specs.List.{list_any}
 use Rattle.std.proofs.lemmas.Bool.{and_parts, ltb-true, or_parts}
-use Rattle.cg_value.specs.declared.Val.{Val}
-use Rattle.cg_value.specs.declared.Val.TheVariants.{None as Nothing, Int, Str, Ref}
-use Rattle.cg_value.specs.declared.Entry.{Entry}
-use Rattle.cg_value.specs.declared.KindCode.{KindCode}
-use Rattle.cg_value.specs.declared.KindCode.TheVariants.{List as ListKind, Tuple, Dict, Inst, Func, Weak}
 use Rattle.cg_script.specs.declared.Command.{Command}
-use Rattle.cg_script.specs.declared.Command.TheVariants.{MakeList, MakeTuple, MakeDict, MakeInst, MakeFunc, MakeRef, Bind, Del, Append, SetItem, DelItem, Put, Remove, SetAttr, DelAttr, Item, Get, Attr, Deref, Call, Quit, Collect, Enable, Disable, Threshold, Flags, Freeze, Unfreeze, Print, Refs, Tracked, Finalized, Count, Gens}
-use Rattle.cg_graph.specs.Object.{Object}
-use Rattle.cg_graph.specs.Value.{value_at, item}
 use Rattle.cg_machine.specs.World.{World, Activity, Numbers}
-use Rattle.cg_machine.specs.Effects.{Effect, Changes, Calls, Collects, Quits, makes, puts, has_room}
+use Rattle.cg_machine.specs.Effects.{Effect, Changes, Calls, Collects, Quits}
 use Rattle.cg_machine.specs.Collect.{begun, survived}
-use Rattle.cg_machine.specs.Commands.{effect}
 use Rattle.cg_machine.specs.Due.{due_generation, is_due}
-use Rattle.cg_machine.proofs.CommandLaws.{Each, checked}
+use Rattle.cg_machine.proofs.Shapes.{Shape, Makes, Sets, Freezes, StartsFrame, StartsCollection, Ends}
 use Rattle.cg_machine.proofs.Making.{left_on}
 use Rattle.cg_machine.proofs.Measure.{is_starting}
 
@@ -110,54 +101,12 @@ LeavesNumbers w Quits = Unit {0}
 kept : (n : Numbers) → CountsOne n n
 kept n = record { counts_one = omega arith; pending = refl; total = refl }
 
-counted : (n : Numbers) → CountsOne n (record n { zero_count = n.zero_count + 1 })
-counted n = record { counts_one = omega arith; pending = refl; total = refl }
-
-makes_leaves : (w : World) (name : ℕ) (kind : KindCode) (class : Option ℕ) (entries : List Entry) (referent : Option ℕ) → Each (LeavesNumbers w) (makes w name kind class entries referent)
-makes_leaves w name kind class entries referent = checked (LeavesNumbers w) _ _ (λ _. checked (LeavesNumbers w) _ _ (λ _. counted w.numbers))
-
-puts_leaves : (w : World) (x : Object) (key v : Val) → Each (LeavesNumbers w) (puts w x key v)
-puts_leaves w x key v = checked (LeavesNumbers w) (if is_some (value_at x.entries key) then Ok tt else has_room w 1) _ (λ _. kept w.numbers)
-
-quit_leaves : (w : World) (v : Val) → LeavesNumbers w (elim v [ Nothing ↦ Quits | _ ↦ Changes false [] [] w ])
-quit_leaves w Nothing = tt
-quit_leaves w (Int n) = kept w.numbers
-quit_leaves w (Str s) = kept w.numbers
-quit_leaves w (Ref o) = kept w.numbers
-
 -- any command
-pub numbers_left : (w : World) (command : Command) → Each (LeavesNumbers w) (effect w command)
-numbers_left w (MakeList name items) = checked (LeavesNumbers w) _ _ (λ vs. makes_leaves w name ListKind None (map item vs) None)
-numbers_left w (MakeTuple name items) = checked (LeavesNumbers w) _ _ (λ vs. makes_leaves w name Tuple None (map item vs) None)
-numbers_left w (MakeDict name) = makes_leaves w name Dict None [] None
-numbers_left w (MakeInst name class) = makes_leaves w name Inst (Some class) [] None
-numbers_left w (MakeFunc name proc cells) = checked (LeavesNumbers w) _ _ (λ vs. makes_leaves w name Func (Some proc) (map item vs) None)
-numbers_left w (MakeRef name target callback) = checked (LeavesNumbers w) _ _ (λ v. checked (LeavesNumbers w) _ _ (λ f. checked (LeavesNumbers w) _ _ (λ x. checked (LeavesNumbers w) _ _ (λ es. makes_leaves w name Weak None es (Some x.serial)))))
-numbers_left w (Bind name operand) = checked (LeavesNumbers w) _ _ (λ v. kept w.numbers)
-numbers_left w (Del name) = checked (LeavesNumbers w) _ _ (λ v. kept w.numbers)
-numbers_left w (Append list operand) = checked (LeavesNumbers w) _ _ (λ l. checked (LeavesNumbers w) _ _ (λ v. checked (LeavesNumbers w) _ _ (λ x. checked (LeavesNumbers w) _ _ (λ _. kept w.numbers))))
-numbers_left w (SetItem list index operand) = checked (LeavesNumbers w) _ _ (λ l. checked (LeavesNumbers w) _ _ (λ v. checked (LeavesNumbers w) _ _ (λ x. checked (LeavesNumbers w) _ _ (λ i. checked (LeavesNumbers w) _ _ (λ e. kept w.numbers)))))
-numbers_left w (DelItem list index) = checked (LeavesNumbers w) _ _ (λ l. checked (LeavesNumbers w) _ _ (λ x. checked (LeavesNumbers w) _ _ (λ i. checked (LeavesNumbers w) _ _ (λ e. kept w.numbers))))
-numbers_left w (Put dict key operand) = checked (LeavesNumbers w) _ _ (λ d. checked (LeavesNumbers w) _ _ (λ k. checked (LeavesNumbers w) _ _ (λ v. checked (LeavesNumbers w) _ _ (λ x. checked (LeavesNumbers w) _ _ (λ _. puts_leaves w x k v)))))
-numbers_left w (Remove dict key) = checked (LeavesNumbers w) _ _ (λ d. checked (LeavesNumbers w) _ _ (λ k. checked (LeavesNumbers w) _ _ (λ x. checked (LeavesNumbers w) _ _ (λ _. checked (LeavesNumbers w) _ _ (λ e. kept w.numbers)))))
-numbers_left w (SetAttr instance name operand) = checked (LeavesNumbers w) _ _ (λ o. checked (LeavesNumbers w) _ _ (λ v. checked (LeavesNumbers w) _ _ (λ x. puts_leaves w x (Str name) v)))
-numbers_left w (DelAttr instance name) = checked (LeavesNumbers w) _ _ (λ o. checked (LeavesNumbers w) _ _ (λ x. checked (LeavesNumbers w) _ _ (λ e. kept w.numbers)))
-numbers_left w (Item name list index) = checked (LeavesNumbers w) _ _ (λ l. checked (LeavesNumbers w) _ _ (λ x. checked (LeavesNumbers w) _ _ (λ i. checked (LeavesNumbers w) _ _ (λ e. kept w.numbers))))
-numbers_left w (Get name dict key) = checked (LeavesNumbers w) _ _ (λ d. checked (LeavesNumbers w) _ _ (λ k. checked (LeavesNumbers w) _ _ (λ x. checked (LeavesNumbers w) _ _ (λ _. checked (LeavesNumbers w) _ _ (λ v. kept w.numbers)))))
-numbers_left w (Attr name instance attribute) = checked (LeavesNumbers w) _ _ (λ o. checked (LeavesNumbers w) _ _ (λ x. checked (LeavesNumbers w) _ _ (λ v. kept w.numbers)))
-numbers_left w (Deref name weak) = checked (LeavesNumbers w) _ _ (λ v. checked (LeavesNumbers w) _ _ (λ x. kept w.numbers))
-numbers_left w (Call function) = checked (LeavesNumbers w) _ _ (λ v. checked (LeavesNumbers w) _ _ (λ x. tt))
-numbers_left w (Quit operand) = checked (LeavesNumbers w) _ _ (λ v. quit_leaves w v)
-numbers_left w (Collect generation) = checked (LeavesNumbers w) _ _ (λ g. tt)
-numbers_left w Enable = record { counts_one = omega arith; pending = refl; total = refl }
-numbers_left w Disable = record { counts_one = omega arith; pending = refl; total = refl }
-numbers_left w (Threshold zero one two) = record { counts_one = omega arith; pending = refl; total = refl }
-numbers_left w (Flags bits) = record { counts_one = omega arith; pending = refl; total = refl }
-numbers_left w Freeze = record { counts_one = omega arith; pending = refl; total = refl }
-numbers_left w Unfreeze = kept w.numbers
-numbers_left w (Print operand) = checked (LeavesNumbers w) _ _ (λ v. kept w.numbers)
-numbers_left w (Refs operand) = checked (LeavesNumbers w) _ _ (λ v. checked (LeavesNumbers w) _ _ (λ x. kept w.numbers))
-numbers_left w (Tracked operand) = checked (LeavesNumbers w) _ _ (λ v. kept w.numbers)
-numbers_left w (Finalized operand) = checked (LeavesNumbers w) _ _ (λ v. kept w.numbers)
-numbers_left w Count = kept w.numbers
-numbers_left w Gens = kept w.numbers
+pub shape_counts : (w : World) (command : Command) (e : Effect) → Shape w command e → LeavesNumbers w e
+shape_counts w command e (Makes name kind class entries referent own parts) = record { counts_one = omega arith; pending = refl; total = refl }
+shape_counts w command e (Sets numbers keeps) = record { counts_one = omega (arith, keeps.zero_count, keeps.one_count, keeps.two_count); pending = keeps.pending; total = keeps.total }
+shape_counts w command e Freezes = record { counts_one = omega arith; pending = refl; total = refl }
+shape_counts w command e (StartsFrame f h) = tt
+shape_counts w command e (StartsCollection g) = tt
+shape_counts w command e Ends = tt
+shape_counts w command e s = kept w.numbers

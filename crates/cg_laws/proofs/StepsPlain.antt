@@ -1,5 +1,5 @@
 -- A step that is no collection's puts no collection on the stack but one that is to start where none was, and keeps the garbage list.
-use Rattle.std.proofs.Common.{◌≡◌, ◌≢◌, refl, sym, ◌∙◌, ap, subst, ℕ, ◌<◌, ◌-◌, Bool, true, false, not, inl, inr, ◌⊎◌, List, [], ◌∷◌, ◌++◌, Option, Some, None, Result, Ok, Err}
+use Rattle.std.proofs.Common.{◌≡◌, ◌≢◌, refl, sym, ◌∙◌, ap, subst, ℕ, ◌<◌, ◌-◌, Bool, true, false, not, inl, inr, ◌⊎◌, List, [], ◌∷◌, ◌++◌, Option, Some, None}
 use Rattle.std.specs.Prelude.{◌==◌, ◌&&◌, if◌then◌else◌, is_some, option_to_list, option_and_then, unwrap_or}
 use Rattle.std.specs.List.{list_any}
 use Rattle.cg_value.specs.declared.Entry.{Entry}
@@ -11,26 +11,25 @@ use Rattle.cg_graph.specs.Value.{entry_references, last_entry, without_last}
 use Rattle.cg_graph.specs.Object.{Object, object_at, change, entries_of, with_place, with_entries, marked}
 use Rattle.cg_graph.proofs.Members.{either}
 use Rattle.cg_machine.specs.declared.event.Event.{Event}
-use Rattle.cg_machine.specs.declared.event.Event.TheVariants.{Alive, Enter, BudgetSpent, Collected}
+use Rattle.cg_machine.specs.declared.event.Event.TheVariants.{Alive, Enter, BudgetSpent}
 use Rattle.cg_machine.specs.declared.event.FrameSort.{FrameSort}
 use Rattle.cg_machine.specs.declared.event.FrameSort.TheVariants.{Del, Legacy, Callback, Call as CallFrame}
 use Rattle.cg_machine.specs.declared.event.FrameSpec.{FrameSpec}
 use Rattle.cg_machine.specs.Program.{body_of, legacy_of}
-use Rattle.cg_machine.specs.World.{World, Activity, TopLevel, Framed, Releasing, Dying, Collecting, Frame, DyingPhase, Finalizer, AfterFinalizer, Clearing, Calling, AfterCall, LegacyFinalizer, AfterLegacy, Detaching, Emptying, Collection, Start, BudgetIsSpent, push, with_stack, with_change}
+use Rattle.cg_machine.specs.World.{World, Activity, TopLevel, Framed, Releasing, Dying, Collecting, Frame, DyingPhase, Finalizer, AfterFinalizer, Clearing, Calling, AfterCall, LegacyFinalizer, AfterLegacy, Detaching, Emptying, Collection, Start, BudgetIsSpent, with_stack, with_change}
 use Rattle.cg_machine.specs.Holdings.{is_collection, is_collecting, in_degree, is_dying}
 use Rattle.cg_machine.specs.Frame.{Transition, start_frame, frame_end, gives_up_function, begin_death, released, procedure_of}
 use Rattle.cg_machine.specs.Weak.{has_weak_references, weak_references_if, loses_referent, callback_of}
 use Rattle.cg_machine.specs.Dying.{death_at, has_finalizers, finalizer_to_run, run_finalizer, run_legacy, after_frame, clear_one, call_one, detach_one, empty_one, dying}
-use Rattle.cg_machine.specs.Effects.{Effect, Changes, Calls, Collects, Quits}
-use Rattle.cg_machine.specs.Commands.{effect, stopped_frame, without_commands, new_collection, DoesEffect}
+use Rattle.cg_machine.specs.Effects.{Changes}
+use Rattle.cg_machine.specs.Commands.{new_collection}
 use Rattle.cg_machine.specs.Due.{due, is_due, due_generation}
-use Rattle.cg_machine.specs.Run.{StepOf, TopLevelStep, CommandInFrame, FrameStep}
-use Rattle.cg_machine.proofs.CommandLaws.{Each, LeavesStack}
-use Rattle.cg_machine.proofs.ShapeLaws.{effect_leaves}
+use Rattle.cg_machine.specs.Run.{Step}
+use Rattle.cg_machine.proofs.ShapeLaws.{changes_leave}
 use Rattle.cg_machine.proofs.Unheld.{Calm}
-use Rattle.cg_machine.proofs.Invariants.{HasCommands}
+use Rattle.cg_machine.proofs.Invariants.{HasCommands, emptied, on, CommandSteps, Steps, any_step}
 use Rattle.cg_laws.proofs.GarbageKept.{HasGarbageList, KeepsList, same_list, list_kept, other_kept, untracked_kept, dead_kept, lost_kept, without_kept}
-use Rattle.cg_laws.proofs.GarbageCommands.{IsKept, effect_kept}
+use Rattle.cg_laws.proofs.GarbageCommands.{shape_kept}
 
 -- The collections of a stack are those below, or one that is to start where there is none.
 abbrev pub StartsAlone : List Activity → List Activity → Type 0
@@ -182,71 +181,50 @@ module _ (script : Script) (a : Activity) (below : List Activity) (v : World) (h
   abbrev u : World
   u = with_stack (a ∷ below) v
 
-  to : (after next : World) → after ≡ next → IsPlain v.objects below next → IsPlain v.objects below after
-  to after next e k = subst (IsPlain v.objects below) (sym e) k
-
   commands_alone : StartsAlone below (a ∷ below)
   commands_alone = with_alone a below below (no_collection a ha) (below_alone below)
 
   unchanged : (top : Activity) → HasCommands top → IsPlain v.objects below (with_stack (top ∷ below) v)
   unchanged top k = record { stack = with_alone top below below (no_collection top k) (below_alone below); list = same_list v.objects }
 
-  stopped : (top : Activity) → HasCommands top → IsPlain v.objects below (with_stack (stopped_frame (top ∷ below)) v)
-  stopped (TopLevel commands) k = unchanged (TopLevel commands) tt
-  stopped (Framed f) k = unchanged (Framed (record f { commands = [] })) tt
-  stopped top k = absurd k
-
-  quits : (top : Activity) → HasCommands top → IsPlain v.objects below (with_stack (without_commands (top ∷ below)) v)
-  quits (TopLevel commands) k = unchanged (TopLevel []) tt
-  quits (Framed f) k = unchanged (Framed (record f { commands = [] })) tt
-  quits top k = absurd k
-
-  asks : (g : ℕ) (t : Bool) → is_collecting u ≡ t → (let s : Transition = if t then (Collected 0 ∷ [], u) else ([], push (new_collection g true u) u) in IsPlain v.objects below s.1)
-  asks g true e = unchanged a ha
-  asks g false e = record { stack = begins_alone a g true below u ha (free_below a below ha e); list = same_list v.objects }
-
-  effect_plain : (r : Result Effect ℕ) → Each (LeavesStack u) r → Each (IsKept u garbage made) r → (events : List Event) (after : World) → DoesEffect script u r events after → IsPlain v.objects below after
-  effect_plain (Err refusal) l k events after step = to after _ step.1 (stopped a ha)
-  effect_plain (Ok (Changes wants_memory lines given_up next)) l k events after (inl step) =
-      to after _ step.1 (record { stack = with_alone (Releasing given_up) below next.stack refl (subst (StartsAlone below) (sym l.stack) commands_alone); list = k })
-  effect_plain (Ok (Changes wants_memory lines given_up next)) l k events after (inr step) = to after _ step.1.1 (stopped a ha)
-  effect_plain (Ok (Calls f)) l k events after step = to after _ step.1 (starts_plain script (record { sort = CallFrame; proc = procedure_of u f; subject = f; func = Some f }) v.objects below u (unchanged a ha))
-  effect_plain (Ok (Collects g)) l k events after step = to after _ step.1 (asks g (is_collecting u) refl)
-  effect_plain (Ok Quits) l k events after step = to after _ step.1 (quits a ha)
-
-  done_plain : (command : Command) (events : List Event) (after : World) → DoesEffect script u (effect u command) events after → IsPlain v.objects below after
-  done_plain command events after step = effect_plain (effect u command) (effect_leaves u command) (effect_kept u garbage made command) events after step
-
-module _ (script : Script) (below : List Activity) (v : World) (garbage : HasGarbageList v.objects) (made : 1 < v.next_serial) (events : List Event) (after : World) where
-  reach : (next : World) → after ≡ next → IsPlain v.objects below next → IsPlain v.objects below after
-  reach next e k = subst (IsPlain v.objects below) (sym e) k
-
-  -- a collection that is due
-  begins : (a : Activity) (g : ℕ) → HasCommands a → due (with_stack (a ∷ below) v) ≡ Some g → IsPlain v.objects below (push (new_collection g false (with_stack (a ∷ below) v)) (with_stack (a ∷ below) v))
-  begins a g ha e = record { stack = begins_alone a g false below (with_stack (a ∷ below) v) ha (free_below a below ha (due_alone (with_stack (a ∷ below) v) g e)); list = same_list v.objects }
-
-  top_level_plain : (commands : List Command) (d : Option ℕ) → due (with_stack (TopLevel commands ∷ below) v) ≡ d → TopLevelStep script (with_stack (TopLevel commands ∷ below) v) d commands below events after → IsPlain v.objects below after
-  top_level_plain commands (Some g) e step = reach _ step.1 (begins (TopLevel commands) g tt e)
-  top_level_plain [] None e step = reach _ step.1 (record { stack = with_alone (TopLevel []) below below refl (below_alone below); list = same_list v.objects })
-  top_level_plain (command ∷ commands) None e step = done_plain script (TopLevel commands) below v tt garbage made command events after step
-
-  in_frame_plain : (f : Frame) (command : Command) (commands : List Command) (d : Option ℕ) → due (with_stack (Framed f ∷ below) v) ≡ d → CommandInFrame script (with_stack (Framed f ∷ below) v) d f command commands below events after → IsPlain v.objects below after
-  in_frame_plain f command commands (Some g) e step = reach _ step.1 (begins (Framed f) g tt e)
-  in_frame_plain f command commands None e step = done_plain script (Framed (record f { commands = commands })) below v tt garbage made command events after step
-
-  framed_plain : (f : Frame) (commands : List Command) → FrameStep script (with_stack (Framed f ∷ below) v) f commands below events after → IsPlain v.objects below after
-  framed_plain f [] step = reach _ step.1 (frame_end_plain f below v)
-  framed_plain f (command ∷ commands) step = in_frame_plain f command commands (due (with_stack (Framed f ∷ below) v)) refl step
+  emptied_plain : (top : Activity) → HasCommands top → IsPlain v.objects below (on (emptied top) below v)
+  emptied_plain (TopLevel commands) k = unchanged (TopLevel []) tt
+  emptied_plain (Framed f) k = unchanged (Framed (record f { commands = [] })) tt
+  emptied_plain top k = absurd k
 
 -- any step of an activity that is no collection
 abbrev pub IsPlainUnder : List Object → List Activity → World → Type 0
 IsPlainUnder objects [] after = Unit {0}
 IsPlainUnder objects (a ∷ below) after = is_collection a ≡ false → IsPlain objects below after
 
-pub step_plain : (script : Script) (v : World) (stack : List Activity) (events : List Event) (after : World) → HasGarbageList v.objects → 1 < v.next_serial → StepOf script (with_stack stack v) stack events after → Calm script (with_stack stack v) → IsPlainUnder v.objects stack after
-step_plain script v [] events after garbage made step c = tt
-step_plain script v (TopLevel commands ∷ below) events after garbage made step c = λ none. top_level_plain script below v garbage made events after commands (due (with_stack (TopLevel commands ∷ below) v)) refl step
-step_plain script v (Framed f ∷ below) events after garbage made step c = λ none. framed_plain script below v garbage made events after f f.commands step
-step_plain script v (Releasing references ∷ below) events after garbage made step c = λ none. subst (IsPlain v.objects below) (sym step.1) (released_plain references below v)
-step_plain script v (Dying d ∷ below) events after garbage made step c = λ none. subst (IsPlain v.objects below) (sym step.1) (dying_plain script d.object below v d.phase c)
-step_plain script v (Collecting g ∷ below) events after garbage made step c = λ none. let no : true ≡ false = none in absurd (cc)
+abbrev StepIsPlain : World → List Event → World → Type 0
+StepIsPlain w events after = IsPlainUnder w.objects w.stack after
+
+abbrev IsReady : Script → World → Type 0
+IsReady script w = HasGarbageList w.objects × (1 < w.next_serial) × Calm script w
+
+command_plain : (script : Script) (command : Command) (b a : Activity) (below : List Activity) (v : World) → HasCommands a → HasGarbageList v.objects → 1 < v.next_serial → CommandSteps script StepIsPlain (on b below v) command (on a below v) a below
+command_plain script command b a below v ha garbage made = record {
+  stays = λ lines answers none. unchanged script a below v ha garbage made a ha;
+  stops = λ lines answers none. emptied_plain script a below v ha garbage made a ha;
+  changes = λ wants_memory lines given_up after shape none. record {
+    stack = with_alone (Releasing given_up) below after.stack refl (subst (StartsAlone below) (sym (changes_leave (on a below v) command wants_memory lines given_up after shape).stack) (commands_alone script a below v ha garbage made));
+    list = shape_kept (on a below v) garbage made command (Changes wants_memory lines given_up after) shape;
+  };
+  calls = λ f k none. starts_plain script (record { sort = CallFrame; proc = procedure_of (on a below v) f.serial; subject = f.serial; func = Some f.serial }) v.objects below (on a below v) (unchanged script a below v ha garbage made a ha);
+  asks = λ g e none. record { stack = begins_alone a g true below (on a below v) ha (free_below a below ha e); list = same_list v.objects };
+}
+
+steps_plain : (script : Script) → Steps script (IsReady script) StepIsPlain
+steps_plain script = record {
+  starts_due = λ a below v ha g e k none. record { stack = begins_alone a g false below (on a below v) ha (free_below a below ha (due_alone (on a below v) g e)); list = same_list v.objects };
+  ends = λ below v k none. record { stack = with_alone (TopLevel []) below below refl (below_alone below); list = same_list v.objects };
+  commands = λ command a b below v takes hb k. command_plain script command a b below v hb k.0 k.1;
+  frame_ends = λ f below v left k none. frame_end_plain f below v;
+  releases = λ references below v k none. released_plain references below v;
+  dies = λ d below v k none. dying_plain script d.object below v d.phase k.2;
+  collects = λ c below v events after step k none. let no : true ≡ false = none in absurd (cc);
+}
+
+pub step_plain : (script : Script) (w : World) (events : List Event) (after : World) → Step script w events after → HasGarbageList w.objects → 1 < w.next_serial → Calm script w → IsPlainUnder w.objects w.stack after
+step_plain script w events after step garbage made c = any_step script (IsReady script) StepIsPlain (steps_plain script) w events after step (garbage, made, c)

@@ -27,7 +27,7 @@ use Rattle.cg_machine.specs.Laws.{HasFunction, IsOfCollection}
 use Rattle.cg_machine.proofs.DyingOrderly.{false_true}
 use Rattle.cg_machine.proofs.Forgotten.{IsQuiet, AreQuiet, Forgotten, Mortal, HasFinalizers, AreReferred, IsLater, later_refl, Alters, mortal_after, finalizers_after, change_alters, map_alters, place_later, map_quiet, test_quiet, entries_quiet, entries_alter, referred_after, still_forgotten, lives_within}
 use Rattle.cg_machine.proofs.Unheld.{AreOver}
-use Rattle.cg_machine.proofs.CommandRefs.{HoldNone, option_free, entry_val, entry_key, entry_free, cons_free, put_free, old_value_free, name_free, bound_free, IsKnown, operand_known}
+use Rattle.cg_machine.proofs.CommandRefs.{all_free, HoldNone, option_free, entry_val, entry_key, entry_free, cons_free, put_free, old_value_free, name_free, bound_free, IsKnown, operand_known}
 use Rattle.cg_machine.proofs.Shapes.{IsAtHand, Word, ValueIn, KeyIn, ReferentOf, HasObject, IsMutable, IsEdit, Shape, Binds, Makes, Edits, Puts, Shows, Tells, Sets, Freezes, Unfreezes, StartsFrame, StartsCollection, Ends}
 
 -- what is changed by a command is no weak reference
@@ -253,10 +253,6 @@ module _ (script : Script) (w : World) (rises : Rises 1 w.next_serial w.objects)
 
   object_apart : (command : Command) (test : Object → Bool) (x : Object) → HasObject w command test x → (o : ℕ) → Forgotten w o → x.serial ≢ o
   object_apart command test x h o f e = hand_known command (Ref x.serial) h.hand o f (ap Some e)
-
-  all_free : (o : ℕ) (entries : List Entry) → ((e : Entry) → Includes entries e → ¬ Includes (entry_references e) o) → HoldNone o entries
-  all_free o [] h = λ k. k
-  all_free o (e ∷ entries) h = cons_free e entries o (h e (inl refl)) (all_free o entries (λ d m. h d (inr m)))
 
   hand_free : (command : Command) (e : Entry) → e.key ≡ Nothing → IsAtHand w command e.val → (o : ℕ) → Forgotten w o → ¬ Includes (entry_references e) o
   hand_free command e key hand o f = entry_free e o (hand_known command e.val hand o f) (λ i. let no : None ≡ Some o = ap reference_in (sym key) ∙ i in cc)

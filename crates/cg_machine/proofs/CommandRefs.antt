@@ -1,5 +1,5 @@
 -- The references that a command works with: what its operands stand for, and what lists of entries and names hold after it.
-use Rattle.std.proofs.Common.{◌≡◌, ◌≢◌, refl, sym, ap, subst, ℕ, zero, suc, Bool, true, false, inl, List, [], ◌∷◌, Option, Some, None, Result, Ok, Err, take, drop}
+use Rattle.std.proofs.Common.{◌≡◌, ◌≢◌, refl, sym, ap, subst, ℕ, zero, suc, Bool, true, false, inl, inr, List, [], ◌∷◌, Option, Some, None, Result, Ok, Err, take, drop}
 use Rattle.std.specs.Prelude.{if◌then◌else◌, flat_map, slice_get, slice_set, remove, ok_or, option_to_list, option_map, option_and_then}
 use Rattle.cg_value.specs.declared.Entry.{Entry}
 use Rattle.cg_value.specs.declared.Val.{Val}
@@ -56,6 +56,11 @@ head_free e entries o h m = h (Includes-append_left (entry_references e) (refere
 
 pub tail_free : (e : Entry) (entries : List Entry) (o : ℕ) → HoldNone o (e ∷ entries) → HoldNone o entries
 tail_free e entries o h m = h (Includes-append_right (entry_references e) (references entries) o m)
+
+-- entries that are free
+pub all_free : (o : ℕ) (entries : List Entry) → ((e : Entry) → Includes entries e → ¬ Includes (entry_references e) o) → HoldNone o entries
+all_free o [] h = λ k. k
+all_free o (e ∷ entries) h = cons_free e entries o (h e (inl refl)) (all_free o entries (λ d m. h d (inr m)))
 
 -- lists of entries
 pub got_free : (entries : List Entry) (i o : ℕ) (e : Entry) → slice_get entries i ≡ Some e → HoldNone o entries → ¬ Includes (entry_references e) o
