@@ -8,16 +8,17 @@ use Rattle.cg_value.specs.declared.Entry.{Entry}
 use Rattle.cg_value.specs.declared.KindCode.{KindCode}
 use Rattle.cg_value.specs.declared.KindCode.TheVariants.{List as ListKind, Tuple, Dict, Inst, Func, Weak}
 use Rattle.cg_value.specs.declared.Place.{Place}
-use Rattle.cg_graph.specs.Object.{Object, with_place}
+use Rattle.cg_graph.specs.Object.{Object, with_place, with_entries}
 use Rattle.cg_graph.specs.Store.{Store, objects_of}
-use Rattle.cg_graph.specs.Value.{value_at, item}
+use Rattle.cg_graph.specs.Value.{put}
 use Rattle.cg_script.specs.declared.Command.{Command}
-use Rattle.cg_script.specs.declared.Command.TheVariants.{MakeList, MakeTuple, MakeDict, MakeInst, MakeFunc, MakeRef, Bind, Del, Append, SetItem, DelItem, Put, Remove, SetAttr, DelAttr, Item, Get, Attr, Deref, Call, Quit, Collect, Enable, Disable, Threshold, Flags, Freeze, Unfreeze, Print, Refs, Tracked, Finalized, Count, Gens}
 use Rattle.cg_machine.specs.World.{World, Numbers, with_change}
-use Rattle.cg_machine.specs.Effects.{Effect, Changes, Calls, Collects, Quits, makes, puts, has_room, replaced, frozen, unfrozen}
+use Rattle.cg_machine.specs.Effects.{Effect, Changes, Calls, Collects, Quits, makes, puts, has_room, replaced, frozen, unfrozen, bound, with_new, tracked_by}
 use Rattle.cg_machine.specs.Represents.{Represents}
 use Rattle.cg_machine.specs.Commands.{effect}
-use Rattle.cg_machine.proofs.CommandLaws.{Each, checked}
+use Rattle.cg_machine.proofs.CommandLaws.{Each}
+use Rattle.cg_machine.proofs.Shapes.{IsMadeBy, ByList, ByTuple, ByDict, ByInst, ByFunc, ByRef, TellsNumbers, SetsNumbers, Shape, Binds, Makes, Edits, Puts, Shows, Tells, Stays, Sets, Freezes, Unfreezes, StartsFrame, StartsCollection, Ends}
+use Rattle.cg_machine.proofs.ShapeLaws.{by_shape}
 use Rattle.cg_commands.specs.declared.done.Done.{Done}
 use Rattle.cg_commands.specs.declared.done.Done.TheVariants as done
 use Rattle.cg_commands.specs.declared.done.Refusal.{Refusal}
@@ -56,53 +57,36 @@ same w numbers = record { objects = omega arith; names = refl }
 placed : (w : World) (f : Place → Place) (numbers : Numbers) → Sized false w (record w { objects = replaced f w; numbers = numbers })
 placed w f numbers = record { objects = omega (arith, length-map w.objects (λ (x : Object). with_place (f x.place) x)); names = refl }
 
-makes_sized : (w : World) (name : ℕ) (kind : KindCode) (class : Option ℕ) (entries : List Entry) (referent : Option ℕ) → Each (HasSize true w) (makes w name kind class entries referent)
-makes_sized w name kind class entries referent = checked (HasSize true w) _ _ (λ _. checked (HasSize true w) _ _ (λ _. record { objects = omega (arith, length-append w.objects); names = length-set w.names name _ }))
+made_makes : (command : Command) (kind : KindCode) (class : Option ℕ) → IsMadeBy command kind class → makes_object command ≡ true
+made_makes command kind class (ByList name items) = refl
+made_makes command kind class (ByTuple name items) = refl
+made_makes command kind class (ByDict name) = refl
+made_makes command kind class (ByInst name number) = refl
+made_makes command kind class (ByFunc name proc cells) = refl
+made_makes command kind class (ByRef name target callback) = refl
 
-puts_sized : (w : World) (x : Object) (key v : Val) → Each (HasSize false w) (puts w x key v)
-puts_sized w x key v = checked (HasSize false w) (if is_some (value_at x.entries key) then Ok tt else has_room w 1) _ (λ _. changed w _ x.serial)
+-- one that changes no number of objects is so also where one may be made
+at_most : (made : Bool) (w after : World) → Sized false w after → Sized made w after
+at_most true w after s = record { objects = omega (arith, s.objects); names = s.names }
+at_most false w after s = s
 
-quit_sized : (w : World) (v : Val) → HasSize false w (elim v [ Nothing ↦ Quits | _ ↦ Changes false [] [] w ])
-quit_sized w Nothing = tt
-quit_sized w (Int n) = same w _
-quit_sized w (Str s) = same w _
-quit_sized w (Ref o) = same w _
+shape_sized : (w : World) (command : Command) (e : Effect) → Shape w command e → HasSize (makes_object command) w e
+shape_sized w command e (Binds name v own hand) = at_most (makes_object command) w _ (named w name v)
+shape_sized w command e (Makes name kind class entries referent own parts) = subst (λ b. Sized b w (bound (with_new w kind class entries referent) name (Some (Ref w.next_serial)))) (sym (made_makes command kind class parts.by)) (record { objects = omega (arith, length-append w.objects); names = length-set w.names name _ })
+shape_sized w command e (Edits wants x entries given h mutable edit) = at_most (makes_object command) w _ (changed w (with_entries entries) x.serial)
+shape_sized w command e (Puts x key v h mutable hand_key hand room) = at_most (makes_object command) w _ (changed w (λ y. tracked_by w key v (with_entries (put x.entries key v) y)) x.serial)
+shape_sized w command e (Shows v hand) = at_most (makes_object command) w _ (same w w.numbers)
+shape_sized w command e (Tells line tells) = at_most (makes_object command) w _ (same w w.numbers)
+shape_sized w command e Stays = at_most (makes_object command) w _ (same w w.numbers)
+shape_sized w command e (Sets numbers own keeps) = at_most (makes_object command) w _ (same w numbers)
+shape_sized w command e (Freezes is) = at_most (makes_object command) w _ (placed w frozen _)
+shape_sized w command e (Unfreezes is) = at_most (makes_object command) w _ (placed w unfrozen w.numbers)
+shape_sized w command e (StartsFrame f h) = tt
+shape_sized w command e (StartsCollection g) = tt
+shape_sized w command e Ends = tt
 
 effect_sized : (w : World) (command : Command) → Each (HasSize (makes_object command) w) (effect w command)
-effect_sized w (MakeList name items) = checked (HasSize true w) _ _ (λ vs. makes_sized w name ListKind None (map item vs) None)
-effect_sized w (MakeTuple name items) = checked (HasSize true w) _ _ (λ vs. makes_sized w name Tuple None (map item vs) None)
-effect_sized w (MakeDict name) = makes_sized w name Dict None [] None
-effect_sized w (MakeInst name class) = makes_sized w name Inst (Some class) [] None
-effect_sized w (MakeFunc name proc cells) = checked (HasSize true w) _ _ (λ vs. makes_sized w name Func (Some proc) (map item vs) None)
-effect_sized w (MakeRef name target callback) = checked (HasSize true w) _ _ (λ v. checked (HasSize true w) _ _ (λ f. checked (HasSize true w) _ _ (λ x. checked (HasSize true w) _ _ (λ es. makes_sized w name Weak None es (Some x.serial)))))
-effect_sized w (Bind name operand) = checked (HasSize false w) _ _ (λ v. named w name _)
-effect_sized w (Del name) = checked (HasSize false w) _ _ (λ v. named w name _)
-effect_sized w (Append list operand) = checked (HasSize false w) _ _ (λ l. checked (HasSize false w) _ _ (λ v. checked (HasSize false w) _ _ (λ x. checked (HasSize false w) _ _ (λ _. changed w _ x.serial))))
-effect_sized w (SetItem list index operand) = checked (HasSize false w) _ _ (λ l. checked (HasSize false w) _ _ (λ v. checked (HasSize false w) _ _ (λ x. checked (HasSize false w) _ _ (λ i. checked (HasSize false w) _ _ (λ e. changed w _ x.serial)))))
-effect_sized w (DelItem list index) = checked (HasSize false w) _ _ (λ l. checked (HasSize false w) _ _ (λ x. checked (HasSize false w) _ _ (λ i. checked (HasSize false w) _ _ (λ e. changed w _ x.serial))))
-effect_sized w (Put dict key operand) = checked (HasSize false w) _ _ (λ d. checked (HasSize false w) _ _ (λ k. checked (HasSize false w) _ _ (λ v. checked (HasSize false w) _ _ (λ x. checked (HasSize false w) _ _ (λ _. puts_sized w x k v)))))
-effect_sized w (Remove dict key) = checked (HasSize false w) _ _ (λ d. checked (HasSize false w) _ _ (λ k. checked (HasSize false w) _ _ (λ x. checked (HasSize false w) _ _ (λ _. checked (HasSize false w) _ _ (λ e. changed w _ x.serial)))))
-effect_sized w (SetAttr instance name operand) = checked (HasSize false w) _ _ (λ o. checked (HasSize false w) _ _ (λ v. checked (HasSize false w) _ _ (λ x. puts_sized w x (Str name) v)))
-effect_sized w (DelAttr instance name) = checked (HasSize false w) _ _ (λ o. checked (HasSize false w) _ _ (λ x. checked (HasSize false w) _ _ (λ e. changed w _ x.serial)))
-effect_sized w (Item name list index) = checked (HasSize false w) _ _ (λ l. checked (HasSize false w) _ _ (λ x. checked (HasSize false w) _ _ (λ i. checked (HasSize false w) _ _ (λ e. named w name _))))
-effect_sized w (Get name dict key) = checked (HasSize false w) _ _ (λ d. checked (HasSize false w) _ _ (λ k. checked (HasSize false w) _ _ (λ x. checked (HasSize false w) _ _ (λ _. checked (HasSize false w) _ _ (λ v. named w name _)))))
-effect_sized w (Attr name instance attribute) = checked (HasSize false w) _ _ (λ o. checked (HasSize false w) _ _ (λ x. checked (HasSize false w) _ _ (λ v. named w name _)))
-effect_sized w (Deref name weak) = checked (HasSize false w) _ _ (λ v. checked (HasSize false w) _ _ (λ x. named w name _))
-effect_sized w (Call function) = checked (HasSize false w) _ _ (λ v. checked (HasSize false w) _ _ (λ x. tt))
-effect_sized w (Quit operand) = checked (HasSize false w) _ _ (λ v. quit_sized w v)
-effect_sized w (Collect generation) = checked (HasSize false w) _ _ (λ g. tt)
-effect_sized w Enable = same w _
-effect_sized w Disable = same w _
-effect_sized w (Threshold zero one two) = same w _
-effect_sized w (Flags bits) = same w _
-effect_sized w Freeze = placed w frozen _
-effect_sized w Unfreeze = placed w unfrozen _
-effect_sized w (Print operand) = checked (HasSize false w) _ _ (λ v. same w _)
-effect_sized w (Refs operand) = checked (HasSize false w) _ _ (λ v. checked (HasSize false w) _ _ (λ x. same w _))
-effect_sized w (Tracked operand) = checked (HasSize false w) _ _ (λ v. same w _)
-effect_sized w (Finalized operand) = checked (HasSize false w) _ _ (λ v. same w _)
-effect_sized w Count = same w _
-effect_sized w Gens = same w _
+effect_sized w command = by_shape (HasSize (makes_object command) w) w command (shape_sized w command)
 
 of_effect : (P : Effect → Type 0) (r : Result Effect ℕ) (e : Effect) → r ≡ Ok e → Each P r → P e
 of_effect P r e is each = subst (Each P) is each

@@ -47,8 +47,8 @@ module _ (w : World) (garbage : HasGarbageList w.objects) (made : 1 < w.next_ser
   shape_kept command e (Makes name kind class entries referent own parts) = new_kept w.objects _ (λ i. omega (arith, made, i))
   shape_kept command e (Edits wants x entries given h mutable edit) = edits_kept command x entries given h.member edit
   shape_kept command e (Puts x key v h mutable hand_key hand room) = other_kept (λ y. tracked_by w key v (with_entries (put x.entries key v) y)) x.serial w.objects (λ y. (put_later w x key v y).serial) (other_object command x h)
-  shape_kept command e Freezes = places_kept frozen w.objects refl
-  shape_kept command e Unfreezes = places_kept unfrozen w.objects refl
+  shape_kept command e (Freezes is) = places_kept frozen w.objects refl
+  shape_kept command e (Unfreezes is) = places_kept unfrozen w.objects refl
   shape_kept command e (StartsFrame f h) = tt
   shape_kept command e (StartsCollection g) = tt
   shape_kept command e Ends = tt

@@ -9,7 +9,7 @@ use Rattle.cg_machine.specs.World.{World, Activity, Numbers}
 use Rattle.cg_machine.specs.Effects.{Effect, Changes, Calls, Collects, Quits}
 use Rattle.cg_machine.specs.Collect.{begun, survived}
 use Rattle.cg_machine.specs.Due.{due_generation, is_due}
-use Rattle.cg_machine.proofs.Shapes.{Shape, Makes, Sets, Freezes, StartsFrame, StartsCollection, Ends}
+use Rattle.cg_machine.proofs.Shapes.{Shape, Makes, Stays, Sets, Freezes, StartsFrame, StartsCollection, Ends}
 use Rattle.cg_machine.proofs.Making.{left_on}
 use Rattle.cg_machine.proofs.Measure.{is_starting}
 
@@ -104,8 +104,8 @@ kept n = record { counts_one = omega arith; pending = refl; total = refl }
 -- any command
 pub shape_counts : (w : World) (command : Command) (e : Effect) → Shape w command e → LeavesNumbers w e
 shape_counts w command e (Makes name kind class entries referent own parts) = record { counts_one = omega arith; pending = refl; total = refl }
-shape_counts w command e (Sets numbers keeps) = record { counts_one = omega (arith, keeps.zero_count, keeps.one_count, keeps.two_count); pending = keeps.pending; total = keeps.total }
-shape_counts w command e Freezes = record { counts_one = omega arith; pending = refl; total = refl }
+shape_counts w command e (Sets numbers own keeps) = record { counts_one = omega (arith, keeps.zero_count, keeps.one_count, keeps.two_count); pending = keeps.pending; total = keeps.total }
+shape_counts w command e (Freezes is) = record { counts_one = omega arith; pending = refl; total = refl }
 shape_counts w command e (StartsFrame f h) = tt
 shape_counts w command e (StartsCollection g) = tt
 shape_counts w command e Ends = tt

@@ -28,7 +28,7 @@ use Rattle.cg_machine.proofs.DyingOrderly.{false_true}
 use Rattle.cg_machine.proofs.Forgotten.{IsQuiet, AreQuiet, Forgotten, Mortal, HasFinalizers, AreReferred, IsLater, later_refl, Alters, mortal_after, finalizers_after, change_alters, map_alters, place_later, map_quiet, test_quiet, entries_quiet, entries_alter, referred_after, still_forgotten, lives_within}
 use Rattle.cg_machine.proofs.Unheld.{AreOver}
 use Rattle.cg_machine.proofs.CommandRefs.{all_free, HoldNone, option_free, entry_val, entry_key, entry_free, cons_free, put_free, old_value_free, name_free, bound_free, IsKnown, operand_known}
-use Rattle.cg_machine.proofs.Shapes.{IsAtHand, Word, ValueIn, KeyIn, ReferentOf, HasObject, IsMutable, IsEdit, Shape, Binds, Makes, Edits, Puts, Shows, Tells, Sets, Freezes, Unfreezes, StartsFrame, StartsCollection, Ends}
+use Rattle.cg_machine.proofs.Shapes.{IsAtHand, Word, ValueIn, KeyIn, ReferentOf, HasObject, IsMutable, IsEdit, Shape, Binds, Makes, Edits, Puts, Shows, Tells, Stays, Sets, Freezes, Unfreezes, StartsFrame, StartsCollection, Ends}
 
 -- what is changed by a command is no weak reference
 mutable_code : (x : Object) → IsMutable x.code → x.code ≢ Weak
@@ -278,9 +278,10 @@ module _ (script : Script) (w : World) (rises : Rises 1 w.next_serial w.objects)
   shape_mild command e (Puts x key v h mutable hand_key hand room) = puts_mild x key v h.member (mutable_code x mutable) (object_apart command (λ y. is_dict y || is_instance y) x h) (hand_known command key hand_key) (hand_known command v hand)
   shape_mild command e (Shows v hand) = numbers_mild w.numbers
   shape_mild command e (Tells line tells) = numbers_mild w.numbers
-  shape_mild command e (Sets numbers keeps) = numbers_mild numbers
-  shape_mild command e Freezes = places_mild frozen _ refl frozen_condemned frozen_place
-  shape_mild command e Unfreezes = places_mild unfrozen _ refl unfrozen_condemned unfrozen_place
+  shape_mild command e Stays = numbers_mild w.numbers
+  shape_mild command e (Sets numbers own keeps) = numbers_mild numbers
+  shape_mild command e (Freezes is) = places_mild frozen _ refl frozen_condemned frozen_place
+  shape_mild command e (Unfreezes is) = places_mild unfrozen _ refl unfrozen_condemned unfrozen_place
   shape_mild command e (StartsFrame f h) = object_apart command is_function f h
   shape_mild command e (StartsCollection g) = tt
   shape_mild command e Ends = tt

@@ -19,7 +19,7 @@ use Rattle.cg_machine.proofs.Tally.{bit, tally-append, tally-map_le}
 use Rattle.cg_machine.proofs.Serials.{Rises, change-below}
 use Rattle.cg_machine.proofs.Measure.{entries_in, referents_in, size_of}
 use Rattle.cg_machine.proofs.Fading.{Same, map_stays, if_same}
-use Rattle.cg_machine.proofs.Shapes.{Shape, Binds, Makes, Edits, Puts, Shows, Tells, Sets, Freezes, Unfreezes, StartsFrame, StartsCollection, Ends}
+use Rattle.cg_machine.proofs.Shapes.{Shape, Binds, Makes, Edits, Puts, Shows, Tells, Stays, Sets, Freezes, Unfreezes, StartsFrame, StartsCollection, Ends}
 use Rattle.cg_machine.proofs.ShapeLaws.{shape_gives_few}
 use Rattle.cg_machine.proofs.Lookups.{serial_from}
 
@@ -124,9 +124,10 @@ shape_grows w r command e (Puts x key v h mutable hand_key hand room) = sets w (
     (omega (arith, length-put x.entries key v, ap length (tracked_same w key v (with_entries (put x.entries key v) x)).2)) (value_one (value_at x.entries key))
 shape_grows w r command e (Shows v hand) = stays_so w w.names w.numbers [] (omega arith)
 shape_grows w r command e (Tells line tells) = stays_so w w.names w.numbers [] (omega arith)
-shape_grows w r command e (Sets numbers keeps) = stays_so w w.names numbers [] (omega arith)
-shape_grows w r command e Freezes = places w frozen _
-shape_grows w r command e Unfreezes = places w unfrozen _
+shape_grows w r command e Stays = stays_so w w.names w.numbers [] (omega arith)
+shape_grows w r command e (Sets numbers own keeps) = stays_so w w.names numbers [] (omega arith)
+shape_grows w r command e (Freezes is) = places w frozen _
+shape_grows w r command e (Unfreezes is) = places w unfrozen _
 shape_grows w r command e (StartsFrame f h) = (f, h.member, refl, h.passes)
 shape_grows w r command e (StartsCollection g) = tt
 shape_grows w r command e Ends = tt

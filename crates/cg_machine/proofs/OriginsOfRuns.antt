@@ -1,6 +1,8 @@
 -- Every step of a run leaves what a world has of its script: a command that makes an object names its class or procedure.
-use Rattle.std.proofs.Common.{refl, sym, subst, ℕ, inl, inr, List, [], ◌∷◌, ◌++◌, Some}
+use Rattle.std.proofs.Common.{◌≡◌, ◌⊎◌, refl, sym, subst, ℕ, inl, inr, List, [], ◌∷◌, ◌++◌, Some, ◌∙◌, Option}
 use Rattle.std.specs.Prelude.{flat_map}
+use Rattle.cg_value.specs.declared.KindCode.{KindCode}
+use Rattle.cg_value.specs.declared.KindCode.TheVariants.{List as ListKind, Tuple, Dict, Inst, Func, Weak}
 use Rattle.cg_script.specs.declared.Script.{Script}
 use Rattle.cg_script.specs.declared.Command.{Command}
 use Rattle.cg_graph.specs.Member.{Includes}
@@ -14,17 +16,19 @@ use Rattle.cg_machine.specs.Frame.{procedure_of}
 use Rattle.cg_machine.specs.Effects.{Changes}
 use Rattle.cg_machine.specs.Run.{Step}
 use Rattle.cg_machine.specs.Origins.{all_commands, commands_on, IsOfScript, WorldsHaveOrigins}
-use Rattle.cg_machine.proofs.Shapes.{IsMadeBy}
+use Rattle.cg_machine.proofs.Shapes.{IsMadeBy, ByList, ByTuple, ByDict, ByInst, ByFunc, ByRef}
 use Rattle.cg_machine.proofs.ShapeLaws.{changes_leave, shape_comes}
 use Rattle.cg_machine.proofs.Invariants.{HasCommands, Takes, FromTop, FromFrame, emptied, on, CommandSteps, Steps, any_step, by_runs}
 use Rattle.cg_machine.proofs.Origins.{AreOfScript, IsAllOfScript, later_of_script, starts_origin, frame_end_origin, released_origin, popped_origin, dying_origin, phase_origin}
 
 module _ (script : Script) where
-  made_of_script : (command : Command) → Includes (all_commands script) command → (y : Object) → IsMadeBy command y.code y.class → IsOfScript script y
-  made_of_script command of_script y made = record {
-    class = λ e. let k = made.instance e in (k.1, k.2, (k.0, subst (Includes (all_commands script)) k.3 of_script));
-    procedure = λ e. let k = made.function e in (k.1, k.3, (k.0, k.2, subst (Includes (all_commands script)) k.4 of_script));
-  }
+  made_of_script : (command : Command) → Includes (all_commands script) command → (y : Object) (code : KindCode) (class : Option ℕ) → y.code ≡ code → y.class ≡ class → IsMadeBy command code class → IsOfScript script y
+  made_of_script command m y code class c k (ByInst name number) = record { class = λ e. (number, k, (name, m)); procedure = λ e. absurd (let no : Inst ≡ Func = sym c ∙ e in cc) }
+  made_of_script command m y code class c k (ByFunc name proc cells) = record { class = λ e. absurd (let no : Func ≡ Inst = sym c ∙ e in cc); procedure = λ e. (proc, k, (name, cells, m)) }
+  made_of_script command m y code class c k (ByList name items) = record { class = λ e. absurd (let no : ListKind ≡ Inst = sym c ∙ e in cc); procedure = λ e. absurd (let no : ListKind ≡ Func = sym c ∙ e in cc) }
+  made_of_script command m y code class c k (ByTuple name items) = record { class = λ e. absurd (let no : Tuple ≡ Inst = sym c ∙ e in cc); procedure = λ e. absurd (let no : Tuple ≡ Func = sym c ∙ e in cc) }
+  made_of_script command m y code class c k (ByDict name) = record { class = λ e. absurd (let no : Dict ≡ Inst = sym c ∙ e in cc); procedure = λ e. absurd (let no : Dict ≡ Func = sym c ∙ e in cc) }
+  made_of_script command m y code class c k (ByRef name target callback) = record { class = λ e. absurd (let no : Weak ≡ Inst = sym c ∙ e in cc); procedure = λ e. absurd (let no : Weak ≡ Func = sym c ∙ e in cc) }
 
   -- a command is taken, and is of the script; the others are left
   taken : (command : Command) (a b : Activity) (below : List Activity) (objects : List Object) → Takes command a b → AreOfScript script objects (a ∷ below) → AreOfScript script objects (b ∷ below) × Includes (all_commands script) command
@@ -44,7 +48,7 @@ module _ (script : Script) where
     stops = λ lines answers. stopped b below v.objects hb k.0;
     changes = λ wants_memory lines given_up after shape. record {
       commands = λ c m. k.0.commands c (subst (λ (st : List Activity). Includes (flat_map commands_on st) c) (changes_leave (on b below v) command wants_memory lines given_up after shape).stack m);
-      objects = λ y m. either (shape_comes (on b below v) command (Changes wants_memory lines given_up after) shape y m) (λ x. later_of_script script x.0 y x.2 (k.0.objects x.0 x.1)) (made_of_script command k.1 y);
+      objects = λ y m. either (shape_comes (on b below v) command (Changes wants_memory lines given_up after) shape y m) (λ x. later_of_script script x.0 y x.2 (k.0.objects x.0 x.1)) (made_of_script command k.1 y y.code y.class refl refl);
     };
     calls = λ f h. starts_origin script (record { sort = CallFrame; proc = procedure_of (on b below v) f.serial; subject = f.serial; func = Some f.serial }) (on b below v) k.0;
     asks = λ g e. record { commands = k.0.commands; objects = k.0.objects };

@@ -23,7 +23,7 @@ use Rattle.cg_machine.specs.World.{World, Frame, Numbers, with_change}
 use Rattle.cg_machine.specs.Operands.{frame_on, is_dict, self_in, value_of, weak_in}
 use Rattle.cg_machine.specs.Effects.{Effect, Changes, Calls, Collects, Quits, bound, with_new, frozen, may_track, replaced, tracked_by, unfrozen}
 use Rattle.cg_machine.specs.Lines.{IsPrintable}
-use Rattle.cg_machine.proofs.Shapes.{IsAtHand, Word, ValueIn, KeyIn, ReferentOf, TellsNumbers, Shape, Binds, Makes, Edits, Puts, Shows, Tells, Sets, Freezes, Unfreezes, StartsFrame, StartsCollection, Ends}
+use Rattle.cg_machine.proofs.Shapes.{IsAtHand, Word, ValueIn, KeyIn, ReferentOf, TellsNumbers, Shape, Binds, Makes, Edits, Puts, Shows, Tells, Stays, Sets, Freezes, Unfreezes, StartsFrame, StartsCollection, Ends}
 use Rattle.cg_machine.proofs.Lookups.{slice_get_member}
 use Rattle.cg_machine.proofs.PrintableTexts.{HasText, EntryHasTexts, HaveTexts, WorldHasTexts, KeepsTexts, NamesTexts, set_member, text_printable, entries_put, entries_texts, mapped_texts, changed_texts}
 use Rattle.cg_machine.proofs.PrintableSteps.{Prints, silent, says}
@@ -148,9 +148,10 @@ module _ (texts : List (List ℕ)) (short : All (λ text. length text ≤ 1024) 
   shape_prints command named e (Puts x key v h mutable hand_key hand room) = puts_prints x key v (known.objects x h.member) (hand_known command named key hand_key) (hand_known command named v hand)
   shape_prints command named e (Shows v hand) = answers (Value v) (text_printable texts short v (hand_known command named v hand))
   shape_prints command named e (Tells line tells) = answers line (numbers_printable line tells)
-  shape_prints command named e (Sets numbers keeps) = stays numbers
-  shape_prints command named e Freezes = places_print frozen _
-  shape_prints command named e Unfreezes = places_print unfrozen _
+  shape_prints command named e Stays = stays w.numbers
+  shape_prints command named e (Sets numbers own keeps) = stays numbers
+  shape_prints command named e (Freezes is) = places_print frozen _
+  shape_prints command named e (Unfreezes is) = places_print unfrozen _
   shape_prints command named e (StartsFrame f h) = tt
   shape_prints command named e (StartsCollection g) = tt
   shape_prints command named e Ends = tt

@@ -49,10 +49,14 @@ pub record HasObject (w : World) (command : Command) (test : Object → Bool) (x
 abbrev pub AreItems : World → Command → List Entry → Type 0
 AreItems w command entries = (e : Entry) → Includes entries e → (e.key ≡ Nothing) × IsAtHand w command e.val
 
--- the commands that make instances and functions name their class and procedure
-pub record IsMadeBy (command : Command) (code : KindCode) (class : Option ℕ) : Type 0 where
-  pub instance : code ≡ Inst → (name number : ℕ) × (class ≡ Some number) × (command ≡ MakeInst name number)
-  pub function : code ≡ Func → (name number : ℕ) × (cells : List Operand) × (class ≡ Some number) × (command ≡ MakeFunc name number cells)
+-- what a command makes: instances and functions are of the class and procedure that it names
+pub data IsMadeBy : Command → KindCode → Option ℕ → Type 0 where
+  ByList : (name : ℕ) (items : List Operand) → IsMadeBy (MakeList name items) ListKind None
+  ByTuple : (name : ℕ) (items : List Operand) → IsMadeBy (MakeTuple name items) Tuple None
+  ByDict : (name : ℕ) → IsMadeBy (MakeDict name) Dict None
+  ByInst : (name class : ℕ) → IsMadeBy (MakeInst name class) Inst (Some class)
+  ByFunc : (name proc : ℕ) (cells : List Operand) → IsMadeBy (MakeFunc name proc cells) Func (Some proc)
+  ByRef : (name : ℕ) (target callback : Operand) → IsMadeBy (MakeRef name target callback) Weak None
 
 -- the parts of a new object
 pub record HasParts (w : World) (command : Command) (kind : KindCode) (class : Option ℕ) (entries : List Entry) (referent : Option ℕ) : Type 0 where
@@ -96,6 +100,14 @@ pub record KeepsCounts (n after : Numbers) : Type 0 where
   pub pending : after.pending ≡ n.pending
   pub total : after.total ≡ n.total
 
+-- the commands that set numbers of the policy
+abbrev pub SetsNumbers : Command → Type 0
+SetsNumbers Enable = Unit {0}
+SetsNumbers Disable = Unit {0}
+SetsNumbers (Threshold first second third) = Unit {0}
+SetsNumbers (Flags bits) = Unit {0}
+SetsNumbers command = ⊥
+
 -- What an effect can be. A refused command has none.
 pub data Shape (w : World) (command : Command) : Effect → Type 0 where
   Binds : (name : ℕ) (v : Option Val) → Includes (command_texts command) name → ((u : Val) → v ≡ Some u → IsAtHand w command u) → Shape w command (Changes false [] (given_up_by w name) (bound w name v))
@@ -107,9 +119,10 @@ pub data Shape (w : World) (command : Command) : Effect → Type 0 where
       → Shape w command (Changes (is_none (value_at x.entries key)) [] (references_of_value (value_at x.entries key)) (with_change (λ y. tracked_by w key v (with_entries (put x.entries key v) y)) x.serial w))
   Shows : (v : Val) → IsAtHand w command v → Shape w command (Changes false (Value v ∷ []) [] w)
   Tells : (line : Event) → TellsNumbers line → Shape w command (Changes false (line ∷ []) [] w)
-  Sets : (numbers : Numbers) → KeepsCounts w.numbers numbers → Shape w command (Changes false [] [] (record w { numbers = numbers }))
-  Freezes : Shape w command (Changes false [] [] (record w { objects = replaced frozen w; numbers = record w.numbers { zero_count = 0; one_count = 0; two_count = 0 } }))
-  Unfreezes : Shape w command (Changes false [] [] (record w { objects = replaced unfrozen w }))
+  Stays : Shape w command (Changes false [] [] w)
+  Sets : (numbers : Numbers) → SetsNumbers command → KeepsCounts w.numbers numbers → Shape w command (Changes false [] [] (record w { numbers = numbers }))
+  Freezes : command ≡ Freeze → Shape w command (Changes false [] [] (record w { objects = replaced frozen w; numbers = record w.numbers { zero_count = 0; one_count = 0; two_count = 0 } }))
+  Unfreezes : command ≡ Unfreeze → Shape w command (Changes false [] [] (record w { objects = replaced unfrozen w }))
   StartsFrame : (f : Object) → HasObject w command is_function f → Shape w command (Calls f.serial)
   StartsCollection : (g : ℕ) → Shape w command (Collects g)
   Ends : Shape w command Quits
@@ -229,9 +242,6 @@ module _ (w : World) (command : Command) where
   no_referent : (kind : KindCode) (r : ℕ) → None ≡ Some r → (kind ≡ Weak) × ((z : Object) × HasObject w command has_weak_references z × (z.serial ≡ r))
   no_referent kind r e = absurd (cc)
 
-  plain : (kind : KindCode) → kind ≢ Inst → kind ≢ Func → IsMadeBy command kind None
-  plain kind i f = record { instance = λ e. absurd (i e); function = λ e. absurd (f e) }
-
   items_of : (vs : List Val) → AreAtHand vs → AreItems w command (map item vs)
   items_of vs hand e m =
       let v = Includes-map_cases item vs e m in
@@ -302,14 +312,11 @@ module _ (w : World) (command : Command) where
       go None e = nothing_shaped
       go (Some o) e = ReferentOf x o m hand e
 
-  same_numbers : KeepsCounts w.numbers w.numbers
-  same_numbers = record { zero_count = refl; one_count = refl; two_count = refl; pending = refl; total = refl }
-
   quit_shaped : (v : Val) → Shape w command (elim v [ Nothing ↦ Quits | _ ↦ Changes false [] [] w ])
   quit_shaped Nothing = Ends
-  quit_shaped (Int n) = Sets w.numbers same_numbers
-  quit_shaped (Str s) = Sets w.numbers same_numbers
-  quit_shaped (Ref o) = Sets w.numbers same_numbers
+  quit_shaped (Int n) = Stays
+  quit_shaped (Str s) = Stays
+  quit_shaped (Ref o) = Stays
 
   -- the callback of a new weak reference
   pub record IsCallback (entries : List Entry) : Type 0 where
@@ -370,18 +377,18 @@ attribute : (w : World) (command : Command) (name : ℕ) → Includes (command_t
 attribute w command name own = Word (StrWord name) (Str name) (λ t m. either m (λ e. subst (Includes (command_texts command)) e own) (λ n. absurd n)) refl
 
 -- numbers that commands set
-sets_shaped : (w : World) (command : Command) (first second third flags : ℕ) (enabled : Bool) → Shape w command (Changes false [] [] (record w { numbers = record w.numbers { zero_threshold = first; one_threshold = second; two_threshold = third; flags = flags; enabled = enabled } }))
-sets_shaped w command first second third flags enabled = Sets (record w.numbers { zero_threshold = first; one_threshold = second; two_threshold = third; flags = flags; enabled = enabled }) (record { zero_count = refl; one_count = refl; two_count = refl; pending = refl; total = refl })
+sets_shaped : (w : World) (command : Command) (first second third flags : ℕ) (enabled : Bool) → SetsNumbers command → Shape w command (Changes false [] [] (record w { numbers = record w.numbers { zero_threshold = first; one_threshold = second; two_threshold = third; flags = flags; enabled = enabled } }))
+sets_shaped w command first second third flags enabled own = Sets (record w.numbers { zero_threshold = first; one_threshold = second; two_threshold = third; flags = flags; enabled = enabled }) own (record { zero_count = refl; one_count = refl; two_count = refl; pending = refl; total = refl })
 
 -- The effect of each command in each world has a shape.
 pub effect_shaped : (w : World) (command : Command) → Each (Shape w command) (effect w command)
-effect_shaped w (MakeList name items) = all_valued w _ _ items (λ t m. inr m) (λ vs hand. makes_shaped w _ name ListKind None (map item vs) None (inl refl) (plain w _ ListKind (λ e. cc) (λ e. cc)) (items_of w _ vs hand) (no_referent w _ ListKind) (λ e. absurd (cc)))
-effect_shaped w (MakeTuple name items) = all_valued w _ _ items (λ t m. inr m) (λ vs hand. makes_shaped w _ name Tuple None (map item vs) None (inl refl) (plain w _ Tuple (λ e. cc) (λ e. cc)) (items_of w _ vs hand) (no_referent w _ Tuple) (λ e. absurd (cc)))
-effect_shaped w (MakeDict name) = makes_shaped w _ name Dict None [] None (inl refl) (plain w _ Dict (λ e. cc) (λ e. cc)) (λ e m. absurd m) (no_referent w _ Dict) (λ e. absurd (cc))
-effect_shaped w (MakeInst name class) = makes_shaped w _ name Inst (Some class) [] None (inl refl) (record { instance = λ e. (name, class, refl, refl); function = λ e. absurd (cc) }) (λ e m. absurd m) (no_referent w _ Inst) (λ e. absurd (cc))
-effect_shaped w (MakeFunc name proc cells) = all_valued w _ _ cells (λ t m. inr m) (λ vs hand. makes_shaped w _ name Func (Some proc) (map item vs) None (inl refl) (record { instance = λ e. absurd (cc); function = λ e. (name, proc, cells, refl, refl) }) (items_of w _ vs hand) (no_referent w _ Func) (λ e. absurd (cc)))
+effect_shaped w (MakeList name items) = all_valued w _ _ items (λ t m. inr m) (λ vs hand. makes_shaped w _ name ListKind None (map item vs) None (inl refl) (ByList name items) (items_of w _ vs hand) (no_referent w _ ListKind) (λ e. absurd (cc)))
+effect_shaped w (MakeTuple name items) = all_valued w _ _ items (λ t m. inr m) (λ vs hand. makes_shaped w _ name Tuple None (map item vs) None (inl refl) (ByTuple name items) (items_of w _ vs hand) (no_referent w _ Tuple) (λ e. absurd (cc)))
+effect_shaped w (MakeDict name) = makes_shaped w _ name Dict None [] None (inl refl) (ByDict name) (λ e m. absurd m) (no_referent w _ Dict) (λ e. absurd (cc))
+effect_shaped w (MakeInst name class) = makes_shaped w _ name Inst (Some class) [] None (inl refl) (ByInst name class) (λ e m. absurd m) (no_referent w _ Inst) (λ e. absurd (cc))
+effect_shaped w (MakeFunc name proc cells) = all_valued w _ _ cells (λ t m. inr m) (λ vs hand. makes_shaped w _ name Func (Some proc) (map item vs) None (inl refl) (ByFunc name proc cells) (items_of w _ vs hand) (no_referent w _ Func) (λ e. absurd (cc)))
 effect_shaped w (MakeRef name target callback) = valued w _ _ target (λ t m. inr (Includes-append_left (operand_texts target) (operand_texts callback) t m)) (λ v hand. valued w _ _ callback (λ t m. inr (Includes-append_right (operand_texts target) (operand_texts callback) t m)) (λ c hand_c. found w _ _ has_weak_references wrong_kind v hand (λ x h.
-    each_then (IsCallback w (MakeRef name target callback)) (Shape w (MakeRef name target callback)) (callback_entries w c) _ (callback_shaped w (MakeRef name target callback) c hand_c) (λ entries k. makes_shaped w _ name Weak None entries (Some x.serial) (inl refl) (plain w _ Weak (λ e. cc) (λ e. cc)) k.items (λ r e. (refl, (x, h, let same : x.serial ≡ r = cc in same))) (λ e. k.functions)))))
+    each_then (IsCallback w (MakeRef name target callback)) (Shape w (MakeRef name target callback)) (callback_entries w c) _ (callback_shaped w (MakeRef name target callback) c hand_c) (λ entries k. makes_shaped w _ name Weak None entries (Some x.serial) (inl refl) (ByRef name target callback) k.items (λ r e. (refl, (x, h, let same : x.serial ≡ r = cc in same))) (λ e. k.functions)))))
 effect_shaped w (Bind name operand) = valued w _ _ operand (λ t m. inr m) (λ v hand. binds_shaped w _ name v (inl refl) hand)
 effect_shaped w (Del name) = any w _ _ _ (λ v. Binds name None (inl refl) (λ u e. absurd (let no : None ≡ Some u = e in cc)))
 effect_shaped w (Append list operand) = valued w _ _ list (Includes-append_left (operand_texts list) (operand_texts operand)) (λ l hand_l. valued w _ _ operand (Includes-append_right (operand_texts list) (operand_texts operand)) (λ v hand. found w _ _ is_script_list wrong_kind l hand_l (λ x h.
@@ -405,12 +412,12 @@ effect_shaped w (Deref name weak) = valued w _ _ weak (λ t m. inr m) (λ v hand
 effect_shaped w (Call function) = valued w _ _ function (λ t m. m) (λ v hand. found w _ _ is_function not_callable v hand (λ x h. StartsFrame x h))
 effect_shaped w (Quit operand) = any w _ _ _ (λ v. quit_shaped w _ v)
 effect_shaped w (Collect generation) = any w _ _ _ (λ g. StartsCollection g)
-effect_shaped w Enable = sets_shaped w Enable _ _ _ _ _
-effect_shaped w Disable = sets_shaped w Disable _ _ _ _ _
-effect_shaped w (Threshold first second third) = sets_shaped w (Threshold first second third) _ _ _ _ _
-effect_shaped w (Flags bits) = sets_shaped w (Flags bits) _ _ _ _ _
-effect_shaped w Freeze = Freezes
-effect_shaped w Unfreeze = Unfreezes
+effect_shaped w Enable = sets_shaped w Enable _ _ _ _ _ tt
+effect_shaped w Disable = sets_shaped w Disable _ _ _ _ _ tt
+effect_shaped w (Threshold first second third) = sets_shaped w (Threshold first second third) _ _ _ _ _ tt
+effect_shaped w (Flags bits) = sets_shaped w (Flags bits) _ _ _ _ _ tt
+effect_shaped w Freeze = Freezes refl
+effect_shaped w Unfreeze = Unfreezes refl
 effect_shaped w (Print operand) = valued w _ _ operand (λ t m. m) (λ v hand. Shows v hand)
 effect_shaped w (Refs operand) = any w _ _ _ (λ v. any w _ _ _ (λ x. Tells _ tt))
 effect_shaped w (Tracked operand) = any w _ _ _ (λ v. Tells _ tt)
