@@ -1,5 +1,5 @@
 -- Every step of a run leaves what a world has of its script: a command that makes an object names its class or procedure.
-use Rattle.std.proofs.Common.{◌≡◌, ◌⊎◌, refl, sym, subst, ℕ, inl, inr, List, [], ◌∷◌, ◌++◌, Some, ◌∙◌, Option}
+use Rattle.std.proofs.Common.{◌≡◌, refl, sym, subst, ℕ, inl, inr, List, [], ◌∷◌, ◌++◌, Some, ◌∙◌, Option}
 use Rattle.std.specs.Prelude.{flat_map}
 use Rattle.cg_value.specs.declared.KindCode.{KindCode}
 use Rattle.cg_value.specs.declared.KindCode.TheVariants.{List as ListKind, Tuple, Dict, Inst, Func, Weak}

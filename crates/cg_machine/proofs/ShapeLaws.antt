@@ -1,5 +1,5 @@
 -- What follows from the shape of an effect, for all commands at once: a clause for each form.
-use Rattle.std.proofs.Common.{refl, ap, subst, ℕ, ◌≤◌, Bool, true, false, not, ◌&&◌, inl, inr, ◌⊎◌, List, [], ◌∷◌, length, Option, Result, Ok, Err, arith, ◌∙◌, ◌≡◌, sym, Some, None, ◌+◌}
+use Rattle.std.proofs.Common.{refl, ap, subst, ℕ, ◌≤◌, Bool, true, false, not, ◌&&◌, inl, inr, ◌⊎◌, List, [], ◌∷◌, length, Option, Result, Ok, Err, arith, ◌∙◌, ◌≡◌, sym, Some, None}
 use Rattle.std.specs.Prelude.{if◌then◌else◌, ◌||◌, option_and_then, slice_get, slice_set, option_to_list}
 use Rattle.cg_value.specs.declared.Val.{Val}
 use Rattle.cg_value.specs.declared.Entry.{Entry}
@@ -24,7 +24,7 @@ use Rattle.cg_machine.proofs.Serials.{Rises-map, Rises-change, Rises-new}
 use Rattle.cg_machine.proofs.CommandLaws.{Each, Leaves, LeavesStack}
 use Rattle.cg_machine.proofs.Forgotten.{IsLater, later_refl, change_alters, map_alters, place_later}
 use Rattle.cg_machine.proofs.Rooms.{few_option, few_entry}
-use Rattle.cg_machine.proofs.Shapes.{IsMadeBy, IsEdit, Shape, Binds, Makes, Edits, Puts, Shows, Tells, Stays, Sets, Freezes, Unfreezes, StartsFrame, StartsCollection, Ends, effect_shaped, Word, ValueIn, KeyIn, TellsNumbers, value_at_member, IsAtHand, HasObject, HasParts}
+use Rattle.cg_machine.proofs.Shapes.{IsMadeBy, IsEdit, Shape, Binds, Makes, Edits, Puts, Shows, Tells, Stays, Sets, Freezes, Unfreezes, StartsFrame, StartsCollection, Ends, effect_shaped, Word, ValueIn, KeyIn, TellsNumbers, value_at_member, IsAtHand}
 
 -- from the shapes of effects to a law on effects
 each_implies : {A : Type 0} (P Q : A → Type 0) → ((x : A) → P x → Q x) → (r : Result A ℕ) → Each P r → Each Q r
