@@ -4,3 +4,7 @@ pub mod ToldCollections
 pub mod ToldCommands
 pub mod ToldRuns
 pub mod Promises
+pub mod Minded
+pub mod Moved
+pub mod MindedDeaths
+pub mod MindedCollections

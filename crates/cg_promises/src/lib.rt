@@ -5,4 +5,4 @@
 
 mod laws;
 
-pub use laws::{no_dead_names, one_finalizer_each};
+pub use laws::{no_dead_names, one_finalizer_each, unheld_is_dying};
