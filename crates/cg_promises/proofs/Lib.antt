@@ -8,3 +8,5 @@ pub mod Minded
 pub mod Moved
 pub mod MindedDeaths
 pub mod MindedCollections
+pub mod MindedCommands
+pub mod MindedRuns
