@@ -10,3 +10,6 @@ pub mod MindedDeaths
 pub mod MindedCollections
 pub mod MindedCommands
 pub mod MindedRuns
+pub mod Sealed
+pub mod SealedDeaths
+pub mod SealedCommands

@@ -37,7 +37,7 @@ pub begins : (script : Script) (f : Object → Object) (objects : List Object) (
 begins script f objects o p h e = let x = to_run_unmarked script objects o p e in record { object = x.0; member = x.1; serial = x.2; unmarked = x.3; marked = marked_all f o objects h }
 
 -- the weak references to an object are there
-reversed_back : (xs : List ℕ) (n : ℕ) → Includes (reverse xs) n → Includes xs n
+pub reversed_back : (xs : List ℕ) (n : ℕ) → Includes (reverse xs) n → Includes xs n
 reversed_back [] n m = m
 reversed_back (x ∷ xs) n m = either (Includes-append_cases (reverse xs) (x ∷ []) n (subst (λ ys. Includes ys n) (reverse-append (x ∷ []) xs) m)) (λ k. inr (reversed_back xs n k)) (λ k. either k (λ e. inl e) (λ e. absurd e))
 
