@@ -13,3 +13,4 @@ pub mod MindedRuns
 pub mod Sealed
 pub mod SealedDeaths
 pub mod SealedCommands
+pub mod SealedRuns

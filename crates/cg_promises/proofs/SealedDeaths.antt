@@ -254,14 +254,10 @@ module _ (script : Script) (members : List ℕ) where
     empties_sealed o None h = record { sealed = push_sealed script members (Releasing (o ∷ [])) (Collecting (record c { phase = AfterTurn o }) ∷ below) v.objects v.names v.next_serial tt (goes_in (Turn o) (AfterTurn o) v.objects (same_shrinks v.objects) tt h); lines = none_out members }
     empties_sealed o (Some entry) h = record { sealed = push_sealed script members (Releasing (entry_references entry)) (Collecting (record c { phase = Turn o }) ∷ below) _ v.names v.next_serial tt (goes_in (Turn o) (Turn o) _ (shortened_shrinks 1 v.next_serial v.objects o rises) tt h); lines = none_out members }
 
-    abbrev IsEnd : CollectPhase → Type 0
-    IsEnd Ending = Unit {0}
-    IsEnd phase = ⊥
-
-    pub late_sealed : (phase : CollectPhase) (events : List Event) (after : World) → IsLate phase → (IsEnd phase → ⊥) → PhaseStep script c phase below (standing phase) events after → SealedIn phase → Passes script members events after
+    pub late_sealed : (phase : CollectPhase) (events : List Event) (after : World) → IsLate phase → phase ≢ Ending → PhaseStep script c phase below (standing phase) events after → SealedIn phase → Passes script members events after
     late_sealed Turns events after late going (inl step) h = yields_sealed script members _ events after step.yields (turn_taken step.object h)
     late_sealed Turns events after late going (inr step) h = yields_sealed script members _ events after step.1 (record { sealed = goes_in Turns Ending v.objects (same_shrinks v.objects) tt h; lines = none_out members })
     late_sealed (Turn o) events after late going step h = yields_sealed script members _ events after step (empties_sealed o (last_entry (entries_of v.objects o)) h)
     late_sealed (AfterTurn o) events after late going step h = yields_sealed script members _ events after step (record { sealed = goes_in (AfterTurn o) Turns _ (older_shrinks o) tt h; lines = none_out members })
-    late_sealed Ending events after late going step h = absurd (going tt)
+    late_sealed Ending events after late going step h = absurd (going refl)
     late_sealed phase events after late going step h = absurd late

@@ -28,11 +28,11 @@ use Rattle.cg_promises.proofs.Told.{Marks, Old, IsPlain, IsTold, Goes, same_old,
 use Rattle.cg_promises.proofs.ToldDeaths.{begins}
 
 -- a list with the same members as often
-same_lives : (xs ys : List ℕ) → SameMembers xs ys → (n : ℕ) → Includes xs n → Includes ys n
+pub same_lives : (xs ys : List ℕ) → SameMembers xs ys → (n : ℕ) → Includes xs n → Includes ys n
 same_lives xs ys same n m = Includes-of_count n ys (subst (λ k. 0 < k) (same n) (present n xs m))
 
 -- objects that pass a test are there
-filter_lives : (test : Object → Bool) (objects : List Object) (n : ℕ) → Includes (serials (filter test objects)) n → Includes (serials objects) n
+pub filter_lives : (test : Object → Bool) (objects : List Object) (n : ℕ) → Includes (serials (filter test objects)) n → Includes (serials objects) n
 filter_lives test objects n m =
     let x = Includes-map_cases (λ (z : Object). z.serial) (filter test objects) n m in
     subst (Includes (serials objects)) x.2 (Includes-map (λ (z : Object). z.serial) objects x.0 (Includes-filter_cases test objects x.0 x.1).0)
