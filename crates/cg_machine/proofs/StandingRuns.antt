@@ -116,7 +116,7 @@ module _ (script : Script) (budget : ℕ) (steps : List StepTaken) (run : Run sc
   abbrev last : World
   last = last_world (opening script budget) steps
 
-  known : IsAllKnown last
+  pub known : IsAllKnown last
   known = known_after script (opening script budget) steps (opening_sound script budget) (opening_calm script budget) (opening_orderly script budget) (tt, tt) run
 
   order : HasOrder last

@@ -104,10 +104,10 @@ pub change_keeps : (f : Object → Object) (o : ℕ) (objects : List Object) →
 change_keeps f o objects h = plain_keeps f (λ x. x.serial == o) objects h
 
 pub placed : (p : Place) → IsPlainly (with_place p)
-placed p = record { marks = λ x. record { serial = refl; finalized = λ e. e }; entries = λ x. refl; code = λ x. refl }
+placed p = record { marks = λ x. record { serial = refl; code = refl; class = refl; finalized = λ e. e }; entries = λ x. refl; code = λ x. refl }
 
 pub lost : IsPlainly (with_referent None)
-lost = record { marks = λ x. record { serial = refl; finalized = λ e. e }; entries = λ x. refl; code = λ x. refl }
+lost = record { marks = λ x. record { serial = refl; code = refl; class = refl; finalized = λ e. e }; entries = λ x. refl; code = λ x. refl }
 
 pub lost_keeps : (weak : ℕ) (objects : List Object) → Keeps objects (loses_referent weak objects) []
 lost_keeps weak objects = change_keeps (with_referent None) weak objects lost

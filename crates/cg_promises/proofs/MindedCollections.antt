@@ -28,7 +28,7 @@ use Rattle.cg_promises.proofs.Moved.{appended_goes, shortened_keeps}
 
 -- places that depend on the object
 spread_keeps : (places : Object → Place) (test : Object → Bool) (objects : List Object) → Keeps objects (map (λ x. if test x then with_place (places x) x else x) objects) []
-spread_keeps places test objects = plain_keeps (λ x. with_place (places x) x) test objects (record { marks = λ x. record { serial = refl; finalized = λ e. e }; entries = λ x. refl; code = λ x. refl })
+spread_keeps places test objects = plain_keeps (λ x. with_place (places x) x) test objects (record { marks = λ x. record { serial = refl; code = refl; class = refl; finalized = λ e. e }; entries = λ x. refl; code = λ x. refl })
 
 all_lose_keeps : (wanted : Object → Bool) (weaks : List ℕ) (objects after : List Object) → AllLose wanted objects weaks after → Keeps objects after []
 all_lose_keeps wanted [] objects after lose = subst (λ os. Keeps objects os []) (sym lose.1) (keeps_same objects)
@@ -39,7 +39,7 @@ abbrev IsList : List Object → Type 0
 IsList objects = (x : Object) → Includes objects x → x.serial ≡ 1 → x.code ≡ ListKind
 
 saved_keeps : (o : ℕ) (objects : List Object) → IsList objects → Keeps objects (saved o objects) []
-saved_keeps o objects list = test_keeps (λ x. with_entries (x.entries ++ item (Ref o) ∷ []) x) (λ x. x.serial == 1) objects [] (λ x. record { serial = refl; finalized = λ e. e })
+saved_keeps o objects list = test_keeps (λ x. with_entries (x.entries ++ item (Ref o) ∷ []) x) (λ x. x.serial == 1) objects [] (λ x. record { serial = refl; code = refl; class = refl; finalized = λ e. e })
     (λ x m t n k. appended_goes x.entries (item (Ref o)) n k)
     (λ x m t s c. absurd (let no : ListKind ≡ Weak = sym (list x m (eqb-true x.serial 1 t)) ∙ c in cc))
 
@@ -84,7 +84,7 @@ module _ (script : Script) (k : ℕ) (c : Collection) (below : List Activity) (v
 
       merge : Keeps v.objects now []
       merge = record {
-        old = λ y m. let x = Includes-map_cases (λ x. with_place (merged_place c.generation x.place) x) v.objects y m in (x.0, x.1, subst (Marks x.0) x.2 (record { serial = refl; finalized = λ e. e }));
+        old = λ y m. let x = Includes-map_cases (λ x. with_place (merged_place c.generation x.place) x) v.objects y m in (x.0, x.1, subst (Marks x.0) x.2 (record { serial = refl; code = refl; class = refl; finalized = λ e. e }));
         entries = λ x m n i. inl (with_place (merged_place c.generation x.place) x, Includes-map (λ x. with_place (merged_place c.generation x.place) x) v.objects x m, i);
         single = λ s y m. let x = Includes-map_cases (λ x. with_place (merged_place c.generation x.place) x) v.objects y m in subst IsSingle x.2 (s x.0 x.1);
       }
@@ -121,7 +121,7 @@ module _ (script : Script) (k : ℕ) (c : Collection) (below : List Activity) (v
   looks_at_minded : (o : ℕ) (m : Option ℕ) → IsMinded k (at Finalizing) → IsMinded k (looks_at script c o below (at Finalizing) m).1
   looks_at_minded o None h = goes_to Finalizing c Finalizing _ (at_place Seen o) (λ n m. m) h
   looks_at_minded o (Some p) h = starts_minded k script (record { sort = Del; proc = p; subject = o; func = None }) (collection_at c (AfterFinalizing o) below (with_change (λ x. marked (with_place Seen x)) o (at Finalizing)))
-      (goes_to Finalizing c (AfterFinalizing o) _ (change_keeps (λ x. marked (with_place Seen x)) o v.objects (record { marks = λ x. record { serial = refl; finalized = λ e. refl }; entries = λ x. refl; code = λ x. refl })) (λ n m. absurd m) h)
+      (goes_to Finalizing c (AfterFinalizing o) _ (change_keeps (λ x. marked (with_place Seen x)) o v.objects (record { marks = λ x. record { serial = refl; code = refl; class = refl; finalized = λ e. refl }; entries = λ x. refl; code = λ x. refl })) (λ n m. absurd m) h)
 
   finalizing_minded : (events : List Event) (after : World) → FinalizingStep script c below (at Finalizing) events after → IsMinded k (at Finalizing) → IsMinded k after
   finalizing_minded events after (inl step) h = to after _ step.yields.1 (looks_at_minded step.object (option_and_then (finalizer_to_run script) (object_at v.objects step.object)) h)

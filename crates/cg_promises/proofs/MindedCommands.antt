@@ -130,18 +130,18 @@ module _ (w : World) (rises : Rises 1 w.next_serial w.objects) where
       is_x z k t = sym (same_object 1 w.next_serial w.objects z x rises k m (eqb-true z.serial x.serial t))
 
   sets_shift : (x : Object) (entries : List Entry) (given : List ℕ) → Includes w.objects x → x.code ≢ Weak → ((n : ℕ) → Goes x.entries entries given n) → Shifts w given (with_change (with_entries entries) x.serial w)
-  sets_shift x entries given m apart goes = shifted (with_change (with_entries entries) x.serial w) given (one_keeps (with_entries entries) x given (λ z. record { serial = refl; finalized = λ e. e }) m apart (λ z. refl) goes) refl
+  sets_shift x entries given m apart goes = shifted (with_change (with_entries entries) x.serial w) given (one_keeps (with_entries entries) x given (λ z. record { serial = refl; code = refl; class = refl; finalized = λ e. e }) m apart (λ z. refl) goes) refl
 
   places_shift : (f : Place → Place) (numbers : Numbers) → Shifts w [] (record w { objects = replaced f w; numbers = numbers })
   places_shift f numbers = shifted (record w { objects = replaced f w; numbers = numbers }) [] (record {
-    old = λ y m. let x = Includes-map_cases (λ x. with_place (f x.place) x) w.objects y m in (x.0, x.1, subst (Marks x.0) x.2 (record { serial = refl; finalized = λ e. e }));
+    old = λ y m. let x = Includes-map_cases (λ x. with_place (f x.place) x) w.objects y m in (x.0, x.1, subst (Marks x.0) x.2 (record { serial = refl; code = refl; class = refl; finalized = λ e. e }));
     entries = λ x m n i. inl (with_place (f x.place) x, Includes-map (λ x. with_place (f x.place) x) w.objects x m, i);
     single = λ s y m. let x = Includes-map_cases (λ x. with_place (f x.place) x) w.objects y m in subst IsSingle x.2 (s x.0 x.1);
   }) refl
 
   puts_shift : (x : Object) (key v : Val) → Includes w.objects x → x.code ≢ Weak → Each (Shifting w) (puts w x key v)
   puts_shift x key v m apart = checked (Shifting w) (if is_some (value_at x.entries key) then Ok tt else has_room w 1) _ (λ _. shifted (with_change put_in x.serial w) (references_of_value (value_at x.entries key))
-      (one_keeps put_in x (references_of_value (value_at x.entries key)) (λ y. let t = tracked (test y) (with_entries (put x.entries key v) y) in record { serial = t.0; finalized = λ e. t.1 ∙ e }) m apart
+      (one_keeps put_in x (references_of_value (value_at x.entries key)) (λ y. let t = tracked (test y) (with_entries (put x.entries key v) y) in record { serial = t.0; code = t.2; class = t.4; finalized = λ e. t.1 ∙ e }) m apart
       (λ y. (tracked (test y) (with_entries (put x.entries key v) y)).2)
       (λ n k. subst (λ es. Includes (references es) n ⊎ Includes (references_of_value (value_at x.entries key)) n) (sym (tracked (test x) (with_entries (put x.entries key v) x)).3) (put_goes x.entries key v n k))) refl)
     where
@@ -151,9 +151,9 @@ module _ (w : World) (rises : Rises 1 w.next_serial w.objects) where
       test : Object → Bool
       test y = is_dict y && not (is_tracked y) && (may_track w key || may_track w v)
 
-      tracked : (b : Bool) (y : Object) → ((if b then with_place (Gen 0) y else y).serial ≡ y.serial) × ((if b then with_place (Gen 0) y else y).finalized ≡ y.finalized) × ((if b then with_place (Gen 0) y else y).code ≡ y.code) × ((if b then with_place (Gen 0) y else y).entries ≡ y.entries)
-      tracked true y = (refl, refl, refl, refl)
-      tracked false y = (refl, refl, refl, refl)
+      tracked : (b : Bool) (y : Object) → ((if b then with_place (Gen 0) y else y).serial ≡ y.serial) × ((if b then with_place (Gen 0) y else y).finalized ≡ y.finalized) × ((if b then with_place (Gen 0) y else y).code ≡ y.code) × ((if b then with_place (Gen 0) y else y).entries ≡ y.entries) × ((if b then with_place (Gen 0) y else y).class ≡ y.class)
+      tracked true y = (refl, refl, refl, refl, refl)
+      tracked false y = (refl, refl, refl, refl, refl)
 
   makes_shift : (name : ℕ) (kind : KindCode) (class : Option ℕ) (entries : List Entry) (referent : Option ℕ) → name < length w.names → (kind ≡ Weak → AtMostOne entries) → Each (Shifting w) (makes w name kind class entries referent)
   makes_shift name kind class entries referent fits one = checked (Shifting w) _ _ (λ _. checked (Shifting w) _ _ (λ _. record {

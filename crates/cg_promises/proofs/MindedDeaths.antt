@@ -56,7 +56,7 @@ released_minded k (o ∷ refs) below v h = go (not (is_dying now o) && (in_degre
     dead x = with_referent None (with_place Untracked x)
 
     keeps : Keeps v.objects (change dead o v.objects) []
-    keeps = change_keeps dead o v.objects (record { marks = λ x. record { serial = refl; finalized = λ e. e }; entries = λ x. refl; code = λ x. refl })
+    keeps = change_keeps dead o v.objects (record { marks = λ x. record { serial = refl; code = refl; class = refl; finalized = λ e. e }; entries = λ x. refl; code = λ x. refl })
 
     stack_before : (n : ℕ) → (o == n) ≡ false → ¬ Includes (refs ++ flat_map holds below) n → ¬ Includes ((o ∷ refs) ++ flat_map holds below) n
     stack_before n t free (inl e) = other o n t e
@@ -107,7 +107,7 @@ module _ (script : Script) (k : ℕ) (o : ℕ) (below : List Activity) (v : Worl
   finalizer_minded : (m : Option ℕ) → IsMinded k (at Finalizer) → IsMinded k (run_finalizer script o below (at Finalizer) m).1
   finalizer_minded None h = goes_to Finalizer (Clearing []) v.objects same (λ n m. m) h
   finalizer_minded (Some p) h = starts_minded k script (record { sort = Del; proc = p; subject = o; func = None }) (death_at o AfterFinalizer below (with_change (λ x. marked (with_place (Gen 0) x)) o (at Finalizer)))
-      (goes_to Finalizer AfterFinalizer (change (λ x. marked (with_place (Gen 0) x)) o v.objects) (change_keeps (λ x. marked (with_place (Gen 0) x)) o v.objects (record { marks = λ x. record { serial = refl; finalized = λ e. refl }; entries = λ x. refl; code = λ x. refl })) (λ n m. absurd m) h)
+      (goes_to Finalizer AfterFinalizer (change (λ x. marked (with_place (Gen 0) x)) o v.objects) (change_keeps (λ x. marked (with_place (Gen 0) x)) o v.objects (record { marks = λ x. record { serial = refl; code = refl; class = refl; finalized = λ e. refl }; entries = λ x. refl; code = λ x. refl })) (λ n m. absurd m) h)
 
   legacy_minded : (m : Option ℕ) → IsMinded k (at LegacyFinalizer) → IsMinded k (run_legacy script o below (at LegacyFinalizer) m).1
   legacy_minded None h = goes_to LegacyFinalizer Detaching v.objects same (λ n m. m) h

@@ -90,7 +90,7 @@ shortened_single entries (inl e) = inl (ap without_last e)
 shortened_single entries (inr s) = inl (ap without_last s.1)
 
 pub shortened_keeps : (low high : ℕ) (objects : List Object) (o : ℕ) (e : Entry) → Rises low high objects → last_entry (entries_of objects o) ≡ Some e → Keeps objects (change (with_entries (without_last (entries_of objects o))) o objects) (entry_references e)
-shortened_keeps low high objects o e r last = test_keeps (with_entries (without_last (entries_of objects o))) (λ x. x.serial == o) objects (entry_references e) (λ x. record { serial = refl; finalized = λ k. k })
+shortened_keeps low high objects o e r last = test_keeps (with_entries (without_last (entries_of objects o))) (λ x. x.serial == o) objects (entry_references e) (λ x. record { serial = refl; code = refl; class = refl; finalized = λ k. k })
     (λ x m t n k. let same = entries_of_member low high objects x o r m (eqb-true x.serial o t) in
     subst (λ es. Includes (references (without_last es)) n ⊎ Includes (entry_references e) n) (sym same) (last_goes x.entries e n (subst (λ es. last_entry es ≡ Some e) same last) k))
     (λ x m t s c. let same = entries_of_member low high objects x o r m (eqb-true x.serial o t) in subst (λ es. AtMostOne (without_last es)) (sym same) (shortened_single x.entries (s c)))
@@ -106,7 +106,7 @@ single_callback entries n (inr s) m = subst (λ es. callback_in es ≡ Some n) (
     go (Some f) k = either k (λ e. ap (λ q. Some q) e) (λ no. absurd no)
 
 pub called_keeps : (low high : ℕ) (objects : List Object) (weak : ℕ) → Rises low high objects → AreSingle objects → ((x : Object) → Includes objects x → x.serial ≡ weak → x.code ≡ Weak) → Keeps objects (change (with_entries []) weak objects) (unwrap_or (callback_of objects weak) 0 ∷ [])
-called_keeps low high objects weak r single code = test_keeps (with_entries []) (λ x. x.serial == weak) objects (unwrap_or (callback_of objects weak) 0 ∷ []) (λ x. record { serial = refl; finalized = λ k. k })
+called_keeps low high objects weak r single code = test_keeps (with_entries []) (λ x. x.serial == weak) objects (unwrap_or (callback_of objects weak) 0 ∷ []) (λ x. record { serial = refl; code = refl; class = refl; finalized = λ k. k })
     (λ x m t n k. let e = eqb-true x.serial weak t in
     inr (inl (ap (λ c. unwrap_or c 0) (subst (λ s. callback_of objects s ≡ callback_in x.entries) e (callback_at low high objects x r m) ∙ single_callback x.entries n (single x m (code x m e)) k))))
     (λ x m t s c. inl refl)

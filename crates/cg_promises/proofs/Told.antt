@@ -23,6 +23,8 @@ use Rattle.cg_machine.specs.Laws.{named}
 -- the same object later: its finalizer does not become one that has not run
 pub record Marks (x y : Object) : Type 0 where
   pub serial : y.serial ≡ x.serial
+  pub code : y.code ≡ x.code
+  pub class : y.class ≡ x.class
   pub finalized : x.finalized ≡ true → y.finalized ≡ true
 
 -- each object was there
@@ -79,13 +81,13 @@ pub record Goes (before : List Object) (next : ℕ) (events : List Event) (after
   pub told : AreTold before next after.objects events
 
 pub same_old : (objects : List Object) → Old objects objects
-same_old objects y m = (y, m, record { serial = refl; finalized = λ e. e })
+same_old objects y m = (y, m, record { serial = refl; code = refl; class = refl; finalized = λ e. e })
 
 pub old_trans : (before now after : List Object) → Old before now → Old now after → Old before after
 old_trans before now after h k y m =
     let a = k y m in
     let b = h a.0 a.1 in
-    (b.0, b.1, record { serial = a.2.serial ∙ b.2.serial; finalized = λ e. a.2.finalized (b.2.finalized e) })
+    (b.0, b.1, record { serial = a.2.serial ∙ b.2.serial; code = a.2.code ∙ b.2.code; class = a.2.class ∙ b.2.class; finalized = λ e. a.2.finalized (b.2.finalized e) })
 
 pub map_old : (f : Object → Object) → ((x : Object) → Marks x (f x)) → (objects : List Object) → Old objects (map f objects)
 map_old f h objects y m = let a = Includes-map_cases f objects y m in (a.0, a.1, subst (Marks a.0) a.2 (h a.0))
@@ -95,22 +97,22 @@ if_old f h test objects = map_old (λ x. if test x then f x else x) (λ x. one (
   where
     one : (b : Bool) (x : Object) → Marks x (if b then f x else x)
     one true x = h x
-    one false x = record { serial = refl; finalized = λ e. e }
+    one false x = record { serial = refl; code = refl; class = refl; finalized = λ e. e }
 
 pub change_old : (f : Object → Object) → ((x : Object) → Marks x (f x)) → (s : ℕ) (objects : List Object) → Old objects (change f s objects)
 change_old f h s objects = if_old f h (λ x. x.serial == s) objects
 
 pub place_marks : (p : Place) (x : Object) → Marks x (with_place p x)
-place_marks p x = record { serial = refl; finalized = λ e. e }
+place_marks p x = record { serial = refl; code = refl; class = refl; finalized = λ e. e }
 
 pub place_old : (p : Place) (s : ℕ) (objects : List Object) → Old objects (change (with_place p) s objects)
 place_old p s objects = change_old (with_place p) (place_marks p) s objects
 
 pub entries_old : (es : List Entry) (s : ℕ) (objects : List Object) → Old objects (change (with_entries es) s objects)
-entries_old es s objects = change_old (with_entries es) (λ x. record { serial = refl; finalized = λ e. e }) s objects
+entries_old es s objects = change_old (with_entries es) (λ x. record { serial = refl; code = refl; class = refl; finalized = λ e. e }) s objects
 
 pub lost_old : (s : ℕ) (objects : List Object) → Old objects (loses_referent s objects)
-lost_old s objects = change_old (with_referent None) (λ x. record { serial = refl; finalized = λ e. e }) s objects
+lost_old s objects = change_old (with_referent None) (λ x. record { serial = refl; code = refl; class = refl; finalized = λ e. e }) s objects
 
 pub without_old : (o : ℕ) (objects : List Object) → Old objects (without o objects)
 without_old o objects y m = same_old objects y (Includes-filter_cases (λ x. not (x.serial == o)) objects y m).0

@@ -43,10 +43,10 @@ moved_old p places objects = map_old (λ x. if is_at p x then with_place (places
   where
     one : (b : Bool) (x : Object) → Marks x (if b then with_place (places x) x else x)
     one true x = place_marks (places x) x
-    one false x = record { serial = refl; finalized = λ e. e }
+    one false x = record { serial = refl; code = refl; class = refl; finalized = λ e. e }
 
 saved_old : (o : ℕ) (objects : List Object) → Old objects (saved o objects)
-saved_old o objects = change_old (λ x. with_entries (x.entries ++ item (Ref o) ∷ []) x) (λ x. record { serial = refl; finalized = λ e. e }) 1 objects
+saved_old o objects = change_old (λ x. with_entries (x.entries ++ item (Ref o) ∷ []) x) (λ x. record { serial = refl; code = refl; class = refl; finalized = λ e. e }) 1 objects
 
 all_saved_old : (keeps : List ℕ) (objects : List Object) → Old objects (all_saved keeps objects)
 all_saved_old [] objects = same_old objects
@@ -165,7 +165,7 @@ module _ (script : Script) (c : Collection) (below : List Activity) (v : World) 
   looks_at_told : (o : ℕ) (m : Option ℕ) → option_and_then (finalizer_to_run script) (object_at v.objects o) ≡ m → Does (looks_at script c o below (at Finalizing) m)
   looks_at_told o None e = silent (collection_at c Finalizing below (with_change (with_place Seen) o (at Finalizing))) (place_old Seen o v.objects) refl
   looks_at_told o (Some p) e = starts_told v.objects v.next_serial script (record { sort = Del; proc = p; subject = o; func = None }) (collection_at c (AfterFinalizing o) below (with_change (λ x. marked (with_place Seen x)) o (at Finalizing)))
-      (change_old (λ x. marked (with_place Seen x)) (λ x. record { serial = refl; finalized = λ k. refl }) o v.objects) (omega arith) (begins script (λ x. marked (with_place Seen x)) v.objects o p (λ x. refl) e)
+      (change_old (λ x. marked (with_place Seen x)) (λ x. record { serial = refl; code = refl; class = refl; finalized = λ k. refl }) o v.objects) (omega arith) (begins script (λ x. marked (with_place Seen x)) v.objects o p (λ x. refl) e)
 
   finalizing_told : (events : List Event) (after : World) → FinalizingStep script c below (at Finalizing) events after → Tells events after
   finalizing_told events after (inl step) = yields _ events after step.yields (looks_at_told step.object (option_and_then (finalizer_to_run script) (object_at v.objects step.object)) refl)

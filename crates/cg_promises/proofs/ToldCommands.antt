@@ -52,7 +52,7 @@ module _ (w : World) where
   same names numbers = silent (record w { names = names; numbers = numbers }) (same_old w.objects) refl
 
   sets : (o : ℕ) (entries : List Entry) → Goes w.objects w.next_serial [] (with_change (with_entries entries) o w)
-  sets o entries = silent (with_change (with_entries entries) o w) (change_old (with_entries entries) (λ x. record { serial = refl; finalized = λ e. e }) o w.objects) refl
+  sets o entries = silent (with_change (with_entries entries) o w) (change_old (with_entries entries) (λ x. record { serial = refl; code = refl; class = refl; finalized = λ e. e }) o w.objects) refl
 
   places : (f : Place → Place) (numbers : Numbers) → Goes w.objects w.next_serial [] (record w { objects = replaced f w; numbers = numbers })
   places f numbers = silent (record w { objects = replaced f w; numbers = numbers }) (map_old (λ x. with_place (f x.place) x) (λ x. place_marks (f x.place) x) w.objects) refl
@@ -64,11 +64,11 @@ module _ (w : World) where
       put_in y = tracked_by w key v (with_entries (put x.entries key v) y)
 
       tracked_marks : (b : Bool) (y : Object) → Marks y (if b then with_place (Gen 0) y else y)
-      tracked_marks true y = record { serial = refl; finalized = λ e. e }
-      tracked_marks false y = record { serial = refl; finalized = λ e. e }
+      tracked_marks true y = record { serial = refl; code = refl; class = refl; finalized = λ e. e }
+      tracked_marks false y = record { serial = refl; code = refl; class = refl; finalized = λ e. e }
 
       put_marks : (y : Object) → Marks y (put_in y)
-      put_marks y = let m = tracked_marks (is_dict y && not (is_tracked y) && (may_track w key || may_track w v)) (with_entries (put x.entries key v) y) in record { serial = m.serial; finalized = m.finalized }
+      put_marks y = let m = tracked_marks (is_dict y && not (is_tracked y) && (may_track w key || may_track w v)) (with_entries (put x.entries key v) y) in record { serial = m.serial; code = m.code; class = m.class; finalized = m.finalized }
 
   makes_tell : (name : ℕ) (kind : KindCode) (class : Option ℕ) (entries : List Entry) (referent : Option ℕ) → Each (DoesTell w) (makes w name kind class entries referent)
   makes_tell name kind class entries referent = checked (DoesTell w) _ _ (λ _. checked (DoesTell w) _ _ (λ _. record {

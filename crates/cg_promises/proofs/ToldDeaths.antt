@@ -65,7 +65,7 @@ frame_end_told f u = by_sort f.sort f.function
 pub released_told : (references : List ℕ) (below : List Activity) (v : World) → (let s : Transition = released references below (with_stack (Releasing references ∷ below) v) in Goes v.objects v.next_serial s.0 s.1)
 released_told [] below v = quiet v.objects v.next_serial (with_stack below v) (same_old v.objects) (omega arith)
 released_told (o ∷ references) below v = either_told v.objects v.next_serial (not (is_dying now o) && (in_degree now o == 0)) ([], begin_death o now) ([], now)
-    (quiet v.objects v.next_serial (begin_death o now) (change_old (λ x. with_referent None (with_place Untracked x)) (λ x. record { serial = refl; finalized = λ e. e }) o v.objects) (omega arith))
+    (quiet v.objects v.next_serial (begin_death o now) (change_old (λ x. with_referent None (with_place Untracked x)) (λ x. record { serial = refl; code = refl; class = refl; finalized = λ e. e }) o v.objects) (omega arith))
     (quiet v.objects v.next_serial now (same_old v.objects) (omega arith))
   where
     now : World
@@ -88,7 +88,7 @@ module _ (script : Script) (o : ℕ) (below : List Activity) (v : World) (lives 
   finalizer_told : (m : Option ℕ) → option_and_then (finalizer_to_run script) (object_at v.objects o) ≡ m → Tells (run_finalizer script o below (at Finalizer) m)
   finalizer_told None e = silent (at (Clearing [])) same refl
   finalizer_told (Some p) e = starts_told v.objects v.next_serial script (record { sort = Del; proc = p; subject = o; func = None }) (death_at o AfterFinalizer below (with_change (λ x. marked (with_place (Gen 0) x)) o (at Finalizer)))
-      (change_old (λ x. marked (with_place (Gen 0) x)) (λ x. record { serial = refl; finalized = λ k. refl }) o v.objects) (omega arith) (begins script (λ x. marked (with_place (Gen 0) x)) v.objects o p (λ x. refl) e)
+      (change_old (λ x. marked (with_place (Gen 0) x)) (λ x. record { serial = refl; code = refl; class = refl; finalized = λ k. refl }) o v.objects) (omega arith) (begins script (λ x. marked (with_place (Gen 0) x)) v.objects o p (λ x. refl) e)
 
   after_frame_told : (phase next : DyingPhase) → Tells (after_frame o next below (at phase))
   after_frame_told phase next = either_told v.objects v.next_serial (in_degree (at next) o == 0) ([], with_change (with_place Untracked) o (at next)) (Alive o ∷ [], with_stack below (at phase))
