@@ -14,3 +14,6 @@ pub mod Sealed
 pub mod SealedDeaths
 pub mod SealedCommands
 pub mod SealedRuns
+pub mod Primed
+pub mod SealedStart
+pub mod Sealing

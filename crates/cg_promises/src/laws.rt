@@ -1,5 +1,5 @@
 //! What holds in every run. Each law is the contract of a function that does nothing.
-ghost use Rattle.cg_machine.specs.Laws.{NoDeadNames, OneFinalizerEach, UnheldIsDying};
+ghost use Rattle.cg_machine.specs.Laws.{NoDeadNames, OneFinalizerEach, OnlyFreesNameMembers, Sealing, UnheldIsDying};
 
 /// In every run the finalizer of one object begins at most once.
 pub fn one_finalizer_each()
@@ -14,4 +14,16 @@ pub fn no_dead_names()
 /// In every run, when a command begins, each object that nothing holds is dying.
 pub fn unheld_is_dying()
     ensures { UnheldIsDying }
+{}
+
+/// In every run, from the second detection of a collection that does not save all up to its stop, only members of the final
+/// set, the collection and releases hold a member that lives, nothing refers to it weakly, nor does it, no finalizer of it is
+/// to run, and no frame has it as a local.
+pub fn final_sets_are_sealed()
+    ensures { Sealing }
+{}
+
+/// In that time, up to the lines of the stop's own step, a line that names a member is that it is freed.
+pub fn only_frees_name_members()
+    ensures { OnlyFreesNameMembers }
 {}
