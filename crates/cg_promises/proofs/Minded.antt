@@ -7,7 +7,7 @@ use Rattle.std.proofs.lemmas.Bool.{eqb-true, eq-eqb}
 use Rattle.cg_value.specs.declared.Val.{Val}
 use Rattle.cg_value.specs.declared.Entry.{Entry}
 use Rattle.cg_value.specs.declared.Place.{Place}
-use Rattle.cg_value.specs.declared.KindCode.TheVariants.{Weak}
+use Rattle.cg_value.specs.declared.KindCode.TheVariants.{Tuple, Weak}
 use Rattle.cg_graph.specs.Member.{Includes}
 use Rattle.cg_graph.specs.Value.{entry_at, entry_references, item, last_entry, put, reference_in, references, references_of_value, same_value, value_at, without_key, without_last}
 use Rattle.cg_graph.specs.Object.{Object, change, entries_of, object_at, serials, with_entries, with_place, with_referent}
@@ -37,12 +37,12 @@ pub record IsFree (objects : List Object) (names : List (Option Val)) (stack : L
 abbrev pub Minds : List Object → List (Option Val) → List Activity → ℕ → Type 0
 Minds objects names stack n = Includes (serials objects) n → IsFree objects names stack n → list_any (is_death_of n) stack ≡ true
 
--- one entry at most
+-- A weak reference has one entry at most, and the references of a tuple have smaller serials than it.
 abbrev pub AtMostOne : List Entry → Type 0
 AtMostOne entries = (entries ≡ []) ⊎ ((v : Val) × (entries ≡ item v ∷ []))
 
 abbrev pub IsSingle : Object → Type 0
-IsSingle x = x.code ≡ Weak → AtMostOne x.entries
+IsSingle x = (x.code ≡ Weak → AtMostOne x.entries) × (x.code ≡ Tuple → (n : ℕ) → Includes (references x.entries) n → n < x.serial)
 
 abbrev pub AreSingle : List Object → Type 0
 AreSingle objects = (x : Object) → Includes objects x → IsSingle x
@@ -98,7 +98,7 @@ pub record IsPlainly (f : Object → Object) : Type 0 where
 
 pub plain_keeps : (f : Object → Object) (test : Object → Bool) (objects : List Object) → IsPlainly f → Keeps objects (map (λ x. if test x then f x else x) objects) []
 plain_keeps f test objects h = test_keeps f test objects [] h.marks (λ x m t n k. inl (subst (λ es. Includes (references es) n) (sym (h.entries x)) k))
-    (λ x m t s e. subst AtMostOne (sym (h.entries x)) (s (sym (h.code x) ∙ e)))
+    (λ x m t s. (λ e. subst AtMostOne (sym (h.entries x)) (s.0 (sym (h.code x) ∙ e)), λ e n k. subst (λ i. n < i) (sym (h.marks x).serial) (s.1 (sym (h.code x) ∙ e) n (subst (λ es. Includes (references es) n) (h.entries x) k))))
 
 pub change_keeps : (f : Object → Object) (o : ℕ) (objects : List Object) → IsPlainly f → Keeps objects (change f o objects) []
 change_keeps f o objects h = plain_keeps f (λ x. x.serial == o) objects h

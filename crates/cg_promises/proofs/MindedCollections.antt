@@ -3,7 +3,7 @@ use Rattle.std.proofs.Common.{◌≡◌, refl, sym, ◌∙◌, ap, subst, ℕ, �
 use Rattle.std.specs.Prelude.{◌==◌, if◌then◌else◌, option_and_then, unwrap_or}
 use Rattle.std.proofs.lemmas.Bool.{eqb-true}
 use Rattle.cg_value.specs.declared.Entry.{Entry}
-use Rattle.cg_value.specs.declared.KindCode.TheVariants.{List as ListKind, Weak}
+use Rattle.cg_value.specs.declared.KindCode.TheVariants.{List as ListKind, Tuple, Weak}
 use Rattle.cg_value.specs.declared.Place.{Place}
 use Rattle.cg_value.specs.declared.Place.TheVariants.{Cand, Gen, Legacy, Pend, Seen}
 use Rattle.cg_value.specs.declared.Val.TheVariants.{Ref}
@@ -22,7 +22,7 @@ use Rattle.cg_machine.specs.Weak.{AllLose, callback_of, loses_referent}
 use Rattle.cg_machine.specs.Dying.{finalizer_to_run}
 use Rattle.cg_machine.specs.Collect.{all_saved, calls_back, after_release, collection_at, empties, get_older, has_flag, looks_at, loses_at_split, merged, merged_place, older, replaced_place, save_all, saved, sorted, takes_turn, waits, EndStep, FinalizingStep, PhaseStep, SplitStep, StartStep, TurnsStep, WeakClearingStep}
 use Rattle.cg_machine.proofs.Serials.{Rises}
-use Rattle.cg_promises.proofs.Told.{Marks}
+use Rattle.cg_promises.proofs.Told.{map_old}
 use Rattle.cg_promises.proofs.Minded.{IsMinded, IsPlainly, IsSingle, Keeps, Minded, change_keeps, either_minded, end_minded, give_minded, keeps_same, keeps_trans, lost_keeps, placed, plain_keeps, starts_minded, test_keeps, turn_minded}
 use Rattle.cg_promises.proofs.Moved.{appended_goes, shortened_keeps}
 
@@ -41,7 +41,7 @@ IsList objects = (x : Object) → Includes objects x → x.serial ≡ 1 → x.co
 saved_keeps : (o : ℕ) (objects : List Object) → IsList objects → Keeps objects (saved o objects) []
 saved_keeps o objects list = test_keeps (λ x. with_entries (x.entries ++ item (Ref o) ∷ []) x) (λ x. x.serial == 1) objects [] (λ x. record { serial = refl; code = refl; class = refl; finalized = λ e. e })
     (λ x m t n k. appended_goes x.entries (item (Ref o)) n k)
-    (λ x m t s c. absurd (let no : ListKind ≡ Weak = sym (list x m (eqb-true x.serial 1 t)) ∙ c in cc))
+    (λ x m t s. (λ c. absurd (let no : ListKind ≡ Weak = sym (list x m (eqb-true x.serial 1 t)) ∙ c in cc), λ c. absurd (let no : ListKind ≡ Tuple = sym (list x m (eqb-true x.serial 1 t)) ∙ c in cc)))
 
 saved_list : (o : ℕ) (objects : List Object) → IsList objects → IsList (saved o objects)
 saved_list o objects list y m e = let x = Includes-map_cases (λ x. if x.serial == 1 then with_entries (x.entries ++ item (Ref o) ∷ []) x else x) objects y m in go (x.0.serial == 1) x.0 x.1 x.2
@@ -84,7 +84,7 @@ module _ (script : Script) (k : ℕ) (c : Collection) (below : List Activity) (v
 
       merge : Keeps v.objects now []
       merge = record {
-        old = λ y m. let x = Includes-map_cases (λ x. with_place (merged_place c.generation x.place) x) v.objects y m in (x.0, x.1, subst (Marks x.0) x.2 (record { serial = refl; code = refl; class = refl; finalized = λ e. e }));
+        old = map_old (λ x. with_place (merged_place c.generation x.place) x) (λ x. record { serial = refl; code = refl; class = refl; finalized = λ e. e }) v.objects;
         entries = λ x m n i. inl (with_place (merged_place c.generation x.place) x, Includes-map (λ x. with_place (merged_place c.generation x.place) x) v.objects x m, i);
         single = λ s y m. let x = Includes-map_cases (λ x. with_place (merged_place c.generation x.place) x) v.objects y m in subst IsSingle x.2 (s x.0 x.1);
       }

@@ -9,6 +9,7 @@ use Rattle.cg_value.specs.declared.Place.{Place}
 use Rattle.cg_value.specs.declared.Place.TheVariants.{Gen}
 use Rattle.cg_value.specs.declared.KindCode.{KindCode}
 use Rattle.cg_value.specs.declared.KindCode.TheVariants.{List as ListKind, Tuple, Dict, Inst, Func, Weak}
+use Rattle.cg_script.specs.declared.Operand.{Operand}
 use Rattle.cg_script.specs.declared.Command.{Command}
 use Rattle.cg_script.specs.declared.Command.TheVariants.{MakeList, MakeTuple, MakeDict, MakeInst, MakeFunc, MakeRef, Bind, Del, Append, SetItem, DelItem, Put, Remove, SetAttr, DelAttr, Item, Get, Attr, Deref, Call, Quit, Collect, Enable, Disable, Threshold, Flags, Freeze, Unfreeze, Print, Refs, Tracked, Finalized, Count, Gens}
 use Rattle.cg_script.specs.Texts.{command_texts}
@@ -19,7 +20,7 @@ use Rattle.cg_graph.specs.Holdings.{name_holdings}
 use Rattle.cg_graph.proofs.Members.{either, Includes-append_left, Includes-append_right, Includes-append_cases, Includes-map, Includes-map_cases}
 use Rattle.cg_machine.specs.World.{World, Numbers, with_change}
 use Rattle.cg_machine.specs.Refusals.{no_attribute, no_index, no_key, not_callable, unhashable, wrong_kind, ◌>>=◌}
-use Rattle.cg_machine.specs.Operands.{is_dict, is_list, is_script_list, object, object_of, tested}
+use Rattle.cg_machine.specs.Operands.{is_dict, is_list, is_script_list, object, object_of, tested, values}
 use Rattle.cg_machine.specs.Effects.{Calls, Changes, Collects, Effect, Quits, bound, callback_entries, frozen, given_up_by, has_room, makes, may_track, puts, replaced, tracked_by, unfrozen}
 use Rattle.cg_machine.specs.Commands.{effect}
 use Rattle.cg_machine.specs.Weak.{is_function, is_instance}
@@ -27,7 +28,7 @@ use Rattle.cg_machine.proofs.CommandLaws.{Each, checked}
 use Rattle.cg_machine.proofs.CommandRefs.{each_some, each_then}
 use Rattle.cg_machine.proofs.Lookups.{found_at, same_object}
 use Rattle.cg_machine.proofs.Serials.{Rises}
-use Rattle.cg_promises.proofs.Told.{Marks, old_lives}
+use Rattle.cg_promises.proofs.Told.{Marks, map_old, old_lives}
 use Rattle.cg_promises.proofs.Minded.{AreSingle, AtMostOne, IsSingle, Keeps, keeps_same, test_keeps}
 use Rattle.cg_promises.proofs.Moved.{Goes, appended_goes, put_goes, removed_goes, set_goes, without_key_goes}
 
@@ -78,17 +79,20 @@ object_passes w test refusal v = each_then (λ x. object_of w v ≡ Some x) (Fou
     go (Some s) x e = passes x (found_at w.objects s x e).0 (test x) refl
 
 -- such an object is no weak reference
-list_apart : (x : Object) → is_list x ≡ true → x.code ≢ Weak
-list_apart x t e = let f : is_list x ≡ false = ap (λ (c : KindCode). elim c [ ListKind ↦ true | _ ↦ false ]) e in let no : true ≡ false = sym t ∙ f in cc
+abbrev pub IsApart : KindCode → Type 0
+IsApart code = (code ≢ Weak) × (code ≢ Tuple)
 
-script_list_apart : (x : Object) → is_script_list x ≡ true → x.code ≢ Weak
+list_apart : (x : Object) → is_list x ≡ true → IsApart x.code
+list_apart x t = (λ e. let f : is_list x ≡ false = ap (λ (c : KindCode). elim c [ ListKind ↦ true | _ ↦ false ]) e in let no : true ≡ false = sym t ∙ f in cc, λ e. let f : is_list x ≡ false = ap (λ (c : KindCode). elim c [ ListKind ↦ true | _ ↦ false ]) e in let no : true ≡ false = sym t ∙ f in cc)
+
+script_list_apart : (x : Object) → is_script_list x ≡ true → IsApart x.code
 script_list_apart x t = list_apart x (and_parts (is_list x) (not (x.serial == 1)) t).0
 
-dict_apart : (x : Object) → is_dict x ≡ true → x.code ≢ Weak
-dict_apart x t e = let f : is_dict x ≡ false = ap (λ (c : KindCode). elim c [ Dict ↦ true | _ ↦ false ]) e in let no : true ≡ false = sym t ∙ f in cc
+dict_apart : (x : Object) → is_dict x ≡ true → IsApart x.code
+dict_apart x t = (λ e. let f : is_dict x ≡ false = ap (λ (c : KindCode). elim c [ Dict ↦ true | _ ↦ false ]) e in let no : true ≡ false = sym t ∙ f in cc, λ e. let f : is_dict x ≡ false = ap (λ (c : KindCode). elim c [ Dict ↦ true | _ ↦ false ]) e in let no : true ≡ false = sym t ∙ f in cc)
 
-instance_apart : (x : Object) → is_instance x ≡ true → x.code ≢ Weak
-instance_apart x t e = let f : is_instance x ≡ false = ap (λ (c : KindCode). elim c [ Inst ↦ true | _ ↦ false ]) e in let no : true ≡ false = sym t ∙ f in cc
+instance_apart : (x : Object) → is_instance x ≡ true → IsApart x.code
+instance_apart x t = (λ e. let f : is_instance x ≡ false = ap (λ (c : KindCode). elim c [ Inst ↦ true | _ ↦ false ]) e in let no : true ≡ false = sym t ∙ f in cc, λ e. let f : is_instance x ≡ false = ap (λ (c : KindCode). elim c [ Inst ↦ true | _ ↦ false ]) e in let no : true ≡ false = sym t ∙ f in cc)
 
 -- a callback is one entry or none
 callback_single : (w : World) (v : Val) → Each AtMostOne (callback_entries w v)
@@ -97,7 +101,14 @@ callback_single w (Int i) = checked AtMostOne _ _ (λ f. inr (Int i, refl))
 callback_single w (Str s) = checked AtMostOne _ _ (λ f. inr (Str s, refl))
 callback_single w (Ref o) = checked AtMostOne _ _ (λ f. inr (Ref o, refl))
 
-module _ (w : World) (rises : Rises 1 w.next_serial w.objects) where
+-- values that refer to what was made
+abbrev pub AreMadeIn : World → List Val → Type 0
+AreMadeIn w vs = (n : ℕ) → Includes (references (map item vs)) n → n < w.next_serial
+
+module _ (w : World) (rises : Rises 1 w.next_serial w.objects) (made : (items : List Operand) → Each (AreMadeIn w) (values w items)) where
+  abbrev AreMade : List Val → Type 0
+  AreMade = AreMadeIn w
+
   -- the objects change
   shifted : (after : World) (given : List ℕ) → Keeps w.objects after.objects given → after.names ≡ w.names → Shifts w given after
   shifted after given keeps e = record {
@@ -121,25 +132,25 @@ module _ (w : World) (rises : Rises 1 w.next_serial w.objects) where
   }
 
   -- the one object of a serial
-  one_keeps : (f : Object → Object) (x : Object) (given : List ℕ) → ((z : Object) → Marks z (f z)) → Includes w.objects x → x.code ≢ Weak → ((z : Object) → (f z).code ≡ z.code) → ((n : ℕ) → Goes x.entries (f x).entries given n) → Keeps w.objects (change f x.serial w.objects) given
+  one_keeps : (f : Object → Object) (x : Object) (given : List ℕ) → ((z : Object) → Marks z (f z)) → Includes w.objects x → IsApart x.code → ((z : Object) → (f z).code ≡ z.code) → ((n : ℕ) → Goes x.entries (f x).entries given n) → Keeps w.objects (change f x.serial w.objects) given
   one_keeps f x given marks m apart code goes = test_keeps f (λ z. z.serial == x.serial) w.objects given marks
       (λ z k t n i. let same : x ≡ z = is_x z k t in subst (λ (y : Object). Includes (references y.entries) n → Includes (references (f y).entries) n ⊎ Includes given n) same (goes n) i)
-      (λ z k t s c. absurd (apart (ap (λ (y : Object). y.code) (is_x z k t) ∙ sym (code z) ∙ c)))
+      (λ z k t s. (λ c. absurd (apart.0 (ap (λ (y : Object). y.code) (is_x z k t) ∙ sym (code z) ∙ c)), λ c. absurd (apart.1 (ap (λ (y : Object). y.code) (is_x z k t) ∙ sym (code z) ∙ c))))
     where
       is_x : (z : Object) → Includes w.objects z → (z.serial == x.serial) ≡ true → x ≡ z
       is_x z k t = sym (same_object 1 w.next_serial w.objects z x rises k m (eqb-true z.serial x.serial t))
 
-  sets_shift : (x : Object) (entries : List Entry) (given : List ℕ) → Includes w.objects x → x.code ≢ Weak → ((n : ℕ) → Goes x.entries entries given n) → Shifts w given (with_change (with_entries entries) x.serial w)
+  sets_shift : (x : Object) (entries : List Entry) (given : List ℕ) → Includes w.objects x → IsApart x.code → ((n : ℕ) → Goes x.entries entries given n) → Shifts w given (with_change (with_entries entries) x.serial w)
   sets_shift x entries given m apart goes = shifted (with_change (with_entries entries) x.serial w) given (one_keeps (with_entries entries) x given (λ z. record { serial = refl; code = refl; class = refl; finalized = λ e. e }) m apart (λ z. refl) goes) refl
 
   places_shift : (f : Place → Place) (numbers : Numbers) → Shifts w [] (record w { objects = replaced f w; numbers = numbers })
   places_shift f numbers = shifted (record w { objects = replaced f w; numbers = numbers }) [] (record {
-    old = λ y m. let x = Includes-map_cases (λ x. with_place (f x.place) x) w.objects y m in (x.0, x.1, subst (Marks x.0) x.2 (record { serial = refl; code = refl; class = refl; finalized = λ e. e }));
+    old = map_old (λ x. with_place (f x.place) x) (λ x. record { serial = refl; code = refl; class = refl; finalized = λ e. e }) w.objects;
     entries = λ x m n i. inl (with_place (f x.place) x, Includes-map (λ x. with_place (f x.place) x) w.objects x m, i);
     single = λ s y m. let x = Includes-map_cases (λ x. with_place (f x.place) x) w.objects y m in subst IsSingle x.2 (s x.0 x.1);
   }) refl
 
-  puts_shift : (x : Object) (key v : Val) → Includes w.objects x → x.code ≢ Weak → Each (Shifting w) (puts w x key v)
+  puts_shift : (x : Object) (key v : Val) → Includes w.objects x → IsApart x.code → Each (Shifting w) (puts w x key v)
   puts_shift x key v m apart = checked (Shifting w) (if is_some (value_at x.entries key) then Ok tt else has_room w 1) _ (λ _. shifted (with_change put_in x.serial w) (references_of_value (value_at x.entries key))
       (one_keeps put_in x (references_of_value (value_at x.entries key)) (λ y. let t = tracked (test y) (with_entries (put x.entries key v) y) in record { serial = t.0; code = t.2; class = t.4; finalized = λ e. t.1 ∙ e }) m apart
       (λ y. (tracked (test y) (with_entries (put x.entries key v) y)).2)
@@ -155,7 +166,7 @@ module _ (w : World) (rises : Rises 1 w.next_serial w.objects) where
       tracked true y = (refl, refl, refl, refl, refl)
       tracked false y = (refl, refl, refl, refl, refl)
 
-  makes_shift : (name : ℕ) (kind : KindCode) (class : Option ℕ) (entries : List Entry) (referent : Option ℕ) → name < length w.names → (kind ≡ Weak → AtMostOne entries) → Each (Shifting w) (makes w name kind class entries referent)
+  makes_shift : (name : ℕ) (kind : KindCode) (class : Option ℕ) (entries : List Entry) (referent : Option ℕ) → name < length w.names → (kind ≡ Weak → AtMostOne entries) × (kind ≡ Tuple → (n : ℕ) → Includes (references entries) n → n < w.next_serial) → Each (Shifting w) (makes w name kind class entries referent)
   makes_shift name kind class entries referent fits one = checked (Shifting w) _ _ (λ _. checked (Shifting w) _ _ (λ _. record {
     names = λ n m. bound_keeps w.names name (Some (Ref w.next_serial)) n m;
     entries = λ x m n k. inl (x, Includes-append_left w.objects (fresh ∷ []) x m, k);
@@ -176,12 +187,12 @@ module _ (w : World) (rises : Rises 1 w.next_serial w.objects) where
   quit_shifts (Ref o) = unchanged _
 
   pub effect_shifts : (command : Command) → ((t : ℕ) → Includes (command_texts command) t → t < length w.names) → Each (Shifting w) (effect w command)
-  effect_shifts (MakeList name items) fits = checked (Shifting w) _ _ (λ vs. makes_shift name ListKind None (map item vs) None (fits name (inl refl)) (λ e. let no : ListKind ≡ Weak = e in absurd (cc)))
-  effect_shifts (MakeTuple name items) fits = checked (Shifting w) _ _ (λ vs. makes_shift name Tuple None (map item vs) None (fits name (inl refl)) (λ e. let no : Tuple ≡ Weak = e in absurd (cc)))
-  effect_shifts (MakeDict name) fits = makes_shift name Dict None [] None (fits name (inl refl)) (λ e. let no : Dict ≡ Weak = e in absurd (cc))
-  effect_shifts (MakeInst name class) fits = makes_shift name Inst (Some class) [] None (fits name (inl refl)) (λ e. let no : Inst ≡ Weak = e in absurd (cc))
-  effect_shifts (MakeFunc name proc cells) fits = checked (Shifting w) _ _ (λ vs. makes_shift name Func (Some proc) (map item vs) None (fits name (inl refl)) (λ e. let no : Func ≡ Weak = e in absurd (cc)))
-  effect_shifts (MakeRef name target callback) fits = checked (Shifting w) _ _ (λ v. checked (Shifting w) _ _ (λ f. checked (Shifting w) _ _ (λ x. each_then AtMostOne (Shifting w) (callback_entries w f) _ (callback_single w f) (λ es one. makes_shift name Weak None es (Some x.serial) (fits name (inl refl)) (λ e. one)))))
+  effect_shifts (MakeList name items) fits = checked (Shifting w) _ _ (λ vs. makes_shift name ListKind None (map item vs) None (fits name (inl refl)) (λ e. let no : ListKind ≡ Weak = e in absurd (cc), λ e. let no : ListKind ≡ Tuple = e in absurd (cc)))
+  effect_shifts (MakeTuple name items) fits = each_then AreMade (Shifting w) (values w items) _ (made items) (λ vs low. makes_shift name Tuple None (map item vs) None (fits name (inl refl)) (λ e. let no : Tuple ≡ Weak = e in absurd (cc), λ e. low))
+  effect_shifts (MakeDict name) fits = makes_shift name Dict None [] None (fits name (inl refl)) (λ e. let no : Dict ≡ Weak = e in absurd (cc), λ e. let no : Dict ≡ Tuple = e in absurd (cc))
+  effect_shifts (MakeInst name class) fits = makes_shift name Inst (Some class) [] None (fits name (inl refl)) (λ e. let no : Inst ≡ Weak = e in absurd (cc), λ e. let no : Inst ≡ Tuple = e in absurd (cc))
+  effect_shifts (MakeFunc name proc cells) fits = checked (Shifting w) _ _ (λ vs. makes_shift name Func (Some proc) (map item vs) None (fits name (inl refl)) (λ e. let no : Func ≡ Weak = e in absurd (cc), λ e. let no : Func ≡ Tuple = e in absurd (cc)))
+  effect_shifts (MakeRef name target callback) fits = checked (Shifting w) _ _ (λ v. checked (Shifting w) _ _ (λ f. checked (Shifting w) _ _ (λ x. each_then AtMostOne (Shifting w) (callback_entries w f) _ (callback_single w f) (λ es one. makes_shift name Weak None es (Some x.serial) (fits name (inl refl)) (λ e. one, λ e. let no : Weak ≡ Tuple = e in absurd (cc))))))
   effect_shifts (Bind name operand) fits = checked (Shifting w) _ _ (λ v. binds_shift name (Some v))
   effect_shifts (Del name) fits = checked (Shifting w) _ _ (λ v. binds_shift name None)
   effect_shifts (Append list operand) fits = checked (Shifting w) _ _ (λ l. checked (Shifting w) _ _ (λ v. each_then (Found w is_script_list) (Shifting w) (object w is_script_list wrong_kind l) _ (object_passes w is_script_list wrong_kind l) (λ x found. checked (Shifting w) _ _ (λ _. sets_shift x (x.entries ++ item v ∷ []) [] found.0 (script_list_apart x found.1) (λ n. appended_goes x.entries (item v) n)))))

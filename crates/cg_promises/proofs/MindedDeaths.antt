@@ -22,7 +22,7 @@ use Rattle.cg_machine.specs.Frame.{Transition, frame_end, gives_up_function, beg
 use Rattle.cg_machine.specs.Weak.{has_weak_references, weak_references_if, loses_referent, callback_of}
 use Rattle.cg_machine.specs.Dying.{death_at, has_finalizers, finalizer_to_run, run_finalizer, run_legacy, after_frame, clear_one, call_one, detach_one, empty_one, dying}
 use Rattle.cg_machine.proofs.Serials.{Rises}
-use Rattle.cg_promises.proofs.Told.{old_lives, without_gone, without_old}
+use Rattle.cg_promises.proofs.Told.{old_lives, origin_lives, without_gone, without_old}
 use Rattle.cg_promises.proofs.Minded.{AreSingle, IsFree, IsMinded, IsPlainly, Keeps, Minded, Minds, change_keeps, either_minded, end_minded, free_degree, give_minded, keeps_same, lost_keeps, placed, starts_minded, stack_minded, turn_minded}
 use Rattle.cg_promises.proofs.Moved.{called_keeps, entries_of_member, last_none, shortened_keeps}
 
@@ -181,7 +181,7 @@ module _ (script : Script) (k : ℕ) (o : ℕ) (below : List Activity) (v : Worl
 
       by_death : (b : Bool) → (o == n) ≡ b → list_any (is_death_of n) below ≡ true
       by_death true t = absurd (without_gone o v.objects (subst (Includes (serials (without o v.objects))) (sym (eqb-true o n t)) m))
-      by_death false t = subst (λ b. (b || list_any (is_death_of n) below) ≡ true) t (h.minds n (old_lives v.objects (without o v.objects) (without_old o v.objects) n m)
+      by_death false t = subst (λ b. (b || list_any (is_death_of n) below) ≡ true) t (h.minds n (origin_lives v.objects (without o v.objects) (without_old o v.objects) n m)
           (record { names_none = free.names_none; root_not = free.root_not; entries_none = λ x i. held (x.serial == o) x refl i; stack_none = free.stack_none }))
 
   emptying_minded : (m : Option Entry) → last_entry (entries_of v.objects o) ≡ m → IsMinded k (at Emptying) → IsMinded k (empty_one o below (at Emptying) m).1

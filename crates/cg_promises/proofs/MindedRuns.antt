@@ -2,7 +2,7 @@
 use Rattle.std.proofs.Common.{◌≡◌, refl, sym, ◌∙◌, ap, subst, ℕ, ◌<◌, Bool, true, false, inl, inr, List, [], ◌∷◌, ◌++◌, length, Option, Some, None, Result, Ok, Err, arith}
 use Rattle.std.specs.Prelude.{if◌then◌else◌, flat_map, replicate}
 use Rattle.std.proofs.lemmas.List.{length-replicate}
-use Rattle.cg_value.specs.declared.KindCode.TheVariants.{List as ListKind, Weak}
+use Rattle.cg_value.specs.declared.KindCode.TheVariants.{List as ListKind, Tuple, Weak}
 use Rattle.cg_script.specs.declared.Script.{Script}
 use Rattle.cg_script.specs.declared.Command.{Command}
 use Rattle.cg_script.specs.Texts.{TextsAreKnown, command_texts}
@@ -26,16 +26,32 @@ use Rattle.cg_machine.proofs.DyingOrderly.{HasOrder}
 use Rattle.cg_machine.proofs.Origins.{AreOfScript, IsAllOfScript}
 use Rattle.cg_machine.proofs.OriginsOfRuns.{opening_origin, step_origin}
 use Rattle.cg_machine.proofs.PrintableTexts.{commands_name_texts}
-use Rattle.cg_machine.proofs.RunsCalm.{HasCommands}
+use Rattle.cg_machine.proofs.RunsCalm.{HasCommands, turned}
+use Rattle.cg_machine.proofs.RunsOrderly.{gone_forgotten, turned_orderly}
+use Rattle.cg_machine.proofs.Unheld.{Calm}
+use Rattle.cg_machine.proofs.Forgotten.{lives_within}
+use Rattle.cg_machine.proofs.CommandRefs.{values_known, AreKnown as AreKnownValues}
+use Rattle.cg_machine.specs.Operands.{values}
+use Rattle.cg_script.specs.declared.Operand.{Operand}
+use Rattle.cg_value.specs.declared.Val.{Val}
+use Rattle.cg_promises.proofs.ToldCommands.{lives_or_not}
 use Rattle.cg_machine.proofs.Serials.{Rises}
 use Rattle.cg_promises.proofs.Minded.{IsFree, IsMinded, IsSingle, Keeps, Minded, Minds, degree_free, keeps_same, push_minded, starts_minded, turn_minded}
 use Rattle.cg_promises.proofs.MindedDeaths.{dying_minded, frame_end_minded, released_minded}
 use Rattle.cg_promises.proofs.MindedCollections.{phase_minded}
-use Rattle.cg_promises.proofs.MindedCommands.{Shifting, Shifts, effect_shifts}
+use Rattle.cg_promises.proofs.MindedCommands.{AreMadeIn, Shifting, Shifts, effect_shifts}
 use Rattle.cg_promises.proofs.ToldRuns.{Fit, opening_fit, step_fit}
 
+-- the values of operands refer to what was made
+values_made : (script : Script) (w : World) → Rises 1 w.next_serial w.objects → Calm script w → HasOrder w → (items : List Operand) → Each (AreMadeIn w) (values w items)
+values_made script w rises calm order items = go (values w items) (values_known w calm.over items)
+  where
+    go : (r : Result (List Val) ℕ) → Each (AreKnownValues w calm.over) r → Each (AreMadeIn w) r
+    go (Err e) k = tt
+    go (Ok vs) k = λ n m. either (lives_or_not w.objects n) (λ l. (lives_within 1 w.next_serial w.objects n rises l).1) (λ g. absurd (k n (gone_forgotten w order calm.referred n g) m))
+
 -- a command is done
-module _ (script : Script) (k : ℕ) (a : Activity) (below : List Activity) (v : World) (ha : HasCommands a) (rises : Rises 1 v.next_serial v.objects) (h : Minded k v.objects v.names (a ∷ below)) where
+module _ (script : Script) (k : ℕ) (a : Activity) (below : List Activity) (v : World) (ha : HasCommands a) (rises : Rises 1 v.next_serial v.objects) (calm : Calm script (with_stack (a ∷ below) v)) (order : HasOrder (with_stack (a ∷ below) v)) (h : Minded k v.objects v.names (a ∷ below)) where
   abbrev now : World
   now = with_stack (a ∷ below) v
 
@@ -79,7 +95,7 @@ module _ (script : Script) (k : ℕ) (a : Activity) (below : List Activity) (v :
   effect_minded (Ok Quits) l s events after step = to after _ step.1 (quits a ha h)
 
   pub done_minded : (command : Command) → ((t : ℕ) → Includes (command_texts command) t → t < k) → (events : List Event) (after : World) → DoesEffect script now (effect now command) events after → IsMinded k after
-  done_minded command fits events after step = effect_minded (effect now command) (effect_leaves now command) (effect_shifts now rises command (λ t m. subst (λ c. t < c) (sym h.count) (fits t m))) events after step
+  done_minded command fits events after step = effect_minded (effect now command) (effect_leaves now command) (effect_shifts now rises (values_made script now rises calm order) command (λ t m. subst (λ c. t < c) (sym h.count) (fits t m))) events after step
 
 -- the commands that are left name known texts
 abbrev NameKnown : ℕ → List Activity → Type 0
@@ -92,20 +108,22 @@ module _ (script : Script) (k : ℕ) (below : List Activity) (v : World) (rises 
   pushed : (a : Activity) (g : ℕ) → after ≡ push (new_collection g false (with_stack (a ∷ below) v)) (with_stack (a ∷ below) v) → Minded k v.objects v.names (a ∷ below) → IsMinded k after
   pushed a g e h = reach _ e (push_minded k (new_collection g false (with_stack (a ∷ below) v)) v.objects v.names (a ∷ below) (λ n. refl) h)
 
-  top_level_minded : (commands : List Command) (d : Option ℕ) → NameKnown k (TopLevel commands ∷ below) → TopLevelStep script (with_stack (TopLevel commands ∷ below) v) d commands below events after → Minded k v.objects v.names (TopLevel commands ∷ below) → IsMinded k after
-  top_level_minded commands (Some g) known step h = pushed (TopLevel commands) g step.1 h
-  top_level_minded [] None known step h = reach _ step.1 (record { minds = h.minds; single = h.single; count = h.count })
-  top_level_minded (command ∷ commands) None known step h = done_minded script k (TopLevel commands) below v tt rises
+  top_level_minded : (commands : List Command) (d : Option ℕ) → Calm script (with_stack (TopLevel commands ∷ below) v) → HasOrder (with_stack (TopLevel commands ∷ below) v) → NameKnown k (TopLevel commands ∷ below) → TopLevelStep script (with_stack (TopLevel commands ∷ below) v) d commands below events after → Minded k v.objects v.names (TopLevel commands ∷ below) → IsMinded k after
+  top_level_minded commands (Some g) calm order known step h = pushed (TopLevel commands) g step.1 h
+  top_level_minded [] None calm order known step h = reach _ step.1 (record { minds = h.minds; single = h.single; count = h.count })
+  top_level_minded (command ∷ commands) None calm order known step h = done_minded script k (TopLevel commands) below v tt rises
+      (turned script below v (TopLevel (command ∷ commands)) (TopLevel commands) tt (λ i. i) (λ o i. i) calm) (turned_orderly (TopLevel (command ∷ commands)) (TopLevel commands) below v tt tt (λ o i. i) order)
       (turn_minded k (TopLevel (command ∷ commands)) (TopLevel commands) below v.objects v.objects v.names [] (keeps_same v.objects) (λ n i. i, λ n i. absurd i, λ n. refl) h) command (known command (inl refl)) events after step
 
-  in_frame_minded : (f : Frame) (command : Command) (commands : List Command) (d : Option ℕ) → ((t : ℕ) → Includes (command_texts command) t → t < k) → CommandInFrame script (with_stack (Framed f ∷ below) v) d f command commands below events after → Minded k v.objects v.names (Framed f ∷ below) → IsMinded k after
-  in_frame_minded f command commands (Some g) known step h = pushed (Framed f) g step.1 h
-  in_frame_minded f command commands None known step h = done_minded script k (Framed (record f { commands = commands })) below v tt rises
+  in_frame_minded : (f : Frame) (command : Command) (commands : List Command) (d : Option ℕ) → Calm script (with_stack (Framed f ∷ below) v) → HasOrder (with_stack (Framed f ∷ below) v) → ((t : ℕ) → Includes (command_texts command) t → t < k) → CommandInFrame script (with_stack (Framed f ∷ below) v) d f command commands below events after → Minded k v.objects v.names (Framed f ∷ below) → IsMinded k after
+  in_frame_minded f command commands (Some g) calm order known step h = pushed (Framed f) g step.1 h
+  in_frame_minded f command commands None calm order known step h = done_minded script k (Framed (record f { commands = commands })) below v tt rises
+      (turned script below v (Framed f) (Framed (record f { commands = commands })) tt (λ i. i) (λ o i. i) calm) (turned_orderly (Framed f) (Framed (record f { commands = commands })) below v tt tt (λ o i. i) order)
       (turn_minded k (Framed f) (Framed (record f { commands = commands })) below v.objects v.objects v.names [] (keeps_same v.objects) (λ n i. i, λ n i. absurd i, λ n. refl) h) command known events after step
 
-  framed_minded : (f : Frame) (commands : List Command) → f.commands ≡ commands → NameKnown k (Framed f ∷ below) → FrameStep script (with_stack (Framed f ∷ below) v) f commands below events after → Minded k v.objects v.names (Framed f ∷ below) → IsMinded k after
-  framed_minded f [] left known step h = reach _ step.1 (frame_end_minded k f below v h)
-  framed_minded f (command ∷ commands) left known step h = in_frame_minded f command commands (due (with_stack (Framed f ∷ below) v))
+  framed_minded : (f : Frame) (commands : List Command) → f.commands ≡ commands → Calm script (with_stack (Framed f ∷ below) v) → HasOrder (with_stack (Framed f ∷ below) v) → NameKnown k (Framed f ∷ below) → FrameStep script (with_stack (Framed f ∷ below) v) f commands below events after → Minded k v.objects v.names (Framed f ∷ below) → IsMinded k after
+  framed_minded f [] left calm order known step h = reach _ step.1 (frame_end_minded k f below v h)
+  framed_minded f (command ∷ commands) left calm order known step h = in_frame_minded f command commands (due (with_stack (Framed f ∷ below) v)) calm order
       (known command (Includes-append_left f.commands (flat_map commands_on below) command (subst (λ cs. Includes cs command) (sym left) (inl refl)))) step h
 
 -- a weak reference that waits in a death is one
@@ -114,24 +132,24 @@ waits_code o (Calling waits) below v order waiting e weak m x i s = let same : w
 waits_code o phase below v order waiting e weak m x i s = cc
 
 -- any step
-step_minded : (script : Script) (k : ℕ) (v : World) (stack : List Activity) (events : List Event) (after : World) → Rises 1 v.next_serial v.objects → HasOrder (with_stack stack v) → NameKnown k stack → StepOf script (with_stack stack v) stack events after → Minded k v.objects v.names stack → IsMinded k after
-step_minded script k v [] events after rises order known step h = absurd step
-step_minded script k v (TopLevel commands ∷ below) events after rises order known step h = top_level_minded script k below v rises events after commands (due (with_stack (TopLevel commands ∷ below) v)) known step h
-step_minded script k v (Framed f ∷ below) events after rises order known step h = framed_minded script k below v rises events after f f.commands refl known step h
-step_minded script k v (Releasing references ∷ below) events after rises order known step h = subst (IsMinded k) (sym step.1) (released_minded k references below v h)
-step_minded script k v (Dying d ∷ below) events after rises order known step h = subst (IsMinded k) (sym step.1) (dying_minded script k d.object below v rises d.phase (waits_code d.object d.phase below v order) h)
-step_minded script k v (Collecting c ∷ below) events after rises order known step h = phase_minded script k c below v rises order.garbage c.phase events after step h
+step_minded : (script : Script) (k : ℕ) (v : World) (stack : List Activity) (events : List Event) (after : World) → Rises 1 v.next_serial v.objects → Calm script (with_stack stack v) → HasOrder (with_stack stack v) → NameKnown k stack → StepOf script (with_stack stack v) stack events after → Minded k v.objects v.names stack → IsMinded k after
+step_minded script k v [] events after rises calm order known step h = absurd step
+step_minded script k v (TopLevel commands ∷ below) events after rises calm order known step h = top_level_minded script k below v rises events after commands (due (with_stack (TopLevel commands ∷ below) v)) calm order known step h
+step_minded script k v (Framed f ∷ below) events after rises calm order known step h = framed_minded script k below v rises events after f f.commands refl calm order known step h
+step_minded script k v (Releasing references ∷ below) events after rises calm order known step h = subst (IsMinded k) (sym step.1) (released_minded k references below v h)
+step_minded script k v (Dying d ∷ below) events after rises calm order known step h = subst (IsMinded k) (sym step.1) (dying_minded script k d.object below v rises d.phase (waits_code d.object d.phase below v order) h)
+step_minded script k v (Collecting c ∷ below) events after rises calm order known step h = phase_minded script k c below v rises order.garbage c.phase events after step h
 
 module _ (script : Script) (known : TextsAreKnown script) where
   minded_after : (w : World) (steps : List StepTaken) → Run script w steps → Fit script w → IsAllOfScript script w → IsMinded (length script.names) w → IsMinded (length script.names) (last_world w steps)
   minded_after w [] run fit of_script h = h
   minded_after w (step ∷ steps) run fit of_script h = minded_after step.world steps run.1 (step_fit script w step.events step.world run.0 fit) (step_origin script w w.stack step.events step.world run.0.step of_script)
-      (step_minded script (length script.names) w w.stack step.events step.world fit.sound.rises fit.order (λ command m. commands_name_texts script known command (of_script.commands command m)) run.0.step h)
+      (step_minded script (length script.names) w w.stack step.events step.world fit.sound.rises fit.calm fit.order (λ command m. commands_name_texts script known command (of_script.commands command m)) run.0.step h)
 
   opening_minded : (budget : ℕ) → IsMinded (length script.names) (opening script budget)
   opening_minded budget = record {
     minds = λ n m free. either m (λ e. absurd (free.root_not (sym e))) (λ no. absurd no);
-    single = λ x m. either m (λ e. subst IsSingle e (λ c. let no : ListKind ≡ Weak = c in absurd (cc))) (λ no. absurd no);
+    single = λ x m. either m (λ e. subst IsSingle e (λ c. let no : ListKind ≡ Weak = c in absurd (cc), λ c. let no : ListKind ≡ Tuple = c in absurd (cc))) (λ no. absurd no);
     count = length-replicate (length script.names) None;
   }
 

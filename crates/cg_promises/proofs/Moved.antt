@@ -12,7 +12,7 @@ use Rattle.cg_graph.specs.Object.{Object, change, entries_of, object_at, with_en
 use Rattle.cg_machine.specs.Weak.{callback_in, callback_of}
 use Rattle.cg_graph.proofs.Members.{either, Includes-append_left, Includes-append_right, Includes-append_cases}
 use Rattle.cg_machine.proofs.Serials.{Rises}
-use Rattle.cg_machine.proofs.Lookups.{at_member, callback_at}
+use Rattle.cg_machine.proofs.Lookups.{at_member, callback_at, references_take}
 use Rattle.cg_promises.proofs.Minded.{AreSingle, AtMostOne, Keeps, test_keeps}
 
 -- a reference of entries is one of the new entries, or of those that go
@@ -93,7 +93,8 @@ pub shortened_keeps : (low high : ℕ) (objects : List Object) (o : ℕ) (e : En
 shortened_keeps low high objects o e r last = test_keeps (with_entries (without_last (entries_of objects o))) (λ x. x.serial == o) objects (entry_references e) (λ x. record { serial = refl; code = refl; class = refl; finalized = λ k. k })
     (λ x m t n k. let same = entries_of_member low high objects x o r m (eqb-true x.serial o t) in
     subst (λ es. Includes (references (without_last es)) n ⊎ Includes (entry_references e) n) (sym same) (last_goes x.entries e n (subst (λ es. last_entry es ≡ Some e) same last) k))
-    (λ x m t s c. let same = entries_of_member low high objects x o r m (eqb-true x.serial o t) in subst (λ es. AtMostOne (without_last es)) (sym same) (shortened_single x.entries (s c)))
+    (λ x m t s. let same = entries_of_member low high objects x o r m (eqb-true x.serial o t) in
+    (λ c. subst (λ es. AtMostOne (without_last es)) (sym same) (shortened_single x.entries (s.0 c)), λ c n k. s.1 c n (subst (λ es. Includes (references es) n) same (references_take _ (entries_of objects o) n k))))
 
 -- the callback of a weak reference is taken out
 single_callback : (entries : List Entry) (n : ℕ) → AtMostOne entries → Includes (references entries) n → callback_in entries ≡ Some n
@@ -108,5 +109,5 @@ single_callback entries n (inr s) m = subst (λ es. callback_in es ≡ Some n) (
 pub called_keeps : (low high : ℕ) (objects : List Object) (weak : ℕ) → Rises low high objects → AreSingle objects → ((x : Object) → Includes objects x → x.serial ≡ weak → x.code ≡ Weak) → Keeps objects (change (with_entries []) weak objects) (unwrap_or (callback_of objects weak) 0 ∷ [])
 called_keeps low high objects weak r single code = test_keeps (with_entries []) (λ x. x.serial == weak) objects (unwrap_or (callback_of objects weak) 0 ∷ []) (λ x. record { serial = refl; code = refl; class = refl; finalized = λ k. k })
     (λ x m t n k. let e = eqb-true x.serial weak t in
-    inr (inl (ap (λ c. unwrap_or c 0) (subst (λ s. callback_of objects s ≡ callback_in x.entries) e (callback_at low high objects x r m) ∙ single_callback x.entries n (single x m (code x m e)) k))))
-    (λ x m t s c. inl refl)
+    inr (inl (ap (λ c. unwrap_or c 0) (subst (λ s. callback_of objects s ≡ callback_in x.entries) e (callback_at low high objects x r m) ∙ single_callback x.entries n ((single x m).0 (code x m e)) k))))
+    (λ x m t s. (λ c. inl refl, λ c n k. absurd k))

@@ -14,7 +14,7 @@ use Rattle.cg_script.specs.declared.Command.TheVariants.{MakeList, MakeTuple, Ma
 use Rattle.cg_graph.specs.Member.{Includes, includes}
 use Rattle.cg_graph.specs.Value.{item, put, reference_in, value_at}
 use Rattle.cg_graph.specs.Object.{Object, first_place, is_tracked, serials, with_entries, with_place}
-use Rattle.cg_graph.proofs.Members.{either, Includes-of, includes-of, Includes-append_cases, Includes-map}
+use Rattle.cg_graph.proofs.Members.{either, Includes-of, includes-of, Includes-append_left, Includes-append_cases, Includes-map, Includes-map_cases}
 use Rattle.cg_machine.specs.declared.event.Event.{Event}
 use Rattle.cg_machine.specs.declared.event.Event.TheVariants.{Made, Value, RefCount, Tracked as TrackedLine, Finalized as FinalizedLine, Count as CountLine}
 use Rattle.cg_machine.specs.World.{World, Numbers, with_change}
@@ -72,9 +72,10 @@ module _ (w : World) where
 
   makes_tell : (name : ℕ) (kind : KindCode) (class : Option ℕ) (entries : List Entry) (referent : Option ℕ) → Each (DoesTell w) (makes w name kind class entries referent)
   makes_tell name kind class entries referent = checked (DoesTell w) _ _ (λ _. checked (DoesTell w) _ _ (λ _. record {
-    follows = λ y m. either (Includes-append_cases w.objects (fresh ∷ []) y m) (λ k. inl (same_old w.objects y k)) (λ k. either k (λ e. inr (subst (λ (z : Object). z.serial ≡ w.next_serial) e refl)) (λ n. absurd n));
+    follows = λ y m. either (Includes-append_cases w.objects (fresh ∷ []) y m) (λ k. inl ((same_old w.objects).origin y k)) (λ k. either k (λ e. inr (subst (λ (z : Object). z.serial ≡ w.next_serial) e refl)) (λ n. absurd n));
     serial = omega arith;
     told = inl (one_told w.objects w.next_serial (Made kind w.next_serial) (tt, λ n m. either m (λ e. inr (sym e)) (λ k. absurd k)));
+    lasts = λ n m. let x = Includes-map_cases (λ (z : Object). z.serial) w.objects n m in inl (subst (Includes (serials (w.objects ++ fresh ∷ []))) x.2 (Includes-map (λ (z : Object). z.serial) (w.objects ++ fresh ∷ []) x.0 (Includes-append_left w.objects (fresh ∷ []) x.0 x.1)));
   }))
     where
       fresh : Object

@@ -19,7 +19,7 @@ use Rattle.cg_machine.specs.Frame.{Transition, frame_end, gives_up_function, beg
 use Rattle.cg_machine.specs.Weak.{has_weak_references, weak_references_if, weak_references, is_reference_to, loses_referent, callback_of}
 use Rattle.cg_machine.specs.Dying.{death_at, has_finalizers, finalizer_to_run, run_finalizer, run_legacy, after_frame, clear_one, call_one, detach_one, empty_one, dying}
 use Rattle.cg_machine.proofs.Lookups.{found_at, found_lives}
-use Rattle.cg_promises.proofs.Told.{Old, IsTold, Begins, Goes, same_old, change_old, place_old, entries_old, lost_old, without_old, without_gone, marked_all, quiet, one_told, tells, starts_told, either_told}
+use Rattle.cg_promises.proofs.Told.{Old, IsTold, Begins, Goes, same_old, change_old, place_old, entries_old, lost_old, without_old, without_gone, without_lasts, marked_all, quiet, one_told, tells, starts_told, either_told}
 
 -- a finalizer that is to run has not run
 pub to_run_unmarked : (script : Script) (objects : List Object) (o p : ℕ) → option_and_then (finalizer_to_run script) (object_at objects o) ≡ Some p → (x : Object) × Includes objects x × (x.serial ≡ o) × (x.finalized ≡ false)
@@ -119,7 +119,7 @@ module _ (script : Script) (o : ℕ) (below : List Activity) (v : World) (lives 
   detaching_told (weak ∷ weaks) e = cleared weak _ (weak_lives (has_finalizers script) v.objects o weak weaks e) refl refl
 
   emptying_told : (m : Option Entry) → Tells (empty_one o below (at Emptying) m)
-  emptying_told None = record { follows = λ y m. inl (without_old o v.objects y m); serial = omega arith; told = inr (Free o, refl, (lives, without_gone o v.objects)) }
+  emptying_told None = record { follows = λ y m. inl (without_old o v.objects y m); serial = omega arith; told = inr (Free o, refl, (lives, without_gone o v.objects)); lasts = λ n m. either (without_lasts o v.objects n m) (λ k. inl k) (λ e. inr (inl (ap (λ p. Free p) e))) }
   emptying_told (Some entry) = silent (push (Releasing (entry_references entry)) (death_at o Emptying below (with_change (with_entries (without_last (entries_of v.objects o))) o v))) (entries_old (without_last (entries_of v.objects o)) o v.objects) refl
 
   pub dying_told : (phase : DyingPhase) → ((n : ℕ) → Includes (dying_holds o phase) n → Includes (serials v.objects) n) → Tells (dying script o phase below (at phase))

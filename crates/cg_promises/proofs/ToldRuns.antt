@@ -51,7 +51,7 @@ module _ (script : Script) (a : Activity) (below : List Activity) (v : World) (o
 
   effect_told : (r : Result Effect ℕ) → Each (DoesTell now) r → (events : List Event) (after : World) → DoesEffect script now r events after → Tells events after
   effect_told (Err refusal) h events after step = yields _ events after step (refuses refusal)
-  effect_told (Ok (Changes wants_memory lines given_up next)) h events after (inl step) = yields _ events after step (record { follows = h.follows; serial = h.serial; told = h.told })
+  effect_told (Ok (Changes wants_memory lines given_up next)) h events after (inl step) = yields _ events after step (record { follows = h.follows; serial = h.serial; told = h.told; lasts = h.lasts })
   effect_told (Ok (Changes wants_memory lines given_up next)) h events after (inr step) = yields _ events after step.1 (refuses no_memory)
   effect_told (Ok (Calls f)) h events after step = yields _ events after step (starts_told v.objects v.next_serial script (record { sort = CallFrame; proc = procedure_of now f; subject = f; func = Some f }) now (same_old v.objects) (omega arith) h)
   effect_told (Ok (Collects g)) h events after step = yields _ events after step (collects g (is_collecting now))
