@@ -17,3 +17,4 @@ pub mod SealedRuns
 pub mod Primed
 pub mod SealedStart
 pub mod Sealing
+pub mod Freed

@@ -141,12 +141,12 @@ step_minded script k v (Dying d ∷ below) events after rises calm order known s
 step_minded script k v (Collecting c ∷ below) events after rises calm order known step h = phase_minded script k c below v rises order.garbage c.phase events after step h
 
 module _ (script : Script) (known : TextsAreKnown script) where
-  minded_after : (w : World) (steps : List StepTaken) → Run script w steps → Fit script w → IsAllOfScript script w → IsMinded (length script.names) w → IsMinded (length script.names) (last_world w steps)
+  pub minded_after : (w : World) (steps : List StepTaken) → Run script w steps → Fit script w → IsAllOfScript script w → IsMinded (length script.names) w → IsMinded (length script.names) (last_world w steps)
   minded_after w [] run fit of_script h = h
   minded_after w (step ∷ steps) run fit of_script h = minded_after step.world steps run.1 (step_fit script w step.events step.world run.0 fit) (step_origin script w w.stack step.events step.world run.0.step of_script)
       (step_minded script (length script.names) w w.stack step.events step.world fit.sound.rises fit.calm fit.order (λ command m. commands_name_texts script known command (of_script.commands command m)) run.0.step h)
 
-  opening_minded : (budget : ℕ) → IsMinded (length script.names) (opening script budget)
+  pub opening_minded : (budget : ℕ) → IsMinded (length script.names) (opening script budget)
   opening_minded budget = record {
     minds = λ n m free. either m (λ e. absurd (free.root_not (sym e))) (λ no. absurd no);
     single = λ x m. either m (λ e. subst IsSingle e (λ c. let no : ListKind ≡ Weak = c in absurd (cc), λ c. let no : ListKind ≡ Tuple = c in absurd (cc))) (λ no. absurd no);

@@ -30,12 +30,12 @@ use Rattle.cg_machine.specs.Operands.{frame_on, is_dict, is_list, is_script_list
 use Rattle.cg_machine.specs.Effects.{Calls, Changes, Collects, Effect, Quits, bound, callback_entries, frozen, gens_line, given_up_by, has_room, makes, may_track, puts, replaced, tracked_by, unfrozen}
 use Rattle.cg_machine.specs.Commands.{effect}
 use Rattle.cg_machine.specs.Weak.{has_weak_references, is_function, is_instance}
-use Rattle.cg_machine.specs.Laws.{named}
+use Rattle.cg_machine.specs.Laws.{is_stop, named}
 use Rattle.cg_machine.proofs.CommandLaws.{Each, checked}
 use Rattle.cg_machine.proofs.CommandRefs.{HoldNone, IsNotTo, append_free, bound_free, cons_free, each_some, each_then, entry_val, got_free, item_free, name_free, option_free, option_held, put_free, removed_free, set_free, value_at_free, without_key_free}
 use Rattle.cg_machine.proofs.Forgotten.{later_refl}
 use Rattle.cg_machine.proofs.Lookups.{found_at}
-use Rattle.cg_promises.proofs.Sealed.{Comes, Fits, IsClean, IsLesser, Sealed, TellsOut, none_out, one_out}
+use Rattle.cg_promises.proofs.Sealed.{Comes, Fits, IsClean, IsLesser, Sealed, TellsStill, none_out, one_still}
 
 -- places of a collection stay
 frozen_legacy : (p : Place) → frozen p ≡ Legacy → p ≡ Legacy
@@ -169,7 +169,7 @@ module _ (script : Script) (members : List ℕ) (w : World) (h : Sealed script m
     pub next : w.next_serial ≤ after.next_serial
     pub names : (o : ℕ) → Includes members o → ¬ Includes (name_holdings after.names) o
     pub comes : (y : Object) → Includes after.objects y → Comes members w.objects w.next_serial y
-    pub told : TellsOut members lines
+    pub told : TellsStill members lines
 
   abbrev pub DoesOpen : Effect → Type 0
   DoesOpen (Changes wants_memory lines given_up after) = Opens lines after
@@ -178,7 +178,7 @@ module _ (script : Script) (members : List ℕ) (w : World) (h : Sealed script m
   DoesOpen Quits = Unit {0}
 
   stays : (y : Object) → Includes w.objects y → Comes members w.objects w.next_serial y
-  stays y m = inl (y, m, record { later = later_refl y; finalized = λ e. e; place = λ e. e }, inl (λ n k. k))
+  stays y m = inl (y, m, record { later = later_refl y; finalized = λ e. e; place = λ e. e }, inl (λ n k. k, λ e. e))
 
   same : (numbers : Numbers) → Opens [] (record w { numbers = numbers })
   same numbers = record { next = omega arith; names = h.unnamed; comes = stays; told = none_out members }
@@ -205,12 +205,12 @@ module _ (script : Script) (members : List ℕ) (w : World) (h : Sealed script m
     told = none_out members;
   }
 
-  places_open : (f : Place → Place) (numbers : Numbers) → ((p : Place) → f p ≡ Legacy → p ≡ Legacy) → Opens [] (record w { objects = replaced f w; numbers = numbers })
-  places_open f numbers kept = record {
+  places_open : (f : Place → Place) (numbers : Numbers) → ((p : Place) → f p ≡ Legacy → p ≡ Legacy) → f Cand ≡ Cand → Opens [] (record w { objects = replaced f w; numbers = numbers })
+  places_open f numbers kept cand = record {
     next = omega arith;
     names = h.unnamed;
     comes = λ y m. let x = Includes-map_cases (λ x. with_place (f x.place) x) w.objects y m in subst (Comes members w.objects w.next_serial) x.2
-        (inl (x.0, x.1, record { later = record { serial = refl; code = refl; class = refl; referent = inl refl }; finalized = λ e. e; place = kept x.0.place }, inl (λ n k. k)));
+        (inl (x.0, x.1, record { later = record { serial = refl; code = refl; class = refl; referent = inl refl }; finalized = λ e. e; place = kept x.0.place }, inl (λ n k. k, λ e. ap f e ∙ cand)));
     told = none_out members;
   }
 
@@ -237,7 +237,7 @@ module _ (script : Script) (members : List ℕ) (w : World) (h : Sealed script m
     next = omega arith;
     names = λ o m. bound_free w.names name o (Some (Ref w.next_serial)) (λ k. either k (not_next o m) (λ none. none)) (h.unnamed o m);
     comes = λ y m. either (Includes-append_cases w.objects (fresh ∷ []) y m) (stays y) (λ k. either k (λ e. inr (subst (λ (z : Object). (z.serial ≡ w.next_serial) × IsClean members z × ((o : ℕ) → Includes members o → z.referent ≢ Some o)) e (refl, free, apart))) (λ none. absurd none));
-    told = one_out members (Made kind w.next_serial) (λ n m k. absurd (either m (not_next n k) (λ none. none)));
+    told = one_still members (Made kind w.next_serial) refl (λ n m k. absurd (either m (not_next n k) (λ none. none)));
   }))
     where
       fresh : Object
@@ -246,8 +246,8 @@ module _ (script : Script) (members : List ℕ) (w : World) (h : Sealed script m
       not_next : (o : ℕ) → Includes members o → w.next_serial ≢ o
       not_next o m e = let low = h.made o m in omega (arith, low, e)
 
-  prints_open : (line : Event) → ((n : ℕ) → Includes (named line) n → ¬ Includes members n) → Opens (line ∷ []) w
-  prints_open line out = record { next = omega arith; names = h.unnamed; comes = stays; told = one_out members line (λ n m k. absurd (out n m k)) }
+  prints_open : (line : Event) → is_stop line ≡ false → ((n : ℕ) → Includes (named line) n → ¬ Includes members n) → Opens (line ∷ []) w
+  prints_open line still out = record { next = omega arith; names = h.unnamed; comes = stays; told = one_still members line still (λ n m k. absurd (out n m k)) }
 
   quit_opens : (v : Val) → DoesOpen (elim v [ Nothing ↦ Quits | _ ↦ Changes false [] [] w ])
   quit_opens Nothing = tt
@@ -308,11 +308,11 @@ module _ (script : Script) (members : List ℕ) (w : World) (h : Sealed script m
   effect_opens Disable = same _
   effect_opens (Threshold first second third) = same _
   effect_opens (Flags bits) = same _
-  effect_opens Freeze = places_open frozen _ frozen_legacy
-  effect_opens Unfreeze = places_open unfrozen _ unfrozen_legacy
-  effect_opens (Print operand) = each_then IsOut DoesOpen (value w operand) _ (value_out operand) (λ v out. prints_open (Value v) (λ n m k. option_free (reference_in v) n (out n k) m))
-  effect_opens (Refs operand) = checked DoesOpen _ _ (λ v. checked DoesOpen _ _ (λ x. prints_open (RefCount _) (λ n m k. m)))
-  effect_opens (Tracked operand) = checked DoesOpen _ _ (λ v. prints_open (TrackedLine _) (λ n m k. m))
-  effect_opens (Finalized operand) = checked DoesOpen _ _ (λ v. prints_open (FinalizedLine _) (λ n m k. m))
-  effect_opens Count = prints_open (CountLine _ _ _) (λ n m k. m)
-  effect_opens Gens = prints_open (gens_line w.objects) (λ n m k. m)
+  effect_opens Freeze = places_open frozen _ frozen_legacy refl
+  effect_opens Unfreeze = places_open unfrozen _ unfrozen_legacy refl
+  effect_opens (Print operand) = each_then IsOut DoesOpen (value w operand) _ (value_out operand) (λ v out. prints_open (Value v) refl (λ n m k. option_free (reference_in v) n (out n k) m))
+  effect_opens (Refs operand) = checked DoesOpen _ _ (λ v. checked DoesOpen _ _ (λ x. prints_open (RefCount _) refl (λ n m k. m)))
+  effect_opens (Tracked operand) = checked DoesOpen _ _ (λ v. prints_open (TrackedLine _) refl (λ n m k. m))
+  effect_opens (Finalized operand) = checked DoesOpen _ _ (λ v. prints_open (FinalizedLine _) refl (λ n m k. m))
+  effect_opens Count = prints_open (CountLine _ _ _) refl (λ n m k. m)
+  effect_opens Gens = prints_open (gens_line w.objects) refl (λ n m k. m)

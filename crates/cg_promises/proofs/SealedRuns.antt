@@ -16,7 +16,7 @@ use Rattle.cg_machine.specs.declared.event.Event.TheVariants.{Collected, End, Fr
 use Rattle.cg_machine.specs.declared.event.FrameSort.{FrameSort}
 use Rattle.cg_machine.specs.declared.event.FrameSort.TheVariants.{Del, Legacy as LegacyFrame, Callback, Call as CallFrame}
 use Rattle.cg_machine.specs.World.{World, Activity, TopLevel, Framed, Releasing, Dying, Collecting, Collection, CollectPhase, Start, WeakClearing, WeakCalling, AfterCallback, AfterRelease, Finalizing, AfterFinalizing, Split, Turns, Turn, AfterTurn, Ending, Frame, Ended, push, with_stack}
-use Rattle.cg_machine.specs.Holdings.{call_holds, is_collecting, is_collection}
+use Rattle.cg_machine.specs.Holdings.{call_holds, is_collecting, is_collection, is_death_of}
 use Rattle.cg_machine.specs.Frame.{Transition, procedure_of, released}
 use Rattle.cg_machine.specs.Effects.{Calls, Changes, Collects, Effect, Quits}
 use Rattle.cg_machine.specs.Refusals.{no_memory}
@@ -31,7 +31,7 @@ use Rattle.cg_machine.proofs.CommandRefs.{option_free}
 use Rattle.cg_machine.proofs.Lookups.{found_at}
 use Rattle.cg_machine.proofs.RunsCalm.{HasCommands}
 use Rattle.cg_machine.proofs.Serials.{Rises}
-use Rattle.cg_promises.proofs.Sealed.{Fits, IsDone, IsLate, Passes, Sealed, TellsOut, goes_sealed, none_out, one_out, pop_sealed, push_sealed, same_shrinks, starts_sealed, turn_sealed, yields_sealed}
+use Rattle.cg_promises.proofs.Sealed.{Clears, Fits, IsDone, IsLate, NotAfter, Passes, Sealed, TellsOut, comes_excused, goes_sealed, loosen, none_out, one_out, one_still, pop_sealed, push_sealed, same_shrinks, shrunk, starts_sealed, turn_sealed, yields_sealed}
 use Rattle.cg_promises.proofs.SealedDeaths.{dying_sealed, frame_end_sealed, late_sealed, released_sealed}
 use Rattle.cg_promises.proofs.SealedCommands.{DoesOpen, Opens, effect_opens}
 use Rattle.cg_promises.proofs.ToldCollections.{same_lives}
@@ -59,25 +59,27 @@ module _ (script : Script) (members : List ℕ) (a : Activity) (below : List Act
 
   stopped : (top : Activity) → HasCommands top → SealedOn (top ∷ below) → SealedOn (stopped_frame (top ∷ below))
   stopped (TopLevel commands) t m = m
-  stopped (Framed f) t m = turn_sealed script members (Framed f) (Framed (record f { commands = [] })) below v.objects v.objects v.names v.next_serial (same_shrinks v.objects) (m.stack_fits (Framed f) (inl refl)) refl m
+  stopped (Framed f) t m = turn_sealed script members (Framed f) (Framed (record f { commands = [] })) below v.objects v.objects v.names v.next_serial (shrunk script members v.objects v.objects v.next_serial (same_shrinks v.objects)) (m.stack_fits (Framed f) (inl refl)) refl refl (λ n i. refl) m
   stopped top t m = absurd t
 
   quits : (top : Activity) → HasCommands top → SealedOn (top ∷ below) → SealedOn (without_commands (top ∷ below))
-  quits (TopLevel commands) t m = turn_sealed script members (TopLevel commands) (TopLevel []) below v.objects v.objects v.names v.next_serial (same_shrinks v.objects) tt refl m
-  quits (Framed f) t m = turn_sealed script members (Framed f) (Framed (record f { commands = [] })) below v.objects v.objects v.names v.next_serial (same_shrinks v.objects) (m.stack_fits (Framed f) (inl refl)) refl m
+  quits (TopLevel commands) t m = turn_sealed script members (TopLevel commands) (TopLevel []) below v.objects v.objects v.names v.next_serial (shrunk script members v.objects v.objects v.next_serial (same_shrinks v.objects)) tt refl refl (λ n i. refl) m
+  quits (Framed f) t m = turn_sealed script members (Framed f) (Framed (record f { commands = [] })) below v.objects v.objects v.names v.next_serial (shrunk script members v.objects v.objects v.next_serial (same_shrinks v.objects)) (m.stack_fits (Framed f) (inl refl)) refl refl (λ n i. refl) m
   quits top t m = absurd t
 
   refuses : (refusal : ℕ) → (let t : Transition = refused refusal now in Passes script members t.0 t.1)
-  refuses refusal = record { sealed = stopped a ha h; lines = one_out members (Refused refusal) (λ n m. absurd m) }
+  refuses refusal = record { sealed = stopped a ha h; lines = one_still members (Refused refusal) refl (λ n m. absurd m) }
 
   collects : (g : ℕ) (t : Bool) → t ≡ true → (let s : Transition = if t then (Collected 0 ∷ [], now) else ([], push (new_collection g true now) now) in Passes script members s.0 s.1)
-  collects g true e = record { sealed = h; lines = one_out members (Collected 0) (λ n m. absurd m) }
+  collects g true e = record { sealed = h; lines = one_still members (Collected 0) refl (λ n m. absurd m) }
   collects g false e = absurd (let no : true ≡ false = sym e in cc)
 
   opened : (lines : List Event) (given : List ℕ) (next : World) → next.stack ≡ a ∷ below → Opens script members now h lines next → Passes script members lines (push (Releasing given) next)
   opened lines given next same o = record {
-    sealed = push_sealed script members (Releasing given) next.stack next.objects next.names next.next_serial tt
-        (goes_sealed script members v.objects next.objects v.names next.names (a ∷ below) next.stack v.next_serial next.next_serial o.next o.comes o.names (λ b m. h.stack_fits b (subst (λ st. Includes st b) same m)) (subst (λ st. list_any is_collection st ≡ true) (sym same) h.collecting) h);
+    sealed = push_sealed script members (Releasing given) next.stack next.objects next.names next.next_serial tt refl
+        (goes_sealed script members v.objects next.objects v.names next.names (a ∷ below) next.stack v.next_serial next.next_serial o.next (λ y m. loosen members v.objects v.next_serial y (o.comes y m)) o.names
+        (λ b m. h.stack_fits b (subst (λ st. Includes st b) same m)) (subst (λ st. list_any is_collection st ≡ true) (sym same) h.collecting) (λ k. subst (Clears members) (sym same) k)
+        (comes_excused script members v.objects next.objects v.names (a ∷ below) next.stack v.next_serial o.comes (λ n w. subst (λ st. NotAfter st n) (sym same) w) (λ n m e. subst (λ st. list_any (is_death_of n) st ≡ true) (sym same) e) h) h);
     lines = o.told;
   }
 
@@ -95,12 +97,12 @@ module _ (script : Script) (members : List ℕ) (a : Activity) (below : List Act
 module _ (script : Script) (members : List ℕ) (below : List Activity) (v : World) (events : List Event) (after : World) where
   top_level_sealed : (commands : List Command) (d : Option ℕ) → d ≡ None → TopLevelStep script (with_stack (TopLevel commands ∷ below) v) d commands below events after → Sealed script members v.objects v.names (TopLevel commands ∷ below) v.next_serial → Passes script members events after
   top_level_sealed commands (Some g) e step h = absurd (let no : Some g ≡ None = e in cc)
-  top_level_sealed [] None e step h = yields_sealed script members (End ∷ [], record v { stack = TopLevel [] ∷ below; outcome = Ended }) events after step (record { sealed = h; lines = one_out members End (λ n m. absurd m) })
-  top_level_sealed (command ∷ commands) None e step h = done_sealed script members (TopLevel commands) below v tt (turn_sealed script members (TopLevel (command ∷ commands)) (TopLevel commands) below v.objects v.objects v.names v.next_serial (same_shrinks v.objects) tt refl h) command events after step
+  top_level_sealed [] None e step h = yields_sealed script members (End ∷ [], record v { stack = TopLevel [] ∷ below; outcome = Ended }) events after step (record { sealed = h; lines = one_still members End refl (λ n m. absurd m) })
+  top_level_sealed (command ∷ commands) None e step h = done_sealed script members (TopLevel commands) below v tt (turn_sealed script members (TopLevel (command ∷ commands)) (TopLevel commands) below v.objects v.objects v.names v.next_serial (shrunk script members v.objects v.objects v.next_serial (same_shrinks v.objects)) tt refl refl (λ n i. refl) h) command events after step
 
   in_frame_sealed : (f : Frame) (command : Command) (commands : List Command) (d : Option ℕ) → d ≡ None → CommandInFrame script (with_stack (Framed f ∷ below) v) d f command commands below events after → Sealed script members v.objects v.names (Framed f ∷ below) v.next_serial → Passes script members events after
   in_frame_sealed f command commands (Some g) e step h = absurd (let no : Some g ≡ None = e in cc)
-  in_frame_sealed f command commands None e step h = done_sealed script members (Framed (record f { commands = commands })) below v tt (turn_sealed script members (Framed f) (Framed (record f { commands = commands })) below v.objects v.objects v.names v.next_serial (same_shrinks v.objects) (h.stack_fits (Framed f) (inl refl)) refl h) command events after step
+  in_frame_sealed f command commands None e step h = done_sealed script members (Framed (record f { commands = commands })) below v tt (turn_sealed script members (Framed f) (Framed (record f { commands = commands })) below v.objects v.objects v.names v.next_serial (shrunk script members v.objects v.objects v.next_serial (same_shrinks v.objects)) (h.stack_fits (Framed f) (inl refl)) refl refl (λ n i. refl) h) command events after step
 
   framed_sealed : (f : Frame) (commands : List Command) → FrameStep script (with_stack (Framed f ∷ below) v) f commands below events after → Sealed script members v.objects v.names (Framed f ∷ below) v.next_serial → Passes script members events after
   framed_sealed f [] step h = yields_sealed script members _ events after step (frame_end_sealed script members f below v h)
@@ -134,7 +136,7 @@ module _ (script : Script) (members : List ℕ) (c : Collection) (below : List A
 
   if_out : (b : Bool) (lines : List Event) → TellsOut members lines → TellsOut members (lines_if b lines)
   if_out true lines p = p
-  if_out false lines p = none_out members
+  if_out false lines p = (none_out members).0
 
   one_name : (n k : ℕ) → Includes (n ∷ []) k → n ≡ k
   one_name n k (inl e) = e
@@ -157,31 +159,41 @@ stops front g m n back events e none =
     let zero_now : count_by is_stop (front ++ GcStop g m n ∷ back) ≡ 0 = ap (count_by is_stop) (sym e) ∙ none in
     omega (arith, all, one, zero_now)
 
--- any step: its lines, and that the members stay sealed where the collection does not stop
-pub record Keeping (script : Script) (members : List ℕ) (events : List Event) (after : World) : Type 0 where
+-- any step: its lines, that the members stay sealed where the collection does not stop, and that only its end does that
+pub record Keeping (script : Script) (members : List ℕ) (stack : List Activity) (events : List Event) (after : World) : Type 0 where
   pub lines : TellsOut members events
   pub sealed : count_by is_stop events ≡ 0 → Sealed script members after.objects after.names after.stack after.next_serial
+  pub ends : 0 < count_by is_stop events → (c : Collection) × (below : List Activity) × (stack ≡ Collecting c ∷ below) × (c.phase ≡ Ending)
 
-passes : (script : Script) (members : List ℕ) (events : List Event) (after : World) → Passes script members events after → Keeping script members events after
-passes script members events after p = record { lines = p.lines; sealed = λ e. p.sealed }
+none_stops : (events : List Event) → ((event : Event) → Includes events event → is_stop event ≡ false) → count_by is_stop events ≡ 0
+none_stops [] h = refl
+none_stops (event ∷ events) h =
+    let one : count_by is_stop (event ∷ events) ≡ cond (is_stop event) 1 0 + count_by is_stop events = sum_by-cons (λ x. cond (is_stop x) 1 0) event events in
+    let no : ◌≡◌ {A = ℕ} (cond (is_stop event) 1 0) 0 = ap (λ b. cond b 1 0) (h event (inl refl)) in
+    let rest = none_stops events (λ e m. h e (inr m)) in
+    omega (arith, one, no, rest)
+
+passes : (script : Script) (members : List ℕ) (stack : List Activity) (events : List Event) (after : World) → Passes script members events after → Keeping script members stack events after
+passes script members stack events after p = record { lines = p.lines.0; sealed = λ e. p.sealed; ends = λ more. let none = none_stops events p.lines.1 in absurd (omega (arith, more, none)) }
 
 collect_keeps : (script : Script) (members : List ℕ) (c : Collection) (below : List Activity) (v : World) → Rises 1 v.next_serial v.objects → has_flag c.flags save_all ≡ false → (phase : CollectPhase) (events : List Event) (after : World) → IsLate phase
-    → PhaseStep script c phase below (collection_at c phase below v) events after → Sealed script members v.objects v.names (Collecting (record c { phase = phase }) ∷ below) v.next_serial → Keeping script members events after
-collect_keeps script members c below v rises clears Turns events after late step h = passes script members events after (late_sealed script members c below v rises clears Turns events after late (λ e. cc) step h)
-collect_keeps script members c below v rises clears (Turn o) events after late step h = passes script members events after (late_sealed script members c below v rises clears (Turn o) events after late (λ e. cc) step h)
-collect_keeps script members c below v rises clears (AfterTurn o) events after late step h = passes script members events after (late_sealed script members c below v rises clears (AfterTurn o) events after late (λ e. cc) step h)
+    → PhaseStep script c phase below (collection_at c phase below v) events after → Sealed script members v.objects v.names (Collecting (record c { phase = phase }) ∷ below) v.next_serial → Keeping script members (Collecting (record c { phase = phase }) ∷ below) events after
+collect_keeps script members c below v rises clears Turns events after late step h = passes script members (Collecting (record c { phase = Turns }) ∷ below) events after (late_sealed script members c below v rises clears Turns events after late (λ e. cc) step h)
+collect_keeps script members c below v rises clears (Turn o) events after late step h = passes script members (Collecting (record c { phase = Turn o }) ∷ below) events after (late_sealed script members c below v rises clears (Turn o) events after late (λ e. cc) step h)
+collect_keeps script members c below v rises clears (AfterTurn o) events after late step h = passes script members (Collecting (record c { phase = AfterTurn o }) ∷ below) events after (late_sealed script members c below v rises clears (AfterTurn o) events after late (λ e. cc) step h)
 collect_keeps script members c below v rises clears Ending events after late step h = record {
   lines = end_out script members c below v (Collecting (record c { phase = Ending }) ∷ below) h events after step;
   sealed = λ none. absurd (stops _ c.generation c.collected (length step.told) _ events step.lines none);
+  ends = λ more. (record c { phase = Ending }, below, refl, refl);
 }
 collect_keeps script members c below v rises clears phase events after late step h = absurd late
 
-step_keeps : (script : Script) (members : List ℕ) (v : World) (stack : List Activity) (events : List Event) (after : World) → Rises 1 v.next_serial v.objects → StepOf script (with_stack stack v) stack events after → Sealed script members v.objects v.names stack v.next_serial → Keeping script members events after
+step_keeps : (script : Script) (members : List ℕ) (v : World) (stack : List Activity) (events : List Event) (after : World) → Rises 1 v.next_serial v.objects → StepOf script (with_stack stack v) stack events after → Sealed script members v.objects v.names stack v.next_serial → Keeping script members stack events after
 step_keeps script members v [] events after rises step h = absurd step
-step_keeps script members v (TopLevel commands ∷ below) events after rises step h = passes script members events after (top_level_sealed script members below v events after commands (due (with_stack (TopLevel commands ∷ below) v)) (due_none (with_stack (TopLevel commands ∷ below) v) h.collecting) step h)
-step_keeps script members v (Framed f ∷ below) events after rises step h = passes script members events after (framed_sealed script members below v events after f f.commands step h)
-step_keeps script members v (Releasing refs ∷ below) events after rises step h = passes script members events after (yields_sealed script members (released refs below (with_stack (Releasing refs ∷ below) v)) events after step (released_sealed script members refs below v h))
-step_keeps script members v (Dying d ∷ below) events after rises step h = passes script members events after (yields_sealed script members (dying script d.object d.phase below (with_stack (Dying d ∷ below) v)) events after step (dying_sealed script members d.object below v rises d.phase h))
+step_keeps script members v (TopLevel commands ∷ below) events after rises step h = passes script members (TopLevel commands ∷ below) events after (top_level_sealed script members below v events after commands (due (with_stack (TopLevel commands ∷ below) v)) (due_none (with_stack (TopLevel commands ∷ below) v) h.collecting) step h)
+step_keeps script members v (Framed f ∷ below) events after rises step h = passes script members (Framed f ∷ below) events after (framed_sealed script members below v events after f f.commands step h)
+step_keeps script members v (Releasing refs ∷ below) events after rises step h = passes script members (Releasing refs ∷ below) events after (yields_sealed script members (released refs below (with_stack (Releasing refs ∷ below) v)) events after step (released_sealed script members refs below v h))
+step_keeps script members v (Dying d ∷ below) events after rises step h = passes script members (Dying d ∷ below) events after (yields_sealed script members (dying script d.object d.phase below (with_stack (Dying d ∷ below) v)) events after step (dying_sealed script members d.object below v rises d.phase h))
 step_keeps script members v (Collecting c ∷ below) events after rises step h = let fits = h.stack_fits (Collecting c) (inl refl) in collect_keeps script members c below v rises fits.1 c.phase events after fits.0 step h
 
 abbrev pub IsSealedWorld : Script → List ℕ → World → Type 0
@@ -192,11 +204,11 @@ none_first : (xs ys : List Event) → count_by is_stop (xs ++ ys) ≡ 0 → (cou
 none_first xs ys e = let all : count_by is_stop (xs ++ ys) ≡ count_by is_stop xs + count_by is_stop ys = sum_by-append (λ x. cond (is_stop x) 1 0) xs ys in (omega (arith, all, e), omega (arith, all, e))
 
 module _ (script : Script) (members : List ℕ) where
-  pub step_keeps_on : (w : World) (events : List Event) (after : World) → Step script w events after → Fit script w → IsSealedWorld script members w → Keeping script members events after
+  pub step_keeps_on : (w : World) (events : List Event) (after : World) → Step script w events after → Fit script w → IsSealedWorld script members w → Keeping script members w.stack events after
   step_keeps_on w events after step fit h = step_keeps script members w w.stack events after fit.sound.rises step.step h
 
   pub sealed_after : (w : World) (steps : List StepTaken) → Run script w steps → Fit script w → count_by is_stop (events_of steps) ≡ 0 → IsSealedWorld script members w → IsSealedWorld script members (last_world w steps) × TellsOut members (events_of steps)
-  sealed_after w [] run fit none h = (h, none_out members)
+  sealed_after w [] run fit none h = (h, (none_out members).0)
   sealed_after w (step ∷ steps) run fit none h =
       let both = none_first step.events (events_of steps) none in
       let keeps = step_keeps_on w step.events step.world run.0 fit h in

@@ -3,7 +3,7 @@
 use Rattle.std.proofs.Common.{◌≡◌, ◌≢◌, refl, sym, ◌∙◌, ap, subst, ℕ, zero, suc, ◌+◌, ◌<◌, ◌≤◌, Bool, true, false, cond, inl, inr, ◌⊎◌, List, [], ◌∷◌, ◌++◌, map, length, Option, Some, None, arith}
 use Rattle.std.specs.Prelude.{◌==◌, ◌||◌, if◌then◌else◌, filter, flat_map, option_map, option_to_list, unwrap_or}
 use Rattle.cg_value.specs.declared.Place.{Place}
-use Rattle.cg_value.specs.declared.Place.TheVariants.{Cand, Gen, Legacy}
+use Rattle.cg_value.specs.declared.Place.TheVariants.{Cand, Gen, Legacy, Untracked}
 use Rattle.cg_script.specs.declared.Script.{Script}
 use Rattle.cg_graph.specs.declared.Edge.{Edge}
 use Rattle.cg_graph.specs.Member.{Includes, includes}
@@ -16,7 +16,7 @@ use Rattle.cg_graph.proofs.Members.{either, or_left, Includes-of, includes-of, I
 use Rattle.cg_machine.specs.declared.event.Event.{Event}
 use Rattle.cg_machine.specs.declared.event.FrameSort.{FrameSort}
 use Rattle.cg_machine.specs.declared.event.FrameSort.TheVariants.{Del, Legacy as LegacyFrame, Callback, Call}
-use Rattle.cg_machine.specs.World.{World, Activity, TopLevel, Framed, Releasing, Dying, Collecting, Collection, CollectPhase, Frame, Split, Turns, with_objects}
+use Rattle.cg_machine.specs.World.{World, Activity, TopLevel, Framed, Releasing, Dying, Collecting, Collection, CollectPhase, Frame, Death, Split, Turns, AfterTurn, with_objects}
 use Rattle.cg_machine.specs.Holdings.{call_holds, dying_holds, holdings, holds}
 use Rattle.cg_machine.specs.Weak.{AllLose, NoneLeft, loses_referent}
 use Rattle.cg_machine.specs.Collect.{SplitStep, Survives, collection_at, get_older, has_flag, is_condemned, loses_at_split, members_at, older, save_all}
@@ -28,11 +28,11 @@ use Rattle.cg_machine.proofs.Lookups.{at_member, same_object}
 use Rattle.cg_machine.proofs.Orderly.{waits_held}
 use Rattle.cg_machine.proofs.Serials.{Rises, Rises-map}
 use Rattle.cg_machine.proofs.Standing.{AreKnown, IsKnown, KnowsFunction}
-use Rattle.cg_machine.proofs.Unheld.{AreOver, IsLocalHeld, IsOver, held_by_member}
+use Rattle.cg_machine.proofs.Unheld.{AreOver, AreResting, IsLocalHeld, IsOver, held_by_member, rests_cases}
 use Rattle.cg_laws.proofs.SetsApart.{NoneCollects, stands_at}
 use Rattle.cg_promises.proofs.Told.{Marks}
 use Rattle.cg_promises.proofs.Primed.{IsWanted, Primed, Ran, cand_is, legacy_later, ran_later}
-use Rattle.cg_promises.proofs.Sealed.{Fits, IsDone, Sealed}
+use Rattle.cg_promises.proofs.Sealed.{Fits, IsDone, NotAfter, Sealed}
 
 -- counts
 less_held : (p : Object → Bool) (objects : List Object) (o : ℕ) → occurrences o (entry_holdings (graph_of (filter p objects))) ≤ occurrences o (entry_holdings (graph_of objects))
@@ -121,7 +121,7 @@ module _ (script : Script) (c : Collection) (below : List Activity) (v : World) 
   abbrev now : World
   now = collection_at c Split below v
 
-  module _ (order : HasOrder now) (over : AreOver now.stack) (known : AreKnown v.objects now.stack) (primed : Primed script v.objects now.stack) (events : List Event) (after : World) (step : SplitStep c below now events after) where
+  module _ (order : HasOrder now) (over : AreOver now.stack) (known : AreKnown v.objects now.stack) (primed : Primed script v.objects now.stack) (resting : AreResting script now below) (events : List Event) (after : World) (step : SplitStep c below now events after) where
     abbrev aged : List Object
     aged = get_older c.generation step.alive v.objects
 
@@ -273,6 +273,22 @@ module _ (script : Script) (c : Collection) (below : List Activity) (v : World) 
     below_fits (Dying d) m = λ n i. held_out n (held_by_member now.stack (Dying d) n (inr m) i)
     below_fits (Collecting d) m = absurd (alone d m)
 
+    -- none is dying below
+    no_death : (d : Death) → Includes below (Dying d) → ¬ Includes members d.object
+    no_death d m k = either (rests_cases script now d.object d.phase (resting d m)) (λ own. held_out d.object (held_by_member now.stack (Dying d) d.object (inr m) own) k)
+        (λ gone. let q = dead_of d.object k in let no : Untracked ≡ Cand = sym ((gone.unheld.quiet q.object q.member).untracked q.serial) ∙ q.place in cc)
+
+    at_place : (y : Object) → Includes step.objects y → Includes members y.serial → y.place ≡ Cand
+    at_place y m k =
+        let d = dead_of y.serial k in
+        let x = back y m in
+        let one : d.object ≡ x.0 = same_object 1 v.next_serial v.objects d.object x.0 rises d.member x.1 (d.serial ∙ x.2.0.serial) in
+        either x.2.3 (λ old. absurd (d.dead (subst (λ (z : Object). Survives now Cand z.serial) (sym one) ((step.survivors x.0.serial).0 (Includes-of step.alive x.0.serial old.0)))))
+        (λ same. same.1 ∙ subst (λ (z : Object). z.place ≡ Cand) one d.place)
+
+    turns : (n : ℕ) → NotAfter (Collecting (record c { collected = c.collected + length (serials_at step.objects Cand); phase = Turns }) ∷ below) n
+    turns n b m = either m (λ e. let same_one : record c { collected = c.collected + length (serials_at step.objects Cand); phase = Turns } ≡ b = cc in subst (λ (z : Collection). z.phase ≢ AfterTurn n) same_one (λ p. cc)) (λ i. absurd (alone b i))
+
     pub split_sealed : Sealed script members step.objects v.names (Collecting (record c { collected = c.collected + length (serials_at step.objects Cand); phase = Turns }) ∷ below) v.next_serial
     split_sealed = record {
       made = λ o k. let d = dead_of o k in (lives_within 1 v.next_serial v.objects o rises (lives d)).1;
@@ -286,6 +302,8 @@ module _ (script : Script) (c : Collection) (below : List Activity) (v : World) 
       inside = done_of;
       stack_fits = λ a m. either m (λ e. subst (Fits members) e (tt, clears)) (below_fits a);
       collecting = refl;
+      under = λ b m. record { holds_none = λ n i. held_out n (held_by_member now.stack b n (inr m) i); no_death = λ d e. no_death d (subst (Includes below) e m) };
+      excused = λ y m k. inr (inr (inr (at_place y m k, turns y.serial)));
     }
       where
         lives : {o : ℕ} → IsDead o → Includes (serials v.objects) o

@@ -94,6 +94,7 @@ module _ (script : Script) (budget : ℕ) (before : List StepTaken) (split : Ste
       (split_sealed script c splits.below w fit.sound.rises (alone_below c splits.below (subst (λ st. tally collections_in st ≤ 1) top fit.sound.single)) splits.clears
       (subst (λ st. HasOrder (with_stack st w)) top fit.order) (subst AreOver top fit.calm.over) (subst (AreKnown w.objects) top (known script budget before run))
       (subst (λ st. Primed script w.objects st) top (primed_after script (opening script budget) before (λ more goes. runs_apart script budget more goes) run (opening_fit script budget) (opening_primed script budget)))
+      (subst (λ st. IsStack script (with_stack st w) st) top fit.calm.stack).1
       split.events split.world split_step)
 
 pub sealing : Sealing

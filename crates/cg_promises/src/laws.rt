@@ -1,5 +1,5 @@
 //! What holds in every run. Each law is the contract of a function that does nothing.
-ghost use Rattle.cg_machine.specs.Laws.{NoDeadNames, OneFinalizerEach, OnlyFreesNameMembers, Sealing, UnheldIsDying};
+ghost use Rattle.cg_machine.specs.Laws.{FinalSetIsFreed, NoDeadNames, OneFinalizerEach, OnlyFreesNameMembers, Sealing, UnheldIsDying};
 
 /// In every run the finalizer of one object begins at most once.
 pub fn one_finalizer_each()
@@ -26,4 +26,10 @@ pub fn final_sets_are_sealed()
 /// In that time, up to the lines of the stop's own step, a line that names a member is that it is freed.
 pub fn only_frees_name_members()
     ensures { OnlyFreesNameMembers }
+{}
+
+/// In every run each member of the final set of a collection that does not save all, tuples included, has been freed when the
+/// collection stops.
+pub fn final_sets_are_freed()
+    ensures { FinalSetIsFreed }
 {}
