@@ -1,19 +1,17 @@
 -- When a collection stops, each member of its final set has been freed: of those that live, the one with the largest serial would
 -- be held by a tuple with a larger one.
-use Rattle.std.proofs.Common.{◌≡◌, ◌≢◌, refl, sym, ◌∙◌, ap, subst, ℕ, zero, suc, ◌+◌, ◌<◌, ◌≤◌, Bool, true, false, inl, inr, ◌⊎◌, List, [], ◌∷◌, ◌++◌, length, arith}
-use Rattle.std.specs.Prelude.{◌==◌, ◌||◌, count_by, flat_map}
+use Rattle.std.proofs.Common.{◌≡◌, ◌≢◌, refl, sym, subst, ℕ, zero, suc, ◌+◌, ◌≤◌, true, false, inl, inr, ◌⊎◌, List, [], ◌∷◌, ◌++◌, length, arith}
+use Rattle.std.specs.Prelude.{flat_map}
 use Rattle.std.specs.List.{list_any}
 use Rattle.std.proofs.lemmas.Bool.{eqb-true}
 use Rattle.cg_value.specs.declared.Place.TheVariants.{Cand}
 use Rattle.cg_script.specs.declared.Script.{Script}
-use Rattle.cg_script.specs.Texts.{TextsAreKnown}
 use Rattle.cg_graph.specs.Member.{Includes}
 use Rattle.cg_graph.specs.Value.{references}
 use Rattle.cg_graph.specs.Object.{Object, serials}
 use Rattle.cg_graph.proofs.Members.{either, true_or, Includes-append_cases, Includes-append_left, Includes-append_right, Includes-map, Includes-map_cases}
-use Rattle.cg_machine.specs.declared.event.Event.{Event}
 use Rattle.cg_machine.specs.declared.event.Event.TheVariants.{Free}
-use Rattle.cg_machine.specs.World.{World, Activity, TopLevel, Framed, Releasing, Dying, Death, Collecting, Collection, CollectPhase, Ending, opening}
+use Rattle.cg_machine.specs.World.{World, Activity, TopLevel, Framed, Releasing, Dying, Death, Collecting, Collection, Ending, opening}
 use Rattle.cg_machine.specs.Holdings.{collect_holds, holds, is_death_of}
 use Rattle.cg_machine.specs.Run.{Run, StepTaken, events_of, last_world}
 use Rattle.cg_machine.specs.Laws.{FinalSetIsFreed, final_set}
@@ -23,9 +21,9 @@ use Rattle.cg_machine.proofs.OriginsOfRuns.{opening_origin}
 use Rattle.cg_machine.proofs.Serials.{Rises}
 use Rattle.cg_laws.specs.Apart.{IsApart, StandsRightly}
 use Rattle.cg_laws.proofs.RunsApart.{runs_apart}
-use Rattle.cg_promises.proofs.Minded.{IsFree, IsMinded, Minded}
+use Rattle.cg_promises.proofs.Minded.{IsMinded}
 use Rattle.cg_promises.proofs.MindedRuns.{minded_after, opening_minded}
-use Rattle.cg_promises.proofs.Sealed.{Clears, Excused, IsOutOf, Sealed}
+use Rattle.cg_promises.proofs.Sealed.{Clears, Excused, IsOutOf}
 use Rattle.cg_promises.proofs.SealedRuns.{IsSealedWorld, sealed_after, step_keeps_on}
 use Rattle.cg_promises.proofs.Sealing.{starts_sealed_world}
 use Rattle.cg_promises.proofs.ToldCollections.{filter_lives}

@@ -1,16 +1,15 @@
 -- What nothing holds is dying: of the parts of a world. A step that moves what entries or activities held to another activity
 -- keeps it so. A weak reference has one entry at most, so that no more is lost when its callback is taken out.
-use Rattle.std.proofs.Common.{◌≡◌, ◌≢◌, refl, sym, ◌∙◌, ap, subst, ℕ, zero, suc, ◌+◌, ◌-◌, ◌<◌, ◌≤◌, Bool, true, false, inl, inr, ◌⊎◌, List, [], ◌∷◌, ◌++◌, length, map, Option, Some, None, arith}
-use Rattle.std.specs.Prelude.{◌==◌, ◌||◌, if◌then◌else◌, drop, filter, flat_map, not, option_map, option_to_list, remove, slice_get, slice_set, take, unwrap_or}
+use Rattle.std.proofs.Common.{◌≡◌, ◌≢◌, refl, sym, ◌∙◌, subst, ℕ, ◌-◌, ◌<◌, Bool, true, false, inl, inr, ◌⊎◌, List, [], ◌∷◌, ◌++◌, length, map, Option, None}
+use Rattle.std.specs.Prelude.{◌==◌, ◌||◌, if◌then◌else◌, flat_map}
 use Rattle.std.specs.List.{list_any}
-use Rattle.std.proofs.lemmas.Bool.{eqb-true, eq-eqb}
 use Rattle.cg_value.specs.declared.Val.{Val}
 use Rattle.cg_value.specs.declared.Entry.{Entry}
 use Rattle.cg_value.specs.declared.Place.{Place}
 use Rattle.cg_value.specs.declared.KindCode.TheVariants.{Tuple, Weak}
 use Rattle.cg_graph.specs.Member.{Includes}
-use Rattle.cg_graph.specs.Value.{entry_at, entry_references, item, last_entry, put, reference_in, references, references_of_value, same_value, value_at, without_key, without_last}
-use Rattle.cg_graph.specs.Object.{Object, change, entries_of, object_at, serials, with_entries, with_place, with_referent}
+use Rattle.cg_graph.specs.Value.{item, references}
+use Rattle.cg_graph.specs.Object.{Object, change, serials, with_place, with_referent}
 use Rattle.cg_graph.specs.Holdings.{entry_holdings, graph_of, name_holdings}
 use Rattle.cg_graph.proofs.Members.{either, Includes-append_left, Includes-append_right, Includes-append_cases, Includes-map, Includes-map_cases}
 use Rattle.cg_machine.specs.declared.event.Event.TheVariants.{Enter, BudgetSpent}
@@ -22,8 +21,6 @@ use Rattle.cg_machine.specs.Holdings.{holdings, holds, in_degree, is_death_of}
 use Rattle.cg_machine.proofs.Releasing.{entry_holder, no_times, none_holds}
 use Rattle.cg_script.specs.declared.Script.{Script}
 use Rattle.cg_machine.specs.Weak.{loses_referent}
-use Rattle.cg_machine.proofs.Serials.{Rises}
-use Rattle.cg_machine.proofs.Lookups.{at_member}
 use Rattle.cg_promises.proofs.Told.{Marks, Old, old_lives, old_trans, if_old, same_old}
 
 -- nothing holds an object

@@ -11,19 +11,19 @@ use Rattle.cg_script.specs.declared.Script.{Script}
 use Rattle.cg_graph.specs.Member.{Includes, includes}
 use Rattle.cg_graph.specs.Value.{entry_references, item, last_entry, without_last}
 use Rattle.cg_graph.specs.Object.{Object, change, object_at, entries_of, is_at, is_in_map, is_tuple, marked, serials_at, with_entries, with_place}
-use Rattle.cg_graph.proofs.Members.{either, Includes-append_left, Includes-map, Includes-map_cases}
+use Rattle.cg_graph.proofs.Members.{Includes-append_left, Includes-map, Includes-map_cases}
 use Rattle.cg_machine.specs.declared.event.Event.{Event}
 use Rattle.cg_machine.specs.declared.event.Event.TheVariants.{GcSaved}
 use Rattle.cg_machine.specs.declared.event.FrameSort.TheVariants.{Del, Callback}
-use Rattle.cg_machine.specs.World.{World, Activity, Releasing, Collecting, Collection, CollectPhase, Start, WeakClearing, WeakCalling, AfterCallback, AfterRelease, Finalizing, AfterFinalizing, Split, Turns, Turn, AfterTurn, Ending, push, with_change, with_objects, with_stack}
+use Rattle.cg_machine.specs.World.{World, Activity, Releasing, Collecting, Collection, CollectPhase, Start, WeakClearing, WeakCalling, AfterCallback, AfterRelease, Finalizing, AfterFinalizing, Split, Turns, Turn, AfterTurn, Ending, with_change, with_objects}
 use Rattle.cg_machine.specs.Holdings.{collect_holds}
 use Rattle.cg_machine.specs.Frame.{Transition, procedure_of}
 use Rattle.cg_machine.specs.Weak.{AllLose, callback_of, loses_referent}
 use Rattle.cg_machine.specs.Dying.{finalizer_to_run}
-use Rattle.cg_machine.specs.Collect.{all_saved, calls_back, after_release, collection_at, empties, get_older, has_flag, looks_at, loses_at_split, merged, merged_place, older, replaced_place, save_all, saved, sorted, takes_turn, waits, EndStep, FinalizingStep, PhaseStep, SplitStep, StartStep, TurnsStep, WeakClearingStep}
+use Rattle.cg_machine.specs.Collect.{all_saved, calls_back, after_release, collection_at, empties, get_older, has_flag, looks_at, loses_at_split, merged, merged_place, older, save_all, saved, sorted, takes_turn, waits, EndStep, FinalizingStep, PhaseStep, SplitStep, StartStep, TurnsStep, WeakClearingStep}
 use Rattle.cg_machine.proofs.Serials.{Rises}
 use Rattle.cg_promises.proofs.Told.{map_old}
-use Rattle.cg_promises.proofs.Minded.{IsMinded, IsPlainly, IsSingle, Keeps, Minded, change_keeps, either_minded, end_minded, give_minded, keeps_same, keeps_trans, lost_keeps, placed, plain_keeps, starts_minded, test_keeps, turn_minded}
+use Rattle.cg_promises.proofs.Minded.{IsMinded, IsSingle, Keeps, Minded, change_keeps, either_minded, end_minded, give_minded, keeps_same, keeps_trans, lost_keeps, placed, plain_keeps, starts_minded, test_keeps, turn_minded}
 use Rattle.cg_promises.proofs.Moved.{appended_goes, shortened_keeps}
 
 -- places that depend on the object

@@ -1,5 +1,5 @@
 -- Commands: what a name or an entry held is held still, or given up, and what is made is bound to a name.
-use Rattle.std.proofs.Common.{◌≡◌, ◌≢◌, refl, sym, ◌∙◌, ap, subst, ℕ, zero, suc, ◌+◌, ◌<◌, Bool, true, false, not, ◌&&◌, inl, inr, ◌⊎◌, List, [], ◌∷◌, ◌++◌, length, map, Option, Some, None, Result, Ok, Err, arith}
+use Rattle.std.proofs.Common.{◌≡◌, ◌≢◌, refl, sym, ◌∙◌, ap, subst, ℕ, zero, suc, ◌<◌, Bool, true, false, not, ◌&&◌, inl, inr, ◌⊎◌, List, [], ◌∷◌, ◌++◌, length, map, Option, Some, None, Ok, Err, arith}
 use Rattle.std.specs.Prelude.{◌==◌, ◌||◌, if◌then◌else◌, is_some, ok_or, option_and_then, remove, slice_get, slice_set}
 use Rattle.std.proofs.lemmas.Bool.{eqb-true, and_parts}
 use Rattle.cg_value.specs.declared.Val.{Val}
@@ -19,11 +19,11 @@ use Rattle.cg_graph.specs.Object.{Object, change, first_place, is_tracked, objec
 use Rattle.cg_graph.specs.Holdings.{name_holdings}
 use Rattle.cg_graph.proofs.Members.{either, Includes-append_left, Includes-append_right, Includes-append_cases, Includes-map, Includes-map_cases}
 use Rattle.cg_machine.specs.World.{World, Numbers, with_change}
-use Rattle.cg_machine.specs.Refusals.{no_attribute, no_index, no_key, not_callable, unhashable, wrong_kind, ◌>>=◌}
+use Rattle.cg_machine.specs.Refusals.{no_attribute, no_index, no_key, wrong_kind}
 use Rattle.cg_machine.specs.Operands.{is_dict, is_list, is_script_list, object, object_of, tested, values}
 use Rattle.cg_machine.specs.Effects.{Calls, Changes, Collects, Effect, Quits, bound, callback_entries, frozen, given_up_by, has_room, makes, may_track, puts, replaced, tracked_by, unfrozen}
 use Rattle.cg_machine.specs.Commands.{effect}
-use Rattle.cg_machine.specs.Weak.{is_function, is_instance}
+use Rattle.cg_machine.specs.Weak.{is_instance}
 use Rattle.cg_machine.proofs.CommandLaws.{Each, checked}
 use Rattle.cg_machine.proofs.CommandRefs.{each_some, each_then}
 use Rattle.cg_machine.proofs.Lookups.{found_at, same_object}

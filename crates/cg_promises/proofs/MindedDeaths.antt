@@ -1,8 +1,8 @@
 -- Releases, deaths and the end of a frame: what nothing holds is dying still.
-use Rattle.std.proofs.Common.{◌≡◌, ◌≢◌, refl, sym, ◌∙◌, ap, subst, ℕ, ◌-◌, Bool, true, false, not, ◌&&◌, inl, inr, ◌⊎◌, List, [], ◌∷◌, ◌++◌, Option, Some, None, arith}
-use Rattle.std.specs.Prelude.{◌==◌, ◌||◌, if◌then◌else◌, filter, flat_map, is_some, option_and_then, option_to_list, unwrap_or}
+use Rattle.std.proofs.Common.{◌≡◌, ◌≢◌, refl, sym, ◌∙◌, ap, subst, ℕ, Bool, true, false, not, ◌&&◌, inl, inr, ◌⊎◌, List, [], ◌∷◌, ◌++◌, Option, Some, None}
+use Rattle.std.specs.Prelude.{◌==◌, ◌||◌, if◌then◌else◌, flat_map, is_some, option_and_then, option_to_list, unwrap_or}
 use Rattle.std.specs.List.{list_any}
-use Rattle.std.proofs.lemmas.Bool.{eqb-true, eq-eqb, and_parts}
+use Rattle.std.proofs.lemmas.Bool.{eqb-true, eq-eqb}
 use Rattle.cg_value.specs.declared.Entry.{Entry}
 use Rattle.cg_value.specs.declared.KindCode.TheVariants.{Weak}
 use Rattle.cg_value.specs.declared.Place.TheVariants.{Untracked, Gen}
@@ -16,14 +16,14 @@ use Rattle.cg_machine.specs.declared.event.Event.TheVariants.{Alive}
 use Rattle.cg_machine.specs.declared.event.FrameSort.{FrameSort}
 use Rattle.cg_machine.specs.declared.event.FrameSort.TheVariants.{Del, Legacy, Callback, Call}
 use Rattle.cg_machine.specs.Program.{legacy_of}
-use Rattle.cg_machine.specs.World.{World, Activity, Framed, Releasing, Dying, Frame, DyingPhase, Finalizer, AfterFinalizer, Clearing, Calling, AfterCall, LegacyFinalizer, AfterLegacy, Detaching, Emptying, push, with_stack, with_change}
+use Rattle.cg_machine.specs.World.{World, Activity, Framed, Releasing, Dying, Frame, DyingPhase, Finalizer, AfterFinalizer, Clearing, Calling, AfterCall, LegacyFinalizer, AfterLegacy, Detaching, Emptying, with_stack, with_change}
 use Rattle.cg_machine.specs.Holdings.{dying_holds, holds, in_degree, is_death_of, is_dying}
 use Rattle.cg_machine.specs.Frame.{Transition, frame_end, gives_up_function, begin_death, released, procedure_of}
 use Rattle.cg_machine.specs.Weak.{has_weak_references, weak_references_if, loses_referent, callback_of}
 use Rattle.cg_machine.specs.Dying.{death_at, has_finalizers, finalizer_to_run, run_finalizer, run_legacy, after_frame, clear_one, call_one, detach_one, empty_one, dying}
 use Rattle.cg_machine.proofs.Serials.{Rises}
 use Rattle.cg_promises.proofs.Told.{old_lives, origin_lives, without_gone, without_old}
-use Rattle.cg_promises.proofs.Minded.{AreSingle, IsFree, IsMinded, IsPlainly, Keeps, Minded, Minds, change_keeps, either_minded, end_minded, free_degree, give_minded, keeps_same, lost_keeps, placed, starts_minded, stack_minded, turn_minded}
+use Rattle.cg_promises.proofs.Minded.{IsFree, IsMinded, Keeps, Minded, Minds, change_keeps, end_minded, free_degree, give_minded, keeps_same, lost_keeps, placed, starts_minded, stack_minded, turn_minded}
 use Rattle.cg_promises.proofs.Moved.{called_keeps, entries_of_member, last_none, shortened_keeps}
 
 not_false : (b : Bool) → not b ≡ false → b ≡ true

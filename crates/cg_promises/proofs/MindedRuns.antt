@@ -1,29 +1,29 @@
 -- In every world of a run what nothing holds is dying.
-use Rattle.std.proofs.Common.{◌≡◌, refl, sym, ◌∙◌, ap, subst, ℕ, ◌<◌, Bool, true, false, inl, inr, List, [], ◌∷◌, ◌++◌, length, Option, Some, None, Result, Ok, Err, arith}
-use Rattle.std.specs.Prelude.{if◌then◌else◌, flat_map, replicate}
+use Rattle.std.proofs.Common.{◌≡◌, refl, sym, ◌∙◌, subst, ℕ, ◌<◌, Bool, true, false, inl, inr, List, [], ◌∷◌, length, Option, Some, None, Result, Ok, Err}
+use Rattle.std.specs.Prelude.{if◌then◌else◌, flat_map}
 use Rattle.std.proofs.lemmas.List.{length-replicate}
 use Rattle.cg_value.specs.declared.KindCode.TheVariants.{List as ListKind, Tuple, Weak}
 use Rattle.cg_script.specs.declared.Script.{Script}
 use Rattle.cg_script.specs.declared.Command.{Command}
 use Rattle.cg_script.specs.Texts.{TextsAreKnown, command_texts}
 use Rattle.cg_graph.specs.Member.{Includes}
-use Rattle.cg_graph.specs.Object.{Object, serials}
+use Rattle.cg_graph.specs.Object.{Object}
 use Rattle.cg_graph.proofs.Members.{either, Includes-append_left, Includes-append_right, Includes-map}
 use Rattle.cg_machine.specs.declared.event.Event.{Event}
 use Rattle.cg_machine.specs.declared.event.Event.TheVariants.{Collected}
 use Rattle.cg_machine.specs.declared.event.FrameSort.TheVariants.{Call as CallFrame}
-use Rattle.cg_machine.specs.World.{World, Activity, TopLevel, Framed, Releasing, Dying, Collecting, Frame, DyingPhase, Calling, garbage_list, opening, push, with_stack}
-use Rattle.cg_machine.specs.Holdings.{holds, in_degree, is_collecting, is_death_of}
+use Rattle.cg_machine.specs.World.{World, Activity, TopLevel, Framed, Releasing, Dying, Collecting, Frame, DyingPhase, Calling, opening, push, with_stack}
+use Rattle.cg_machine.specs.Holdings.{holds, is_collecting}
 use Rattle.cg_machine.specs.Frame.{Transition, procedure_of}
 use Rattle.cg_machine.specs.Effects.{Calls, Changes, Collects, Effect, Quits}
-use Rattle.cg_machine.specs.Commands.{CommandStep, DoesEffect, effect, new_collection, stopped_frame, without_commands}
+use Rattle.cg_machine.specs.Commands.{DoesEffect, effect, new_collection, stopped_frame, without_commands}
 use Rattle.cg_machine.specs.Due.{due}
-use Rattle.cg_machine.specs.Origins.{all_commands, commands_on}
-use Rattle.cg_machine.specs.Run.{CommandInFrame, FrameStep, Run, Step, StepOf, StepTaken, TopLevelStep, last_world}
+use Rattle.cg_machine.specs.Origins.{commands_on}
+use Rattle.cg_machine.specs.Run.{CommandInFrame, FrameStep, Run, StepOf, StepTaken, TopLevelStep, last_world}
 use Rattle.cg_machine.specs.Laws.{UnheldIsDying, all_waits}
 use Rattle.cg_machine.proofs.CommandLaws.{Each, LeavesStack, effect_leaves}
 use Rattle.cg_machine.proofs.DyingOrderly.{HasOrder}
-use Rattle.cg_machine.proofs.Origins.{AreOfScript, IsAllOfScript}
+use Rattle.cg_machine.proofs.Origins.{IsAllOfScript}
 use Rattle.cg_machine.proofs.OriginsOfRuns.{opening_origin, step_origin}
 use Rattle.cg_machine.proofs.PrintableTexts.{commands_name_texts}
 use Rattle.cg_machine.proofs.RunsCalm.{HasCommands, turned}
@@ -36,7 +36,7 @@ use Rattle.cg_script.specs.declared.Operand.{Operand}
 use Rattle.cg_value.specs.declared.Val.{Val}
 use Rattle.cg_promises.proofs.ToldCommands.{lives_or_not}
 use Rattle.cg_machine.proofs.Serials.{Rises}
-use Rattle.cg_promises.proofs.Minded.{IsFree, IsMinded, IsSingle, Keeps, Minded, Minds, degree_free, keeps_same, push_minded, starts_minded, turn_minded}
+use Rattle.cg_promises.proofs.Minded.{IsMinded, IsSingle, Minded, degree_free, keeps_same, push_minded, starts_minded, turn_minded}
 use Rattle.cg_promises.proofs.MindedDeaths.{dying_minded, frame_end_minded, released_minded}
 use Rattle.cg_promises.proofs.MindedCollections.{phase_minded}
 use Rattle.cg_promises.proofs.MindedCommands.{AreMadeIn, Shifting, Shifts, effect_shifts}

@@ -1,7 +1,7 @@
 -- While a collection is under way no condemned object has a legacy finalizer, and those that were looked at have no finalizer to
 -- run.
-use Rattle.std.proofs.Common.{◌≡◌, ◌≢◌, refl, sym, ◌∙◌, ap, subst, ℕ, ◌+◌, ◌-◌, ◌<◌, ◌≤◌, Bool, true, false, not, ◌&&◌, inl, inr, ◌⊎◌, List, [], ◌∷◌, ◌++◌, map, length, Option, Some, None, arith}
-use Rattle.std.specs.Prelude.{◌==◌, ◌||◌, count_by, if◌then◌else◌, is_some, nat_le, option_and_then, unwrap_or}
+use Rattle.std.proofs.Common.{◌≡◌, ◌≢◌, refl, sym, ◌∙◌, ap, subst, ℕ, ◌+◌, ◌-◌, Bool, true, false, not, ◌&&◌, inl, inr, ◌⊎◌, List, [], ◌∷◌, ◌++◌, map, length, Option, Some, None, arith}
+use Rattle.std.specs.Prelude.{◌==◌, ◌||◌, if◌then◌else◌, is_some, nat_le, option_and_then, unwrap_or}
 use Rattle.std.proofs.lemmas.Bool.{eqb-true}
 use Rattle.cg_value.specs.declared.Entry.{Entry}
 use Rattle.cg_value.specs.declared.Place.{Place}
@@ -9,21 +9,21 @@ use Rattle.cg_value.specs.declared.Place.TheVariants.{Untracked, Gen, Frozen, Ca
 use Rattle.cg_value.specs.declared.Val.TheVariants.{Ref}
 use Rattle.cg_script.specs.declared.Script.{Script}
 use Rattle.cg_graph.specs.Member.{Includes, includes}
-use Rattle.cg_graph.specs.Reach.{Reach, Unreachable, first}
+use Rattle.cg_graph.specs.Reach.{first}
 use Rattle.cg_graph.specs.Value.{entry_references, item, last_entry, without_last}
-use Rattle.cg_graph.specs.Object.{Object, change, object_at, objects_at, entries_of, is_at, is_in_map, is_tracked, is_tuple, marked, same_place, serials, serials_at, with_entries, with_place, with_referent}
+use Rattle.cg_graph.specs.Object.{Object, change, object_at, objects_at, entries_of, is_at, is_in_map, is_tracked, is_tuple, marked, same_place, serials_at, with_entries, with_place, with_referent}
 use Rattle.cg_graph.proofs.Members.{either, Includes-filter, Includes-map, Includes-map_cases}
 use Rattle.cg_machine.specs.declared.event.Event.{Event}
 use Rattle.cg_machine.specs.declared.event.Event.TheVariants.{BudgetSpent, Enter, GcSaved}
 use Rattle.cg_machine.specs.declared.event.FrameSort.TheVariants.{Del, Callback}
 use Rattle.cg_machine.specs.declared.event.FrameSpec.{FrameSpec}
 use Rattle.cg_machine.specs.Program.{body_of, finalizer_of, legacy_of}
-use Rattle.cg_machine.specs.World.{World, Activity, Framed, Releasing, Collecting, Collection, CollectPhase, Start, WeakClearing, WeakCalling, AfterCallback, AfterRelease, Finalizing, AfterFinalizing, Split, Turns, Turn, AfterTurn, Ending, BudgetIsSpent, push, with_change, with_objects, with_stack}
+use Rattle.cg_machine.specs.World.{World, Activity, Framed, Releasing, Collecting, Collection, CollectPhase, Start, WeakClearing, WeakCalling, AfterCallback, AfterRelease, Finalizing, AfterFinalizing, Split, Turns, Turn, AfterTurn, Ending, BudgetIsSpent, with_change, with_objects}
 use Rattle.cg_machine.specs.Frame.{Transition, procedure_of, start_frame}
 use Rattle.cg_machine.specs.Weak.{AllLose, callback_of, loses_referent}
 use Rattle.cg_machine.specs.Dying.{finalizer_to_run}
 use Rattle.cg_machine.specs.Operands.{is_dict}
-use Rattle.cg_machine.specs.Collect.{IsGarbage, IsSetAside, IsMemberOf, NoneAt, Survives, all_saved, calls_back, after_release, collection_at, empties, get_older, has_flag, has_legacy, has_none_tracked, looks_at, loses_at_split, members_at, merged, merged_place, older, replaced_place, save_all, saved, sorted, survivor_place, takes_turn, untrack, untracked_if, waits, EndStep, FinalizingStep, PhaseStep, SplitStep, Sorts, StartStep, TurnsStep, WeakClearingStep}
+use Rattle.cg_machine.specs.Collect.{IsGarbage, IsSetAside, IsMemberOf, Survives, all_saved, calls_back, after_release, collection_at, empties, get_older, has_flag, has_legacy, has_none_tracked, looks_at, loses_at_split, merged, merged_place, older, save_all, saved, sorted, survivor_place, takes_turn, untrack, untracked_if, waits, EndStep, FinalizingStep, PhaseStep, SplitStep, Sorts, StartStep, TurnsStep, WeakClearingStep}
 use Rattle.cg_machine.specs.Laws.{HadItsPlace, IsOfCollection}
 use Rattle.cg_machine.proofs.Serials.{Rises, Rises-map}
 use Rattle.cg_machine.proofs.Forgotten.{lives_within}
@@ -373,11 +373,11 @@ module _ (script : Script) (w after : World) (rises : Rises 1 w.next_serial w.ob
   stood : (y : Object) → Includes after.objects y → IsOfCollection y.place → (x : Object) × Includes w.objects x × (x.place ≡ y.place) × Marks x y
   stood y m k = either (follows y m)
       (λ x. let had = places y m k in
-          let one : had.0 ≡ x.0 = same_object 1 w.next_serial w.objects had.0 x.0 rises had.1 x.1 (had.2 ∙ x.2.serial) in
-          (x.0, x.1, ap (λ (z : Object). z.place) (sym one) ∙ sym had.3, x.2))
+      let one : had.0 ≡ x.0 = same_object 1 w.next_serial w.objects had.0 x.0 rises had.1 x.1 (had.2 ∙ x.2.serial) in
+      (x.0, x.1, ap (λ (z : Object). z.place) (sym one) ∙ sym had.3, x.2))
       (λ e. let had = places y m k in
-          let within = lives_within 1 w.next_serial w.objects had.0.serial rises (Includes-map (λ (z : Object). z.serial) w.objects had.0 had.1) in
-          absurd (let s = had.2 in omega (arith, within.1, s, e)))
+      let within = lives_within 1 w.next_serial w.objects had.0.serial rises (Includes-map (λ (z : Object). z.serial) w.objects had.0 had.1) in
+      absurd (let s = had.2 in omega (arith, within.1, s, e)))
 
   wanted_apart : (p : Place) → IsWanted p → IsOfCollection p
   wanted_apart Cand w = tt

@@ -8,8 +8,7 @@ use Rattle.cg_graph.specs.Member.{Includes}
 use Rattle.cg_graph.specs.Object.{Object, serials}
 use Rattle.cg_graph.proofs.Members.{either, Includes-append_cases, Includes-append_right, Includes-map, Includes-map_cases}
 use Rattle.cg_machine.specs.declared.event.Event.{Event}
-use Rattle.cg_machine.specs.declared.event.Event.TheVariants.{Enter, Free, Made, Leave, Cleared, Alive, GcStart, GcCollectable, GcUncollectable, GcSaved, GcStop, Collected, Value, RefCount, Tracked, Finalized, Count, Gens, Refused, BudgetSpent, End}
-use Rattle.cg_machine.specs.declared.event.FrameSort.{FrameSort}
+use Rattle.cg_machine.specs.declared.event.Event.TheVariants.{Enter, Free, Made, Leave, Cleared, Alive, GcStart, GcCollectable, GcUncollectable, GcSaved, GcStop, Collected, Value, RefCount, Tracked, Finalized}
 use Rattle.cg_machine.specs.declared.event.FrameSort.TheVariants.{Del, Legacy, Callback, Call}
 use Rattle.cg_machine.specs.World.{World, opening}
 use Rattle.cg_machine.specs.Holdings.{holdings}
@@ -18,7 +17,7 @@ use Rattle.cg_machine.specs.Laws.{IsGone, NoDeadNames, OneFinalizerEach, is_fina
 use Rattle.cg_machine.proofs.Forgotten.{lives_within}
 use Rattle.cg_machine.proofs.Releasing.{no_times}
 use Rattle.cg_machine.proofs.RunsOrderly.{held_live}
-use Rattle.cg_promises.proofs.Told.{AreTold, Begins, Follows, Goes, IsPlain, IsTold, Says}
+use Rattle.cg_promises.proofs.Told.{Begins, Goes, IsPlain, Says}
 use Rattle.cg_promises.proofs.ToldRuns.{Fit, opening_fit, run_back, run_front, run_fit, step_fit, step_goes}
 
 -- The finalizer of an object begins.
@@ -70,9 +69,10 @@ module _ (script : Script) (n : ℕ) where
   begun : (w after : World) (m : ℕ) → Fit script w → Begins w.objects after.objects m → Counts n w (Enter Del m) after
   begun w after m fit b = record {
     spent = λ s. go (m == n) refl s;
-    spends = λ t. let same = eqb-true m n t in
-        ((lives_within 1 w.next_serial w.objects n fit.sound.rises (subst (Includes (serials w.objects)) (b.serial ∙ same) (Includes-map (λ (z : Object). z.serial) w.objects b.object b.member))).1,
-        λ y k e. b.marked y k (e ∙ sym same));
+    spends = λ t. let same = eqb-true m n t in (
+      (lives_within 1 w.next_serial w.objects n fit.sound.rises (subst (Includes (serials w.objects)) (b.serial ∙ same) (Includes-map (λ (z : Object). z.serial) w.objects b.object b.member))).1,
+      λ y k e. b.marked y k (e ∙ sym same),
+    );
   }
     where
       go : (t : Bool) → (m == n) ≡ t → IsSpent n w → t ≡ false
@@ -177,9 +177,9 @@ module _ (script : Script) (n : ℕ) where
   frees w after events front back fit h e = either h.told
       (λ t. absurd ((t (Free n) (subst (λ es. Includes es (Free n)) (sym e) (Includes-append_right front (Free n ∷ back) (Free n) (inl refl)))).0))
       (λ t. let k = one_free front back t.0 (sym e ∙ t.1) in
-          let says : Includes (serials w.objects) n × ¬ Includes (serials after.objects) n = subst (Says w.objects after.objects) k.1 t.2 in
-          let within = (lives_within 1 w.next_serial w.objects n fit.sound.rises says.0).1 in
-          (k.0, record { made = omega (arith, within, h.serial); gone = says.1 }))
+      let says : Includes (serials w.objects) n × ¬ Includes (serials after.objects) n = subst (Says w.objects after.objects) k.1 t.2 in
+      let within = (lives_within 1 w.next_serial w.objects n fit.sound.rises says.0).1 in
+      (k.0, record { made = omega (arith, within, h.serial); gone = says.1 }))
 
 pub no_names_of_dead : NoDeadNames
 no_names_of_dead script budget before step after run n front back e =
@@ -189,6 +189,7 @@ no_names_of_dead script budget before step after run n front back e =
     let goes = step_goes script w step.events step.world rest.0 fit in
     let now = step_fit script w step.events step.world rest.0 fit in
     let freed = frees script n w step.world step.events front back fit goes e in
-    let ends = run_gone script n step.world after rest.1 now freed.1 in
-    (gone_now script n (last_world step.world after) (run_fit script step.world after rest.1 now) ends.0,
-    λ event m. ends.1 event (subst (λ (b : List Event). Includes (b ++ events_of after) event) freed.0 m))
+    let ends = run_gone script n step.world after rest.1 now freed.1 in (
+      gone_now script n (last_world step.world after) (run_fit script step.world after rest.1 now) ends.0,
+      λ event m. ends.1 event (subst (λ (b : List Event). Includes (b ++ events_of after) event) freed.0 m),
+    )

@@ -1,6 +1,6 @@
 -- The members of a final set, while its collection goes on: only members and releases hold them, they refer to nothing weakly
 -- and nothing to them, no finalizer of theirs is to run, and no frame has them. What a step has to do to keep that.
-use Rattle.std.proofs.Common.{◌≡◌, ◌≢◌, refl, sym, ◌∙◌, ap, subst, ℕ, ◌+◌, ◌-◌, ◌<◌, ◌≤◌, Bool, true, false, inl, inr, ◌⊎◌, List, [], ◌∷◌, ◌++◌, map, Option, Some, None, arith}
+use Rattle.std.proofs.Common.{◌≡◌, ◌≢◌, refl, sym, ◌∙◌, ap, subst, ℕ, ◌-◌, ◌<◌, ◌≤◌, Bool, true, false, inl, inr, ◌⊎◌, List, [], ◌∷◌, map, Option, Some, None, arith}
 use Rattle.std.specs.Prelude.{◌==◌, ◌||◌, if◌then◌else◌, is_some}
 use Rattle.std.specs.List.{list_any}
 use Rattle.std.proofs.lemmas.Bool.{eqb-true}
@@ -216,8 +216,8 @@ module _ (script : Script) (members : List ℕ) where
       → ((n : ℕ) → Includes members n → list_any (is_death_of n) stack ≡ true → list_any (is_death_of n) to ≡ true) → Sealed script members before names stack next → (y : Object) → Includes after y → Includes members y.serial → Excused to y
   comes_excused before after names stack to next comes turns deaths h y m k = either (comes y m)
       (λ x. let inside = subst (Includes members) x.2.later.serial k in either x.3
-          (λ fewer. still_excused stack to x.0 y x.2 fewer.0 (λ e w. inr (inr (inr (fewer.1 e, subst (NotAfter to) (sym x.2.later.serial) (turns x.0.serial w))))) (deaths x.0.serial inside) (h.excused x.0 x.1 inside))
-          (λ clean. absurd (clean.0 inside)))
+      (λ fewer. still_excused stack to x.0 y x.2 fewer.0 (λ e w. inr (inr (inr (fewer.1 e, subst (NotAfter to) (sym x.2.later.serial) (turns x.0.serial w))))) (deaths x.0.serial inside) (h.excused x.0 x.1 inside))
+      (λ clean. absurd (clean.0 inside)))
       (λ new. let low = h.made y.serial k in absurd (let e = new.0 in omega (arith, low, e)))
 
   -- objects shrink, and the stack goes on
@@ -255,9 +255,9 @@ module _ (script : Script) (members : List ℕ) where
       excused : (y : Object) → Includes after y → Includes members y.serial → Excused below y
       excused y m k = either (comes y m)
           (λ x. let inside = subst (Includes members) x.2.later.serial k in either x.3
-              (λ fewer. still_excused (a ∷ below) below x.0 y x.2 fewer.0 (λ e w. inr (inr (inr (fewer.1 e, λ c i. subst (λ s. c.phase ≢ AfterTurn s) (sym x.2.later.serial) (w c (inr i))))))
-              (λ e. subst (λ t. (t || list_any (is_death_of x.0.serial) below) ≡ true) (apart x.0.serial inside (subst (Includes (serials after)) x.2.later.serial (Includes-map (λ (z : Object). z.serial) after y m))) e) (h.excused x.0 x.1 inside))
-              (λ clean. absurd (clean.0 inside)))
+          (λ fewer. still_excused (a ∷ below) below x.0 y x.2 fewer.0 (λ e w. inr (inr (inr (fewer.1 e, λ c i. subst (λ s. c.phase ≢ AfterTurn s) (sym x.2.later.serial) (w c (inr i))))))
+          (λ e. subst (λ t. (t || list_any (is_death_of x.0.serial) below) ≡ true) (apart x.0.serial inside (subst (Includes (serials after)) x.2.later.serial (Includes-map (λ (z : Object). z.serial) after y m))) e) (h.excused x.0 x.1 inside))
+          (λ clean. absurd (clean.0 inside)))
           (λ new. let low = h.made y.serial k in absurd (let e = new.0 in omega (arith, low, e)))
 
   -- one object changes its place, and is excused by something else

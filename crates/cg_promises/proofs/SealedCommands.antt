@@ -1,6 +1,6 @@
 -- Commands reach no member: what an operand refers to, what an object that it finds holds, and what a weak reference refers to
 -- is none.
-use Rattle.std.proofs.Common.{◌≡◌, ◌≢◌, refl, sym, ◌∙◌, ap, subst, ℕ, zero, suc, ◌+◌, ◌<◌, ◌≤◌, Bool, true, false, not, ◌&&◌, inl, inr, ◌⊎◌, List, [], ◌∷◌, ◌++◌, length, map, Option, Some, None, Result, Ok, Err, arith}
+use Rattle.std.proofs.Common.{◌≡◌, ◌≢◌, refl, sym, ◌∙◌, ap, subst, ℕ, ◌≤◌, Bool, true, false, not, ◌&&◌, inl, inr, List, [], ◌∷◌, ◌++◌, map, Option, Some, None, Ok, Err, arith}
 use Rattle.std.specs.Prelude.{◌==◌, ◌||◌, if◌then◌else◌, is_some, ok_or, option_map, option_and_then, remove, slice_get, slice_set, unwrap_or}
 use Rattle.std.proofs.lemmas.Bool.{eqb-true}
 use Rattle.cg_value.specs.declared.Val.{Val}
@@ -16,7 +16,7 @@ use Rattle.cg_script.specs.declared.Operand.TheVariants.{None as NoneWord, Int a
 use Rattle.cg_script.specs.declared.Command.{Command}
 use Rattle.cg_script.specs.declared.Command.TheVariants.{MakeList, MakeTuple, MakeDict, MakeInst, MakeFunc, MakeRef, Bind, Del, Append, SetItem, DelItem, Put, Remove, SetAttr, DelAttr, Item, Get, Attr, Deref, Call, Quit, Collect, Enable, Disable, Threshold, Flags, Freeze, Unfreeze, Print, Refs, Tracked, Finalized, Count, Gens}
 use Rattle.cg_graph.specs.Member.{Includes}
-use Rattle.cg_graph.specs.Value.{entry_at, entry_references, item, put, reference_in, references, references_of_value, value_at, without_key}
+use Rattle.cg_graph.specs.Value.{item, put, reference_in, references_of_value, value_at, without_key}
 use Rattle.cg_graph.specs.Object.{Object, change, entries_of, first_place, is_tracked, object_at, with_entries, with_place}
 use Rattle.cg_graph.specs.Holdings.{name_holdings}
 use Rattle.cg_graph.proofs.Members.{either, Includes-append_cases, Includes-map_cases}
@@ -25,9 +25,9 @@ use Rattle.cg_machine.specs.declared.event.Event.TheVariants.{Made, Value, RefCo
 use Rattle.cg_machine.specs.declared.event.FrameSort.{FrameSort}
 use Rattle.cg_machine.specs.declared.event.FrameSort.TheVariants.{Del as DelFrame, Legacy as LegacyFrame, Callback, Call as CallFrame}
 use Rattle.cg_machine.specs.World.{World, Activity, Framed, Frame, Numbers, with_change}
-use Rattle.cg_machine.specs.Refusals.{no_attribute, no_index, no_key, not_callable, not_weak, unhashable, wrong_kind, ◌>>=◌}
+use Rattle.cg_machine.specs.Refusals.{no_attribute, no_index, no_key, not_callable, not_weak, wrong_kind}
 use Rattle.cg_machine.specs.Operands.{frame_on, is_dict, is_list, is_script_list, is_sequence, is_weak, object, object_of, self_in, tested, value, value_of, values, weak_in}
-use Rattle.cg_machine.specs.Effects.{Calls, Changes, Collects, Effect, Quits, bound, callback_entries, frozen, gens_line, given_up_by, has_room, makes, may_track, puts, replaced, tracked_by, unfrozen}
+use Rattle.cg_machine.specs.Effects.{Calls, Changes, Collects, Effect, Quits, bound, callback_entries, frozen, gens_line, has_room, makes, may_track, puts, replaced, tracked_by, unfrozen}
 use Rattle.cg_machine.specs.Commands.{effect}
 use Rattle.cg_machine.specs.Weak.{has_weak_references, is_function, is_instance}
 use Rattle.cg_machine.specs.Laws.{is_stop, named}
@@ -35,7 +35,7 @@ use Rattle.cg_machine.proofs.CommandLaws.{Each, checked}
 use Rattle.cg_machine.proofs.CommandRefs.{HoldNone, IsNotTo, append_free, bound_free, cons_free, each_some, each_then, entry_val, got_free, item_free, name_free, option_free, option_held, put_free, removed_free, set_free, value_at_free, without_key_free}
 use Rattle.cg_machine.proofs.Forgotten.{later_refl}
 use Rattle.cg_machine.proofs.Lookups.{found_at}
-use Rattle.cg_promises.proofs.Sealed.{Comes, Fits, IsClean, IsLesser, Sealed, TellsStill, none_out, one_still}
+use Rattle.cg_promises.proofs.Sealed.{Comes, IsClean, IsLesser, Sealed, TellsStill, none_out, one_still}
 
 -- places of a collection stay
 frozen_legacy : (p : Place) → frozen p ≡ Legacy → p ≡ Legacy

@@ -1,6 +1,6 @@
 -- Releases, deaths and the collection itself keep the members sealed.
-use Rattle.std.proofs.Common.{◌≡◌, ◌≢◌, refl, sym, ◌∙◌, ap, subst, ℕ, ◌<◌, ◌-◌, Bool, true, false, not, ◌&&◌, inl, inr, ◌⊎◌, List, [], ◌∷◌, ◌++◌, Option, Some, None, arith}
-use Rattle.std.specs.Prelude.{◌==◌, ◌||◌, if◌then◌else◌, filter, is_some, option_map, option_and_then, option_to_list, reverse, unwrap_or, count_by}
+use Rattle.std.proofs.Common.{◌≡◌, ◌≢◌, refl, sym, ◌∙◌, ap, subst, ℕ, Bool, true, false, not, ◌&&◌, inl, inr, List, [], ◌∷◌, ◌++◌, Option, Some, None, arith}
+use Rattle.std.specs.Prelude.{◌==◌, if◌then◌else◌, filter, is_some, option_map, option_and_then, option_to_list, unwrap_or}
 use Rattle.std.specs.List.{list_any}
 use Rattle.std.proofs.lemmas.Bool.{eqb-true, eq-eqb}
 use Rattle.cg_value.specs.declared.Entry.{Entry}
@@ -11,18 +11,18 @@ use Rattle.cg_script.specs.declared.Script.{Script}
 use Rattle.cg_graph.specs.Member.{Includes}
 use Rattle.cg_graph.specs.Value.{entry_references, last_entry, references, without_last}
 use Rattle.cg_graph.specs.Object.{Object, change, object_at, entries_of, is_at, is_tuple, marked, serials, with_entries, with_place, with_referent, without}
-use Rattle.cg_graph.proofs.Members.{either, or_left, Includes-append_left, Includes-append_cases, Includes-map_cases, Includes-filter_cases}
+use Rattle.cg_graph.proofs.Members.{either, or_left, Includes-append_cases, Includes-map_cases, Includes-filter_cases}
 use Rattle.cg_machine.specs.declared.event.Event.{Event}
 use Rattle.cg_machine.specs.declared.event.Event.TheVariants.{Alive, Cleared, Free, Leave, GcSaved}
 use Rattle.cg_machine.specs.declared.event.FrameSort.{FrameSort}
 use Rattle.cg_machine.specs.declared.event.FrameSort.TheVariants.{Del, Legacy as LegacyFrame, Callback, Call}
 use Rattle.cg_machine.specs.Program.{finalizer_of, legacy_of}
-use Rattle.cg_machine.specs.World.{World, Activity, Framed, Releasing, Dying, Collecting, Collection, CollectPhase, Frame, DyingPhase, Finalizer, AfterFinalizer, Clearing, Calling, AfterCall, LegacyFinalizer, AfterLegacy, Detaching, Emptying, Turns, Turn, AfterTurn, Ending, push, with_stack, with_change, with_objects}
-use Rattle.cg_machine.specs.Holdings.{dying_holds, in_degree, is_collection, is_death_of, is_dying}
+use Rattle.cg_machine.specs.World.{World, Activity, Framed, Releasing, Dying, Collecting, Collection, CollectPhase, Frame, DyingPhase, Finalizer, AfterFinalizer, Clearing, Calling, AfterCall, LegacyFinalizer, AfterLegacy, Detaching, Emptying, Turns, Turn, AfterTurn, Ending, with_stack, with_change, with_objects}
+use Rattle.cg_machine.specs.Holdings.{dying_holds, in_degree, is_death_of, is_dying}
 use Rattle.cg_machine.specs.Frame.{Transition, frame_end, gives_up_function, begin_death, released, procedure_of}
 use Rattle.cg_machine.specs.Weak.{has_weak_references, is_reference_to, weak_references, weak_references_if, loses_referent, callback_in, callback_of}
 use Rattle.cg_machine.specs.Dying.{death_at, has_finalizers, finalizer_to_run, run_finalizer, run_legacy, after_frame, clear_one, call_one, detach_one, empty_one, dying}
-use Rattle.cg_machine.specs.Collect.{after_turn, collection_at, empties, has_flag, older, save_all, saved, takes_turn, PhaseStep, TurnsStep}
+use Rattle.cg_machine.specs.Collect.{collection_at, empties, has_flag, older, save_all, saved, takes_turn, PhaseStep}
 use Rattle.cg_machine.proofs.Serials.{Rises}
 use Rattle.cg_machine.proofs.Lookups.{callback_first, found_at, references_take, same_object}
 use Rattle.cg_promises.proofs.Moved.{entries_of_member, last_none}
@@ -54,8 +54,10 @@ shortened_shrinks low high objects o r y m =
     (x.0, x.1, both.0, both.1)
   where
     one : (b : Bool) (x : Object) → (x.serial == o) ≡ b → Includes objects x → (let z : Object = if b then with_entries (without_last (entries_of objects o)) x else x in IsLesser x z × Fewer x z)
-    one true x t k = (record { later = record { serial = refl; code = refl; class = refl; referent = inl refl }; finalized = λ e. e; place = λ e. e },
-        (λ n i. let same = entries_of_member low high objects x o r k (eqb-true x.serial o t) in subst (λ es. Includes (references es) n) same (references_take _ (entries_of objects o) n i), λ e. e))
+    one true x t k = (
+      record { later = record { serial = refl; code = refl; class = refl; referent = inl refl }; finalized = λ e. e; place = λ e. e },
+      (λ n i. let same = entries_of_member low high objects x o r k (eqb-true x.serial o t) in subst (λ es. Includes (references es) n) same (references_take _ (entries_of objects o) n i), λ e. e),
+    )
     one false x t k = (record { later = record { serial = refl; code = refl; class = refl; referent = inl refl }; finalized = λ e. e; place = λ e. e }, (λ n i. i, λ e. e))
 
 emptied_meek : IsMeek (with_entries [])
@@ -81,10 +83,13 @@ module _ (script : Script) (members : List ℕ) where
   pub released_sealed : (refs : List ℕ) (below : List Activity) (v : World) → Sealed script members v.objects v.names (Releasing refs ∷ below) v.next_serial → (let s : Transition = released refs below (with_stack (Releasing refs ∷ below) v) in Passes script members s.0 s.1)
   released_sealed [] below v h = record { sealed = pop_sealed script members (Releasing []) below v.objects v.objects v.names v.next_serial (shrunk script members v.objects v.objects v.next_serial (same_shrinks v.objects)) refl (λ n m l. refl) h; lines = none_out members }
   released_sealed (o ∷ refs) below v h = either_sealed script members (not (is_dying now o) && (in_degree now o == 0)) ([], begin_death o now) ([], now)
-      (record { sealed = place_sealed script members dead o v.objects v.names (Dying (record { object = o; phase = Finalizer }) ∷ Releasing refs ∷ below) v.next_serial
-          (λ x. record { later = record { serial = refl; code = refl; class = refl; referent = inr refl }; finalized = λ e. e; place = λ e. absurd (untracked_apart e) }) (λ x. refl)
-          (λ x m e k. inr (inr (inl (or_left (o == x.serial) (list_any (is_death_of x.serial) (Releasing refs ∷ below)) (eq-eqb o x.serial (sym e))))))
-          (push_sealed script members (Dying (record { object = o; phase = Finalizer })) (Releasing refs ∷ below) v.objects v.names v.next_serial (λ n m. absurd m) refl less); lines = none_out members })
+      (record {
+        sealed = place_sealed script members dead o v.objects v.names (Dying (record { object = o; phase = Finalizer }) ∷ Releasing refs ∷ below) v.next_serial
+            (λ x. record { later = record { serial = refl; code = refl; class = refl; referent = inr refl }; finalized = λ e. e; place = λ e. absurd (untracked_apart e) }) (λ x. refl)
+            (λ x m e k. inr (inr (inl (or_left (o == x.serial) (list_any (is_death_of x.serial) (Releasing refs ∷ below)) (eq-eqb o x.serial (sym e))))))
+            (push_sealed script members (Dying (record { object = o; phase = Finalizer })) (Releasing refs ∷ below) v.objects v.names v.next_serial (λ n m. absurd m) refl less);
+        lines = none_out members;
+      })
       (record { sealed = less; lines = none_out members })
     where
       now : World
@@ -174,8 +179,10 @@ module _ (script : Script) (members : List ℕ) where
     after_frame_sealed : (phase next : DyingPhase) → Includes (dying_holds o phase) o → dying_holds o next ≡ [] → SealedAt phase → Does (after_frame o next below (at phase))
     after_frame_sealed phase next holds none h = either_sealed script members (in_degree (at next) o == 0) ([], with_change (with_place Untracked) o (at next)) (Alive o ∷ [], with_stack below (at phase))
         (silent phase next (change (with_place Untracked) o v.objects) (changed phase (with_place Untracked) (placed_lesser script members Untracked untracked_apart) (λ x. refl) (held phase h o holds) h) (λ n m. absurd (subst (λ ns. Includes ns n) none m)) h)
-        (record { sealed = pop_sealed script members (dying_now phase) below v.objects v.objects v.names v.next_serial same refl (λ n m l. apart (held phase h o holds) n m) h;
-          lines = one_still members (Alive o) refl (λ n m k. absurd (either m (λ e. held phase h o holds (subst (Includes members) (sym e) k)) (λ no. no))) })
+        (record {
+          sealed = pop_sealed script members (dying_now phase) below v.objects v.objects v.names v.next_serial same refl (λ n m l. apart (held phase h o holds) n m) h;
+          lines = one_still members (Alive o) refl (λ n m k. absurd (either m (λ e. held phase h o holds (subst (Includes members) (sym e) k)) (λ no. no)));
+        })
 
     cleared : (phase next : DyingPhase) (test : Object → Bool) (weak : ℕ) (weaks : List ℕ) → weak_references_if test v.objects o ≡ weak ∷ weaks → ((n : ℕ) → Includes (dying_holds o next) n → (¬ Includes members weak) → ¬ Includes members n) → SealedAt phase
         → Does (Cleared weak ∷ [], record v { objects = loses_referent weak v.objects; stack = dying_now next ∷ below })
@@ -310,8 +317,11 @@ module _ (script : Script) (members : List ℕ) where
 
     empties_sealed : (o : ℕ) (m : Option Entry) → last_entry (entries_of v.objects o) ≡ m → SealedIn (Turn o) → (let t : Transition = empties c o below (standing (Turn o)) m in Passes script members t.0 t.1)
     empties_sealed o None e h = record { sealed = push_sealed script members (Releasing (o ∷ [])) (Collecting (record c { phase = AfterTurn o }) ∷ below) v.objects v.names v.next_serial tt refl (turned o e h); lines = none_out members }
-    empties_sealed o (Some entry) e h = record { sealed = push_sealed script members (Releasing (entry_references entry)) (Collecting (record c { phase = Turn o }) ∷ below) (change (with_entries (without_last (entries_of v.objects o))) o v.objects) v.names v.next_serial tt refl
-        (goes_in (Turn o) (Turn o) (change (with_entries (without_last (entries_of v.objects o))) o v.objects) (shrunk script members v.objects (change (with_entries (without_last (entries_of v.objects o))) o v.objects) v.next_serial (shortened_shrinks 1 v.next_serial v.objects o rises)) tt (λ p e. cc) h); lines = none_out members }
+    empties_sealed o (Some entry) e h = record {
+      sealed = push_sealed script members (Releasing (entry_references entry)) (Collecting (record c { phase = Turn o }) ∷ below) (change (with_entries (without_last (entries_of v.objects o))) o v.objects) v.names v.next_serial tt refl
+          (goes_in (Turn o) (Turn o) (change (with_entries (without_last (entries_of v.objects o))) o v.objects) (shrunk script members v.objects (change (with_entries (without_last (entries_of v.objects o))) o v.objects) v.next_serial (shortened_shrinks 1 v.next_serial v.objects o rises)) tt (λ p e. cc) h);
+      lines = none_out members;
+    }
 
     -- after its turn: what was excused as condemned is another
     after_sealed : (o : ℕ) → SealedIn (AfterTurn o) → Sealed script members (change (with_place (Gen (older c.generation))) o v.objects) v.names (Collecting (record c { phase = Turns }) ∷ below) v.next_serial

@@ -1,6 +1,6 @@
 -- A final set stays sealed until its collection stops.
-use Rattle.std.proofs.Common.{◌≡◌, ◌≢◌, refl, sym, ◌∙◌, ap, subst, ℕ, ◌+◌, ◌<◌, Bool, true, false, cond, not, ◌&&◌, inl, inr, ◌⊎◌, List, [], ◌∷◌, ◌++◌, map, length, Option, Some, None, Result, Ok, Err, arith}
-use Rattle.std.specs.Prelude.{◌||◌, if◌then◌else◌, count_by, flat_map, filter, option_map, option_to_list, unwrap_or}
+use Rattle.std.proofs.Common.{◌≡◌, refl, sym, ◌∙◌, ap, subst, ℕ, ◌+◌, ◌<◌, Bool, true, false, cond, not, ◌&&◌, inl, inr, List, [], ◌∷◌, ◌++◌, map, length, Option, Some, None, Result, Ok, Err, arith}
+use Rattle.std.specs.Prelude.{if◌then◌else◌, count_by, filter, option_map, unwrap_or}
 use Rattle.std.specs.List.{list_any}
 use Rattle.std.proofs.lemmas.List.Sums.{sum_by-append, sum_by-cons}
 use Rattle.cg_value.specs.declared.Place.{Place}
@@ -10,17 +10,17 @@ use Rattle.cg_script.specs.declared.Command.{Command}
 use Rattle.cg_graph.specs.Member.{Includes}
 use Rattle.cg_graph.specs.Value.{references}
 use Rattle.cg_graph.specs.Object.{Object, entries_of, is_at, object_at, same_place, serials, serials_at}
-use Rattle.cg_graph.proofs.Members.{either, true_and, Includes-append_left, Includes-append_right, Includes-append_cases, Includes-map_cases, Includes-filter_cases}
+use Rattle.cg_graph.proofs.Members.{either, true_and, Includes-append_cases, Includes-map_cases, Includes-filter_cases}
 use Rattle.cg_machine.specs.declared.event.Event.{Event}
-use Rattle.cg_machine.specs.declared.event.Event.TheVariants.{Collected, End, Free, GcSaved, GcStop, GcUncollectable, Refused}
+use Rattle.cg_machine.specs.declared.event.Event.TheVariants.{Collected, End, GcSaved, GcStop, GcUncollectable, Refused}
 use Rattle.cg_machine.specs.declared.event.FrameSort.{FrameSort}
 use Rattle.cg_machine.specs.declared.event.FrameSort.TheVariants.{Del, Legacy as LegacyFrame, Callback, Call as CallFrame}
-use Rattle.cg_machine.specs.World.{World, Activity, TopLevel, Framed, Releasing, Dying, Collecting, Collection, CollectPhase, Start, WeakClearing, WeakCalling, AfterCallback, AfterRelease, Finalizing, AfterFinalizing, Split, Turns, Turn, AfterTurn, Ending, Frame, Ended, push, with_stack}
+use Rattle.cg_machine.specs.World.{World, Activity, TopLevel, Framed, Releasing, Dying, Collecting, Collection, CollectPhase, Turns, Turn, AfterTurn, Ending, Frame, Ended, push, with_stack}
 use Rattle.cg_machine.specs.Holdings.{call_holds, is_collecting, is_collection, is_death_of}
 use Rattle.cg_machine.specs.Frame.{Transition, procedure_of, released}
 use Rattle.cg_machine.specs.Effects.{Calls, Changes, Collects, Effect, Quits}
 use Rattle.cg_machine.specs.Refusals.{no_memory}
-use Rattle.cg_machine.specs.Commands.{CommandStep, DoesEffect, effect, new_collection, refused, stopped_frame, without_commands}
+use Rattle.cg_machine.specs.Commands.{DoesEffect, effect, new_collection, refused, stopped_frame, without_commands}
 use Rattle.cg_machine.specs.Dying.{dying}
 use Rattle.cg_machine.specs.Due.{due, due_generation, is_due}
 use Rattle.cg_machine.specs.Collect.{EndStep, PhaseStep, collection_at, has_flag, is_saved, lines_if, save_all, uncollectable}
@@ -31,7 +31,7 @@ use Rattle.cg_machine.proofs.CommandRefs.{option_free}
 use Rattle.cg_machine.proofs.Lookups.{found_at}
 use Rattle.cg_machine.proofs.RunsCalm.{HasCommands}
 use Rattle.cg_machine.proofs.Serials.{Rises}
-use Rattle.cg_promises.proofs.Sealed.{Clears, Fits, IsDone, IsLate, NotAfter, Passes, Sealed, TellsOut, comes_excused, goes_sealed, loosen, none_out, one_out, one_still, pop_sealed, push_sealed, same_shrinks, shrunk, starts_sealed, turn_sealed, yields_sealed}
+use Rattle.cg_promises.proofs.Sealed.{Clears, Fits, IsLate, NotAfter, Passes, Sealed, TellsOut, comes_excused, goes_sealed, loosen, none_out, one_out, one_still, push_sealed, same_shrinks, shrunk, starts_sealed, turn_sealed, yields_sealed}
 use Rattle.cg_promises.proofs.SealedDeaths.{dying_sealed, frame_end_sealed, late_sealed, released_sealed}
 use Rattle.cg_promises.proofs.SealedCommands.{DoesOpen, Opens, effect_opens}
 use Rattle.cg_promises.proofs.ToldCollections.{same_lives}

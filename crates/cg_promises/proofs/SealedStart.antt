@@ -1,13 +1,12 @@
 -- The second detection leaves a final set that is sealed: what names, activities, survivors and objects that are not condemned
 -- hold survives.
 use Rattle.std.proofs.Common.{◌≡◌, ◌≢◌, refl, sym, ◌∙◌, ap, subst, ℕ, zero, suc, ◌+◌, ◌<◌, ◌≤◌, Bool, true, false, cond, inl, inr, ◌⊎◌, List, [], ◌∷◌, ◌++◌, map, length, Option, Some, None, arith}
-use Rattle.std.specs.Prelude.{◌==◌, ◌||◌, if◌then◌else◌, filter, flat_map, option_map, option_to_list, unwrap_or}
-use Rattle.cg_value.specs.declared.Place.{Place}
+use Rattle.std.specs.Prelude.{◌==◌, if◌then◌else◌, filter, flat_map, option_map, option_to_list, unwrap_or}
 use Rattle.cg_value.specs.declared.Place.TheVariants.{Cand, Gen, Legacy, Untracked}
 use Rattle.cg_script.specs.declared.Script.{Script}
 use Rattle.cg_graph.specs.declared.Edge.{Edge}
 use Rattle.cg_graph.specs.Member.{Includes, includes}
-use Rattle.cg_graph.specs.Reach.{Reach, edges, first, next}
+use Rattle.cg_graph.specs.Reach.{edges, first, next}
 use Rattle.cg_graph.specs.Value.{references}
 use Rattle.cg_graph.specs.Object.{Object, object_at, objects_at, is_at, same_place, serials, serials_at, with_place, with_referent}
 use Rattle.cg_graph.specs.Holdings.{entry_holdings, graph_of, name_holdings, occurrences}
@@ -16,10 +15,10 @@ use Rattle.cg_graph.proofs.Members.{either, or_left, Includes-of, includes-of, I
 use Rattle.cg_machine.specs.declared.event.Event.{Event}
 use Rattle.cg_machine.specs.declared.event.FrameSort.{FrameSort}
 use Rattle.cg_machine.specs.declared.event.FrameSort.TheVariants.{Del, Legacy as LegacyFrame, Callback, Call}
-use Rattle.cg_machine.specs.World.{World, Activity, TopLevel, Framed, Releasing, Dying, Collecting, Collection, CollectPhase, Frame, Death, Split, Turns, AfterTurn, with_objects}
-use Rattle.cg_machine.specs.Holdings.{call_holds, dying_holds, holdings, holds}
+use Rattle.cg_machine.specs.World.{World, Activity, TopLevel, Framed, Releasing, Dying, Collecting, Collection, Frame, Death, Split, Turns, AfterTurn}
+use Rattle.cg_machine.specs.Holdings.{call_holds, holdings, holds}
 use Rattle.cg_machine.specs.Weak.{AllLose, NoneLeft, loses_referent}
-use Rattle.cg_machine.specs.Collect.{SplitStep, Survives, collection_at, get_older, has_flag, is_condemned, loses_at_split, members_at, older, save_all}
+use Rattle.cg_machine.specs.Collect.{SplitStep, Survives, collection_at, get_older, has_flag, loses_at_split, older, save_all}
 use Rattle.cg_machine.specs.Laws.{all_waits, waits_of}
 use Rattle.cg_machine.proofs.Condemned.{held_survives, present}
 use Rattle.cg_machine.proofs.DyingOrderly.{HasOrder}
@@ -31,7 +30,7 @@ use Rattle.cg_machine.proofs.Standing.{AreKnown, IsKnown, KnowsFunction}
 use Rattle.cg_machine.proofs.Unheld.{AreOver, AreResting, IsLocalHeld, IsOver, held_by_member, rests_cases}
 use Rattle.cg_laws.proofs.SetsApart.{NoneCollects, stands_at}
 use Rattle.cg_promises.proofs.Told.{Marks}
-use Rattle.cg_promises.proofs.Primed.{IsWanted, Primed, Ran, cand_is, legacy_later, ran_later}
+use Rattle.cg_promises.proofs.Primed.{IsWanted, Primed, cand_is, legacy_later, ran_later}
 use Rattle.cg_promises.proofs.Sealed.{Fits, IsDone, NotAfter, Sealed}
 
 -- counts
@@ -241,9 +240,11 @@ module _ (script : Script) (c : Collection) (below : List Activity) (v : World) 
     frame_fits Call subject function rest local knows held waits =
         let out = held_out subject (held subject (Includes-append_left (option_to_list function) (flat_map holds rest) subject (subst (λ f. Includes (option_to_list f) subject) (sym knows.0) (inl refl)))) in
         (out, λ g e. let both : Some subject ≡ Some g = sym knows.0 ∙ e in let same : subject ≡ g = cc in subst (λ n. ¬ Includes members n) same out)
-    frame_fits Callback subject function rest local knows held waits =
-        (held_out subject (held subject local), λ g e. let both : Some knows.0 ≡ Some g = sym knows.1 ∙ e in let same : knows.0 ≡ g = cc in subst (λ n. ¬ Includes members n) same
-        (either knows.2.held (λ h. held_out knows.0 (held knows.0 h)) (λ h. waiting_out knows.0 (waits subject h.0) h.1)))
+    frame_fits Callback subject function rest local knows held waits = (
+      held_out subject (held subject local),
+      λ g e. let both : Some knows.0 ≡ Some g = sym knows.1 ∙ e in let same : knows.0 ≡ g = cc in subst (λ n. ¬ Includes members n) same
+          (either knows.2.held (λ h. held_out knows.0 (held knows.0 h)) (λ h. waiting_out knows.0 (waits subject h.0) h.1)),
+    )
       where
         waiting_out : (g : ℕ) → Includes (all_waits now.stack) subject → ((x : Object) → Includes v.objects x → x.serial ≡ subject → Includes (references x.entries) g) → ¬ Includes members g
         waiting_out g waits holds_it = survivor_out g (λ x m e.

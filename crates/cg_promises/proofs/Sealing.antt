@@ -1,23 +1,22 @@
 -- From the second detection to the stop of its collection the final set is sealed, and only the line that one is freed names it.
-use Rattle.std.proofs.Common.{◌≡◌, refl, sym, ◌∙◌, ap, subst, ℕ, ◌+◌, ◌≤◌, Bool, true, false, cond, inl, inr, ◌⊎◌, List, [], ◌∷◌, ◌++◌, arith}
-use Rattle.std.specs.Prelude.{count_by}
+use Rattle.std.proofs.Common.{◌≡◌, refl, sym, ◌∙◌, ap, subst, ℕ, ◌≤◌, false, inl, inr, ◌⊎◌, List, [], ◌∷◌, ◌++◌, arith}
 use Rattle.cg_value.specs.declared.Place.TheVariants.{Cand}
 use Rattle.cg_script.specs.declared.Script.{Script}
 use Rattle.cg_graph.specs.Member.{Includes}
 use Rattle.cg_graph.specs.Object.{Object, serials_at}
 use Rattle.cg_graph.proofs.Members.{either, Includes-append_left, Includes-append_right, Includes-append_cases}
 use Rattle.cg_machine.specs.declared.event.Event.{Event}
-use Rattle.cg_machine.specs.World.{World, Activity, TopLevel, Framed, Releasing, Dying, Collecting, Collection, CollectPhase, Split, opening, with_stack}
+use Rattle.cg_machine.specs.World.{World, Activity, TopLevel, Framed, Releasing, Dying, Collecting, Collection, Split, opening, with_stack}
 use Rattle.cg_machine.specs.Holdings.{is_collection}
-use Rattle.cg_machine.specs.Collect.{SplitStep, has_flag, save_all}
+use Rattle.cg_machine.specs.Collect.{SplitStep}
 use Rattle.cg_machine.specs.Run.{Run, Step, StepOf, StepTaken, events_of, last_world}
-use Rattle.cg_machine.specs.Laws.{OnlyFreesNameMembers, Sealing, Splits, final_set, is_stop}
-use Rattle.cg_machine.proofs.Sound.{Sound, collections_in}
+use Rattle.cg_machine.specs.Laws.{OnlyFreesNameMembers, Sealing, Splits, final_set}
+use Rattle.cg_machine.proofs.Sound.{collections_in}
 use Rattle.cg_machine.proofs.Tally.{member_le, tally}
 use Rattle.cg_machine.proofs.Ending.{last_world-append}
 use Rattle.cg_machine.proofs.Forgotten.{lives_within}
 use Rattle.cg_machine.proofs.LeftRuns.{LeavesUnder, leaves_below, step_leaves_on}
-use Rattle.cg_machine.proofs.Standing.{AreKnown, IsAllKnown}
+use Rattle.cg_machine.proofs.Standing.{AreKnown}
 use Rattle.cg_machine.proofs.StandingRuns.{known}
 use Rattle.cg_machine.proofs.Unheld.{AreOver, IsStack}
 use Rattle.cg_machine.proofs.DyingOrderly.{HasOrder}
@@ -26,7 +25,6 @@ use Rattle.cg_laws.proofs.RunsApart.{runs_apart}
 use Rattle.cg_laws.proofs.SetsApart.{NoneCollects}
 use Rattle.cg_laws.proofs.StepsPlain.{IsPlainUnder, step_plain}
 use Rattle.cg_promises.proofs.Primed.{IsWanted, Primed, other_primed, phase_primed}
-use Rattle.cg_promises.proofs.Sealed.{TellsOut}
 use Rattle.cg_promises.proofs.SealedRuns.{IsSealedWorld, is_sealed, sealed_after, step_keeps_on}
 use Rattle.cg_promises.proofs.SealedStart.{split_sealed}
 use Rattle.cg_promises.proofs.ToldRuns.{Fit, opening_fit, run_back, run_front, run_fit, step_fit, step_goes}

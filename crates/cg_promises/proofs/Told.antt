@@ -1,6 +1,6 @@
 -- What a step does to the objects and what it prints of them: an object comes from one that was there, which is marked if
 -- that was, or has the next serial. A step begins a frame or frees an object in its only line, or names what is there.
-use Rattle.std.proofs.Common.{◌≡◌, refl, sym, ◌∙◌, ap, subst, ℕ, ◌+◌, ◌-◌, ◌≤◌, Bool, true, false, not, inl, inr, ◌⊎◌, List, [], ◌∷◌, ◌++◌, map, Option, Some, None, arith}
+use Rattle.std.proofs.Common.{◌≡◌, refl, sym, ◌∙◌, ap, subst, ℕ, ◌-◌, ◌≤◌, Bool, true, false, not, inl, inr, ◌⊎◌, List, [], ◌∷◌, map, None}
 use Rattle.std.specs.Prelude.{◌==◌, if◌then◌else◌}
 use Rattle.std.proofs.lemmas.Bool.{eqb-true, eq-eqb}
 use Rattle.cg_value.specs.declared.Entry.{Entry}
@@ -8,7 +8,7 @@ use Rattle.cg_value.specs.declared.Place.{Place}
 use Rattle.cg_script.specs.declared.Script.{Script}
 use Rattle.cg_graph.specs.Member.{Includes}
 use Rattle.cg_graph.specs.Object.{Object, change, serials, with_entries, with_place, with_referent, without}
-use Rattle.cg_graph.proofs.Members.{either, Includes-map, Includes-map_cases, Includes-filter, Includes-filter_cases}
+use Rattle.cg_graph.proofs.Members.{Includes-map, Includes-map_cases, Includes-filter, Includes-filter_cases}
 use Rattle.cg_machine.specs.declared.event.Event.{Event}
 use Rattle.cg_machine.specs.declared.event.Event.TheVariants.{Enter, Free, BudgetSpent}
 use Rattle.cg_machine.specs.declared.event.FrameSort.{FrameSort}

@@ -1,6 +1,6 @@
 -- What a collection prints of objects, phase by phase.
-use Rattle.std.proofs.Common.{◌≡◌, refl, sym, ◌∙◌, ap, subst, ℕ, ◌+◌, ◌<◌, Bool, true, false, inl, inr, List, [], ◌∷◌, ◌++◌, map, length, Option, Some, None, arith}
-use Rattle.std.specs.Prelude.{◌==◌, if◌then◌else◌, filter, option_and_then, unwrap_or}
+use Rattle.std.proofs.Common.{◌≡◌, refl, sym, ◌∙◌, subst, ℕ, ◌+◌, ◌<◌, Bool, true, false, inl, inr, List, [], ◌∷◌, ◌++◌, map, length, Option, Some, None, arith}
+use Rattle.std.specs.Prelude.{if◌then◌else◌, filter, option_and_then, unwrap_or}
 use Rattle.cg_value.specs.declared.Entry.{Entry}
 use Rattle.cg_value.specs.declared.Place.{Place}
 use Rattle.cg_value.specs.declared.Place.TheVariants.{Cand, Gen, Legacy, Pend, Seen}
@@ -8,8 +8,7 @@ use Rattle.cg_value.specs.declared.Val.TheVariants.{Ref}
 use Rattle.cg_script.specs.declared.Script.{Script}
 use Rattle.cg_graph.specs.Member.{Includes, includes}
 use Rattle.cg_graph.specs.Value.{entry_references, item, last_entry, without_last}
-use Rattle.cg_graph.specs.Object.{Object, change, object_at, entries_of, is_at, is_in_map, is_tuple, marked, objects_at, serials, serials_at, with_entries, with_place}
-use Rattle.cg_graph.specs.Holdings.{occurrences}
+use Rattle.cg_graph.specs.Object.{Object, change, object_at, entries_of, is_at, is_in_map, is_tuple, marked, serials, serials_at, with_entries, with_place}
 use Rattle.cg_graph.proofs.Members.{either, Includes-append_cases, Includes-map, Includes-map_cases, Includes-filter_cases}
 use Rattle.cg_machine.specs.declared.event.Event.{Event}
 use Rattle.cg_machine.specs.declared.event.Event.TheVariants.{Alive, Cleared, Collected, GcCollectable, GcSaved, GcStart, GcStop, GcUncollectable}

@@ -1,5 +1,5 @@
 -- What a command prints of objects: the one that it makes, and those that its operands refer to.
-use Rattle.std.proofs.Common.{◌≡◌, refl, sym, ◌∙◌, subst, ℕ, ◌+◌, ◌≤◌, Bool, true, false, inl, inr, ◌⊎◌, List, [], ◌∷◌, ◌++◌, map, Option, Some, None, Result, Ok, Err, arith}
+use Rattle.std.proofs.Common.{◌≡◌, refl, sym, ◌∙◌, subst, ℕ, Bool, true, false, inl, inr, ◌⊎◌, List, [], ◌∷◌, ◌++◌, map, Option, Some, None, Ok, arith}
 use Rattle.std.specs.Prelude.{not, ◌&&◌, ◌||◌, if◌then◌else◌, is_some, option_to_list}
 use Rattle.cg_value.specs.declared.Val.{Val}
 use Rattle.cg_value.specs.declared.Val.TheVariants.{None as Nothing, Int, Str, Ref}
@@ -8,7 +8,6 @@ use Rattle.cg_value.specs.declared.Place.{Place}
 use Rattle.cg_value.specs.declared.Place.TheVariants.{Gen}
 use Rattle.cg_value.specs.declared.KindCode.{KindCode}
 use Rattle.cg_value.specs.declared.KindCode.TheVariants.{List as ListKind, Tuple, Dict, Inst, Func, Weak}
-use Rattle.cg_script.specs.declared.Operand.{Operand}
 use Rattle.cg_script.specs.declared.Command.{Command}
 use Rattle.cg_script.specs.declared.Command.TheVariants.{MakeList, MakeTuple, MakeDict, MakeInst, MakeFunc, MakeRef, Bind, Del, Append, SetItem, DelItem, Put, Remove, SetAttr, DelAttr, Item, Get, Attr, Deref, Call, Quit, Collect, Enable, Disable, Threshold, Flags, Freeze, Unfreeze, Print, Refs, Tracked, Finalized, Count, Gens}
 use Rattle.cg_graph.specs.Member.{Includes, includes}
@@ -18,12 +17,11 @@ use Rattle.cg_graph.proofs.Members.{either, Includes-of, includes-of, Includes-a
 use Rattle.cg_machine.specs.declared.event.Event.{Event}
 use Rattle.cg_machine.specs.declared.event.Event.TheVariants.{Made, Value, RefCount, Tracked as TrackedLine, Finalized as FinalizedLine, Count as CountLine}
 use Rattle.cg_machine.specs.World.{World, Numbers, with_change}
-use Rattle.cg_machine.specs.Refusals.{not_callable, ◌>>=◌}
+use Rattle.cg_machine.specs.Refusals.{not_callable}
 use Rattle.cg_machine.specs.Operands.{is_dict, object, value}
 use Rattle.cg_machine.specs.Effects.{Calls, Changes, Collects, Effect, Quits, frozen, gens_line, has_room, makes, may_track, puts, replaced, tracked_by, unfrozen}
 use Rattle.cg_machine.specs.Commands.{effect}
 use Rattle.cg_machine.specs.Weak.{is_function}
-use Rattle.cg_machine.specs.Laws.{named}
 use Rattle.cg_machine.proofs.CommandLaws.{Each, checked}
 use Rattle.cg_machine.proofs.CommandRefs.{IsKnown, each_then, object_found, option_free, value_known, IsFound}
 use Rattle.cg_machine.proofs.Forgotten.{Forgotten}

@@ -1,25 +1,25 @@
 -- What a release, a death and the end of a frame print of objects.
-use Rattle.std.proofs.Common.{◌≡◌, refl, sym, ◌∙◌, ap, subst, ℕ, ◌-◌, Bool, true, false, not, inl, inr, List, [], ◌∷◌, ◌++◌, Option, Some, None, arith}
-use Rattle.std.specs.Prelude.{◌==◌, ◌&&◌, if◌then◌else◌, is_some, reverse, filter, option_map, option_and_then, option_to_list, unwrap_or}
+use Rattle.std.proofs.Common.{◌≡◌, refl, sym, ap, subst, ℕ, Bool, true, false, not, inl, inr, List, [], ◌∷◌, Option, Some, None, arith}
+use Rattle.std.specs.Prelude.{◌==◌, ◌&&◌, if◌then◌else◌, reverse, filter, option_map, option_and_then, option_to_list, unwrap_or}
 use Rattle.std.proofs.lemmas.List.{reverse-append}
 use Rattle.cg_value.specs.declared.Entry.{Entry}
 use Rattle.cg_value.specs.declared.Place.TheVariants.{Untracked, Gen}
 use Rattle.cg_script.specs.declared.Script.{Script}
 use Rattle.cg_graph.specs.Member.{Includes}
 use Rattle.cg_graph.specs.Value.{entry_references, last_entry, without_last}
-use Rattle.cg_graph.specs.Object.{Object, change, object_at, entries_of, marked, serials, with_entries, with_place, with_referent, without}
+use Rattle.cg_graph.specs.Object.{Object, change, object_at, entries_of, marked, serials, with_entries, with_place, with_referent}
 use Rattle.cg_graph.proofs.Members.{either, Includes-append_cases, Includes-map, Includes-map_cases, Includes-filter_cases}
 use Rattle.cg_machine.specs.declared.event.Event.TheVariants.{Alive, Cleared, Free, Leave}
 use Rattle.cg_machine.specs.declared.event.FrameSort.{FrameSort}
 use Rattle.cg_machine.specs.declared.event.FrameSort.TheVariants.{Del, Legacy, Callback, Call}
 use Rattle.cg_machine.specs.Program.{finalizer_of, legacy_of}
-use Rattle.cg_machine.specs.World.{World, Activity, Framed, Releasing, Dying, Frame, DyingPhase, Finalizer, AfterFinalizer, Clearing, Calling, AfterCall, LegacyFinalizer, AfterLegacy, Detaching, Emptying, push, with_stack, with_change}
+use Rattle.cg_machine.specs.World.{World, Activity, Releasing, Frame, DyingPhase, Finalizer, AfterFinalizer, Clearing, Calling, AfterCall, LegacyFinalizer, AfterLegacy, Detaching, Emptying, push, with_stack, with_change}
 use Rattle.cg_machine.specs.Holdings.{dying_holds, in_degree, is_dying}
 use Rattle.cg_machine.specs.Frame.{Transition, frame_end, gives_up_function, begin_death, released, procedure_of}
 use Rattle.cg_machine.specs.Weak.{has_weak_references, weak_references_if, weak_references, is_reference_to, loses_referent, callback_of}
 use Rattle.cg_machine.specs.Dying.{death_at, has_finalizers, finalizer_to_run, run_finalizer, run_legacy, after_frame, clear_one, call_one, detach_one, empty_one, dying}
-use Rattle.cg_machine.proofs.Lookups.{found_at, found_lives}
-use Rattle.cg_promises.proofs.Told.{Old, IsTold, Begins, Goes, same_old, change_old, place_old, entries_old, lost_old, without_old, without_gone, without_lasts, marked_all, quiet, one_told, tells, starts_told, either_told}
+use Rattle.cg_machine.proofs.Lookups.{found_at}
+use Rattle.cg_promises.proofs.Told.{Old, Begins, Goes, same_old, change_old, place_old, entries_old, lost_old, without_old, without_gone, without_lasts, marked_all, quiet, one_told, tells, starts_told, either_told}
 
 -- a finalizer that is to run has not run
 pub to_run_unmarked : (script : Script) (objects : List Object) (o p : ℕ) → option_and_then (finalizer_to_run script) (object_at objects o) ≡ Some p → (x : Object) × Includes objects x × (x.serial ≡ o) × (x.finalized ≡ false)

@@ -1,5 +1,5 @@
 -- Every step of a run tells of objects so, and what holds of the worlds of a run is kept beside.
-use Rattle.std.proofs.Common.{◌≡◌, refl, sym, ◌∙◌, subst, ℕ, ◌+◌, ◌≤◌, Bool, true, false, inl, inr, List, [], ◌∷◌, ◌++◌, Option, Some, None, Result, Ok, Err, arith}
+use Rattle.std.proofs.Common.{◌≡◌, refl, ℕ, Bool, true, false, inl, inr, List, [], ◌∷◌, ◌++◌, Option, Some, None, Result, Ok, Err, arith}
 use Rattle.std.specs.Prelude.{if◌then◌else◌, flat_map}
 use Rattle.cg_script.specs.declared.Script.{Script}
 use Rattle.cg_script.specs.declared.Command.{Command}
@@ -26,7 +26,7 @@ use Rattle.cg_machine.proofs.Sound.{Sound, opening_sound}
 use Rattle.cg_machine.proofs.Number.{step_falls}
 use Rattle.cg_machine.proofs.RunsCalm.{HasCommands, step_calm, opening_calm, turned}
 use Rattle.cg_machine.proofs.RunsOrderly.{gone_forgotten, step_orderly_on, opening_orderly, turned_orderly}
-use Rattle.cg_promises.proofs.Told.{Goes, IsTold, same_old, quiet, one_told, tells, starts_told, yields_told, either_told}
+use Rattle.cg_promises.proofs.Told.{Goes, same_old, quiet, one_told, tells, starts_told, yields_told}
 use Rattle.cg_promises.proofs.ToldDeaths.{dying_told, frame_end_told, released_told}
 use Rattle.cg_promises.proofs.ToldCollections.{phase_told}
 use Rattle.cg_promises.proofs.ToldCommands.{DoesTell, effect_tells}
