@@ -18,3 +18,4 @@ pub mod Primed
 pub mod SealedStart
 pub mod Sealing
 pub mod Freed
+pub mod Leaves
