@@ -19,3 +19,4 @@ pub mod SealedStart
 pub mod Sealing
 pub mod Freed
 pub mod Leaves
+pub mod Waited
