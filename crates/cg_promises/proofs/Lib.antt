@@ -20,3 +20,5 @@ pub mod Sealing
 pub mod Freed
 pub mod Leaves
 pub mod Waited
+pub mod Turned
+pub mod History

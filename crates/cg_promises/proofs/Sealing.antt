@@ -30,7 +30,7 @@ use Rattle.cg_promises.proofs.SealedStart.{split_sealed}
 use Rattle.cg_promises.proofs.ToldRuns.{Fit, opening_fit, run_back, run_front, run_fit, step_fit, step_goes}
 
 -- one collection at most
-alone_below : (c : Collection) (below : List Activity) → tally collections_in (Collecting c ∷ below) ≤ 1 → NoneCollects below
+pub alone_below : (c : Collection) (below : List Activity) → tally collections_in (Collecting c ∷ below) ≤ 1 → NoneCollects below
 alone_below c below h d m = let more = member_le collections_in below (Collecting d) m in omega (arith, h, more)
 
 -- each step keeps what is condemned ready

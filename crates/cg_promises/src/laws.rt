@@ -1,5 +1,5 @@
 //! What holds in every run. Each law is the contract of a function that does nothing.
-ghost use Rattle.cg_machine.specs.Laws.{FinalSetIsFreed, NoDeadNames, OneFinalizerEach, OnlyFreesNameMembers, Sealing, UnheldIsDying};
+ghost use Rattle.cg_machine.specs.Laws.{EntriesLeaveOnlyBy, FinalSetIsFreed, NoDeadNames, OneFinalizerEach, OnlyFreesNameMembers, Sealing, UnheldIsDying};
 
 /// In every run the finalizer of one object begins at most once.
 pub fn one_finalizer_each()
@@ -32,4 +32,10 @@ pub fn only_frees_name_members()
 /// collection stops.
 pub fn final_sets_are_freed()
     ensures { FinalSetIsFreed }
+{}
+
+/// In every run an object that never was in the final set of a collection that does not save all loses an entry only by a
+/// command, by its own death, or, a weak reference, by the death of what it referred to.
+pub fn entries_leave_only_by()
+    ensures { EntriesLeaveOnlyBy }
 {}
