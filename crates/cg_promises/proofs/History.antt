@@ -1,20 +1,17 @@
 -- An object that never was in a final set without SAVEALL loses entries only by a command, by its own death, or, a weak reference,
 -- by the death of what it referred to.
-use Rattle.std.proofs.Common.{◌≡◌, ◌≢◌, refl, sym, ◌∙◌, ap, subst, ℕ, ◌+◌, ◌≤◌, Bool, true, false, inl, inr, ◌⊎◌, List, [], ◌∷◌, ◌++◌, arith}
+use Rattle.std.proofs.Common.{◌≡◌, refl, sym, ◌∙◌, ap, subst, ℕ, ◌≤◌, true, false, inl, inr, List, [], ◌∷◌, ◌++◌}
 use Rattle.std.proofs.lemmas.List.{append_assoc, append-nil}
-use Rattle.cg_value.specs.declared.KindCode.TheVariants.{Weak}
-use Rattle.cg_value.specs.declared.Place.TheVariants.{Cand}
 use Rattle.cg_script.specs.declared.Script.{Script}
 use Rattle.cg_graph.specs.Member.{Includes}
-use Rattle.cg_graph.specs.Object.{Object, serials_at}
+use Rattle.cg_graph.specs.Object.{Object}
 use Rattle.cg_graph.proofs.Members.{either, Includes-append_left}
-use Rattle.cg_machine.specs.declared.event.Event.{Event}
-use Rattle.cg_machine.specs.World.{World, Activity, TopLevel, Framed, Releasing, Dying, Death, DyingPhase, Calling, Collecting, Collection, CollectPhase, Split, Turns, Turn, AfterTurn, opening, with_stack}
+use Rattle.cg_machine.specs.World.{World, Activity, TopLevel, Framed, Releasing, Dying, DyingPhase, Calling, Collecting, Collection, CollectPhase, Turns, Turn, AfterTurn, opening, with_stack}
 use Rattle.cg_machine.specs.Holdings.{is_collection}
-use Rattle.cg_machine.specs.Collect.{PhaseStep, has_flag, save_all}
+use Rattle.cg_machine.specs.Collect.{PhaseStep}
 use Rattle.cg_machine.specs.Represents.{death_waits}
 use Rattle.cg_machine.specs.Run.{Run, Step, StepOf, StepTaken, last_world}
-use Rattle.cg_machine.specs.Laws.{EntriesLeaveOnlyBy, IsLengthened, IsOfCollection, MayLoseEntries, ReferredTo, Splits, WasFinal, all_waits}
+use Rattle.cg_machine.specs.Laws.{EntriesLeaveOnlyBy, IsLengthened, IsOfCollection, MayLoseEntries, ReferredTo, WasFinal, all_waits}
 use Rattle.cg_machine.proofs.Ending.{Run-append, last_world-append}
 use Rattle.cg_machine.proofs.Forgotten.{lives_within}
 use Rattle.cg_machine.proofs.LeftRuns.{LeavesUnder, leaves_below, step_leaves_on}
@@ -29,7 +26,7 @@ use Rattle.cg_promises.proofs.Leaves.{CallsBack, dying_takes, phase_takes, relea
 use Rattle.cg_promises.proofs.Sealing.{alone_below}
 use Rattle.cg_promises.proofs.ToldRuns.{Fit, opening_fit, run_back, run_front, run_fit, step_fit}
 use Rattle.cg_promises.proofs.Turned.{AreFinal, FinalAt, IsEarly, final_stays, late_final, phase_stack}
-use Rattle.cg_promises.proofs.Waited.{RefersNow, Waited, step_waited}
+use Rattle.cg_promises.proofs.Waited.{Waited, step_waited}
 
 module _ (script : Script) (budget : ℕ) where
   abbrev world : List StepTaken → World
@@ -121,7 +118,7 @@ module _ (script : Script) (budget : ℕ) where
   calls_waits phase n h = absurd h
 
   module _ (before : List StepTaken) (step : StepTaken) (goes : Step script (world before) step.events step.world) (fit : Fit script (world before)) (past : Past before (world before)) (x y : Object) (mx : Includes (world before).objects x) (my : Includes step.world.objects y) (same : x.serial ≡ y.serial)
-    (never : ¬ WasFinal script budget before x.serial) (shorter : ¬ IsLengthened x y) where
+      (never : ¬ WasFinal script budget before x.serial) (shorter : ¬ IsLengthened x y) where
     is_x : (z : Object) → Includes (world before).objects z → z.serial ≡ y.serial → z ≡ x
     is_x z m e = same_object 1 (world before).next_serial (world before).objects z x fit.sound.rises m mx (e ∙ sym same)
 
@@ -136,8 +133,10 @@ module _ (script : Script) (budget : ℕ) where
         either z.3 (λ l. absurd (shorter (subst (λ q. IsLengthened q y) (is_x z.0 z.1 z.2) l)))
         (λ e. either e (λ own. inl (own ∙ sym same))
         (λ called. let waits = calls_waits d.phase x.serial (subst (CallsBack d.phase) (sym same) called) in
-            inr ((fit.order.waiting x.serial (subst (λ st. Includes (all_waits st) x.serial) (sym top) (Includes-append_left (death_waits d.phase) (all_waits below) x.serial waits)) x mx refl).code,
-            past.waited d (subst (λ st. Includes st (Dying d)) (sym top) (inl refl)) x.serial waits)))
+        inr (
+          (fit.order.waiting x.serial (subst (λ st. Includes (all_waits st) x.serial) (sym top) (Includes-append_left (death_waits d.phase) (all_waits below) x.serial waits)) x mx refl).code,
+          past.waited d (subst (λ st. Includes st (Dying d)) (sym top) (inl refl)) x.serial waits,
+        )))
     may (Collecting c ∷ below) top taken =
         let z = phase_takes script c below (world before) c.phase step.events step.world taken y my in
         either z.3 (λ l. shorter (subst (λ q. IsLengthened q y) (is_x z.0 z.1 z.2) l))

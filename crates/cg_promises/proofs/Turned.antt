@@ -1,8 +1,7 @@
 -- The stack that a step of a collection leaves, and that an object which has its turn without SAVEALL was in its final set.
-use Rattle.std.proofs.Common.{◌≡◌, ◌≢◌, refl, sym, ◌∙◌, ap, subst, ℕ, ◌+◌, ◌-◌, Bool, true, false, inl, inr, ◌⊎◌, List, [], ◌∷◌, ◌++◌, map, length, Option, Some, None}
+use Rattle.std.proofs.Common.{◌≡◌, ◌≢◌, refl, sym, ◌∙◌, ap, subst, ℕ, ◌+◌, ◌-◌, Bool, true, false, inl, inr, List, [], ◌∷◌, ◌++◌, map, length, Option, Some, None}
 use Rattle.std.specs.Prelude.{◌==◌, if◌then◌else◌, option_and_then, unwrap_or}
 use Rattle.cg_value.specs.declared.Entry.{Entry}
-use Rattle.cg_value.specs.declared.Place.{Place}
 use Rattle.cg_value.specs.declared.Place.TheVariants.{Cand, Gen, Pend, Seen}
 use Rattle.cg_value.specs.declared.Val.TheVariants.{Ref}
 use Rattle.cg_script.specs.declared.Script.{Script}
@@ -20,8 +19,7 @@ use Rattle.cg_machine.specs.Holdings.{is_collection}
 use Rattle.cg_machine.specs.Frame.{Transition, procedure_of, start_frame}
 use Rattle.cg_machine.specs.Weak.{callback_of, loses_referent}
 use Rattle.cg_machine.specs.Dying.{finalizer_to_run}
-use Rattle.cg_machine.specs.Collect.{calls_back, after_release, collection_at, empties, has_flag, looks_at, older, save_all, saved, takes_turn, waits, FinalizingStep, PhaseStep, SplitStep, TurnsStep, WeakClearingStep}
-use Rattle.cg_machine.specs.Laws.{HadItsPlace, IsOfCollection}
+use Rattle.cg_machine.specs.Collect.{calls_back, collection_at, empties, has_flag, looks_at, older, save_all, saved, takes_turn, waits, FinalizingStep, PhaseStep, TurnsStep, WeakClearingStep}
 use Rattle.cg_laws.proofs.SetsApart.{NoneCollects}
 use Rattle.cg_promises.proofs.Primed.{cand_is}
 
