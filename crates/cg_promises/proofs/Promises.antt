@@ -17,6 +17,7 @@ use Rattle.cg_machine.specs.Laws.{IsGone, NoDeadNames, OneFinalizerEach, is_fina
 use Rattle.cg_machine.proofs.Forgotten.{lives_within}
 use Rattle.cg_machine.proofs.Releasing.{no_times}
 use Rattle.cg_machine.proofs.RunsOrderly.{held_live}
+use Rattle.cg_promises.specs.Lines.{NoDeadLines}
 use Rattle.cg_promises.proofs.Told.{Begins, Goes, IsPlain, Says}
 use Rattle.cg_promises.proofs.ToldRuns.{Fit, opening_fit, run_back, run_front, run_fit, step_fit, step_goes}
 
@@ -193,3 +194,34 @@ no_names_of_dead script budget before step after run n front back e =
       gone_now script n (last_world step.world after) (run_fit script step.world after rest.1 now) ends.0,
       λ event m. ends.1 event (subst (λ (b : List Event). Includes (b ++ events_of after) event) freed.0 m),
     )
+
+-- The same of the lines of a run alone: the line stands in one step, and those after it in that step and the later ones.
+module _ (script : Script) (n : ℕ) where
+  strip : (xs ys front back : List Event) → ((event : Event) → Includes xs event → IsPlain event) → xs ++ ys ≡ front ++ Free n ∷ back → (rest : List Event) × (ys ≡ rest ++ Free n ∷ back)
+  strip [] ys front back plain e = (front, e)
+  strip (x ∷ xs) ys [] back plain e = absurd (let same : x ≡ Free n = cc in subst IsPlain same (plain x (inl refl)))
+  strip (x ∷ xs) ys (f ∷ front) back plain e = strip xs ys front back (λ event m. plain event (inr m)) (let same : xs ++ ys ≡ front ++ Free n ∷ back = cc in same)
+
+  -- a line that stands alone in its step
+  alone : (w : World) (step : StepTaken) (steps : List StepTaken) → Run script w (step ∷ steps) → Fit script w → (event : Event) → step.events ≡ event ∷ [] → Says w.objects step.world.objects event
+      → ((front back : List Event) → events_of steps ≡ front ++ Free n ∷ back → (e : Event) → Includes back e → ¬ Includes (named e) n) → (front back : List Event) → event ∷ events_of steps ≡ front ++ Free n ∷ back → (e : Event) → Includes back e → ¬ Includes (named e) n
+  alone w step steps run fit event one says later [] back e =
+      let first : event ≡ Free n = cc in
+      let rest : events_of steps ≡ back = cc in
+      let goes = step_goes script w step.events step.world run.0 fit in
+      let freed = frees script n w step.world step.events [] [] fit goes (one ∙ ap (λ x. x ∷ []) first) in
+      subst (λ es. (x : Event) → Includes es x → ¬ Includes (named x) n) rest (run_gone script n step.world steps run.1 (step_fit script w step.events step.world run.0 fit) freed.1).1
+  alone w step steps run fit event one says later (f ∷ front) back e = later front back (let rest : events_of steps ≡ front ++ Free n ∷ back = cc in rest)
+
+  lines_not : (w : World) (steps : List StepTaken) → Run script w steps → Fit script w → (front back : List Event) → events_of steps ≡ front ++ Free n ∷ back → (event : Event) → Includes back event → ¬ Includes (named event) n
+  lines_not w [] run fit [] back e = absurd (let no : [] ≡ Free n ∷ back = e in cc)
+  lines_not w [] run fit (f ∷ front) back e = absurd (let no : [] ≡ f ∷ (front ++ Free n ∷ back) = e in cc)
+  lines_not w (step ∷ steps) run fit front back e =
+      let goes = step_goes script w step.events step.world run.0 fit in
+      let later = lines_not step.world steps run.1 (step_fit script w step.events step.world run.0 fit) in
+      either goes.told
+      (λ t. let rest = strip step.events (events_of steps) front back (λ event m. (t event m).0) e in later rest.0 back rest.1)
+      (λ t. alone w step steps run fit t.0 t.1 t.2 later front back (ap (λ es. es ++ events_of steps) (sym t.1) ∙ e))
+
+pub no_dead_lines_named : NoDeadLines
+no_dead_lines_named script budget steps run n front back e = lines_not script n (opening script budget) steps run (opening_fit script budget) front back e

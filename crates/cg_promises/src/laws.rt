@@ -1,4 +1,5 @@
 //! What holds in every run. Each law is the contract of a function that does nothing.
+ghost use Rattle.cg_promises.specs.Lines.{NoDeadLines};
 ghost use Rattle.cg_machine.specs.Laws.{EntriesLeaveOnlyBy, FinalSetIsFreed, NoDeadNames, OneFinalizerEach, OnlyFreesNameMembers, Sealing, UnheldIsDying};
 
 /// In every run the finalizer of one object begins at most once.
@@ -38,4 +39,9 @@ pub fn final_sets_are_freed()
 /// command, by its own death, or, a weak reference, by the death of what it referred to.
 pub fn entries_leave_only_by()
     ensures { EntriesLeaveOnlyBy }
+{}
+
+/// In every run, after the line that an object is freed no line of the run names it.
+pub fn no_dead_lines()
+    ensures { NoDeadLines }
 {}
