@@ -100,7 +100,7 @@ module _ (script : Script) (budget : ℕ) (steps : List StepTaken) (run : Run sc
   abbrev last : World
   last = last_world (opening script budget) steps
 
-  known : IsAllKnown last
+  pub known : IsAllKnown last
   known = all_known script budget steps run
 
   order : HasOrder last

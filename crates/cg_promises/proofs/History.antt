@@ -1,0 +1,152 @@
+-- An object that never was in a final set without SAVEALL loses entries only by a command, by its own death, or, a weak reference,
+-- by the death of what it referred to.
+use Rattle.std.proofs.Common.{◌≡◌, refl, sym, ◌∙◌, ap, subst, ℕ, ◌≤◌, true, false, inl, inr, List, [], ◌∷◌, ◌++◌}
+use Rattle.std.proofs.lemmas.List.{append_assoc, append-nil}
+use Rattle.cg_script.specs.declared.Script.{Script}
+use Rattle.cg_graph.specs.Member.{Includes}
+use Rattle.cg_graph.specs.Object.{Object}
+use Rattle.cg_graph.proofs.Members.{either, Includes-append_left}
+use Rattle.cg_machine.specs.World.{World, Activity, TopLevel, Framed, Releasing, Dying, DyingPhase, Calling, Collecting, Collection, CollectPhase, Turns, Turn, AfterTurn, opening, with_stack}
+use Rattle.cg_machine.specs.Holdings.{is_collection}
+use Rattle.cg_machine.specs.Collect.{PhaseStep}
+use Rattle.cg_machine.specs.Represents.{death_waits}
+use Rattle.cg_machine.specs.Run.{Run, Step, StepOf, StepTaken, last_world}
+use Rattle.cg_machine.specs.Laws.{EntriesLeaveOnlyBy, IsLengthened, IsOfCollection, MayLoseEntries, ReferredTo, WasFinal, all_waits}
+use Rattle.cg_machine.proofs.Ending.{Run-append, last_world-append}
+use Rattle.cg_machine.proofs.Forgotten.{lives_within}
+use Rattle.cg_machine.proofs.LeftRuns.{LeavesUnder, leaves_below, step_leaves_on}
+use Rattle.cg_machine.proofs.Lookups.{same_object}
+use Rattle.cg_machine.proofs.Sound.{collections_in}
+use Rattle.cg_machine.proofs.Tally.{tally}
+use Rattle.cg_machine.proofs.Unheld.{IsStack}
+use Rattle.cg_laws.specs.Apart.{IsApart}
+use Rattle.cg_laws.proofs.RunsApart.{runs_apart}
+use Rattle.cg_laws.proofs.StepsPlain.{IsPlainUnder, step_plain}
+use Rattle.cg_promises.proofs.Leaves.{CallsBack, dying_takes, phase_takes, released_lengthens}
+use Rattle.cg_promises.proofs.Sealing.{alone_below}
+use Rattle.cg_promises.proofs.ToldRuns.{Fit, opening_fit, run_back, run_front, run_fit, step_fit}
+use Rattle.cg_promises.proofs.Turned.{AreFinal, FinalAt, IsEarly, final_stays, late_final, phase_stack}
+use Rattle.cg_promises.proofs.Waited.{Waited, step_waited}
+
+module _ (script : Script) (budget : ℕ) where
+  abbrev world : List StepTaken → World
+  world done = last_world (opening script budget) done
+
+  -- what was stays so in a longer run
+  was_longer : (done : List StepTaken) (step : StepTaken) (n : ℕ) → WasFinal script budget done n → WasFinal script budget (done ++ step ∷ []) n
+  was_longer done step n w = record { before = w.before; split = w.split; after = w.after ++ step ∷ []; is = ap (λ steps. steps ++ step ∷ []) w.is ∙ append_assoc w.before (w.split ∷ w.after) (step ∷ []); splits = w.splits; member = w.member }
+
+  referred_longer : (done : List StepTaken) (step : StepTaken) (weak o : ℕ) → ReferredTo script budget done weak o → ReferredTo script budget (done ++ step ∷ []) weak o
+  referred_longer done step weak o w = record { before = w.before; after = w.after ++ step ∷ []; is = ap (λ steps. steps ++ step ∷ []) w.is ∙ append_assoc w.before w.after (step ∷ []); object = w.object; member = w.member; same = w.same; refers = w.refers }
+
+  -- what the worlds of a run have of its past
+  record Past (done : List StepTaken) (w : World) : Type 0 where
+    waited : Waited (ReferredTo script budget done) w.stack
+    final : AreFinal (WasFinal script budget done) w.objects w.stack
+
+  -- more may be said of what was
+  finals_more : (P Q : ℕ → Type 0) → ((n : ℕ) → P n → Q n) → (c : Collection) (phase : CollectPhase) (objects : List Object) → FinalAt P c phase objects → FinalAt Q c phase objects
+  finals_more P Q more c Turns objects h = λ clears x m e. more x.serial (h clears x m e)
+  finals_more P Q more c (Turn o) objects h = (λ clears x m e. more x.serial (h.0 clears x m e), more o h.1)
+  finals_more P Q more c (AfterTurn o) objects h = λ clears x m e. more x.serial (h clears x m e)
+  finals_more P Q more c phase objects h = tt
+
+  module _ (done : List StepTaken) (step : StepTaken) (run : Run script (opening script budget) done) (goes : Step script (world done) step.events step.world) (fit : Fit script (world done)) (apart : IsApart (world done)) where
+    abbrev longer : List StepTaken
+    longer = done ++ step ∷ []
+
+    -- an other step
+    other_final : (a : Activity) (below : List Activity) → (world done).stack ≡ a ∷ below → is_collection a ≡ false → AreFinal (WasFinal script budget longer) (world done).objects (world done).stack → AreFinal (WasFinal script budget longer) step.world.objects step.world.stack
+    other_final a below top none h c m =
+        let w = world done in
+        let stack : IsStack script w (a ∷ below) = subst (IsStack script w) top fit.calm.stack in
+        let left : LeavesUnder w (a ∷ below) step.world = subst (λ st. LeavesUnder w st step.world) top (step_leaves_on script w w.stack step.events step.world fit.sound.rises goes.step fit.calm fit.order) in
+        let made = lives_within 1 w.next_serial w.objects 1 fit.sound.rises fit.order.root_lives in
+        let plain : IsPlainUnder w.objects (a ∷ below) step.world = subst (λ st. IsPlainUnder w.objects st step.world) top (step_plain script w w.stack step.events step.world apart.garbage made.1 goes.step fit.calm) in
+        let leaves = leaves_below script w a below step.world top fit.sound.rises stack.1 fit.order left in
+        either ((plain none).stack c m)
+        (λ k. final_stays (WasFinal script budget longer) w.objects step.world.objects (λ y i e. let had = leaves.places none y i (subst (λ p. IsOfCollection p) (sym e) tt) in (had.0, had.1, had.2, sym had.3 ∙ e)) c c.phase
+        (h c (subst (λ st. Includes st (Collecting c)) (sym top) (inr k))))
+        (λ k. subst (λ p. FinalAt (WasFinal script budget longer) c p step.world.objects) (sym k.1) tt)
+
+    collect_final : (c : Collection) (below : List Activity) → (world done).stack ≡ Collecting c ∷ below → AreFinal (WasFinal script budget longer) (world done).objects (world done).stack → AreFinal (WasFinal script budget longer) step.world.objects step.world.stack
+    collect_final c below top h =
+        let w = world done in
+        let alone = alone_below c below (subst (λ st. tally collections_in st ≤ 1) top fit.sound.single) in
+        let taken : PhaseStep script c c.phase below (with_stack (Collecting c ∷ below) w) step.events step.world = subst (λ st. StepOf script (with_stack st w) st step.events step.world) top goes.step in
+        late_final (WasFinal script budget longer) script c below w alone c.phase step.events step.world taken
+        (λ o clears phase k. record { before = done; split = step; after = []; is = refl; splits = record { collection = c; below = below; top = top; phase = phase; clears = clears }; member = k })
+        (λ d m early other. phase_stack (λ st. (b : Collection) → Includes st (Collecting b) → IsEarly b.phase) (λ a st none death k b i. either i (λ e. absurd (let no : false ≡ true = sym none ∙ ap is_collection e in cc)) (k b)) script c below w (λ b i. absurd (alone b i)) c.phase
+        (λ b s e i. either i (λ k. let same : b ≡ e = cc in subst (λ (z : Collection). IsEarly z.phase) same (s early other)) (λ k. absurd (alone e k))) step.events step.world taken d m)
+        (h c (subst (λ st. Includes st (Collecting c)) (sym top) (inl refl)))
+
+    step_final : (stack : List Activity) → (world done).stack ≡ stack → AreFinal (WasFinal script budget longer) (world done).objects (world done).stack → AreFinal (WasFinal script budget longer) step.world.objects step.world.stack
+    step_final [] top h = absurd (subst (λ st. StepOf script (world done) st step.events step.world) top goes.step)
+    step_final (TopLevel commands ∷ below) top h = other_final (TopLevel commands) below top refl h
+    step_final (Framed f ∷ below) top h = other_final (Framed f) below top refl h
+    step_final (Releasing refs ∷ below) top h = other_final (Releasing refs) below top refl h
+    step_final (Dying d ∷ below) top h = other_final (Dying d) below top refl h
+    step_final (Collecting c ∷ below) top h = collect_final c below top h
+
+    step_past : Past done (world done) → Past longer step.world
+    step_past h = record {
+      waited = step_waited (ReferredTo script budget longer) script (world done) (world done).stack step.events step.world goes.step
+          (λ c below top rest. phase_stack (Waited (ReferredTo script budget longer)) (λ a st none death k d i. either i (λ e. absurd (death d e)) (k d)) script c below (world done) rest c.phase (λ b s d i. either i (λ e. cc) (rest d)) step.events step.world
+          (subst (λ st. StepOf script (with_stack st (world done)) st step.events step.world) top goes.step))
+          (λ weak o r. record { before = done; after = step ∷ []; is = refl; object = r.0; member = r.1; same = r.2; refers = r.3 })
+          (λ d m weak i. referred_longer done step weak d.object (h.waited d m weak i));
+      final = step_final (world done).stack refl (λ c m. finals_more (WasFinal script budget done) (WasFinal script budget longer) (was_longer done step) c c.phase (world done).objects (h.final c m));
+    }
+
+  past_after : (done todo : List StepTaken) → Run script (opening script budget) done → Run script (world done) todo → Fit script (world done) → Past done (world done) → Past (done ++ todo) (world (done ++ todo))
+  past_after done [] run goes fit h = subst (λ steps. Past steps (world steps)) (sym (append-nil done)) h
+  past_after done (step ∷ todo) run goes fit h =
+      let longer = done ++ step ∷ [] in
+      let same : world longer ≡ step.world = last_world-append (opening script budget) done (step ∷ []) in
+      let more : Run script (opening script budget) longer = Run-append script (opening script budget) done (step ∷ []) run (goes.0, tt) in
+      let now = step_past done step run goes.0 fit (runs_apart script budget done run) h in
+      subst (λ steps. Past steps (world steps)) (append_assoc done (step ∷ []) todo)
+      (past_after longer todo more (subst (λ w. Run script w todo) (sym same) goes.1) (subst (Fit script) (sym same) (step_fit script (world done) step.events step.world goes.0 fit)) (subst (Past longer) (sym same) now))
+
+  opening_past : Past [] (opening script budget)
+  opening_past = record { waited = λ d m. either m (λ e. cc) (λ none. absurd none); final = λ c m. either m (λ e. cc) (λ none. absurd none) }
+
+  -- a weak reference that is called back waits
+  calls_waits : (phase : DyingPhase) (n : ℕ) → CallsBack phase n → Includes (death_waits phase) n
+  calls_waits (Calling []) n h = absurd h
+  calls_waits (Calling (weak ∷ waiting)) n h = inl h
+  calls_waits phase n h = absurd h
+
+  module _ (before : List StepTaken) (step : StepTaken) (goes : Step script (world before) step.events step.world) (fit : Fit script (world before)) (past : Past before (world before)) (x y : Object) (mx : Includes (world before).objects x) (my : Includes step.world.objects y) (same : x.serial ≡ y.serial)
+      (never : ¬ WasFinal script budget before x.serial) (shorter : ¬ IsLengthened x y) where
+    is_x : (z : Object) → Includes (world before).objects z → z.serial ≡ y.serial → z ≡ x
+    is_x z m e = same_object 1 (world before).next_serial (world before).objects z x fit.sound.rises m mx (e ∙ sym same)
+
+    may : (stack : List Activity) → (world before).stack ≡ stack → StepOf script (with_stack stack (world before)) stack step.events step.world → MayLoseEntries script budget before x stack
+    may [] top taken = taken
+    may (TopLevel commands ∷ below) top taken = tt
+    may (Framed f ∷ below) top taken = tt
+    may (Releasing refs ∷ below) top taken = let z = released_lengthens refs below (world before) y (subst (λ (w : World). Includes w.objects y) taken.1 my) in
+        either z.3 (λ l. shorter (subst (λ q. IsLengthened q y) (is_x z.0 z.1 z.2) l)) (λ no. no)
+    may (Dying d ∷ below) top taken =
+        let z = dying_takes script d.object below (world before) d.phase y (subst (λ (w : World). Includes w.objects y) taken.1 my) in
+        either z.3 (λ l. absurd (shorter (subst (λ q. IsLengthened q y) (is_x z.0 z.1 z.2) l)))
+        (λ e. either e (λ own. inl (own ∙ sym same))
+        (λ called. let waits = calls_waits d.phase x.serial (subst (CallsBack d.phase) (sym same) called) in
+        inr (
+          (fit.order.waiting x.serial (subst (λ st. Includes (all_waits st) x.serial) (sym top) (Includes-append_left (death_waits d.phase) (all_waits below) x.serial waits)) x mx refl).code,
+          past.waited d (subst (λ st. Includes st (Dying d)) (sym top) (inl refl)) x.serial waits,
+        )))
+    may (Collecting c ∷ below) top taken =
+        let z = phase_takes script c below (world before) c.phase step.events step.world taken y my in
+        either z.3 (λ l. shorter (subst (λ q. IsLengthened q y) (is_x z.0 z.1 z.2) l))
+        (λ turn. never (subst (WasFinal script budget before) (sym same) (subst (λ p. FinalAt (WasFinal script budget before) c p (world before).objects) turn (past.final c (subst (λ st. Includes st (Collecting c)) (sym top) (inl refl)))).1))
+
+pub entries_leave : EntriesLeaveOnlyBy
+entries_leave script budget before step run x y mx my same never shorter =
+    let front = run_front script (opening script budget) before (step ∷ []) run in
+    let rest = run_back script (opening script budget) before (step ∷ []) run in
+    let w = last_world (opening script budget) before in
+    let fit = run_fit script (opening script budget) before front (opening_fit script budget) in
+    let past = past_after script budget [] before tt front (opening_fit script budget) (opening_past script budget) in
+    may script budget before step rest.0 fit past x y mx my same never shorter w.stack refl rest.0.step

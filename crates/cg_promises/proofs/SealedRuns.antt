@@ -1,0 +1,265 @@
+-- A final set stays sealed until its collection stops.
+use Rattle.std.proofs.Common.{◌≡◌, refl, sym, ◌∙◌, ap, subst, ℕ, ◌+◌, ◌<◌, Bool, true, false, cond, not, ◌&&◌, inl, inr, List, [], ◌∷◌, ◌++◌, map, length, Option, Some, None, Result, Ok, Err, arith}
+use Rattle.std.specs.Prelude.{if◌then◌else◌, count_by, filter, option_map, unwrap_or}
+use Rattle.std.specs.List.{list_any}
+use Rattle.std.proofs.lemmas.List.Sums.{sum_by-append, sum_by-cons}
+use Rattle.cg_value.specs.declared.Place.{Place}
+use Rattle.cg_value.specs.declared.Place.TheVariants.{Legacy, Untracked, Gen, Frozen, Cand, Seen, Back, Pend}
+use Rattle.cg_script.specs.declared.Script.{Script}
+use Rattle.cg_script.specs.declared.Command.{Command}
+use Rattle.cg_graph.specs.Member.{Includes}
+use Rattle.cg_graph.specs.Value.{references}
+use Rattle.cg_graph.specs.Object.{Object, entries_of, is_at, object_at, same_place, serials, serials_at}
+use Rattle.cg_graph.proofs.Members.{either, true_and, Includes-append_cases, Includes-map_cases, Includes-filter_cases}
+use Rattle.cg_machine.specs.declared.event.Event.{Event}
+use Rattle.cg_machine.specs.declared.event.Event.TheVariants.{Collected, End, GcSaved, GcStop, GcUncollectable, Refused}
+use Rattle.cg_machine.specs.declared.event.FrameSort.{FrameSort}
+use Rattle.cg_machine.specs.declared.event.FrameSort.TheVariants.{Del, Legacy as LegacyFrame, Callback, Call as CallFrame}
+use Rattle.cg_machine.specs.World.{World, Activity, TopLevel, Framed, Releasing, Dying, Collecting, Collection, CollectPhase, Turns, Turn, AfterTurn, Ending, Frame, Ended, push, with_stack}
+use Rattle.cg_machine.specs.Holdings.{call_holds, is_collecting, is_collection, is_death_of}
+use Rattle.cg_machine.specs.Frame.{Transition, procedure_of, released}
+use Rattle.cg_machine.specs.Effects.{Calls, Changes, Collects, Effect, Quits}
+use Rattle.cg_machine.specs.Refusals.{no_memory}
+use Rattle.cg_machine.specs.Commands.{DoesEffect, effect, new_collection, refused, stopped_frame, without_commands}
+use Rattle.cg_machine.specs.Dying.{dying}
+use Rattle.cg_machine.specs.Due.{due, due_generation, is_due}
+use Rattle.cg_machine.specs.Collect.{EndStep, PhaseStep, collection_at, has_flag, is_saved, lines_if, save_all, uncollectable}
+use Rattle.cg_machine.specs.Run.{CommandInFrame, FrameStep, Run, Step, StepOf, StepTaken, TopLevelStep, events_of, last_world}
+use Rattle.cg_machine.specs.Laws.{HoldsNot, IsNoLocal, IsSealed, function_and_cells, is_stop, locals_of, named}
+use Rattle.cg_machine.proofs.CommandLaws.{Each, LeavesStack, effect_leaves}
+use Rattle.cg_machine.proofs.CommandRefs.{option_free}
+use Rattle.cg_machine.proofs.Lookups.{found_at}
+use Rattle.cg_machine.proofs.RunsCalm.{HasCommands}
+use Rattle.cg_machine.proofs.Serials.{Rises}
+use Rattle.cg_promises.proofs.Sealed.{Clears, Fits, IsLate, NotAfter, Passes, Sealed, TellsOut, comes_excused, goes_sealed, loosen, none_out, one_out, one_still, push_sealed, same_shrinks, shrunk, starts_sealed, turn_sealed, yields_sealed}
+use Rattle.cg_promises.proofs.SealedDeaths.{dying_sealed, frame_end_sealed, late_sealed, released_sealed}
+use Rattle.cg_promises.proofs.SealedCommands.{DoesOpen, Opens, effect_opens}
+use Rattle.cg_promises.proofs.ToldCollections.{same_lives}
+use Rattle.cg_promises.proofs.ToldRuns.{Fit, step_fit}
+
+-- no collection is due while one is under way
+due_none : (w : World) → is_collecting w ≡ true → due w ≡ None
+due_none w e = go (is_due w.numbers) (is_collecting w) e
+  where
+    go : (is t : Bool) → t ≡ true → (if is && not t then Some (due_generation w.numbers) else None) ≡ None
+    go true true k = refl
+    go false t k = refl
+    go true false k = let no : true ≡ false = sym k in absurd (cc)
+
+-- a command is done
+module _ (script : Script) (members : List ℕ) (a : Activity) (below : List Activity) (v : World) (ha : HasCommands a) (h : Sealed script members v.objects v.names (a ∷ below) v.next_serial) where
+  abbrev now : World
+  now = with_stack (a ∷ below) v
+
+  abbrev SealedOn : List Activity → Type 0
+  SealedOn stack = Sealed script members v.objects v.names stack v.next_serial
+
+  yields : (t : Transition) (events : List Event) (after : World) → (events ≡ t.0) × (after ≡ t.1) → Passes script members t.0 t.1 → Passes script members events after
+  yields t events after step k = yields_sealed script members t events after step k
+
+  stopped : (top : Activity) → HasCommands top → SealedOn (top ∷ below) → SealedOn (stopped_frame (top ∷ below))
+  stopped (TopLevel commands) t m = m
+  stopped (Framed f) t m = turn_sealed script members (Framed f) (Framed (record f { commands = [] })) below v.objects v.objects v.names v.next_serial (shrunk script members v.objects v.objects v.next_serial (same_shrinks v.objects)) (m.stack_fits (Framed f) (inl refl)) refl refl (λ n i. refl) m
+  stopped top t m = absurd t
+
+  quits : (top : Activity) → HasCommands top → SealedOn (top ∷ below) → SealedOn (without_commands (top ∷ below))
+  quits (TopLevel commands) t m = turn_sealed script members (TopLevel commands) (TopLevel []) below v.objects v.objects v.names v.next_serial (shrunk script members v.objects v.objects v.next_serial (same_shrinks v.objects)) tt refl refl (λ n i. refl) m
+  quits (Framed f) t m = turn_sealed script members (Framed f) (Framed (record f { commands = [] })) below v.objects v.objects v.names v.next_serial (shrunk script members v.objects v.objects v.next_serial (same_shrinks v.objects)) (m.stack_fits (Framed f) (inl refl)) refl refl (λ n i. refl) m
+  quits top t m = absurd t
+
+  refuses : (refusal : ℕ) → (let t : Transition = refused refusal now in Passes script members t.0 t.1)
+  refuses refusal = record { sealed = stopped a ha h; lines = one_still members (Refused refusal) refl (λ n m. absurd m) }
+
+  collects : (g : ℕ) (t : Bool) → t ≡ true → (let s : Transition = if t then (Collected 0 ∷ [], now) else ([], push (new_collection g true now) now) in Passes script members s.0 s.1)
+  collects g true e = record { sealed = h; lines = one_still members (Collected 0) refl (λ n m. absurd m) }
+  collects g false e = absurd (let no : true ≡ false = sym e in cc)
+
+  opened : (lines : List Event) (given : List ℕ) (next : World) → next.stack ≡ a ∷ below → Opens script members now h lines next → Passes script members lines (push (Releasing given) next)
+  opened lines given next same o = record {
+    sealed = push_sealed script members (Releasing given) next.stack next.objects next.names next.next_serial tt refl
+        (goes_sealed script members v.objects next.objects v.names next.names (a ∷ below) next.stack v.next_serial next.next_serial o.next (λ y m. loosen members v.objects v.next_serial y (o.comes y m)) o.names
+        (λ b m. h.stack_fits b (subst (λ st. Includes st b) same m)) (subst (λ st. list_any is_collection st ≡ true) (sym same) h.collecting) (λ k. subst (Clears members) (sym same) k)
+        (comes_excused script members v.objects next.objects v.names (a ∷ below) next.stack v.next_serial o.comes (λ n w. subst (λ st. NotAfter st n) (sym same) w) (λ n m e. subst (λ st. list_any (is_death_of n) st ≡ true) (sym same) e) h) h);
+    lines = o.told;
+  }
+
+  effect_sealed : (r : Result Effect ℕ) → Each (LeavesStack now) r → Each (DoesOpen script members now h) r → (events : List Event) (after : World) → DoesEffect script now r events after → Passes script members events after
+  effect_sealed (Err refusal) l o events after step = yields _ events after step (refuses refusal)
+  effect_sealed (Ok (Changes wants_memory lines given_up next)) l o events after (inl step) = yields _ events after step (opened lines given_up next l.stack o)
+  effect_sealed (Ok (Changes wants_memory lines given_up next)) l o events after (inr step) = yields _ events after step.1 (refuses no_memory)
+  effect_sealed (Ok (Calls f)) l o events after step = yields _ events after step (starts_sealed script members (record { sort = CallFrame; proc = procedure_of now f; subject = f; func = Some f }) now o (λ g e. let s : f ≡ g = cc in subst (λ n. ¬ Includes members n) s o) h)
+  effect_sealed (Ok (Collects g)) l o events after step = yields _ events after step (collects g (is_collecting now) h.collecting)
+  effect_sealed (Ok Quits) l o events after step = yields _ events after step (record { sealed = quits a ha h; lines = none_out members })
+
+  pub done_sealed : (command : Command) (events : List Event) (after : World) → DoesEffect script now (effect now command) events after → Passes script members events after
+  done_sealed command events after step = effect_sealed (effect now command) (effect_leaves now command) (effect_opens script members now h command) events after step
+
+module _ (script : Script) (members : List ℕ) (below : List Activity) (v : World) (events : List Event) (after : World) where
+  top_level_sealed : (commands : List Command) (d : Option ℕ) → d ≡ None → TopLevelStep script (with_stack (TopLevel commands ∷ below) v) d commands below events after → Sealed script members v.objects v.names (TopLevel commands ∷ below) v.next_serial → Passes script members events after
+  top_level_sealed commands (Some g) e step h = absurd (let no : Some g ≡ None = e in cc)
+  top_level_sealed [] None e step h = yields_sealed script members (End ∷ [], record v { stack = TopLevel [] ∷ below; outcome = Ended }) events after step (record { sealed = h; lines = one_still members End refl (λ n m. absurd m) })
+  top_level_sealed (command ∷ commands) None e step h = done_sealed script members (TopLevel commands) below v tt (turn_sealed script members (TopLevel (command ∷ commands)) (TopLevel commands) below v.objects v.objects v.names v.next_serial (shrunk script members v.objects v.objects v.next_serial (same_shrinks v.objects)) tt refl refl (λ n i. refl) h) command events after step
+
+  in_frame_sealed : (f : Frame) (command : Command) (commands : List Command) (d : Option ℕ) → d ≡ None → CommandInFrame script (with_stack (Framed f ∷ below) v) d f command commands below events after → Sealed script members v.objects v.names (Framed f ∷ below) v.next_serial → Passes script members events after
+  in_frame_sealed f command commands (Some g) e step h = absurd (let no : Some g ≡ None = e in cc)
+  in_frame_sealed f command commands None e step h = done_sealed script members (Framed (record f { commands = commands })) below v tt (turn_sealed script members (Framed f) (Framed (record f { commands = commands })) below v.objects v.objects v.names v.next_serial (shrunk script members v.objects v.objects v.next_serial (same_shrinks v.objects)) (h.stack_fits (Framed f) (inl refl)) refl refl (λ n i. refl) h) command events after step
+
+  framed_sealed : (f : Frame) (commands : List Command) → FrameStep script (with_stack (Framed f ∷ below) v) f commands below events after → Sealed script members v.objects v.names (Framed f ∷ below) v.next_serial → Passes script members events after
+  framed_sealed f [] step h = yields_sealed script members _ events after step (frame_end_sealed script members f below v h)
+  framed_sealed f (command ∷ commands) step h = in_frame_sealed f command commands (due (with_stack (Framed f ∷ below) v)) (due_none (with_stack (Framed f ∷ below) v) h.collecting) step h
+
+-- the lines of the end of a collection name none that is condemned
+at_place : (p q : Place) → same_place p q ≡ true → q ≡ Legacy → p ≡ Legacy
+at_place Legacy q e k = refl
+at_place Untracked q e k = absurd (let no : false ≡ true = subst (λ r. same_place Untracked r ≡ true) k e in cc)
+at_place (Gen i) q e k = absurd (let no : false ≡ true = subst (λ r. same_place (Gen i) r ≡ true) k e in cc)
+at_place Frozen q e k = absurd (let no : false ≡ true = subst (λ r. same_place Frozen r ≡ true) k e in cc)
+at_place Cand q e k = absurd (let no : false ≡ true = subst (λ r. same_place Cand r ≡ true) k e in cc)
+at_place Seen q e k = absurd (let no : false ≡ true = subst (λ r. same_place Seen r ≡ true) k e in cc)
+at_place Back q e k = absurd (let no : false ≡ true = subst (λ r. same_place Back r ≡ true) k e in cc)
+at_place Pend q e k = absurd (let no : false ≡ true = subst (λ r. same_place Pend r ≡ true) k e in cc)
+
+module _ (script : Script) (members : List ℕ) (c : Collection) (below : List Activity) (v : World) (stack : List Activity) (h : Sealed script members v.objects v.names stack v.next_serial) where
+  aside_out : (test : Object → Bool) → ((x : Object) → test x ≡ true → x.place ≡ Legacy) → (n : ℕ) → Includes (serials (filter test v.objects)) n → ¬ Includes members n
+  aside_out test aside n m k =
+      let x = Includes-map_cases (λ (z : Object). z.serial) (filter test v.objects) n m in
+      let f = Includes-filter_cases test v.objects x.0 x.1 in
+      (h.inside x.0 f.0 (subst (Includes members) (sym x.2) k)).not_aside (aside x.0 f.1)
+
+  each_out : (line : ℕ → Event) (ns : List ℕ) → ((n k : ℕ) → Includes (named (line n)) k → n ≡ k) → ((n : ℕ) → Includes ns n → ¬ Includes members n) → TellsOut members (map line ns)
+  each_out line ns names out event m n i k =
+      let s = Includes-map_cases line ns event m in
+      absurd (out s.0 s.1 (subst (Includes members) (sym (names s.0 n (subst (λ e. Includes (named e) n) (sym s.2) i))) k))
+
+  both_out : (xs ys : List Event) → TellsOut members xs → TellsOut members ys → TellsOut members (xs ++ ys)
+  both_out xs ys p q event m = either (Includes-append_cases xs ys event m) (p event) (q event)
+
+  if_out : (b : Bool) (lines : List Event) → TellsOut members lines → TellsOut members (lines_if b lines)
+  if_out true lines p = p
+  if_out false lines p = (none_out members).0
+
+  one_name : (n k : ℕ) → Includes (n ∷ []) k → n ≡ k
+  one_name n k (inl e) = e
+  one_name n k (inr none) = absurd none
+
+  end_out : (events : List Event) (after : World) → EndStep script c below (collection_at c Ending below v) events after → TellsOut members events
+  end_out events after step = subst (TellsOut members) (sym step.lines)
+      (both_out (lines_if (has_flag c.flags uncollectable) (map GcUncollectable step.told) ++ map GcSaved step.keeps) (GcStop c.generation c.collected (length step.told) ∷ lines_if c.asked (Collected (c.collected + length step.told) ∷ []))
+      (both_out (lines_if (has_flag c.flags uncollectable) (map GcUncollectable step.told)) (map GcSaved step.keeps)
+      (if_out (has_flag c.flags uncollectable) (map GcUncollectable step.told) (each_out GcUncollectable step.told one_name (λ n m. aside_out (is_at Legacy) (λ x t. at_place x.place Legacy t refl) n (same_lives step.told (serials_at v.objects Legacy) step.told_order n m))))
+      (each_out GcSaved step.keeps one_name (λ n m. aside_out (is_saved script c) (λ x t. at_place x.place Legacy (true_and (is_at Legacy x) _ t).0 refl) n (same_lives step.keeps (serials (filter (is_saved script c) v.objects)) step.keeps_order n m))))
+      (both_out (GcStop c.generation c.collected (length step.told) ∷ []) (lines_if c.asked (Collected (c.collected + length step.told) ∷ [])) (one_out members (GcStop c.generation c.collected (length step.told)) (λ n m. absurd m))
+      (if_out c.asked (Collected (c.collected + length step.told) ∷ []) (one_out members (Collected (c.collected + length step.told)) (λ n m. absurd m)))))
+
+-- the end of a collection prints a stop
+stops : (front : List Event) (g m n : ℕ) (back : List Event) (events : List Event) → events ≡ front ++ GcStop g m n ∷ back → count_by is_stop events ≡ 0 → ⊥
+stops front g m n back events e none =
+    let all : count_by is_stop (front ++ GcStop g m n ∷ back) ≡ count_by is_stop front + count_by is_stop (GcStop g m n ∷ back) = sum_by-append (λ x. cond (is_stop x) 1 0) front (GcStop g m n ∷ back) in
+    let one : count_by is_stop (GcStop g m n ∷ back) ≡ 1 + count_by is_stop back = sum_by-cons (λ x. cond (is_stop x) 1 0) (GcStop g m n) back in
+    let zero_now : count_by is_stop (front ++ GcStop g m n ∷ back) ≡ 0 = ap (count_by is_stop) (sym e) ∙ none in
+    omega (arith, all, one, zero_now)
+
+-- any step: its lines, that the members stay sealed where the collection does not stop, and that only its end does that
+pub record Keeping (script : Script) (members : List ℕ) (stack : List Activity) (events : List Event) (after : World) : Type 0 where
+  pub lines : TellsOut members events
+  pub sealed : count_by is_stop events ≡ 0 → Sealed script members after.objects after.names after.stack after.next_serial
+  pub ends : 0 < count_by is_stop events → (c : Collection) × (below : List Activity) × (stack ≡ Collecting c ∷ below) × (c.phase ≡ Ending)
+
+none_stops : (events : List Event) → ((event : Event) → Includes events event → is_stop event ≡ false) → count_by is_stop events ≡ 0
+none_stops [] h = refl
+none_stops (event ∷ events) h =
+    let one : count_by is_stop (event ∷ events) ≡ cond (is_stop event) 1 0 + count_by is_stop events = sum_by-cons (λ x. cond (is_stop x) 1 0) event events in
+    let no : ◌≡◌ {A = ℕ} (cond (is_stop event) 1 0) 0 = ap (λ b. cond b 1 0) (h event (inl refl)) in
+    let rest = none_stops events (λ e m. h e (inr m)) in
+    omega (arith, one, no, rest)
+
+passes : (script : Script) (members : List ℕ) (stack : List Activity) (events : List Event) (after : World) → Passes script members events after → Keeping script members stack events after
+passes script members stack events after p = record { lines = p.lines.0; sealed = λ e. p.sealed; ends = λ more. let none = none_stops events p.lines.1 in absurd (omega (arith, more, none)) }
+
+collect_keeps : (script : Script) (members : List ℕ) (c : Collection) (below : List Activity) (v : World) → Rises 1 v.next_serial v.objects → has_flag c.flags save_all ≡ false → (phase : CollectPhase) (events : List Event) (after : World) → IsLate phase
+    → PhaseStep script c phase below (collection_at c phase below v) events after → Sealed script members v.objects v.names (Collecting (record c { phase = phase }) ∷ below) v.next_serial → Keeping script members (Collecting (record c { phase = phase }) ∷ below) events after
+collect_keeps script members c below v rises clears Turns events after late step h = passes script members (Collecting (record c { phase = Turns }) ∷ below) events after (late_sealed script members c below v rises clears Turns events after late (λ e. cc) step h)
+collect_keeps script members c below v rises clears (Turn o) events after late step h = passes script members (Collecting (record c { phase = Turn o }) ∷ below) events after (late_sealed script members c below v rises clears (Turn o) events after late (λ e. cc) step h)
+collect_keeps script members c below v rises clears (AfterTurn o) events after late step h = passes script members (Collecting (record c { phase = AfterTurn o }) ∷ below) events after (late_sealed script members c below v rises clears (AfterTurn o) events after late (λ e. cc) step h)
+collect_keeps script members c below v rises clears Ending events after late step h = record {
+  lines = end_out script members c below v (Collecting (record c { phase = Ending }) ∷ below) h events after step;
+  sealed = λ none. absurd (stops _ c.generation c.collected (length step.told) _ events step.lines none);
+  ends = λ more. (record c { phase = Ending }, below, refl, refl);
+}
+collect_keeps script members c below v rises clears phase events after late step h = absurd late
+
+step_keeps : (script : Script) (members : List ℕ) (v : World) (stack : List Activity) (events : List Event) (after : World) → Rises 1 v.next_serial v.objects → StepOf script (with_stack stack v) stack events after → Sealed script members v.objects v.names stack v.next_serial → Keeping script members stack events after
+step_keeps script members v [] events after rises step h = absurd step
+step_keeps script members v (TopLevel commands ∷ below) events after rises step h = passes script members (TopLevel commands ∷ below) events after (top_level_sealed script members below v events after commands (due (with_stack (TopLevel commands ∷ below) v)) (due_none (with_stack (TopLevel commands ∷ below) v) h.collecting) step h)
+step_keeps script members v (Framed f ∷ below) events after rises step h = passes script members (Framed f ∷ below) events after (framed_sealed script members below v events after f f.commands step h)
+step_keeps script members v (Releasing refs ∷ below) events after rises step h = passes script members (Releasing refs ∷ below) events after (yields_sealed script members (released refs below (with_stack (Releasing refs ∷ below) v)) events after step (released_sealed script members refs below v h))
+step_keeps script members v (Dying d ∷ below) events after rises step h = passes script members (Dying d ∷ below) events after (yields_sealed script members (dying script d.object d.phase below (with_stack (Dying d ∷ below) v)) events after step (dying_sealed script members d.object below v rises d.phase h))
+step_keeps script members v (Collecting c ∷ below) events after rises step h = let fits = h.stack_fits (Collecting c) (inl refl) in collect_keeps script members c below v rises fits.1 c.phase events after fits.0 step h
+
+abbrev pub IsSealedWorld : Script → List ℕ → World → Type 0
+IsSealedWorld script members w = Sealed script members w.objects w.names w.stack w.next_serial
+
+-- none of a run's first steps stops, and none of the others
+none_first : (xs ys : List Event) → count_by is_stop (xs ++ ys) ≡ 0 → (count_by is_stop xs ≡ 0) × (count_by is_stop ys ≡ 0)
+none_first xs ys e = let all : count_by is_stop (xs ++ ys) ≡ count_by is_stop xs + count_by is_stop ys = sum_by-append (λ x. cond (is_stop x) 1 0) xs ys in (omega (arith, all, e), omega (arith, all, e))
+
+module _ (script : Script) (members : List ℕ) where
+  pub step_keeps_on : (w : World) (events : List Event) (after : World) → Step script w events after → Fit script w → IsSealedWorld script members w → Keeping script members w.stack events after
+  step_keeps_on w events after step fit h = step_keeps script members w w.stack events after fit.sound.rises step.step h
+
+  pub sealed_after : (w : World) (steps : List StepTaken) → Run script w steps → Fit script w → count_by is_stop (events_of steps) ≡ 0 → IsSealedWorld script members w → IsSealedWorld script members (last_world w steps) × TellsOut members (events_of steps)
+  sealed_after w [] run fit none h = (h, (none_out members).0)
+  sealed_after w (step ∷ steps) run fit none h =
+      let both = none_first step.events (events_of steps) none in
+      let keeps = step_keeps_on w step.events step.world run.0 fit h in
+      let rest = sealed_after step.world steps run.1 (step_fit script w step.events step.world run.0 fit) both.1 (keeps.sealed both.0) in
+      (rest.0, λ event m. either (Includes-append_cases step.events (events_of steps) event m) (keeps.lines event) (rest.1 event))
+
+  -- what the law says of a member that lives
+  module _ (w : World) (h : IsSealedWorld script members w) (x : Object) (m : Includes w.objects x) (k : Includes members x.serial) where
+    holds_not : (a : Activity) → Fits members a → HoldsNot x.serial a
+    holds_not (TopLevel commands) f = tt
+    holds_not (Framed frame) f = by_sort frame.sort
+      where
+        by_sort : (sort : FrameSort) → ¬ Includes (call_holds sort frame.function) x.serial
+        by_sort Del = λ n. n
+        by_sort LegacyFrame = λ n. n
+        by_sort Callback = λ n. n
+        by_sort CallFrame = option_free frame.function x.serial (λ e. f.1 x.serial e k)
+    holds_not (Releasing refs) f = tt
+    holds_not (Dying d) f = λ i. f x.serial i k
+    holds_not (Collecting c) f = tt
+
+    cells_not : (g : ℕ) → (¬ Includes members g) → ¬ Includes (references (entries_of w.objects g)) x.serial
+    cells_not g out = go (object_at w.objects g) refl
+      where
+        go : (r : Option Object) → object_at w.objects g ≡ r → ¬ Includes (references (unwrap_or (option_map (λ (z : Object). z.entries) r) [])) x.serial
+        go None e = λ n. n
+        go (Some z) e = λ i. let f = found_at w.objects g z e in out (subst (Includes members) f.1 (h.entries z f.0 x.serial k i))
+
+    no_local : (a : Activity) → Fits members a → IsNoLocal w.objects x.serial a
+    no_local (Framed frame) f = not_there
+      where
+        cells : (function : Option ℕ) → ((g : ℕ) → function ≡ Some g → ¬ Includes members g) → ¬ Includes (function_and_cells w.objects function) x.serial
+        cells None out = λ n. n
+        cells (Some g) out = λ i. either i (λ e. out g refl (subst (Includes members) (sym e) k)) (cells_not g (out g refl))
+
+        not_there : ¬ Includes (locals_of w.objects frame) x.serial
+        not_there i = either i (λ e. f.0 (subst (Includes members) (sym e) k)) (cells frame.function f.1)
+    no_local (TopLevel commands) f = tt
+    no_local (Releasing refs) f = tt
+    no_local (Dying d) f = tt
+    no_local (Collecting c) f = tt
+
+    pub is_sealed : IsSealed script members w x
+    is_sealed = let done = h.inside x m k in record {
+      no_name = h.unnamed x.serial k;
+      no_root = λ e. let low = h.above x.serial k in omega (arith, low, e);
+      no_hold = λ a i. holds_not a (h.stack_fits a i);
+      entries_inside = λ y i r. h.entries y i x.serial k r;
+      no_referent = λ y i. h.referents y i x.serial k;
+      refers_to_none = done.refers_to_none;
+      finalizer_has_run = done.ran;
+      no_legacy = done.no_legacy;
+      no_local = λ a i. no_local a (h.stack_fits a i);
+    }

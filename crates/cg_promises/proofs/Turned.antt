@@ -1,0 +1,232 @@
+-- The stack that a step of a collection leaves, and that an object which has its turn without SAVEALL was in its final set.
+use Rattle.std.proofs.Common.{◌≡◌, ◌≢◌, refl, sym, ◌∙◌, ap, subst, ℕ, ◌+◌, ◌-◌, Bool, true, false, inl, inr, List, [], ◌∷◌, ◌++◌, map, length, Option, Some, None}
+use Rattle.std.specs.Prelude.{◌==◌, if◌then◌else◌, option_and_then, unwrap_or}
+use Rattle.cg_value.specs.declared.Entry.{Entry}
+use Rattle.cg_value.specs.declared.Place.TheVariants.{Cand, Gen, Pend, Seen}
+use Rattle.cg_value.specs.declared.Val.TheVariants.{Ref}
+use Rattle.cg_script.specs.declared.Script.{Script}
+use Rattle.cg_graph.specs.Member.{Includes}
+use Rattle.cg_graph.specs.Value.{entry_references, item, last_entry, without_last}
+use Rattle.cg_graph.specs.Object.{Object, change, object_at, entries_of, is_at, is_in_map, is_tuple, marked, objects_at, same_place, serials_at, with_entries, with_place}
+use Rattle.cg_graph.proofs.Members.{either, Includes-filter, Includes-filter_cases, Includes-map, Includes-map_cases}
+use Rattle.cg_machine.specs.declared.event.Event.{Event}
+use Rattle.cg_machine.specs.declared.event.Event.TheVariants.{BudgetSpent, Enter, GcSaved}
+use Rattle.cg_machine.specs.declared.event.FrameSort.TheVariants.{Del, Callback}
+use Rattle.cg_machine.specs.declared.event.FrameSpec.{FrameSpec}
+use Rattle.cg_machine.specs.Program.{body_of}
+use Rattle.cg_machine.specs.World.{World, Activity, Framed, Releasing, Dying, Death, Collecting, Collection, CollectPhase, Start, WeakClearing, WeakCalling, AfterCallback, AfterRelease, Finalizing, AfterFinalizing, Split, Turns, Turn, AfterTurn, Ending, BudgetIsSpent, with_change, with_objects}
+use Rattle.cg_machine.specs.Holdings.{is_collection}
+use Rattle.cg_machine.specs.Frame.{Transition, procedure_of, start_frame}
+use Rattle.cg_machine.specs.Weak.{callback_of, loses_referent}
+use Rattle.cg_machine.specs.Dying.{finalizer_to_run}
+use Rattle.cg_machine.specs.Collect.{calls_back, collection_at, empties, has_flag, looks_at, older, save_all, saved, takes_turn, waits, FinalizingStep, PhaseStep, TurnsStep, WeakClearingStep}
+use Rattle.cg_laws.proofs.SetsApart.{NoneCollects}
+use Rattle.cg_promises.proofs.Primed.{cand_is}
+
+-- a phase of which nothing is said below, and after which such a phase comes
+abbrev pub IsEarly : CollectPhase → Type 0
+IsEarly Turns = ⊥
+IsEarly (Turn o) = ⊥
+IsEarly (AfterTurn o) = ⊥
+IsEarly phase = Unit {0}
+
+abbrev pub Steps : CollectPhase → CollectPhase → Type 0
+Steps phase next = IsEarly phase → phase ≢ Split → IsEarly next
+
+-- what holds of the stack below, and of one more that is no death, holds of the stack after
+module _ (Q : List Activity → Type 0) (pushes : (a : Activity) (stack : List Activity) → is_collection a ≡ false → ((d : Death) → a ≢ Dying d) → Q stack → Q (a ∷ stack)) (script : Script) (c : Collection) (below : List Activity) (v : World) (h : Q below) where
+  abbrev at : CollectPhase → World
+  at phase = collection_at c phase below v
+
+  -- the collection goes on top again, early after early
+  abbrev Tops : CollectPhase → Type 0
+  Tops phase = (d : Collection) → Steps phase d.phase → Q (Collecting d ∷ below)
+
+  to : (after next : World) → after ≡ next → Q next.stack → Q after.stack
+  to after next e k = subst (λ (w : World). Q w.stack) (sym e) k
+
+  starts : (spec : FrameSpec) (u : World) → Q u.stack → Q (start_frame script spec u).1.stack
+  starts spec u k = go (u.budget == 0)
+    where
+      frame : Activity
+      frame = Framed (record { sort = spec.sort; subject = spec.subject; function = spec.func; commands = body_of script spec.proc })
+
+      go : (t : Bool) → (let s : Transition = if t then (BudgetSpent ∷ [], record u { outcome = BudgetIsSpent }) else (Enter spec.sort spec.subject ∷ [], record u { budget = u.budget - 1; stack = frame ∷ u.stack }) in Q s.1.stack)
+      go true = k
+      go false = pushes frame u.stack refl (λ d e. cc) k
+
+  either_stack : (t : Bool) (x y : Transition) → Q x.1.stack → Q y.1.stack → (let s : Transition = if t then x else y in Q s.1.stack)
+  either_stack true x y k l = k
+  either_stack false x y k l = l
+
+  weak_clearing_stack : (waiting : List ℕ) → Tops (WeakClearing waiting) → (events : List Event) (after : World) → WeakClearingStep c waiting below (at (WeakClearing waiting)) events after → Q after.stack
+  weak_clearing_stack waiting top events after (inl step) = to after _ step.yields.1 (go (waits v.objects step.weak))
+    where
+      lost : List Object
+      lost = loses_referent step.weak v.objects
+
+      go : (t : Bool) → (let w : World = if t then collection_at c (WeakClearing (waiting ++ step.weak ∷ [])) below (with_objects (change (with_place Pend) step.weak lost) (at (WeakClearing waiting))) else collection_at c (WeakClearing waiting) below (with_objects lost (at (WeakClearing waiting))) in Q w.stack)
+      go true = top (record c { phase = WeakClearing (waiting ++ step.weak ∷ []) }) (λ e s. tt)
+      go false = top (record c { phase = WeakClearing waiting }) (λ e s. tt)
+  weak_clearing_stack waiting top events after (inr step) = to after _ step.1.1 (top (record c { phase = WeakCalling waiting }) (λ e s. tt))
+
+  weak_calling_stack : (waiting : List ℕ) → Tops (WeakCalling waiting) → Q (calls_back script c waiting below (at (WeakCalling waiting))).1.stack
+  weak_calling_stack [] top = top (record c { phase = Finalizing }) (λ e s. tt)
+  weak_calling_stack (weak ∷ waiting) top =
+      let callback = unwrap_or (callback_of v.objects weak) 0 in
+      starts (record { sort = Callback; proc = procedure_of (at (WeakCalling (weak ∷ waiting))) callback; subject = weak; func = Some callback }) (at (AfterCallback weak waiting)) (top (record c { phase = AfterCallback weak waiting }) (λ e s. tt))
+
+  looks_at_stack : (o : ℕ) (m : Option ℕ) → Tops Finalizing → Q (looks_at script c o below (at Finalizing) m).1.stack
+  looks_at_stack o None top = top (record c { phase = Finalizing }) (λ e s. tt)
+  looks_at_stack o (Some p) top = starts (record { sort = Del; proc = p; subject = o; func = None }) (collection_at c (AfterFinalizing o) below (with_change (λ x. marked (with_place Seen x)) o (at Finalizing))) (top (record c { phase = AfterFinalizing o }) (λ e s. tt))
+
+  turn_stack : (x : Object) → Tops Turns → Q (takes_turn c x below (at Turns)).1.stack
+  turn_stack x top = go (has_flag c.flags save_all) (is_tuple x)
+    where
+      go : (s t : Bool) → (let next : Transition = if s then (GcSaved x.serial ∷ [], collection_at c Turns below (with_objects (change (with_place (Gen (older c.generation))) x.serial (saved x.serial v.objects)) (at Turns)))
+          else if t then ([], collection_at c Turns below (with_change (with_place (Gen (older c.generation))) x.serial (at Turns))) else ([], collection_at c (Turn x.serial) below (at Turns)) in Q next.1.stack)
+      go true t = top (record c { phase = Turns }) (λ e s. absurd e)
+      go false true = top (record c { phase = Turns }) (λ e s. absurd e)
+      go false false = top (record c { phase = Turn x.serial }) (λ e s. absurd e)
+
+  empties_stack : (o : ℕ) (m : Option Entry) → Tops (Turn o) → Q (empties c o below (at (Turn o)) m).1.stack
+  empties_stack o None top = pushes (Releasing (o ∷ [])) _ refl (λ d e. cc) (top (record c { phase = AfterTurn o }) (λ e s. absurd e))
+  empties_stack o (Some entry) top = pushes (Releasing (entry_references entry)) _ refl (λ d e. cc) (top (record c { phase = Turn o }) (λ e s. absurd e))
+
+  finalizing_stack : (events : List Event) (after : World) → Tops Finalizing → FinalizingStep script c below (at Finalizing) events after → Q after.stack
+  finalizing_stack events after top (inl step) = to after _ step.yields.1 (looks_at_stack step.object (option_and_then (finalizer_to_run script) (object_at v.objects step.object)) top)
+  finalizing_stack events after top (inr step) = to after _ step.1.1 (top (record c { phase = Split }) (λ e s. tt))
+
+  turns_stack : (events : List Event) (after : World) → Tops Turns → TurnsStep c below (at Turns) events after → Q after.stack
+  turns_stack events after top (inl step) = to after _ step.yields.1 (turn_stack step.object top)
+  turns_stack events after top (inr step) = to after _ step.1.1 (top (record c { phase = Ending }) (λ e s. absurd e))
+
+  pub phase_stack : (phase : CollectPhase) → Tops phase → (events : List Event) (after : World) → PhaseStep script c phase below (at phase) events after → Q after.stack
+  phase_stack Start top events after step = to after _ step.world (top (record c { phase = WeakClearing [] }) (λ e s. tt))
+  phase_stack (WeakClearing waiting) top events after step = weak_clearing_stack waiting top events after step
+  phase_stack (WeakCalling waiting) top events after step = to after _ step.1 (weak_calling_stack waiting top)
+  phase_stack (AfterCallback weak waiting) top events after step = to after _ step.1 (pushes (Releasing (weak ∷ [])) _ refl (λ d e. cc) (top (record c { phase = AfterRelease weak waiting }) (λ e s. tt)))
+  phase_stack (AfterRelease weak waiting) top events after step = to after _ step.1 (either_stack (is_in_map v.objects weak)
+      ([], collection_at c (WeakCalling waiting) below (with_change (with_place (Gen (older c.generation))) weak (at (AfterRelease weak waiting))))
+      ([], collection_at (record c { collected = c.collected + 1 }) (WeakCalling waiting) below (at (AfterRelease weak waiting)))
+      (top (record c { phase = WeakCalling waiting }) (λ e s. tt)) (top (record c { collected = c.collected + 1; phase = WeakCalling waiting }) (λ e s. tt)))
+  phase_stack Finalizing top events after step = finalizing_stack events after top step
+  phase_stack (AfterFinalizing o) top events after step = to after _ step.1 (pushes (Releasing (o ∷ [])) _ refl (λ d e. cc) (top (record c { phase = Finalizing }) (λ e s. tt)))
+  phase_stack Split top events after step = to after _ step.world (top (record c { collected = c.collected + length (serials_at step.objects Cand); phase = Turns }) (λ e s. absurd (s refl)))
+  phase_stack Turns top events after step = turns_stack events after top step
+  phase_stack (Turn o) top events after step = to after _ step.1 (empties_stack o (last_entry (entries_of v.objects o)) top)
+  phase_stack (AfterTurn o) top events after step = to after _ step.1 (top (record c { phase = Turns }) (λ e s. absurd e))
+  phase_stack Ending top events after step = to after _ step.world h
+
+-- what is condemned was in the final set, and so is what has its turn
+abbrev pub Finals : (ℕ → Type 0) → Collection → List Object → Type 0
+Finals Was c objects = has_flag c.flags save_all ≡ false → (x : Object) → Includes objects x → x.place ≡ Cand → Was x.serial
+
+abbrev pub FinalAt : (ℕ → Type 0) → Collection → CollectPhase → List Object → Type 0
+FinalAt Was c Turns objects = Finals Was c objects
+FinalAt Was c (Turn o) objects = Finals Was c objects × Was o
+FinalAt Was c (AfterTurn o) objects = Finals Was c objects
+FinalAt Was c phase objects = Unit {0}
+
+abbrev pub AreFinal : (ℕ → Type 0) → List Object → List Activity → Type 0
+AreFinal Was objects stack = (c : Collection) → Includes stack (Collecting c) → FinalAt Was c c.phase objects
+
+-- what stands there stood there
+abbrev pub Stood : List Object → List Object → Type 0
+Stood before after = (y : Object) → Includes after y → y.place ≡ Cand → (x : Object) × Includes before x × (x.serial ≡ y.serial) × (x.place ≡ Cand)
+
+if_stood : (f : Object → Object) (test : Object → Bool) (objects : List Object) → ((x : Object) → (f x).serial ≡ x.serial) → ((x : Object) → (f x).place ≡ Cand → x.place ≡ Cand) → Stood objects (map (λ x. if test x then f x else x) objects)
+if_stood f test objects serial place y m e =
+    let x = Includes-map_cases (λ x. if test x then f x else x) objects y m in
+    let k = one (test x.0) x.0 (ap (λ (z : Object). z.place) x.2 ∙ e) in
+    (x.0, x.1, k.0 ∙ ap (λ (z : Object). z.serial) x.2, k.1)
+  where
+    one : (b : Bool) (x : Object) → (if b then f x else x).place ≡ Cand → (x.serial ≡ (if b then f x else x).serial) × (x.place ≡ Cand)
+    one true x e = (sym (serial x), place x e)
+    one false x e = (refl, e)
+
+older_stood : (g o : ℕ) (objects : List Object) → Stood objects (change (with_place (Gen g)) o objects)
+older_stood g o objects = if_stood (with_place (Gen g)) (λ x. x.serial == o) objects (λ x. refl) (λ x e. absurd (let no : Gen g ≡ Cand = e in cc))
+
+entries_stood : (es : List Entry) (o : ℕ) (objects : List Object) → Stood objects (change (with_entries es) o objects)
+entries_stood es o objects = if_stood (with_entries es) (λ x. x.serial == o) objects (λ x. refl) (λ x e. e)
+
+saved_stood : (o : ℕ) (objects : List Object) → Stood objects (saved o objects)
+saved_stood o objects = if_stood (λ x. with_entries (x.entries ++ item (Ref o) ∷ []) x) (λ x. x.serial == 1) objects (λ x. refl) (λ x e. e)
+
+pub finals_stay : (Was : ℕ → Type 0) (c d : Collection) (before after : List Object) → d.flags ≡ c.flags → Stood before after → Finals Was c before → Finals Was d after
+finals_stay Was c d before after flags stood h clears y m e = let x = stood y m e in subst Was x.2 (h (subst (λ f. has_flag f save_all ≡ false) flags clears) x.0 x.1 x.3)
+
+-- a step that is no collection's
+pub final_stays : (Was : ℕ → Type 0) (before after : List Object) → Stood before after → (c : Collection) (phase : CollectPhase) → FinalAt Was c phase before → FinalAt Was c phase after
+final_stays Was before after stood c Turns h = finals_stay Was c c before after refl stood h
+final_stays Was before after stood c (Turn o) h = (finals_stay Was c c before after refl stood h.0, h.1)
+final_stays Was before after stood c (AfterTurn o) h = finals_stay Was c c before after refl stood h
+final_stays Was before after stood c Start h = tt
+final_stays Was before after stood c (WeakClearing waiting) h = tt
+final_stays Was before after stood c (WeakCalling waiting) h = tt
+final_stays Was before after stood c (AfterCallback weak waiting) h = tt
+final_stays Was before after stood c (AfterRelease weak waiting) h = tt
+final_stays Was before after stood c Finalizing h = tt
+final_stays Was before after stood c (AfterFinalizing o) h = tt
+final_stays Was before after stood c Split h = tt
+final_stays Was before after stood c Ending h = tt
+
+early_final : (Was : ℕ → Type 0) (c : Collection) (phase : CollectPhase) (objects : List Object) → IsEarly phase → FinalAt Was c phase objects
+early_final Was c Turns objects early = absurd early
+early_final Was c (Turn o) objects early = absurd early
+early_final Was c (AfterTurn o) objects early = absurd early
+early_final Was c phase objects early = tt
+
+module _ (Was : ℕ → Type 0) (script : Script) (c : Collection) (below : List Activity) (v : World) (alone : NoneCollects below) where
+  abbrev standing : CollectPhase → World
+  standing phase = collection_at c phase below v
+
+  abbrev FinalIn : World → Type 0
+  FinalIn w = AreFinal Was w.objects w.stack
+
+  reach : (after next : World) → after ≡ next → FinalIn next → FinalIn after
+  reach after next e k = subst FinalIn (sym e) k
+
+  only : (d : Collection) (objects : List Object) → FinalAt Was d d.phase objects → AreFinal Was objects (Collecting d ∷ below)
+  only d objects h b m = either m (λ e. let same : d ≡ b = cc in subst (λ (z : Collection). FinalAt Was z z.phase objects) same h) (λ k. absurd (alone b k))
+
+  under : (refs : List ℕ) (objects : List Object) (stack : List Activity) → AreFinal Was objects stack → AreFinal Was objects (Releasing refs ∷ stack)
+  under refs objects stack h b m = either m (λ e. cc) (h b)
+
+  turn_final : (x : Object) → Includes v.objects x → x.place ≡ Cand → Finals Was c v.objects → FinalIn (takes_turn c x below (standing Turns)).1
+  turn_final x m at h = go (has_flag c.flags save_all) (is_tuple x) refl
+    where
+      go : (s t : Bool) → has_flag c.flags save_all ≡ s → (let next : Transition = if s then (GcSaved x.serial ∷ [], collection_at c Turns below (with_objects (change (with_place (Gen (older c.generation))) x.serial (saved x.serial v.objects)) (standing Turns)))
+          else if t then ([], collection_at c Turns below (with_change (with_place (Gen (older c.generation))) x.serial (standing Turns))) else ([], collection_at c (Turn x.serial) below (standing Turns)) in FinalIn next.1)
+      go true t e = only (record c { phase = Turns }) _ (λ clears. absurd (let no : true ≡ false = sym e ∙ clears in cc))
+      go false true e = only (record c { phase = Turns }) _ (finals_stay Was c (record c { phase = Turns }) v.objects _ refl (older_stood (older c.generation) x.serial v.objects) h)
+      go false false e = only (record c { phase = Turn x.serial }) v.objects (h, h e x m at)
+
+  turns_final : (events : List Event) (after : World) → TurnsStep c below (standing Turns) events after → Finals Was c v.objects → FinalIn after
+  turns_final events after (inl step) h = let f = Includes-filter_cases (is_at Cand) v.objects step.object step.member in reach after _ step.yields.1 (turn_final step.object f.0 (cand_is step.object.place f.1) h)
+  turns_final events after (inr step) h = reach after _ step.1.1 (only (record c { phase = Ending }) v.objects tt)
+
+  empties_final : (o : ℕ) (m : Option Entry) → Finals Was c v.objects → Was o → FinalIn (empties c o below (standing (Turn o)) m).1
+  empties_final o None h w = under (o ∷ []) v.objects (Collecting (record c { phase = AfterTurn o }) ∷ below) (only (record c { phase = AfterTurn o }) v.objects h)
+  empties_final o (Some entry) h w = under (entry_references entry) _ (Collecting (record c { phase = Turn o }) ∷ below) (only (record c { phase = Turn o }) _
+      (finals_stay Was c (record c { phase = Turn o }) v.objects _ refl (entries_stood (without_last (entries_of v.objects o)) o v.objects) h, w))
+
+  pub late_final : (phase : CollectPhase) (events : List Event) (after : World) → PhaseStep script c phase below (standing phase) events after → ((o : ℕ) → has_flag c.flags save_all ≡ false → phase ≡ Split → Includes (serials_at after.objects Cand) o → Was o)
+      → ((d : Collection) → Includes after.stack (Collecting d) → IsEarly phase → phase ≢ Split → IsEarly d.phase) → FinalAt Was c phase v.objects → FinalIn after
+  late_final Split events after step splits early h = reach after _ step.world (only (record c { collected = c.collected + length (serials_at step.objects Cand); phase = Turns }) step.objects
+      (λ clears x m e. splits x.serial clears refl (subst (λ (w : World). Includes (serials_at w.objects Cand) x.serial) (sym step.world) (member x m e))))
+    where
+      member : (x : Object) → Includes step.objects x → x.place ≡ Cand → Includes (serials_at step.objects Cand) x.serial
+      member x m e = Includes-map (λ (z : Object). z.serial) (objects_at step.objects Cand) x (Includes-filter (is_at Cand) step.objects x (ap (λ p. same_place p Cand) e) m)
+  late_final Turns events after step splits early h = turns_final events after step h
+  late_final (Turn o) events after step splits early h = reach after _ step.1 (empties_final o (last_entry (entries_of v.objects o)) h.0 h.1)
+  late_final (AfterTurn o) events after step splits early h = reach after _ step.1 (only (record c { phase = Turns }) _ (finals_stay Was c (record c { phase = Turns }) v.objects _ refl (older_stood (older c.generation) o v.objects) h))
+  late_final Start events after step splits early h = λ d m. early_final Was d d.phase after.objects (early d m tt (λ e. cc))
+  late_final (WeakClearing waiting) events after step splits early h = λ d m. early_final Was d d.phase after.objects (early d m tt (λ e. cc))
+  late_final (WeakCalling waiting) events after step splits early h = λ d m. early_final Was d d.phase after.objects (early d m tt (λ e. cc))
+  late_final (AfterCallback weak waiting) events after step splits early h = λ d m. early_final Was d d.phase after.objects (early d m tt (λ e. cc))
+  late_final (AfterRelease weak waiting) events after step splits early h = λ d m. early_final Was d d.phase after.objects (early d m tt (λ e. cc))
+  late_final Finalizing events after step splits early h = λ d m. early_final Was d d.phase after.objects (early d m tt (λ e. cc))
+  late_final (AfterFinalizing o) events after step splits early h = λ d m. early_final Was d d.phase after.objects (early d m tt (λ e. cc))
+  late_final Ending events after step splits early h = λ d m. early_final Was d d.phase after.objects (early d m tt (λ e. cc))

@@ -1,0 +1,11 @@
+//! What every run keeps of the objects that it makes: their finalizers, their deaths and their names.
+//!
+//! Each law is the contract of a function that does nothing.
+#![tactic(auto)]
+
+mod laws;
+
+pub use laws::{
+    entries_leave_only_by, final_sets_are_freed, final_sets_are_sealed, no_dead_lines,
+    no_dead_names, one_finalizer_each, only_frees_name_members, unheld_is_dying,
+};
