@@ -245,7 +245,7 @@ module _ (script : Script) (w : World) (rises : Rises 1 w.next_serial w.objects)
   unfrozen_condemned p x e = e
 
   -- What is at hand is not forgotten.
-  hand_known : (command : Command) (v : Val) → IsAtHand w command v → IsKnown w over v
+  pub hand_known : (command : Command) (v : Val) → IsAtHand w command v → IsKnown w over v
   hand_known command v (Word operand u own e) = operand_known w over operand u e
   hand_known command v (ValueIn x e m h k) = λ o f. entry_val e o (λ i. own_free x m o f (references_of_member x.entries e o k i))
   hand_known command v (KeyIn x e m h k) = λ o f. entry_key e o (λ i. own_free x m o f (references_of_member x.entries e o k i))

@@ -14,7 +14,7 @@ use Rattle.cg_machine.specs.Run.{Run, Step, StepOf, StepTaken, last_world}
 use Rattle.cg_machine.specs.Laws.{EntriesLeaveOnlyBy, IsLengthened, IsOfCollection, MayLoseEntries, ReferredTo, WasFinal, all_waits}
 use Rattle.cg_machine.proofs.Ending.{Run-append, last_world-append}
 use Rattle.cg_machine.proofs.Forgotten.{lives_within}
-use Rattle.cg_machine.proofs.LeftRuns.{LeavesUnder, leaves_below, step_leaves_on}
+use Rattle.cg_machine.proofs.LeftRuns.{LeavesUnder, leaves_below, step_leaves}
 use Rattle.cg_machine.proofs.Lookups.{same_object}
 use Rattle.cg_machine.proofs.Sound.{collections_in}
 use Rattle.cg_machine.proofs.Tally.{tally}
@@ -60,9 +60,9 @@ module _ (script : Script) (budget : ℕ) where
     other_final a below top none h c m =
         let w = world done in
         let stack : IsStack script w (a ∷ below) = subst (IsStack script w) top fit.calm.stack in
-        let left : LeavesUnder w (a ∷ below) step.world = subst (λ st. LeavesUnder w st step.world) top (step_leaves_on script w w.stack step.events step.world fit.sound.rises goes.step fit.calm fit.order) in
+        let left : LeavesUnder w (a ∷ below) step.world = subst (λ st. LeavesUnder w st step.world) top (step_leaves script w step.events step.world goes fit.sound fit.calm fit.order) in
         let made = lives_within 1 w.next_serial w.objects 1 fit.sound.rises fit.order.root_lives in
-        let plain : IsPlainUnder w.objects (a ∷ below) step.world = subst (λ st. IsPlainUnder w.objects st step.world) top (step_plain script w w.stack step.events step.world apart.garbage made.1 goes.step fit.calm) in
+        let plain : IsPlainUnder w.objects (a ∷ below) step.world = subst (λ st. IsPlainUnder w.objects st step.world) top (step_plain script w step.events step.world goes apart.garbage made.1 fit.calm) in
         let leaves = leaves_below script w a below step.world top fit.sound.rises stack.1 fit.order left in
         either ((plain none).stack c m)
         (λ k. final_stays (WasFinal script budget longer) w.objects step.world.objects (λ y i e. let had = leaves.places none y i (subst (λ p. IsOfCollection p) (sym e) tt) in (had.0, had.1, had.2, sym had.3 ∙ e)) c c.phase
@@ -90,9 +90,7 @@ module _ (script : Script) (budget : ℕ) where
 
     step_past : Past done (world done) → Past longer step.world
     step_past h = record {
-      waited = step_waited (ReferredTo script budget longer) script (world done) (world done).stack step.events step.world goes.step
-          (λ c below top rest. phase_stack (Waited (ReferredTo script budget longer)) (λ a st none death k d i. either i (λ e. absurd (death d e)) (k d)) script c below (world done) rest c.phase (λ b s d i. either i (λ e. cc) (rest d)) step.events step.world
-          (subst (λ st. StepOf script (with_stack st (world done)) st step.events step.world) top goes.step))
+      waited = step_waited (ReferredTo script budget longer) script (world done) step.events step.world goes
           (λ weak o r. record { before = done; after = step ∷ []; is = refl; object = r.0; member = r.1; same = r.2; refers = r.3 })
           (λ d m weak i. referred_longer done step weak d.object (h.waited d m weak i));
       final = step_final (world done).stack refl (λ c m. finals_more (WasFinal script budget done) (WasFinal script budget longer) (was_longer done step) c c.phase (world done).objects (h.final c m));

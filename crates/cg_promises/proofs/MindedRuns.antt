@@ -1,6 +1,6 @@
 -- In every world of a run what nothing holds is dying.
-use Rattle.std.proofs.Common.{◌≡◌, refl, sym, ◌∙◌, subst, ℕ, ◌<◌, Bool, true, false, inl, inr, List, [], ◌∷◌, length, Option, Some, None, Result, Ok, Err}
-use Rattle.std.specs.Prelude.{if◌then◌else◌, flat_map}
+use Rattle.std.proofs.Common.{◌≡◌, refl, sym, ◌∙◌, subst, ℕ, ◌<◌, Bool, true, false, inl, inr, List, [], ◌∷◌, length, map, Option, Some, None, Result, Ok, Err}
+use Rattle.std.specs.Prelude.{if◌then◌else◌, flat_map, ok_or}
 use Rattle.std.proofs.lemmas.List.{length-replicate}
 use Rattle.cg_value.specs.declared.KindCode.TheVariants.{List as ListKind, Tuple, Weak}
 use Rattle.cg_script.specs.declared.Script.{Script}
@@ -8,7 +8,7 @@ use Rattle.cg_script.specs.declared.Command.{Command}
 use Rattle.cg_script.specs.Texts.{TextsAreKnown, command_texts}
 use Rattle.cg_graph.specs.Member.{Includes}
 use Rattle.cg_graph.specs.Object.{Object}
-use Rattle.cg_graph.proofs.Members.{either, Includes-append_left, Includes-append_right, Includes-map}
+use Rattle.cg_graph.proofs.Members.{either, Includes-append_left, Includes-append_right, Includes-append_cases, Includes-map}
 use Rattle.cg_machine.specs.declared.event.Event.{Event}
 use Rattle.cg_machine.specs.declared.event.Event.TheVariants.{Collected}
 use Rattle.cg_machine.specs.declared.event.FrameSort.TheVariants.{Call as CallFrame}
@@ -21,17 +21,21 @@ use Rattle.cg_machine.specs.Due.{due}
 use Rattle.cg_machine.specs.Origins.{commands_on}
 use Rattle.cg_machine.specs.Run.{CommandInFrame, FrameStep, Run, StepOf, StepTaken, TopLevelStep, last_world}
 use Rattle.cg_machine.specs.Laws.{UnheldIsDying, all_waits}
-use Rattle.cg_machine.proofs.CommandLaws.{Each, LeavesStack, effect_leaves}
+use Rattle.cg_machine.proofs.CommandLaws.{Each, LeavesStack}
+use Rattle.cg_machine.proofs.ShapeLaws.{effect_leaves}
+use Rattle.cg_machine.proofs.Invariants.{HasCommands}
 use Rattle.cg_machine.proofs.DyingOrderly.{HasOrder}
 use Rattle.cg_machine.proofs.Origins.{IsAllOfScript}
 use Rattle.cg_machine.proofs.OriginsOfRuns.{opening_origin, step_origin}
 use Rattle.cg_machine.proofs.PrintableTexts.{commands_name_texts}
-use Rattle.cg_machine.proofs.RunsCalm.{HasCommands, turned}
+use Rattle.cg_machine.proofs.RunsCalm.{turned}
 use Rattle.cg_machine.proofs.RunsOrderly.{gone_forgotten, turned_orderly}
 use Rattle.cg_machine.proofs.Unheld.{Calm}
 use Rattle.cg_machine.proofs.Forgotten.{lives_within}
-use Rattle.cg_machine.proofs.CommandRefs.{values_known, AreKnown as AreKnownValues}
-use Rattle.cg_machine.specs.Operands.{values}
+use Rattle.cg_machine.proofs.CommandRefs.{IsKnown, each_then, entry_free, operand_known}
+use Rattle.cg_machine.specs.Operands.{value, value_of, values}
+use Rattle.cg_machine.specs.Refusals.{no_name}
+use Rattle.cg_graph.specs.Value.{entry_references, item, references}
 use Rattle.cg_script.specs.declared.Operand.{Operand}
 use Rattle.cg_value.specs.declared.Val.{Val}
 use Rattle.cg_promises.proofs.ToldCommands.{lives_or_not}
@@ -43,12 +47,24 @@ use Rattle.cg_promises.proofs.MindedCommands.{AreMadeIn, Shifting, Shifts, effec
 use Rattle.cg_promises.proofs.ToldRuns.{Fit, opening_fit, step_fit}
 
 -- the values of operands refer to what was made
-values_made : (script : Script) (w : World) → Rises 1 w.next_serial w.objects → Calm script w → HasOrder w → (items : List Operand) → Each (AreMadeIn w) (values w items)
-values_made script w rises calm order items = go (values w items) (values_known w calm.over items)
-  where
-    go : (r : Result (List Val) ℕ) → Each (AreKnownValues w calm.over) r → Each (AreMadeIn w) r
-    go (Err e) k = tt
-    go (Ok vs) k = λ n m. either (lives_or_not w.objects n) (λ l. (lives_within 1 w.next_serial w.objects n rises l).1) (λ g. absurd (k n (gone_forgotten w order calm.referred n g) m))
+module _ (script : Script) (w : World) (rises : Rises 1 w.next_serial w.objects) (calm : Calm script w) (order : HasOrder w) where
+  value_made : (operand : Operand) → Each (λ v. (n : ℕ) → Includes (entry_references (item v)) n → n < w.next_serial) (value w operand)
+  value_made operand = go (value_of w operand) refl
+    where
+      made : (v : Val) → IsKnown w calm.over v → (n : ℕ) → Includes (entry_references (item v)) n → n < w.next_serial
+      made v known n m = either (lives_or_not w.objects n) (λ l. (lives_within 1 w.next_serial w.objects n rises l).1)
+          (λ g. absurd (entry_free (item v) n (known n (gone_forgotten w order calm.referred n g)) (λ e. let no : None ≡ Some n = e in cc) m))
+
+      go : (r : Option Val) → value_of w operand ≡ r → Each (λ v. (n : ℕ) → Includes (entry_references (item v)) n → n < w.next_serial) (ok_or r no_name)
+      go None e = tt
+      go (Some v) e = made v (operand_known w calm.over operand v e)
+
+  values_made : (items : List Operand) → Each (AreMadeIn w) (values w items)
+  values_made [] = λ n m. absurd m
+  values_made (operand ∷ operands) =
+      let rest = values_made operands in
+      each_then (λ v. (n : ℕ) → Includes (entry_references (item v)) n → n < w.next_serial) (AreMadeIn w) (value w operand) _ (value_made operand)
+      (λ v made. each_then (AreMadeIn w) (AreMadeIn w) (values w operands) _ rest (λ vs are n m. either (Includes-append_cases (entry_references (item v)) (references (map item vs)) n m) (made n) (are n)))
 
 -- a command is done
 module _ (script : Script) (k : ℕ) (a : Activity) (below : List Activity) (v : World) (ha : HasCommands a) (rises : Rises 1 v.next_serial v.objects) (calm : Calm script (with_stack (a ∷ below) v)) (order : HasOrder (with_stack (a ∷ below) v)) (h : Minded k v.objects v.names (a ∷ below)) where
@@ -143,7 +159,7 @@ step_minded script k v (Collecting c ∷ below) events after rises calm order kn
 module _ (script : Script) (known : TextsAreKnown script) where
   pub minded_after : (w : World) (steps : List StepTaken) → Run script w steps → Fit script w → IsAllOfScript script w → IsMinded (length script.names) w → IsMinded (length script.names) (last_world w steps)
   minded_after w [] run fit of_script h = h
-  minded_after w (step ∷ steps) run fit of_script h = minded_after step.world steps run.1 (step_fit script w step.events step.world run.0 fit) (step_origin script w w.stack step.events step.world run.0.step of_script)
+  minded_after w (step ∷ steps) run fit of_script h = minded_after step.world steps run.1 (step_fit script w step.events step.world run.0 fit) (step_origin script w step.events step.world run.0 of_script)
       (step_minded script (length script.names) w w.stack step.events step.world fit.sound.rises fit.calm fit.order (λ command m. commands_name_texts script known command (of_script.commands command m)) run.0.step h)
 
   pub opening_minded : (budget : ℕ) → IsMinded (length script.names) (opening script budget)

@@ -17,23 +17,21 @@ use Rattle.cg_machine.specs.declared.event.FrameSort.{FrameSort}
 use Rattle.cg_machine.specs.declared.event.FrameSort.TheVariants.{Del, Legacy as LegacyFrame, Callback, Call as CallFrame}
 use Rattle.cg_machine.specs.World.{World, Activity, TopLevel, Framed, Releasing, Dying, Collecting, Collection, CollectPhase, Turns, Turn, AfterTurn, Ending, Frame, Ended, push, with_stack}
 use Rattle.cg_machine.specs.Holdings.{call_holds, is_collecting, is_collection, is_death_of}
-use Rattle.cg_machine.specs.Frame.{Transition, procedure_of, released}
-use Rattle.cg_machine.specs.Effects.{Calls, Changes, Collects, Effect, Quits}
-use Rattle.cg_machine.specs.Refusals.{no_memory}
-use Rattle.cg_machine.specs.Commands.{DoesEffect, effect, new_collection, refused, stopped_frame, without_commands}
-use Rattle.cg_machine.specs.Dying.{dying}
+use Rattle.cg_machine.specs.Frame.{procedure_of}
+use Rattle.cg_machine.specs.Effects.{Calls, Changes}
 use Rattle.cg_machine.specs.Due.{due, due_generation, is_due}
 use Rattle.cg_machine.specs.Collect.{EndStep, PhaseStep, collection_at, has_flag, is_saved, lines_if, save_all, uncollectable}
-use Rattle.cg_machine.specs.Run.{CommandInFrame, FrameStep, Run, Step, StepOf, StepTaken, TopLevelStep, events_of, last_world}
+use Rattle.cg_machine.specs.Run.{Run, Step, StepTaken, events_of, last_world}
 use Rattle.cg_machine.specs.Laws.{HoldsNot, IsNoLocal, IsSealed, function_and_cells, is_stop, locals_of, named}
-use Rattle.cg_machine.proofs.CommandLaws.{Each, LeavesStack, effect_leaves}
 use Rattle.cg_machine.proofs.CommandRefs.{option_free}
 use Rattle.cg_machine.proofs.Lookups.{found_at}
-use Rattle.cg_machine.proofs.RunsCalm.{HasCommands}
+use Rattle.cg_machine.proofs.Shapes.{StartsFrame}
+use Rattle.cg_machine.proofs.ShapeLaws.{changes_leave}
+use Rattle.cg_machine.proofs.Invariants.{AreAnswers, CommandSteps, FromFrame, FromTop, HasCommands, Steps, Takes, any_step, emptied, on}
 use Rattle.cg_machine.proofs.Serials.{Rises}
-use Rattle.cg_promises.proofs.Sealed.{Clears, Fits, IsLate, NotAfter, Passes, Sealed, TellsOut, comes_excused, goes_sealed, loosen, none_out, one_out, one_still, push_sealed, same_shrinks, shrunk, starts_sealed, turn_sealed, yields_sealed}
+use Rattle.cg_promises.proofs.Sealed.{Clears, Fits, IsLate, NotAfter, Passes, Sealed, TellsOut, comes_excused, goes_sealed, loosen, none_out, one_out, one_still, push_sealed, same_shrinks, shrunk, starts_sealed, turn_sealed, TellsStill}
 use Rattle.cg_promises.proofs.SealedDeaths.{dying_sealed, frame_end_sealed, late_sealed, released_sealed}
-use Rattle.cg_promises.proofs.SealedCommands.{DoesOpen, Opens, effect_opens}
+use Rattle.cg_promises.proofs.SealedCommands.{Opens, shape_opens}
 use Rattle.cg_promises.proofs.ToldCollections.{same_lives}
 use Rattle.cg_promises.proofs.ToldRuns.{Fit, step_fit}
 
@@ -45,68 +43,6 @@ due_none w e = go (is_due w.numbers) (is_collecting w) e
     go true true k = refl
     go false t k = refl
     go true false k = let no : true ≡ false = sym k in absurd (cc)
-
--- a command is done
-module _ (script : Script) (members : List ℕ) (a : Activity) (below : List Activity) (v : World) (ha : HasCommands a) (h : Sealed script members v.objects v.names (a ∷ below) v.next_serial) where
-  abbrev now : World
-  now = with_stack (a ∷ below) v
-
-  abbrev SealedOn : List Activity → Type 0
-  SealedOn stack = Sealed script members v.objects v.names stack v.next_serial
-
-  yields : (t : Transition) (events : List Event) (after : World) → (events ≡ t.0) × (after ≡ t.1) → Passes script members t.0 t.1 → Passes script members events after
-  yields t events after step k = yields_sealed script members t events after step k
-
-  stopped : (top : Activity) → HasCommands top → SealedOn (top ∷ below) → SealedOn (stopped_frame (top ∷ below))
-  stopped (TopLevel commands) t m = m
-  stopped (Framed f) t m = turn_sealed script members (Framed f) (Framed (record f { commands = [] })) below v.objects v.objects v.names v.next_serial (shrunk script members v.objects v.objects v.next_serial (same_shrinks v.objects)) (m.stack_fits (Framed f) (inl refl)) refl refl (λ n i. refl) m
-  stopped top t m = absurd t
-
-  quits : (top : Activity) → HasCommands top → SealedOn (top ∷ below) → SealedOn (without_commands (top ∷ below))
-  quits (TopLevel commands) t m = turn_sealed script members (TopLevel commands) (TopLevel []) below v.objects v.objects v.names v.next_serial (shrunk script members v.objects v.objects v.next_serial (same_shrinks v.objects)) tt refl refl (λ n i. refl) m
-  quits (Framed f) t m = turn_sealed script members (Framed f) (Framed (record f { commands = [] })) below v.objects v.objects v.names v.next_serial (shrunk script members v.objects v.objects v.next_serial (same_shrinks v.objects)) (m.stack_fits (Framed f) (inl refl)) refl refl (λ n i. refl) m
-  quits top t m = absurd t
-
-  refuses : (refusal : ℕ) → (let t : Transition = refused refusal now in Passes script members t.0 t.1)
-  refuses refusal = record { sealed = stopped a ha h; lines = one_still members (Refused refusal) refl (λ n m. absurd m) }
-
-  collects : (g : ℕ) (t : Bool) → t ≡ true → (let s : Transition = if t then (Collected 0 ∷ [], now) else ([], push (new_collection g true now) now) in Passes script members s.0 s.1)
-  collects g true e = record { sealed = h; lines = one_still members (Collected 0) refl (λ n m. absurd m) }
-  collects g false e = absurd (let no : true ≡ false = sym e in cc)
-
-  opened : (lines : List Event) (given : List ℕ) (next : World) → next.stack ≡ a ∷ below → Opens script members now h lines next → Passes script members lines (push (Releasing given) next)
-  opened lines given next same o = record {
-    sealed = push_sealed script members (Releasing given) next.stack next.objects next.names next.next_serial tt refl
-        (goes_sealed script members v.objects next.objects v.names next.names (a ∷ below) next.stack v.next_serial next.next_serial o.next (λ y m. loosen members v.objects v.next_serial y (o.comes y m)) o.names
-        (λ b m. h.stack_fits b (subst (λ st. Includes st b) same m)) (subst (λ st. list_any is_collection st ≡ true) (sym same) h.collecting) (λ k. subst (Clears members) (sym same) k)
-        (comes_excused script members v.objects next.objects v.names (a ∷ below) next.stack v.next_serial o.comes (λ n w. subst (λ st. NotAfter st n) (sym same) w) (λ n m e. subst (λ st. list_any (is_death_of n) st ≡ true) (sym same) e) h) h);
-    lines = o.told;
-  }
-
-  effect_sealed : (r : Result Effect ℕ) → Each (LeavesStack now) r → Each (DoesOpen script members now h) r → (events : List Event) (after : World) → DoesEffect script now r events after → Passes script members events after
-  effect_sealed (Err refusal) l o events after step = yields _ events after step (refuses refusal)
-  effect_sealed (Ok (Changes wants_memory lines given_up next)) l o events after (inl step) = yields _ events after step (opened lines given_up next l.stack o)
-  effect_sealed (Ok (Changes wants_memory lines given_up next)) l o events after (inr step) = yields _ events after step.1 (refuses no_memory)
-  effect_sealed (Ok (Calls f)) l o events after step = yields _ events after step (starts_sealed script members (record { sort = CallFrame; proc = procedure_of now f; subject = f; func = Some f }) now o (λ g e. let s : f ≡ g = cc in subst (λ n. ¬ Includes members n) s o) h)
-  effect_sealed (Ok (Collects g)) l o events after step = yields _ events after step (collects g (is_collecting now) h.collecting)
-  effect_sealed (Ok Quits) l o events after step = yields _ events after step (record { sealed = quits a ha h; lines = none_out members })
-
-  pub done_sealed : (command : Command) (events : List Event) (after : World) → DoesEffect script now (effect now command) events after → Passes script members events after
-  done_sealed command events after step = effect_sealed (effect now command) (effect_leaves now command) (effect_opens script members now h command) events after step
-
-module _ (script : Script) (members : List ℕ) (below : List Activity) (v : World) (events : List Event) (after : World) where
-  top_level_sealed : (commands : List Command) (d : Option ℕ) → d ≡ None → TopLevelStep script (with_stack (TopLevel commands ∷ below) v) d commands below events after → Sealed script members v.objects v.names (TopLevel commands ∷ below) v.next_serial → Passes script members events after
-  top_level_sealed commands (Some g) e step h = absurd (let no : Some g ≡ None = e in cc)
-  top_level_sealed [] None e step h = yields_sealed script members (End ∷ [], record v { stack = TopLevel [] ∷ below; outcome = Ended }) events after step (record { sealed = h; lines = one_still members End refl (λ n m. absurd m) })
-  top_level_sealed (command ∷ commands) None e step h = done_sealed script members (TopLevel commands) below v tt (turn_sealed script members (TopLevel (command ∷ commands)) (TopLevel commands) below v.objects v.objects v.names v.next_serial (shrunk script members v.objects v.objects v.next_serial (same_shrinks v.objects)) tt refl refl (λ n i. refl) h) command events after step
-
-  in_frame_sealed : (f : Frame) (command : Command) (commands : List Command) (d : Option ℕ) → d ≡ None → CommandInFrame script (with_stack (Framed f ∷ below) v) d f command commands below events after → Sealed script members v.objects v.names (Framed f ∷ below) v.next_serial → Passes script members events after
-  in_frame_sealed f command commands (Some g) e step h = absurd (let no : Some g ≡ None = e in cc)
-  in_frame_sealed f command commands None e step h = done_sealed script members (Framed (record f { commands = commands })) below v tt (turn_sealed script members (Framed f) (Framed (record f { commands = commands })) below v.objects v.objects v.names v.next_serial (shrunk script members v.objects v.objects v.next_serial (same_shrinks v.objects)) (h.stack_fits (Framed f) (inl refl)) refl refl (λ n i. refl) h) command events after step
-
-  framed_sealed : (f : Frame) (commands : List Command) → FrameStep script (with_stack (Framed f ∷ below) v) f commands below events after → Sealed script members v.objects v.names (Framed f ∷ below) v.next_serial → Passes script members events after
-  framed_sealed f [] step h = yields_sealed script members _ events after step (frame_end_sealed script members f below v h)
-  framed_sealed f (command ∷ commands) step h = in_frame_sealed f command commands (due (with_stack (Framed f ∷ below) v)) (due_none (with_stack (Framed f ∷ below) v) h.collecting) step h
 
 -- the lines of the end of a collection name none that is condemned
 at_place : (p q : Place) → same_place p q ≡ true → q ≡ Legacy → p ≡ Legacy
@@ -188,16 +124,74 @@ collect_keeps script members c below v rises clears Ending events after late ste
 }
 collect_keeps script members c below v rises clears phase events after late step h = absurd late
 
-step_keeps : (script : Script) (members : List ℕ) (v : World) (stack : List Activity) (events : List Event) (after : World) → Rises 1 v.next_serial v.objects → StepOf script (with_stack stack v) stack events after → Sealed script members v.objects v.names stack v.next_serial → Keeping script members stack events after
-step_keeps script members v [] events after rises step h = absurd step
-step_keeps script members v (TopLevel commands ∷ below) events after rises step h = passes script members (TopLevel commands ∷ below) events after (top_level_sealed script members below v events after commands (due (with_stack (TopLevel commands ∷ below) v)) (due_none (with_stack (TopLevel commands ∷ below) v) h.collecting) step h)
-step_keeps script members v (Framed f ∷ below) events after rises step h = passes script members (Framed f ∷ below) events after (framed_sealed script members below v events after f f.commands step h)
-step_keeps script members v (Releasing refs ∷ below) events after rises step h = passes script members (Releasing refs ∷ below) events after (yields_sealed script members (released refs below (with_stack (Releasing refs ∷ below) v)) events after step (released_sealed script members refs below v h))
-step_keeps script members v (Dying d ∷ below) events after rises step h = passes script members (Dying d ∷ below) events after (yields_sealed script members (dying script d.object d.phase below (with_stack (Dying d ∷ below) v)) events after step (dying_sealed script members d.object below v rises d.phase h))
-step_keeps script members v (Collecting c ∷ below) events after rises step h = let fits = h.stack_fits (Collecting c) (inl refl) in collect_keeps script members c below v rises fits.1 c.phase events after fits.0 step h
-
 abbrev pub IsSealedWorld : Script → List ℕ → World → Type 0
 IsSealedWorld script members w = Sealed script members w.objects w.names w.stack w.next_serial
+
+-- each step keeps them so
+module _ (script : Script) (members : List ℕ) where
+  abbrev StepKeeps : World → List Event → World → Type 0
+  StepKeeps w events after = Keeping script members w.stack events after
+
+  answers_out : (lines : List Event) → AreAnswers lines → TellsStill members lines
+  answers_out [] k = none_out members
+  answers_out (Refused n ∷ []) k = one_still members (Refused n) refl (λ o m. absurd m)
+  answers_out (Collected n ∷ []) k = one_still members (Collected n) refl (λ o m. absurd m)
+  answers_out lines k = absurd k
+
+  module _ (below : List Activity) (v : World) where
+    abbrev SealedOn : Activity → Type 0
+    SealedOn a = Sealed script members v.objects v.names (a ∷ below) v.next_serial
+
+    turned : (a b : Activity) → Fits members b → is_collection a ≡ false → is_collection b ≡ false → ((n : ℕ) → is_death_of n a ≡ is_death_of n b) → SealedOn a → SealedOn b
+    turned a b fits none also same h = turn_sealed script members a b below v.objects v.objects v.names v.next_serial (shrunk script members v.objects v.objects v.next_serial (same_shrinks v.objects)) fits none also (λ n m. same n) h
+
+    emptied_sealed : (a : Activity) → HasCommands a → SealedOn a → SealedOn (emptied a)
+    emptied_sealed (TopLevel commands) ha h = turned (TopLevel commands) (TopLevel []) tt refl refl (λ n. refl) h
+    emptied_sealed (Framed f) ha h = turned (Framed f) (Framed (record f { commands = [] })) (h.stack_fits (Framed f) (inl refl)) refl refl (λ n. refl) h
+    emptied_sealed a ha h = absurd ha
+
+    taken_sealed : (command : Command) (a b : Activity) → Takes command a b → SealedOn a → SealedOn b
+    taken_sealed command a b (FromTop commands) h = turned (TopLevel (command ∷ commands)) (TopLevel commands) tt refl refl (λ n. refl) h
+    taken_sealed command a b (FromFrame f commands left) h = turned (Framed f) (Framed (record f { commands = commands })) (h.stack_fits (Framed f) (inl refl)) refl refl (λ n. refl) h
+
+    -- a command is done
+    module _ (b : Activity) (a : Activity) (ha : HasCommands a) (h : SealedOn a) where
+      abbrev now : World
+      now = on a below v
+
+      opened : (lines : List Event) (given : List ℕ) (next : World) → next.stack ≡ a ∷ below → Opens script members now h lines next → Passes script members lines (push (Releasing given) next)
+      opened lines given next same o = record {
+        sealed = push_sealed script members (Releasing given) next.stack next.objects next.names next.next_serial tt refl
+            (goes_sealed script members v.objects next.objects v.names next.names (a ∷ below) next.stack v.next_serial next.next_serial o.next (λ y m. loosen members v.objects v.next_serial y (o.comes y m)) o.names
+            (λ b m. h.stack_fits b (subst (λ st. Includes st b) same m)) (subst (λ st. list_any is_collection st ≡ true) (sym same) h.collecting) (λ k. subst (Clears members) (sym same) k)
+            (comes_excused script members v.objects next.objects v.names (a ∷ below) next.stack v.next_serial o.comes (λ n w. subst (λ st. NotAfter st n) (sym same) w) (λ n m e. subst (λ st. list_any (is_death_of n) st ≡ true) (sym same) e) h) h);
+        lines = o.told;
+      }
+
+      keeps : (events : List Event) (after : World) → Passes script members events after → Keeping script members (b ∷ below) events after
+      keeps events after p = passes script members (b ∷ below) events after p
+
+      command_keeps : (command : Command) → CommandSteps script StepKeeps (on b below v) command now a below
+      command_keeps command = record {
+        stays = λ lines answers. keeps lines now (record { sealed = h; lines = answers_out lines answers });
+        stops = λ lines answers. keeps lines (on (emptied a) below v) (record { sealed = emptied_sealed a ha h; lines = answers_out lines answers });
+        changes = λ wants_memory lines given_up after shape. keeps lines (push (Releasing given_up) after)
+            (opened lines given_up after (changes_leave now command wants_memory lines given_up after shape).stack (shape_opens script members now h command (Changes wants_memory lines given_up after) shape));
+        calls = λ f k. let out = shape_opens script members now h command (Calls f.serial) (StartsFrame f k) in
+            keeps _ _ (starts_sealed script members (record { sort = CallFrame; proc = procedure_of now f.serial; subject = f.serial; func = Some f.serial }) now out (λ g e. let s : f.serial ≡ g = cc in subst (λ n. ¬ Includes members n) s out) h);
+        asks = λ g e. absurd (let no : true ≡ false = sym h.collecting ∙ e in cc);
+      }
+
+  keeps_sealed : Steps script (λ w. Rises 1 w.next_serial w.objects × IsSealedWorld script members w) StepKeeps
+  keeps_sealed = record {
+    starts_due = λ a below v ha g e k. absurd (let no : Some g ≡ None = sym e ∙ due_none (on a below v) k.1.collecting in cc);
+    ends = λ below v k. passes script members (TopLevel [] ∷ below) (End ∷ []) (record (on (TopLevel []) below v) { outcome = Ended }) (record { sealed = k.1; lines = one_still members End refl (λ n m. absurd m) });
+    commands = λ command a b below v takes hb k. command_keeps below v a b hb (taken_sealed below v command a b takes k.1) command;
+    frame_ends = λ f below v left k. passes script members (Framed f ∷ below) _ _ (frame_end_sealed script members f below v k.1);
+    releases = λ references below v k. passes script members (Releasing references ∷ below) _ _ (released_sealed script members references below v k.1);
+    dies = λ d below v k. passes script members (Dying d ∷ below) _ _ (dying_sealed script members d.object below v k.0 d.phase k.1);
+    collects = λ c below v events after step k. let fits = k.1.stack_fits (Collecting c) (inl refl) in collect_keeps script members c below v k.0 fits.1 c.phase events after fits.0 step k.1;
+  }
 
 -- none of a run's first steps stops, and none of the others
 none_first : (xs ys : List Event) → count_by is_stop (xs ++ ys) ≡ 0 → (count_by is_stop xs ≡ 0) × (count_by is_stop ys ≡ 0)
@@ -205,7 +199,7 @@ none_first xs ys e = let all : count_by is_stop (xs ++ ys) ≡ count_by is_stop 
 
 module _ (script : Script) (members : List ℕ) where
   pub step_keeps_on : (w : World) (events : List Event) (after : World) → Step script w events after → Fit script w → IsSealedWorld script members w → Keeping script members w.stack events after
-  step_keeps_on w events after step fit h = step_keeps script members w w.stack events after fit.sound.rises step.step h
+  step_keeps_on w events after step fit h = any_step script (λ u. Rises 1 u.next_serial u.objects × IsSealedWorld script members u) (StepKeeps script members) (keeps_sealed script members) w events after step (fit.sound.rises, h)
 
   pub sealed_after : (w : World) (steps : List StepTaken) → Run script w steps → Fit script w → count_by is_stop (events_of steps) ≡ 0 → IsSealedWorld script members w → IsSealedWorld script members (last_world w steps) × TellsOut members (events_of steps)
   sealed_after w [] run fit none h = (h, (none_out members).0)

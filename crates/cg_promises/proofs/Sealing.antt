@@ -15,7 +15,7 @@ use Rattle.cg_machine.proofs.Sound.{collections_in}
 use Rattle.cg_machine.proofs.Tally.{member_le, tally}
 use Rattle.cg_machine.proofs.Ending.{last_world-append}
 use Rattle.cg_machine.proofs.Forgotten.{lives_within}
-use Rattle.cg_machine.proofs.LeftRuns.{LeavesUnder, leaves_below, step_leaves_on}
+use Rattle.cg_machine.proofs.LeftRuns.{LeavesUnder, leaves_below, step_leaves}
 use Rattle.cg_machine.proofs.Standing.{AreKnown}
 use Rattle.cg_machine.proofs.StandingRuns.{known}
 use Rattle.cg_machine.proofs.Unheld.{AreOver, IsStack}
@@ -37,9 +37,9 @@ alone_below c below h d m = let more = member_le collections_in below (Collectin
 other_step : (script : Script) (w : World) (a : Activity) (below : List Activity) (events : List Event) (after : World) → w.stack ≡ a ∷ below → is_collection a ≡ false → Step script w events after → Fit script w → IsApart w → Primed script w.objects w.stack → Primed script after.objects after.stack
 other_step script w a below events after top none step fit apart h =
     let stack : IsStack script w (a ∷ below) = subst (IsStack script w) top fit.calm.stack in
-    let left : LeavesUnder w (a ∷ below) after = subst (λ st. LeavesUnder w st after) top (step_leaves_on script w w.stack events after fit.sound.rises step.step fit.calm fit.order) in
+    let left : LeavesUnder w (a ∷ below) after = subst (λ st. LeavesUnder w st after) top (step_leaves script w events after step fit.sound fit.calm fit.order) in
     let made = lives_within 1 w.next_serial w.objects 1 fit.sound.rises fit.order.root_lives in
-    let plain : IsPlainUnder w.objects (a ∷ below) after = subst (λ st. IsPlainUnder w.objects st after) top (step_plain script w w.stack events after apart.garbage made.1 step.step fit.calm) in
+    let plain : IsPlainUnder w.objects (a ∷ below) after = subst (λ st. IsPlainUnder w.objects st after) top (step_plain script w events after step apart.garbage made.1 fit.calm) in
     let leaves = leaves_below script w a below after top fit.sound.rises stack.1 fit.order left in
     other_primed script w after fit.sound.rises (step_goes script w events after step fit).follows (leaves.places none)
     (λ c m. either ((plain none).stack c m) (λ k. inl (subst (λ st. Includes st (Collecting c)) (sym top) (inr k))) (λ k. inr k.1)) h

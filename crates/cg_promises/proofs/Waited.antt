@@ -21,14 +21,14 @@ use Rattle.cg_machine.specs.Holdings.{in_degree, is_collecting, is_dying}
 use Rattle.cg_machine.specs.Frame.{Transition, begin_death, frame_end, gives_up_function, procedure_of, released, start_frame}
 use Rattle.cg_machine.specs.Weak.{callback_of, has_weak_references, is_reference_to, weak_references, weak_references_if}
 use Rattle.cg_machine.specs.Dying.{death_at, has_finalizers, finalizer_to_run, run_finalizer, run_legacy, after_frame, clear_one, call_one, detach_one, empty_one, dying}
-use Rattle.cg_machine.specs.Effects.{Calls, Changes, Collects, Effect, Quits}
-use Rattle.cg_machine.specs.Commands.{DoesEffect, effect, new_collection, stopped_frame, without_commands}
-use Rattle.cg_machine.specs.Due.{due}
+use Rattle.cg_machine.specs.Commands.{new_collection}
 use Rattle.cg_machine.specs.Represents.{death_waits}
-use Rattle.cg_machine.specs.Run.{CommandInFrame, FrameStep, StepOf, TopLevelStep}
-use Rattle.cg_machine.proofs.CommandLaws.{Each, LeavesStack, effect_leaves}
-use Rattle.cg_machine.proofs.RunsCalm.{HasCommands}
+use Rattle.cg_machine.specs.Run.{Step}
+use Rattle.cg_machine.proofs.RunsCalm.{no_death}
+use Rattle.cg_machine.proofs.ShapeLaws.{changes_leave}
+use Rattle.cg_machine.proofs.Invariants.{CommandSteps, HasCommands, Steps, any_step, emptied, on}
 use Rattle.cg_promises.proofs.ToldDeaths.{reversed_back}
+use Rattle.cg_promises.proofs.Turned.{phase_stack}
 
 -- an object refers to another weakly now
 abbrev pub RefersNow : List Object → ℕ → ℕ → Type 0
@@ -150,62 +150,39 @@ module _ (P : ℕ → ℕ → Type 0) where
     dying_waited Emptying h = emptying_waited (last_entry (entries_of v.objects o))
 
   -- a command
-  module _ (script : Script) (a : Activity) (below : List Activity) (v : World) (ha : HasCommands a) (rest : Waited below) where
-    abbrev now : World
-    now = with_stack (a ∷ below) v
+  emptied_waited : (a : Activity) (below : List Activity) → HasCommands a → Waited below → Waited (emptied a ∷ below)
+  emptied_waited (TopLevel commands) below ha rest = push_other (TopLevel []) below (λ d e. cc) rest
+  emptied_waited (Framed f) below ha rest = push_other (Framed (record f { commands = [] })) below (λ d e. cc) rest
+  emptied_waited a below ha rest = absurd ha
 
-    to : (after next : World) → after ≡ next → Waited next.stack → Waited after.stack
-    to after next e h = subst (λ (w : World). Waited w.stack) (sym e) h
+  module _ (script : Script) where
+    abbrev StepWaits : World → List Event → World → Type 0
+    StepWaits w events after = Waited after.stack
 
-    no_death : (b : Activity) → HasCommands b → (d : Death) → b ≢ Dying d
-    no_death (TopLevel commands) h d e = cc
-    no_death (Framed f) h d e = cc
-    no_death b h d e = absurd h
+    command_waited : (w : World) (command : Command) (a : Activity) (below : List Activity) (v : World) → HasCommands a → Waited below → CommandSteps script StepWaits w command (on a below v) a below
+    command_waited w command a below v ha rest = record {
+      stays = λ lines answers. here;
+      stops = λ lines answers. emptied_waited a below ha rest;
+      changes = λ wants_memory lines given_up after shape. push_other (Releasing given_up) after.stack (λ d e. cc) (subst Waited (sym (changes_leave (on a below v) command wants_memory lines given_up after shape).stack) here);
+      calls = λ f k. starts script (record { sort = CallFrame; proc = procedure_of (on a below v) f.serial; subject = f.serial; func = Some f.serial }) (on a below v) here;
+      asks = λ g e. push_other (new_collection g true (on a below v)) (a ∷ below) (λ d e. cc) here;
+    }
+      where
+        here : Waited (a ∷ below)
+        here = push_other a below (no_death a ha) rest
 
-    here : Waited (a ∷ below)
-    here = push_other a below (no_death a ha) rest
+    -- any step
+    waits_in_steps : Steps script (λ w. ((weak o : ℕ) → RefersNow w.objects weak o → P weak o) × Waited w.stack) StepWaits
+    waits_in_steps = record {
+      starts_due = λ a below v ha g e k. push_other (new_collection g false (on a below v)) (a ∷ below) (λ d e. cc) k.1;
+      ends = λ below v k. k.1;
+      commands = λ command a b below v takes hb k. command_waited (on a below v) command b below v hb (pop a below k.1);
+      frame_ends = λ f below v left k. frame_end_waited f (with_stack below v) (pop (Framed f) below k.1);
+      releases = λ references below v k. released_waited references below v (pop (Releasing references) below k.1);
+      dies = λ d below v k. dying_waited script d.object below v (pop (Dying d) below k.1) (λ weak. k.0 weak d.object) d.phase (k.1 d (inl refl));
+      collects = λ c below v events after step k. let rest = pop (Collecting c) below k.1 in
+          phase_stack Waited (λ a st none death h d i. either i (λ e. absurd (death d e)) (h d)) script c below v rest c.phase (λ b s d i. either i (λ e. cc) (rest d)) events after step;
+    }
 
-    stopped : (top : Activity) → HasCommands top → Waited (stopped_frame (top ∷ below))
-    stopped (TopLevel commands) t = push_other (TopLevel commands) below (λ d e. cc) rest
-    stopped (Framed f) t = push_other (Framed (record f { commands = [] })) below (λ d e. cc) rest
-    stopped top t = absurd t
-
-    quits : (top : Activity) → HasCommands top → Waited (without_commands (top ∷ below))
-    quits (TopLevel commands) t = push_other (TopLevel []) below (λ d e. cc) rest
-    quits (Framed f) t = push_other (Framed (record f { commands = [] })) below (λ d e. cc) rest
-    quits top t = absurd t
-
-    effect_waited : (r : Result Effect ℕ) → Each (LeavesStack now) r → (events : List Event) (after : World) → DoesEffect script now r events after → Waited after.stack
-    effect_waited (Err refusal) l events after step = to after _ step.1 (stopped a ha)
-    effect_waited (Ok (Changes wants_memory lines given_up next)) l events after (inl step) = to after _ step.1 (push_other (Releasing given_up) next.stack (λ d e. cc) (subst Waited (sym l.stack) here))
-    effect_waited (Ok (Changes wants_memory lines given_up next)) l events after (inr step) = to after _ step.1.1 (stopped a ha)
-    effect_waited (Ok (Calls f)) l events after step = to after _ step.1 (starts script (record { sort = CallFrame; proc = procedure_of now f; subject = f; func = Some f }) now here)
-    effect_waited (Ok (Collects g)) l events after step = to after _ step.1 (either_waited (is_collecting now) (Collected 0 ∷ [], now) ([], push (new_collection g true now) now) here (push_other (new_collection g true now) (a ∷ below) (λ d e. cc) here))
-    effect_waited (Ok Quits) l events after step = to after _ step.1 (quits a ha)
-
-    done_waited : (command : Command) (events : List Event) (after : World) → DoesEffect script now (effect now command) events after → Waited after.stack
-    done_waited command events after step = effect_waited (effect now command) (effect_leaves now command) events after step
-
-  module _ (script : Script) (below : List Activity) (v : World) (events : List Event) (after : World) (rest : Waited below) where
-    top_level_waited : (commands : List Command) (d : Option ℕ) → TopLevelStep script (with_stack (TopLevel commands ∷ below) v) d commands below events after → Waited after.stack
-    top_level_waited commands (Some g) step = to script (TopLevel commands) below v tt rest after _ step.1 (push_other (new_collection g false (with_stack (TopLevel commands ∷ below) v)) (TopLevel commands ∷ below) (λ d e. cc) (here script (TopLevel commands) below v tt rest))
-    top_level_waited [] None step = to script (TopLevel []) below v tt rest after _ step.1 (here script (TopLevel []) below v tt rest)
-    top_level_waited (command ∷ commands) None step = done_waited script (TopLevel commands) below v tt rest command events after step
-
-    in_frame_waited : (f : Frame) (command : Command) (commands : List Command) (d : Option ℕ) → CommandInFrame script (with_stack (Framed f ∷ below) v) d f command commands below events after → Waited after.stack
-    in_frame_waited f command commands (Some g) step = to script (Framed f) below v tt rest after _ step.1 (push_other (new_collection g false (with_stack (Framed f ∷ below) v)) (Framed f ∷ below) (λ d e. cc) (here script (Framed f) below v tt rest))
-    in_frame_waited f command commands None step = done_waited script (Framed (record f { commands = commands })) below v tt rest command events after step
-
-    framed_waited : (f : Frame) (commands : List Command) → FrameStep script (with_stack (Framed f ∷ below) v) f commands below events after → Waited after.stack
-    framed_waited f [] step = to script (Framed f) below v tt rest after _ step.1 (frame_end_waited f (with_stack below v) rest)
-    framed_waited f (command ∷ commands) step = in_frame_waited f command commands (due (with_stack (Framed f ∷ below) v)) step
-
-  -- any step but that of a collection
-  pub step_waited : (script : Script) (v : World) (stack : List Activity) (events : List Event) (after : World) → StepOf script (with_stack stack v) stack events after → ((c : Collection) (below : List Activity) → stack ≡ Collecting c ∷ below → Waited below → Waited after.stack)
-      → ((weak o : ℕ) → RefersNow v.objects weak o → P weak o) → Waited stack → Waited after.stack
-  step_waited script v [] events after step collects refers h = absurd step
-  step_waited script v (TopLevel commands ∷ below) events after step collects refers h = top_level_waited script below v events after (pop (TopLevel commands) below h) commands (due (with_stack (TopLevel commands ∷ below) v)) step
-  step_waited script v (Framed f ∷ below) events after step collects refers h = framed_waited script below v events after (pop (Framed f) below h) f f.commands step
-  step_waited script v (Releasing refs ∷ below) events after step collects refers h = subst (λ (w : World). Waited w.stack) (sym step.1) (released_waited refs below v (pop (Releasing refs) below h))
-  step_waited script v (Dying d ∷ below) events after step collects refers h = subst (λ (w : World). Waited w.stack) (sym step.1) (dying_waited script d.object below v (pop (Dying d) below h) (λ weak. refers weak d.object) d.phase (h d (inl refl)))
-  step_waited script v (Collecting c ∷ below) events after step collects refers h = collects c below refl (pop (Collecting c) below h)
+    pub step_waited : (w : World) (events : List Event) (after : World) → Step script w events after → ((weak o : ℕ) → RefersNow w.objects weak o → P weak o) → Waited w.stack → Waited after.stack
+    step_waited w events after step refers h = any_step script (λ u. ((weak o : ℕ) → RefersNow u.objects weak o → P weak o) × Waited u.stack) StepWaits waits_in_steps w events after step (refers, h)
