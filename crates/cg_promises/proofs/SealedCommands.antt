@@ -1,7 +1,7 @@
 -- Commands reach no member: what an operand refers to, what an object that it finds holds, and what a weak reference refers to
 -- is none.
-use Rattle.std.proofs.Common.{◌≡◌, ◌≢◌, refl, sym, ◌∙◌, ap, subst, ℕ, ◌≤◌, Bool, true, false, not, ◌&&◌, inl, inr, List, [], ◌∷◌, ◌++◌, map, Option, Some, None, Ok, Err, arith}
-use Rattle.std.specs.Prelude.{◌==◌, ◌||◌, if◌then◌else◌, is_some, ok_or, option_map, option_and_then, remove, slice_get, slice_set, unwrap_or}
+use Rattle.std.proofs.Common.{◌≡◌, ◌≢◌, refl, sym, ◌∙◌, ap, subst, ℕ, ◌≤◌, Bool, true, false, not, ◌&&◌, inl, inr, List, [], ◌∷◌, Option, Some, None, arith}
+use Rattle.std.specs.Prelude.{◌==◌, ◌||◌, if◌then◌else◌, option_map, option_and_then, slice_get, unwrap_or}
 use Rattle.std.proofs.lemmas.Bool.{eqb-true}
 use Rattle.cg_value.specs.declared.Val.{Val}
 use Rattle.cg_value.specs.declared.Val.TheVariants.{None as Nothing, Int, Str, Ref}
@@ -14,7 +14,7 @@ use Rattle.cg_script.specs.declared.Operand.{Operand}
 use Rattle.cg_script.specs.declared.Operand.TheVariants.{None as NoneWord, Int as IntWord, Str as StrWord, Name, SelfLocal, WeakLocal, Cell, Garbage}
 use Rattle.cg_script.specs.declared.Command.{Command}
 use Rattle.cg_graph.specs.Member.{Includes}
-use Rattle.cg_graph.specs.Value.{entry_references, put, reference_in, references_of_value, value_at, without_key}
+use Rattle.cg_graph.specs.Value.{entry_references, put, reference_in, references_of_value}
 use Rattle.cg_graph.specs.Object.{Object, change, entries_of, first_place, is_tracked, object_at, with_entries, with_place}
 use Rattle.cg_graph.specs.Holdings.{name_holdings}
 use Rattle.cg_graph.proofs.Members.{either, Includes-append_cases, Includes-map_cases}

@@ -1,10 +1,9 @@
 -- Every step of a run tells of objects so, and what holds of the worlds of a run is kept beside.
-use Rattle.std.proofs.Common.{◌≡◌, refl, ℕ, Bool, true, false, inl, inr, List, [], ◌∷◌, ◌++◌, Option, Some, None, Result, Ok, Err, arith}
-use Rattle.std.specs.Prelude.{if◌then◌else◌, flat_map}
+use Rattle.std.proofs.Common.{refl, ℕ, true, false, inl, List, [], ◌∷◌, ◌++◌, Some, arith}
+use Rattle.std.specs.Prelude.{flat_map}
 use Rattle.cg_script.specs.declared.Script.{Script}
 use Rattle.cg_script.specs.declared.Command.{Command}
 use Rattle.cg_graph.specs.Member.{Includes}
-use Rattle.cg_graph.specs.Object.{serials}
 use Rattle.cg_graph.proofs.Members.{Includes-append_left}
 use Rattle.cg_machine.specs.declared.event.Event.{Event}
 use Rattle.cg_machine.specs.declared.event.Event.TheVariants.{Collected, End, Refused}
