@@ -1,23 +1,21 @@
 -- How far each command makes a world grow, and with it the heap.
-use Rattle.std.proofs.Common.{◌≡◌, refl, sym, ◌∙◌, ap, subst, ℕ, ◌+◌, ◌≤◌, Bool, true, false, List, [], map, length, length-append, Option, Some, None, Result, Ok, Err, OnOk, arith}
-use Rattle.std.specs.Prelude.{if◌then◌else◌, is_some, slice_set, ◌==◌}
+use Rattle.std.proofs.Common.{◌≡◌, refl, sym, ◌∙◌, ap, subst, ℕ, ◌+◌, ◌≤◌, Bool, true, false, length, length-append, Option, Some, Result, Ok, Err, OnOk, arith}
+use Rattle.std.specs.Prelude.{if◌then◌else◌, slice_set, ◌==◌}
 use Rattle.std.proofs.lemmas.List.{length-set, length-map}
 use Rattle.cg_value.specs.declared.Val.{Val}
-use Rattle.cg_value.specs.declared.Val.TheVariants.{None as Nothing, Int, Str, Ref}
-use Rattle.cg_value.specs.declared.Entry.{Entry}
+use Rattle.cg_value.specs.declared.Val.TheVariants.{Ref}
 use Rattle.cg_value.specs.declared.KindCode.{KindCode}
-use Rattle.cg_value.specs.declared.KindCode.TheVariants.{List as ListKind, Tuple, Dict, Inst, Func, Weak}
 use Rattle.cg_value.specs.declared.Place.{Place}
 use Rattle.cg_graph.specs.Object.{Object, with_place, with_entries}
 use Rattle.cg_graph.specs.Store.{Store, objects_of}
 use Rattle.cg_graph.specs.Value.{put}
 use Rattle.cg_script.specs.declared.Command.{Command}
 use Rattle.cg_machine.specs.World.{World, Numbers, with_change}
-use Rattle.cg_machine.specs.Effects.{Effect, Changes, Calls, Collects, Quits, makes, puts, has_room, replaced, frozen, unfrozen, bound, with_new, tracked_by}
+use Rattle.cg_machine.specs.Effects.{Effect, Changes, Calls, Collects, Quits, makes, replaced, frozen, unfrozen, bound, with_new, tracked_by}
 use Rattle.cg_machine.specs.Represents.{Represents}
 use Rattle.cg_machine.specs.Commands.{effect}
 use Rattle.cg_machine.proofs.CommandLaws.{Each}
-use Rattle.cg_machine.proofs.Shapes.{IsMadeBy, ByList, ByTuple, ByDict, ByInst, ByFunc, ByRef, TellsNumbers, SetsNumbers, Shape, Binds, Makes, Edits, Puts, Shows, Tells, Stays, Sets, Freezes, Unfreezes, StartsFrame, StartsCollection, Ends}
+use Rattle.cg_machine.proofs.Shapes.{IsMadeBy, ByList, ByTuple, ByDict, ByInst, ByFunc, ByRef, Shape, Binds, Makes, Edits, Puts, Shows, Tells, Stays, Sets, Freezes, Unfreezes, StartsFrame, StartsCollection, Ends}
 use Rattle.cg_machine.proofs.ShapeLaws.{by_shape}
 use Rattle.cg_commands.specs.declared.done.Done.{Done}
 use Rattle.cg_commands.specs.declared.done.Done.TheVariants as done

@@ -1,31 +1,21 @@
 -- What a command that is not the collector's leaves: the numbers that its lines tell, and, where it calls, a function that lives.
-use Rattle.std.proofs.Common.{◌≡◌, refl, ◌∙◌, ap, subst, cond, inl, inr, ℕ, Bool, true, false, List, [], ◌∷◌, Option, Some, None, Ok, Err, map}
-use Rattle.std.specs.Prelude.{if◌then◌else◌, is_some, option_and_then, option_to_list, ok_or}
+use Rattle.std.proofs.Common.{◌≡◌, refl, ap, subst, cond, inl, inr, Bool, true, false, List, [], ◌∷◌, Option, Some, None}
+use Rattle.std.specs.Prelude.{is_some, option_to_list}
 use Rattle.std.proofs.lemmas.Bool.{eq-eqb}
 use Rattle.std.specs.Prelude.{◌==◌}
 use Rattle.cg_graph.specs.Member.{Includes}
 use Rattle.cg_machine.specs.declared.event.Event.TheVariants.{Made}
-use Rattle.cg_value.specs.declared.Val.{Val}
-use Rattle.cg_value.specs.declared.Val.TheVariants.{None as Nothing, Int, Str, Ref}
-use Rattle.cg_value.specs.declared.Entry.{Entry}
-use Rattle.cg_value.specs.declared.KindCode.{KindCode}
-use Rattle.cg_value.specs.declared.KindCode.TheVariants.{List as ListKind, Tuple, Dict, Inst, Func, Weak}
 use Rattle.cg_graph.specs.Object.{Object, object_at, is_in_map}
-use Rattle.cg_graph.specs.Value.{value_at, item, reference_in}
 use Rattle.cg_script.specs.declared.Command.{Command}
-use Rattle.cg_script.specs.declared.Command.TheVariants.{MakeList, MakeTuple, MakeDict, MakeInst, MakeFunc, MakeRef, Bind, Del, Append, SetItem, DelItem, Put, Remove, SetAttr, DelAttr, Item, Get, Attr, Deref, Call, Quit, Collect, Enable, Disable, Threshold, Flags, Freeze, Unfreeze, Print, Refs, Tracked, Finalized, Count, Gens}
+use Rattle.cg_script.specs.declared.Command.TheVariants.{Enable, Disable, Threshold, Flags}
 use Rattle.cg_machine.specs.declared.event.Event.{Event}
 use Rattle.cg_machine.specs.World.{World, Numbers}
-use Rattle.cg_machine.specs.Effects.{Effect, Changes, Calls, Collects, Quits, makes, puts, has_room}
+use Rattle.cg_machine.specs.Effects.{Effect, Changes, Calls, Collects, Quits}
 use Rattle.cg_machine.specs.Commands.{effect}
-use Rattle.cg_machine.specs.Refusals.{not_callable}
-use Rattle.cg_machine.specs.Operands.{object, object_of, tested}
-use Rattle.cg_machine.specs.Weak.{is_function}
+use Rattle.cg_machine.specs.Operands.{object}
 use Rattle.cg_machine.proofs.CommandLaws.{Each}
-use Rattle.cg_machine.proofs.Shapes.{IsMadeBy, ByList, ByTuple, ByDict, ByInst, ByFunc, ByRef, TellsNumbers, SetsNumbers, Shape, Binds, Makes, Edits, Puts, Shows, Tells, Stays, Sets, Freezes, Unfreezes, StartsFrame, StartsCollection, Ends}
+use Rattle.cg_machine.proofs.Shapes.{TellsNumbers, SetsNumbers, Shape, Tells, Sets, Freezes, Unfreezes, StartsFrame, StartsCollection, Ends}
 use Rattle.cg_machine.proofs.ShapeLaws.{by_shape}
-use Rattle.cg_machine.proofs.CommandRefs.{each_then, each_some}
-use Rattle.cg_machine.proofs.Lookups.{found_at}
 use Rattle.cg_script.specs.Spelled.{IsForObjects}
 use Rattle.cg_interp.specs.Callers.{numbers_told}
 

@@ -9,7 +9,7 @@ use Rattle.cg_machine.specs.World.{World, Activity, Numbers}
 use Rattle.cg_machine.specs.Effects.{Effect, Changes, Calls, Collects, Quits}
 use Rattle.cg_machine.specs.Collect.{begun, survived}
 use Rattle.cg_machine.specs.Due.{due_generation, is_due}
-use Rattle.cg_machine.proofs.Shapes.{Shape, Makes, Stays, Sets, Freezes, StartsFrame, StartsCollection, Ends}
+use Rattle.cg_machine.proofs.Shapes.{Shape, Makes, Sets, Freezes, StartsFrame, StartsCollection, Ends}
 use Rattle.cg_machine.proofs.Making.{left_on}
 use Rattle.cg_machine.proofs.Measure.{is_starting}
 
