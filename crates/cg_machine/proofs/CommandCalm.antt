@@ -273,7 +273,7 @@ module _ (script : Script) (w : World) (rises : Rises 1 w.next_serial w.objects)
 
   pub shape_mild : (command : Command) (e : Effect) → Shape w command e → IsMild e
   shape_mild command e (Binds name v own hand) = names_mild (slice_set w.names name v) w.numbers (given_up_by w name) (λ o f. bound_free w.names name o v (bound_known command v hand o f) f.unheld.names) (given_name name)
-  shape_mild command e (Makes name kind class entries referent own parts) = makes_mild name kind class entries referent (λ o f. all_free o entries (λ e m. let i = parts.items e m in hand_free command e i.0 i.1 o f)) (referent_found command kind referent parts.refers) (λ r i. (parts.refers r i).0) parts.callbacks
+  shape_mild command e (Makes name kind class entries referent own parts) = makes_mild name kind class entries referent (λ o f. all_free o entries (λ e m. let i = parts.items e m in hand_free command e i.0 i.1 o f)) (referent_found command kind referent parts.refers) (λ r i. (parts.refers r i).0) (λ e. (parts.callbacks e).1)
   shape_mild command e (Edits wants x entries given h mutable edit) = sets_mild x entries given h.member (mutable_code x mutable) (object_apart command (λ y. true) x h) (edited_free command x entries given h.member edit) (edited_given command x entries given h.member edit)
   shape_mild command e (Puts x key v h mutable hand_key hand room) = puts_mild x key v h.member (mutable_code x mutable) (object_apart command (λ y. is_dict y || is_instance y) x h) (hand_known command key hand_key) (hand_known command v hand)
   shape_mild command e (Shows v hand) = numbers_mild w.numbers

@@ -39,6 +39,7 @@ pub mod LeftRuns
 pub mod Rooms
 pub mod RoomsOfRuns
 pub mod Heights
+pub mod Moves
 pub mod Shapes
 pub mod ShapeLaws
 pub mod Invariants

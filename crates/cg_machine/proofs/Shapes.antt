@@ -30,6 +30,7 @@ use Rattle.cg_machine.proofs.CommandLaws.{Each, checked}
 use Rattle.cg_machine.proofs.CommandRefs.{each_then, each_some}
 use Rattle.cg_machine.proofs.Lookups.{found_at, slice_get_member}
 use Rattle.cg_machine.proofs.PrintableTexts.{removed_member, set_member}
+use Rattle.cg_machine.proofs.Moves.{AtMostOne, Goes, appended_goes, removed_goes, set_goes, without_key_goes}
 
 -- A value that a command has at hand: what a word of it stands for (`#1`, the value of a name or of a local), or what is in
 -- an entry, or is the referent, of an object that it has at hand.
@@ -65,7 +66,7 @@ pub record HasParts (w : World) (command : Command) (kind : KindCode) (class : O
   pub by : IsMadeBy command kind class
   pub items : AreItems w command entries
   pub refers : (r : ℕ) → referent ≡ Some r → (kind ≡ Weak) × ((z : Object) × HasObject w command has_weak_references z × (z.serial ≡ r))
-  pub callbacks : kind ≡ Weak → (f : ℕ) → Includes (references entries) f → HasFunction w.objects f
+  pub callbacks : kind ≡ Weak → AtMostOne entries × ((f : ℕ) → Includes (references entries) f → HasFunction w.objects f)
 
 -- what may change: lists, dictionaries and instances
 abbrev pub IsMutable : KindCode → Type 0
@@ -76,12 +77,14 @@ IsMutable Inst = Unit {0}
 IsMutable Func = ⊥
 IsMutable Weak = ⊥
 
--- other entries of an object: those it had, and one item at hand, which the garbage list does not get; at most one entry is given up
+-- other entries of an object: those it had, and one item at hand, which the garbage list does not get; at most one entry is given up,
+-- and the references of the others stay
 pub record IsEdit (w : World) (command : Command) (x : Object) (entries : List Entry) (given_up : List ℕ) : Type 0 where
   pub come : (e : Entry) → Includes entries e → Includes x.entries e ⊎ (x.serial ≢ 1) × (e.key ≡ Nothing) × IsAtHand w command e.val
   pub longer : length entries ≤ length x.entries + 1
   pub room : length entries ≤ length x.entries ⊎ (entry_count w + 1 ≤ 4000000)
   pub given : (given_up ≡ []) ⊎ ((e : Entry) × Includes x.entries e × (given_up ≡ entry_references e))
+  pub keeps : (n : ℕ) → Goes x.entries entries given_up n
 
 -- a line that tells numbers alone
 abbrev pub TellsNumbers : Event → Type 0
@@ -234,7 +237,7 @@ module _ (w : World) (command : Command) where
 
   makes_shaped : (name : ℕ) (kind : KindCode) (class : Option ℕ) (entries : List Entry) (referent : Option ℕ) → Includes (command_texts command) name → IsMadeBy command kind class → AreItems w command entries
       → ((r : ℕ) → referent ≡ Some r → (kind ≡ Weak) × ((z : Object) × HasObject w command has_weak_references z × (z.serial ≡ r)))
-      → (kind ≡ Weak → (f : ℕ) → Includes (references entries) f → HasFunction w.objects f) → S (makes w name kind class entries referent)
+      → (kind ≡ Weak → AtMostOne entries × ((f : ℕ) → Includes (references entries) f → HasFunction w.objects f)) → S (makes w name kind class entries referent)
   makes_shaped name kind class entries referent own by items refers callbacks = each_then (λ u. nat_lt (live w) most_objects ≡ true) (Shape w command) (unless (nat_lt (live w) most_objects) object_limit) _ (each_unless (nat_lt (live w) most_objects) object_limit) (λ u room.
       each_then (λ u. nat_le (entry_count w + length entries) most_entries ≡ true) (Shape w command) (has_room w (length entries)) _ (each_unless (nat_le (entry_count w + length entries) most_entries) entry_limit) (λ u fits.
       Makes name kind class entries referent own (record { room = room; entry_room = leb-true (entry_count w + length entries) 4000000 fits; by = by; items = items; refers = refers; callbacks = callbacks })))
@@ -270,6 +273,7 @@ module _ (w : World) (command : Command) where
     longer = omega (arith, length-append x.entries (item v ∷ []));
     room = inr fits;
     given = inl refl;
+    keeps = λ n. appended_goes x.entries (item v) n;
   }
 
   replaced_at : (x : Object) (i : ℕ) (e : Entry) (v : Val) → x.serial ≢ 1 → IsAtHand w command v → slice_get x.entries i ≡ Some e → IsEdit w command x (slice_set x.entries i (item v)) (entry_references e)
@@ -278,6 +282,7 @@ module _ (w : World) (command : Command) where
     longer = omega (arith, length-set x.entries i (item v));
     room = inl (omega (arith, length-set x.entries i (item v)));
     given = inr (e, slice_get_member x.entries i e at, refl);
+    keeps = λ n. set_goes x.entries i e (item v) n at;
   }
 
   removed_at : (x : Object) (i : ℕ) (e : Entry) → slice_get x.entries i ≡ Some e → IsEdit w command x (remove x.entries i) (entry_references e)
@@ -286,6 +291,7 @@ module _ (w : World) (command : Command) where
     longer = omega (arith, removed_shorter x.entries i e at);
     room = inl (removed_shorter x.entries i e at);
     given = inr (e, slice_get_member x.entries i e at, refl);
+    keeps = λ n. removed_goes x.entries i e n at;
   }
 
   removed_key : (x : Object) (key : Val) (e : Entry) → entry_at x.entries key ≡ Some e → IsEdit w command x (without_key x.entries key) (entry_references e)
@@ -294,6 +300,7 @@ module _ (w : World) (command : Command) where
     longer = omega (arith, part.1);
     room = inl part.1;
     given = inr (e, entry_at_member x.entries key e at, refl);
+    keeps = λ n. without_key_goes x.entries key e n at;
   }
 
   got : (x : Object) (i : ℕ) (e : Entry) → Includes w.objects x → IsAtHand w command (Ref x.serial) → slice_get x.entries i ≡ Some e → IsAtHand w command e.val
@@ -321,11 +328,13 @@ module _ (w : World) (command : Command) where
   -- the callback of a new weak reference
   pub record IsCallback (entries : List Entry) : Type 0 where
     pub items : AreItems w command entries
+    pub single : AtMostOne entries
     pub functions : (f : ℕ) → Includes (references entries) f → HasFunction w.objects f
 
   item_callback : (v : Val) → IsAtHand w command v → (x : Object) → HasObject w command is_function x → reference_in v ≡ Some x.serial → IsCallback (item v ∷ [])
   item_callback v hand x h is = record {
     items = λ e m. either m (λ i. subst (λ (z : Entry). (z.key ≡ Nothing) × IsAtHand w command z.val) i (refl, hand)) (λ n. absurd n);
+    single = inr (v, refl);
     functions = λ f k. (x, h.member, one (reference_in v) f is k, h.passes);
   }
     where
@@ -334,7 +343,7 @@ module _ (w : World) (command : Command) where
       one (Some s) f e k = let same : s ≡ x.serial = cc in either k (λ i. sym same ∙ i) (λ n. absurd n)
 
   callback_shaped : (v : Val) → IsAtHand w command v → Each IsCallback (callback_entries w v)
-  callback_shaped Nothing hand = record { items = λ e m. absurd m; functions = λ f k. absurd k }
+  callback_shaped Nothing hand = record { items = λ e m. absurd m; single = inl refl; functions = λ f k. absurd k }
   callback_shaped (Int n) hand = is_found IsCallback _ is_function not_callable (Int n) hand (λ x h is. item_callback (Int n) hand x h is)
   callback_shaped (Str s) hand = is_found IsCallback _ is_function not_callable (Str s) hand (λ x h is. item_callback (Str s) hand x h is)
   callback_shaped (Ref p) hand = is_found IsCallback _ is_function not_callable (Ref p) hand (λ x h is. item_callback (Ref p) hand x h is)
@@ -388,7 +397,7 @@ effect_shaped w (MakeDict name) = makes_shaped w _ name Dict None [] None (inl r
 effect_shaped w (MakeInst name class) = makes_shaped w _ name Inst (Some class) [] None (inl refl) (ByInst name class) (λ e m. absurd m) (no_referent w _ Inst) (λ e. absurd (cc))
 effect_shaped w (MakeFunc name proc cells) = all_valued w _ _ cells (λ t m. inr m) (λ vs hand. makes_shaped w _ name Func (Some proc) (map item vs) None (inl refl) (ByFunc name proc cells) (items_of w _ vs hand) (no_referent w _ Func) (λ e. absurd (cc)))
 effect_shaped w (MakeRef name target callback) = valued w _ _ target (λ t m. inr (Includes-append_left (operand_texts target) (operand_texts callback) t m)) (λ v hand. valued w _ _ callback (λ t m. inr (Includes-append_right (operand_texts target) (operand_texts callback) t m)) (λ c hand_c. found w _ _ has_weak_references wrong_kind v hand (λ x h.
-    each_then (IsCallback w (MakeRef name target callback)) (Shape w (MakeRef name target callback)) (callback_entries w c) _ (callback_shaped w (MakeRef name target callback) c hand_c) (λ entries k. makes_shaped w _ name Weak None entries (Some x.serial) (inl refl) (ByRef name target callback) k.items (λ r e. (refl, (x, h, let same : x.serial ≡ r = cc in same))) (λ e. k.functions)))))
+    each_then (IsCallback w (MakeRef name target callback)) (Shape w (MakeRef name target callback)) (callback_entries w c) _ (callback_shaped w (MakeRef name target callback) c hand_c) (λ entries k. makes_shaped w _ name Weak None entries (Some x.serial) (inl refl) (ByRef name target callback) k.items (λ r e. (refl, (x, h, let same : x.serial ≡ r = cc in same))) (λ e. (k.single, k.functions))))))
 effect_shaped w (Bind name operand) = valued w _ _ operand (λ t m. inr m) (λ v hand. binds_shaped w _ name v (inl refl) hand)
 effect_shaped w (Del name) = any w _ _ _ (λ v. Binds name None (inl refl) (λ u e. absurd (let no : None ≡ Some u = e in cc)))
 effect_shaped w (Append list operand) = valued w _ _ list (Includes-append_left (operand_texts list) (operand_texts operand)) (λ l hand_l. valued w _ _ operand (Includes-append_right (operand_texts list) (operand_texts operand)) (λ v hand. found w _ _ is_script_list wrong_kind l hand_l (λ x h.

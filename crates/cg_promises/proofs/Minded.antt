@@ -21,6 +21,7 @@ use Rattle.cg_machine.specs.Holdings.{holdings, holds, in_degree, is_death_of}
 use Rattle.cg_machine.proofs.Releasing.{entry_holder, no_times, none_holds}
 use Rattle.cg_script.specs.declared.Script.{Script}
 use Rattle.cg_machine.specs.Weak.{loses_referent}
+use Rattle.cg_machine.proofs.Moves.{AtMostOne}
 use Rattle.cg_promises.proofs.Told.{Marks, Old, old_lives, old_trans, if_old, same_old}
 
 -- nothing holds an object
@@ -35,9 +36,6 @@ abbrev pub Minds : List Object → List (Option Val) → List Activity → ℕ �
 Minds objects names stack n = Includes (serials objects) n → IsFree objects names stack n → list_any (is_death_of n) stack ≡ true
 
 -- A weak reference has one entry at most, and the references of a tuple have smaller serials than it.
-abbrev pub AtMostOne : List Entry → Type 0
-AtMostOne entries = (entries ≡ []) ⊎ ((v : Val) × (entries ≡ item v ∷ []))
-
 abbrev pub IsSingle : Object → Type 0
 IsSingle x = (x.code ≡ Weak → AtMostOne x.entries) × (x.code ≡ Tuple → (n : ℕ) → Includes (references x.entries) n → n < x.serial)
 

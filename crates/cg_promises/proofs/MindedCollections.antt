@@ -24,7 +24,8 @@ use Rattle.cg_machine.specs.Collect.{all_saved, calls_back, after_release, colle
 use Rattle.cg_machine.proofs.Serials.{Rises}
 use Rattle.cg_promises.proofs.Told.{map_old}
 use Rattle.cg_promises.proofs.Minded.{IsMinded, IsSingle, Keeps, Minded, change_keeps, either_minded, end_minded, give_minded, keeps_same, keeps_trans, lost_keeps, placed, plain_keeps, starts_minded, test_keeps, turn_minded}
-use Rattle.cg_promises.proofs.Moved.{appended_goes, shortened_keeps}
+use Rattle.cg_machine.proofs.Moves.{appended_goes}
+use Rattle.cg_promises.proofs.Moved.{shortened_keeps}
 
 -- places that depend on the object
 spread_keeps : (places : Object → Place) (test : Object → Bool) (objects : List Object) → Keeps objects (map (λ x. if test x then with_place (places x) x else x) objects) []
