@@ -1,9 +1,9 @@
 -- Commands: what a name or an entry held is held still, or given up, and what is made is bound to a name.
-use Rattle.std.proofs.Common.{◌≡◌, ◌≢◌, refl, sym, ◌∙◌, ap, subst, ℕ, zero, suc, ◌<◌, Bool, true, false, not, ◌&&◌, inl, inr, ◌⊎◌, List, [], ◌∷◌, ◌++◌, length, map, Option, Some, None, Ok, Err, arith}
+use Rattle.std.proofs.Common.{◌≡◌, ◌≢◌, refl, sym, ◌∙◌, ap, subst, ℕ, zero, suc, ◌<◌, Bool, true, false, not, ◌&&◌, inl, inr, ◌⊎◌, List, [], ◌∷◌, ◌++◌, length, Option, Some, arith}
 use Rattle.std.specs.Prelude.{◌==◌, ◌||◌, if◌then◌else◌, option_and_then, option_to_list, slice_get, slice_set}
 use Rattle.std.proofs.lemmas.Bool.{eqb-true}
 use Rattle.cg_value.specs.declared.Val.{Val}
-use Rattle.cg_value.specs.declared.Val.TheVariants.{None as Nothing, Int, Str, Ref}
+use Rattle.cg_value.specs.declared.Val.TheVariants.{None as Nothing, Ref}
 use Rattle.cg_value.specs.declared.Entry.{Entry}
 use Rattle.cg_value.specs.declared.Place.{Place}
 use Rattle.cg_value.specs.declared.Place.TheVariants.{Gen}
@@ -13,7 +13,7 @@ use Rattle.cg_script.specs.declared.Command.{Command}
 use Rattle.cg_script.specs.Texts.{command_texts}
 use Rattle.cg_graph.specs.Member.{Includes}
 use Rattle.cg_graph.specs.Value.{entry_references, put, reference_in, references, references_of_value, value_at}
-use Rattle.cg_graph.specs.Object.{Object, change, first_place, is_tracked, object_at, serials, with_entries, with_place}
+use Rattle.cg_graph.specs.Object.{Object, change, first_place, is_tracked, serials, with_entries, with_place}
 use Rattle.cg_graph.specs.Holdings.{name_holdings}
 use Rattle.cg_graph.proofs.Members.{either, Includes-append_left, Includes-append_right, Includes-append_cases, Includes-map, Includes-map_cases}
 use Rattle.cg_machine.specs.World.{World, Numbers, with_change}

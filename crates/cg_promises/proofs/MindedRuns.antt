@@ -1,6 +1,6 @@
 -- In every world of a run what nothing holds is dying.
-use Rattle.std.proofs.Common.{◌≡◌, refl, sym, ◌∙◌, subst, ℕ, ◌<◌, Bool, true, false, inl, inr, List, [], ◌∷◌, length, map, Option, Some, None, Result, Ok, Err}
-use Rattle.std.specs.Prelude.{if◌then◌else◌, flat_map, option_to_list}
+use Rattle.std.proofs.Common.{◌≡◌, refl, sym, ◌∙◌, subst, ℕ, ◌<◌, true, false, inl, List, [], ◌∷◌, length, Some, None}
+use Rattle.std.specs.Prelude.{flat_map}
 use Rattle.std.proofs.lemmas.List.{length-replicate}
 use Rattle.cg_value.specs.declared.KindCode.TheVariants.{List as ListKind, Tuple, Weak}
 use Rattle.cg_script.specs.declared.Script.{Script}
@@ -9,7 +9,7 @@ use Rattle.cg_script.specs.Texts.{TextsAreKnown, command_texts}
 use Rattle.cg_graph.specs.Member.{Includes}
 use Rattle.cg_graph.specs.Object.{Object}
 use Rattle.cg_graph.specs.Value.{reference_in}
-use Rattle.cg_graph.proofs.Members.{either, Includes-append_left, Includes-append_right, Includes-append_cases, Includes-map}
+use Rattle.cg_graph.proofs.Members.{either, Includes-append_left, Includes-append_right, Includes-map}
 use Rattle.cg_machine.specs.declared.event.FrameSort.TheVariants.{Call as CallFrame}
 use Rattle.cg_machine.specs.World.{World, Activity, TopLevel, Framed, Releasing, Dying, DyingPhase, Calling, opening, push, with_stack}
 use Rattle.cg_machine.specs.Holdings.{holds}

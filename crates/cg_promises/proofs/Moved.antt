@@ -1,16 +1,15 @@
 -- The last entry of an object is taken out, or the callback of a weak reference: what that moves.
-use Rattle.std.proofs.Common.{◌≡◌, refl, sym, ◌∙◌, ap, subst, ℕ, zero, suc, ◌-◌, Bool, true, false, inl, inr, ◌⊎◌, List, [], ◌∷◌, ◌++◌, length, Option, Some, None, arith}
+use Rattle.std.proofs.Common.{◌≡◌, refl, sym, ◌∙◌, ap, subst, ℕ, zero, suc, ◌-◌, inl, inr, ◌⊎◌, List, [], ◌∷◌, length, Option, Some, None, arith}
 use Rattle.std.proofs.lemmas.Bool.{eqb-true}
-use Rattle.std.specs.Prelude.{◌==◌, if◌then◌else◌, get_or, option_map, option_to_list, remove, slice_get, slice_set, take, unwrap_or}
+use Rattle.std.specs.Prelude.{◌==◌, get_or, option_map, option_to_list, slice_get, take, unwrap_or}
 use Rattle.std.proofs.lemmas.Option.{slice_get-get_or, slice_get_within}
-use Rattle.cg_value.specs.declared.Val.{Val}
 use Rattle.cg_value.specs.declared.Entry.{Entry}
 use Rattle.cg_graph.specs.Member.{Includes}
-use Rattle.cg_graph.specs.Value.{entry_at, entry_references, item, last_entry, put, reference_in, references, references_of_value, same_value, value_at, without_key, without_last}
+use Rattle.cg_graph.specs.Value.{entry_references, item, last_entry, reference_in, references, without_last}
 use Rattle.cg_value.specs.declared.KindCode.TheVariants.{Weak}
 use Rattle.cg_graph.specs.Object.{Object, change, entries_of, object_at, with_entries}
 use Rattle.cg_machine.specs.Weak.{callback_in, callback_of}
-use Rattle.cg_graph.proofs.Members.{either, Includes-append_left, Includes-append_right, Includes-append_cases}
+use Rattle.cg_graph.proofs.Members.{either, Includes-append_cases}
 use Rattle.cg_machine.proofs.Serials.{Rises}
 use Rattle.cg_machine.proofs.Lookups.{at_member, callback_at, references_take}
 use Rattle.cg_machine.proofs.Moves.{AtMostOne, Goes, past, goes_first}
