@@ -11,7 +11,7 @@ use Rattle.cg_graph.specs.Store.{Store, objects_of}
 use Rattle.cg_graph.specs.Value.{put}
 use Rattle.cg_script.specs.declared.Command.{Command}
 use Rattle.cg_machine.specs.World.{World, Numbers, with_change}
-use Rattle.cg_machine.specs.Effects.{Effect, Changes, Calls, Collects, Quits, makes, replaced, frozen, unfrozen, bound, with_new, tracked_by}
+use Rattle.cg_machine.specs.Effects.{Effect, Changes, Calls, Collects, Quits, replaced, frozen, unfrozen, bound, with_new, tracked_by}
 use Rattle.cg_machine.specs.Represents.{Represents}
 use Rattle.cg_machine.specs.Commands.{effect}
 use Rattle.cg_machine.proofs.CommandLaws.{Each}

@@ -12,7 +12,6 @@ use Rattle.cg_machine.specs.declared.event.Event.{Event}
 use Rattle.cg_machine.specs.World.{World, Numbers}
 use Rattle.cg_machine.specs.Effects.{Effect, Changes, Calls, Collects, Quits}
 use Rattle.cg_machine.specs.Commands.{effect}
-use Rattle.cg_machine.specs.Operands.{object}
 use Rattle.cg_machine.proofs.CommandLaws.{Each}
 use Rattle.cg_machine.proofs.Shapes.{TellsNumbers, SetsNumbers, Shape, Tells, Sets, Freezes, Unfreezes, StartsFrame, StartsCollection, Ends}
 use Rattle.cg_machine.proofs.ShapeLaws.{by_shape}
