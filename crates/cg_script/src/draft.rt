@@ -15,6 +15,7 @@ use crate::part::{Said, names_unknown, read_parts};
 use crate::said::said_of;
 use crate::table::Table;
 use crate::word::text_of_identifier;
+use arrayvec::ArrayVec;
 use cg_value::Names;
 use std::alloc::{AllocError, Global};
 
@@ -200,7 +201,15 @@ pub(crate) fn take_words(
     if defines_again(draft, form, words) {
         return Ok(Some(DEFINED_TWICE));
     }
-    let parts = read_parts(form, words, &mut draft.names, &draft.procs, &draft.classes)?;
+    let mut parts = ArrayVec::new();
+    read_parts(
+        &mut parts,
+        form,
+        words,
+        &mut draft.names,
+        &draft.procs,
+        &draft.classes,
+    )?;
     if names_unknown(&parts) {
         return Ok(Some(NOT_DEFINED));
     }

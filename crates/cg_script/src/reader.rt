@@ -15,6 +15,7 @@ use crate::item::Script;
 use crate::line::{Line, read_line};
 use crate::members::Items;
 use crate::pieces::cut;
+use arrayvec::ArrayVec;
 use std::alloc::Global;
 
 /// A procedure that is begun and not ended.
@@ -32,10 +33,11 @@ fn take_line(
     ensures small { OnOk result (IsSmall draft.new (number + 1)) }
     ensures fault { IfErr result (λ fault. (lines : List (List ℕ)) → IsFault fault (reading_after grammar draft.old number (line.now ∷ lines))) }
 {
-    match read_line(grammar, number, line) {
+    let mut words = ArrayVec::new();
+    match read_line(grammar, number, line, &mut words) {
         Line::Passed => Ok(()),
         Line::Bad(code) => Err(ScriptFault::Bad { line: number, code }),
-        Line::Says(form, words) => match take_words(draft, form, &words) {
+        Line::Says(form) => match take_words(draft, form, words.as_slice()) {
             Ok(None) => Ok(()),
             Ok(Some(code)) => Err(ScriptFault::Bad { line: number, code }),
             Err(_) => Err(ScriptFault::OutOfMemory),
