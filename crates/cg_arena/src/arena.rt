@@ -279,6 +279,16 @@ impl Arena {
         self.node(serial).body
     }
 
+    /// The kind, and the place of the object's entries among the bodies of its kind, by one look-up.
+    pub fn seat_of(&self, serial: u64) -> (KindCode, usize)
+        requires { HasNode self.now serial }
+        ensures code { IfSome (map.get self.now.nodes serial) (λ n. result.0 ≡ n.code) }
+        ensures body { IfSome (map.get self.now.nodes serial) (λ n. result.1 ≡ n.body) }
+    {
+        let slot = self.node(serial);
+        (slot.code, slot.body)
+    }
+
     /// The place, in whose list the node stands.
     pub fn place_of(&self, serial: u64) -> Place
         requires { HasNode self.now serial }
