@@ -81,10 +81,13 @@ fn finish(draft: Draft, number: u32) -> Result<Script, ScriptFault>
             code: NO_END,
         });
     }
-    Ok(Script {
-        names: draft.names,
-        items: Items::new(draft.items),
-    })
+    match Items::new(draft.alloc, draft.items) {
+        Ok(items) => Ok(Script {
+            names: draft.names,
+            items,
+        }),
+        Err(_) => Err(ScriptFault::OutOfMemory),
+    }
 }
 
 /// The script that the bytes spell by one of the grammars.
