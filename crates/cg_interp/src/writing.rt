@@ -9,7 +9,7 @@ ghost use Rattle.cg_interp.specs.Running.{events_told};
 
 use crate::turned::Turned;
 use cg_io::{Sink, WriteFailed};
-use cg_machine::{Event, line_of};
+use cg_machine::{Event, LineText, push_line};
 use cg_value::Names;
 
 /// Writes the line of an event, in one `write`.
@@ -19,7 +19,9 @@ fn write_event<K: Sink>(event: &Event, names: &Names, sink: &mut K) -> Result<()
     ensures err { OnErr result (AppendsFront (K.written sink.old) (K.written sink.new) (line names.now event.now)) }
     ensures cause { HasCause (K.faults sink.old) (K.faults sink.new) result }
 {
-    sink.write(line_of(event, names).as_str().as_bytes())
+    let mut text = LineText::new();
+    push_line(&mut text, event, names);
+    sink.write(text.as_str().as_bytes())
 }
 
 /// Writes the line that is due after a turn, if one is.

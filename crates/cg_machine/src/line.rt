@@ -10,15 +10,27 @@ use itoa::Buffer;
 /// The most bytes that a line has: a value's text has at most 1,024.
 const ROOM: usize = 1100;
 
+/// Room for the line of an event.
+pub type LineText = ArrayString<ROOM>;
+
 /// The line of an event, with its line feed. A text that it prints is one of `names`, of at most 1,024 bytes.
-pub fn line_of(event: &Event, names: &Names) -> ArrayString<ROOM>
+pub fn line_of(event: &Event, names: &Names) -> LineText
     requires { IsPrintable names.now event.now }
     ensures { result.bytes ≡ line names.now event.now }
 {
     let mut text = ArrayString::new();
-    push_words(&mut text, event, names);
-    text.push_str("\n");
+    push_line(&mut text, event, names);
     text
+}
+
+/// Writes the line of an event, as `line_of` answers it, into a text that is empty before. So no line is copied.
+pub fn push_line(text: &mut LineText, event: &Event, names: &Names)
+    requires empty { text.old.bytes ≡ [] }
+    requires printable { IsPrintable names.now event.now }
+    ensures { text.new.bytes ≡ line names.now event.now }
+{
+    push_words(text, event, names);
+    text.push_str("\n");
 }
 
 /// Writes a line without its line feed into an empty text. Each form is written by a call of its own, into the one text
