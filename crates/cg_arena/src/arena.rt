@@ -12,6 +12,7 @@ use crate::links::{
     slot_at, unlink,
 };
 use crate::slot::Slot;
+use cg_serial::{SerialHashing, serial_hashing};
 use cg_value::{KindCode, Place};
 use indexmap::IndexMap;
 use slab::Slab;
@@ -28,7 +29,7 @@ use std::marker::Model;
 #[derive(Drop)]
 pub struct Arena {
     slots: Slab<Slot>,
-    rows: IndexMap<u64, usize>,
+    rows: IndexMap<u64, usize, SerialHashing>,
     ends: [Ends; 10],
 }
 
@@ -71,7 +72,7 @@ fn number_of(place: Place) -> usize
 }
 
 /// The slot of a serial that has a row.
-fn slot_of(rows: &IndexMap<u64, usize>, serial: u64) -> usize
+fn slot_of(rows: &IndexMap<u64, usize, SerialHashing>, serial: u64) -> usize
     requires { IsSome (row_of rows.now.entries serial) }
     ensures { row_of rows.now.entries serial ≡ Some result }
 {
@@ -97,7 +98,7 @@ fn occupy(slots: &mut Slab<Slot>, slot: Slot) -> usize
 }
 
 /// Names the slot of a new serial, in a row that `reserve` made room for.
-fn add_row(rows: &mut IndexMap<u64, usize>, serial: u64, at: usize)
+fn add_row(rows: &mut IndexMap<u64, usize, SerialHashing>, serial: u64, at: usize)
     requires { 0 < spare rows.old }
     ensures rows { (s : ℕ) → row_of rows.new.entries s ≡ (if serial == s then Some at else row_of rows.old.entries s) }
     ensures room { spare rows.old ≤ spare rows.new + 1 }
@@ -109,7 +110,7 @@ fn add_row(rows: &mut IndexMap<u64, usize>, serial: u64, at: usize)
 }
 
 /// Takes out the row of a serial.
-fn remove_row(rows: &mut IndexMap<u64, usize>, serial: u64)
+fn remove_row(rows: &mut IndexMap<u64, usize, SerialHashing>, serial: u64)
     ensures rows { (s : ℕ) → row_of rows.new.entries s ≡ (if serial == s then None else row_of rows.old.entries s) }
     ensures room { spare rows.old ≤ spare rows.new }
 {
@@ -126,7 +127,7 @@ impl Arena {
     {
         Arena {
             slots: Slab::new(alloc),
-            rows: IndexMap::new(alloc),
+            rows: IndexMap::with_hasher(alloc, serial_hashing()),
             ends: [Ends::none(); 10],
         }
     }
@@ -276,6 +277,16 @@ impl Arena {
         ensures { IfSome (map.get self.now.nodes serial) (λ n. result ≡ n.body) }
     {
         self.node(serial).body
+    }
+
+    /// The kind, and the place of the object's entries among the bodies of its kind, by one look-up.
+    pub fn seat_of(&self, serial: u64) -> (KindCode, usize)
+        requires { HasNode self.now serial }
+        ensures code { IfSome (map.get self.now.nodes serial) (λ n. result.0 ≡ n.code) }
+        ensures body { IfSome (map.get self.now.nodes serial) (λ n. result.1 ≡ n.body) }
+    {
+        let slot = self.node(serial);
+        (slot.code, slot.body)
     }
 
     /// The place, in whose list the node stands.

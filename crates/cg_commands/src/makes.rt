@@ -30,6 +30,9 @@ use cg_machine::Event;
 use cg_script::Operand;
 use cg_value::{Entry, KindCode, Val};
 
+/// Most objects are made of so few entries, or of fewer: for them no room is cleared but theirs.
+const FEW: usize = 8;
+
 /// `x = list v*`: a new list of the values is bound to the name.
 pub(crate) fn make_list<B: Kind>(
     heap: &mut Heap<B>,
@@ -46,7 +49,31 @@ pub(crate) fn make_list<B: Kind>(
     ensures performs { Performs heap.old locals (λ w. effect w (command.MakeList name items.now)) heap.new result }
     ensures room { OnOk result (room ≡ true) }
 {
-    let parts = gather(heap, locals, items)?;
+    if items.len() <= FEW {
+        make_list_within::<B, FEW>(heap, locals, name, items, room)
+    } else {
+        make_list_within::<B, 64>(heap, locals, name, items, room)
+    }
+}
+
+/// `make_list` of at most `N` values.
+fn make_list_within<B: Kind, const N: usize>(
+    heap: &mut Heap<B>,
+    locals: Option<Locals>,
+    name: u32,
+    items: &[Operand],
+    room: bool,
+) -> Result<Done, Refusal>
+    requires known { All (λ n. n < length heap.old.names) (name ∷ operands_texts items.now) }
+    requires most { N ≤ 64 }
+    requires count { length items.now ≤ N }
+    requires locals { LocalsLive heap.old locals }
+    requires few { HasFewHolds heap.old }
+    requires last { heap.old.last < 9223372036854775808 }
+    ensures performs { Performs heap.old locals (λ w. effect w (command.MakeList name items.now)) heap.new result }
+    ensures room { OnOk result (room ≡ true) }
+{
+    let parts = gather::<B, N>(heap, locals, items)?;
     make_bound(
         heap,
         locals,
@@ -75,7 +102,31 @@ pub(crate) fn make_tuple<B: Kind>(
     ensures performs { Performs heap.old locals (λ w. effect w (command.MakeTuple name items.now)) heap.new result }
     ensures room { OnOk result (room ≡ true) }
 {
-    let parts = gather(heap, locals, items)?;
+    if items.len() <= FEW {
+        make_tuple_within::<B, FEW>(heap, locals, name, items, room)
+    } else {
+        make_tuple_within::<B, 64>(heap, locals, name, items, room)
+    }
+}
+
+/// `make_tuple` of at most `N` values.
+fn make_tuple_within<B: Kind, const N: usize>(
+    heap: &mut Heap<B>,
+    locals: Option<Locals>,
+    name: u32,
+    items: &[Operand],
+    room: bool,
+) -> Result<Done, Refusal>
+    requires known { All (λ n. n < length heap.old.names) (name ∷ operands_texts items.now) }
+    requires most { N ≤ 64 }
+    requires count { length items.now ≤ N }
+    requires locals { LocalsLive heap.old locals }
+    requires few { HasFewHolds heap.old }
+    requires last { heap.old.last < 9223372036854775808 }
+    ensures performs { Performs heap.old locals (λ w. effect w (command.MakeTuple name items.now)) heap.new result }
+    ensures room { OnOk result (room ≡ true) }
+{
+    let parts = gather::<B, N>(heap, locals, items)?;
     make_bound(
         heap,
         locals,
@@ -147,7 +198,7 @@ pub(crate) fn make_function<B: Kind>(
     ensures performs { Performs heap.old locals (λ w. effect w (command.MakeFunc name proc cells.now)) heap.new result }
     ensures room { OnOk result (room ≡ true) }
 {
-    let parts = gather(heap, locals, cells)?;
+    let parts = gather::<B, 8>(heap, locals, cells)?;
     make_bound(
         heap,
         locals,

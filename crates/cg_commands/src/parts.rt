@@ -18,14 +18,14 @@ use cg_script::Operand;
 use cg_value::{Entry, Val};
 use std::marker::Model;
 
-/// Up to 64 entries. They take no memory but their own.
+/// Up to `N` entries. They take no memory but their own.
 #[derive(Drop)]
-pub(crate) struct Parts {
-    items: [Entry; 64],
+pub(crate) struct Parts<const N: usize> {
+    items: [Entry; N],
     len: usize,
 }
 
-impl Model for Parts {
+impl<const N: usize> Model for Parts<N> {
     ghost use Rattle.std.specs.Prelude.{List, ◌≤◌, take};
     ghost use Rattle.cg_value.specs.declared.Entry.{Entry};
 
@@ -33,12 +33,12 @@ impl Model for Parts {
 
     ghost view = { λ p. take p.len p.items };
 
-    ghost invariant = { λ p. p.len ≤ 64 };
+    ghost invariant = { λ p. p.len ≤ N };
 }
 
-impl Parts {
+impl<const N: usize> Parts<N> {
     /// No entries.
-    fn new() -> Parts
+    fn new() -> Parts<N>
         ensures { result ≡ [] }
     {
         let none = Entry {
@@ -46,7 +46,7 @@ impl Parts {
             val: Val::None,
         };
         Parts {
-            items: [none; 64],
+            items: [none; N],
             len: 0,
         }
     }
@@ -54,7 +54,7 @@ impl Parts {
     /// One more item, whose key is none.
     #[tactic(auto, using(std::proofs::lemmas::List::take_more_set))]
     fn push(&mut self, val: Val)
-        requires { length self.old < 64 }
+        requires { length self.old < N }
         ensures { self.new ≡ self.old ++ item val ∷ [] }
     {
         self.items[self.len] = Entry {
@@ -73,14 +73,14 @@ impl Parts {
 }
 
 /// The items that the values of operands make, in order. The first operand without a value is refused.
-pub(crate) fn gather<B: Kind>(
+pub(crate) fn gather<B: Kind, const N: usize>(
     heap: &Heap<B>,
     locals: Option<Locals>,
     operands: &[Operand],
-) -> Result<Parts, Refusal>
+) -> Result<Parts<N>, Refusal>
     requires known { All (λ n. n < length heap.now.names) (operands_texts operands.now) }
     requires locals { LocalsLive heap.now locals }
-    requires few { length operands.now ≤ 64 }
+    requires few { length operands.now ≤ N }
     ensures ok { IfOk result (λ parts. Gathers heap.now locals operands.now parts) }
     ensures err { IfErr result (λ r. IsRefused heap.now locals (λ w. machine.values w operands.now) r) }
 {
@@ -97,7 +97,7 @@ pub(crate) fn callback_parts<B: Kind>(
     heap: &Heap<B>,
     locals: Option<Locals>,
     callback: Val,
-) -> Result<Parts, Refusal>
+) -> Result<Parts<1>, Refusal>
     requires { IsLiveValue heap.now callback }
     ensures ok { IfOk result (λ parts. IsCallback heap.now locals callback parts) }
     ensures err { IfErr result (λ r. IsRefused heap.now locals (λ w. callback_entries w callback) r) }

@@ -24,3 +24,4 @@ pub mod SteadyRows
 pub mod SteadySteps
 pub mod HoldNumbers
 pub mod NamesKept
+mod ClassesKept

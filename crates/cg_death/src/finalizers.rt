@@ -19,7 +19,7 @@ use crate::phase::{Phase, Turn};
 use cg_heap::Heap;
 use cg_kind::Kind;
 use cg_machine::{Event, FrameSort, FrameSpec};
-use cg_script::{Item, Script};
+use cg_script::{Items, Script};
 use cg_value::{KindCode, Place};
 
 /// The procedures of a class that are called when an instance dies.
@@ -36,23 +36,18 @@ const NO_FINALIZERS: Finalizers = Finalizers {
 };
 
 /// The finalizers of the class with a number; none where there is no such class.
-fn finalizers_in(items: &[Item], class: u32) -> Finalizers
+#[tactic(auto, using(crate::proofs::ClassesKept::classes_kept))]
+fn finalizers_in(items: &Items, class: u32) -> Finalizers
     ensures del { result.del ≡ option_and_then (λ c. c.del) (slice_get (classes items.now) class) }
     ensures legacy { result.legacy ≡ option_and_then (λ c. c.legacy) (slice_get (classes items.now) class) }
 {
-    let mut left = class;
-    for item in items {
-        if let Item::Class(def) = item {
-            if left == 0 {
-                return Finalizers {
-                    del: def.del,
-                    legacy: def.legacy,
-                };
-            }
-            left -= 1;
-        }
+    match items.class(class) {
+        Some(def) => Finalizers {
+            del: def.del,
+            legacy: def.legacy,
+        },
+        None => NO_FINALIZERS,
     }
-    NO_FINALIZERS
 }
 
 /// The finalizers of an object's class. Instances alone have one.
@@ -65,7 +60,7 @@ pub fn finalizers_of<B: Kind>(heap: &Heap<B>, script: &Script, object: u64) -> F
 {
     match heap.kind_of(object) {
         KindCode::Inst => match heap.class_of(object) {
-            Some(class) => finalizers_in(script.items.as_slice(), class),
+            Some(class) => finalizers_in(&script.items, class),
             None => NO_FINALIZERS,
         },
         _ => NO_FINALIZERS,

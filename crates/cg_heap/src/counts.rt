@@ -19,10 +19,8 @@ pub fn seat_of(arena: &Arena, object: u64) -> Seat
     requires { HasNode arena.now object }
     ensures { seat_in (fin.get arena.now.nodes object) ≡ Some (result.code, result.body) }
 {
-    Seat {
-        code: arena.code_of(object),
-        body: arena.body_of(object),
-    }
+    let (code, body) = arena.seat_of(object);
+    Seat { code, body }
 }
 
 /// Counts the reference of a value.

@@ -57,6 +57,7 @@ impl<B: Kind> Engine<B> {
     }
 
     /// A turn of a collection, which was on top.
+    #[inline(always)]
     pub fn turn_of_collection<L: Ledger>(
         &mut self,
         asked: bool,
@@ -81,6 +82,7 @@ impl<B: Kind> Engine<B> {
     }
 
     /// One step of a collection, which was on top and may take it.
+    #[inline(always)]
     fn go_on_collecting<L: Ledger>(
         &mut self,
         asked: bool,

@@ -41,6 +41,7 @@ impl<B: Kind> Engine<B> {
     }
 
     /// A command changed what it had to, and references are to be given up.
+    #[inline(always)]
     pub fn change(&mut self, top: Activity, line: Option<Event>, given_up: Entry) -> Turned
         requires caller { IsCaller top }
         requires small { AreSmall self.old.policy.numbers }
@@ -106,6 +107,7 @@ impl<B: Kind> Engine<B> {
     }
 
     /// What the engine does once the command of the activity that was on top has been performed.
+    #[inline(always)]
     pub fn answer(&mut self, top: Activity, done: Result<Done, Refusal>) -> Turned
         requires caller { IsCaller top }
         requires few { (f : ℕ) → done ≡ Ok (done_of.Calls f) → HasFewHolds self.old.store }
@@ -124,6 +126,7 @@ impl<B: Kind> Engine<B> {
     }
 
     /// The same once it has been done.
+    #[inline(always)]
     fn proceed(&mut self, top: Activity, done: Done) -> Turned
         requires caller { IsCaller top }
         requires few { (f : ℕ) → done ≡ done_of.Calls f → HasFewHolds self.old.store }

@@ -36,6 +36,7 @@ impl<B: Kind> Engine<B> {
     }
 
     /// One action of a death, which was on top.
+    #[inline(always)]
     pub fn go_on_dying(&mut self, death: Death, script: &Script) -> Dies
         requires few { HasFewHolds self.old.store }
         requires held { HasHolds self.old.store (held_by death self.old.store) }
@@ -79,6 +80,7 @@ impl<B: Kind> Engine<B> {
     }
 
     /// A death stays on top, unless it is over.
+    #[inline(always)]
     fn put_back(&mut self, death: Death)
         requires { 0 < self.old.room }
         ensures stays { StaysOn death self.old.activities self.new.activities }

@@ -16,6 +16,7 @@ use cg_kind::Kind;
 impl<B: Kind> Engine<B> {
     /// Gives up the next reference of a release, which was on top. It answers the object whose death is to begin, if
     /// there is one.
+    #[inline(always)]
     pub fn release(&mut self, release: Release) -> Option<u64>
         requires holds { HasHolds self.old.store (references_left release) }
         requires room { 0 < self.old.room }
@@ -45,6 +46,7 @@ impl<B: Kind> Engine<B> {
 
     /// Goes on with a release, which was on top: it gives up its next reference, and the object's death begins where
     /// nothing holds it any more.
+    #[inline(always)]
     pub fn go_on_releasing(&mut self, release: Release) -> Turned
         requires holds { HasHolds self.old.store (references_left release) }
         requires room { 1 < self.old.room }

@@ -24,7 +24,7 @@ use cg_heap::{Heap, Steps};
 use cg_io::{Sink, WriteFailed};
 use cg_kind::Kind;
 use cg_laws::worlds_stay_kept;
-use cg_machine::{fronts_begin_whole_texts, lines_are_printable};
+use cg_machine::{LineText, fronts_begin_whole_texts, lines_are_printable};
 use cg_script::Script;
 use std::alloc::Global;
 use std::marker::Brand;
@@ -49,6 +49,7 @@ fn turn_and_write<B: Kind, K: Sink, L: Ledger>(
     table: &Table,
     script: &Script,
     steps: &mut Steps<L>,
+    text: &mut LineText,
     sink: &mut K,
 ) -> Result<Turned, WriteFailed>
     requires table { IsTableOf script.now table.now.commands.items table.now.procedures.items }
@@ -70,7 +71,7 @@ fn turn_and_write<B: Kind, K: Sink, L: Ledger>(
     let answer = engine.turn(table, script, steps);
     // No heap is large, so a collection has few lines left after a turn, and little to do.
     engine.heap.sound();
-    match write_answer(answer, &script.names, sink) {
+    match write_answer(answer, &script.names, text, sink) {
         Ok(()) => Ok(answer),
         Err(fault) => Err(fault),
     }
@@ -100,8 +101,9 @@ fn run_turns<B: Kind, K: Sink, L: Ledger>(
     ensures later { K.faults sink.old ≤ K.faults sink.new }
 {
     fronts_begin_whole_texts();
+    let mut text = LineText::new();
     'turns: loop {
-        match turn_and_write(engine, table, script, steps, sink) {
+        match turn_and_write(engine, table, script, steps, &mut text, sink) {
             Ok(Turned::Quiet) => {}
             Ok(Turned::Line(_)) => {}
             Ok(Turned::Ended) => return RunEnd::Done,

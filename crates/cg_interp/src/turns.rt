@@ -42,6 +42,7 @@ impl<B: Kind> Engine<B> {
     }
 
     /// A turn of the activity that was on top.
+    #[inline(always)]
     fn turn_of<L: Ledger>(
         &mut self,
         top: Activity,
@@ -73,6 +74,7 @@ impl<B: Kind> Engine<B> {
     }
 
     /// A turn of the script, which was on top.
+    #[inline(always)]
     fn turn_of_script<L: Ledger>(
         &mut self,
         table: &Table,
@@ -93,6 +95,7 @@ impl<B: Kind> Engine<B> {
     }
 
     /// A turn of a frame, which was on top.
+    #[inline(always)]
     fn turn_of_frame<L: Ledger>(
         &mut self,
         table: &Table,
@@ -123,6 +126,7 @@ impl<B: Kind> Engine<B> {
     }
 
     /// A turn of a release, which was on top.
+    #[inline(always)]
     fn turn_of_release(&mut self, release: Release) -> Turned
         requires stands { (script : AnyScript) × IsFit script self.old
             × IsAtTurn script (activity_of.Releasing release) self.old }
@@ -135,6 +139,7 @@ impl<B: Kind> Engine<B> {
     }
 
     /// A turn of a death, which was on top.
+    #[inline(always)]
     fn turn_of_death(&mut self, script: &Script, death: Death) -> Turned
         requires fit { IsFit script.now self.old }
         requires stands { IsAtTurn script.now (activity_of.Dying death) self.old }

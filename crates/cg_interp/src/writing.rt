@@ -9,21 +9,33 @@ ghost use Rattle.cg_interp.specs.Running.{events_told};
 
 use crate::turned::Turned;
 use cg_io::{Sink, WriteFailed};
-use cg_machine::{Event, line_of};
+use cg_machine::{Event, LineText, push_line};
 use cg_value::Names;
 
-/// Writes the line of an event, in one `write`.
-fn write_event<K: Sink>(event: &Event, names: &Names, sink: &mut K) -> Result<(), WriteFailed>
+/// Writes the line of an event, in one `write`. The text is the one in which each line is put together.
+fn write_event<K: Sink>(
+    event: &Event,
+    names: &Names,
+    text: &mut LineText,
+    sink: &mut K,
+) -> Result<(), WriteFailed>
     requires { IsPrintable names.now event.now }
     ensures ok { OnOk result (Appends (K.written sink.old) (K.written sink.new) (line names.now event.now)) }
     ensures err { OnErr result (AppendsFront (K.written sink.old) (K.written sink.new) (line names.now event.now)) }
     ensures cause { HasCause (K.faults sink.old) (K.faults sink.new) result }
 {
-    sink.write(line_of(event, names).as_str().as_bytes())
+    text.clear();
+    push_line(text, event, names);
+    sink.write(text.as_str().as_bytes())
 }
 
 /// Writes the line that is due after a turn, if one is.
-pub fn write_answer<K: Sink>(answer: Turned, names: &Names, sink: &mut K) -> Result<(), WriteFailed>
+pub fn write_answer<K: Sink>(
+    answer: Turned,
+    names: &Names,
+    text: &mut LineText,
+    sink: &mut K,
+) -> Result<(), WriteFailed>
     requires { (event : AnyEvent) → Includes (events_told answer) event → IsPrintable names.now event }
     ensures ok { OnOk result (Appends (K.written sink.old) (K.written sink.new)
         (flat_map (line names.now) (events_told answer))) }
@@ -33,8 +45,8 @@ pub fn write_answer<K: Sink>(answer: Turned, names: &Names, sink: &mut K) -> Res
 {
     match answer {
         Turned::Quiet => Ok(()),
-        Turned::Line(event) => write_event(&event, names, sink),
-        Turned::Ended => write_event(&Event::End, names, sink),
-        Turned::Spent => write_event(&Event::BudgetSpent, names, sink),
+        Turned::Line(event) => write_event(&event, names, text, sink),
+        Turned::Ended => write_event(&Event::End, names, text, sink),
+        Turned::Spent => write_event(&Event::BudgetSpent, names, text, sink),
     }
 }

@@ -62,3 +62,6 @@ equal-same_value (Ref o) Nothing = refl
 equal-same_value (Ref o) (Int n) = refl
 equal-same_value (Ref o) (Str t) = refl
 equal-same_value (Ref o) (Ref p) = swapped o p
+
+pub equal_is : (a b : Val) → equal a b ≡ same_value b a
+equal_is = equal-same_value

@@ -3,3 +3,4 @@ mod KeyLemmas
 mod ItemLemmas
 mod PairLemmas
 mod TestLemmas
+mod FewLemmas

@@ -11,9 +11,11 @@
 
 mod body_slab;
 mod contents;
+mod few;
 mod func;
 mod items;
 mod list;
+mod more;
 mod pairs;
 #[cfg(test)]
 mod tests;

@@ -1,13 +1,14 @@
 //! Dictionaries and instances, which differ only in their code.
-ghost use Rattle.std.specs.Prelude.{◌≡◌};
+ghost use Rattle.std.specs.Prelude.{◌≡◌, ◌+◌, ◌<◌, ◌^◌, IfSome, option_map};
 ghost use Rattle.cg_value.specs.declared.KindCode.{KindCode};
 ghost use Rattle.cg_value.specs.declared.KindCode.TheVariants as code;
 ghost use Rattle.cg_kinds.specs.Pairs.{IsKeyed, pairs_body};
 
 use crate::body_slab::BodySlab;
 use crate::contents::Contents;
+use crate::few::{place_in, push_to, replace_in};
+use crate::more::More;
 use cg_value::{Entry, KindCode, Val};
-use indexmap::IndexMap;
 use std::alloc::{AllocError, Global};
 use std::marker::PhantomData;
 
@@ -61,17 +62,36 @@ impl Keyed for Instance {
     }
 }
 
-/// Keys and their values, in the order in which the keys came.
+/// So many pairs are kept in a list, and searched one after the other.
+const FEW: usize = 8;
+
+/// Keys and their values, in the order in which the keys came: a few, and more behind them.
+///
+/// An object with few keys takes the room of those, and nothing is hashed for it.
 #[derive(Drop)]
 pub struct Pairs<K> {
-    pairs: IndexMap<Val, Val>,
+    few: Vec<Entry>,
+    more: More,
     of: PhantomData<K>,
+}
+
+/// A place behind so many others.
+fn behind(few: usize, more: usize, place: Option<usize>) -> Option<usize>
+    requires few { few < 2 ^ 63 }
+    requires more { more < 2 ^ 63 }
+    requires within { IfSome place (λ i. i < more) }
+    ensures { result ≡ option_map (λ i. few + i) place }
+{
+    match place {
+        Some(i) => Some(few + i),
+        None => None,
+    }
 }
 
 impl<K: Keyed> Contents for Pairs<K> {
     ghost kind = { K.kind };
 
-    ghost body = { λ p. pairs_body p.pairs };
+    ghost body = { λ p. pairs_body p.few.items p.more };
 
     fn code() -> KindCode {
         K::code()
@@ -80,45 +100,59 @@ impl<K: Keyed> Contents for Pairs<K> {
     fn make(alloc: Global, parts: &[Entry]) -> Result<Self, AllocError> {
         let _ = parts;
         Ok(Pairs {
-            pairs: IndexMap::new(alloc),
+            few: Vec::new(alloc),
+            more: More::new(),
             of: PhantomData,
         })
     }
 
     fn len(&self) -> usize {
-        self.pairs.len()
+        self.few.len() + self.more.len()
     }
 
     fn entry_at(&self, i: usize) -> Entry {
-        match self.pairs.get_index(i) {
-            Some((key, val)) => Entry {
-                key: *key,
-                val: *val,
-            },
-            None => unreachable!(),
+        if i < self.few.len() {
+            self.few[i]
+        } else {
+            self.more.entry_at(i - self.few.len())
         }
     }
 
     fn find(&self, key: Val) -> Option<usize> {
-        self.pairs.get_index_of(&key)
+        match place_in(self.few.as_slice(), key) {
+            Some(i) => Some(i),
+            None => behind(self.few.len(), self.more.len(), self.more.find(key)),
+        }
     }
 
     fn put(&mut self, key: Val, val: Val) -> Result<Option<Val>, AllocError> {
-        let replaced = self.pairs.insert(key, val)?;
-        Ok(replaced)
+        match replace_in(&mut self.few, key, val) {
+            Some(was) => Ok(Some(was)),
+            None => {
+                if self.few.len() < FEW && self.more.len() == 0 {
+                    push_to(&mut self.few, Entry { key, val })?;
+                    Ok(None)
+                } else {
+                    let replaced = self.more.put(*self.few.allocator(), key, val)?;
+                    Ok(replaced)
+                }
+            }
+        }
     }
 
     fn take(&mut self, i: usize) -> Entry {
-        match self.pairs.shift_remove_index(i) {
-            Some((key, val)) => Entry { key, val },
-            None => unreachable!(),
+        let few = self.few.as_slice().len();
+        if i < few {
+            self.few.remove(i)
+        } else {
+            self.more.take(i - few)
         }
     }
 
     fn detach(&mut self) -> Option<Entry> {
-        match self.pairs.pop() {
-            Some((key, val)) => Some(Entry { key, val }),
-            None => None,
+        match self.more.detach() {
+            Some(entry) => Some(entry),
+            None => self.few.pop(),
         }
     }
 

@@ -16,7 +16,7 @@ pub use laws::{
     locals_live, no_run_is_stuck, runs_stay_lawful, serials_are_few, stacks_are_bounded,
     steps_leave_what_is_below, worlds_are_orderly, worlds_have_origins,
 };
-pub use line::line_of;
+pub use line::{LineText, line_of, push_line};
 
 #[cfg(test)]
 mod tests;

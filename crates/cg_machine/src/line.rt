@@ -1,5 +1,5 @@
 //! The line of each event.
-ghost use Rattle.std.specs.Prelude.{◌≡◌, ◌+◌, ◌≤◌, ◌++◌, length, codes};
+ghost use Rattle.std.specs.Prelude.{◌≡◌, ◌+◌, ◌≤◌, ◌++◌, [], length, codes};
 ghost use Rattle.cg_machine.specs.Lines.{line, words_of, IsPrintable, IsPrintableValue, kind_text, sort_text, yes_or_no, serial_text, number_text, value_text};
 
 use crate::event::{Event, FrameSort};
@@ -10,157 +10,173 @@ use itoa::Buffer;
 /// The most bytes that a line has: a value's text has at most 1,024.
 const ROOM: usize = 1100;
 
+/// Room for the line of an event.
+pub type LineText = ArrayString<ROOM>;
+
 /// The line of an event, with its line feed. A text that it prints is one of `names`, of at most 1,024 bytes.
-pub fn line_of(event: &Event, names: &Names) -> ArrayString<ROOM>
+pub fn line_of(event: &Event, names: &Names) -> LineText
     requires { IsPrintable names.now event.now }
     ensures { result.bytes ≡ line names.now event.now }
 {
-    let mut text = words(event, names);
-    text.push_str("\n");
+    let mut text = ArrayString::new();
+    push_line(&mut text, event, names);
     text
 }
 
-/// A line without its line feed.
-fn words(event: &Event, names: &Names) -> ArrayString<ROOM>
-    requires { IsPrintable names.now event.now }
-    ensures words { result.bytes ≡ words_of names.now event.now }
-    ensures short { length result.bytes ≤ 1080 }
+/// Writes the line of an event, as `line_of` answers it, into a text that is empty before. So no line is copied.
+pub fn push_line(text: &mut LineText, event: &Event, names: &Names)
+    requires empty { text.old.bytes ≡ [] }
+    requires printable { IsPrintable names.now event.now }
+    ensures { text.new.bytes ≡ line names.now event.now }
+{
+    push_words(text, event, names);
+    text.push_str("\n");
+}
+
+/// Writes a line without its line feed into an empty text. Each form is written by a call of its own, into the one text
+/// that there is.
+fn push_words(text: &mut ArrayString<ROOM>, event: &Event, names: &Names)
+    requires empty { text.old.bytes ≡ [] }
+    requires printable { IsPrintable names.now event.now }
+    ensures words { text.new.bytes ≡ words_of names.now event.now }
+    ensures short { length text.new.bytes ≤ 1080 }
 {
     match event {
-        Event::Made { code, serial } => made(*code, *serial),
-        Event::Enter { sort, serial } => enter(*sort, *serial),
-        Event::Leave => plain("leave"),
-        Event::Cleared(serial) => about("cleared", *serial),
-        Event::Free(serial) => about("free", *serial),
-        Event::Alive(serial) => about("alive", *serial),
-        Event::GcStart(generation) => counted("gc start", u64::from(*generation)),
-        Event::GcCollectable(serial) => about("gc collectable", *serial),
-        Event::GcUncollectable(serial) => about("gc uncollectable", *serial),
-        Event::GcSaved(serial) => about("gc saved", *serial),
+        Event::Made { code, serial } => made(text, *code, *serial),
+        Event::Enter { sort, serial } => enter(text, *sort, *serial),
+        Event::Leave => plain(text, "leave"),
+        Event::Cleared(serial) => about(text, "cleared", *serial),
+        Event::Free(serial) => about(text, "free", *serial),
+        Event::Alive(serial) => about(text, "alive", *serial),
+        Event::GcStart(generation) => counted(text, "gc start", u64::from(*generation)),
+        Event::GcCollectable(serial) => about(text, "gc collectable", *serial),
+        Event::GcUncollectable(serial) => about(text, "gc uncollectable", *serial),
+        Event::GcSaved(serial) => about(text, "gc saved", *serial),
         Event::GcStop {
             generation,
             collected,
             uncollectable,
         } => three(
+            text,
             "gc stop",
             u64::from(*generation),
             *collected,
             *uncollectable,
         ),
-        Event::Collected(number) => counted("collected", *number),
-        Event::Value(value) => printed(*value, names),
-        Event::RefCount(number) => counted("refs", *number),
-        Event::Tracked(answer) => answered("tracked ", *answer),
-        Event::Finalized(answer) => answered("finalized ", *answer),
-        Event::Count { zero, one, two } => three("count", *zero, *one, *two),
+        Event::Collected(number) => counted(text, "collected", *number),
+        Event::Value(value) => printed(text, *value, names),
+        Event::RefCount(number) => counted(text, "refs", *number),
+        Event::Tracked(answer) => answered(text, "tracked ", *answer),
+        Event::Finalized(answer) => answered(text, "finalized ", *answer),
+        Event::Count { zero, one, two } => three(text, "count", *zero, *one, *two),
         Event::Gens {
             zero,
             one,
             two,
             frozen,
-        } => four("gens", *zero, *one, *two, *frozen),
-        Event::Refused(number) => counted("refused", u64::from(*number)),
-        Event::BudgetSpent => plain("budget spent"),
-        Event::End => plain("end"),
+        } => four(text, "gens", *zero, *one, *two, *frozen),
+        Event::Refused(number) => counted(text, "refused", u64::from(*number)),
+        Event::BudgetSpent => plain(text, "budget spent"),
+        Event::End => plain(text, "end"),
     }
 }
 
 /// Words alone.
-fn plain(words: &str) -> ArrayString<ROOM>
-    requires { length words.now ≤ 100 }
-    ensures bytes { result.bytes ≡ words.now }
-    ensures short { length result.bytes ≤ 100 }
+fn plain(text: &mut ArrayString<ROOM>, words: &str)
+    requires empty { text.old.bytes ≡ [] }
+    requires few { length words.now ≤ 100 }
+    ensures bytes { text.new.bytes ≡ words.now }
+    ensures short { length text.new.bytes ≤ 100 }
 {
-    let mut text = ArrayString::new();
     text.push_str(words);
-    text
 }
 
 /// Words about an object.
-fn about(words: &str, serial: u64) -> ArrayString<ROOM>
-    requires { length words.now ≤ 100 }
-    ensures bytes { result.bytes ≡ words.now ++ serial_text serial }
-    ensures short { length result.bytes ≤ 200 }
+fn about(text: &mut ArrayString<ROOM>, words: &str, serial: u64)
+    requires empty { text.old.bytes ≡ [] }
+    requires few { length words.now ≤ 100 }
+    ensures bytes { text.new.bytes ≡ words.now ++ serial_text serial }
+    ensures short { length text.new.bytes ≤ 200 }
 {
-    let mut text = plain(words);
-    push_serial(&mut text, serial);
-    text
+    plain(text, words);
+    push_serial(text, serial);
 }
 
 /// Words and a number.
-fn counted(words: &str, number: u64) -> ArrayString<ROOM>
-    requires { length words.now ≤ 100 }
-    ensures bytes { result.bytes ≡ words.now ++ number_text number }
-    ensures short { length result.bytes ≤ 200 }
+fn counted(text: &mut ArrayString<ROOM>, words: &str, number: u64)
+    requires empty { text.old.bytes ≡ [] }
+    requires few { length words.now ≤ 100 }
+    ensures bytes { text.new.bytes ≡ words.now ++ number_text number }
+    ensures short { length text.new.bytes ≤ 200 }
 {
-    let mut text = plain(words);
-    push_number(&mut text, number);
-    text
+    plain(text, words);
+    push_number(text, number);
 }
 
 /// Words and three numbers.
-fn three(words: &str, first: u64, second: u64, third: u64) -> ArrayString<ROOM>
-    requires { length words.now ≤ 100 }
-    ensures bytes { result.bytes ≡ words.now ++ number_text first ++ number_text second ++ number_text third }
-    ensures short { length result.bytes ≤ 400 }
+fn three(text: &mut ArrayString<ROOM>, words: &str, first: u64, second: u64, third: u64)
+    requires empty { text.old.bytes ≡ [] }
+    requires few { length words.now ≤ 100 }
+    ensures bytes { text.new.bytes ≡ words.now ++ number_text first ++ number_text second ++ number_text third }
+    ensures short { length text.new.bytes ≤ 400 }
 {
-    let mut text = counted(words, first);
-    push_number(&mut text, second);
-    push_number(&mut text, third);
-    text
+    counted(text, words, first);
+    push_number(text, second);
+    push_number(text, third);
 }
 
 /// Words and four numbers.
-fn four(words: &str, first: u64, second: u64, third: u64, fourth: u64) -> ArrayString<ROOM>
-    requires { length words.now ≤ 100 }
-    ensures bytes { result.bytes ≡ words.now ++ number_text first ++ number_text second ++ number_text third ++ number_text fourth }
-    ensures short { length result.bytes ≤ 500 }
+fn four(text: &mut ArrayString<ROOM>, words: &str, first: u64, second: u64, third: u64, fourth: u64)
+    requires empty { text.old.bytes ≡ [] }
+    requires few { length words.now ≤ 100 }
+    ensures bytes { text.new.bytes ≡ words.now ++ number_text first ++ number_text second ++ number_text third ++ number_text fourth }
+    ensures short { length text.new.bytes ≤ 500 }
 {
-    let mut text = three(words, first, second, third);
-    push_number(&mut text, fourth);
-    text
+    three(text, words, first, second, third);
+    push_number(text, fourth);
 }
 
 /// Words and an answer.
-fn answered(words: &str, answer: bool) -> ArrayString<ROOM>
-    requires { length words.now ≤ 100 }
-    ensures bytes { result.bytes ≡ words.now ++ yes_or_no answer }
-    ensures short { length result.bytes ≤ 200 }
+fn answered(text: &mut ArrayString<ROOM>, words: &str, answer: bool)
+    requires empty { text.old.bytes ≡ [] }
+    requires few { length words.now ≤ 100 }
+    ensures bytes { text.new.bytes ≡ words.now ++ yes_or_no answer }
+    ensures short { length text.new.bytes ≤ 200 }
 {
-    let mut text = plain(words);
+    plain(text, words);
     text.push_str(if answer { "yes" } else { "no" });
-    text
 }
 
 /// That an object was made.
-fn made(code: KindCode, serial: u64) -> ArrayString<ROOM>
-    ensures bytes { result.bytes ≡ codes "made " ++ kind_text code ++ serial_text serial }
-    ensures short { length result.bytes ≤ 200 }
+fn made(text: &mut ArrayString<ROOM>, code: KindCode, serial: u64)
+    requires empty { text.old.bytes ≡ [] }
+    ensures bytes { text.new.bytes ≡ codes "made " ++ kind_text code ++ serial_text serial }
+    ensures short { length text.new.bytes ≤ 200 }
 {
-    let mut text = plain("made ");
+    plain(text, "made ");
     text.push_str(kind_word(code));
-    push_serial(&mut text, serial);
-    text
+    push_serial(text, serial);
 }
 
 /// That a frame begins.
-fn enter(sort: FrameSort, serial: u64) -> ArrayString<ROOM>
-    ensures bytes { result.bytes ≡ codes "enter " ++ sort_text sort ++ serial_text serial }
-    ensures short { length result.bytes ≤ 200 }
+fn enter(text: &mut ArrayString<ROOM>, sort: FrameSort, serial: u64)
+    requires empty { text.old.bytes ≡ [] }
+    ensures bytes { text.new.bytes ≡ codes "enter " ++ sort_text sort ++ serial_text serial }
+    ensures short { length text.new.bytes ≤ 200 }
 {
-    let mut text = plain("enter ");
+    plain(text, "enter ");
     text.push_str(sort_word(sort));
-    push_serial(&mut text, serial);
-    text
+    push_serial(text, serial);
 }
 
 /// A value.
-fn printed(value: Val, names: &Names) -> ArrayString<ROOM>
-    requires { IsPrintableValue names.now value }
-    ensures bytes { result.bytes ≡ codes "value " ++ value_text names.now value }
-    ensures short { length result.bytes ≤ 1080 }
+fn printed(text: &mut ArrayString<ROOM>, value: Val, names: &Names)
+    requires empty { text.old.bytes ≡ [] }
+    requires printable { IsPrintableValue names.now value }
+    ensures bytes { text.new.bytes ≡ codes "value " ++ value_text names.now value }
+    ensures short { length text.new.bytes ≤ 1080 }
 {
-    let mut text = plain("value ");
+    plain(text, "value ");
     match value {
         Val::None => text.push_str("none"),
         Val::Int(number) => text.push_str(Buffer::new().format(number)),
@@ -173,7 +189,6 @@ fn printed(value: Val, names: &Names) -> ArrayString<ROOM>
             text.push_str(Buffer::new().format(serial));
         }
     }
-    text
 }
 
 /// The word of a kind.

@@ -15,11 +15,11 @@ use Rattle.cg_script.specs.Parts.{Known, parts_of}
 use Rattle.cg_script.specs.Commands.{said}
 use Rattle.cg_script.specs.Reading.{Lines, good, spoilt, lines_from, known_after, items_of, body_of, Reading, spells, faulty}
 
--- what a line means
-abbrev pub meaning_of : Line → Meaning
-meaning_of lines.Passed = passed
-meaning_of (lines.Says form words) = says form (map (λ w. w.now) words.items)
-meaning_of (lines.Bad code) = bad code
+-- what a line of these words means
+abbrev pub meaning_of : Line → List (List ℕ) → Meaning
+meaning_of lines.Passed words = passed
+meaning_of (lines.Says form) words = says form words
+meaning_of (lines.Bad code) words = bad code
 
 -- what a draft knows
 abbrev pub known_of : Draft → Known

@@ -11,7 +11,7 @@ use crate::command::Command;
 use crate::form::Form;
 use crate::item::{Item, Proc};
 use crate::members::Commands;
-use crate::part::{Said, names_unknown, read_parts};
+use crate::part::{Parts, Said, names_unknown, read_parts};
 use crate::said::said_of;
 use crate::table::Table;
 use crate::word::text_of_identifier;
@@ -177,12 +177,14 @@ const DEFINED_TWICE: u8 = 8;
 /// A procedure or class that no earlier line defines.
 const NOT_DEFINED: u8 = 6;
 
-/// Takes words of a form, or answers the code of what is wrong with them.
+/// Takes words of a form, or answers the code of what is wrong with them. Their parts go into a list that is empty before.
 pub(crate) fn take_words(
     draft: &mut Draft,
     form: Form,
     words: &[&[u8]],
+    parts: &mut Parts,
 ) -> Result<Option<u8>, AllocError>
+    requires empty { parts.old.items ≡ [] }
     requires fit { all_fit form 0 (map (λ w. w.now) words.now) ≡ true }
     requires enough { (row form).fewest ≤ length words.now }
     requires few { length words.now ≤ 64 }
@@ -200,11 +202,18 @@ pub(crate) fn take_words(
     if defines_again(draft, form, words) {
         return Ok(Some(DEFINED_TWICE));
     }
-    let parts = read_parts(form, words, &mut draft.names, &draft.procs, &draft.classes)?;
-    if names_unknown(&parts) {
+    read_parts(
+        parts,
+        form,
+        words,
+        &mut draft.names,
+        &draft.procs,
+        &draft.classes,
+    )?;
+    if names_unknown(parts.as_slice()) {
         return Ok(Some(NOT_DEFINED));
     }
-    let what = said_of(draft.alloc, form, &parts)?;
+    let what = said_of(draft.alloc, form, parts.as_slice())?;
     define(draft, form, words)?;
     push(draft.alloc, &mut draft.items, &mut draft.begun, what)?;
     Ok(None)

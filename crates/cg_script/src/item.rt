@@ -5,7 +5,7 @@ use cg_value::Names;
 
 /// A class: its finalizer and its legacy finalizer, each the number of a procedure. (`object.__del__`, PEP 442; a legacy
 /// finalizer is a type's `tp_del`.)
-#[derive(Drop)]
+#[derive(Clone, Copy)]
 pub struct ClassDef {
     pub name: u32,
     pub del: Option<u32>,

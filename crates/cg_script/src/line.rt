@@ -1,22 +1,23 @@
 //! What a line means by its words alone.
-ghost use Rattle.std.specs.Prelude.{◌≡◌, ◌<◌, ◌≤◌, ◌+◌, length, map, codes, drop, true};
+ghost use Rattle.std.specs.Prelude.{◌≡◌, ◌<◌, ◌≤◌, ◌+◌, [], length, map, codes, drop, true};
 ghost use Rattle.cg_script.specs.Pieces.{word_is, word_at};
 ghost use Rattle.cg_script.specs.Meanings.{fits, all_fit, repeats_finalizer, formed, binding_form, worded, is_passed, meaning};
 ghost use Rattle.cg_script.specs.Views.{meaning_of};
 
 use crate::form::{Form, Grammar, Sort, binding_named, most_read, opener_named, row_for, sort_at};
-use crate::pieces::{Words, words};
+use crate::pieces::{Words, find_words};
 use crate::word::{
     flag, is_count_word, is_identifier_word, is_number_word, is_printable_text, is_value_word,
     is_variable_word, names_finalizer_word, names_legacy_word,
 };
 
-/// What a line means.
-pub(crate) enum Line<'a> {
+/// What a line means, beside its words.
+#[derive(Clone, Copy)]
+pub(crate) enum Line {
     /// Nothing: it is passed over.
     Passed,
-    /// Words of a form.
-    Says(Form, Words<'a>),
+    /// Its words are of this form.
+    Says(Form),
     /// Nothing that is read: the code of what is wrong with it.
     Bad(u8),
 }
@@ -91,8 +92,8 @@ fn has_two_alike(form: Form, words: &[&[u8]]) -> bool
 }
 
 /// The words of a line of this form.
-fn formed_line<'a>(grammar: Grammar, form: Form, words: Words<'a>) -> Line<'a>
-    ensures { meaning_of result ≡ formed grammar form (map (λ w. w.now) words.entry.items) }
+fn formed_line(grammar: Grammar, form: Form, words: &[&[u8]]) -> Line
+    ensures { meaning_of result (map (λ w. w.now) words.now) ≡ formed grammar form (map (λ w. w.now) words.now) }
 {
     let row = row_for(form);
     let read = most_read(grammar, form);
@@ -105,10 +106,10 @@ fn formed_line<'a>(grammar: Grammar, form: Form, words: Words<'a>) -> Line<'a>
     if read < words.len() {
         return Line::Bad(UNKNOWN_FORM);
     }
-    if !all_words_fit(form, &words) || has_two_alike(form, &words) {
+    if !all_words_fit(form, words) || has_two_alike(form, words) {
         return Line::Bad(WORD_FORM);
     }
-    Line::Says(form, words)
+    Line::Says(form)
 }
 
 /// The form of a line `x = ..` with a third word.
@@ -126,15 +127,15 @@ fn form_of_binding(words: &[&[u8]]) -> Form
 }
 
 /// A line of these words, which is not passed over.
-fn line_of_words<'a>(grammar: Grammar, words: Words<'a>) -> Line<'a>
-    requires { 1 ≤ length words.items }
-    ensures { meaning_of result ≡ worded grammar (map (λ w. w.now) words.entry.items) }
+fn line_of_words(grammar: Grammar, words: &[&[u8]]) -> Line
+    requires { 1 ≤ length words.now }
+    ensures { meaning_of result (map (λ w. w.now) words.now) ≡ worded grammar (map (λ w. w.now) words.now) }
 {
-    if words.len() >= 2 && has_word(&words, 1, b"=") {
+    if words.len() >= 2 && has_word(words, 1, b"=") {
         if words.len() == 2 {
             return Line::Bad(WORD_COUNT);
         }
-        return formed_line(grammar, form_of_binding(&words), words);
+        return formed_line(grammar, form_of_binding(words), words);
     }
     match opener_named(words[0]) {
         Some(form) => formed_line(grammar, form, words),
@@ -152,10 +153,16 @@ fn is_passed_over(words: &[&[u8]]) -> bool
     }
 }
 
-/// What the line of this number means.
+/// What the line of this number means, and its words, into a list that is empty before.
 #[tactic(auto, unfolding(crate::specs::Meanings::meaning))]
-pub(crate) fn read_line(grammar: Grammar, number: u32, line: &[u8]) -> Line<'_>
-    ensures { meaning_of result ≡ meaning grammar number line.now }
+pub(crate) fn read_line<'a>(
+    grammar: Grammar,
+    number: u32,
+    line: &'a [u8],
+    found: &mut Words<'a>,
+) -> Line
+    requires { found.old.items ≡ [] }
+    ensures { meaning_of result (map (λ w. w.now) found.new.items) ≡ meaning grammar number line.now }
 {
     if !is_printable_text(line) {
         return Line::Bad(NOT_PRINTABLE);
@@ -163,10 +170,11 @@ pub(crate) fn read_line(grammar: Grammar, number: u32, line: &[u8]) -> Line<'_>
     if line.len() > MOST_LINE_BYTES || number == FIRST_LINE_TOO_MANY {
         return Line::Bad(TOO_LONG);
     }
-    let Some(words) = words(line) else {
+    if !find_words(line, found) {
         return Line::Bad(TOO_LONG);
-    };
-    if is_passed_over(&words) {
+    }
+    let words = found.as_slice();
+    if is_passed_over(words) {
         return Line::Passed;
     }
     line_of_words(grammar, words)

@@ -1,5 +1,5 @@
 //! What the words of a line stand for, and what a line says.
-ghost use Rattle.std.specs.Prelude.{◌≡◌, ◌+◌, ◌-◌, ◌^◌, ◌<◌, ◌≤◌, true, length, map, codes, IfOk, OnOk};
+ghost use Rattle.std.specs.Prelude.{◌≡◌, ◌+◌, ◌-◌, ◌^◌, ◌<◌, ◌≤◌, true, [], length, map, codes, IfOk, OnOk};
 ghost use Rattle.cg_value.specs.Texts.{with_text};
 ghost use Rattle.cg_script.specs.Tables.{named as named_in};
 ghost use Rattle.cg_script.specs.Words.{is_value, is_identifier, atoms, after_prefix};
@@ -147,27 +147,28 @@ fn read_part(
     }
 }
 
-/// The parts of a line.
+/// Reads the parts of a line, into a list that is empty before.
 pub(crate) fn read_parts(
+    parts: &mut Parts,
     form: Form,
     words: &[&[u8]],
     names: &mut Names,
     procs: &Table,
     classes: &Table,
-) -> Result<Parts, AllocError>
+) -> Result<(), AllocError>
+    requires empty { parts.old.items ≡ [] }
     requires fit { all_fit form 0 (map (λ w. w.now) words.now) ≡ true }
     requires few { length words.now ≤ 64 }
     requires room { length names.old + 64 < 2 ^ 32 - 1 }
-    ensures parts { IfOk result (λ parts. parts.items ≡ parts_from procs.now classes.now names.old form 0 (map (λ w. w.now) words.now)) }
+    ensures parts { OnOk result (parts.new.items ≡ parts_from procs.now classes.now names.old form 0 (map (λ w. w.now) words.now)) }
     ensures texts { OnOk result (names.new ≡ texts_from names.old form 0 (map (λ w. w.now) words.now)) }
     ensures few_texts { OnOk result (length names.new ≤ length names.old + length words.now) }
 {
-    let mut parts = ArrayVec::new();
     'places: for place in 0..words.len() {
         let part = read_part(sort_at(form, place), words[place], names, procs, classes)?;
         parts.push(part);
     }
-    Ok(parts)
+    Ok(())
 }
 
 /// Whether a procedure or class is named that no earlier line defines.

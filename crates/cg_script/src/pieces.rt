@@ -1,5 +1,5 @@
 //! Bytes between separators.
-ghost use Rattle.std.specs.Prelude.{◌≡◌, ◌<◌, ◌∷◌, ◌==◌, length, map, position, MatchOption};
+ghost use Rattle.std.specs.Prelude.{◌≡◌, ◌<◌, ◌≤◌, ◌∷◌, ◌==◌, [], length, map, position, true, false};
 ghost use Rattle.cg_script.specs.Pieces.{pieces, words_of};
 
 use arrayvec::ArrayVec;
@@ -30,22 +30,25 @@ pub(crate) fn cut(bytes: &[u8], separator: u8) -> (&[u8], &[u8])
     }
 }
 
-/// The words of a line in order, unless there are too many.
-pub(crate) fn words(line: &[u8]) -> Option<Words<'_>>
-    ensures { MatchOption result (MOST_WORDS < length (words_of line.now))
-        (λ words. map (λ w. w.now) words.items ≡ words_of line.now) }
+/// Finds the words of a line in order, into a list that is empty before, unless there are too many.
+pub(crate) fn find_words<'a>(line: &'a [u8], words: &mut Words<'a>) -> bool
+    requires { words.old.items ≡ [] }
+    ensures found { result ≡ true → map (λ w. w.now) words.new.items ≡ words_of line.now }
+    ensures few { result ≡ true → length (words_of line.now) ≤ MOST_WORDS }
+    ensures many { result ≡ false → MOST_WORDS < length (words_of line.now) }
 {
-    let mut words = ArrayVec::new();
     let mut rest = line;
     'pieces: while !rest.is_empty() {
         let (word, after) = cut(rest, b' ');
         if !word.is_empty() {
             if words.is_full() {
-                return None;
+                return false;
             }
             words.push(word);
         }
         rest = after;
     }
-    Some(words)
+    // There are at most `MOST_WORDS`, since that is the room of the list.
+    let _count = words.len();
+    true
 }

@@ -14,28 +14,34 @@ use crate::form::Grammar;
 use crate::item::Script;
 use crate::line::{Line, read_line};
 use crate::members::Items;
-use crate::pieces::cut;
+use crate::part::Parts;
+use crate::pieces::{Words, cut};
+use arrayvec::ArrayVec;
 use std::alloc::Global;
 
 /// A procedure that is begun and not ended.
 const NO_END: u8 = 7;
 
-/// Takes the line of this number.
-fn take_line(
+/// Takes the line of this number. Its words and parts go into lists that serve all lines.
+fn take_line<'a>(
     draft: &mut Draft,
     grammar: Grammar,
     number: u32,
-    line: &[u8],
+    line: &'a [u8],
+    words: &mut Words<'a>,
+    parts: &mut Parts,
 ) -> Result<(), ScriptFault>
     requires { IsSmall draft.old number }
     ensures ok { OnOk result ((lines : List (List ℕ)) → reading_after grammar draft.new (number + 1) lines ≡ reading_after grammar draft.old number (line.now ∷ lines)) }
     ensures small { OnOk result (IsSmall draft.new (number + 1)) }
     ensures fault { IfErr result (λ fault. (lines : List (List ℕ)) → IsFault fault (reading_after grammar draft.old number (line.now ∷ lines))) }
 {
-    match read_line(grammar, number, line) {
+    words.clear();
+    parts.clear();
+    match read_line(grammar, number, line, words) {
         Line::Passed => Ok(()),
         Line::Bad(code) => Err(ScriptFault::Bad { line: number, code }),
-        Line::Says(form, words) => match take_words(draft, form, &words) {
+        Line::Says(form) => match take_words(draft, form, words.as_slice(), parts) {
             Ok(None) => Ok(()),
             Ok(Some(code)) => Err(ScriptFault::Bad { line: number, code }),
             Err(_) => Err(ScriptFault::OutOfMemory),
@@ -52,9 +58,11 @@ fn take_lines(draft: &mut Draft, grammar: Grammar, bytes: &[u8]) -> Result<u32, 
 {
     let mut number: u32 = 1;
     let mut rest = bytes;
+    let mut words = ArrayVec::new();
+    let mut parts = ArrayVec::new();
     'lines: while !rest.is_empty() {
         let (line, after) = cut(rest, b'\n');
-        match take_line(draft, grammar, number, line) {
+        match take_line(draft, grammar, number, line, &mut words, &mut parts) {
             Ok(()) => {
                 number += 1;
                 rest = after;
@@ -79,10 +87,13 @@ fn finish(draft: Draft, number: u32) -> Result<Script, ScriptFault>
             code: NO_END,
         });
     }
-    Ok(Script {
-        names: draft.names,
-        items: Items::new(draft.items),
-    })
+    match Items::new(draft.alloc, draft.items) {
+        Ok(items) => Ok(Script {
+            names: draft.names,
+            items,
+        }),
+        Err(_) => Err(ScriptFault::OutOfMemory),
+    }
 }
 
 /// The script that the bytes spell by one of the grammars.

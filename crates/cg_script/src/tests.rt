@@ -26,7 +26,7 @@ fn members_in_order(rt: HostRuntime) -> Result<(), Fail> {
     let mut lines = Vec::new(alloc);
     lines.push(Item::Budget(3))?;
     lines.push(Item::Run(Command::Count))?;
-    let items = Items::new(lines);
+    let items = Items::new(alloc, lines)?;
     assert!(rt;
         matches!(
             items.as_slice(),

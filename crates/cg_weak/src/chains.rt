@@ -4,6 +4,7 @@ ghost use Rattle.std.specs.Map.{lookup};
 ghost use Rattle.indexmap.specs.IndexMap.{spare};
 ghost use Rattle.cg_weak.specs.Chains.{ends_without, ends_joined, ends_of, with_ends, no_chains, chains_in};
 
+use cg_serial::SerialHashing;
 use indexmap::IndexMap;
 
 /// The two ends of a chain, both missing where it is empty.
@@ -101,7 +102,7 @@ impl Chains {
 }
 
 /// The chains of an object.
-pub fn chains_at(chains: &IndexMap<u64, Chains>, referent: u64) -> Chains
+pub fn chains_at(chains: &IndexMap<u64, Chains, SerialHashing>, referent: u64) -> Chains
     ensures { result ≡ chains_in (lookup (nat_eq referent) chains.now.entries) }
 {
     match chains.get(&referent) {
@@ -111,7 +112,7 @@ pub fn chains_at(chains: &IndexMap<u64, Chains>, referent: u64) -> Chains
 }
 
 /// Writes the chains of an object, where there is room for them.
-pub fn add_chains(chains: &mut IndexMap<u64, Chains>, referent: u64, with: Chains)
+pub fn add_chains(chains: &mut IndexMap<u64, Chains, SerialHashing>, referent: u64, with: Chains)
     requires { 0 < spare chains.old }
     ensures chains { (o : ℕ) → chains_in (lookup (nat_eq o) chains.new.entries) ≡ (if nat_eq referent o then with else chains_in (lookup (nat_eq o) chains.old.entries)) }
     ensures room { spare chains.old ≤ spare chains.new + 1 }
@@ -123,7 +124,7 @@ pub fn add_chains(chains: &mut IndexMap<u64, Chains>, referent: u64, with: Chain
 }
 
 /// Writes the chains of an object that has some. They are not kept once both are empty.
-pub fn write_chains(chains: &mut IndexMap<u64, Chains>, referent: u64, with: Chains)
+pub fn write_chains(chains: &mut IndexMap<u64, Chains, SerialHashing>, referent: u64, with: Chains)
     requires { IsSome (lookup (nat_eq referent) chains.old.entries) }
     ensures chains { (o : ℕ) → chains_in (lookup (nat_eq o) chains.new.entries) ≡ (if nat_eq referent o then with else chains_in (lookup (nat_eq o) chains.old.entries)) }
     ensures room { spare chains.old ≤ spare chains.new }

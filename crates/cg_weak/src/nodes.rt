@@ -6,6 +6,7 @@ ghost use Rattle.std.specs.Map.{lookup};
 ghost use Rattle.indexmap.specs.IndexMap.{spare};
 ghost use Rattle.cg_weak.specs.Nodes.{older_set, newer_set};
 
+use cg_serial::SerialHashing;
 use indexmap::IndexMap;
 
 /// A row, under its weak reference, and its neighbours in its chain.
@@ -18,7 +19,7 @@ pub struct Node {
 }
 
 /// The row of a weak reference that has one.
-pub fn node_at(nodes: &IndexMap<u64, Node>, weak: u64) -> Node
+pub fn node_at(nodes: &IndexMap<u64, Node, SerialHashing>, weak: u64) -> Node
     requires { IsSome (lookup (nat_eq weak) nodes.now.entries) }
     ensures { lookup (nat_eq weak) nodes.now.entries ≡ Some result }
 {
@@ -29,7 +30,7 @@ pub fn node_at(nodes: &IndexMap<u64, Node>, weak: u64) -> Node
 }
 
 /// Adds a row, where there is room for it.
-pub fn add_node(nodes: &mut IndexMap<u64, Node>, weak: u64, node: Node)
+pub fn add_node(nodes: &mut IndexMap<u64, Node, SerialHashing>, weak: u64, node: Node)
     requires { 0 < spare nodes.old }
     ensures nodes { (v : ℕ) → lookup (nat_eq v) nodes.new.entries ≡ (if nat_eq weak v then Some node else lookup (nat_eq v) nodes.old.entries) }
     ensures room { spare nodes.old ≤ spare nodes.new + 1 }
@@ -41,7 +42,7 @@ pub fn add_node(nodes: &mut IndexMap<u64, Node>, weak: u64, node: Node)
 }
 
 /// Writes another row for a weak reference that has one.
-pub fn write_node(nodes: &mut IndexMap<u64, Node>, weak: u64, node: Node)
+pub fn write_node(nodes: &mut IndexMap<u64, Node, SerialHashing>, weak: u64, node: Node)
     requires { IsSome (lookup (nat_eq weak) nodes.old.entries) }
     ensures nodes { (v : ℕ) → lookup (nat_eq v) nodes.new.entries ≡ (if nat_eq weak v then Some node else lookup (nat_eq v) nodes.old.entries) }
     ensures room { spare nodes.new ≡ spare nodes.old }
@@ -52,7 +53,7 @@ pub fn write_node(nodes: &mut IndexMap<u64, Node>, weak: u64, node: Node)
 }
 
 /// Takes out the row of a weak reference.
-pub fn remove_node(nodes: &mut IndexMap<u64, Node>, weak: u64)
+pub fn remove_node(nodes: &mut IndexMap<u64, Node, SerialHashing>, weak: u64)
     ensures nodes { (v : ℕ) → lookup (nat_eq v) nodes.new.entries ≡ (if nat_eq weak v then None else lookup (nat_eq v) nodes.old.entries) }
     ensures room { spare nodes.old ≤ spare nodes.new }
 {
@@ -60,7 +61,7 @@ pub fn remove_node(nodes: &mut IndexMap<u64, Node>, weak: u64)
 }
 
 /// Names the next older row of one, if there is that one.
-fn set_older(nodes: &mut IndexMap<u64, Node>, at: Option<u64>, older: Option<u64>)
+fn set_older(nodes: &mut IndexMap<u64, Node, SerialHashing>, at: Option<u64>, older: Option<u64>)
     ensures nodes { (v : ℕ) → lookup (nat_eq v) nodes.new.entries ≡ older_set at older v (lookup (nat_eq v) nodes.old.entries) }
     ensures room { spare nodes.new ≡ spare nodes.old }
 {
@@ -72,7 +73,7 @@ fn set_older(nodes: &mut IndexMap<u64, Node>, at: Option<u64>, older: Option<u64
 }
 
 /// Names the next newer row of one, if there is that one.
-fn set_newer(nodes: &mut IndexMap<u64, Node>, at: Option<u64>, newer: Option<u64>)
+fn set_newer(nodes: &mut IndexMap<u64, Node, SerialHashing>, at: Option<u64>, newer: Option<u64>)
     ensures nodes { (v : ℕ) → lookup (nat_eq v) nodes.new.entries ≡ newer_set at newer v (lookup (nat_eq v) nodes.old.entries) }
     ensures room { spare nodes.new ≡ spare nodes.old }
 {
@@ -84,7 +85,7 @@ fn set_newer(nodes: &mut IndexMap<u64, Node>, at: Option<u64>, newer: Option<u64
 }
 
 /// Makes two rows neighbours, as what stands between them leaves. Either may be missing.
-pub fn tie(nodes: &mut IndexMap<u64, Node>, newer: Option<u64>, older: Option<u64>)
+pub fn tie(nodes: &mut IndexMap<u64, Node, SerialHashing>, newer: Option<u64>, older: Option<u64>)
     ensures nodes { (v : ℕ) → lookup (nat_eq v) nodes.new.entries ≡ newer_set older newer v (older_set newer older v (lookup (nat_eq v) nodes.old.entries)) }
     ensures room { spare nodes.new ≡ spare nodes.old }
 {
@@ -93,7 +94,12 @@ pub fn tie(nodes: &mut IndexMap<u64, Node>, newer: Option<u64>, older: Option<u6
 }
 
 /// Makes a row the neighbour of two others, as it comes between them. Either may be missing.
-pub fn join(nodes: &mut IndexMap<u64, Node>, newer: Option<u64>, weak: u64, older: Option<u64>)
+pub fn join(
+    nodes: &mut IndexMap<u64, Node, SerialHashing>,
+    newer: Option<u64>,
+    weak: u64,
+    older: Option<u64>,
+)
     ensures nodes { (v : ℕ) → lookup (nat_eq v) nodes.new.entries ≡ newer_set older (Some weak) v (older_set newer (Some weak) v (lookup (nat_eq v) nodes.old.entries)) }
     ensures room { spare nodes.new ≡ spare nodes.old }
 {

@@ -4,11 +4,17 @@ ghost use Rattle.cg_weak.specs.Table.{below, above, IsLast, IsLinked, chain_at, 
 
 use crate::chains::Ends;
 use crate::nodes::{Node, node_at};
+use cg_serial::SerialHashing;
 use indexmap::IndexMap;
 
 // The oldest of the rows that wait with an object and are newer than a weak reference. Where weak references are set
 // waiting from the newest on, as in a death, the oldest tells; where they are from the oldest on, the newest does.
-fn oldest_above(nodes: &IndexMap<u64, Node>, referent: u64, ends: Ends, weak: u64) -> Option<u64>
+fn oldest_above(
+    nodes: &IndexMap<u64, Node, SerialHashing>,
+    referent: u64,
+    ends: Ends,
+    weak: u64,
+) -> Option<u64>
     requires linked { IsLinked above (chain_at nodes.now.entries) (newer_at nodes.now.entries) }
     requires newest { IsLast below (λ v. chain_at nodes.now.entries v ≡ Some (referent, true)) ends.newest }
     requires oldest { IsLast above (λ v. chain_at nodes.now.entries v ≡ Some (referent, true)) ends.oldest }
@@ -29,7 +35,7 @@ fn oldest_above(nodes: &IndexMap<u64, Node>, referent: u64, ends: Ends, weak: u6
 
 /// The neighbours that a row will have among those that wait with its object: the newer one, and the older one.
 pub fn neighbours(
-    nodes: &IndexMap<u64, Node>,
+    nodes: &IndexMap<u64, Node, SerialHashing>,
     referent: u64,
     ends: Ends,
     weak: u64,

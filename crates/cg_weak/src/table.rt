@@ -6,6 +6,7 @@ ghost use Rattle.cg_graph.specs.Rows.{IsRising, referent_in, waited_in, weak_ref
 use crate::chains::{Chains, add_chains, chains_at, write_chains};
 use crate::nodes::{Node, add_node, join, node_at, remove_node, tie, write_node};
 use crate::place::neighbours;
+use cg_serial::{SerialHashing, serial_hashing};
 use indexmap::IndexMap;
 use std::alloc::{AllocError, Global};
 use std::marker::Model;
@@ -19,8 +20,8 @@ use std::marker::Model;
 /// of a weak reference that is neither older nor newer than all that wait with its referent: it goes over the older ones.
 #[derive(Drop)]
 pub struct WeakTable {
-    nodes: IndexMap<u64, Node>,
-    chains: IndexMap<u64, Chains>,
+    nodes: IndexMap<u64, Node, SerialHashing>,
+    chains: IndexMap<u64, Chains, SerialHashing>,
 }
 
 impl Model for WeakTable {
@@ -43,8 +44,8 @@ impl WeakTable {
         ensures { result.rows ≡ [] }
     {
         WeakTable {
-            nodes: IndexMap::new(alloc),
-            chains: IndexMap::new(alloc),
+            nodes: IndexMap::with_hasher(alloc, serial_hashing()),
+            chains: IndexMap::with_hasher(alloc, serial_hashing()),
         }
     }
 

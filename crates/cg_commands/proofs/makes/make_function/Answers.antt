@@ -22,9 +22,8 @@ returns-in_err-parts g c =
       room = rw p.1 tt;
     }
 
-pub gather-requires-clause-known : goal.gather-requires-clause-known
-gather-requires-clause-known g c =
-    All-tail (λ n. n < length c.args.heap.now.names) c.args.name (operands_texts c.args.cells.now) c.requires.known
+pub gather-requires : goal.gather-requires
+gather-requires g c = (omega arith, (All-tail (λ n. n < length c.args.heap.now.names) c.args.name (operands_texts c.args.cells.now) c.requires.known, (c.requires.locals, c.requires.count)))
 
 pub make_bound-requires-clause-name : goal.make_bound-requires-clause-name
 make_bound-requires-clause-name g c =

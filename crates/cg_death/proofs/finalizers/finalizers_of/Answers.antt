@@ -7,7 +7,6 @@ use Rattle.cg_death.proofs.finalizers.finalizers_of.Goals as goal
 pub returns-in-Some-clause-del : goal.returns-in-Some-clause-del
 returns-in-Some-clause-del g c =
     c.finalizers_in.ensures.del
-    ∙ ap (λ items. option_and_then (λ c. c.del) (slice_get (classes items) c.in-Some.class)) c.as_slice.ensures
     ∙ sym (finalizer-at c.args.script.now c.args.heap.now c.args.object c.requires c.kind_of.result c.class_of.result c.kind_of.ensures c.class_of.ensures
     ∙ ap (λ k. option_and_then (λ c. c.del) (option_and_then (slice_get (classes c.args.script.now.items)) (class_number k c.class_of.result))) c.in-Inst.is
     ∙ ap (λ k. option_and_then (λ c. c.del) (option_and_then (slice_get (classes c.args.script.now.items)) k)) c.in-Some.is)
@@ -15,7 +14,6 @@ returns-in-Some-clause-del g c =
 pub returns-in-Some-clause-legacy : goal.returns-in-Some-clause-legacy
 returns-in-Some-clause-legacy g c =
     c.finalizers_in.ensures.legacy
-    ∙ ap (λ items. option_and_then (λ c. c.legacy) (slice_get (classes items) c.in-Some.class)) c.as_slice.ensures
     ∙ sym (legacy-at c.args.script.now c.args.heap.now c.args.object c.requires c.kind_of.result c.class_of.result c.kind_of.ensures c.class_of.ensures
     ∙ ap (λ k. option_and_then (λ c. c.legacy) (option_and_then (slice_get (classes c.args.script.now.items)) (class_number k c.class_of.result))) c.in-Inst.is
     ∙ ap (λ k. option_and_then (λ c. c.legacy) (option_and_then (slice_get (classes c.args.script.now.items)) k)) c.in-Some.is)

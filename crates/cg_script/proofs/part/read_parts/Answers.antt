@@ -5,7 +5,7 @@ use Rattle.cg_script.proofs.part.read_parts.Goals as goal
 
 pub places-init : goal.places-init
 places-init c =
-    let e = c.new-parts.ensures in
+    let e = c.requires.empty in
     record {
       fit = c.requires.fit;
       parts = ap (λ ps. ps ++ parts_from c.args.procs.now c.args.classes.now c.args.names.now c.args.form 0 (texts_of c.args.words.now)) e;

@@ -4,4 +4,4 @@ use Rattle.cg_weak.proofs.table.WeakTable.new.Goals as goal
 
 pub returns : goal.returns
 unfolding rows_of
-returns c = ap rows_of c.new.ensures.empty
+returns c = ap rows_of c.with_hasher.ensures.empty

@@ -1,6 +1,6 @@
 use Rattle.std.proofs.Common.{◌≡◌, ◌++◌, length, map}
 use Rattle.cg_script.specs.Pieces.{words_of}
-use Rattle.cg_script.proofs.pieces.words.Given as goal
+use Rattle.cg_script.proofs.pieces.find_words.Given as goal
 
 -- the words so far and those of what is left are those of the line
 abbrev pub invariant-pieces : goal.invariant-pieces

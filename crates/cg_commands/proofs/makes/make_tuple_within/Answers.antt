@@ -1,4 +1,4 @@
-use Rattle.std.proofs.Common.{◌∙◌, subst, ◌<◌, length, None}
+use Rattle.std.proofs.Common.{arith, ◌∙◌, subst, ◌<◌, length, None}
 use Rattle.std.proofs.lemmas.List.Elements.{All-head}
 use Rattle.std.proofs.lemmas.Result.{err_from_is_err_and}
 use Rattle.cg_machine.specs.Operands.{values}
@@ -9,7 +9,7 @@ use Rattle.cg_commands.specs.Answers.{Performs}
 use Rattle.cg_machine.specs.Effects.{makes}
 use Rattle.cg_value.specs.declared.KindCode.TheVariants as kind
 use Rattle.cg_script.specs.Texts.{operands_texts}
-use Rattle.cg_commands.proofs.makes.make_list.Goals as goal
+use Rattle.cg_commands.proofs.makes.make_tuple_within.Goals as goal
 
 pub returns-in_err-parts : goal.returns-in_err-parts
 returns-in_err-parts g c =
@@ -19,9 +19,8 @@ returns-in_err-parts g c =
       room = rw p.1 tt;
     }
 
-pub gather-requires-clause-known : goal.gather-requires-clause-known
-gather-requires-clause-known g c =
-    All-tail (λ n. n < length c.args.heap.now.names) c.args.name (operands_texts c.args.items.now) c.requires.known
+pub gather-requires : goal.gather-requires
+gather-requires g c = (omega (arith, c.requires.most), (All-tail (λ n. n < length c.args.heap.now.names) c.args.name (operands_texts c.args.items.now) c.requires.known, (c.requires.locals, c.requires.count)))
 
 pub make_bound-requires-clause-name : goal.make_bound-requires-clause-name
 make_bound-requires-clause-name g c =
@@ -35,6 +34,9 @@ pub returns : goal.returns
 returns g c = record {
   performs =
       (goes_on c.args.heap.now c.make_bound.new.heap c.args.locals (λ w. values w c.args.items.now) c.in_ok-parts.ensures.ok.vals _ c.make_bound.result c.in_ok-parts.ensures.ok.reads
-      (subst (λ ps. Performs c.args.heap.now c.args.locals (λ w. makes w c.args.name kind.List None ps None) c.make_bound.new.heap c.make_bound.result) (c.as_slice.ensures ∙ c.in_ok-parts.ensures.ok.items) c.make_bound.ensures.performs));
+      (subst (λ ps. Performs c.args.heap.now c.args.locals (λ w. makes w c.args.name kind.Tuple None ps None) c.make_bound.new.heap c.make_bound.result) (c.as_slice.ensures ∙ c.in_ok-parts.ensures.ok.items) c.make_bound.ensures.performs));
   room = c.make_bound.ensures.room;
 }
+
+pub as_slice-requires : goal.as_slice-requires
+as_slice-requires g c = omega (arith, c.requires.most)

@@ -1,0 +1,16 @@
+-- The hash of a serial.
+use Rattle.std.specs.Prelude.{ℕ, ◌+◌, ◌*◌, ◌/◌, ◌%◌, ◌^◌, ◌==◌, List, length, if◌then◌else◌}
+use Rattle.std.specs.Int.{w64, from_le_bytes}
+use Rattle.cg_serial.specs.declared.hasher.SerialHasher.{SerialHasher}
+
+-- the hasher before a serial
+abbrev pub initial : SerialHasher
+initial = record { hash = 0 }
+
+-- above, the place of the serial in its eight; below, the eight times a factor, its highest 29 bits
+abbrev pub spread : ℕ → ℕ
+spread serial = serial % 8 * 2 ^ 29 + (serial / 8 * 0xfb1f_f91a_c50e_2b99) % 2 ^ 64 / 2 ^ 35
+
+-- the hasher after a write: eight bytes are a serial, and no other bytes count
+abbrev pub serial_write : SerialHasher → List ℕ → SerialHasher
+serial_write h bytes = if length bytes == 8 then record { hash = spread (from_le_bytes w64 bytes) } else h

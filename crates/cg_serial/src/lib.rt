@@ -1,0 +1,8 @@
+//! How a serial is hashed, so that serials near one another lie near one another in a table.
+#![tactic(auto)]
+
+mod hasher;
+#[cfg(test)]
+mod tests;
+
+pub use hasher::{SerialHashing, SerialHasher, serial_hashing};
