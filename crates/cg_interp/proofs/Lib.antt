@@ -8,6 +8,7 @@ mod Standing
 mod Fitting
 mod FrameLemmas
 mod CallerLemmas
+mod Joining
 mod ReleaseLemmas
 mod EffectLemmas
 mod AnswerLemmas
