@@ -5,4 +5,4 @@ mod hasher;
 #[cfg(test)]
 mod tests;
 
-pub use hasher::{SerialHashing, SerialHasher, serial_hashing};
+pub use hasher::{SerialHasher, SerialHashing, serial_hashing};
