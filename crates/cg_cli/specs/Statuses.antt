@@ -1,13 +1,15 @@
 -- When each status comes, and what is written then. (Ours.)
-use Rattle.std.specs.Prelude.{◌≡◌, ◌<◌, ◌≤◌, ◌⊎◌, ℕ, List, [], ◌∷◌, ◌++◌, length, codes, decimal, Option, None, Some, unwrap_or}
+use Rattle.std.specs.Prelude.{◌≡◌, ◌<◌, ◌≤◌, ◌⊎◌, ℕ, List, [], ◌∷◌, ◌++◌, length, codes, decimal, flat_map, Option, None, Some, unwrap_or}
 use Rattle.std.specs.Io.KnownBytes.{Appends}
 use Rattle.cg_io.specs.Causes.{AppendsFront}
 use Rattle.cg_script.specs.declared.Script.{Script}
 use Rattle.cg_script.specs.declared.Item.{Item}
 use Rattle.cg_script.specs.declared.Item.TheVariants as items
+use Rattle.cg_machine.specs.declared.event.Event.{Event}
 use Rattle.cg_machine.specs.World.{Outcome}
 use Rattle.cg_machine.specs.Run.{StepTaken, IsWholeRun}
-use Rattle.cg_machine.specs.Lines.{text_of}
+use Rattle.cg_machine.specs.Lines.{line, text_of}
+use Rattle.cg_promises.specs.Lines.{KeepPromises}
 use Rattle.cg_script.specs.Reading.{Reading, reading, spells, faulty}
 use Rattle.cg_interp.specs.Written.{WroteRun}
 use Rattle.cg_cli.specs.declared.status.Status.{Status}
@@ -39,6 +41,14 @@ pub record RanWhole (given : Option ℕ) (outcome : Outcome) (bytes : List ℕ) 
   pub script : Script
   pub spelled : Spells bytes script
   pub wrote : WroteRun script (budget_of given script) outcome before now
+
+-- The bytes spell a script, and lines were written that keep the promises of every run.
+pub record RanKept (bytes : List ℕ) (before now : Option (List ℕ)) : Type 0 where
+  pub script : Script
+  pub spelled : Spells bytes script
+  pub events : List Event
+  pub promises : KeepPromises events
+  pub written : Appends before now (flat_map (line script.names) events)
 
 -- the line of the first bad line
 abbrev pub bad_script_text : ℕ → ℕ → List ℕ

@@ -6,7 +6,7 @@ ghost use Rattle.cg_io.specs.Causes.{AppendsFront, Rose};
 ghost use Rattle.cg_heap.specs.Boxes.{six_kinds};
 ghost use Rattle.cg_machine.specs.World.{Ended, BudgetIsSpent};
 ghost use Rattle.cg_cli.specs.Words.{AsksFor, Ask};
-ghost use Rattle.cg_cli.specs.Statuses.{RanWhole, RanBad, WroteFront, Answers, IsCutShort};
+ghost use Rattle.cg_cli.specs.Statuses.{RanWhole, RanKept, RanBad, WroteFront, Answers, IsCutShort};
 
 use crate::run::run_job;
 use crate::status::Status;
@@ -14,6 +14,7 @@ use crate::tell::tell_bad_words;
 use crate::words::{Job, read_words};
 use cg_io::{Sink, Source};
 use cg_kind::Kind;
+use cg_promises::{no_dead_lines, one_finalizer_each};
 use std::alloc::Global;
 
 /// The same over kinds of any one type.
@@ -79,6 +80,10 @@ pub fn gc_run<S: Source, K: Sink>(
     ensures spent { result ≡ Status.Budget → (given : Option ℕ) × AsksFor (map string_bytes words.now) (Job.Run given)
         × IfSome (S.left source.old) (λ bytes. RanWhole given BudgetIsSpent bytes (K.written sink.old) (K.written sink.new)) }
 
+    // Its lines begin the finalizer of one object at most once (PEP 442), and name no object that an earlier line frees.
+    ensures promises { (result ≡ Status.Done) ⊎ (result ≡ Status.Budget)
+        → IfSome (S.left source.old) (λ bytes. RanKept bytes (K.written sink.old) (K.written sink.new)) }
+
     // What is wrong with the words, the script or its size, and that it was told.
     ensures bad_words { result ≡ Status.BadWords → Appends (K.written sink.old) (K.written sink.new) (codes "bad words\n") }
     ensures bad_script { result ≡ Status.BadScript → IfSome (S.left source.old) (λ bytes. RanBad bytes (K.written sink.old) (K.written sink.new)) }
@@ -104,5 +109,7 @@ pub fn gc_run<S: Source, K: Sink>(
     ensures complete { (given : Option ℕ) → AsksFor (map string_bytes words.now) (Job.Run given) → ¬ (Rose (S.faults source.old) (S.faults source.new)) → ¬ (Rose (K.faults sink.old) (K.faults sink.new))
         → (result ≡ Status.OutOfMemory) ⊎ IfSome (S.left source.old) (λ bytes. Answers bytes result) }
 {
+    one_finalizer_each();
+    no_dead_lines();
     gc_over(alloc, words, source, sink, kinds)
 }

@@ -30,3 +30,4 @@ mod Telling
 mod UnderWay
 mod ControlLemmas
 mod TurnLemmas
+mod KeptLines

@@ -13,7 +13,7 @@ ghost use Rattle.cg_interp.specs.Engines.{StandsFor};
 ghost use Rattle.cg_interp.specs.Collecting.{StandsWith};
 ghost use Rattle.cg_interp.specs.Tables.{IsTableOf};
 ghost use Rattle.cg_interp.specs.Turns.{IsFit};
-ghost use Rattle.cg_interp.specs.Written.{WroteRun, WrotePart};
+ghost use Rattle.cg_interp.specs.Written.{WroteRun, WrotePart, WroteKept};
 ghost use Rattle.cg_interp.specs.Running.{HasLaws, StaysPrintable, WritesTurn, CutsTurn};
 
 use crate::engine::Engine;
@@ -25,6 +25,7 @@ use cg_io::{Sink, WriteFailed};
 use cg_kind::Kind;
 use cg_laws::worlds_stay_kept;
 use cg_machine::{LineText, fronts_begin_whole_texts, lines_are_printable};
+use cg_promises::{no_dead_lines, one_finalizer_each};
 use cg_script::Script;
 use std::alloc::Global;
 use std::marker::Brand;
@@ -152,7 +153,8 @@ fn open_and_run<B: Kind, K: Sink, L: Ledger>(
 /// script's names, and writes the lines of the run, one `write` a line.
 ///
 /// It answers `Done` where the run ended by `end`, `Budget` where it ended by `budget spent`, `WriteFault` where the sink
-/// failed, and `OutOfMemory` where memory was refused before anything was written.
+/// failed, and `OutOfMemory` where memory was refused before anything was written. Whatever it answers, the lines begin each
+/// finalizer at most once (PEP 442), and name no object that an earlier line frees.
 pub fn run_script<B: Kind, K: Sink>(
     alloc: Global,
     heap: Heap<B>,
@@ -170,7 +172,12 @@ pub fn run_script<B: Kind, K: Sink>(
     ensures cause { result ≡ RunEnd.WriteFault → Rose (K.faults sink.old) (K.faults sink.new) }
     ensures memory { result ≡ RunEnd.OutOfMemory → Keeps (K.written sink.old) (K.written sink.new) }
     ensures later { K.faults sink.old ≤ K.faults sink.new }
+
+    // The finalizer of one object begins at most once, and no line names an object that an earlier one frees.
+    ensures promises { WroteKept script.now.names (K.written sink.old) (K.written sink.new) }
 {
+    one_finalizer_each();
+    no_dead_lines();
     // How many entries collections look at is counted by contracts alone.
     open_and_run::<B, K, Brand>(alloc, heap, script, budget, sink, Blank::new(1))
 }

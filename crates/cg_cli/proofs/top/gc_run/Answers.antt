@@ -1,0 +1,12 @@
+use Rattle.std.proofs.Common.{inl, inr, elim}
+use Rattle.cg_machine.specs.World.{Ended, BudgetIsSpent}
+use Rattle.cg_cli.proofs.KeptLines.{told_kept}
+use Rattle.cg_cli.proofs.top.gc_run.Goals as goal
+
+pub returns-clause-promises : goal.returns-clause-promises
+returns-clause-promises g c =
+    let kept = told_kept c.one_finalizer_each.ensures c.no_dead_lines.ensures in
+    λ ended. elim ended [
+      | inl is ↦ let ran = c.gc_over.ensures.done is in kept ran.0 Ended _ _ _ ran.2
+      | inr is ↦ let ran = c.gc_over.ensures.spent is in kept ran.0 BudgetIsSpent _ _ _ ran.2
+    ]

@@ -1,0 +1,7 @@
+use Rattle.cg_interp.proofs.KeptLines.{answer_kept}
+use Rattle.cg_interp.proofs.run.run_script.Goals as goal
+
+pub returns-clause-promises : goal.returns-clause-promises
+returns-clause-promises g c =
+    let e = c.open_and_run.ensures in
+    answer_kept c.one_finalizer_each.ensures c.no_dead_lines.ensures c.args.script.now _ _ _ c.open_and_run.result e.done e.spent e.part e.memory
