@@ -316,3 +316,32 @@ fn a_chain_of_lists_is_collected_and_dropped(rt: HostRuntime) -> Result<(), Fail
     );
     Ok(())
 }
+
+/// The number of the last of 100,000 lists that one list holds.
+const LAST_HELD: u32 = 100_002;
+
+#[test]
+fn many_lists_in_one_are_dropped_and_nothing_is_left_to_collect(rt: HostRuntime) -> Result<(), Fail> {
+    let alloc = rt.alloc();
+    let mut script = lines(alloc, "threshold 0; k = list")?;
+    for _list in 2..LAST_HELD {
+        script.extend_from_slice(b"a = list\nappend k a\n")?;
+    }
+    script.extend_from_slice(b"del a\ndel k\ncollect 2\n")?;
+    let mut wanted = Vec::new(alloc);
+    for serial in 2..=LAST_HELD {
+        push_numbered(&mut wanted, "made list #", serial)?;
+    }
+    // Items are given up last first, and the list that held them is the last to go.
+    for serial in 0..LAST_HELD - 1 {
+        push_numbered(&mut wanted, "free #", LAST_HELD - serial)?;
+    }
+    wanted.extend_from_slice(b"gc start 2\ngc stop 2 0 0\ncollected 0\nend\n")?;
+    let found = answer_to(alloc, &["run"], &mut PlainSource::new(script))?;
+    assert_eq!(rt; found.status, Status::Done);
+    assert!(rt;
+        found.text.as_slice() == wanted.as_slice(),
+        "the text of many lists in one"
+    );
+    Ok(())
+}
