@@ -321,7 +321,9 @@ fn a_chain_of_lists_is_collected_and_dropped(rt: HostRuntime) -> Result<(), Fail
 const LAST_HELD: u32 = 100_002;
 
 #[test]
-fn many_lists_in_one_are_dropped_and_nothing_is_left_to_collect(rt: HostRuntime) -> Result<(), Fail> {
+fn many_lists_in_one_are_dropped_and_nothing_is_left_to_collect(
+    rt: HostRuntime,
+) -> Result<(), Fail> {
     let alloc = rt.alloc();
     let mut script = lines(alloc, "threshold 0; k = list")?;
     for _list in 2..LAST_HELD {

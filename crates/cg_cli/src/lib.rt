@@ -24,6 +24,8 @@ mod examples;
 #[cfg(test)]
 mod kinds;
 #[cfg(test)]
+mod promises;
+#[cfg(test)]
 mod rows;
 #[cfg(test)]
 mod tests;

@@ -1,4 +1,4 @@
-use Rattle.std.proofs.Common.{inl, inr, elim}
+use Rattle.std.proofs.Common.{inl, inr}
 use Rattle.cg_machine.specs.World.{Ended, BudgetIsSpent}
 use Rattle.cg_cli.proofs.KeptLines.{told_kept}
 use Rattle.cg_cli.proofs.top.gc_run.Goals as goal
