@@ -1,6 +1,6 @@
 -- When each status comes, and what is written then. (Ours.)
 use Rattle.std.specs.Prelude.{◌≡◌, ◌<◌, ◌≤◌, ◌⊎◌, ℕ, List, [], ◌∷◌, ◌++◌, length, codes, decimal, flat_map, Option, None, Some, unwrap_or}
-use Rattle.std.specs.Io.KnownBytes.{Appends}
+use Rattle.std.specs.Io.KnownBytes.{Appends, Consumes}
 use Rattle.cg_io.specs.Causes.{AppendsFront}
 use Rattle.cg_script.specs.declared.Script.{Script}
 use Rattle.cg_script.specs.declared.Item.{Item}
@@ -61,6 +61,12 @@ pub record RanBad (bytes : List ℕ) (before now : Option (List ℕ)) : Type 0 w
   pub code : ℕ
   pub fault : reading bytes ≡ faulty number code
   pub wrote : Appends before now (bad_script_text number code)
+
+-- As many bytes as show that there are too many were taken, and no more.
+pub record TookTooMany (left after : Option (List ℕ)) : Type 0 where
+  pub bytes : List ℕ
+  pub number : length bytes ≡ limit
+  pub taken : Consumes left after bytes
 
 -- What a run job writes on these bytes: the text of a whole run, or the first bad line, or that they are too many.
 pub data RowText (given : Option ℕ) (bytes : List ℕ) : List ℕ → Type 0 where

@@ -9,7 +9,7 @@ ghost use Rattle.cg_script.specs.Spelled.{IsSpelled};
 ghost use Rattle.cg_script.specs.Texts.{TextsAreKnown};
 ghost use Rattle.cg_script.specs.Reading.{reading};
 ghost use Rattle.cg_interp.specs.Written.{WroteRun, WrotePart};
-ghost use Rattle.cg_cli.specs.Statuses.{RanWhole, RanBad, WroteFront, Answers, AnswersReading, IsCutShort, budget_of};
+ghost use Rattle.cg_cli.specs.Statuses.{RanWhole, RanBad, TookTooMany, WroteFront, Answers, AnswersReading, IsCutShort, budget_of};
 
 use crate::budget::budget_for;
 use crate::input::{InputFault, LIMIT, read_all};
@@ -96,6 +96,7 @@ fn run_read<K: Sink, B: Kind>(
     ensures spent { result ≡ Status.Budget → RanWhole given BudgetIsSpent bytes.now (K.written sink.old) (K.written sink.new) }
     ensures bad_script { result ≡ Status.BadScript → RanBad bytes.now (K.written sink.old) (K.written sink.new) }
     ensures large { result ≡ Status.TooLarge → Appends (K.written sink.old) (K.written sink.new) (codes "too large\n") }
+    ensures many { result ≡ Status.TooLarge → LIMIT ≤ length bytes.now }
     ensures write { result ≡ Status.WriteFault → WroteFront given bytes.now (K.written sink.old) (K.written sink.new) }
     ensures cause { result ≡ Status.WriteFault → Rose (K.faults sink.old) (K.faults sink.new) }
     ensures memory { result ≡ Status.OutOfMemory → Keeps (K.written sink.old) (K.written sink.new) }
@@ -123,6 +124,7 @@ pub fn run_job<S: Source, K: Sink, B: Kind>(
     ensures bad_script { result ≡ Status.BadScript → IfSome (S.left source.old) (λ bytes. RanBad bytes (K.written sink.old) (K.written sink.new)) }
     ensures read_to_end { (result ≡ Status.Done) ⊎ (result ≡ Status.Budget) ⊎ (result ≡ Status.BadScript) → IsAtEnd (S.left source.new) }
     ensures too_large { result ≡ Status.TooLarge → Appends (K.written sink.old) (K.written sink.new) (codes "too large\n") }
+    ensures taken { result ≡ Status.TooLarge → TookTooMany (S.left source.old) (S.left source.new) }
     ensures read_cause { result ≡ Status.ReadFault → Rose (S.faults source.old) (S.faults source.new) }
     ensures read { result ≡ Status.ReadFault → Keeps (K.written sink.old) (K.written sink.new) }
     ensures write_cause { result ≡ Status.WriteFault → Rose (K.faults sink.old) (K.faults sink.new) }

@@ -6,7 +6,7 @@ ghost use Rattle.cg_io.specs.Causes.{AppendsFront, Rose};
 ghost use Rattle.cg_heap.specs.Boxes.{six_kinds};
 ghost use Rattle.cg_machine.specs.World.{Ended, BudgetIsSpent};
 ghost use Rattle.cg_cli.specs.Words.{AsksFor, Ask};
-ghost use Rattle.cg_cli.specs.Statuses.{RanWhole, RanKept, RanBad, WroteFront, Answers, IsCutShort};
+ghost use Rattle.cg_cli.specs.Statuses.{RanWhole, RanKept, RanBad, TookTooMany, WroteFront, Answers, IsCutShort};
 
 use crate::run::run_job;
 use crate::status::Status;
@@ -34,6 +34,7 @@ fn gc_over<S: Source, K: Sink, B: Kind>(
     ensures bad_words { result ≡ Status.BadWords → Appends (K.written sink.old) (K.written sink.new) (codes "bad words\n") }
     ensures bad_script { result ≡ Status.BadScript → IfSome (S.left source.old) (λ bytes. RanBad bytes (K.written sink.old) (K.written sink.new)) }
     ensures too_large { result ≡ Status.TooLarge → Appends (K.written sink.old) (K.written sink.new) (codes "too large\n") }
+    ensures taken { result ≡ Status.TooLarge → TookTooMany (S.left source.old) (S.left source.new) }
     ensures read_to_end { (result ≡ Status.Done) ⊎ (result ≡ Status.Budget) ⊎ (result ≡ Status.BadScript) → IsAtEnd (S.left source.new) }
     ensures read_cause { result ≡ Status.ReadFault → Rose (S.faults source.old) (S.faults source.new) }
     ensures read { result ≡ Status.ReadFault → Keeps (K.written sink.old) (K.written sink.new) }
@@ -88,6 +89,7 @@ pub fn gc_run<S: Source, K: Sink>(
     ensures bad_words { result ≡ Status.BadWords → Appends (K.written sink.old) (K.written sink.new) (codes "bad words\n") }
     ensures bad_script { result ≡ Status.BadScript → IfSome (S.left source.old) (λ bytes. RanBad bytes (K.written sink.old) (K.written sink.new)) }
     ensures too_large { result ≡ Status.TooLarge → Appends (K.written sink.old) (K.written sink.new) (codes "too large\n") }
+    ensures taken { result ≡ Status.TooLarge → TookTooMany (S.left source.old) (S.left source.new) }
     ensures read_to_end { (result ≡ Status.Done) ⊎ (result ≡ Status.Budget) ⊎ (result ≡ Status.BadScript) → IsAtEnd (S.left source.new) }
 
     // Faults, which come only where the count of faults rose, and want of memory.

@@ -1,0 +1,101 @@
+//! What a collector saw: objects with their in-degrees and references, and the sets that it found.
+ghost use Rattle.std.specs.Prelude.{◌≡◌};
+
+use crate::serials::Serials;
+use std::marker::Model;
+
+/// An object that a collection looked at.
+#[derive(Drop)]
+pub struct Member {
+    /// Its serial, or any other number that names it.
+    pub serial: u64,
+    /// How many references to it there were, from members and from elsewhere.
+    pub degree: u64,
+    /// Whether its class has a legacy finalizer (a type's `tp_del`).
+    pub legacy: bool,
+    /// Its references to members, one item for each, in order.
+    pub refs: Serials,
+}
+
+/// Members in order, which contracts see as a list.
+#[derive(Drop)]
+pub struct Members {
+    members: Vec<Member>,
+}
+
+impl Model for Members {
+    ghost use Rattle.std.specs.Prelude.{List};
+    ghost use Rattle.cg_records.specs.declared.graph.Member.{Member};
+
+    ghost Value = { List Member };
+
+    ghost view = { λ m. m.members.items };
+}
+
+impl Members {
+    /// These members in order. It takes no memory.
+    pub fn new(members: Vec<Member>) -> Members
+        ensures { result ≡ members.items }
+    {
+        Members { members }
+    }
+
+    /// The members in order.
+    pub fn as_slice(&self) -> &[Member]
+        ensures { result.now ≡ self.now }
+    {
+        self.members.as_slice()
+    }
+}
+
+/// The objects that a collection looked at, and the sets that it found.
+#[derive(Drop)]
+pub struct Graph {
+    pub members: Members,
+    /// What was found unreachable.
+    pub lost: Serials,
+    /// What of it was set aside for a legacy finalizer; nothing in a second graph.
+    pub legacy: Serials,
+}
+
+/// The record of one collection.
+#[derive(Drop)]
+pub struct Rec {
+    /// The generation that was collected, 0 to 2.
+    pub generation: u8,
+    /// What the collection found at its start.
+    pub first: Graph,
+    /// What it found after the finalizers, where it came so far.
+    pub second: Option<Graph>,
+}
+
+/// Records in order, which contracts see as a list.
+#[derive(Drop)]
+pub struct Records {
+    members: Vec<Rec>,
+}
+
+impl Model for Records {
+    ghost use Rattle.std.specs.Prelude.{List};
+    ghost use Rattle.cg_records.specs.declared.graph.Rec.{Rec};
+
+    ghost Value = { List Rec };
+
+    ghost view = { λ m. m.members.items };
+}
+
+impl Records {
+    /// These records in order. It takes no memory.
+    pub fn new(members: Vec<Rec>) -> Records
+        ensures { result ≡ members.items }
+    {
+        Records { members }
+    }
+
+    /// The records in order.
+    pub fn as_slice(&self) -> &[Rec]
+        ensures { result.now ≡ self.now }
+    {
+        self.members.as_slice()
+    }
+}

@@ -1,0 +1,13 @@
+//! Records of collections, as data and as text: what a collector saw, and what it found unreachable.
+//!
+//! The layer above rests on one contract: the text of records is a definition (`specs/Text`), and reading and writing are exactly
+//! that, in both directions.
+//!
+//! - `serials`: serials in order; `graph`: members, graphs, records of collections.
+#![tactic(auto)]
+
+mod graph;
+mod serials;
+
+pub use graph::{Graph, Member, Members, Rec, Records};
+pub use serials::Serials;
