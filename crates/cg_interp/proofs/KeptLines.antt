@@ -1,5 +1,5 @@
 -- The lines that a run wrote keep the promises of every run.
-use Rattle.std.proofs.Common.{◌≡◌, refl, sym, ◌∙◌, append-nil, ℕ, ◌≤◌, List, [], ◌∷◌, ◌++◌, Option, arith}
+use Rattle.std.proofs.Common.{◌≡◌, refl, sym, ◌∙◌, append-nil, ℕ, ◌≤◌, List, [], ◌∷◌, ◌++◌, Option, None, Some, arith}
 use Rattle.std.specs.Io.KnownBytes.{Appends, Keeps}
 use Rattle.cg_io.specs.Causes.{AppendsFront}
 use Rattle.cg_script.specs.declared.Script.{Script}
