@@ -13,6 +13,8 @@ use Rattle.cg_collect.specs.declared.answer.CollectStep.{CollectStep}
 use Rattle.cg_collect.specs.declared.collection.Collection.{Collection}
 use Rattle.cg_collect.specs.declared.collection.Facts.{Facts}
 use Rattle.cg_collect.specs.Ready.{IsReadyAt, SparesGarbageList, HasFewCollected, GivesUpIn, RunsFrame, MayRun}
+use Rattle.cg_machine.specs.declared.event.Event.TheVariants.{GcStop}
+use Rattle.cg_collect.specs.declared.phase.Turn.{Turn}
 use Rattle.cg_collect.specs.Turns.{ComesNearer}
 
 -- what the phases know of it
@@ -64,6 +66,21 @@ KeepsReady c store (answer_of.Finished collected set_aside) = (c.generation ≤ 
 abbrev pub DiesUnheld : CollectStep → Store → Type 0
 DiesUnheld (answer_of.Died o) store = IsUnheld store o
 DiesUnheld answer store = Unit {0}
+
+-- the last turn but one: the line of the stop has the generation, what was collected and what was set aside
+abbrev pub stop_turn : Facts → ℕ → Turn
+stop_turn facts set_aside = record { phase = phase_of.Over set_aside; release = None; collected = 0; answer = answer_of.Emit (GcStop facts.generation facts.collected set_aside) }
+
+-- A collection that stops tells both numbers, and keeps them.
+pub record StopsWith (old new : Collection) (answer : CollectStep) (set_aside : ℕ) : Type 0 where
+  pub told : answer ≡ answer_of.Emit (GcStop old.generation old.collected set_aside)
+  pub over : new.phase ≡ phase_of.Over set_aside
+  pub collected : new.collected ≡ old.collected
+
+-- It has ended with the two numbers that it kept, each by itself.
+abbrev pub EndsWith : Collection → CollectStep → Type 0
+EndsWith old (answer_of.Finished collected set_aside) = (old.phase ≡ phase_of.Over set_aside) × (old.collected ≡ collected)
+EndsWith old answer = Unit {0}
 
 -- A step that went on without an answer reached a later pass, or in the same pass less is left.
 abbrev pub CollectFalls : Collection → Store → Collection → Store → Type 0

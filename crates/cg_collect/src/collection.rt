@@ -1,5 +1,5 @@
 //! A collection of a generation.
-ghost use Rattle.std.specs.Prelude.{◌≡◌, ◌+◌, ◌≤◌, ◌⊎◌, false, true, Bool, None, IfNone, IfSome};
+ghost use Rattle.std.specs.Prelude.{◌≡◌, ◌+◌, ◌≤◌, ◌⊎◌, ℕ, false, true, Bool, None, IfNone, IfSome};
 ghost use Rattle.cg_machine.specs.World.{World, push};
 ghost use Rattle.cg_machine.specs.Collect.{begun};
 ghost use Rattle.cg_machine.specs.Commands.{new_collection};
@@ -9,12 +9,13 @@ ghost use Rattle.cg_death.specs.Activities.{HasHolds};
 ghost use Rattle.cg_death.specs.Answers.{MakesNone};
 ghost use Rattle.cg_death.specs.Steady.{KeepsNames};
 ghost use Rattle.cg_collect.specs.declared.answer.CollectStep.TheVariants as answer_of;
+ghost use Rattle.cg_collect.specs.declared.phase.Phase.TheVariants as phase_of;
 ghost use Rattle.cg_collect.specs.Numbers.{AreSmall};
 ghost use Rattle.cg_collect.specs.Ready.{IsClear, IsReadyAt, IsBegun};
 ghost use Rattle.cg_collect.specs.Turns.{pass_of, passes_on, TurnSteps, TurnFalls, TurnLeaves, TurnEnds, StaysReady, KeepsObjects};
 ghost use Rattle.cg_collect.specs.Looks.{most_looks};
 ghost use Rattle.cg_collect.specs.Answers.{CollectSteps, Shows};
-ghost use Rattle.cg_collect.specs.Collections.{IsReady, KeepsReady, CollectFalls, DiesUnheld, GivesUpNext, held_by, given_up_by, own_holds_at, facts_of};
+ghost use Rattle.cg_collect.specs.Collections.{IsReady, KeepsReady, CollectFalls, DiesUnheld, EndsWith, GivesUpNext, StopsWith, stop_turn, held_by, given_up_by, own_holds_at, facts_of};
 
 use crate::answer::CollectStep;
 use crate::detection::{detach_one, detect, tell_living};
@@ -94,6 +95,11 @@ impl Collection {
         ensures falls { result ≡ answer_of.Continue → CollectFalls self.old heap.old self.new heap.new }
         ensures died { DiesUnheld result heap.new }
 
+        // At its end it tells two numbers, what was collected and what was set aside, and answers with both.
+        ensures stops { (set_aside : ℕ) → self.old.phase ≡ phase_of.Stopping set_aside → self.old.release ≡ None
+            → StopsWith self.old self.new result set_aside }
+        ensures ends { EndsWith self.old result }
+
         // What it leaves besides, whatever it answers.
         ensures generation { self.new.generation ≡ self.old.generation }
         ensures begun { IsBegun self.new.phase }
@@ -149,6 +155,7 @@ impl Collection {
         ensures ready { StaysReady heap.new self.now.generation result.phase result.answer }
         ensures falls { TurnFalls heap.old self.now.phase heap.new result }
         ensures leaves { TurnLeaves heap.old self.now.phase heap.new result ⊎ TurnEnds self.now result }
+        ensures stops { (set_aside : ℕ) → self.now.phase ≡ phase_of.Stopping set_aside → result ≡ stop_turn (facts_of self.now) set_aside }
         ensures keeps { KeepsObjects heap.old heap.new }
         ensures looks { steps.new ≤ steps.old + most_looks self.now.generation self.now.phase heap.old }
     {

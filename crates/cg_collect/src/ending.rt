@@ -8,6 +8,7 @@ ghost use Rattle.cg_collect.specs.Phases.{is_saved_at};
 ghost use Rattle.cg_collect.specs.Saving.{with_saved, kept_aside};
 ghost use Rattle.cg_collect.specs.declared.collection.Facts.{Facts as AnyFacts};
 ghost use Rattle.cg_collect.specs.declared.phase.Phase.TheVariants as phase_of;
+ghost use Rattle.cg_collect.specs.Collections.{stop_turn};
 ghost use Rattle.cg_collect.specs.Ready.{IsReadyAt};
 ghost use Rattle.cg_collect.specs.Turns.{TurnSteps, TurnFalls, TurnLeaves, StaysReady, KeepsObjects};
 
@@ -148,6 +149,7 @@ pub fn tell_end(facts: Facts, number: u64) -> Turn
     ensures ready { (store : Store) (g : ℕ) → StaysReady store g result.phase result.answer }
     ensures falls { (store : Store) → TurnFalls store (phase_of.Stopping number) store result }
     ensures leaves { (store : Store) → TurnLeaves store (phase_of.Stopping number) store result }
+    ensures stops { result ≡ stop_turn facts number }
 {
     let event = Event::GcStop {
         generation: facts.generation,
