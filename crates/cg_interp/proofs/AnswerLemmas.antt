@@ -9,7 +9,6 @@ use Rattle.cg_death.proofs.CallerLemmas.{lives_in_heap}
 use Rattle.cg_graph.specs.Member.{Includes}
 use Rattle.cg_graph.specs.Object.{Object, object_at, is_in_map}
 use Rattle.cg_graph.specs.Store.{Store, IsLive}
-use Rattle.cg_graph.specs.Value.{entry_references}
 use Rattle.cg_machine.specs.declared.event.Event.{Event}
 use Rattle.cg_machine.specs.declared.event.Event.TheVariants.{Collected}
 use Rattle.cg_machine.specs.World.{World, Releasing, push, with_stack}
@@ -23,12 +22,11 @@ use Rattle.cg_machine.proofs.Shapes.{Shape, StartsFrame, StartsCollection, Ends}
 use Rattle.cg_machine.proofs.ShapeLaws.{by_shape, effect_leaves}
 use Rattle.cg_policy.specs.Policy.{Policy}
 use Rattle.cg_policy.specs.Laws.{policy_of}
-use Rattle.cg_commands.specs.declared.done.Done.{Done}
 use Rattle.cg_commands.specs.declared.done.Done.TheVariants as done_of
 use Rattle.cg_commands.specs.declared.done.Refusal.{Refusal}
 use Rattle.cg_commands.specs.declared.done.Refusal.TheVariants as refusal_of
 use Rattle.cg_commands.specs.Refusals.{number_of}
-use Rattle.cg_commands.specs.Answers.{Refuses, HasChanged, policy_after}
+use Rattle.cg_commands.specs.Answers.{Refuses, policy_after}
 use Rattle.cg_interp.specs.declared.activity.Activity.{Activity as Own}
 use Rattle.cg_interp.specs.Engines.{State, StandsFor, ShowsAll, under}
 use Rattle.cg_interp.specs.Callers.{Changes, call_of, IsPerformed}

@@ -1,4 +1,4 @@
-use Rattle.std.proofs.Common.{◌≡◌, sym, subst, inl, Ok, Err}
+use Rattle.std.proofs.Common.{subst, inl}
 use Rattle.cg_machine.specs.Commands.{effect, refused}
 use Rattle.cg_commands.specs.Refusals.{number_of}
 use Rattle.cg_interp.specs.Callers.{IsPerformed, HasPerformed}

@@ -1,11 +1,7 @@
-use Rattle.std.proofs.Common.{◌≡◌, sym, ◌∙◌, ap, subst}
-use Rattle.cg_machine.specs.World.{World}
+use Rattle.std.proofs.Common.{sym, subst}
 use Rattle.cg_heap.specs.Calls.{HasFewHolds}
-use Rattle.cg_policy.specs.Policy.{Policy}
-use Rattle.cg_policy.specs.Laws.{policy_of}
-use Rattle.cg_commands.specs.Stands.{HasLocals}
 use Rattle.cg_interp.specs.Engines.{State, StandsFor, under}
-use Rattle.cg_interp.specs.Callers.{IsPerformed, StaysKeptAfter}
+use Rattle.cg_interp.specs.Callers.{StaysKeptAfter}
 use Rattle.cg_interp.proofs.Fitting.{fit_after}
 use Rattle.cg_interp.proofs.UnderWay.{policy_is}
 use Rattle.cg_interp.proofs.engine.Engine.carry_out.Goals as goal
