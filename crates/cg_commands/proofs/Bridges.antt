@@ -21,7 +21,7 @@ use Rattle.cg_machine.specs.declared.event.Event.{Event}
 use Rattle.cg_machine.specs.Effects.{Effect, Changes, bound}
 use Rattle.cg_machine.specs.Represents.{Represents, CollectionWaits}
 use Rattle.cg_commands.specs.declared.done.Done.TheVariants.{Changed}
-use Rattle.cg_commands.specs.Answers.{Answers}
+use Rattle.cg_commands.specs.Answers.{AnswersOnHeap}
 use Rattle.cg_machine.proofs.Representing.{matches, represents, pushed}
 
 -- nothing is held by no references
@@ -105,7 +105,7 @@ change-alike store o n g h f e first second found same =
 
 -- A change that gives up references: the effect is known, and they are held from outside now.
 pub gives_up : (effect : Result Effect ℕ) (line : Option Event) (e : Entry) (wants : Bool) (refs : List ℕ) (mid : Store) (after : World) (old new : Store) → effect ≡ Ok (Changes wants (option_to_list line) refs after) → entry_references e ≡ refs → new ≡ held refs mid → Represents mid after → ((s : ℕ) → 0 < occurrences s refs → IsLive mid s)
-    → Answers (Ok (Changed line e)) effect old new
+    → AnswersOnHeap (Ok (Changed line e)) effect old new
 gives_up effect line e wants refs mid after old new is entry now stands live = record {
   wants_memory = wants;
   after = after;
@@ -115,7 +115,7 @@ gives_up effect line e wants refs mid after old new is entry now stands live = r
 }
 
 -- one that gives up nothing
-pub gives_nothing : (effect : Result Effect ℕ) (line : Option Event) (e : Entry) (wants : Bool) (after : World) (old new : Store) → effect ≡ Ok (Changes wants (option_to_list line) [] after) → entry_references e ≡ [] → Represents new after → Answers (Ok (Changed line e)) effect old new
+pub gives_nothing : (effect : Result Effect ℕ) (line : Option Event) (e : Entry) (wants : Bool) (after : World) (old new : Store) → effect ≡ Ok (Changes wants (option_to_list line) [] after) → entry_references e ≡ [] → Represents new after → AnswersOnHeap (Ok (Changed line e)) effect old new
 gives_nothing effect line e wants after old new is entry stands = record {
   wants_memory = wants;
   after = after;

@@ -6,16 +6,16 @@ use Rattle.cg_machine.specs.Effects.{Effect}
 use Rattle.cg_machine.specs.Refusals.{◌>>=◌}
 use Rattle.cg_commands.specs.declared.done.Done.{Done}
 use Rattle.cg_commands.specs.declared.done.Refusal.{Refusal}
-use Rattle.cg_commands.specs.declared.done.Refusal.TheVariants.{NoName, WrongKind, NoIndex, NoKey, NoAttribute, NotWeak, NotCallable, Unhashable, OutOfMemory, ObjectLimit, EntryLimit}
+use Rattle.cg_commands.specs.declared.done.Refusal.TheVariants.{NoName, WrongKind, NoIndex, NoKey, NoAttribute, NotWeak, NotCallable, BadGeneration, Unhashable, OutOfMemory, ObjectLimit, EntryLimit}
 use Rattle.cg_commands.specs.Refusals.{Declines}
 use Rattle.cg_commands.specs.declared.locals.Locals.{Locals}
 use Rattle.cg_commands.specs.Stands.{Reads, IsRefused}
-use Rattle.cg_commands.specs.Answers.{Answers, Refuses, Performs}
+use Rattle.cg_commands.specs.Answers.{AnswersOnHeap, Refuses, PerformsOnHeap}
 
 -- it goes on where the first thing is there
-pub next : {A : Type 0} (r : Result A ℕ) (x : A) (f : A → Result Effect ℕ) (old new : Store) (answer : Result Done Refusal) → r ≡ Ok x → Answers answer (f x) old new → Answers answer (r >>= f) old new
+pub next : {A : Type 0} (r : Result A ℕ) (x : A) (f : A → Result Effect ℕ) (old new : Store) (answer : Result Done Refusal) → r ≡ Ok x → AnswersOnHeap answer (f x) old new → AnswersOnHeap answer (r >>= f) old new
 unfolding ◌>>=◌
-next r x f old new answer is rest = subst (λ q. Answers answer (q >>= f) old new) (sym is) rest
+next r x f old new answer is rest = subst (λ q. AnswersOnHeap answer (q >>= f) old new) (sym is) rest
 
 -- what is refused is refused whatever comes after it
 pub declines_then : {A B : Type 0} (refusal : Refusal) (r : Result A ℕ) (f : A → Result B ℕ) → Declines refusal r → Declines refusal (r >>= f)
@@ -27,13 +27,14 @@ declines_then NoKey r f is = ap (λ q. q >>= f) is
 declines_then NoAttribute r f is = ap (λ q. q >>= f) is
 declines_then NotWeak r f is = ap (λ q. q >>= f) is
 declines_then NotCallable r f is = ap (λ q. q >>= f) is
+declines_then BadGeneration r f is = ap (λ q. q >>= f) is
 declines_then Unhashable r f is = ap (λ q. q >>= f) is
 declines_then OutOfMemory r f is = absurd is
 declines_then ObjectLimit r f is = ap (λ q. q >>= f) is
 declines_then EntryLimit r f is = ap (λ q. q >>= f) is
 
 -- and is refused where it is not
-pub refused : {A : Type 0} (refusal : Refusal) (r : Result A ℕ) (f : A → Result Effect ℕ) (old : Store) → Declines refusal r → Answers (Err refusal) (r >>= f) old old
+pub refused : {A : Type 0} (refusal : Refusal) (r : Result A ℕ) (f : A → Result Effect ℕ) (old : Store) → Declines refusal r → AnswersOnHeap (Err refusal) (r >>= f) old old
 refused refusal r f old is = (told refusal (r >>= f) (declines_then refusal r f is), refl)
   where
     told : (refusal : Refusal) (effect : Result Effect ℕ) → Declines refusal effect → Refuses refusal effect
@@ -44,15 +45,16 @@ refused refusal r f old is = (told refusal (r >>= f) (declines_then refusal r f 
     told NoAttribute effect is = is
     told NotWeak effect is = is
     told NotCallable effect is = is
+    told BadGeneration effect is = is
     told Unhashable effect is = is
     told OutOfMemory effect is = absurd is
     told ObjectLimit effect is = is
     told EntryLimit effect is = is
 
 -- In every world at once: what was read decides where it is refused,
-pub stops : {A : Type 0} (store : Store) (locals : Option Locals) (read : World → Result A ℕ) (k : World → A → Result Effect ℕ) (refusal : Refusal) → IsRefused store locals read refusal → Performs store locals (λ w. read w >>= k w) store (Err refusal)
+pub stops : {A : Type 0} (store : Store) (locals : Option Locals) (read : World → Result A ℕ) (k : World → A → Result Effect ℕ) (refusal : Refusal) → IsRefused store locals read refusal → PerformsOnHeap store locals (λ w. read w >>= k w) store (Err refusal)
 stops store locals read k refusal is w s = refused refusal (read w) (k w) store (is w s)
 
 -- and the rest does where it is there.
-pub goes_on : {A : Type 0} (store new : Store) (locals : Option Locals) (read : World → Result A ℕ) (x : A) (k : World → A → Result Effect ℕ) (answer : Result Done Refusal) → Reads store locals read x → Performs store locals (λ w. k w x) new answer → Performs store locals (λ w. read w >>= k w) new answer
+pub goes_on : {A : Type 0} (store new : Store) (locals : Option Locals) (read : World → Result A ℕ) (x : A) (k : World → A → Result Effect ℕ) (answer : Result Done Refusal) → Reads store locals read x → PerformsOnHeap store locals (λ w. k w x) new answer → PerformsOnHeap store locals (λ w. read w >>= k w) new answer
 goes_on store new locals read x k answer is rest w s = next (read w) x (k w) store new answer (is w s) (rest w s)

@@ -27,7 +27,7 @@ use Rattle.cg_commands.specs.declared.locals.Locals.{Locals}
 use Rattle.cg_commands.specs.declared.operands.Wanted.{Wanted}
 use Rattle.cg_commands.specs.declared.operands.Wanted.TheVariants as wanted
 use Rattle.cg_commands.specs.Objects.{RefersTo, test_of}
-use Rattle.cg_commands.specs.Answers.{Performs, Answers, GivesUp}
+use Rattle.cg_commands.specs.Answers.{PerformsOnHeap, AnswersOnHeap, GivesUp}
 use Rattle.cg_commands.proofs.Bridges.{gives_up, gives_nothing, refilled}
 use Rattle.cg_commands.proofs.Limits.{room, one_fits}
 
@@ -117,17 +117,17 @@ module _ (store : Store) (sound : IsSound store) (locals : Option Locals) (test 
 
   -- an item goes last
   pub appends : {X : Type 0} (u : X) (val : Val) (done : Done) (new : Store) → new ≡ rewritten o (entries_of store o ++ item val ∷ []) store → GivesUp [] done → ((Ok u ≡ Err fault.EntryLimit) ↔ (4000000 ≤ entry_number store))
-      → Performs store locals (λ w. has_room w 1 >>= (λ _. Ok (Changes true [] [] (with_change (with_entries (there.node.entries ++ item val ∷ [])) o w)))) new (Ok done)
+      → PerformsOnHeap store locals (λ w. has_room w 1 >>= (λ _. Ok (Changes true [] [] (with_change (with_entries (there.node.entries ++ item val ∷ [])) o w)))) new (Ok done)
   unfolding ◌>>=◌
   appends u val done new is (e, made, none) limit w s =
-      subst (λ d. Answers (Ok d) (has_room w 1 >>= (λ _. Ok (Changes true [] [] (with_change (with_entries (there.node.entries ++ item val ∷ [])) o w)))) store new) (sym made)
+      subst (λ d. AnswersOnHeap (Ok d) (has_room w 1 >>= (λ _. Ok (Changes true [] [] (with_change (with_entries (there.node.entries ++ item val ∷ [])) o w)))) store new) (sym made)
       (gives_nothing _ None e true (with_change (with_entries (there.node.entries ++ item val ∷ [])) o w) store new
       (ap (λ q. q >>= (λ _. Ok (Changes true [] [] (with_change (with_entries (there.node.entries ++ item val ∷ [])) o w)))) (room store w s.represents 1 (one_fits store u limit))) none
       (subst (λ st. Represents st (with_change (with_entries (there.node.entries ++ item val ∷ [])) o w)) (sym (is ∙ ap (λ es. rewritten o (es ++ item val ∷ []) store) entries-here)) (refilled store w s.represents o (there.node.entries ++ item val ∷ []))))
 
   -- an entry is taken out
   pub takes : (i : ℕ) (e : Entry) (es : List Entry) (new : Store) → slice_get (entries_of store o) i ≡ Some e → new ≡ held (entry_references e) (rewritten o (remove (entries_of store o) i) store) → es ≡ remove there.node.entries i
-      → Performs store locals (λ w. sets_entries w (object_from store.rows o there.node) es (entry_references e)) new (Ok (Changed None e))
+      → PerformsOnHeap store locals (λ w. sets_entries w (object_from store.rows o there.node) es (entry_references e)) new (Ok (Changed None e))
   takes i e es new at is gone w s =
       gives_up _ None e false (entry_references e) (rewritten o es store) (with_change (with_entries es) o w) store new refl refl
       (is ∙ ap (λ l. held (entry_references e) (rewritten o l store)) (ap (λ l. remove l i) entries-here ∙ sym gone))

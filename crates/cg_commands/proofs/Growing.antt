@@ -20,7 +20,7 @@ use Rattle.cg_machine.proofs.ShapeLaws.{by_shape}
 use Rattle.cg_commands.specs.declared.done.Done.{Done}
 use Rattle.cg_commands.specs.declared.done.Done.TheVariants as done
 use Rattle.cg_commands.specs.declared.done.Refusal.{Refusal}
-use Rattle.cg_commands.specs.Answers.{Answers}
+use Rattle.cg_commands.specs.Answers.{AnswersOnHeap}
 use Rattle.cg_commands.specs.Growth.{GrowsBy, makes_object}
 
 -- what was done without a new object, or where there is room for one
@@ -55,7 +55,7 @@ same w numbers = record { objects = omega arith; names = refl }
 placed : (w : World) (f : Place → Place) (numbers : Numbers) → Sized false w (record w { objects = replaced f w; numbers = numbers })
 placed w f numbers = record { objects = omega (arith, length-map w.objects (λ (x : Object). with_place (f x.place) x)); names = refl }
 
-made_makes : (command : Command) (kind : KindCode) (class : Option ℕ) → IsMadeBy command kind class → makes_object command ≡ true
+pub made_makes : (command : Command) (kind : KindCode) (class : Option ℕ) → IsMadeBy command kind class → makes_object command ≡ true
 made_makes command kind class (ByList name items) = refl
 made_makes command kind class (ByTuple name items) = refl
 made_makes command kind class (ByDict name) = refl
@@ -86,7 +86,8 @@ shape_sized w command e Ends = tt
 effect_sized : (w : World) (command : Command) → Each (HasSize (makes_object command) w) (effect w command)
 effect_sized w command = by_shape (HasSize (makes_object command) w) w command (shape_sized w command)
 
-of_effect : (P : Effect → Type 0) (r : Result Effect ℕ) (e : Effect) → r ≡ Ok e → Each P r → P e
+-- what holds of each effect holds of this one
+pub of_effect : (P : Effect → Type 0) (r : Result Effect ℕ) (e : Effect) → r ≡ Ok e → Each P r → P e
 of_effect P r e is each = subst (Each P) is each
 
 one_more : (made room : Bool) → (made ≡ true → room ≡ true) → (if made then 1 else 0) ≤ (if room then 1 else 0)
@@ -97,7 +98,7 @@ kept : (room : Bool) (old new : Store) → new ≡ old → GrowsBy room old new
 kept room old new is = subst (GrowsBy room old) (sym is) (record { objects = omega arith; names = refl })
 
 -- what was done lets the heap grow no further
-pub grows : (command : Command) (w : World) (room : Bool) (old new : Store) (answer : Result Done Refusal) → Represents old w → Answers answer (effect w command) old new → OnOk answer (makes_object command ≡ true → room ≡ true) → GrowsBy room old new
+pub grows : (command : Command) (w : World) (room : Bool) (old new : Store) (answer : Result Done Refusal) → Represents old w → AnswersOnHeap answer (effect w command) old new → OnOk answer (makes_object command ≡ true → room ≡ true) → GrowsBy room old new
 grows command w room old new (Ok (done.Changed line e)) r h is =
     let sized : Sized (makes_object command) w h.after = of_effect (HasSize (makes_object command) w) (effect w command) _ h.is (effect_sized w command) in
     let before : length (objects_of old) ≡ length w.objects = ap length r.objects in
@@ -107,5 +108,6 @@ grows command w room old new (Ok (done.Changed line e)) r h is =
       names = ap length h.represents.names ∙ sized.names ∙ sym (ap length r.names);
     }
 grows command w room old new (Ok (done.Calls f)) r h is = kept room old new h.1
+grows command w room old new (Ok (done.Collects g)) r h is = kept room old new h.2
 grows command w room old new (Ok done.Quits) r h is = kept room old new h.1
 grows command w room old new (Err refusal) r h is = kept room old new h.1

@@ -14,3 +14,7 @@ mod PartLemmas
 mod NewObjects
 mod MakeLemmas
 pub mod Growing
+mod Replacing
+mod Sizing
+mod Counting
+mod Controlling

@@ -21,7 +21,7 @@ use Rattle.cg_machine.specs.Refusals.{◌>>=◌, unless, most_entries, entry_lim
 use Rattle.cg_machine.specs.Represents.{Represents}
 use Rattle.cg_commands.specs.declared.locals.Locals.{Locals}
 use Rattle.cg_commands.specs.Refusals.{refusal_by}
-use Rattle.cg_commands.specs.Answers.{Performs}
+use Rattle.cg_commands.specs.Answers.{PerformsOnHeap}
 
 -- a sum over all objects but the garbage list
 module _ (rows : List Row) (F : Object → ℕ) (f : Node → ℕ) (same : (s : ℕ) (n : Node) → F (object_from rows s n) ≡ (if s == 1 then 0 else f n)) where
@@ -89,7 +89,7 @@ one_fits store x limit = known (leb_tells 4000000 (entry_number store))
 
 -- It refused it.
 pub fault-refused : {X : Type 0} (store : Store) (locals : Option Locals) (f : HeapFault) (lines : List Event) (given : List ℕ) (after : World → World) (refused_here : Result X HeapFault) → refused_here ≡ Err f → ((refused_here ≡ Err fault.EntryLimit) ↔ (4000000 ≤ entry_number store)) → refused_here ≢ Err fault.ObjectLimit
-    → (new : Store) → new ≡ store → Performs store locals (λ w. has_room w 1 >>= (λ _. Ok (Changes true lines given (after w)))) new (Err (refusal_by f))
+    → (new : Store) → new ≡ store → PerformsOnHeap store locals (λ w. has_room w 1 >>= (λ _. Ok (Changes true lines given (after w)))) new (Err (refusal_by f))
 unfolding ◌>>=◌
 fault-refused store locals fault.ObjectLimit lines given after r is limit objects new same = absurd (objects is)
 fault-refused store locals fault.EntryLimit lines given after r is limit objects new same = λ w s.

@@ -26,7 +26,7 @@ use Rattle.cg_machine.specs.Represents.{Represents}
 use Rattle.cg_commands.specs.declared.done.Done.TheVariants.{Changed}
 use Rattle.cg_commands.specs.declared.locals.Locals.{Locals}
 use Rattle.cg_commands.specs.Refusals.{refusal_by}
-use Rattle.cg_commands.specs.Answers.{Performs}
+use Rattle.cg_commands.specs.Answers.{PerformsOnHeap}
 use Rattle.cg_commands.proofs.Bridges.{gives_up, renamed}
 use Rattle.cg_commands.proofs.BindingLemmas.{given-up_by, was_live}
 use Rattle.cg_commands.proofs.Limits.{room, no_room, live-number}
@@ -78,7 +78,7 @@ module _ (store : Store) (sound : IsSound store) (locals : Option Locals) (name 
 
   pub makes-performs : (n : ℕ) → n ≡ serial → (was : Option Val) → slice_get store.names name ≡ Some was → (e : Entry) → entry_references e ≡ references_of_value was → (mid new : Store) → mid ≡ made_store → new ≡ held (references_of_value was) (named name (Some (val.Ref n)) (unheld (n ∷ []) mid))
       → ((Ok n ≡ Err fault.ObjectLimit) ↔ (1000000 ≤ object_number store)) → ((Ok n ≡ Err fault.EntryLimit) ↔ ((object_number store < 1000000) × (4000000 < entry_number store + length parts)))
-      → Performs store locals (λ w. makes w name code class parts referent) new (Ok (Changed (Some (Made code n)) e))
+      → PerformsOnHeap store locals (λ w. makes w name code class parts referent) new (Ok (Changed (Some (Made code n)) e))
   makes-performs n same was at e entry mid new is now objects entries w s =
       gives_up _ (Some (Made code n)) e true (references_of_value was) (named name (Some (val.Ref n)) (unheld (n ∷ []) mid)) (bound (with_new w code class parts referent) name (Some (val.Ref n))) store new
       (fits few_objects few_entries w s.represents
@@ -109,7 +109,7 @@ module _ (store : Store) (sound : IsSound store) (locals : Option Locals) (name 
 
   -- a refusal
   pub makes-refused : {X : Type 0} (f : HeapFault) (r : Result X HeapFault) → r ≡ Err f → ((r ≡ Err fault.ObjectLimit) ↔ (1000000 ≤ object_number store)) → ((r ≡ Err fault.EntryLimit) ↔ ((object_number store < 1000000) × (4000000 < entry_number store + length parts)))
-      → (new : Store) → new ≡ store → Performs store locals (λ w. makes w name code class parts referent) new (Err (refusal_by f))
+      → (new : Store) → new ≡ store → PerformsOnHeap store locals (λ w. makes w name code class parts referent) new (Err (refusal_by f))
   unfolding ◌>>=◌
   makes-refused fault.ObjectLimit r is objects entries new same = λ w s.
       (ap (λ q. effect_with w q (has_room w (length parts))) (full store w s.represents sound (objects.0 is)), same)

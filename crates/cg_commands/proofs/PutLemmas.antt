@@ -36,7 +36,7 @@ use Rattle.cg_commands.specs.declared.done.Done.{Done}
 use Rattle.cg_commands.specs.declared.locals.Locals.{Locals}
 use Rattle.cg_commands.specs.Refusals.{refusal_by}
 use Rattle.cg_commands.specs.Objects.{RefersTo}
-use Rattle.cg_commands.specs.Answers.{Performs, Answers, GivesUp}
+use Rattle.cg_commands.specs.Answers.{PerformsOnHeap, AnswersOnHeap, GivesUp}
 use Rattle.cg_commands.proofs.Bridges.{gives_up, released, refilled, tracked, change-alike}
 use Rattle.cg_commands.proofs.Reading.{object-at_node}
 use Rattle.cg_commands.proofs.Limits.{room, fault-refused}
@@ -72,9 +72,9 @@ module _ (store : Store) (sound : IsSound store) (locals : Option Locals) (test 
   -- the item at an index of a list is replaced
   pub sets : there.node.code ≡ kind.List → (z : ℤ) (i : ℕ) (e : Entry) (value : Val) (was : Option Val) (done : Done) (new : Store) → z ≡ pos i → i < length (entries_of store o) → slice_get (entries_of store o) i ≡ Some e
       → new ≡ tracked_if (becomes_tracked store o (val.Int z) value) o (with_put store o (val.Int z) value) → was ≡ value_in store o (val.Int z) → GivesUp (references_of_value was) done
-      → Performs store locals (λ w. sets_entries w x (set there.node.entries i (item value)) (entry_references e)) new (Ok done)
+      → PerformsOnHeap store locals (λ w. sets_entries w x (set there.node.entries i (item value)) (entry_references e)) new (Ok done)
   sets list z i e value was done new at within here is told (e', made, refs) w s =
-      subst (λ d. Answers (Ok d) (sets_entries w x (set there.node.entries i (item value)) (entry_references e)) store new) (sym made)
+      subst (λ d. AnswersOnHeap (Ok d) (sets_entries w x (set there.node.entries i (item value)) (entry_references e)) store new) (sym made)
       (gives_up _ None e' false (entry_references e) (rewritten o (set there.node.entries i (item value)) store) (with_change (with_entries (set there.node.entries i (item value))) o w) store new refl
       (refs ∙ ap references_of_value (told ∙ found_value) ∙ sym alone)
       (is ∙ untouched ∙ (λ j. held (references_of_value (found_value j)) (rewritten o (after j) store)) ∙ ap (λ rs. held rs (rewritten o (set there.node.entries i (item value)) store)) (sym alone))
@@ -180,8 +180,8 @@ module _ (store : Store) (sound : IsSound store) (locals : Option Locals) (test 
   puts_with old w = (if is_some old then Ok tt else has_room w 1) >>= (λ _. Ok (Changes (is_none old) [] (references_of_value old) (changed_world w)))
 
   -- refused for want of room or memory, where the key is new
-  pub puts-refused : {X : Type 0} (f : HeapFault) (r : Result X HeapFault) → r ≡ Err f → ((r ≡ Err fault.EntryLimit) ↔ ((value_in store o key ≡ None) × (4000000 ≤ entry_number store))) → r ≢ Err fault.ObjectLimit → (IsSome (value_in store o key) → IsOk r) → (new : Store) → new ≡ store → Performs store locals (λ w. puts w (object_from store.rows o n) key value) new (Err (refusal_by f))
-  puts-refused f r is limit objects present new same = subst (λ old. Performs store locals (λ w. puts_with old w) new (Err (refusal_by f))) (sym none ∙ under)
+  pub puts-refused : {X : Type 0} (f : HeapFault) (r : Result X HeapFault) → r ≡ Err f → ((r ≡ Err fault.EntryLimit) ↔ ((value_in store o key ≡ None) × (4000000 ≤ entry_number store))) → r ≢ Err fault.ObjectLimit → (IsSome (value_in store o key) → IsOk r) → (new : Store) → new ≡ store → PerformsOnHeap store locals (λ w. puts w (object_from store.rows o n) key value) new (Err (refusal_by f))
+  puts-refused f r is limit objects present new same = subst (λ old. PerformsOnHeap store locals (λ w. puts_with old w) new (Err (refusal_by f))) (sym none ∙ under)
       (fault-refused store locals f [] [] changed_world r is (λ h. (limit.0 h).1, λ h. limit.1 (none, h)) objects new same)
     where
       absent : (x : Option Val) → value_in store o key ≡ x → x ≡ None
@@ -311,10 +311,10 @@ module _ (store : Store) (sound : IsSound store) (locals : Option Locals) (test 
 
   -- A key gets a value.
   pub puts-performs : (was : Option Val) (done : Done) (new : Store) → new ≡ tracked_if (becomes_tracked store o key value) o (with_put store o key value) → was ≡ value_in store o key → GivesUp (references_of_value was) done
-      → ((Ok was ≡ Err fault.EntryLimit) ↔ ((value_in store o key ≡ None) × (4000000 ≤ entry_number store))) → Performs store locals (λ w. puts w (object_from store.rows o n) key value) new (Ok done)
+      → ((Ok was ≡ Err fault.EntryLimit) ↔ ((value_in store o key ≡ None) × (4000000 ≤ entry_number store))) → PerformsOnHeap store locals (λ w. puts w (object_from store.rows o n) key value) new (Ok done)
   unfolding ◌>>=◌
   puts-performs was done new is told (e, made, refs_are) limit w s =
-      subst (λ d. Answers (Ok d) (puts_with (value_at n.entries key) w) store new) (sym made)
+      subst (λ d. AnswersOnHeap (Ok d) (puts_with (value_at n.entries key) w) store new) (sym made)
       (record {
         wants_memory = is_none (value_at n.entries key);
         after = changed_world w;

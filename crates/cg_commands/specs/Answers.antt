@@ -1,14 +1,16 @@
--- What a command may answer, in every world that the heap stands for. (Ours.)
+-- What a command may answer, in every world that the heap and the policy stand for. (Ours.)
 use Rattle.cg_value.specs.declared.Entry.{Entry}
-use Rattle.std.specs.Prelude.{◌≡◌, ℕ, Bool, true, List, Option, None, option_to_list, Result, Ok, Err}
+use Rattle.std.specs.Prelude.{◌≡◌, ℕ, ◌≤◌, Bool, true, List, Option, None, option_to_list, Result, Ok, Err}
 use Rattle.cg_graph.specs.Store.{Store}
 use Rattle.cg_graph.specs.Value.{entry_references}
 use Rattle.cg_machine.specs.declared.event.Event.{Event}
 use Rattle.cg_machine.specs.World.{World, Releasing, push}
-use Rattle.cg_machine.specs.Effects.{Effect, Changes, Calls as CallsEffect, Quits as QuitsEffect}
+use Rattle.cg_machine.specs.Effects.{Effect, Changes, Calls as CallsEffect, Collects as CollectsEffect, Quits as QuitsEffect}
 use Rattle.cg_machine.specs.Represents.{Represents}
+use Rattle.cg_policy.specs.Policy.{Policy}
+use Rattle.cg_policy.specs.Laws.{policy_of}
 use Rattle.cg_commands.specs.declared.done.Done.{Done}
-use Rattle.cg_commands.specs.declared.done.Done.TheVariants.{Changed, Calls, Quits}
+use Rattle.cg_commands.specs.declared.done.Done.TheVariants.{Changed, Calls, Collects, Quits}
 use Rattle.cg_commands.specs.declared.done.Refusal.{Refusal}
 use Rattle.cg_commands.specs.declared.done.Refusal.TheVariants.{OutOfMemory}
 use Rattle.cg_commands.specs.declared.locals.Locals.{Locals}
@@ -27,28 +29,44 @@ abbrev pub Refuses : Refusal → Result Effect ℕ → Type 0
 Refuses OutOfMemory effect = WantsMemory effect
 Refuses refusal effect = effect ≡ Err (number_of refusal)
 
--- The effect is a change with this line, perhaps none, and these references to be given up; and the heap stands for the
--- world in which their release has been put on top.
-pub record HasChanged (effect : Result Effect ℕ) (line : Option Event) (given_up : List ℕ) (new : Store) : Type 0 where
+-- The effect is a change with these lines, told one after the other, and these references to be given up; and the heap
+-- stands for the world in which their release has been put on top.
+pub record HasChanged (effect : Result Effect ℕ) (lines : List Event) (given_up : List ℕ) (new : Store) : Type 0 where
   pub wants_memory : Bool
   pub after : World
-  pub is : effect ≡ Ok (Changes wants_memory (option_to_list line) given_up after)
+  pub is : effect ≡ Ok (Changes wants_memory lines given_up after)
   pub represents : Represents new (push (Releasing given_up) after)
 
--- what was done is the effect
+-- What was done is the effect. All but a change leaves the heap.
 abbrev pub IsDone : Done → Result Effect ℕ → Store → Store → Type 0
-IsDone (Changed line given_up) effect old new = HasChanged effect line (entry_references given_up) new
+IsDone (Changed line given_up) effect old new = HasChanged effect (option_to_list line) (entry_references given_up) new
 IsDone (Calls f) effect old new = (effect ≡ Ok (CallsEffect f)) × (new ≡ old)
+IsDone (Collects generation) effect old new = (effect ≡ Ok (CollectsEffect generation)) × (generation ≤ 2) × (new ≡ old)
 IsDone Quits effect old new = (effect ≡ Ok QuitsEffect) × (new ≡ old)
 
 -- A refusal leaves the heap.
-abbrev pub Answers : Result Done Refusal → Result Effect ℕ → Store → Store → Type 0
-Answers (Ok done) effect old new = IsDone done effect old new
-Answers (Err refusal) effect old new = Refuses refusal effect × (new ≡ old)
+abbrev pub AnswersOnHeap : Result Done Refusal → Result Effect ℕ → Store → Store → Type 0
+AnswersOnHeap (Ok done) effect old new = IsDone done effect old new
+AnswersOnHeap (Err refusal) effect old new = Refuses refusal effect × (new ≡ old)
 
--- The answer is that of the machine, in every world for which the heap and the locals stood before.
-abbrev pub Performs : Store → Option Locals → (World → Result Effect ℕ) → Store → Result Done Refusal → Type 0
-Performs old locals effect new answer = (w : World) → StandsFor old locals w → Answers answer (effect w) old new
+-- the policy of the world that a change leaves; what else is answered leaves the policy
+abbrev pub policy_after : Result Done Refusal → Result Effect ℕ → Policy → Policy
+policy_after (Ok (Changed line given_up)) (Ok (Changes wants_memory lines references after)) was = policy_of after
+policy_after answer effect was = was
+
+-- What was answered is the effect, and heap and policy are as it leaves them.
+pub record Answers (answer : Result Done Refusal) (effect : Result Effect ℕ) (old : Store) (was : Policy) (new : Store) (now : Policy) : Type 0 where
+  pub heap : AnswersOnHeap answer effect old new
+  pub policy : now ≡ policy_after answer effect was
+
+-- The answer is that of the machine, in every world for which the heap, the policy and the locals stood before: the policy
+-- had its numbers, and knew whether a collection was running in it.
+abbrev pub Performs : Store → Policy → Option Locals → (World → Result Effect ℕ) → Store → Policy → Result Done Refusal → Type 0
+Performs old was locals effect new now answer = (w : World) → StandsFor old locals w → was ≡ policy_of w → Answers answer (effect w) old was new now
+
+-- the same of a command that has no business with the policy, where the machine's numbers are left to the caller
+abbrev pub PerformsOnHeap : Store → Option Locals → (World → Result Effect ℕ) → Store → Result Done Refusal → Type 0
+PerformsOnHeap old locals effect new answer = (w : World) → StandsFor old locals w → AnswersOnHeap answer (effect w) old new
 
 -- a change without a line that gives up these references
 abbrev pub GivesUp : List ℕ → Done → Type 0

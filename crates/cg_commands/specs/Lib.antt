@@ -4,3 +4,6 @@ pub mod Objects
 pub mod Answers
 pub mod Parts
 pub mod Growth
+pub mod Places
+pub mod Controls
+pub mod Attempts

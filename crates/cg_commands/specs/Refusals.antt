@@ -1,10 +1,10 @@
 -- Refusals by the numbers of the machine, and what a refusal says. (Ours.)
 use Rattle.std.specs.Prelude.{◌≡◌, ℕ, Result, Err}
-use Rattle.cg_machine.specs.Refusals.{no_name, wrong_kind, no_index, no_key, no_attribute, not_weak, not_callable, unhashable, no_memory, object_limit, entry_limit}
+use Rattle.cg_machine.specs.Refusals.{no_name, wrong_kind, no_index, no_key, no_attribute, not_weak, not_callable, bad_generation, unhashable, no_memory, object_limit, entry_limit}
 use Rattle.cg_heap.specs.declared.fault.HeapFault.{HeapFault}
 use Rattle.cg_heap.specs.declared.fault.HeapFault.TheVariants as fault
 use Rattle.cg_commands.specs.declared.done.Refusal.{Refusal}
-use Rattle.cg_commands.specs.declared.done.Refusal.TheVariants.{NoName, WrongKind, NoIndex, NoKey, NoAttribute, NotWeak, NotCallable, Unhashable, OutOfMemory, ObjectLimit, EntryLimit}
+use Rattle.cg_commands.specs.declared.done.Refusal.TheVariants.{NoName, WrongKind, NoIndex, NoKey, NoAttribute, NotWeak, NotCallable, BadGeneration, Unhashable, OutOfMemory, ObjectLimit, EntryLimit}
 
 -- the number of each refusal
 abbrev pub number_of : Refusal → ℕ
@@ -15,6 +15,7 @@ number_of NoKey = no_key
 number_of NoAttribute = no_attribute
 number_of NotWeak = not_weak
 number_of NotCallable = not_callable
+number_of BadGeneration = bad_generation
 number_of Unhashable = unhashable
 number_of OutOfMemory = no_memory
 number_of ObjectLimit = object_limit

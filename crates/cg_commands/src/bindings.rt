@@ -7,7 +7,7 @@ ghost use Rattle.cg_script.specs.declared.command.Command.TheVariants as command
 ghost use Rattle.cg_heap.specs.Calls.{HasFewHolds, IsLiveValue};
 ghost use Rattle.cg_machine.specs.Commands.{effect};
 ghost use Rattle.cg_machine.specs.Effects.{binds};
-ghost use Rattle.cg_commands.specs.Answers.{Performs};
+ghost use Rattle.cg_commands.specs.Answers.{PerformsOnHeap};
 ghost use Rattle.cg_commands.specs.Stands.{LocalsLive};
 
 use crate::done::{Done, Refusal};
@@ -28,7 +28,7 @@ pub(crate) fn bind<B: Kind>(
     requires known { All (λ n. n < length heap.old.names) (name ∷ operand_texts operand) }
     requires locals { LocalsLive heap.old locals }
     requires few { HasFewHolds heap.old }
-    ensures { Performs heap.old locals (λ w. effect w (command.Bind name operand)) heap.new result }
+    ensures { PerformsOnHeap heap.old locals (λ w. effect w (command.Bind name operand)) heap.new result }
 {
     let val = value(heap, locals, operand)?;
     bind_to(heap, locals, name, val)
@@ -42,7 +42,7 @@ pub(crate) fn unbind<B: Kind>(
 ) -> Result<Done, Refusal>
     requires known { All (λ n. n < length heap.old.names) (name ∷ []) }
     requires few { HasFewHolds heap.old }
-    ensures { Performs heap.old locals (λ w. effect w (command.Del name)) heap.new result }
+    ensures { PerformsOnHeap heap.old locals (λ w. effect w (command.Del name)) heap.new result }
 {
     heap.sound();
     match heap.unbind(name) {
@@ -64,7 +64,7 @@ pub(crate) fn bind_to<B: Kind>(
     requires name { name < length heap.old.names }
     requires live { IsLiveValue heap.old val }
     requires few { HasFewHolds heap.old }
-    ensures { Performs heap.old locals (λ w. binds w name val) heap.new result }
+    ensures { PerformsOnHeap heap.old locals (λ w. binds w name val) heap.new result }
 {
     heap.sound();
     let old = heap.bind(name, val);

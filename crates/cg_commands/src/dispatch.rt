@@ -1,83 +1,105 @@
-//! Any command that is not the collector's.
-ghost use Rattle.std.specs.Prelude.{◌≡◌, ◌<◌, OnOk, true, length};
+//! Any command.
+ghost use Rattle.std.specs.Prelude.{◌≡◌, ◌<◌, length};
 ghost use Rattle.cg_heap.specs.Calls.{HasFewHolds};
 ghost use Rattle.cg_machine.specs.World.{World};
 ghost use Rattle.cg_machine.specs.Commands.{effect};
+ghost use Rattle.cg_script.specs.Spelled.{IsSpelledCommand};
+ghost use Rattle.cg_policy.specs.Policy.{IsBounded, with_one_made};
+ghost use Rattle.cg_policy.specs.Laws.{policy_of};
 ghost use Rattle.cg_commands.specs.Answers.{Performs};
-ghost use Rattle.cg_script.specs.Spelled.{IsSpelledCommand, IsForObjects};
-ghost use Rattle.cg_commands.specs.Stands.{LocalsLive, StandsFor};
+ghost use Rattle.cg_commands.specs.Attempts.{Attempts, counted};
+ghost use Rattle.cg_commands.specs.Controls.{IsControl, Leaves};
 ghost use Rattle.cg_commands.specs.Growth.{GrowsBy, makes_object};
+ghost use Rattle.cg_commands.specs.Stands.{LocalsLive, StandsFor};
 
 use crate::bindings::{bind, unbind};
-use crate::done::{Done, Refusal};
+use crate::done::{Done, Refusal, told};
 use crate::entries::{append, del_attr, del_item, put, remove, set_attr, set_item};
 use crate::frames::{call, quit};
+use crate::generations::{collect, counts, freeze, sizes, unfreeze};
 use crate::locals::Locals;
 use crate::lookups::{attr, deref, get, item};
 use crate::makes::{make_dict, make_function, make_instance, make_list, make_tuple, make_weak};
 use crate::queries::{finalized, print, refs, tracked};
+use bitflags::Flags;
 use cg_heap::Heap;
 use cg_kind::Kind;
+use cg_policy::{Flagset, Policy};
 use cg_script::Command;
 
-/// Does a command that is not the collector's: what the machine's definition of effects says, in every world that the heap
-/// and the locals stand for. `locals` are those of the frame on top, if one is. `room` says whether there is room for one
-/// more object: where there is none, the heap has no more objects after it than before.
+/// Does a command: what the machine's definition of effects says, in every world that the heap, the policy and the locals
+/// stand for. `locals` are those of the frame on top, if one is. The policy counts an object that is made. `room` says
+/// whether there is room for one more object: where there is none, the heap has no more objects after it than before.
 ///
 /// A refusal has changed nothing. `OutOfMemory` comes only where the effect may want memory and no other refusal holds.
+/// A command of the collector takes no memory, gives up nothing, and changes places and numbers alone, or nothing where it
+/// asks for a collection.
+///
 /// The command is one of a script that some bytes spell, the objects among the locals live, and fewer than 2^63 objects
 /// have been made.
 pub fn perform<B: Kind>(
     heap: &mut Heap<B>,
+    policy: &mut Policy,
     locals: Option<Locals>,
     command: &Command,
     room: bool,
 ) -> Result<Done, Refusal>
     requires spelled { IsSpelledCommand (length heap.old.names) command.now }
-    requires objects { IsForObjects command.now }
     requires locals { LocalsLive heap.old locals }
     requires few { HasFewHolds heap.old }
     requires last { heap.old.last < 9223372036854775808 }
-    ensures performs { Performs heap.old locals (λ w. effect w command.now) heap.new result }
-    ensures grows { (w : World) → StandsFor heap.old locals w → GrowsBy room heap.old heap.new }
+    requires bounded { IsBounded (with_one_made policy.old.numbers) }
+    ensures performs { Performs heap.old policy.old locals (λ w. effect w command.now) heap.new policy.new result }
+    ensures leaves { IsControl command.now → Leaves heap.old policy.old command.now heap.new policy.new result }
+    ensures grows { (w : World) → StandsFor heap.old locals w → policy.old ≡ policy_of w → GrowsBy room heap.old heap.new }
 {
-    attempt(heap, locals, command, room)
+    attempt(heap, policy, locals, command, room)
 }
 
 /// The same. An object is made only where there is room for it.
 fn attempt<B: Kind>(
     heap: &mut Heap<B>,
+    policy: &mut Policy,
     locals: Option<Locals>,
     command: &Command,
     room: bool,
 ) -> Result<Done, Refusal>
     requires spelled { IsSpelledCommand (length heap.old.names) command.now }
-    requires objects { IsForObjects command.now }
     requires locals { LocalsLive heap.old locals }
     requires few { HasFewHolds heap.old }
     requires last { heap.old.last < 9223372036854775808 }
-    ensures performs { Performs heap.old locals (λ w. effect w command.now) heap.new result }
-    ensures room { OnOk result (makes_object command.now ≡ true → room ≡ true) }
+    requires bounded { IsBounded (with_one_made policy.old.numbers) }
+    ensures { Attempts heap.old policy.old locals room command.now heap.new policy.new result }
 {
     match command {
-        Command::MakeList { name, items } => make_list(heap, locals, *name, items.as_slice(), room),
-        Command::MakeTuple { name, items } => make_tuple(
-            heap,
-            locals,
-            *name,
-            items.as_slice(),
-            room,
-        ),
-        Command::MakeDict { name } => make_dict(heap, locals, *name, room),
-        Command::MakeInst { name, class } => make_instance(heap, locals, *name, *class, room),
+        Command::MakeList { name, items } => {
+            let made = make_list(heap, locals, *name, items.as_slice(), room);
+            count(policy, made)
+        }
+        Command::MakeTuple { name, items } => {
+            let made = make_tuple(heap, locals, *name, items.as_slice(), room);
+            count(policy, made)
+        }
+        Command::MakeDict { name } => {
+            let made = make_dict(heap, locals, *name, room);
+            count(policy, made)
+        }
+        Command::MakeInst { name, class } => {
+            let made = make_instance(heap, locals, *name, *class, room);
+            count(policy, made)
+        }
         Command::MakeFunc { name, proc, cells } => {
-            make_function(heap, locals, *name, *proc, cells.as_slice(), room)
+            let made = make_function(heap, locals, *name, *proc, cells.as_slice(), room);
+            count(policy, made)
         }
         Command::MakeRef {
             name,
             target,
             callback,
-        } => make_weak(heap, locals, *name, *target, *callback, room),
+        } => {
+            let made = make_weak(heap, locals, *name, *target, *callback, room);
+            count(policy, made)
+        }
         Command::Bind { name, value } => bind(heap, locals, *name, *value),
         Command::Del { name } => unbind(heap, locals, *name),
         Command::Append { list, value } => append(heap, locals, *list, *value),
@@ -111,16 +133,51 @@ fn attempt<B: Kind>(
         Command::Refs { value } => refs(heap, locals, *value),
         Command::Tracked { value } => tracked(heap, locals, *value),
         Command::Finalized { value } => finalized(heap, locals, *value),
-        Command::Collect { .. }
-        | Command::Enable
-        | Command::Disable
-        | Command::Threshold { .. }
-        | Command::Flags { .. }
-        | Command::Freeze
-        | Command::Unfreeze
-        | Command::Count
-        | Command::Gens => unreachable!(),
+        Command::Collect { generation } => collect(number(generation)),
+        Command::Enable => {
+            policy.set_enabled(true);
+            Ok(told(None))
+        }
+        Command::Disable => {
+            policy.set_enabled(false);
+            Ok(told(None))
+        }
+        Command::Threshold {
+            first,
+            second,
+            third,
+        } => {
+            policy.set_threshold(*first, *second, *third);
+            Ok(told(None))
+        }
+        Command::Flags { bits } => {
+            policy.set_flags(Flagset::from_bits_retain(*bits));
+            Ok(told(None))
+        }
+        Command::Freeze => {
+            freeze(heap);
+            policy.zero_counts();
+            Ok(told(None))
+        }
+        Command::Unfreeze => {
+            unfreeze(heap);
+            Ok(told(None))
+        }
+        Command::Count => Ok(told(Some(counts(policy)))),
+        Command::Gens => Ok(told(Some(sizes(heap)))),
     }
+}
+
+/// Counts an object, where one was made.
+fn count(policy: &mut Policy, made: Result<Done, Refusal>) -> Result<Done, Refusal>
+    requires { IsBounded (with_one_made policy.old.numbers) }
+    ensures same { result ≡ made }
+    ensures counts { policy.new ≡ counted made policy.old }
+{
+    if made.is_ok() {
+        policy.made();
+    }
+    made
 }
 
 // By its type, what it gives is a number of 64 bits.

@@ -1,10 +1,13 @@
 //! What a command did, and why one is refused.
 ghost use Rattle.std.specs.Prelude.{◌≡◌};
+ghost use Rattle.cg_value.specs.declared.Val.TheVariants as val_of;
+ghost use Rattle.cg_graph.specs.Value.{item};
+ghost use Rattle.cg_commands.specs.declared.done.Done.TheVariants as done;
 ghost use Rattle.cg_commands.specs.Refusals.{number_of, refusal_by};
 
 use cg_heap::HeapFault;
 use cg_machine::Event;
-use cg_value::Entry;
+use cg_value::{Entry, Val};
 
 /// What a command did.
 #[derive(Clone, Copy, Debug, PartialEq, Eq, Drop)]
@@ -17,6 +20,9 @@ pub enum Done {
     },
     /// A frame of this function's procedure is to start. The function is not held from outside yet.
     Calls(u64),
+    /// A collection of this generation, 0 to 2, is asked for. Nothing has changed: where a collection is running, none
+    /// starts, and the answer is a line of its own, by the machine's step.
+    Collects(u8),
     /// The frame on top is to end, or the script.
     Quits,
 }
@@ -38,6 +44,8 @@ pub enum Refusal {
     NotWeak,
     /// The value is not a function.
     NotCallable,
+    /// The number of a `collect` is none of 0, 1 and 2.
+    BadGeneration,
     /// The key is a list, a tuple, a dictionary or a weak reference.
     Unhashable,
     /// Memory was refused.
@@ -61,11 +69,25 @@ impl Refusal {
             Refusal::NoAttribute => 5,
             Refusal::NotWeak => 6,
             Refusal::NotCallable => 7,
+            Refusal::BadGeneration => 8,
             Refusal::Unhashable => 9,
             Refusal::OutOfMemory => 10,
             Refusal::ObjectLimit => 11,
             Refusal::EntryLimit => 12,
         }
+    }
+}
+
+/// A change after which nothing is to be given up, with this line, if one is due.
+pub(crate) fn told(line: Option<Event>) -> Done
+    ensures { result ≡ done.Changed line (item val_of.None) }
+{
+    Done::Changed {
+        line,
+        given_up: Entry {
+            key: Val::None,
+            val: Val::None,
+        },
     }
 }
 

@@ -6,7 +6,7 @@ ghost use Rattle.cg_script.specs.declared.command.Command.TheVariants as command
 ghost use Rattle.cg_heap.specs.Calls.{HasFewHolds};
 ghost use Rattle.cg_machine.specs.Commands.{effect};
 ghost use Rattle.cg_graph.specs.Value.{references_of_value};
-ghost use Rattle.cg_commands.specs.Answers.{Performs, GivesUp};
+ghost use Rattle.cg_commands.specs.Answers.{PerformsOnHeap, GivesUp};
 ghost use Rattle.cg_commands.specs.Stands.{LocalsLive};
 
 use crate::bindings::given_up;
@@ -29,7 +29,7 @@ pub(crate) fn append<B: Kind>(
 ) -> Result<Done, Refusal>
     requires known { All (λ n. n < length heap.old.names) (operand_texts list ++ operand_texts operand) }
     requires locals { LocalsLive heap.old locals }
-    ensures { Performs heap.old locals (λ w. effect w (command.Append list operand)) heap.new result }
+    ensures { PerformsOnHeap heap.old locals (λ w. effect w (command.Append list operand)) heap.new result }
 {
     let list = value(heap, locals, list)?;
     let val = value(heap, locals, operand)?;
@@ -53,7 +53,7 @@ pub(crate) fn set_item<B: Kind>(
     requires known { All (λ n. n < length heap.old.names) (operand_texts list ++ operand_texts operand) }
     requires locals { LocalsLive heap.old locals }
     requires few { HasFewHolds heap.old }
-    ensures { Performs heap.old locals (λ w. effect w (command.SetItem list index operand)) heap.new result }
+    ensures { PerformsOnHeap heap.old locals (λ w. effect w (command.SetItem list index operand)) heap.new result }
 {
     let list = value(heap, locals, list)?;
     let val = value(heap, locals, operand)?;
@@ -77,7 +77,7 @@ pub(crate) fn del_item<B: Kind>(
     requires known { All (λ n. n < length heap.old.names) (operand_texts list) }
     requires locals { LocalsLive heap.old locals }
     requires few { HasFewHolds heap.old }
-    ensures { Performs heap.old locals (λ w. effect w (command.DelItem list index)) heap.new result }
+    ensures { PerformsOnHeap heap.old locals (λ w. effect w (command.DelItem list index)) heap.new result }
 {
     let list = value(heap, locals, list)?;
     let target = object(heap, list, Wanted::List)?;
@@ -103,7 +103,7 @@ pub(crate) fn put<B: Kind>(
         (operand_texts dict ++ operand_texts key ++ operand_texts operand) }
     requires locals { LocalsLive heap.old locals }
     requires few { HasFewHolds heap.old }
-    ensures { Performs heap.old locals (λ w. effect w (command.Put dict key operand)) heap.new result }
+    ensures { PerformsOnHeap heap.old locals (λ w. effect w (command.Put dict key operand)) heap.new result }
 {
     let dict = value(heap, locals, dict)?;
     let key = value(heap, locals, key)?;
@@ -130,7 +130,7 @@ pub(crate) fn remove<B: Kind>(
     requires known { All (λ n. n < length heap.old.names) (operand_texts dict ++ operand_texts key) }
     requires locals { LocalsLive heap.old locals }
     requires few { HasFewHolds heap.old }
-    ensures { Performs heap.old locals (λ w. effect w (command.Remove dict key)) heap.new result }
+    ensures { PerformsOnHeap heap.old locals (λ w. effect w (command.Remove dict key)) heap.new result }
 {
     let dict = value(heap, locals, dict)?;
     let key = value(heap, locals, key)?;
@@ -163,7 +163,7 @@ pub(crate) fn set_attr<B: Kind>(
     requires known { All (λ n. n < length heap.old.names) (operand_texts instance ++ attr ∷ operand_texts operand) }
     requires locals { LocalsLive heap.old locals }
     requires few { HasFewHolds heap.old }
-    ensures { Performs heap.old locals (λ w. effect w (command.SetAttr instance attr operand)) heap.new result }
+    ensures { PerformsOnHeap heap.old locals (λ w. effect w (command.SetAttr instance attr operand)) heap.new result }
 {
     let instance = value(heap, locals, instance)?;
     let val = value(heap, locals, operand)?;
@@ -186,7 +186,7 @@ pub(crate) fn del_attr<B: Kind>(
     requires known { All (λ n. n < length heap.old.names) (operand_texts instance ++ attr ∷ []) }
     requires locals { LocalsLive heap.old locals }
     requires few { HasFewHolds heap.old }
-    ensures { Performs heap.old locals (λ w. effect w (command.DelAttr instance attr)) heap.new result }
+    ensures { PerformsOnHeap heap.old locals (λ w. effect w (command.DelAttr instance attr)) heap.new result }
 {
     let instance = value(heap, locals, instance)?;
     let target = object(heap, instance, Wanted::Inst)?;

@@ -4,16 +4,16 @@ ghost use Rattle.std.specs.List.{All};
 ghost use Rattle.cg_script.specs.Texts.{operand_texts};
 ghost use Rattle.cg_script.specs.declared.command.Command.TheVariants as command;
 ghost use Rattle.cg_machine.specs.Commands.{effect};
-ghost use Rattle.cg_commands.specs.Answers.{Performs};
+ghost use Rattle.cg_commands.specs.Answers.{PerformsOnHeap};
 ghost use Rattle.cg_commands.specs.Stands.{LocalsLive};
 
-use crate::done::{Done, Refusal};
+use crate::done::{Done, Refusal, told};
 use crate::locals::Locals;
 use crate::operands::{Wanted, object, value};
 use cg_heap::Heap;
 use cg_kind::Kind;
 use cg_script::Operand;
-use cg_value::{Entry, Val};
+use cg_value::Val;
 
 /// `call f`: a frame of the function's procedure is to start.
 pub(crate) fn call<B: Kind>(
@@ -23,7 +23,7 @@ pub(crate) fn call<B: Kind>(
 ) -> Result<Done, Refusal>
     requires known { All (λ n. n < length heap.now.names) (operand_texts operand) }
     requires locals { LocalsLive heap.now locals }
-    ensures { Performs heap.now locals (λ w. effect w (command.Call operand)) heap.now result }
+    ensures { PerformsOnHeap heap.now locals (λ w. effect w (command.Call operand)) heap.now result }
 {
     let val = value(heap, locals, operand)?;
     let target = object(heap, val, Wanted::Func)?;
@@ -38,17 +38,11 @@ pub(crate) fn quit<B: Kind>(
 ) -> Result<Done, Refusal>
     requires known { All (λ n. n < length heap.now.names) (operand_texts operand) }
     requires locals { LocalsLive heap.now locals }
-    ensures { Performs heap.now locals (λ w. effect w (command.Quit operand)) heap.now result }
+    ensures { PerformsOnHeap heap.now locals (λ w. effect w (command.Quit operand)) heap.now result }
 {
     let val = value(heap, locals, operand)?;
     match val {
         Val::None => Ok(Done::Quits),
-        _ => Ok(Done::Changed {
-            line: None,
-            given_up: Entry {
-                key: Val::None,
-                val: Val::None,
-            },
-        }),
+        _ => Ok(told(None)),
     }
 }

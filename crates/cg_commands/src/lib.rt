@@ -1,12 +1,12 @@
-//! What each command of a script does to the heap.
+//! What each command of a script does to the heap and to the collector's policy.
 //!
-//! The layer above rests on one contract: in every world of the machine that the heap stands for, `perform` does what the
-//! machine's own definition of effects says of the command, or refuses it for the machine's own reason.
+//! The layer above rests on one contract: in every world of the machine that the heap and the policy stand for, `perform`
+//! does what the machine's own definition of effects says of the command, or refuses it for the machine's own reason.
 //!
 //! - `done`: what a command did, and why one is refused.
 //! - `locals`: the locals of a frame.
 //! - `operands`: the values of operands, and the objects that they refer to.
-//! - `bindings`, `queries`, `lookups`, `entries`, `makes`: the commands, by family.
+//! - `bindings`, `queries`, `lookups`, `entries`, `makes`, `frames`, `generations`: the commands, by family.
 //! - `dispatch`: any of them.
 #![tactic(auto)]
 
@@ -15,6 +15,7 @@ mod dispatch;
 mod done;
 mod entries;
 mod frames;
+mod generations;
 mod locals;
 mod lookups;
 mod makes;

@@ -8,7 +8,7 @@ ghost use Rattle.cg_heap.specs.Calls.{HasFewHolds, IsLiveValue};
 ghost use Rattle.cg_machine.specs.Commands.{effect};
 ghost use Rattle.cg_machine.specs.Effects.{place_of_index};
 ghost use Rattle.cg_commands.specs.declared.done.Refusal.TheVariants as refusal;
-ghost use Rattle.cg_commands.specs.Answers.{Performs};
+ghost use Rattle.cg_commands.specs.Answers.{PerformsOnHeap};
 ghost use Rattle.cg_commands.specs.Objects.{IsKey};
 ghost use Rattle.cg_commands.specs.Stands.{LocalsLive};
 
@@ -33,7 +33,7 @@ pub(crate) fn item<B: Kind>(
     requires known { All (λ n. n < length heap.old.names) (name ∷ operand_texts list) }
     requires locals { LocalsLive heap.old locals }
     requires few { HasFewHolds heap.old }
-    ensures { Performs heap.old locals (λ w. effect w (command.Item name list index)) heap.new result }
+    ensures { PerformsOnHeap heap.old locals (λ w. effect w (command.Item name list index)) heap.new result }
 {
     let val = value(heap, locals, list)?;
     let target = object(heap, val, Wanted::Sequence)?;
@@ -55,7 +55,7 @@ pub(crate) fn get<B: Kind>(
     requires known { All (λ n. n < length heap.old.names) (name ∷ (operand_texts dict ++ operand_texts key)) }
     requires locals { LocalsLive heap.old locals }
     requires few { HasFewHolds heap.old }
-    ensures { Performs heap.old locals (λ w. effect w (command.Get name dict key)) heap.new result }
+    ensures { PerformsOnHeap heap.old locals (λ w. effect w (command.Get name dict key)) heap.new result }
 {
     let val = value(heap, locals, dict)?;
     let key = value(heap, locals, key)?;
@@ -85,7 +85,7 @@ pub(crate) fn attr<B: Kind>(
     requires known { All (λ n. n < length heap.old.names) (name ∷ (operand_texts instance ++ attr ∷ [])) }
     requires locals { LocalsLive heap.old locals }
     requires few { HasFewHolds heap.old }
-    ensures { Performs heap.old locals (λ w. effect w (command.Attr name instance attr)) heap.new result }
+    ensures { PerformsOnHeap heap.old locals (λ w. effect w (command.Attr name instance attr)) heap.new result }
 {
     let val = value(heap, locals, instance)?;
     let target = object(heap, val, Wanted::Inst)?;
@@ -110,7 +110,7 @@ pub(crate) fn deref<B: Kind>(
     requires known { All (λ n. n < length heap.old.names) (name ∷ operand_texts weak) }
     requires locals { LocalsLive heap.old locals }
     requires few { HasFewHolds heap.old }
-    ensures { Performs heap.old locals (λ w. effect w (command.Deref name weak)) heap.new result }
+    ensures { PerformsOnHeap heap.old locals (λ w. effect w (command.Deref name weak)) heap.new result }
 {
     let val = value(heap, locals, weak)?;
     let target = object(heap, val, Wanted::Weak)?;

@@ -15,7 +15,7 @@ ghost use Rattle.cg_heap.specs.Keeps.{HasClass, outside_total};
 ghost use Rattle.cg_heap.specs.Weak.{HasReferent, attached};
 ghost use Rattle.cg_machine.specs.Commands.{effect};
 ghost use Rattle.cg_machine.specs.Effects.{makes};
-ghost use Rattle.cg_commands.specs.Answers.{Performs};
+ghost use Rattle.cg_commands.specs.Answers.{PerformsOnHeap};
 ghost use Rattle.cg_commands.specs.Parts.{AreLive};
 ghost use Rattle.cg_commands.specs.Stands.{LocalsLive};
 
@@ -46,7 +46,7 @@ pub(crate) fn make_list<B: Kind>(
     requires locals { LocalsLive heap.old locals }
     requires few { HasFewHolds heap.old }
     requires last { heap.old.last < 9223372036854775808 }
-    ensures performs { Performs heap.old locals (λ w. effect w (command.MakeList name items.now)) heap.new result }
+    ensures performs { PerformsOnHeap heap.old locals (λ w. effect w (command.MakeList name items.now)) heap.new result }
     ensures room { OnOk result (room ≡ true) }
 {
     if items.len() <= FEW {
@@ -70,7 +70,7 @@ fn make_list_within<B: Kind, const N: usize>(
     requires locals { LocalsLive heap.old locals }
     requires few { HasFewHolds heap.old }
     requires last { heap.old.last < 9223372036854775808 }
-    ensures performs { Performs heap.old locals (λ w. effect w (command.MakeList name items.now)) heap.new result }
+    ensures performs { PerformsOnHeap heap.old locals (λ w. effect w (command.MakeList name items.now)) heap.new result }
     ensures room { OnOk result (room ≡ true) }
 {
     let parts = gather::<B, N>(heap, locals, items)?;
@@ -99,7 +99,7 @@ pub(crate) fn make_tuple<B: Kind>(
     requires locals { LocalsLive heap.old locals }
     requires few { HasFewHolds heap.old }
     requires last { heap.old.last < 9223372036854775808 }
-    ensures performs { Performs heap.old locals (λ w. effect w (command.MakeTuple name items.now)) heap.new result }
+    ensures performs { PerformsOnHeap heap.old locals (λ w. effect w (command.MakeTuple name items.now)) heap.new result }
     ensures room { OnOk result (room ≡ true) }
 {
     if items.len() <= FEW {
@@ -123,7 +123,7 @@ fn make_tuple_within<B: Kind, const N: usize>(
     requires locals { LocalsLive heap.old locals }
     requires few { HasFewHolds heap.old }
     requires last { heap.old.last < 9223372036854775808 }
-    ensures performs { Performs heap.old locals (λ w. effect w (command.MakeTuple name items.now)) heap.new result }
+    ensures performs { PerformsOnHeap heap.old locals (λ w. effect w (command.MakeTuple name items.now)) heap.new result }
     ensures room { OnOk result (room ≡ true) }
 {
     let parts = gather::<B, N>(heap, locals, items)?;
@@ -149,7 +149,7 @@ pub(crate) fn make_dict<B: Kind>(
     requires known { All (λ n. n < length heap.old.names) (name ∷ []) }
     requires few { HasFewHolds heap.old }
     requires last { heap.old.last < 9223372036854775808 }
-    ensures performs { Performs heap.old locals (λ w. effect w (command.MakeDict name)) heap.new result }
+    ensures performs { PerformsOnHeap heap.old locals (λ w. effect w (command.MakeDict name)) heap.new result }
     ensures room { OnOk result (room ≡ true) }
 {
     make_bound(heap, locals, name, KindCode::Dict, None, &[], None, room)
@@ -166,7 +166,7 @@ pub(crate) fn make_instance<B: Kind>(
     requires known { All (λ n. n < length heap.old.names) (name ∷ []) }
     requires few { HasFewHolds heap.old }
     requires last { heap.old.last < 9223372036854775808 }
-    ensures performs { Performs heap.old locals (λ w. effect w (command.MakeInst name class)) heap.new result }
+    ensures performs { PerformsOnHeap heap.old locals (λ w. effect w (command.MakeInst name class)) heap.new result }
     ensures room { OnOk result (room ≡ true) }
 {
     make_bound(
@@ -195,7 +195,7 @@ pub(crate) fn make_function<B: Kind>(
     requires locals { LocalsLive heap.old locals }
     requires few { HasFewHolds heap.old }
     requires last { heap.old.last < 9223372036854775808 }
-    ensures performs { Performs heap.old locals (λ w. effect w (command.MakeFunc name proc cells.now)) heap.new result }
+    ensures performs { PerformsOnHeap heap.old locals (λ w. effect w (command.MakeFunc name proc cells.now)) heap.new result }
     ensures room { OnOk result (room ≡ true) }
 {
     let parts = gather::<B, 8>(heap, locals, cells)?;
@@ -226,7 +226,7 @@ pub(crate) fn make_weak<B: Kind>(
     requires locals { LocalsLive heap.old locals }
     requires few { HasFewHolds heap.old }
     requires last { heap.old.last < 9223372036854775808 }
-    ensures performs { Performs heap.old locals (λ w. effect w (command.MakeRef name target callback)) heap.new result }
+    ensures performs { PerformsOnHeap heap.old locals (λ w. effect w (command.MakeRef name target callback)) heap.new result }
     ensures room { OnOk result (room ≡ true) }
 {
     let val = value(heap, locals, target)?;
@@ -264,7 +264,7 @@ fn make_bound<B: Kind>(
     requires live_referent { IfSome referent (λ s. IsLive heap.old s) }
     requires few { HasFewHolds heap.old }
     requires last { heap.old.last < 9223372036854775808 }
-    ensures performs { Performs heap.old locals (λ w. makes w name code class parts.now referent) heap.new result }
+    ensures performs { PerformsOnHeap heap.old locals (λ w. makes w name code class parts.now referent) heap.new result }
     ensures room { OnOk result (room ≡ true) }
 {
     heap.sound();

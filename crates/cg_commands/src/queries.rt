@@ -1,27 +1,24 @@
 //! What prints a line and changes nothing.
-ghost use Rattle.std.specs.Prelude.{◌≡◌, ◌<◌, length, Some};
+ghost use Rattle.std.specs.Prelude.{◌≡◌, ◌<◌, length};
 ghost use Rattle.std.specs.List.{All};
-ghost use Rattle.cg_value.specs.declared.Val.TheVariants as val_of;
 ghost use Rattle.cg_value.specs.declared.Place.TheVariants as where_it_is;
-ghost use Rattle.cg_graph.specs.Value.{item};
 ghost use Rattle.cg_graph.specs.Object as machine_object;
 ghost use Rattle.cg_script.specs.Texts.{operand_texts};
 ghost use Rattle.cg_script.specs.declared.command.Command.TheVariants as command;
 ghost use Rattle.cg_heap.specs.Calls.{IsLiveValue};
 ghost use Rattle.cg_machine.specs.Commands.{effect};
-ghost use Rattle.cg_commands.specs.declared.done.Done.TheVariants as done;
-ghost use Rattle.cg_commands.specs.Answers.{Performs};
+ghost use Rattle.cg_commands.specs.Answers.{PerformsOnHeap};
 ghost use Rattle.cg_commands.specs.Objects.{Tells};
 ghost use Rattle.cg_commands.specs.Stands.{LocalsLive};
 
-use crate::done::{Done, Refusal};
+use crate::done::{Done, Refusal, told};
 use crate::locals::Locals;
 use crate::operands::{Wanted, object, value};
 use cg_heap::Heap;
 use cg_kind::Kind;
 use cg_machine::Event;
 use cg_script::Operand;
-use cg_value::{Entry, Place, Val};
+use cg_value::{Place, Val};
 
 /// `print v`: the value.
 pub(crate) fn print<B: Kind>(
@@ -31,10 +28,10 @@ pub(crate) fn print<B: Kind>(
 ) -> Result<Done, Refusal>
     requires known { All (λ n. n < length heap.now.names) (operand_texts operand) }
     requires locals { LocalsLive heap.now locals }
-    ensures { Performs heap.now locals (λ w. effect w (command.Print operand)) heap.now result }
+    ensures { PerformsOnHeap heap.now locals (λ w. effect w (command.Print operand)) heap.now result }
 {
     let val = value(heap, locals, operand)?;
-    Ok(printed(Event::Value(val)))
+    Ok(told(Some(Event::Value(val))))
 }
 
 /// `refs v`: the in-degree of an object.
@@ -46,12 +43,12 @@ pub(crate) fn refs<B: Kind>(
 ) -> Result<Done, Refusal>
     requires known { All (λ n. n < length heap.now.names) (operand_texts operand) }
     requires locals { LocalsLive heap.now locals }
-    ensures { Performs heap.now locals (λ w. effect w (command.Refs operand)) heap.now result }
+    ensures { PerformsOnHeap heap.now locals (λ w. effect w (command.Refs operand)) heap.now result }
 {
     let val = value(heap, locals, operand)?;
     let target = object(heap, val, Wanted::Any)?;
     let count = heap.refs(target);
-    Ok(printed(Event::RefCount(count)))
+    Ok(told(Some(Event::RefCount(count))))
 }
 
 /// `tracked v`: whether the collector has the object.
@@ -62,11 +59,11 @@ pub(crate) fn tracked<B: Kind>(
 ) -> Result<Done, Refusal>
     requires known { All (λ n. n < length heap.now.names) (operand_texts operand) }
     requires locals { LocalsLive heap.now locals }
-    ensures { Performs heap.now locals (λ w. effect w (command.Tracked operand)) heap.now result }
+    ensures { PerformsOnHeap heap.now locals (λ w. effect w (command.Tracked operand)) heap.now result }
 {
     let val = value(heap, locals, operand)?;
     let answer = is_tracked(heap, val);
-    Ok(printed(Event::Tracked(answer)))
+    Ok(told(Some(Event::Tracked(answer))))
 }
 
 /// `finalized v`: whether the finalizer of the object has been called.
@@ -77,24 +74,11 @@ pub(crate) fn finalized<B: Kind>(
 ) -> Result<Done, Refusal>
     requires known { All (λ n. n < length heap.now.names) (operand_texts operand) }
     requires locals { LocalsLive heap.now locals }
-    ensures { Performs heap.now locals (λ w. effect w (command.Finalized operand)) heap.now result }
+    ensures { PerformsOnHeap heap.now locals (λ w. effect w (command.Finalized operand)) heap.now result }
 {
     let val = value(heap, locals, operand)?;
     let answer = is_finalized(heap, val);
-    Ok(printed(Event::Finalized(answer)))
-}
-
-/// A line, and nothing that is given up.
-fn printed(line: Event) -> Done
-    ensures { result ≡ done.Changed (Some line) (item val_of.None) }
-{
-    Done::Changed {
-        line: Some(line),
-        given_up: Entry {
-            key: Val::None,
-            val: Val::None,
-        },
-    }
+    Ok(told(Some(Event::Finalized(answer))))
 }
 
 /// Whether the value is a tracked object.

@@ -1,32 +1,37 @@
 -- What was done is what the machine may do for the command.
-use Rattle.std.proofs.Common.{◌≡◌, refl, sym, ◌∙◌, ap, subst, ℕ, Bool, true, List, [], ◌∷◌, Option, inl, inr, Result, Ok, Err}
+use Rattle.std.proofs.Common.{◌≡◌, refl, sym, ◌∙◌, ap, subst, cond, ℕ, Bool, true, false, List, [], ◌∷◌, Option, Some, inl, inr, Result, Ok, Err}
+use Rattle.std.specs.Prelude.{◌==◌, if◌then◌else◌, is_some}
+use Rattle.std.proofs.lemmas.Bool.{eq-eqb}
 use Rattle.cg_value.specs.declared.Entry.{Entry}
 use Rattle.cg_script.specs.declared.Script.{Script}
 use Rattle.cg_script.specs.declared.Command.{Command}
-use Rattle.cg_commands.specs.declared.locals.Locals.{Locals}
-use Rattle.cg_commands.specs.Stands.{StandsFor as StandsBefore}
 use Rattle.cg_death.proofs.CallerLemmas.{lives_in_heap}
+use Rattle.cg_graph.specs.Member.{Includes}
+use Rattle.cg_graph.specs.Object.{Object, object_at, is_in_map}
 use Rattle.cg_graph.specs.Store.{Store, IsLive}
-use Rattle.cg_graph.specs.Value.{entry_references}
 use Rattle.cg_machine.specs.declared.event.Event.{Event}
+use Rattle.cg_machine.specs.declared.event.Event.TheVariants.{Collected}
 use Rattle.cg_machine.specs.World.{World, Releasing, push, with_stack}
-use Rattle.cg_machine.specs.Frame.{start_frame}
-use Rattle.cg_machine.specs.Effects.{Effect, Changes as ChangesEffect, Calls as CallsEffect, Quits as QuitsEffect}
+use Rattle.cg_machine.specs.Holdings.{is_collecting}
+use Rattle.cg_machine.specs.Frame.{Yields, start_frame}
+use Rattle.cg_machine.specs.Effects.{Effect, Changes as ChangesEffect, Calls as CallsEffect, Collects as CollectsEffect, Quits as QuitsEffect}
 use Rattle.cg_machine.specs.Refusals.{no_memory}
-use Rattle.cg_machine.specs.Commands.{effect, refused, without_commands, DoesEffect}
+use Rattle.cg_machine.specs.Commands.{effect, refused, without_commands, new_collection, DoesEffect}
 use Rattle.cg_machine.proofs.CommandLaws.{Each, Leaves, LeavesStack}
-use Rattle.cg_machine.proofs.ShapeLaws.{effect_leaves}
+use Rattle.cg_machine.proofs.Shapes.{Shape, StartsFrame, StartsCollection, Ends}
+use Rattle.cg_machine.proofs.ShapeLaws.{by_shape, effect_leaves}
+use Rattle.cg_policy.specs.Policy.{Policy}
+use Rattle.cg_policy.specs.Laws.{policy_of}
 use Rattle.cg_commands.specs.declared.done.Done.TheVariants as done_of
 use Rattle.cg_commands.specs.declared.done.Refusal.{Refusal}
 use Rattle.cg_commands.specs.declared.done.Refusal.TheVariants as refusal_of
 use Rattle.cg_commands.specs.Refusals.{number_of}
-use Rattle.cg_script.specs.Spelled.{IsForObjects}
-use Rattle.cg_commands.specs.Answers.{Performs, Refuses, HasChanged}
+use Rattle.cg_commands.specs.Answers.{Refuses, policy_after}
 use Rattle.cg_interp.specs.declared.activity.Activity.{Activity as Own}
-use Rattle.cg_interp.specs.Engines.{State, StandsFor, ShowsAll, under, over}
-use Rattle.cg_interp.specs.Callers.{Changes, call_of, numbers_told}
-use Rattle.cg_interp.proofs.EffectLemmas.{HasFitted, effect_fits, one_line}
+use Rattle.cg_interp.specs.Engines.{State, StandsFor, ShowsAll, under}
+use Rattle.cg_interp.specs.Callers.{Changes, call_of, IsPerformed}
 use Rattle.cg_interp.proofs.CallerLemmas.{same_engine}
+use Rattle.cg_interp.proofs.UnderWay.{under_way}
 
 -- what holds of each effect holds of this one
 of_effect : (P : Effect → Type 0) (r : Result Effect ℕ) (e : Effect) → r ≡ Ok e → Each P r → P e
@@ -48,6 +53,7 @@ module _ (script : Script) (w : World) (r : Result Effect ℕ) where
   refusal_may refusal_of.NoAttribute h = by_refusal _ h
   refusal_may refusal_of.NotWeak h = by_refusal _ h
   refusal_may refusal_of.NotCallable h = by_refusal _ h
+  refusal_may refusal_of.BadGeneration h = by_refusal _ h
   refusal_may refusal_of.Unhashable h = by_refusal _ h
   refusal_may refusal_of.OutOfMemory h = by_memory h.lines h.given_up h.after h.is
   refusal_may refusal_of.ObjectLimit h = by_refusal _ h
@@ -65,28 +71,67 @@ module _ (script : Script) (w : World) (r : Result Effect ℕ) where
   pub quit_may : r ≡ Ok QuitsEffect → DoesEffect script w r [] (with_stack (without_commands w.stack) w)
   quit_may is = subst (λ q. DoesEffect script w q [] (with_stack (without_commands w.stack) w)) (sym is) (refl, refl)
 
--- a command leaves the rest of the world as it was
-module _ (script : Script) (e : State) (top : Own) (w : World) (command : Command) (before : Store) (stands : StandsFor script (over before (under top e)) w) (own : IsForObjects command) where
-  pub changed : (line : Option Event) (given_up : Entry) (h : HasChanged (effect w command) line (entry_references given_up) e.store) → Changes script top e line given_up h.after
-  changed line given_up h =
-      let left : Leaves w h.after = of_effect (LeavesStack w) (effect w command) _ h.is (effect_leaves w command) in
-      let fitted = of_effect (HasFitted w) (effect w command) _ h.is (effect_fits w command own) in
+  -- a collection that is asked for
+  module _ (g : ℕ) (is : r ≡ Ok (CollectsEffect g)) where
+    collects : (busy : Bool) (events : List Event) (after : World) → is_collecting w ≡ busy → Yields (if busy then (Collected 0 ∷ [], w) else ([], push (new_collection g true w) w)) events after → DoesEffect script w r events after
+    collects busy events after same yields =
+        subst (λ q. DoesEffect script w q events after) (sym is)
+        (subst (λ b. Yields (if b then (Collected 0 ∷ [], w) else ([], push (new_collection g true w) w)) events after) (sym same) yields)
+
+    -- where one is running none starts
+    pub busy_may : is_collecting w ≡ true → DoesEffect script w r (Collected 0 ∷ []) w
+    busy_may busy = collects true (Collected 0 ∷ []) w busy (refl, refl)
+
+    pub idle_may : is_collecting w ≡ false → DoesEffect script w r [] (push (new_collection g true w) w)
+    idle_may idle = collects false [] (push (new_collection g true w) w) idle (refl, refl)
+
+-- an object of the world is found by its serial
+member_at : (objects : List Object) (x : Object) → Includes objects x → is_in_map objects x.serial ≡ true
+member_at [] x m = absurd m
+member_at (y ∷ objects) x (inl e) = ap (λ b. is_some (cond b (Some y) (object_at objects x.serial))) (eq-eqb y.serial x.serial (ap (λ (z : Object). z.serial) e))
+member_at (y ∷ objects) x (inr m) = go (y.serial == x.serial) (member_at objects x m)
+  where
+    go : (b : Bool) → is_in_map objects x.serial ≡ true → is_some (cond b (Some y) (object_at objects x.serial)) ≡ true
+    go true h = refl
+    go false h = h
+
+-- a function that is called is there
+abbrev IsThere : World → Effect → Type 0
+IsThere w (ChangesEffect wants_memory lines given_up after) = Unit {0}
+IsThere w (CallsEffect f) = is_in_map w.objects f ≡ true
+IsThere w (CollectsEffect g) = Unit {0}
+IsThere w QuitsEffect = Unit {0}
+
+shape_there : (w : World) (command : Command) (e : Effect) → Shape w command e → IsThere w e
+shape_there w command e (StartsFrame f h) = member_at w.objects f h.member
+shape_there w command e (StartsCollection g) = tt
+shape_there w command e Ends = tt
+shape_there w command e s = tt
+
+-- a command was performed
+module _ (script : Script) (e : State) (top : Own) (w : World) (command : Command) (before : Store) (was : Policy) where
+  -- and changed what it had to: it leaves the rest of the world as it was
+  pub changed : (line : Option Event) (given_up : Entry) → (p : IsPerformed script top e w command before was (Ok (done_of.Changed line given_up))) → Changes script top e given_up p.answers.heap.after
+  changed line given_up p =
+      let after : World = p.answers.heap.after in
+      let left : Leaves w after = of_effect (LeavesStack w) (effect w command) _ p.answers.heap.is (effect_leaves w command) in
+      let shows : ShowsAll script (top ∷ e.activities) after.stack = subst (λ st. ShowsAll script (top ∷ e.activities) st) (sym left.stack) p.stood.shows in
+      let policy : e.policy ≡ policy_of after = p.answers.policy ∙ ap (λ r. policy_after (Ok (done_of.Changed line given_up)) r was) p.answers.heap.is in
       record {
-        represents = h.represents;
-        shows = subst (λ st. ShowsAll script (top ∷ e.activities) st) (sym left.stack) stands.shows;
-        budget = left.budget ∙ stands.budget;
-        running = left.outcome ∙ stands.running;
-        numbers = fitted ∙ one_line line w.numbers ∙ ap (numbers_told line) (sym stands.numbers);
-        collecting = stands.collecting;
+        represents = p.answers.heap.represents;
+        shows = shows;
+        budget = left.budget ∙ p.stood.budget;
+        running = left.outcome ∙ p.stood.running;
+        numbers = ap (λ (q : Policy). q.numbers) policy;
+        collecting = ap (λ (q : Policy). q.running) policy ∙ under_way script (top ∷ e.activities) after.stack shows;
       }
 
-  -- it stands for the same world where the heap is as before
-  pub as_before : e.store ≡ before → StandsFor script (under top e) w
-  as_before same = same_engine script (over before (under top e)) (under top e) w stands same refl refl refl
+  -- where heap and policy are as before the engine stands for the same world
+  pub as_before : StandsFor script (under top (record e { store = before; policy = was })) w → e.store ≡ before → e.policy ≡ was → StandsFor script (under top e) w
+  as_before stood store policy = same_engine script (under top (record e { store = before; policy = was })) (under top e) w stood store policy refl refl
 
--- A command calls a function that lives, and leaves the heap.
-pub calls_known : (w : World) (command : Command) (locals : Option Locals) (old new : Store) (f : ℕ) → IsForObjects command → StandsBefore old locals w → Performs old locals (λ v. effect v command) new (Ok (done_of.Calls f)) → (new ≡ old) × IsLive old f
-calls_known w command locals old new f own stands performs =
-    let h = performs w stands in
-    let there = of_effect (HasFitted w) (effect w command) _ h.0 (effect_fits w command own) in
-    (h.1, lives_in_heap old w stands.represents f there)
+  -- a function that it calls lives
+  pub called_lives : (f : ℕ) → IsPerformed script top e w command before was (Ok (done_of.Calls f)) → IsLive e.store f
+  called_lives f p =
+      let there = of_effect (IsThere w) (effect w command) _ p.answers.heap.0 (by_shape (IsThere w) w command (shape_there w command)) in
+      subst (λ st. IsLive st f) (sym p.answers.heap.1) (lives_in_heap before w p.stood.represents f there)

@@ -6,24 +6,19 @@ use Rattle.cg_graph.specs.Object.{Object, object_at}
 use Rattle.cg_graph.specs.Store.{Store, Node, IsLive, object_from}
 use Rattle.cg_graph.proofs.Objects.{object-at}
 use Rattle.cg_machine.specs.Frame.{procedure_of}
-use Rattle.cg_value.specs.declared.Entry.{Entry}
 use Rattle.cg_script.specs.declared.Script.{Script}
-use Rattle.cg_graph.specs.Value.{entry_references}
-use Rattle.cg_machine.specs.declared.event.Event.{Event}
 use Rattle.cg_machine.specs.declared.event.Event.TheVariants.{Refused}
 use Rattle.cg_machine.specs.Program.{commands_of}
-use Rattle.cg_machine.specs.World.{World, Activity, TopLevel, Framed, Releasing, push, with_stack}
+use Rattle.cg_machine.specs.World.{World, Activity, TopLevel, Framed, with_stack}
 use Rattle.cg_machine.specs.Holdings.{holds}
 use Rattle.cg_machine.specs.Commands.{refused, without_commands, stopped_frame}
 use Rattle.cg_machine.specs.Represents.{Represents}
-use Rattle.cg_death.specs.declared.release.Release.{Release}
-use Rattle.cg_death.specs.Activities.{references_left}
 use Rattle.cg_interp.specs.declared.activity.Activity.{Activity as Own}
 use Rattle.cg_interp.specs.declared.activity.Activity.TheVariants as activity
 use Rattle.cg_interp.specs.declared.turned.Turned.TheVariants as turned
-use Rattle.cg_policy.specs.Policy.{Policy, with_numbers}
+use Rattle.cg_policy.specs.Policy.{Policy}
 use Rattle.cg_interp.specs.Engines.{State, StandsFor, Shows, ShowsAll, commands_from, frame_of, under, is_collecting, any_collecting}
-use Rattle.cg_interp.specs.Callers.{IsCaller, without_rest, without_rest_in_frame, Changes, transition_of_change, numbers_told}
+use Rattle.cg_interp.specs.Callers.{IsCaller, without_rest, without_rest_in_frame}
 use Rattle.cg_interp.specs.Turns.{Makes}
 use Rattle.cg_interp.proofs.Standing.{IsPlain, plain_frame, plain_script, replaced, spelled}
 
@@ -89,28 +84,6 @@ module _ (script : Script) (old new : State) (w : World) where
   quits (activity.Releasing release) caller stands store policy is budget = absurd caller
   quits (activity.Dying death) caller stands store policy is budget = absurd caller
   quits (activity.Collecting asked collection) caller stands store policy is budget = absurd caller
-
--- a command changed what it had to
-module _ (script : Script) (old new : State) (top : Own) (given_up : Entry) (release : Release) (after : World) where
-  stands_after : (line : Option Event) → Changes script top old line given_up after → references_left release ≡ entry_references given_up → new.store ≡ old.store → new.policy ≡ with_numbers (numbers_told line old.policy.numbers) old.policy → new.activities ≡ activity.Releasing release ∷ top ∷ old.activities → new.budget ≡ old.budget
-      → StandsFor script new (push (Releasing (entry_references given_up)) after)
-  stands_after line c left store policy is budget = record {
-    represents = subst (λ st. Represents st (push (Releasing (entry_references given_up)) after)) (sym store) c.represents;
-    shows = subst (λ l. ShowsAll script l (Releasing (entry_references given_up) ∷ after.stack)) (sym is)
-        (record { tops = Releasing (entry_references given_up) ∷ []; below = after.stack; shows = ap (λ l. Releasing l ∷ []) (sym left); some = λ e. absurd (cc); over = c.shows; is = refl });
-    budget = c.budget ∙ sym budget;
-    running = c.running;
-    numbers = ap (λ (p : Policy). p.numbers) policy ∙ sym c.numbers;
-    collecting = ap (λ (p : Policy). p.running) policy ∙ c.collecting ∙ ap any_collecting (sym is);
-  }
-
-  pub changes_with_line : (event : Event) → Changes script top old (Some event) given_up after → references_left release ≡ entry_references given_up → new.store ≡ old.store → new.policy ≡ with_numbers (numbers_told (Some event) old.policy.numbers) old.policy → new.activities ≡ activity.Releasing release ∷ top ∷ old.activities → new.budget ≡ old.budget
-      → Makes script (transition_of_change (Some event) given_up after) new (turned.Line event)
-  changes_with_line event c left store policy is budget = (refl, stands_after (Some event) c left store policy is budget)
-
-  pub changes_silently : Changes script top old None given_up after → references_left release ≡ entry_references given_up → new.store ≡ old.store → new.policy ≡ with_numbers (numbers_told None old.policy.numbers) old.policy → new.activities ≡ activity.Releasing release ∷ top ∷ old.activities → new.budget ≡ old.budget
-      → Makes script (transition_of_change None given_up after) new turned.Quiet
-  changes_silently c left store policy is budget = (refl, stands_after None c left store policy is budget)
 
 -- the procedure of a function, which the heap keeps beside it
 pub procedure_known : (store : Store) (w : World) (f : ℕ) (class : Option ℕ) → Represents store w → IsLive store f → IfSome (fin.get store.nodes f) (λ n. class ≡ n.class) → procedure_of w f ≡ unwrap_or class 0

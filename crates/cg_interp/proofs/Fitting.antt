@@ -8,8 +8,9 @@ use Rattle.cg_graph.specs.Store.{Store, Node, objects_of, object_from}
 use Rattle.cg_heap.specs.Keeps.{one}
 use Rattle.cg_heap.specs.Calls.{object_number}
 use Rattle.cg_script.specs.declared.Script.{Script}
+use Rattle.cg_policy.specs.Policy.{Policy}
 use Rattle.cg_commands.specs.Growth.{GrowsBy}
-use Rattle.cg_interp.specs.Engines.{State, over}
+use Rattle.cg_interp.specs.Engines.{State}
 use Rattle.cg_interp.specs.Turns.{IsFit, HasRoomForOneMore}
 
 -- as many objects as the heap counts, and the garbage list
@@ -30,8 +31,8 @@ pub room_for_one_more : (store : Store) (frames count high : ℕ) → count ≡ 
 room_for_one_more store frames count high counted room = omega (arith, objects-number store, counted, room)
 
 -- a command of which the heap says how far it grew
-pub fit_after : (script : Script) (room : Bool) (old inside : State) → inside ≡ old → (store : Store) → GrowsBy room inside.store store → (room ≡ true → HasRoomForOneMore old) → IsFit script old → IsFit script (over store inside)
-fit_after script room old inside same store grows one_more fit = record {
+pub fit_after : (script : Script) (room : Bool) (old inside : State) → inside ≡ old → (store : Store) (policy : Policy) → GrowsBy room inside.store store → (room ≡ true → HasRoomForOneMore old) → IsFit script old → IsFit script (record inside { store = store; policy = policy })
+fit_after script room old inside same store policy grows one_more fit = record {
   names = grows.names ∙ here.names;
   frames = here.frames;
   room = known room grows.objects (λ is. subst HasRoomForOneMore (sym same) (one_more is));

@@ -1,5 +1,5 @@
 -- One going after another is one going.
-use Rattle.std.proofs.Common.{◌≡◌, ◌≢◌, refl, sym, ◌∙◌, ap, subst, ℕ, List, [], ◌∷◌, ◌++◌}
+use Rattle.std.proofs.Common.{◌≢◌, refl, sym, ◌∙◌, ap, subst, ℕ, List, [], ◌∷◌, ◌++◌}
 use Rattle.cg_script.specs.declared.Script.{Script}
 use Rattle.cg_machine.specs.declared.event.Event.{Event}
 use Rattle.cg_machine.specs.declared.event.Event.TheVariants.{End, BudgetSpent}
@@ -14,7 +14,7 @@ use Rattle.cg_interp.specs.declared.turned.Turned.TheVariants as turned
 use Rattle.cg_interp.specs.declared.turned.Dies.{Dies}
 use Rattle.cg_interp.specs.declared.turned.Dies.TheVariants as dies
 use Rattle.cg_interp.specs.Engines.{State}
-use Rattle.cg_interp.specs.Turns.{GoesTo, GivesDeath, Turns, DeathTurns, Releases, StaysSound, DyingIsSound}
+use Rattle.cg_interp.specs.Turns.{GoesTo, GivesDeath, Turns, DeathTurns, StaysSound, DyingIsSound}
 
 pub goes_then : (script : Script) (w mid after : World) (events more : List Event) → Goes script w events mid → Goes script mid more after → Goes script w (events ++ more) after
 goes_then script w mid after events more first next = record {

@@ -10,7 +10,6 @@ mod FrameLemmas
 mod CallerLemmas
 mod Joining
 mod ReleaseLemmas
-mod EffectLemmas
 mod AnswerLemmas
 mod StepLemmas
 mod DeathLemmas
@@ -28,6 +27,5 @@ mod CollectMoves
 mod CollectBegins
 mod Telling
 mod UnderWay
-mod ControlLemmas
 mod TurnLemmas
 mod KeptLines

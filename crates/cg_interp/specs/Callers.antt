@@ -1,14 +1,18 @@
 -- The activities that have commands, and what a command leaves. (Ours.)
-use Rattle.std.specs.Prelude.{◌≡◌, ℕ, true, ◌⊎◌, List, [], ◌∷◌, Option, None, Some, option_to_list}
+use Rattle.std.specs.Prelude.{◌≡◌, ℕ, true, ◌⊎◌, List, [], ◌∷◌, None, Some, Result}
 use Rattle.cg_value.specs.declared.Entry.{Entry}
 use Rattle.cg_script.specs.declared.Script.{Script}
 use Rattle.cg_graph.specs.Value.{entry_references}
 use Rattle.cg_machine.specs.declared.event.Event.{Event}
-use Rattle.cg_machine.specs.declared.event.Event.TheVariants.{Made}
-use Rattle.cg_machine.specs.World.{World, Numbers, Releasing, Running, push}
+use Rattle.cg_machine.specs.World.{World, Releasing, Running, push}
 use Rattle.cg_machine.specs.Frame.{Transition, procedure_of}
-use Rattle.cg_machine.specs.Commands.{CommandStep, new_collection}
-use Rattle.cg_policy.specs.Policy.{with_one_made}
+use Rattle.cg_machine.specs.Commands.{CommandStep, new_collection, effect}
+use Rattle.cg_policy.specs.Policy.{Policy}
+use Rattle.cg_heap.specs.Calls.{HasFewHolds}
+use Rattle.cg_graph.specs.Store.{Store}
+use Rattle.cg_commands.specs.declared.done.Done.{Done}
+use Rattle.cg_commands.specs.declared.done.Refusal.{Refusal}
+use Rattle.cg_commands.specs.Answers.{Answers}
 use Rattle.cg_machine.specs.declared.event.FrameSpec.{FrameSpec}
 use Rattle.cg_machine.specs.declared.event.FrameSort.TheVariants.{Call}
 use Rattle.cg_script.specs.declared.Command.{Command}
@@ -21,7 +25,7 @@ use Rattle.cg_interp.specs.Telling.{TurnsWith}
 use Rattle.cg_machine.specs.Represents.{Represents}
 use Rattle.cg_interp.specs.declared.activity.Activity.{Activity}
 use Rattle.cg_interp.specs.declared.activity.Activity.TheVariants as activity
-use Rattle.cg_interp.specs.Engines.{State, ShowsAll, any_collecting}
+use Rattle.cg_interp.specs.Engines.{State, StandsFor, ShowsAll, under, any_collecting}
 
 -- the script, or a frame
 abbrev pub IsCaller : Activity → Type 0
@@ -47,24 +51,19 @@ without_rest (activity.Releasing release) = activity.Releasing release
 without_rest (activity.Dying death) = activity.Dying death
 without_rest (activity.Collecting asked collection) = activity.Collecting asked collection
 
--- the numbers after the line of a command: that an object was made raises count 0 (`gc.set_threshold`)
-abbrev pub numbers_told : Option Event → Numbers → Numbers
-numbers_told (Some (Made code serial)) numbers = with_one_made numbers
-numbers_told line numbers = numbers
-
--- A command left this world, with its line: the heap stands for it with the release of what was given up on top, and the
--- activities for the rest of its stack. The policy has not counted the object that the line tells.
-pub record Changes (script : Script) (top : Activity) (e : State) (line : Option Event) (given_up : Entry) (after : World) : Type 0 where
+-- A command left this world: the heap stands for it with the release of what was given up on top, the policy has its numbers,
+-- and the activities stand for the rest of its stack.
+pub record Changes (script : Script) (top : Activity) (e : State) (given_up : Entry) (after : World) : Type 0 where
   pub represents : Represents e.store (push (Releasing (entry_references given_up)) after)
   pub shows : ShowsAll script (top ∷ e.activities) after.stack
   pub budget : after.budget ≡ e.budget
   pub running : after.outcome ≡ Running
-  pub numbers : after.numbers ≡ numbers_told line e.policy.numbers
+  pub numbers : e.policy.numbers ≡ after.numbers
   pub collecting : e.policy.running ≡ any_collecting (top ∷ e.activities)
 
--- its line, and that world
-abbrev pub transition_of_change : Option Event → Entry → World → Transition
-transition_of_change line given_up after = (option_to_list line, push (Releasing (entry_references given_up)) after)
+-- its lines, and that world
+abbrev pub transition_of_change : List Event → Entry → World → Transition
+transition_of_change lines given_up after = (lines, push (Releasing (entry_references given_up)) after)
 
 -- the frame of a call
 abbrev pub call_of : ℕ → World → FrameSpec
@@ -90,6 +89,21 @@ DoesAny script w command e answer = Does script w command e answer ⊎ StartsCol
 -- Each world that a command may leave is kept.
 abbrev pub StaysKeptAfter : Script → ℕ → World → Command → Type 0
 StaysKeptAfter script budget w command = (events : List Event) (after : World) → CommandStep script w command events after → StaysKept script budget after
+
+-- A command was performed in this world, for which the engine stood with the heap and the policy of before.
+pub record IsPerformed (script : Script) (top : Activity) (e : State) (w : World) (command : Command) (before : Store) (was : Policy) (answer : Result Done Refusal) : Type 0 where
+  pub stood : StandsFor script (under top (record e { store = before; policy = was })) w
+  pub answers : Answers answer (effect w command) before was e.store e.policy
+  pub kept : StaysKeptAfter script e.frames w command
+
+-- in some world, where the heap had few holds
+pub record HasPerformed (script : Script) (top : Activity) (e : State) (answer : Result Done Refusal) : Type 0 where
+  pub world : World
+  pub command : Command
+  pub before : Store
+  pub was : Policy
+  pub few : HasFewHolds before
+  pub performed : IsPerformed script top e world command before was answer
 
 -- Each of these commands is spelled by a script with so many texts.
 abbrev pub AreDoable : ℕ → List Command → Type 0

@@ -1,25 +1,23 @@
 //! The script, or a frame, on top.
 ghost use Rattle.std.specs.Prelude.{◌≡◌, ◌<◌, ◌≤◌, ◌∷◌, true, length, Some};
-ghost use Rattle.cg_script.specs.declared.Script.{Script as AnyScript};
 ghost use Rattle.cg_heap.specs.Calls.{HasFewHolds};
 ghost use Rattle.cg_machine.specs.Program.{body_of};
 ghost use Rattle.cg_machine.specs.World.{World};
-ghost use Rattle.cg_script.specs.Spelled.{IsSpelled, IsSpelledCommand, IsForObjects};
+ghost use Rattle.cg_script.specs.Spelled.{IsSpelled, IsSpelledCommand};
 ghost use Rattle.cg_collect.specs.Numbers.{AreSmall};
 ghost use Rattle.cg_commands.specs.Stands.{LocalsLive, HasLocals};
 ghost use Rattle.cg_interp.specs.declared.activity.Activity.TheVariants as activity_of;
 ghost use Rattle.cg_interp.specs.Engines.{StandsFor, under, commands_from};
 ghost use Rattle.cg_interp.specs.Tables.{AreCommands};
-ghost use Rattle.cg_interp.specs.Turns.{IsFit, StaysFit, HasRoomForOneMore};
+ghost use Rattle.cg_interp.specs.Turns.{IsFit, HasRoomForOneMore};
 ghost use Rattle.cg_interp.specs.Telling.{IsAtTurn, TurnsFrom};
-ghost use Rattle.cg_interp.specs.Callers.{IsCaller, Does, DoesAny, StaysKeptAfter};
+ghost use Rattle.cg_interp.specs.Callers.{IsCaller, DoesAny, StaysKeptAfter};
 
 use crate::activity::Activity;
 use crate::engine::Engine;
 use crate::table::{Table, next_of};
 use crate::turned::Turned;
-use cg_commands::{Locals, makes_object};
-use cg_controls::is_control;
+use cg_commands::{Locals, makes_object, perform};
 use cg_heap::Steps;
 use cg_kind::Kind;
 use cg_script::{Command, Script};
@@ -51,60 +49,39 @@ impl<B: Kind> Engine<B> {
         ensures fit { IsFit script.now self.new }
         ensures frames { self.new.frames ≡ self.old.frames }
     {
-        if is_control(command) {
-            self.control(top, command, script, steps)
-        } else {
-            self.perform(top, locals, command)
-        }
-    }
-
-    /// Does a command that is not the collector's.
-    fn perform(&mut self, top: Activity, locals: Option<Locals>, command: &Command) -> Turned
-        requires caller { IsCaller top }
-        requires spelled { IsSpelledCommand (length self.old.store.names) command.now }
-        requires objects { IsForObjects command.now }
-        requires locals { LocalsLive self.old.store locals }
-        requires few { HasFewHolds self.old.store }
-        requires last { self.old.store.last < 9223372036854775808 }
-        requires small { AreSmall self.old.policy.numbers }
-        requires room { 1 < self.old.room }
-        requires stands { (script : AnyScript) × (w : World)
-            × StandsFor script (under top self.old) w × HasLocals locals w }
-        ensures does { (script : AnyScript) (w : World) → StandsFor script (under top self.old) w
-            → HasLocals locals w → Does script w command.now self.new result }
-        ensures fit { StaysFit self.old self.new }
-        ensures frames { self.new.frames ≡ self.old.frames }
-    {
         let room = self.make_room(command);
-        self.carry_out(top, locals, command, room)
+        self.carry_out(top, locals, command, script, steps, room)
     }
 
     /// The same, where an object is made only if there is room for its death.
-    fn carry_out(
+    fn carry_out<L: Ledger>(
         &mut self,
         top: Activity,
         locals: Option<Locals>,
         command: &Command,
+        script: &Script,
+        steps: &mut Steps<L>,
         room: bool,
     ) -> Turned
         requires caller { IsCaller top }
+        requires script { IsSpelled script.now }
         requires spelled { IsSpelledCommand (length self.old.store.names) command.now }
-        requires objects { IsForObjects command.now }
         requires locals { LocalsLive self.old.store locals }
         requires few { HasFewHolds self.old.store }
         requires last { self.old.store.last < 9223372036854775808 }
         requires small { AreSmall self.old.policy.numbers }
-        requires room { 1 < self.old.room }
-        requires stands { (script : AnyScript) × (w : World)
-            × StandsFor script (under top self.old) w × HasLocals locals w }
+        requires fit { IsFit script.now self.old }
+        requires room { 2 < self.old.room }
+        requires stands { (w : World) × StandsFor script.now (under top self.old) w × HasLocals locals w
+            × StaysKeptAfter script.now self.old.frames w command.now }
         requires one_more { room ≡ true → HasRoomForOneMore self.old }
-        ensures does { (script : AnyScript) (w : World) → StandsFor script (under top self.old) w
-            → HasLocals locals w → Does script w command.now self.new result }
-        ensures fit { StaysFit self.old self.new }
+        ensures does { (w : World) → StandsFor script.now (under top self.old) w → HasLocals locals w
+            → StaysKeptAfter script.now self.old.frames w command.now → DoesAny script.now w command.now self.new result }
+        ensures fit { IsFit script.now self.new }
         ensures frames { self.new.frames ≡ self.old.frames }
     {
-        let done = cg_commands::perform(&mut self.heap, locals, command, room);
-        self.answer(top, done)
+        let done = perform(&mut self.heap, &mut self.policy, locals, command, room);
+        self.answer(top, done, script, steps)
     }
 
     /// Makes room on the stack for the death of an object, if the command makes one. It answers whether it does and there is

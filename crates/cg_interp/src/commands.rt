@@ -1,35 +1,87 @@
 //! What the engine does once a command has been performed.
-ghost use Rattle.std.specs.Prelude.{◌≡◌, ◌<◌, ◌∷◌, [], ℕ, Ok};
+ghost use Rattle.std.specs.Prelude.{◌≡◌, ◌<◌, ◌≤◌, [], Ok, option_to_list};
 ghost use Rattle.cg_graph.specs.Store.{IsLive, Store};
 ghost use Rattle.cg_heap.specs.Calls.{HasFewHolds};
 ghost use Rattle.cg_script.specs.declared.Script.{Script as AnyScript};
 ghost use Rattle.cg_script.specs.declared.Command.{Command as AnyCommand};
-ghost use Rattle.cg_commands.specs.declared.done.Done.TheVariants as done_of;
-ghost use Rattle.cg_commands.specs.Answers.{Answers, IsDone};
-ghost use Rattle.cg_script.specs.Spelled.{IsForObjects};
+ghost use Rattle.cg_script.specs.Spelled.{IsSpelled};
 ghost use Rattle.cg_machine.specs.World.{World, with_stack};
 ghost use Rattle.cg_machine.specs.Frame.{start_frame, procedure_of};
 ghost use Rattle.cg_machine.specs.Represents.{Represents};
 ghost use Rattle.cg_machine.specs.Commands.{refused, without_commands, effect};
-ghost use Rattle.cg_interp.specs.Engines.{StandsFor, under, over};
-ghost use Rattle.cg_interp.specs.Callers.{IsCaller, without_rest, without_rest_in_frame, Changes, transition_of_change, call_of, Does, numbers_told};
-ghost use Rattle.cg_policy.specs.Policy.{with_numbers};
-ghost use Rattle.cg_collect.specs.Numbers.{AreSmall};
-ghost use Rattle.cg_interp.specs.Turns.{Makes, Keeps};
+ghost use Rattle.cg_machine.specs.Effects.{Collects};
+ghost use Rattle.cg_policy.specs.Policy.{Policy as AnyPolicy};
+ghost use Rattle.cg_interp.specs.Engines.{StandsFor, under};
+ghost use Rattle.cg_interp.specs.Callers.{IsCaller, without_rest, without_rest_in_frame, Changes, transition_of_change, call_of, DoesAny, IsPerformed, HasPerformed, StaysKeptAfter};
+ghost use Rattle.cg_interp.specs.Turns.{Makes, Keeps, IsFit};
 
 use crate::activity::Activity;
 use crate::engine::Engine;
 use crate::turned::Turned;
 use cg_commands::{Done, Refusal};
 use cg_death::Release;
-use cg_heap::Heap;
+use cg_heap::{Heap, Steps};
 use cg_kind::Kind;
 use cg_machine::{Event, FrameSort, FrameSpec};
+use cg_script::Script;
 use cg_value::Entry;
+use std::sync::ledger::Ledger;
 
 impl<B: Kind> Engine<B> {
+    /// What the engine does once the command of the activity that was on top has been performed.
+    #[inline(always)]
+    pub fn answer<L: Ledger>(
+        &mut self,
+        top: Activity,
+        done: Result<Done, Refusal>,
+        script: &Script,
+        steps: &mut Steps<L>,
+    ) -> Turned
+        requires caller { IsCaller top }
+        requires script { IsSpelled script.now }
+        requires fit { IsFit script.now self.old }
+        requires room { 2 < self.old.room }
+        requires performed { HasPerformed script.now top self.old done }
+        ensures does { (w : World) (command : AnyCommand) (before : Store) (was : AnyPolicy)
+            → IsPerformed script.now top self.old w command before was done → DoesAny script.now w command self.new result }
+        ensures fit { IsFit script.now self.new }
+        ensures frames { self.new.frames ≡ self.old.frames }
+    {
+        match done {
+            Ok(done) => self.proceed(top, done, script, steps),
+            Err(refusal) => self.refuse(top, refusal.number()),
+        }
+    }
+
+    /// The same once it has been done.
+    #[inline(always)]
+    fn proceed<L: Ledger>(
+        &mut self,
+        top: Activity,
+        done: Done,
+        script: &Script,
+        steps: &mut Steps<L>,
+    ) -> Turned
+        requires caller { IsCaller top }
+        requires script { IsSpelled script.now }
+        requires fit { IsFit script.now self.old }
+        requires room { 2 < self.old.room }
+        requires performed { HasPerformed script.now top self.old (Ok done) }
+        ensures does { (w : World) (command : AnyCommand) (before : Store) (was : AnyPolicy)
+            → IsPerformed script.now top self.old w command before was (Ok done) → DoesAny script.now w command self.new result }
+        ensures fit { IsFit script.now self.new }
+        ensures frames { self.new.frames ≡ self.old.frames }
+    {
+        match done {
+            Done::Changed { line, given_up } => self.change(top, line, given_up),
+            Done::Calls(function) => self.call(top, function),
+            Done::Collects(generation) => self.collect_if_idle(top, generation, script, steps),
+            Done::Quits => self.quit(top),
+        }
+    }
+
     /// A command was refused, which also ends the frame that it stood in.
-    pub fn refuse(&mut self, top: Activity, number: u8) -> Turned
+    fn refuse(&mut self, top: Activity, number: u8) -> Turned
         requires caller { IsCaller top }
         requires room { 0 < self.old.room }
         ensures refuses { (script : AnyScript) (w : World) → StandsFor script (under top self.old) w
@@ -42,36 +94,17 @@ impl<B: Kind> Engine<B> {
 
     /// A command changed what it had to, and references are to be given up.
     #[inline(always)]
-    pub fn change(&mut self, top: Activity, line: Option<Event>, given_up: Entry) -> Turned
-        requires caller { IsCaller top }
-        requires small { AreSmall self.old.policy.numbers }
+    fn change(&mut self, top: Activity, line: Option<Event>, given_up: Entry) -> Turned
         requires room { 1 < self.old.room }
-        ensures changes { (script : AnyScript) (after : World) → Changes script top self.old line given_up after
-            → Makes script (transition_of_change line given_up after) self.new result }
+        ensures changes { (script : AnyScript) (after : World) → Changes script top self.old given_up after
+            → Makes script (transition_of_change (option_to_list line) given_up after) self.new result }
         ensures keeps { Keeps self.old self.new }
     {
-        self.count_made(line);
         self.stack.push(top);
         self.stack.push(Activity::Releasing(Release::new(given_up)));
         match line {
             Some(event) => Turned::Line(event),
             None => Turned::Quiet,
-        }
-    }
-
-    /// The policy counts an object that a line tells to be made.
-    fn count_made(&mut self, line: Option<Event>)
-        requires small { AreSmall self.old.policy.numbers }
-        ensures counts { self.new.policy ≡ with_numbers (numbers_told line self.old.policy.numbers) self.old.policy }
-        ensures store { self.new.store ≡ self.old.store }
-        ensures activities { self.new.activities ≡ self.old.activities }
-        ensures room { self.new.room ≡ self.old.room }
-        ensures budget { self.new.budget ≡ self.old.budget }
-        ensures frames { self.new.frames ≡ self.old.frames }
-    {
-        match line {
-            Some(Event::Made { .. }) => self.policy.made(),
-            _ => {}
         }
     }
 
@@ -106,42 +139,31 @@ impl<B: Kind> Engine<B> {
         })
     }
 
-    /// What the engine does once the command of the activity that was on top has been performed.
-    #[inline(always)]
-    pub fn answer(&mut self, top: Activity, done: Result<Done, Refusal>) -> Turned
-        requires caller { IsCaller top }
-        requires few { (f : ℕ) → done ≡ Ok (done_of.Calls f) → HasFewHolds self.old.store }
-        requires live { (f : ℕ) → done ≡ Ok (done_of.Calls f) → IsLive self.old.store f }
-        requires small { AreSmall self.old.policy.numbers }
-        requires room { 1 < self.old.room }
-        ensures does { (script : AnyScript) (w : World) (command : AnyCommand) (before : Store)
-            → StandsFor script (over before (under top self.old)) w → IsForObjects command
-            → Answers done (effect w command) before self.old.store → Does script w command self.new result }
-        ensures keeps { Keeps self.old self.new }
+    /// Starts the collection that a command asks for. Where one is running, none starts, and the answer is 0.
+    fn collect_if_idle<L: Ledger>(
+        &mut self,
+        top: Activity,
+        generation: u8,
+        script: &Script,
+        steps: &mut Steps<L>,
+    ) -> Turned
+        requires script { IsSpelled script.now }
+        requires generation { generation ≤ 2 }
+        requires fit { IsFit script.now self.old }
+        requires room { 2 < self.old.room }
+        requires stands { (command : AnyCommand) × (w : World) × StandsFor script.now (under top self.old) w
+            × (effect w command ≡ Ok (Collects generation)) × StaysKeptAfter script.now self.old.frames w command }
+        ensures does { (command : AnyCommand) (w : World) → StandsFor script.now (under top self.old) w
+            → effect w command ≡ Ok (Collects generation) → StaysKeptAfter script.now self.old.frames w command
+            → DoesAny script.now w command self.new result }
+        ensures fit { IsFit script.now self.new }
+        ensures frames { self.new.frames ≡ self.old.frames }
     {
-        match done {
-            Ok(done) => self.proceed(top, done),
-            Err(refusal) => self.refuse(top, refusal.number()),
-        }
-    }
-
-    /// The same once it has been done.
-    #[inline(always)]
-    fn proceed(&mut self, top: Activity, done: Done) -> Turned
-        requires caller { IsCaller top }
-        requires few { (f : ℕ) → done ≡ done_of.Calls f → HasFewHolds self.old.store }
-        requires live { (f : ℕ) → done ≡ done_of.Calls f → IsLive self.old.store f }
-        requires small { AreSmall self.old.policy.numbers }
-        requires room { 1 < self.old.room }
-        ensures does { (script : AnyScript) (w : World) (command : AnyCommand) (before : Store)
-            → StandsFor script (over before (under top self.old)) w → IsForObjects command
-            → IsDone done (effect w command) before self.old.store → Does script w command self.new result }
-        ensures keeps { Keeps self.old self.new }
-    {
-        match done {
-            Done::Changed { line, given_up } => self.change(top, line, given_up),
-            Done::Calls(function) => self.call(top, function),
-            Done::Quits => self.quit(top),
+        if self.policy.running() {
+            self.stack.push(top);
+            Turned::Line(Event::Collected(0))
+        } else {
+            self.collect(top, true, generation, script, steps)
         }
     }
 }

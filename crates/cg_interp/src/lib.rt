@@ -5,7 +5,6 @@ mod activity;
 mod callers;
 mod collecting;
 mod commands;
-mod controls;
 mod deaths;
 mod engine;
 mod frames;

@@ -1,319 +1,276 @@
-use Rattle.std.proofs.Common.{◌≡◌, sym, ◌∙◌, ap, subst, ◌<◌, length}
-use Rattle.std.proofs.Common.{w64}
+-- What each command asks of the script is in the spelling of the command, and what was done is its effect.
+use Rattle.std.proofs.Common.{◌≡◌, refl, sym, ◌∙◌, ap, subst, ◌<◌, ◌≤◌, ◌∷◌, length, true, false}
+use Rattle.std.proofs.Common.{T, w64}
 use mir.Val.{to_z, of_z}
-use Rattle.std.proofs.Math.Facts.{to_z-of_z}
+use Rattle.std.proofs.Math.Facts.{to_z-of_z, sfits_lit}
 use Rattle.std.specs.Int.Signed.{mag}
-use Rattle.std.specs.Prelude.{ℤ}
-use Rattle.std.proofs.Common.{T}
-use Rattle.std.proofs.lemmas.Bool.{lt-ltb}
-use Rattle.std.proofs.Math.Facts.{sfits_lit}
 use Rattle.std.specs.List.{All}
-use Rattle.std.proofs.Common.{◌≤◌, ◌∷◌}
+use Rattle.std.specs.Prelude.{ℤ}
+use Rattle.std.proofs.lemmas.Bool.{lt-ltb}
 use Rattle.cg_script.specs.Texts.{command_texts, operands_texts}
-use Rattle.cg_script.specs.declared.command.Command.TheVariants as command
-use Rattle.cg_machine.specs.Commands.{effect}
 use Rattle.cg_script.specs.Spelled.{HasFewWords}
-use Rattle.cg_commands.specs.Answers.{Performs}
-use Rattle.cg_commands.specs.Growth.{makes_object}
-use Rattle.cg_commands.proofs.Growing.{nothing_made, made_in_room}
+use Rattle.cg_script.specs.declared.command.Command.TheVariants as command
+use Rattle.cg_graph.specs.Store.{objects_of}
+use Rattle.cg_machine.specs.declared.event.Event.TheVariants as event
+use Rattle.cg_machine.specs.Commands.{effect}
+use Rattle.cg_machine.specs.Effects.{frozen, unfrozen, gens_line}
+use Rattle.cg_policy.specs.Policy.{Policy, with_numbers, with_enabled, with_flags, with_thresholds, with_zero_counts}
+use Rattle.cg_commands.specs.Answers.{PerformsOnHeap}
+use Rattle.cg_commands.specs.Attempts.{Attempts}
+use Rattle.cg_commands.specs.Controls.{IsAsked}
+use Rattle.cg_commands.proofs.Counting.{plainly, made_and_counted}
+use Rattle.cg_commands.proofs.Controlling.{asks, sets, tells, replaces}
 use Rattle.cg_commands.proofs.dispatch.attempt.Goals as goal
 
 -- a number of 64 bits is read back as it was written
 read_back : (z : ℤ) → mag z < 9223372036854775808 → to_z w64 (of_z w64 z) ≡ z
 read_back z fits = to_z-of_z {w = w64} {z = z} (sfits_lit {w = w64} {z = z} (subst T (sym (lt-ltb (mag z) 9223372036854775808 fits)) tt))
 
-pub make_dict-requires-clause-known : goal.make_dict-requires-clause-known
-make_dict-requires-clause-known g c =
+pub make_dict-made-requires-clause-known : goal.make_dict-made-requires-clause-known
+make_dict-made-requires-clause-known g c =
     subst (λ cmd. All (λ n. n < length c.args.heap.now.names) (command_texts cmd)) c.in-MakeDict.is c.requires.spelled.known
 
 pub returns-in-MakeDict : goal.returns-in-MakeDict
-returns-in-MakeDict g c = record {
-  performs =
-      subst (λ cmd. Performs c.args.heap.now c.args.locals (λ w. effect w cmd) c.make_dict.new.heap c.make_dict.result) (sym c.in-MakeDict.is) c.make_dict.ensures.performs;
-  room = made_in_room c.make_dict.result (makes_object c.args.command.now) c.args.room c.make_dict.ensures.room;
-}
+returns-in-MakeDict g c =
+    let done = made_and_counted c.args.heap.now c.args.policy.now c.args.locals c.args.room c.args.command.now _ c.in-MakeDict.is tt c.make_dict-made.new.heap c.make_dict-made.result c.make_dict-made.ensures.performs refl c.make_dict-made.ensures.room c.count-in-MakeDict.new.policy c.count-in-MakeDict.ensures.counts in
+    subst (Attempts c.args.heap.now c.args.policy.now c.args.locals c.args.room c.args.command.now c.make_dict-made.new.heap c.count-in-MakeDict.new.policy) (sym c.count-in-MakeDict.ensures.same) done
 
-pub make_instance-requires-clause-known : goal.make_instance-requires-clause-known
-make_instance-requires-clause-known g c =
+pub make_instance-made-requires-clause-known : goal.make_instance-made-requires-clause-known
+make_instance-made-requires-clause-known g c =
     subst (λ cmd. All (λ n. n < length c.args.heap.now.names) (command_texts cmd)) c.in-MakeInst.is c.requires.spelled.known
 
 pub returns-in-MakeInst : goal.returns-in-MakeInst
-returns-in-MakeInst g c = record {
-  performs =
-      subst (λ cmd. Performs c.args.heap.now c.args.locals (λ w. effect w cmd) c.make_instance.new.heap c.make_instance.result) (sym c.in-MakeInst.is) c.make_instance.ensures.performs;
-  room = made_in_room c.make_instance.result (makes_object c.args.command.now) c.args.room c.make_instance.ensures.room;
-}
+returns-in-MakeInst g c =
+    let done = made_and_counted c.args.heap.now c.args.policy.now c.args.locals c.args.room c.args.command.now _ c.in-MakeInst.is tt c.make_instance-made.new.heap c.make_instance-made.result c.make_instance-made.ensures.performs refl c.make_instance-made.ensures.room c.count-in-MakeInst.new.policy c.count-in-MakeInst.ensures.counts in
+    subst (Attempts c.args.heap.now c.args.policy.now c.args.locals c.args.room c.args.command.now c.make_instance-made.new.heap c.count-in-MakeInst.new.policy) (sym c.count-in-MakeInst.ensures.same) done
 
-pub make_weak-requires-clause-known : goal.make_weak-requires-clause-known
-make_weak-requires-clause-known g c =
+pub make_weak-made-requires-clause-known : goal.make_weak-made-requires-clause-known
+make_weak-made-requires-clause-known g c =
     subst (λ cmd. All (λ n. n < length c.args.heap.now.names) (command_texts cmd)) c.in-MakeRef.is c.requires.spelled.known
 
 pub returns-in-MakeRef : goal.returns-in-MakeRef
-returns-in-MakeRef g c = record {
-  performs =
-      subst (λ cmd. Performs c.args.heap.now c.args.locals (λ w. effect w cmd) c.make_weak.new.heap c.make_weak.result) (sym c.in-MakeRef.is) c.make_weak.ensures.performs;
-  room = made_in_room c.make_weak.result (makes_object c.args.command.now) c.args.room c.make_weak.ensures.room;
-}
+returns-in-MakeRef g c =
+    let done = made_and_counted c.args.heap.now c.args.policy.now c.args.locals c.args.room c.args.command.now _ c.in-MakeRef.is tt c.make_weak-made.new.heap c.make_weak-made.result c.make_weak-made.ensures.performs refl c.make_weak-made.ensures.room c.count-in-MakeRef.new.policy c.count-in-MakeRef.ensures.counts in
+    subst (Attempts c.args.heap.now c.args.policy.now c.args.locals c.args.room c.args.command.now c.make_weak-made.new.heap c.count-in-MakeRef.new.policy) (sym c.count-in-MakeRef.ensures.same) done
 
 pub bind-requires-clause-known : goal.bind-requires-clause-known
 bind-requires-clause-known g c =
     subst (λ cmd. All (λ n. n < length c.args.heap.now.names) (command_texts cmd)) c.in-Bind.is c.requires.spelled.known
 
 pub returns-in-Bind : goal.returns-in-Bind
-returns-in-Bind g c = record {
-  performs =
-      subst (λ cmd. Performs c.args.heap.now c.args.locals (λ w. effect w cmd) c.bind.new.heap c.bind.result) (sym c.in-Bind.is) c.bind.ensures;
-  room = nothing_made c.bind.result (makes_object c.args.command.now) c.args.room (ap makes_object c.in-Bind.is);
-}
+returns-in-Bind g c = plainly c.args.heap.now c.args.policy.now c.args.locals c.args.room c.args.command.now _ c.in-Bind.is tt c.bind.new.heap c.bind.result c.bind.ensures refl
 
 pub unbind-requires-clause-known : goal.unbind-requires-clause-known
 unbind-requires-clause-known g c =
     subst (λ cmd. All (λ n. n < length c.args.heap.now.names) (command_texts cmd)) c.in-Del.is c.requires.spelled.known
 
 pub returns-in-Del : goal.returns-in-Del
-returns-in-Del g c = record {
-  performs =
-      subst (λ cmd. Performs c.args.heap.now c.args.locals (λ w. effect w cmd) c.unbind.new.heap c.unbind.result) (sym c.in-Del.is) c.unbind.ensures;
-  room = nothing_made c.unbind.result (makes_object c.args.command.now) c.args.room (ap makes_object c.in-Del.is);
-}
+returns-in-Del g c = plainly c.args.heap.now c.args.policy.now c.args.locals c.args.room c.args.command.now _ c.in-Del.is tt c.unbind.new.heap c.unbind.result c.unbind.ensures refl
 
 pub append-requires-clause-known : goal.append-requires-clause-known
 append-requires-clause-known g c =
     subst (λ cmd. All (λ n. n < length c.args.heap.now.names) (command_texts cmd)) c.in-Append.is c.requires.spelled.known
 
 pub returns-in-Append : goal.returns-in-Append
-returns-in-Append g c = record {
-  performs =
-      subst (λ cmd. Performs c.args.heap.now c.args.locals (λ w. effect w cmd) c.append.new.heap c.append.result) (sym c.in-Append.is) c.append.ensures;
-  room = nothing_made c.append.result (makes_object c.args.command.now) c.args.room (ap makes_object c.in-Append.is);
-}
+returns-in-Append g c = plainly c.args.heap.now c.args.policy.now c.args.locals c.args.room c.args.command.now _ c.in-Append.is tt c.append.new.heap c.append.result c.append.ensures refl
 
 pub set_item-requires-clause-known : goal.set_item-requires-clause-known
 set_item-requires-clause-known g c =
     subst (λ cmd. All (λ n. n < length c.args.heap.now.names) (command_texts cmd)) c.in-SetItem.is c.requires.spelled.known
 
 pub returns-in-SetItem : goal.returns-in-SetItem
-returns-in-SetItem g c = record {
-  performs =
-      subst (λ cmd. Performs c.args.heap.now c.args.locals (λ w. effect w cmd) c.set_item.new.heap c.set_item.result) (sym c.in-SetItem.is)
-      (subst (λ z. Performs c.args.heap.now c.args.locals (λ w. effect w (command.SetItem c.in-SetItem.list z c.in-SetItem.value)) c.set_item.new.heap c.set_item.result) (read_back c.number.result c.number.type_inv ∙ c.number.ensures) c.set_item.ensures);
-  room = nothing_made c.set_item.result (makes_object c.args.command.now) c.args.room (ap makes_object c.in-SetItem.is);
-}
+returns-in-SetItem g c =
+    plainly c.args.heap.now c.args.policy.now c.args.locals c.args.room c.args.command.now _ c.in-SetItem.is tt c.set_item.new.heap c.set_item.result
+    (subst (λ z. PerformsOnHeap c.args.heap.now c.args.locals (λ w. effect w (command.SetItem c.in-SetItem.list z c.in-SetItem.value)) c.set_item.new.heap c.set_item.result) (read_back c.number.result c.number.type_inv ∙ c.number.ensures) c.set_item.ensures) refl
 
 pub del_item-requires-clause-known : goal.del_item-requires-clause-known
 del_item-requires-clause-known g c =
     subst (λ cmd. All (λ n. n < length c.args.heap.now.names) (command_texts cmd)) c.in-DelItem.is c.requires.spelled.known
 
 pub returns-in-DelItem : goal.returns-in-DelItem
-returns-in-DelItem g c = record {
-  performs =
-      subst (λ cmd. Performs c.args.heap.now c.args.locals (λ w. effect w cmd) c.del_item.new.heap c.del_item.result) (sym c.in-DelItem.is)
-      (subst (λ z. Performs c.args.heap.now c.args.locals (λ w. effect w (command.DelItem c.in-DelItem.list z)) c.del_item.new.heap c.del_item.result) (read_back c.number-in-DelItem.result c.number-in-DelItem.type_inv ∙ c.number-in-DelItem.ensures) c.del_item.ensures);
-  room = nothing_made c.del_item.result (makes_object c.args.command.now) c.args.room (ap makes_object c.in-DelItem.is);
-}
+returns-in-DelItem g c =
+    plainly c.args.heap.now c.args.policy.now c.args.locals c.args.room c.args.command.now _ c.in-DelItem.is tt c.del_item.new.heap c.del_item.result
+    (subst (λ z. PerformsOnHeap c.args.heap.now c.args.locals (λ w. effect w (command.DelItem c.in-DelItem.list z)) c.del_item.new.heap c.del_item.result) (read_back c.number-in-DelItem.result c.number-in-DelItem.type_inv ∙ c.number-in-DelItem.ensures) c.del_item.ensures) refl
 
 pub put-requires-clause-known : goal.put-requires-clause-known
 put-requires-clause-known g c =
     subst (λ cmd. All (λ n. n < length c.args.heap.now.names) (command_texts cmd)) c.in-Put.is c.requires.spelled.known
 
 pub returns-in-Put : goal.returns-in-Put
-returns-in-Put g c = record {
-  performs =
-      subst (λ cmd. Performs c.args.heap.now c.args.locals (λ w. effect w cmd) c.put.new.heap c.put.result) (sym c.in-Put.is) c.put.ensures;
-  room = nothing_made c.put.result (makes_object c.args.command.now) c.args.room (ap makes_object c.in-Put.is);
-}
+returns-in-Put g c = plainly c.args.heap.now c.args.policy.now c.args.locals c.args.room c.args.command.now _ c.in-Put.is tt c.put.new.heap c.put.result c.put.ensures refl
 
 pub remove-requires-clause-known : goal.remove-requires-clause-known
 remove-requires-clause-known g c =
     subst (λ cmd. All (λ n. n < length c.args.heap.now.names) (command_texts cmd)) c.in-Remove.is c.requires.spelled.known
 
 pub returns-in-Remove : goal.returns-in-Remove
-returns-in-Remove g c = record {
-  performs =
-      subst (λ cmd. Performs c.args.heap.now c.args.locals (λ w. effect w cmd) c.remove.new.heap c.remove.result) (sym c.in-Remove.is) c.remove.ensures;
-  room = nothing_made c.remove.result (makes_object c.args.command.now) c.args.room (ap makes_object c.in-Remove.is);
-}
+returns-in-Remove g c = plainly c.args.heap.now c.args.policy.now c.args.locals c.args.room c.args.command.now _ c.in-Remove.is tt c.remove.new.heap c.remove.result c.remove.ensures refl
 
 pub set_attr-requires-clause-known : goal.set_attr-requires-clause-known
 set_attr-requires-clause-known g c =
     subst (λ cmd. All (λ n. n < length c.args.heap.now.names) (command_texts cmd)) c.in-SetAttr.is c.requires.spelled.known
 
 pub returns-in-SetAttr : goal.returns-in-SetAttr
-returns-in-SetAttr g c = record {
-  performs =
-      subst (λ cmd. Performs c.args.heap.now c.args.locals (λ w. effect w cmd) c.set_attr.new.heap c.set_attr.result) (sym c.in-SetAttr.is) c.set_attr.ensures;
-  room = nothing_made c.set_attr.result (makes_object c.args.command.now) c.args.room (ap makes_object c.in-SetAttr.is);
-}
+returns-in-SetAttr g c = plainly c.args.heap.now c.args.policy.now c.args.locals c.args.room c.args.command.now _ c.in-SetAttr.is tt c.set_attr.new.heap c.set_attr.result c.set_attr.ensures refl
 
 pub del_attr-requires-clause-known : goal.del_attr-requires-clause-known
 del_attr-requires-clause-known g c =
     subst (λ cmd. All (λ n. n < length c.args.heap.now.names) (command_texts cmd)) c.in-DelAttr.is c.requires.spelled.known
 
 pub returns-in-DelAttr : goal.returns-in-DelAttr
-returns-in-DelAttr g c = record {
-  performs =
-      subst (λ cmd. Performs c.args.heap.now c.args.locals (λ w. effect w cmd) c.del_attr.new.heap c.del_attr.result) (sym c.in-DelAttr.is) c.del_attr.ensures;
-  room = nothing_made c.del_attr.result (makes_object c.args.command.now) c.args.room (ap makes_object c.in-DelAttr.is);
-}
+returns-in-DelAttr g c = plainly c.args.heap.now c.args.policy.now c.args.locals c.args.room c.args.command.now _ c.in-DelAttr.is tt c.del_attr.new.heap c.del_attr.result c.del_attr.ensures refl
 
 pub item-requires-clause-known : goal.item-requires-clause-known
 item-requires-clause-known g c =
     subst (λ cmd. All (λ n. n < length c.args.heap.now.names) (command_texts cmd)) c.in-Item.is c.requires.spelled.known
 
 pub returns-in-Item : goal.returns-in-Item
-returns-in-Item g c = record {
-  performs =
-      subst (λ cmd. Performs c.args.heap.now c.args.locals (λ w. effect w cmd) c.item.new.heap c.item.result) (sym c.in-Item.is)
-      (subst (λ z. Performs c.args.heap.now c.args.locals (λ w. effect w (command.Item c.in-Item.name c.in-Item.list z)) c.item.new.heap c.item.result) (read_back c.number-in-Item.result c.number-in-Item.type_inv ∙ c.number-in-Item.ensures) c.item.ensures);
-  room = nothing_made c.item.result (makes_object c.args.command.now) c.args.room (ap makes_object c.in-Item.is);
-}
+returns-in-Item g c =
+    plainly c.args.heap.now c.args.policy.now c.args.locals c.args.room c.args.command.now _ c.in-Item.is tt c.item.new.heap c.item.result
+    (subst (λ z. PerformsOnHeap c.args.heap.now c.args.locals (λ w. effect w (command.Item c.in-Item.name c.in-Item.list z)) c.item.new.heap c.item.result) (read_back c.number-in-Item.result c.number-in-Item.type_inv ∙ c.number-in-Item.ensures) c.item.ensures) refl
 
 pub get-requires-clause-known : goal.get-requires-clause-known
 get-requires-clause-known g c =
     subst (λ cmd. All (λ n. n < length c.args.heap.now.names) (command_texts cmd)) c.in-Get.is c.requires.spelled.known
 
 pub returns-in-Get : goal.returns-in-Get
-returns-in-Get g c = record {
-  performs =
-      subst (λ cmd. Performs c.args.heap.now c.args.locals (λ w. effect w cmd) c.get.new.heap c.get.result) (sym c.in-Get.is) c.get.ensures;
-  room = nothing_made c.get.result (makes_object c.args.command.now) c.args.room (ap makes_object c.in-Get.is);
-}
+returns-in-Get g c = plainly c.args.heap.now c.args.policy.now c.args.locals c.args.room c.args.command.now _ c.in-Get.is tt c.get.new.heap c.get.result c.get.ensures refl
 
 pub attr-requires-clause-known : goal.attr-requires-clause-known
 attr-requires-clause-known g c =
     subst (λ cmd. All (λ n. n < length c.args.heap.now.names) (command_texts cmd)) c.in-Attr.is c.requires.spelled.known
 
 pub returns-in-Attr : goal.returns-in-Attr
-returns-in-Attr g c = record {
-  performs =
-      subst (λ cmd. Performs c.args.heap.now c.args.locals (λ w. effect w cmd) c.attr.new.heap c.attr.result) (sym c.in-Attr.is) c.attr.ensures;
-  room = nothing_made c.attr.result (makes_object c.args.command.now) c.args.room (ap makes_object c.in-Attr.is);
-}
+returns-in-Attr g c = plainly c.args.heap.now c.args.policy.now c.args.locals c.args.room c.args.command.now _ c.in-Attr.is tt c.attr.new.heap c.attr.result c.attr.ensures refl
 
 pub deref-requires-clause-known : goal.deref-requires-clause-known
 deref-requires-clause-known g c =
     subst (λ cmd. All (λ n. n < length c.args.heap.now.names) (command_texts cmd)) c.in-Deref.is c.requires.spelled.known
 
 pub returns-in-Deref : goal.returns-in-Deref
-returns-in-Deref g c = record {
-  performs =
-      subst (λ cmd. Performs c.args.heap.now c.args.locals (λ w. effect w cmd) c.deref.new.heap c.deref.result) (sym c.in-Deref.is) c.deref.ensures;
-  room = nothing_made c.deref.result (makes_object c.args.command.now) c.args.room (ap makes_object c.in-Deref.is);
-}
+returns-in-Deref g c = plainly c.args.heap.now c.args.policy.now c.args.locals c.args.room c.args.command.now _ c.in-Deref.is tt c.deref.new.heap c.deref.result c.deref.ensures refl
 
 pub call-requires-clause-known : goal.call-requires-clause-known
 call-requires-clause-known g c =
     subst (λ cmd. All (λ n. n < length c.args.heap.now.names) (command_texts cmd)) c.in-Call.is c.requires.spelled.known
 
 pub returns-in-Call : goal.returns-in-Call
-returns-in-Call g c = record {
-  performs =
-      subst (λ cmd. Performs c.args.heap.now c.args.locals (λ w. effect w cmd) c.args.heap.now c.call.result) (sym c.in-Call.is) c.call.ensures;
-  room = nothing_made c.call.result (makes_object c.args.command.now) c.args.room (ap makes_object c.in-Call.is);
-}
+returns-in-Call g c = plainly c.args.heap.now c.args.policy.now c.args.locals c.args.room c.args.command.now _ c.in-Call.is tt c.args.heap.now c.call.result c.call.ensures refl
 
 pub quit-requires-clause-known : goal.quit-requires-clause-known
 quit-requires-clause-known g c =
     subst (λ cmd. All (λ n. n < length c.args.heap.now.names) (command_texts cmd)) c.in-Quit.is c.requires.spelled.known
 
 pub returns-in-Quit : goal.returns-in-Quit
-returns-in-Quit g c = record {
-  performs =
-      subst (λ cmd. Performs c.args.heap.now c.args.locals (λ w. effect w cmd) c.args.heap.now c.quit.result) (sym c.in-Quit.is) c.quit.ensures;
-  room = nothing_made c.quit.result (makes_object c.args.command.now) c.args.room (ap makes_object c.in-Quit.is);
-}
+returns-in-Quit g c = plainly c.args.heap.now c.args.policy.now c.args.locals c.args.room c.args.command.now _ c.in-Quit.is tt c.args.heap.now c.quit.result c.quit.ensures refl
 
 pub print-requires-clause-known : goal.print-requires-clause-known
 print-requires-clause-known g c =
     subst (λ cmd. All (λ n. n < length c.args.heap.now.names) (command_texts cmd)) c.in-Print.is c.requires.spelled.known
 
 pub returns-in-Print : goal.returns-in-Print
-returns-in-Print g c = record {
-  performs =
-      subst (λ cmd. Performs c.args.heap.now c.args.locals (λ w. effect w cmd) c.args.heap.now c.print.result) (sym c.in-Print.is) c.print.ensures;
-  room = nothing_made c.print.result (makes_object c.args.command.now) c.args.room (ap makes_object c.in-Print.is);
-}
+returns-in-Print g c = plainly c.args.heap.now c.args.policy.now c.args.locals c.args.room c.args.command.now _ c.in-Print.is tt c.args.heap.now c.print.result c.print.ensures refl
 
 pub refs-requires-clause-known : goal.refs-requires-clause-known
 refs-requires-clause-known g c =
     subst (λ cmd. All (λ n. n < length c.args.heap.now.names) (command_texts cmd)) c.in-Refs.is c.requires.spelled.known
 
 pub returns-in-Refs : goal.returns-in-Refs
-returns-in-Refs g c = record {
-  performs =
-      subst (λ cmd. Performs c.args.heap.now c.args.locals (λ w. effect w cmd) c.args.heap.now c.refs.result) (sym c.in-Refs.is) c.refs.ensures;
-  room = nothing_made c.refs.result (makes_object c.args.command.now) c.args.room (ap makes_object c.in-Refs.is);
-}
+returns-in-Refs g c = plainly c.args.heap.now c.args.policy.now c.args.locals c.args.room c.args.command.now _ c.in-Refs.is tt c.args.heap.now c.refs.result c.refs.ensures refl
 
 pub tracked-requires-clause-known : goal.tracked-requires-clause-known
 tracked-requires-clause-known g c =
     subst (λ cmd. All (λ n. n < length c.args.heap.now.names) (command_texts cmd)) c.in-Tracked.is c.requires.spelled.known
 
 pub returns-in-Tracked : goal.returns-in-Tracked
-returns-in-Tracked g c = record {
-  performs =
-      subst (λ cmd. Performs c.args.heap.now c.args.locals (λ w. effect w cmd) c.args.heap.now c.tracked.result) (sym c.in-Tracked.is) c.tracked.ensures;
-  room = nothing_made c.tracked.result (makes_object c.args.command.now) c.args.room (ap makes_object c.in-Tracked.is);
-}
+returns-in-Tracked g c = plainly c.args.heap.now c.args.policy.now c.args.locals c.args.room c.args.command.now _ c.in-Tracked.is tt c.args.heap.now c.tracked.result c.tracked.ensures refl
 
 pub finalized-requires-clause-known : goal.finalized-requires-clause-known
 finalized-requires-clause-known g c =
     subst (λ cmd. All (λ n. n < length c.args.heap.now.names) (command_texts cmd)) c.in-Finalized.is c.requires.spelled.known
 
 pub returns-in-Finalized : goal.returns-in-Finalized
-returns-in-Finalized g c = record {
-  performs =
-      subst (λ cmd. Performs c.args.heap.now c.args.locals (λ w. effect w cmd) c.args.heap.now c.finalized.result) (sym c.in-Finalized.is) c.finalized.ensures;
-  room = nothing_made c.finalized.result (makes_object c.args.command.now) c.args.room (ap makes_object c.in-Finalized.is);
-}
+returns-in-Finalized g c = plainly c.args.heap.now c.args.policy.now c.args.locals c.args.room c.args.command.now _ c.in-Finalized.is tt c.args.heap.now c.finalized.result c.finalized.ensures refl
 
-pub make_list-requires-clause-known : goal.make_list-requires-clause-known
-make_list-requires-clause-known g c =
+pub make_list-made-requires-clause-known : goal.make_list-made-requires-clause-known
+make_list-made-requires-clause-known g c =
     subst (λ ops. All (λ n. n < length c.args.heap.now.names) (c.in-MakeList.name ∷ operands_texts ops)) (sym c.as_slice.ensures)
     (subst (λ cmd. All (λ n. n < length c.args.heap.now.names) (command_texts cmd)) c.in-MakeList.is c.requires.spelled.known)
 
-pub make_list-requires-clause-count : goal.make_list-requires-clause-count
-make_list-requires-clause-count g c =
+pub make_list-made-requires-clause-count : goal.make_list-made-requires-clause-count
+make_list-made-requires-clause-count g c =
     subst (λ ops. length ops ≤ 64) (sym c.as_slice.ensures) (subst HasFewWords c.in-MakeList.is c.requires.spelled.few_words)
 
 pub returns-in-MakeList : goal.returns-in-MakeList
-returns-in-MakeList g c = record {
-  performs =
-      subst (λ cmd. Performs c.args.heap.now c.args.locals (λ w. effect w cmd) c.make_list.new.heap c.make_list.result) (sym c.in-MakeList.is)
-      (subst (λ ops. Performs c.args.heap.now c.args.locals (λ w. effect w (command.MakeList c.in-MakeList.name ops)) c.make_list.new.heap c.make_list.result) c.as_slice.ensures c.make_list.ensures.performs);
-  room = made_in_room c.make_list.result (makes_object c.args.command.now) c.args.room c.make_list.ensures.room;
-}
+returns-in-MakeList g c =
+    let done = made_and_counted c.args.heap.now c.args.policy.now c.args.locals c.args.room c.args.command.now _ c.in-MakeList.is tt c.make_list-made.new.heap c.make_list-made.result (subst (λ ops. PerformsOnHeap c.args.heap.now c.args.locals (λ w. effect w (command.MakeList c.in-MakeList.name ops)) c.make_list-made.new.heap c.make_list-made.result) c.as_slice.ensures c.make_list-made.ensures.performs) refl c.make_list-made.ensures.room c.count.new.policy c.count.ensures.counts in
+    subst (Attempts c.args.heap.now c.args.policy.now c.args.locals c.args.room c.args.command.now c.make_list-made.new.heap c.count.new.policy) (sym c.count.ensures.same) done
 
-pub make_tuple-requires-clause-known : goal.make_tuple-requires-clause-known
-make_tuple-requires-clause-known g c =
+pub make_tuple-made-requires-clause-known : goal.make_tuple-made-requires-clause-known
+make_tuple-made-requires-clause-known g c =
     subst (λ ops. All (λ n. n < length c.args.heap.now.names) (c.in-MakeTuple.name ∷ operands_texts ops)) (sym c.as_slice-in-MakeTuple.ensures)
     (subst (λ cmd. All (λ n. n < length c.args.heap.now.names) (command_texts cmd)) c.in-MakeTuple.is c.requires.spelled.known)
 
-pub make_tuple-requires-clause-count : goal.make_tuple-requires-clause-count
-make_tuple-requires-clause-count g c =
+pub make_tuple-made-requires-clause-count : goal.make_tuple-made-requires-clause-count
+make_tuple-made-requires-clause-count g c =
     subst (λ ops. length ops ≤ 64) (sym c.as_slice-in-MakeTuple.ensures) (subst HasFewWords c.in-MakeTuple.is c.requires.spelled.few_words)
 
 pub returns-in-MakeTuple : goal.returns-in-MakeTuple
-returns-in-MakeTuple g c = record {
-  performs =
-      subst (λ cmd. Performs c.args.heap.now c.args.locals (λ w. effect w cmd) c.make_tuple.new.heap c.make_tuple.result) (sym c.in-MakeTuple.is)
-      (subst (λ ops. Performs c.args.heap.now c.args.locals (λ w. effect w (command.MakeTuple c.in-MakeTuple.name ops)) c.make_tuple.new.heap c.make_tuple.result) c.as_slice-in-MakeTuple.ensures c.make_tuple.ensures.performs);
-  room = made_in_room c.make_tuple.result (makes_object c.args.command.now) c.args.room c.make_tuple.ensures.room;
-}
+returns-in-MakeTuple g c =
+    let done = made_and_counted c.args.heap.now c.args.policy.now c.args.locals c.args.room c.args.command.now _ c.in-MakeTuple.is tt c.make_tuple-made.new.heap c.make_tuple-made.result (subst (λ ops. PerformsOnHeap c.args.heap.now c.args.locals (λ w. effect w (command.MakeTuple c.in-MakeTuple.name ops)) c.make_tuple-made.new.heap c.make_tuple-made.result) c.as_slice-in-MakeTuple.ensures c.make_tuple-made.ensures.performs) refl c.make_tuple-made.ensures.room c.count-in-MakeTuple.new.policy c.count-in-MakeTuple.ensures.counts in
+    subst (Attempts c.args.heap.now c.args.policy.now c.args.locals c.args.room c.args.command.now c.make_tuple-made.new.heap c.count-in-MakeTuple.new.policy) (sym c.count-in-MakeTuple.ensures.same) done
 
-pub make_function-requires-clause-known : goal.make_function-requires-clause-known
-make_function-requires-clause-known g c =
+pub make_function-made-requires-clause-known : goal.make_function-made-requires-clause-known
+make_function-made-requires-clause-known g c =
     subst (λ ops. All (λ n. n < length c.args.heap.now.names) (c.in-MakeFunc.name ∷ operands_texts ops)) (sym c.as_slice-in-MakeFunc.ensures)
     (subst (λ cmd. All (λ n. n < length c.args.heap.now.names) (command_texts cmd)) c.in-MakeFunc.is c.requires.spelled.known)
 
-pub make_function-requires-clause-count : goal.make_function-requires-clause-count
-make_function-requires-clause-count g c =
+pub make_function-made-requires-clause-count : goal.make_function-made-requires-clause-count
+make_function-made-requires-clause-count g c =
     subst (λ ops. length ops ≤ 8) (sym c.as_slice-in-MakeFunc.ensures) (subst HasFewWords c.in-MakeFunc.is c.requires.spelled.few_words)
 
 pub returns-in-MakeFunc : goal.returns-in-MakeFunc
-returns-in-MakeFunc g c = record {
-  performs =
-      subst (λ cmd. Performs c.args.heap.now c.args.locals (λ w. effect w cmd) c.make_function.new.heap c.make_function.result) (sym c.in-MakeFunc.is)
-      (subst (λ ops. Performs c.args.heap.now c.args.locals (λ w. effect w (command.MakeFunc c.in-MakeFunc.name c.in-MakeFunc.proc ops)) c.make_function.new.heap c.make_function.result) c.as_slice-in-MakeFunc.ensures c.make_function.ensures.performs);
-  room = made_in_room c.make_function.result (makes_object c.args.command.now) c.args.room c.make_function.ensures.room;
-}
+returns-in-MakeFunc g c =
+    let done = made_and_counted c.args.heap.now c.args.policy.now c.args.locals c.args.room c.args.command.now _ c.in-MakeFunc.is tt c.make_function-made.new.heap c.make_function-made.result (subst (λ ops. PerformsOnHeap c.args.heap.now c.args.locals (λ w. effect w (command.MakeFunc c.in-MakeFunc.name c.in-MakeFunc.proc ops)) c.make_function-made.new.heap c.make_function-made.result) c.as_slice-in-MakeFunc.ensures c.make_function-made.ensures.performs) refl c.make_function-made.ensures.room c.count-in-MakeFunc.new.policy c.count-in-MakeFunc.ensures.counts in
+    subst (Attempts c.args.heap.now c.args.policy.now c.args.locals c.args.room c.args.command.now c.make_function-made.new.heap c.count-in-MakeFunc.new.policy) (sym c.count-in-MakeFunc.ensures.same) done
+
+pub returns-in-Collect : goal.returns-in-Collect
+returns-in-Collect g c =
+    let asked = subst (λ z. IsAsked z c.collect.result) (read_back c.number-in-Collect.result c.number-in-Collect.type_inv ∙ c.number-in-Collect.ensures) c.collect.ensures in
+    asks c.args.heap.now c.args.policy.now c.args.locals c.in-Collect.generation c.args.room c.args.command.now c.in-Collect.is c.collect.result asked
+
+pub returns-in-Enable : goal.returns-in-Enable
+returns-in-Enable g c =
+    sets c.args.heap.now c.args.policy.now c.args.locals c.args.room c.args.command.now _ c.in-Enable.is (λ own. own) refl (with_enabled true) (λ w. refl) c.set_enabled.new.self c.set_enabled.ensures c.told.result c.told.ensures
+
+pub returns-in-Disable : goal.returns-in-Disable
+returns-in-Disable g c =
+    sets c.args.heap.now c.args.policy.now c.args.locals c.args.room c.args.command.now _ c.in-Disable.is (λ own. own) refl (with_enabled false) (λ w. refl) c.set_enabled-in-Disable.new.self c.set_enabled-in-Disable.ensures c.told-in-Disable.result c.told-in-Disable.ensures
+
+pub returns-in-Threshold : goal.returns-in-Threshold
+returns-in-Threshold g c =
+    sets c.args.heap.now c.args.policy.now c.args.locals c.args.room c.args.command.now _ c.in-Threshold.is (λ own. own) refl (with_thresholds c.in-Threshold.first c.in-Threshold.second c.in-Threshold.third) (λ w. refl) c.set_threshold.new.self c.set_threshold.ensures c.told-in-Threshold.result c.told-in-Threshold.ensures
+
+pub returns-in-Flags : goal.returns-in-Flags
+returns-in-Flags g c =
+    sets c.args.heap.now c.args.policy.now c.args.locals c.args.room c.args.command.now _ c.in-Flags.is (λ own. own) refl (with_flags c.in-Flags.bits) (λ w. refl) c.set_flags.new.self
+    (c.set_flags.ensures ∙ ap (λ bits. with_numbers (with_flags bits c.args.policy.now.numbers) c.args.policy.now) (c.from_bits_retain.ensures tt)) c.told-in-Flags.result c.told-in-Flags.ensures
+
+pub returns-in-Freeze : goal.returns-in-Freeze
+returns-in-Freeze g c =
+    replaces c.args.heap.now c.args.policy.now c.args.locals c.args.room c.args.command.now _ c.in-Freeze.is (λ own. own) refl frozen with_zero_counts (λ w. refl) c.freeze.new.heap c.freeze.ensures c.zero_counts.new.self c.zero_counts.ensures c.told-in-Freeze.result c.told-in-Freeze.ensures
+
+pub returns-in-Unfreeze : goal.returns-in-Unfreeze
+returns-in-Unfreeze g c =
+    replaces c.args.heap.now c.args.policy.now c.args.locals c.args.room c.args.command.now _ c.in-Unfreeze.is (λ own. own) refl unfrozen (λ n. n) (λ w. refl) c.unfreeze.new.heap c.unfreeze.ensures c.args.policy.now refl c.told-in-Unfreeze.result c.told-in-Unfreeze.ensures
+
+pub returns-in-Count : goal.returns-in-Count
+returns-in-Count g c =
+    tells c.args.heap.now c.args.policy.now c.args.locals c.args.room c.args.command.now _ c.in-Count.is (λ own. own) refl (λ w. event.Count w.numbers.zero_count w.numbers.one_count w.numbers.two_count) (λ w. refl) c.counts.result
+    (λ w r same. ap (λ (p : Policy). event.Count p.numbers.zero_count p.numbers.one_count p.numbers.two_count) (sym same) ∙ sym c.counts.ensures) c.told-in-Count.result c.told-in-Count.ensures
+
+pub returns-in-Gens : goal.returns-in-Gens
+returns-in-Gens g c =
+    tells c.args.heap.now c.args.policy.now c.args.locals c.args.room c.args.command.now _ c.in-Gens.is (λ own. own) refl (λ w. gens_line w.objects) (λ w. refl) c.sizes.result
+    (λ w r same. ap gens_line (sym r.objects) ∙ sym c.sizes.ensures) c.told-in-Gens.result c.told-in-Gens.ensures
+

@@ -4,5 +4,7 @@ use Rattle.cg_commands.proofs.dispatch.perform.Goals as goal
 pub returns : goal.returns
 returns g c = record {
   performs = c.attempt.ensures.performs;
-  grows = λ w stands. grows c.args.command.now w c.args.room c.args.heap.now c.attempt.new.heap c.attempt.result stands.represents (c.attempt.ensures.performs w stands) c.attempt.ensures.room;
+  leaves = c.attempt.ensures.leaves;
+  grows = λ w stands policy.
+      grows c.args.command.now w c.args.room c.args.heap.now c.attempt.new.heap c.attempt.result stands.represents (c.attempt.ensures.performs w stands policy).heap c.attempt.ensures.in_room;
 }

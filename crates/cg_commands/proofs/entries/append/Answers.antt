@@ -10,7 +10,7 @@ use Rattle.cg_commands.proofs.Chains.{stops, goes_on}
 use Rattle.cg_commands.proofs.Steps.{reads-object}
 use Rattle.cg_commands.proofs.EntryLemmas.{appends, has_code, not_garbage}
 use Rattle.cg_commands.proofs.Limits.{fault-refused}
-use Rattle.cg_commands.specs.Answers.{Performs}
+use Rattle.cg_commands.specs.Answers.{PerformsOnHeap}
 use Rattle.cg_script.specs.declared.command.Command.TheVariants as command
 use Rattle.cg_machine.specs.Commands.{effect}
 use Rattle.cg_machine.specs.World.{with_change}
@@ -53,7 +53,7 @@ returns-in-Ok g c =
 
 pub returns-in-Err : goal.returns-in-Err
 returns-in-Err g c =
-    subst (λ r. Performs c.args.heap.now c.args.locals (λ w. effect w (command.Append c.args.list c.args.operand)) c.append.new.self (Err r)) (sym c.refusal_by.ensures)
+    subst (λ r. PerformsOnHeap c.args.heap.now c.args.locals (λ w. effect w (command.Append c.args.list c.args.operand)) c.append.new.self (Err r)) (sym c.refusal_by.ensures)
     (goes_on c.args.heap.now c.append.new.self c.args.locals (λ w. value w c.args.list) c.in_ok-list.list _ (Err _) c.in_ok-list.ensures.ok
     (goes_on c.args.heap.now c.append.new.self c.args.locals (λ w. value w c.args.operand) c.in_ok-val.val _ (Err _) c.in_ok-val.ensures.ok
     (goes_on c.args.heap.now c.append.new.self c.args.locals (λ w. object w (test_of wanted.ScriptList) (number_of (refusal_of wanted.ScriptList)) c.in_ok-list.list) (object_from c.args.heap.now.rows c.in_ok-target.target c.in_ok-target.ensures.ok.node) _ (Err _) (reads-object c.args.heap.now c.args.locals (test_of wanted.ScriptList) c.in_ok-list.list c.in_ok-target.target c.in_ok-target.ensures.ok (number_of (refusal_of wanted.ScriptList)))

@@ -9,7 +9,7 @@ use Rattle.cg_commands.specs.Objects.{test_of, refusal_of}
 use Rattle.cg_commands.proofs.Chains.{stops, goes_on}
 use Rattle.cg_commands.proofs.Steps.{reads-object}
 use Rattle.cg_commands.proofs.EntryLemmas.{has_code}
-use Rattle.cg_commands.specs.Answers.{Performs}
+use Rattle.cg_commands.specs.Answers.{PerformsOnHeap}
 use Rattle.cg_script.specs.declared.command.Command.TheVariants as command
 use Rattle.cg_machine.specs.Commands.{effect}
 use Rattle.cg_commands.proofs.PutLemmas.{puts-performs, puts-refused}
@@ -54,7 +54,7 @@ returns-in-Ok g c =
 
 pub returns-in-Err : goal.returns-in-Err
 returns-in-Err g c =
-    subst (λ r. Performs c.args.heap.now c.args.locals (λ w. effect w (command.SetAttr c.args.instance c.args.attr c.args.operand)) c.put.new.self (Err r)) (sym c.refusal_by.ensures)
+    subst (λ r. PerformsOnHeap c.args.heap.now c.args.locals (λ w. effect w (command.SetAttr c.args.instance c.args.attr c.args.operand)) c.put.new.self (Err r)) (sym c.refusal_by.ensures)
     (goes_on c.args.heap.now c.put.new.self c.args.locals (λ w. value w c.args.instance) c.in_ok-instance.instance _ (Err (refusal_by c.in-Err.fault)) c.in_ok-instance.ensures.ok
     (goes_on c.args.heap.now c.put.new.self c.args.locals (λ w. value w c.args.operand) c.in_ok-val.val _ (Err (refusal_by c.in-Err.fault)) c.in_ok-val.ensures.ok
     (goes_on c.args.heap.now c.put.new.self c.args.locals (λ w. object w (test_of wanted.Inst) (number_of (refusal_of wanted.Inst)) c.in_ok-instance.instance) (object_from c.args.heap.now.rows c.in_ok-target.target c.in_ok-target.ensures.ok.node) _ (Err (refusal_by c.in-Err.fault)) (reads-object c.args.heap.now c.args.locals (test_of wanted.Inst) c.in_ok-instance.instance c.in_ok-target.target c.in_ok-target.ensures.ok (number_of (refusal_of wanted.Inst)))

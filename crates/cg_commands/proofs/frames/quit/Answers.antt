@@ -1,9 +1,7 @@
-use Rattle.std.proofs.Common.{None, Ok}
+use Rattle.std.proofs.Common.{Ok}
 use Rattle.std.proofs.lemmas.Result.{err_from_is_err_and}
-use Rattle.cg_value.specs.declared.Val.TheVariants as val
 use Rattle.cg_machine.specs.Operands.{value}
 use Rattle.cg_commands.specs.declared.done.Done.TheVariants as done
-use Rattle.cg_graph.specs.Value.{item}
 use Rattle.cg_commands.proofs.Chains.{stops, goes_on}
 use Rattle.cg_commands.proofs.QueryLemmas.{quits-performs, stays-performs}
 use Rattle.cg_commands.proofs.frames.quit.Goals as goal
@@ -20,5 +18,5 @@ returns-in-None g c =
 
 pub returns-in_default : goal.returns-in_default
 returns-in_default g c =
-    (goes_on c.args.heap.now c.args.heap.now c.args.locals (λ w. value w c.args.operand) c.in_ok-val.val _ (Ok (done.Changed None (item val.None))) c.in_ok-val.ensures.ok
-    (stays-performs c.args.heap.now c.args.locals c.in_ok-val.val c.in_default.not-None))
+    (goes_on c.args.heap.now c.args.heap.now c.args.locals (λ w. value w c.args.operand) c.in_ok-val.val _ (Ok c.told.result) c.in_ok-val.ensures.ok
+    (stays-performs c.args.heap.now c.args.locals c.in_ok-val.val c.in_default.not-None c.told.result c.told.ensures))

@@ -2,7 +2,7 @@ use Rattle.std.proofs.Common.{refl, sym, ◌∙◌, ap, subst, ◌≤◌, Err}
 use Rattle.std.specs.Prelude.{slice_get}
 use Rattle.cg_heap.specs.Keeps.{outside_total}
 use Rattle.cg_machine.specs.Effects.{makes}
-use Rattle.cg_commands.specs.Answers.{Performs}
+use Rattle.cg_commands.specs.Answers.{PerformsOnHeap}
 use Rattle.cg_commands.proofs.MakeLemmas.{makes-performs, makes-refused, held_at, made_total}
 use Rattle.cg_commands.proofs.makes.make_bound.Goals as goal
 
@@ -27,7 +27,7 @@ returns-in-Ok g c = record {
 pub returns-in-Err : goal.returns-in-Err
 returns-in-Err g c = record {
   performs =
-      subst (λ r. Performs c.args.heap.now c.args.locals (λ w. makes w c.args.name c.args.code c.args.class c.args.parts.now c.args.referent) c.make_where_room.new.heap (Err r)) (sym c.refusal_by.ensures)
+      subst (λ r. PerformsOnHeap c.args.heap.now c.args.locals (λ w. makes w c.args.name c.args.code c.args.class c.args.parts.now c.args.referent) c.make_where_room.new.heap (Err r)) (sym c.refusal_by.ensures)
       (makes-refused c.args.heap.now c.sound.ensures c.args.locals c.args.name c.args.code c.args.class c.args.parts.now c.args.referent c.in-Err.fault (Err c.in-Err.fault) refl c.in-Err.ensures.object_limit c.in-Err.ensures.entry_limit c.make_where_room.new.heap c.in-Err.ensures.err);
   room = tt;
 }

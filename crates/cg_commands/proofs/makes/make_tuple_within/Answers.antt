@@ -5,7 +5,7 @@ use Rattle.cg_machine.specs.Operands.{values}
 use Rattle.cg_commands.proofs.Chains.{stops, goes_on}
 use Rattle.std.proofs.lemmas.List.Elements.{All-tail}
 use Rattle.cg_commands.proofs.PartLemmas.{items-are}
-use Rattle.cg_commands.specs.Answers.{Performs}
+use Rattle.cg_commands.specs.Answers.{PerformsOnHeap}
 use Rattle.cg_machine.specs.Effects.{makes}
 use Rattle.cg_value.specs.declared.KindCode.TheVariants as kind
 use Rattle.cg_script.specs.Texts.{operands_texts}
@@ -34,7 +34,7 @@ pub returns : goal.returns
 returns g c = record {
   performs =
       (goes_on c.args.heap.now c.make_bound.new.heap c.args.locals (λ w. values w c.args.items.now) c.in_ok-parts.ensures.ok.vals _ c.make_bound.result c.in_ok-parts.ensures.ok.reads
-      (subst (λ ps. Performs c.args.heap.now c.args.locals (λ w. makes w c.args.name kind.Tuple None ps None) c.make_bound.new.heap c.make_bound.result) (c.as_slice.ensures ∙ c.in_ok-parts.ensures.ok.items) c.make_bound.ensures.performs));
+      (subst (λ ps. PerformsOnHeap c.args.heap.now c.args.locals (λ w. makes w c.args.name kind.Tuple None ps None) c.make_bound.new.heap c.make_bound.result) (c.as_slice.ensures ∙ c.in_ok-parts.ensures.ok.items) c.make_bound.ensures.performs));
   room = c.make_bound.ensures.room;
 }
 

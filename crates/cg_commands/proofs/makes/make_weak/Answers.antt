@@ -10,7 +10,7 @@ use Rattle.cg_commands.specs.Objects.{test_of, refusal_of}
 use Rattle.cg_commands.proofs.Chains.{stops, goes_on}
 use Rattle.cg_commands.proofs.Steps.{reads-object}
 use Rattle.cg_commands.proofs.PartLemmas.{items-are}
-use Rattle.cg_commands.specs.Answers.{Performs}
+use Rattle.cg_commands.specs.Answers.{PerformsOnHeap}
 use Rattle.cg_machine.specs.Effects.{makes, callback_entries}
 use Rattle.cg_value.specs.declared.KindCode.TheVariants as kind
 use Rattle.cg_commands.proofs.makes.make_weak.Goals as goal
@@ -71,6 +71,6 @@ returns g c = record {
       (goes_on c.args.heap.now c.make_bound.new.heap c.args.locals (λ w. value w c.args.callback) c.in_ok-callback.callback _ c.make_bound.result c.in_ok-callback.ensures.ok
       (goes_on c.args.heap.now c.make_bound.new.heap c.args.locals (λ w. object w (test_of wanted.Referable) (number_of (refusal_of wanted.Referable)) c.in_ok-val.val) (object_from c.args.heap.now.rows c.in_ok-referent.referent c.in_ok-referent.ensures.ok.node) _ c.make_bound.result (reads-object c.args.heap.now c.args.locals (test_of wanted.Referable) c.in_ok-val.val c.in_ok-referent.referent c.in_ok-referent.ensures.ok (number_of (refusal_of wanted.Referable)))
       (goes_on c.args.heap.now c.make_bound.new.heap c.args.locals (λ w. callback_entries w c.in_ok-callback.callback) c.in_ok-parts.parts _ c.make_bound.result c.in_ok-parts.ensures.ok.reads
-      (subst (λ ps. Performs c.args.heap.now c.args.locals (λ w. makes w c.args.name kind.Weak None ps (Some c.in_ok-referent.referent)) c.make_bound.new.heap c.make_bound.result) c.as_slice.ensures c.make_bound.ensures.performs)))));
+      (subst (λ ps. PerformsOnHeap c.args.heap.now c.args.locals (λ w. makes w c.args.name kind.Weak None ps (Some c.in_ok-referent.referent)) c.make_bound.new.heap c.make_bound.result) c.as_slice.ensures c.make_bound.ensures.performs)))));
   room = c.make_bound.ensures.room;
 }

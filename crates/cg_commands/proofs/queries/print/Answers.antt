@@ -13,5 +13,5 @@ returns-in_err-val g c =
 
 pub returns : goal.returns
 returns g c =
-    (goes_on c.args.heap.now c.args.heap.now c.args.locals (λ w. value w c.args.operand) c.in_ok-val.val _ (Ok c.printed.result) c.in_ok-val.ensures.ok
-    (prints-performs c.args.heap.now c.args.locals (event.Value c.in_ok-val.val) c.printed.result c.printed.ensures))
+    (goes_on c.args.heap.now c.args.heap.now c.args.locals (λ w. value w c.args.operand) c.in_ok-val.val _ (Ok c.told.result) c.in_ok-val.ensures.ok
+    (prints-performs c.args.heap.now c.args.locals (event.Value c.in_ok-val.val) c.told.result c.told.ensures))

@@ -23,6 +23,6 @@ returns-in_err-target g c =
 
 pub returns : goal.returns
 returns g c =
-    (goes_on c.args.heap.now c.args.heap.now c.args.locals (λ w. value w c.args.operand) c.in_ok-val.val _ (Ok c.printed.result) c.in_ok-val.ensures.ok
-    (goes_on c.args.heap.now c.args.heap.now c.args.locals (λ w. object w (test_of wanted.Any) (number_of (refusal_of wanted.Any)) c.in_ok-val.val) (object_from c.args.heap.now.rows c.in_ok-target.target c.in_ok-target.ensures.ok.node) _ (Ok c.printed.result) (reads-object c.args.heap.now c.args.locals (test_of wanted.Any) c.in_ok-val.val c.in_ok-target.target c.in_ok-target.ensures.ok (number_of (refusal_of wanted.Any)))
-    (prints-count c.args.heap.now c.args.locals c.in_ok-target.target c.refs-count.result c.refs-count.ensures.count c.printed.result c.printed.ensures)))
+    (goes_on c.args.heap.now c.args.heap.now c.args.locals (λ w. value w c.args.operand) c.in_ok-val.val _ (Ok c.told.result) c.in_ok-val.ensures.ok
+    (goes_on c.args.heap.now c.args.heap.now c.args.locals (λ w. object w (test_of wanted.Any) (number_of (refusal_of wanted.Any)) c.in_ok-val.val) (object_from c.args.heap.now.rows c.in_ok-target.target c.in_ok-target.ensures.ok.node) _ (Ok c.told.result) (reads-object c.args.heap.now c.args.locals (test_of wanted.Any) c.in_ok-val.val c.in_ok-target.target c.in_ok-target.ensures.ok (number_of (refusal_of wanted.Any)))
+    (prints-count c.args.heap.now c.args.locals c.in_ok-target.target c.refs-count.result c.refs-count.ensures.count c.told.result c.told.ensures)))

@@ -14,5 +14,5 @@ returns-in_err-val g c =
 
 pub returns : goal.returns
 returns g c =
-    (goes_on c.args.heap.now c.args.heap.now c.args.locals (λ w. value w c.args.operand) c.in_ok-val.val _ (Ok c.printed.result) c.in_ok-val.ensures.ok
-    (prints-told c.args.heap.now c.args.locals event.Tracked is_tracked c.in_ok-val.val c.is_tracked-answer.result c.is_tracked-answer.ensures c.printed.result c.printed.ensures))
+    (goes_on c.args.heap.now c.args.heap.now c.args.locals (λ w. value w c.args.operand) c.in_ok-val.val _ (Ok c.told.result) c.in_ok-val.ensures.ok
+    (prints-told c.args.heap.now c.args.locals event.Tracked is_tracked c.in_ok-val.val c.is_tracked-answer.result c.is_tracked-answer.ensures c.told.result c.told.ensures))

@@ -1,39 +1,40 @@
 use Rattle.std.proofs.Common.{sym, subst}
-use Rattle.cg_machine.specs.Commands.{effect}
-use Rattle.cg_machine.specs.Represents.{Represents}
 use Rattle.cg_heap.specs.Calls.{HasFewHolds}
-use Rattle.cg_graph.specs.Store.{IsLive}
-use Rattle.cg_commands.specs.Answers.{Performs}
-use Rattle.cg_interp.specs.Engines.{StandsFor, under}
-use Rattle.cg_interp.proofs.AnswerLemmas.{calls_known}
-use Rattle.cg_interp.proofs.Keeping.{still_fit}
+use Rattle.cg_interp.specs.Engines.{State, StandsFor, under}
+use Rattle.cg_interp.specs.Callers.{StaysKeptAfter}
 use Rattle.cg_interp.proofs.Fitting.{fit_after}
+use Rattle.cg_interp.proofs.UnderWay.{policy_is}
 use Rattle.cg_interp.proofs.engine.Engine.carry_out.Goals as goal
 
-pub answer-requires-clause-few : goal.answer-requires-clause-few
-answer-requires-clause-few g c = λ f is.
+pub answer-requires-clause-fit : goal.answer-requires-clause-fit
+answer-requires-clause-fit g c =
     let s = c.requires.stands in
-    let known = calls_known s.1 c.args.command.now c.args.locals c.self.inside.heap c.perform-done.new.heap f c.requires.objects (record { represents = subst (λ e. Represents e.store s.1) (sym c.self.view_is) s.2.represents; locals_are = s.3 })
-    (subst (λ d. Performs c.self.inside.heap c.args.locals (λ w. effect w c.args.command.now) c.perform-done.new.heap d) is c.perform-done.ensures.performs) in
-    subst HasFewHolds (sym known.0) (subst (λ e. HasFewHolds e.store) (sym c.self.view_is) c.requires.few)
+    let before = subst (λ e. StandsFor c.args.script.now (under c.args.top e) s.0) (sym c.self.view_is) s.1 in
+    fit_after c.args.script.now c.args.room c.args.self.now _ c.self.view_is c.perform-done.new.heap c.perform-done.new.policy
+    (c.perform-done.ensures.grows s.0 (record { represents = before.represents; locals_are = s.2 }) (policy_is c.args.script.now _ s.0 before)) c.requires.one_more c.requires.fit
 
-pub answer-requires-clause-live : goal.answer-requires-clause-live
-answer-requires-clause-live g c = λ f is.
+pub answer-requires-clause-performed : goal.answer-requires-clause-performed
+answer-requires-clause-performed g c =
     let s = c.requires.stands in
-    let known = calls_known s.1 c.args.command.now c.args.locals c.self.inside.heap c.perform-done.new.heap f c.requires.objects (record { represents = subst (λ e. Represents e.store s.1) (sym c.self.view_is) s.2.represents; locals_are = s.3 })
-    (subst (λ d. Performs c.self.inside.heap c.args.locals (λ w. effect w c.args.command.now) c.perform-done.new.heap d) is c.perform-done.ensures.performs) in
-    subst (λ st. IsLive st f) (sym known.0) known.1
+    let before = subst (λ e. StandsFor c.args.script.now (under c.args.top e) s.0) (sym c.self.view_is) s.1 in
+    record {
+      world = s.0;
+      command = c.args.command.now;
+      before = c.self.inside.heap;
+      was = c.self.inside.policy;
+      few = subst (λ (e : State). HasFewHolds e.store) (sym c.self.view_is) c.requires.few;
+      performed = record {
+        stood = before;
+        answers = c.perform-done.ensures.performs s.0 (record { represents = before.represents; locals_are = s.2 }) (policy_is c.args.script.now _ s.0 before);
+        kept = subst (λ (e : State). StaysKeptAfter c.args.script.now e.frames s.0 c.args.command.now) (sym c.self.view_is) s.3;
+      };
+    }
 
 pub returns-clause-does : goal.returns-clause-does
-returns-clause-does g c =
-    λ script w stands locals.
-    let before = subst (λ e. StandsFor script (under c.args.top e) w) (sym c.self.view_is) stands in
-    c.answer.ensures.does script w c.args.command.now c.self.inside.heap before c.requires.objects (c.perform-done.ensures.performs w (record { represents = before.represents; locals_are = locals }))
-
-pub returns-clause-fit : goal.returns-clause-fit
-returns-clause-fit g c = λ script fit.
-    let s = c.requires.stands in
-    let before = subst (λ e. Represents e.store s.1) (sym c.self.view_is) s.2.represents in
-    still_fit script _ c.answer.new.self c.answer.ensures.keeps
-    (fit_after script c.args.room c.args.self.now _ c.self.view_is c.perform-done.new.heap
-    (c.perform-done.ensures.grows s.1 (record { represents = before; locals_are = s.3 })) c.requires.one_more fit)
+returns-clause-does g c = λ w stands locals kept.
+    let before = subst (λ e. StandsFor c.args.script.now (under c.args.top e) w) (sym c.self.view_is) stands in
+    c.answer.ensures.does w c.args.command.now c.self.inside.heap c.self.inside.policy (record {
+      stood = before;
+      answers = c.perform-done.ensures.performs w (record { represents = before.represents; locals_are = locals }) (policy_is c.args.script.now _ w before);
+      kept = subst (λ (e : State). StaysKeptAfter c.args.script.now e.frames w c.args.command.now) (sym c.self.view_is) kept;
+    })

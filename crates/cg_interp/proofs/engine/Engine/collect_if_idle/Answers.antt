@@ -1,10 +1,10 @@
 use Rattle.std.proofs.Common.{refl, sym, ◌∙◌, ap, subst, [], ◌∷◌, true, inl, inr}
 use Rattle.cg_machine.specs.declared.event.Event.TheVariants.{Collected}
 use Rattle.cg_machine.specs.World.{push}
-use Rattle.cg_machine.specs.Commands.{new_collection}
 use Rattle.cg_interp.specs.Engines.{State, StandsFor, under}
 use Rattle.cg_interp.proofs.CallerLemmas.{same_engine}
-use Rattle.cg_interp.proofs.ControlLemmas.{busy_may, idle_may}
+use Rattle.cg_machine.specs.Commands.{effect, new_collection}
+use Rattle.cg_interp.proofs.AnswerLemmas.{busy_may, idle_may}
 use Rattle.cg_interp.proofs.UnderWay.{runs_in}
 use Rattle.cg_interp.proofs.engine.Engine.collect_if_idle.Goals as goal
 
@@ -12,14 +12,14 @@ pub collect-requires-clause-stands : goal.collect-requires-clause-stands
 collect-requires-clause-stands g c =
     let s = c.requires.stands in
     let idle = sym (runs_in c.args.script.now (under c.args.top c.args.self.now) s.1 s.2) ∙ sym (ap (λ (e : State). e.policy.running) c.self.view_is) ∙ sym c.running.ensures ∙ c.if-running.false in
-    (s.1, s.2, s.4 [] (push (new_collection c.args.generation true s.1) s.1) (idle_may c.args.script.now s.1 s.0 c.args.generation s.3 idle))
+    (s.1, s.2, s.4 [] (push (new_collection c.args.generation true s.1) s.1) (idle_may c.args.script.now s.1 (effect s.1 s.0) c.args.generation s.3 idle))
 
 pub returns-then-running-clause-does : goal.returns-then-running-clause-does
 returns-then-running-clause-does g c = λ command w stands is kept.
     let busy = sym (runs_in c.args.script.now (under c.args.top c.args.self.now) w stands) ∙ sym (ap (λ (e : State). e.policy.running) c.self.view_is) ∙ sym c.running.ensures ∙ c.if-running.true in
     inl (record {
       transition = (Collected 0 ∷ [], w);
-      may = busy_may c.args.script.now w command c.args.generation is busy;
+      may = busy_may c.args.script.now w (effect w command) c.args.generation is busy;
       makes = (
         refl,
         subst (λ (e : State). StandsFor c.args.script.now (record e { activities = c.push.new.self.activities; room = c.push.new.self.room }) w) (sym c.self.view_is)
@@ -31,7 +31,7 @@ returns-then-running-clause-does g c = λ command w stands is kept.
 pub returns-else-running-clause-does : goal.returns-else-running-clause-does
 returns-else-running-clause-does g c = λ command w stands is kept.
     let idle = sym (runs_in c.args.script.now (under c.args.top c.args.self.now) w stands) ∙ sym (ap (λ (e : State). e.policy.running) c.self.view_is) ∙ sym c.running.ensures ∙ c.if-running.false in
-    let may = idle_may c.args.script.now w command c.args.generation is idle in
+    let may = idle_may c.args.script.now w (effect w command) c.args.generation is idle in
     inr (record {
       generation = c.args.generation;
       may = may;

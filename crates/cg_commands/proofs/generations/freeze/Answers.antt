@@ -2,9 +2,9 @@ use Rattle.std.proofs.Common.{sym, ◌∙◌, ap, subst}
 use Rattle.cg_value.specs.declared.Place.TheVariants.{Gen, Frozen}
 use Rattle.cg_heap.specs.Calls.{merged}
 use Rattle.cg_machine.specs.Effects.{frozen}
-use Rattle.cg_controls.specs.Places.{Replaces}
-use Rattle.cg_controls.proofs.Replacing.{freezes}
-use Rattle.cg_controls.proofs.generations.freeze.Goals as goal
+use Rattle.cg_commands.specs.Places.{Replaces}
+use Rattle.cg_commands.proofs.Replacing.{freezes}
+use Rattle.cg_commands.proofs.generations.freeze.Goals as goal
 
 pub returns : goal.returns
 returns g c =

@@ -1,14 +1,16 @@
-//! The generations as `freeze`, `unfreeze`, `gens` and `collect` see them.
+//! The generations as the commands of the collector see them: `freeze`, `unfreeze`, `gens`, `count` and `collect`.
 ghost use Rattle.std.specs.Prelude.{◌≡◌};
 ghost use Rattle.cg_graph.specs.Store.{objects_of};
+ghost use Rattle.cg_machine.specs.declared.event.Event.TheVariants as event;
 ghost use Rattle.cg_machine.specs.Effects.{frozen, unfrozen, gens_line};
-ghost use Rattle.cg_controls.specs.Places.{Replaces};
-ghost use Rattle.cg_controls.specs.Answers.{IsAsked};
+ghost use Rattle.cg_commands.specs.Controls.{IsAsked};
+ghost use Rattle.cg_commands.specs.Places.{Replaces};
 
-use crate::controlled::{BadGeneration, Controlled};
+use crate::done::{Done, Refusal};
 use cg_heap::Heap;
 use cg_kind::Kind;
 use cg_machine::Event;
+use cg_policy::Policy;
 use cg_value::Place;
 
 /// The objects of the generations go to the permanent one. (`gc.freeze`.)
@@ -41,16 +43,29 @@ pub(crate) fn sizes<B: Kind>(heap: &Heap<B>) -> Event
     }
 }
 
+/// The three counts.
+pub(crate) fn counts(policy: &Policy) -> Event
+    ensures { result ≡ event.Count policy.now.numbers.zero_count policy.now.numbers.one_count
+        policy.now.numbers.two_count }
+{
+    let counts = policy.counts();
+    Event::Count {
+        zero: counts.zero,
+        one: counts.one,
+        two: counts.two,
+    }
+}
+
 /// A collection of the generation that a `collect` names. (`gc.collect`: the number is 0 to 2.)
-pub(crate) fn collect(generation: i64) -> Result<Controlled, BadGeneration>
+pub(crate) fn collect(generation: i64) -> Result<Done, Refusal>
     ensures { IsAsked generation result }
 {
     if generation < 0 {
-        return Err(BadGeneration);
+        return Err(Refusal::BadGeneration);
     }
     if generation < 3 {
-        Ok(Controlled::Collects(generation as u8))
+        Ok(Done::Collects(generation as u8))
     } else {
-        Err(BadGeneration)
+        Err(Refusal::BadGeneration)
     }
 }

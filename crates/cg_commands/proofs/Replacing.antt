@@ -16,7 +16,7 @@ use Rattle.cg_graph.specs.Maps.{mapped}
 use Rattle.cg_heap.specs.Calls.{merged, place_merged, IsListed}
 use Rattle.cg_heap.proofs.CallerLemmas.{total-merged}
 use Rattle.cg_machine.specs.Effects.{frozen, unfrozen}
-use Rattle.cg_controls.specs.Places.{Replaces}
+use Rattle.cg_commands.specs.Places.{Replaces}
 
 -- the outside holds and the waiting weak references after a merge
 module _ (p q : Place) (store : Store) where

@@ -1,3 +1,0 @@
-mod Replacing
-mod Sizing
-mod Answering
