@@ -24,4 +24,3 @@ pub mod SteadyRows
 pub mod SteadySteps
 pub mod HoldNumbers
 pub mod NamesKept
-mod ClassesKept

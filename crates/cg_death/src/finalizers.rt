@@ -36,7 +36,6 @@ const NO_FINALIZERS: Finalizers = Finalizers {
 };
 
 /// The finalizers of the class with a number; none where there is no such class.
-#[tactic(auto, using(crate::proofs::ClassesKept::classes_kept))]
 fn finalizers_in(items: &Items, class: u32) -> Finalizers
     ensures del { result.del ≡ option_and_then (λ c. c.del) (slice_get (classes items.now) class) }
     ensures legacy { result.legacy ≡ option_and_then (λ c. c.legacy) (slice_get (classes items.now) class) }

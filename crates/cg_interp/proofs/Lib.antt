@@ -1,4 +1,4 @@
-mod Positions
+mod NextCommands
 mod Opens
 mod Counting
 mod Sizes

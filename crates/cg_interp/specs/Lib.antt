@@ -1,5 +1,4 @@
 pub mod Stacks
-pub mod Tables
 pub mod Engines
 pub mod Releases
 pub mod Turns

@@ -8,14 +8,13 @@ ghost use Rattle.cg_collect.specs.Numbers.{AreSmall};
 ghost use Rattle.cg_commands.specs.Stands.{LocalsLive, HasLocals};
 ghost use Rattle.cg_interp.specs.declared.activity.Activity.TheVariants as activity_of;
 ghost use Rattle.cg_interp.specs.Engines.{StandsFor, under, commands_from};
-ghost use Rattle.cg_interp.specs.Tables.{AreCommands};
 ghost use Rattle.cg_interp.specs.Turns.{IsFit, HasRoomForOneMore};
 ghost use Rattle.cg_interp.specs.Telling.{IsAtTurn, TurnsFrom};
 ghost use Rattle.cg_interp.specs.Callers.{IsCaller, DoesAny, StaysKeptAfter};
 
 use crate::activity::Activity;
 use crate::engine::Engine;
-use crate::table::{Table, next_of};
+use crate::next::{next_in, next_of};
 use crate::turned::Turned;
 use cg_commands::{Locals, makes_object, perform};
 use cg_heap::Steps;
@@ -122,12 +121,10 @@ impl<B: Kind> Engine<B> {
     /// Goes on with the script, which was on top. A collection that is due comes first.
     pub fn go_on<L: Ledger>(
         &mut self,
-        table: &Table,
         script: &Script,
         next: Option<usize>,
         steps: &mut Steps<L>,
     ) -> Turned
-        requires table { AreCommands script.now.items table.now.commands.items }
         requires spelled { IsSpelled script.now }
         requires few { HasFewHolds self.old.store }
         requires last { self.old.store.last < 9223372036854775808 }
@@ -142,7 +139,7 @@ impl<B: Kind> Engine<B> {
         if let Some(generation) = self.policy.due() {
             return self.collect(Activity::Script { next }, false, generation, script, steps);
         }
-        match table.next(script, next) {
+        match next_in(&script.items, next) {
             Some((command, after)) => self.run(
                 Activity::Script { next: Some(after) },
                 None,

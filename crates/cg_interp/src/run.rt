@@ -11,13 +11,11 @@ ghost use Rattle.cg_machine.specs.World.{World, Ended, BudgetIsSpent, opening};
 ghost use Rattle.cg_laws.specs.Kept.{StaysKept};
 ghost use Rattle.cg_interp.specs.Engines.{StandsFor};
 ghost use Rattle.cg_interp.specs.Collecting.{StandsWith};
-ghost use Rattle.cg_interp.specs.Tables.{IsTableOf};
 ghost use Rattle.cg_interp.specs.Turns.{IsFit};
 ghost use Rattle.cg_interp.specs.Written.{WroteRun, WrotePart, WroteKept};
 ghost use Rattle.cg_interp.specs.Running.{HasLaws, StaysPrintable, WritesTurn, CutsTurn};
 
 use crate::engine::Engine;
-use crate::table::Table;
 use crate::turned::Turned;
 use crate::writing::write_answer;
 use cg_heap::{Heap, Steps};
@@ -47,13 +45,11 @@ pub enum RunEnd {
 /// One turn, and its line.
 fn turn_and_write<B: Kind, K: Sink, L: Ledger>(
     engine: &mut Engine<B>,
-    table: &Table,
     script: &Script,
     steps: &mut Steps<L>,
     text: &mut LineText,
     sink: &mut K,
 ) -> Result<Turned, WriteFailed>
-    requires table { IsTableOf script.now table.now.commands.items table.now.procedures.items }
     requires spelled { IsSpelled script.now }
     requires fit { IsFit script.now engine.old }
     requires stands { (w : World) × (left : List AnyEvent) × StandsWith script.now engine.old left w
@@ -69,7 +65,7 @@ fn turn_and_write<B: Kind, K: Sink, L: Ledger>(
     ensures frames { engine.new.frames ≡ engine.old.frames }
     ensures sound { IsSound engine.new.store }
 {
-    let answer = engine.turn(table, script, steps);
+    let answer = engine.turn(script, steps);
     // No heap is large, so a collection has few lines left after a turn, and little to do.
     engine.heap.sound();
     match write_answer(answer, &script.names, text, sink) {
@@ -81,12 +77,10 @@ fn turn_and_write<B: Kind, K: Sink, L: Ledger>(
 /// Turns, each with its line, until the run has ended or the sink has failed.
 fn run_turns<B: Kind, K: Sink, L: Ledger>(
     engine: &mut Engine<B>,
-    table: &Table,
     script: &Script,
     steps: &mut Steps<L>,
     sink: &mut K,
 ) -> RunEnd
-    requires table { IsTableOf script.now table.now.commands.items table.now.procedures.items }
     requires spelled { IsSpelled script.now }
     requires laws { HasLaws script.now engine.old.frames }
     requires fit { IsFit script.now engine.old }
@@ -104,7 +98,7 @@ fn run_turns<B: Kind, K: Sink, L: Ledger>(
     fronts_begin_whole_texts();
     let mut text = LineText::new();
     'turns: loop {
-        match turn_and_write(engine, table, script, steps, &mut text, sink) {
+        match turn_and_write(engine, script, steps, &mut text, sink) {
             Ok(Turned::Quiet) => {}
             Ok(Turned::Line(_)) => {}
             Ok(Turned::Ended) => return RunEnd::Done,
@@ -139,14 +133,11 @@ fn open_and_run<B: Kind, K: Sink, L: Ledger>(
 {
     worlds_stay_kept();
     lines_are_printable();
-    let Ok(table) = Table::new(alloc, script) else {
-        return RunEnd::OutOfMemory;
-    };
     let Ok(mut engine) = Engine::new(alloc, heap, script, budget) else {
         return RunEnd::OutOfMemory;
     };
     let mut steps = Steps::<L>::new(blank);
-    run_turns(&mut engine, &table, script, &mut steps, sink)
+    run_turns(&mut engine, script, &mut steps, sink)
 }
 
 /// Runs a script that some bytes spell, with a budget of at most 100,000 frames, on a heap as `Heap::new` leaves it for the

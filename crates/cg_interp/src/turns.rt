@@ -3,14 +3,13 @@ ghost use Rattle.std.specs.Prelude.{◌≡◌};
 ghost use Rattle.cg_script.specs.declared.Script.{Script as AnyScript};
 ghost use Rattle.cg_script.specs.Spelled.{IsSpelled};
 ghost use Rattle.cg_interp.specs.declared.activity.Activity.TheVariants as activity_of;
-ghost use Rattle.cg_interp.specs.Tables.{IsTableOf};
 ghost use Rattle.cg_interp.specs.Engines.{under};
 ghost use Rattle.cg_interp.specs.Turns.{IsFit, StaysFit};
 ghost use Rattle.cg_interp.specs.Telling.{IsAtTurn, TurnsFrom, IsAtAnyTurn, TurnsAny};
 
 use crate::activity::Activity;
 use crate::engine::Engine;
-use crate::table::Table;
+use crate::next::body_of;
 use crate::turned::{Dies, Turned};
 use cg_commands::Locals;
 use cg_death::{Death, Release};
@@ -21,13 +20,7 @@ use std::sync::ledger::Ledger;
 
 impl<B: Kind> Engine<B> {
     /// One turn: what is on top goes on.
-    pub fn turn<L: Ledger>(
-        &mut self,
-        table: &Table,
-        script: &Script,
-        steps: &mut Steps<L>,
-    ) -> Turned
-        requires table { IsTableOf script.now table.now.commands.items table.now.procedures.items }
+    pub fn turn<L: Ledger>(&mut self, script: &Script, steps: &mut Steps<L>) -> Turned
         requires spelled { IsSpelled script.now }
         requires fit { IsFit script.now self.old }
         requires stands { IsAtAnyTurn script.now self.old }
@@ -36,21 +29,14 @@ impl<B: Kind> Engine<B> {
         ensures frames { self.new.frames ≡ self.old.frames }
     {
         match self.stack.pop() {
-            Some(top) => self.turn_of(top, table, script, steps),
+            Some(top) => self.turn_of(top, script, steps),
             None => unreachable!(),
         }
     }
 
     /// A turn of the activity that was on top.
     #[inline(always)]
-    fn turn_of<L: Ledger>(
-        &mut self,
-        top: Activity,
-        table: &Table,
-        script: &Script,
-        steps: &mut Steps<L>,
-    ) -> Turned
-        requires table { IsTableOf script.now table.now.commands.items table.now.procedures.items }
+    fn turn_of<L: Ledger>(&mut self, top: Activity, script: &Script, steps: &mut Steps<L>) -> Turned
         requires spelled { IsSpelled script.now }
         requires fit { IsFit script.now self.old }
         requires stands { IsAtAnyTurn script.now (under top self.old) }
@@ -59,12 +45,12 @@ impl<B: Kind> Engine<B> {
         ensures frames { self.new.frames ≡ self.old.frames }
     {
         match top {
-            Activity::Script { next } => self.turn_of_script(table, script, next, steps),
+            Activity::Script { next } => self.turn_of_script(script, next, steps),
             Activity::Frame {
                 locals,
                 procedure,
                 next,
-            } => self.turn_of_frame(table, script, locals, procedure, next, steps),
+            } => self.turn_of_frame(script, locals, procedure, next, steps),
             Activity::Releasing(release) => self.turn_of_release(release),
             Activity::Dying(death) => self.turn_of_death(script, death),
             Activity::Collecting { asked, collection } => {
@@ -77,12 +63,10 @@ impl<B: Kind> Engine<B> {
     #[inline(always)]
     fn turn_of_script<L: Ledger>(
         &mut self,
-        table: &Table,
         script: &Script,
         next: Option<usize>,
         steps: &mut Steps<L>,
     ) -> Turned
-        requires table { IsTableOf script.now table.now.commands.items table.now.procedures.items }
         requires spelled { IsSpelled script.now }
         requires fit { IsFit script.now self.old }
         requires stands { IsAtTurn script.now (activity_of.Script next) self.old }
@@ -91,21 +75,19 @@ impl<B: Kind> Engine<B> {
         ensures frames { self.new.frames ≡ self.old.frames }
     {
         self.heap.sound();
-        self.go_on(table, script, next, steps)
+        self.go_on(script, next, steps)
     }
 
     /// A turn of a frame, which was on top.
     #[inline(always)]
     fn turn_of_frame<L: Ledger>(
         &mut self,
-        table: &Table,
         script: &Script,
         locals: Locals,
         procedure: u32,
         next: Option<usize>,
         steps: &mut Steps<L>,
     ) -> Turned
-        requires table { IsTableOf script.now table.now.commands.items table.now.procedures.items }
         requires spelled { IsSpelled script.now }
         requires fit { IsFit script.now self.old }
         requires stands { IsAtTurn script.now (activity_of.Frame locals procedure next) self.old }
@@ -116,7 +98,7 @@ impl<B: Kind> Engine<B> {
     {
         self.heap.sound();
         self.go_on_in(
-            table.body(script, procedure),
+            body_of(script, procedure),
             locals,
             procedure,
             next,

@@ -1,38 +1,12 @@
 -- What the machine reads in a script: its commands, procedures and classes. (The script language is ours.)
-use Rattle.std.specs.Prelude.{ℕ, List, [], ◌∷◌, Option, None, slice_get, option_map, option_and_then, unwrap_or}
+use Rattle.std.specs.Prelude.{ℕ, List, [], Option, None, slice_get, option_map, option_and_then, unwrap_or}
 use Rattle.cg_script.specs.declared.Script.{Script}
-use Rattle.cg_script.specs.declared.Item.{Item}
-use Rattle.cg_script.specs.declared.Item.TheVariants.{Budget, Class, Def, Run}
 use Rattle.cg_script.specs.declared.ClassDef.{ClassDef}
-use Rattle.cg_script.specs.declared.Proc.{Proc}
 use Rattle.cg_script.specs.declared.Command.{Command}
 use Rattle.cg_value.specs.declared.KindCode.{KindCode}
 use Rattle.cg_value.specs.declared.KindCode.TheVariants.{List as ListKind, Tuple, Dict, Inst, Func, Weak}
 use Rattle.cg_graph.specs.Object.{Object}
-
--- the commands outside procedures
-abbrev pub commands_of : List Item → List Command
-commands_of [] = []
-commands_of (Budget n ∷ items) = commands_of items
-commands_of (Class c ∷ items) = commands_of items
-commands_of (Def p ∷ items) = commands_of items
-commands_of (Run c ∷ items) = c ∷ commands_of items
-
--- the procedures, in order: procedures and classes are named by their position among their own
-abbrev pub procedures : List Item → List Proc
-procedures [] = []
-procedures (Budget n ∷ items) = procedures items
-procedures (Class c ∷ items) = procedures items
-procedures (Def p ∷ items) = p ∷ procedures items
-procedures (Run c ∷ items) = procedures items
-
--- the classes, in order
-abbrev pub classes : List Item → List ClassDef
-classes [] = []
-classes (Budget n ∷ items) = classes items
-classes (Class c ∷ items) = c ∷ classes items
-classes (Def p ∷ items) = classes items
-classes (Run c ∷ items) = classes items
+pub use Rattle.cg_script.specs.Items.{commands_of, procedures, classes}
 
 -- the body of a procedure; none where the script has no such procedure
 abbrev pub body_of : Script → ℕ → List Command

@@ -1,6 +1,7 @@
 pub mod Ascii
 pub mod Cuts
 pub mod Tables
+pub mod Positions
 pub mod Digits
 pub mod Places
 pub mod Grouped

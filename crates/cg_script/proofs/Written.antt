@@ -1,9 +1,10 @@
 -- What is written of a line, of a procedure and of all items.
 use Rattle.std.proofs.Common.{◌≡◌, ℕ, List, [], ◌∷◌, ◌++◌, refl, sym, ap, ◌∙◌, append_assoc, append-nil, map}
-use Rattle.std.specs.Prelude.{flat_map}
+use Rattle.std.specs.Prelude.{flat_map, slice_get, option_map, unwrap_or, Option, Some, None}
 use Rattle.std.proofs.lemmas.Grind.{flat_map-append}
+use Rattle.std.proofs.lemmas.Option.{slice_get-map, unwrap_or-slice_get}
 use Rattle.cg_script.specs.declared.item.Item.{Item}
-use Rattle.cg_script.specs.Canonical.{behind_space, line_of_words, item_lines, procs_in, classes_in, naming_of, canonical}
+use Rattle.cg_script.specs.Canonical.{text_of, name_of, behind_space, line_of_words, item_lines, naming_of, canonical}
 
 pub flat_map-flat_map : {A B : Type 0} (f : B → List ℕ) (p : A → List B) (xs : List A) → flat_map f (flat_map p xs) ≡ flat_map (λ x. flat_map f (p x)) xs
 flat_map-flat_map f p [] = refl
@@ -43,14 +44,27 @@ proc_written f w xs front back o0 o1 o2 o3 e1 e2 e3 =
     ∙ append_assoc o0 (f front) (ms ++ f back)
     ∙ ap (λ l. o0 ++ (f front ++ l)) (sym both)
 
+-- the name of what has a number
+name_by : {A : Type 0} (name : A → ℕ) (texts : List (List ℕ)) (those : List A) (n : ℕ) → name_of texts (map name those) n ≡ unwrap_or (option_map (λ x. text_of texts (name x)) (slice_get those n)) []
+name_by {A = A} name texts those n =
+    sym (unwrap_or-slice_get (map (text_of texts) (map name those)) n [])
+    ∙ ap (λ o. unwrap_or o []) (slice_get-map (text_of texts) (map name those) n ∙ ap (option_map (text_of texts)) (slice_get-map name those n))
+    ∙ by (slice_get those n)
+  where
+    by : (o : Option A) → unwrap_or (option_map (text_of texts) (option_map name o)) [] ≡ unwrap_or (option_map (λ x. text_of texts (name x)) o) []
+    by None = refl
+    by (Some x) = refl
+
+pub name_there : {A : Type 0} (name : A → ℕ) (texts : List (List ℕ)) (those : List A) (n : ℕ) (x : A) → slice_get those n ≡ Some x → name_of texts (map name those) n ≡ text_of texts (name x)
+name_there name texts those n x is = name_by name texts those n ∙ ap (λ o. unwrap_or (option_map (λ y. text_of texts (name y)) o) []) is
+
+pub name_missing : {A : Type 0} (name : A → ℕ) (texts : List (List ℕ)) (those : List A) (n : ℕ) → slice_get those n ≡ None → name_of texts (map name those) n ≡ []
+name_missing name texts those n is = name_by name texts those n ∙ ap (λ o. unwrap_or (option_map (λ y. text_of texts (name y)) o) []) is
+
 -- all lines of a script, behind no bytes
-pub all_written : (texts : List (List ℕ)) (items items2 : List Item) (procs classes start out : List ℕ) → start ≡ [] → items2 ≡ items → procs ≡ procs_in items2 → classes ≡ classes_in items2
-    → out ≡ start ++ flat_map (λ item. flat_map line_of_words (item_lines (record { texts = texts; procs = procs; classes = classes }) item)) items2 → out ≡ canonical texts items
+pub all_written : (texts : List (List ℕ)) (items : List Item) (start out : List ℕ) → start ≡ [] → out ≡ start ++ flat_map (λ item. flat_map line_of_words (item_lines (naming_of texts items) item)) items → out ≡ canonical texts items
 unfolding canonical
-all_written texts items items2 procs classes start out none same p c e =
+all_written texts items start out none e =
     e
-    ∙ ap (λ l. l ++ flat_map (λ item. flat_map line_of_words (item_lines (record { texts = texts; procs = procs; classes = classes }) item)) items2) none
-    ∙ ap (λ l. flat_map (λ item. flat_map line_of_words (item_lines (record { texts = texts; procs = l; classes = classes }) item)) items2) p
-    ∙ ap (λ l. flat_map (λ item. flat_map line_of_words (item_lines (record { texts = texts; procs = procs_in items2; classes = l }) item)) items2) c
-    ∙ ap (λ l. flat_map (λ item. flat_map line_of_words (item_lines (naming_of texts l) item)) l) same
+    ∙ ap (λ l. l ++ flat_map (λ item. flat_map line_of_words (item_lines (naming_of texts items) item)) items) none
     ∙ sym (flat_map-flat_map line_of_words (item_lines (naming_of texts items)) items)

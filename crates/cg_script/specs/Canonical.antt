@@ -8,6 +8,7 @@ use Rattle.cg_script.specs.declared.command.Command.TheVariants as commands
 use Rattle.cg_script.specs.declared.item.Item.{Item}
 use Rattle.cg_script.specs.declared.item.Item.TheVariants as items
 use Rattle.cg_script.specs.declared.item.ClassDef.{ClassDef}
+use Rattle.cg_script.specs.Items.{procedures, classes}
 
 -- what the numbers in a script stand for: texts, and of the procedures and classes in order the numbers of their names
 pub record Naming : Type 0 where
@@ -111,21 +112,12 @@ item_lines n (items.Class c) = class_words n c ∷ []
 item_lines n (items.Def p) = def_words n p.name ∷ (map (command_words n) p.body ++ end_words ∷ [])
 item_lines n (items.Run c) = command_words n c ∷ []
 
--- the names of the procedures
+-- the names of the procedures, and of the classes
 abbrev pub procs_in : List Item → List ℕ
-procs_in [] = []
-procs_in (items.Budget count ∷ later) = procs_in later
-procs_in (items.Class c ∷ later) = procs_in later
-procs_in (items.Def p ∷ later) = p.name ∷ procs_in later
-procs_in (items.Run c ∷ later) = procs_in later
+procs_in lines = map (λ p. p.name) (procedures lines)
 
--- of the classes
 abbrev pub classes_in : List Item → List ℕ
-classes_in [] = []
-classes_in (items.Budget count ∷ later) = classes_in later
-classes_in (items.Class c ∷ later) = c.name ∷ classes_in later
-classes_in (items.Def p ∷ later) = classes_in later
-classes_in (items.Run c ∷ later) = classes_in later
+classes_in lines = map (λ c. c.name) (classes lines)
 
 abbrev pub naming_of : List (List ℕ) → List Item → Naming
 naming_of texts lines = record { texts = texts; procs = procs_in lines; classes = classes_in lines }

@@ -4,11 +4,11 @@ use Rattle.std.specs.Fmt.{signed_decimal}
 use Rattle.cg_script.specs.declared.printer.Piece.{Piece}
 use Rattle.cg_script.specs.declared.printer.Piece.TheVariants.{Absent, Word, Text, Value, Number, Count, Proc, Class, Finalizer, Legacy}
 use Rattle.cg_script.specs.declared.printer.Named.{Named}
-use Rattle.cg_script.specs.Canonical.{Naming, text_of, name_of, value_word}
+use Rattle.cg_script.specs.Canonical.{Naming, naming_of, text_of, name_of, value_word}
 
 -- what the numbers stand for
 abbrev pub names_by : Named → Naming
-names_by named = record { texts = named.names.now; procs = named.procs.items; classes = named.classes.items }
+names_by named = naming_of named.names.now named.items.now
 
 -- the bytes of a word
 abbrev pub piece_bytes : Naming → Piece → List ℕ

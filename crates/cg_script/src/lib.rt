@@ -9,6 +9,7 @@ mod command;
 mod draft;
 mod fault;
 mod form;
+mod index;
 mod item;
 mod laws;
 mod line;

@@ -1,9 +1,13 @@
 //! Lists of operands, commands and items, which contracts see as lists.
-ghost use Rattle.std.specs.Prelude.{◌≡◌, ◌++◌, IfOk, OnOk, slice_get, option_to_list};
-ghost use Rattle.cg_script.specs.Classes.{class_in, classes_in};
+ghost use Rattle.std.specs.Prelude.{◌≡◌, ◌≤◌, ◌<◌, ◌+◌, ◌^◌, IfOk, OnSome, Some, length, slice_get, option_copied};
+ghost use Rattle.cg_script.specs.Items.{classes, procedures, commands_of};
+ghost use Rattle.cg_script.specs.declared.command.Command.{Command as AnyCommand};
+ghost use Rattle.cg_script.specs.declared.item.Proc.{Proc as AnyProc};
+ghost use Rattle.cg_script.specs.declared.item.Item.TheVariants.{Run, Def};
 
 use crate::command::{Command, Operand};
-use crate::item::{ClassDef, Item};
+use crate::index::Index;
+use crate::item::{ClassDef, Item, Proc};
 use std::alloc::{AllocError, Global};
 use std::marker::Model;
 
@@ -69,63 +73,66 @@ impl Commands {
     }
 }
 
-/// The lines of a script, in order, and its classes, so that each is found by its number.
+/// The lines of a script, in order, with an index: classes, procedures and commands outside procedures are each found by their
+/// number.
 #[derive(Drop)]
 pub struct Items {
     members: Vec<Item>,
-    classes: Vec<ClassDef>,
+    index: Index,
 }
 
 impl Model for Items {
-    ghost use Rattle.std.specs.Prelude.{◌≡◌, List};
+    ghost use Rattle.std.specs.Prelude.{List};
     ghost use Rattle.cg_script.specs.declared.item.Item.{Item};
-    ghost use Rattle.cg_script.specs.Classes.{classes_in};
+    ghost use Rattle.cg_script.specs.Items.{IsIndexOf};
 
     ghost Value = { List Item };
 
     ghost view = { λ m. m.members.items };
 
-    ghost invariant = { λ m. m.classes.items ≡ classes_in m.members.items };
+    ghost invariant = { λ m. IsIndexOf m.members.items
+        m.index.classes.items m.index.procedures.items m.index.commands.items };
 }
 
-/// The class of a line, if it is one.
-fn class_in(item: &Item) -> Option<ClassDef>
-    ensures { result ≡ class_in item.now }
+/// The position at a number, if there is one.
+fn position_in(positions: &Vec<u32>, number: usize) -> Option<usize>
+    ensures found { result ≡ slice_get positions.now.items number }
+    ensures few { OnSome result (number + 1 < 2 ^ 64) }
 {
-    match item {
-        Item::Class(class) => Some(*class),
+    match positions.get(number) {
+        Some(at) => Some(*at as usize),
+        None => None,
+    }
+}
+
+/// The procedure in the line at a position, if it is one.
+fn procedure_in(items: &[Item], at: usize) -> Option<&Proc>
+    ensures { (p : AnyProc) → slice_get items.now at ≡ Some (Def p) → option_copied result ≡ Some p }
+{
+    match items.get(at) {
+        Some(Item::Def(procedure)) => Some(procedure),
         _ => None,
     }
 }
 
-/// The classes of some lines, in order.
-fn classes_of(alloc: Global, items: &[Item]) -> Result<Vec<ClassDef>, AllocError>
-    ensures { IfOk result (λ classes. classes.items ≡ classes_in items.now) }
+/// The command in the line at a position, if it is one.
+fn command_in(items: &[Item], at: usize) -> Option<&Command>
+    ensures { (c : AnyCommand) → slice_get items.now at ≡ Some (Run c) → option_copied result ≡ Some c }
 {
-    let mut classes = Vec::new(alloc);
-    'items: for at in 0..items.len() {
-        push_class(&mut classes, class_in(&items[at]))?;
+    match items.get(at) {
+        Some(Item::Run(command)) => Some(command),
+        _ => None,
     }
-    Ok(classes)
-}
-
-/// Pushes a class, if there is one.
-fn push_class(classes: &mut Vec<ClassDef>, class: Option<ClassDef>) -> Result<(), AllocError>
-    ensures { OnOk result (classes.new.items ≡ classes.old.items ++ option_to_list class) }
-{
-    if let Some(class) = class {
-        classes.push(class)?;
-    }
-    Ok(())
 }
 
 impl Items {
-    /// These members in order. It answers `AllocError` for want of memory alone, for the list of the classes.
+    /// These members in order. It answers `AllocError` for want of memory alone, for the index.
     pub fn new(alloc: Global, members: Vec<Item>) -> Result<Items, AllocError>
+        requires { length members.items ≤ 2 ^ 32 }
         ensures { IfOk result (λ items. items ≡ members.items) }
     {
-        let classes = classes_of(alloc, members.as_slice())?;
-        Ok(Items { members, classes })
+        let index = Index::new(alloc, members.as_slice())?;
+        Ok(Items { members, index })
     }
 
     /// The members in order.
@@ -137,8 +144,31 @@ impl Items {
 
     /// The class with a number, if there is one. Classes are numbered from 0, in their order. It takes constant time.
     pub fn class(&self, number: u32) -> Option<ClassDef>
-        ensures { result ≡ slice_get (classes_in self.now) number }
+        ensures { result ≡ slice_get (classes self.now) number }
     {
-        self.classes.get(number as usize).copied()
+        self.index.classes.get(number as usize).copied()
+    }
+
+    /// The procedure with a number, if there is one. Procedures are numbered from 0, in their order. It takes constant time.
+    pub fn procedure(&self, number: u32) -> Option<&Proc>
+        ensures { option_copied result ≡ slice_get (procedures self.now) number }
+    {
+        match position_in(&self.index.procedures, number as usize) {
+            Some(at) => procedure_in(self.members.as_slice(), at),
+            None => None,
+        }
+    }
+
+    /// The command outside procedures with a number, if there is one. They are numbered from 0, in their order. It takes
+    /// constant time.
+    pub fn command(&self, number: usize) -> Option<&Command>
+        ensures found { option_copied result ≡ slice_get (commands_of self.now) number }
+        // The number of the one after it is a number too.
+        ensures few { OnSome result (number + 1 < 2 ^ 64) }
+    {
+        match position_in(&self.index.commands, number) {
+            Some(at) => command_in(self.members.as_slice(), at),
+            None => None,
+        }
     }
 }

@@ -6,6 +6,7 @@ ghost use Rattle.cg_script.specs.Pieced.{piece_bytes, piece_words, names_by};
 
 use crate::command::{Command, Operand};
 use crate::item::{ClassDef, Item, Script};
+use crate::members::Items;
 use cg_value::Names;
 use itoa::Buffer;
 use std::alloc::{AllocError, Global};
@@ -27,12 +28,11 @@ pub(crate) enum Piece<'a> {
     Legacy(u32),
 }
 
-/// The texts of a script, and of its procedures and classes in order the numbers of their names.
+/// What the numbers in a script stand for: its texts, and its lines, which have the procedures and classes.
 #[derive(Drop)]
 pub(crate) struct Named<'a> {
     pub names: &'a Names,
-    pub procs: Vec<u32>,
-    pub classes: Vec<u32>,
+    pub items: &'a Items,
 }
 
 /// The text of a number, or no bytes where it has none.
@@ -46,12 +46,22 @@ fn text<'a>(names: &'a Names, number: u32) -> &'a [u8]
     }
 }
 
-/// The name of a procedure or class.
-fn name<'a>(names: &'a Names, numbers: &[u32], number: u32) -> &'a [u8]
-    ensures { result.now ≡ name_of names.now numbers.now number }
+/// The name of a procedure, or no bytes where there is none of this number.
+fn proc_name<'a>(naming: &Named<'a>, number: u32) -> &'a [u8]
+    ensures { result.now ≡ name_of naming.now.names.now (procs_in naming.now.items.now) number }
 {
-    match numbers.get(number as usize) {
-        Some(place) => text(names, *place),
+    match naming.items.procedure(number) {
+        Some(procedure) => text(naming.names, procedure.name),
+        None => b"",
+    }
+}
+
+/// The name of a class, or no bytes where there is none of this number.
+fn class_name<'a>(naming: &Named<'a>, number: u32) -> &'a [u8]
+    ensures { result.now ≡ name_of naming.now.names.now (classes_in naming.now.items.now) number }
+{
+    match naming.items.class(number) {
+        Some(class) => text(naming.names, class.name),
         None => b"",
     }
 }
@@ -110,10 +120,10 @@ fn write_piece(out: &mut Vec<u8>, naming: &Named<'_>, piece: Piece<'_>) -> Resul
         Piece::Value(value) => write_value(out, names, value),
         Piece::Number(number) => write_number(out, number),
         Piece::Count(count) => write_count(out, count),
-        Piece::Proc(number) => out.extend_from_slice(name(names, &naming.procs, number)),
-        Piece::Class(number) => out.extend_from_slice(name(names, &naming.classes, number)),
-        Piece::Finalizer(number) => write_both(out, b"del=", name(names, &naming.procs, number)),
-        Piece::Legacy(number) => write_both(out, b"legacy=", name(names, &naming.procs, number)),
+        Piece::Proc(number) => out.extend_from_slice(proc_name(naming, number)),
+        Piece::Class(number) => out.extend_from_slice(class_name(naming, number)),
+        Piece::Finalizer(number) => write_both(out, b"del=", proc_name(naming, number)),
+        Piece::Legacy(number) => write_both(out, b"legacy=", proc_name(naming, number)),
     }
 }
 
@@ -467,32 +477,6 @@ fn write_item(out: &mut Vec<u8>, naming: &Named<'_>, item: &Item) -> Result<(), 
     }
 }
 
-/// The numbers of the names of the procedures in order.
-fn procs_of(alloc: Global, items: &[Item]) -> Result<Vec<u32>, AllocError>
-    ensures { IfOk result (λ procs. procs.items ≡ procs_in items.now) }
-{
-    let mut procs = Vec::new(alloc);
-    'items: for item in items {
-        if let Item::Def(proc) = item {
-            procs.push(proc.name)?;
-        }
-    }
-    Ok(procs)
-}
-
-/// The numbers of the names of the classes in order.
-fn classes_of(alloc: Global, items: &[Item]) -> Result<Vec<u32>, AllocError>
-    ensures { IfOk result (λ classes. classes.items ≡ classes_in items.now) }
-{
-    let mut classes = Vec::new(alloc);
-    'items: for item in items {
-        if let Item::Class(class) = item {
-            classes.push(class.name)?;
-        }
-    }
-    Ok(classes)
-}
-
 /// Writes the lines of all items.
 fn write_items(out: &mut Vec<u8>, naming: &Named<'_>, items: &[Item]) -> Result<(), AllocError>
     ensures { OnOk result (out.new.items ≡ out.old.items ++ flat_map (λ item. flat_map line_of_words (item_lines (names_by naming.now) item)) items.now) }
@@ -512,13 +496,11 @@ fn write_items(out: &mut Vec<u8>, naming: &Named<'_>, items: &[Item]) -> Result<
 pub fn print(alloc: Global, script: &Script) -> Result<Vec<u8>, AllocError>
     ensures { IfOk result (λ bytes. bytes.items ≡ canonical script.now.names script.now.items) }
 {
-    let items = script.items.as_slice();
     let naming = Named {
         names: &script.names,
-        procs: procs_of(alloc, items)?,
-        classes: classes_of(alloc, items)?,
+        items: &script.items,
     };
     let mut out = Vec::new(alloc);
-    write_items(&mut out, &naming, items)?;
+    write_items(&mut out, &naming, script.items.as_slice())?;
     Ok(out)
 }

@@ -25,30 +25,30 @@ returns-in-Some-clause-turns g c = λ w stands kept.
 
 pub run-requires-clause-spelled : goal.run-requires-clause-spelled
 run-requires-clause-spelled g c =
-    script_doable c.args.script.now c.requires.spelled _ c.requires.fit.names c.in-Some-next.command.now (is_there (commands_of c.args.script.now.items) _ c.args.next c.in-Some-next.command.now c.in-Some-next.ensures.some)
+    script_doable c.args.script.now c.requires.spelled _ c.requires.fit.names c.in-Some-next_in.command.now (is_there (commands_of c.args.script.now.items) _ c.args.next c.in-Some-next_in.command.now c.in-Some-next_in.ensures.some)
 
 pub run-requires-clause-stands : goal.run-requires-clause-stands
 run-requires-clause-stands g c =
     let s = c.requires.stands in
     let none = none_due_in c.args.script.now (under (activity_of.Script c.args.next) c.args.self.now) s.0 c.due.result s.1 (c.due.ensures ∙ ap (λ (e : State). due_of e.policy) c.self.view_is) c.in_default.not-Some in
-    let world = script_goes_on c.args.script.now c.args.self.now c.args.next s.0 s.1 (Some c.in-Some-next.after) c.in-Some-next.command.now c.in-Some-next.ensures.some in (
+    let world = script_goes_on c.args.script.now c.args.self.now c.args.next s.0 s.1 (Some c.in-Some-next_in.after) c.in-Some-next_in.command.now c.in-Some-next_in.ensures.some in (
       world,
-      script_stands c.args.script.now c.args.self.now c.args.next s.0 s.1 (Some c.in-Some-next.after) c.in-Some-next.command.now c.in-Some-next.ensures.some,
-      script_locals c.args.script.now c.args.self.now c.args.next s.0 s.1 (Some c.in-Some-next.after) c.in-Some-next.command.now c.in-Some-next.ensures.some,
-      command_keeps c.args.script.now s.0 world c.in-Some-next.command.now s.1.running
-          (script_does c.args.script.now c.args.self.now c.args.next s.0 s.1 (Some c.in-Some-next.after) c.in-Some-next.command.now c.in-Some-next.ensures.some none) c.args.self.now.frames s.2,
+      script_stands c.args.script.now c.args.self.now c.args.next s.0 s.1 (Some c.in-Some-next_in.after) c.in-Some-next_in.command.now c.in-Some-next_in.ensures.some,
+      script_locals c.args.script.now c.args.self.now c.args.next s.0 s.1 (Some c.in-Some-next_in.after) c.in-Some-next_in.command.now c.in-Some-next_in.ensures.some,
+      command_keeps c.args.script.now s.0 world c.in-Some-next_in.command.now s.1.running
+          (script_does c.args.script.now c.args.self.now c.args.next s.0 s.1 (Some c.in-Some-next_in.after) c.in-Some-next_in.command.now c.in-Some-next_in.ensures.some none) c.args.self.now.frames s.2,
     )
 
-pub returns-in-Some-next-clause-turns : goal.returns-in-Some-next-clause-turns
-returns-in-Some-next-clause-turns g c = λ w stands kept.
+pub returns-in-Some-next_in-clause-turns : goal.returns-in-Some-next_in-clause-turns
+returns-in-Some-next_in-clause-turns g c = λ w stands kept.
     let none = none_due_in c.args.script.now (under (activity_of.Script c.args.next) c.args.self.now) w c.due.result stands (c.due.ensures ∙ ap (λ (e : State). due_of e.policy) c.self.view_is) c.in_default.not-Some in
-    let world = script_goes_on c.args.script.now c.args.self.now c.args.next w stands (Some c.in-Some-next.after) c.in-Some-next.command.now c.in-Some-next.ensures.some in
-    let does = script_does c.args.script.now c.args.self.now c.args.next w stands (Some c.in-Some-next.after) c.in-Some-next.command.now c.in-Some-next.ensures.some none in
-    command_turns c.args.script.now w world c.in-Some-next.command.now stands.running does c.run.new.self c.run.result
+    let world = script_goes_on c.args.script.now c.args.self.now c.args.next w stands (Some c.in-Some-next_in.after) c.in-Some-next_in.command.now c.in-Some-next_in.ensures.some in
+    let does = script_does c.args.script.now c.args.self.now c.args.next w stands (Some c.in-Some-next_in.after) c.in-Some-next_in.command.now c.in-Some-next_in.ensures.some none in
+    command_turns c.args.script.now w world c.in-Some-next_in.command.now stands.running does c.run.new.self c.run.result
     (c.run.ensures.does world
-    (script_stands c.args.script.now c.args.self.now c.args.next w stands (Some c.in-Some-next.after) c.in-Some-next.command.now c.in-Some-next.ensures.some)
-    (script_locals c.args.script.now c.args.self.now c.args.next w stands (Some c.in-Some-next.after) c.in-Some-next.command.now c.in-Some-next.ensures.some)
-    (command_keeps c.args.script.now w world c.in-Some-next.command.now stands.running does c.args.self.now.frames kept))
+    (script_stands c.args.script.now c.args.self.now c.args.next w stands (Some c.in-Some-next_in.after) c.in-Some-next_in.command.now c.in-Some-next_in.ensures.some)
+    (script_locals c.args.script.now c.args.self.now c.args.next w stands (Some c.in-Some-next_in.after) c.in-Some-next_in.command.now c.in-Some-next_in.ensures.some)
+    (command_keeps c.args.script.now w world c.in-Some-next_in.command.now stands.running does c.args.self.now.frames kept))
 
 pub returns-in-None-clause-turns : goal.returns-in-None-clause-turns
 returns-in-None-clause-turns g c = λ w stands kept.

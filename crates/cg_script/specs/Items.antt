@@ -1,0 +1,42 @@
+-- The lines of a script by what they are: its commands outside procedures, its procedures and its classes, each found by its
+-- number among its own. (Ours.)
+use Rattle.std.specs.Prelude.{◌≡◌, ℕ, List, [], ◌∷◌, map, Some, slice_get}
+use Rattle.cg_script.specs.declared.command.Command.{Command}
+use Rattle.cg_script.specs.declared.item.ClassDef.{ClassDef}
+use Rattle.cg_script.specs.declared.item.Proc.{Proc}
+use Rattle.cg_script.specs.declared.item.Item.{Item}
+use Rattle.cg_script.specs.declared.item.Item.TheVariants.{Budget, Class, Def, Run}
+
+-- the commands outside procedures
+abbrev pub commands_of : List Item → List Command
+commands_of [] = []
+commands_of (Budget n ∷ items) = commands_of items
+commands_of (Class c ∷ items) = commands_of items
+commands_of (Def p ∷ items) = commands_of items
+commands_of (Run c ∷ items) = c ∷ commands_of items
+
+-- the procedures, in order: procedures and classes are named by their position among their own
+abbrev pub procedures : List Item → List Proc
+procedures [] = []
+procedures (Budget n ∷ items) = procedures items
+procedures (Class c ∷ items) = procedures items
+procedures (Def p ∷ items) = p ∷ procedures items
+procedures (Run c ∷ items) = procedures items
+
+-- the classes, in order
+abbrev pub classes : List Item → List ClassDef
+classes [] = []
+classes (Budget n ∷ items) = classes items
+classes (Class c ∷ items) = c ∷ classes items
+classes (Def p ∷ items) = classes items
+classes (Run c ∷ items) = classes items
+
+-- What stands at these positions, in order, are the lines of these.
+abbrev pub StandAt : {A : Type 0} → (A → Item) → List Item → List ℕ → List A → Type 0
+StandAt line items positions those = map (slice_get items) positions ≡ map (λ x. Some (line x)) those
+
+-- These are the classes of some lines, and the positions of their procedures and of their commands outside procedures.
+pub record IsIndexOf (items : List Item) (defs : List ClassDef) (procs runs : List ℕ) : Type 0 where
+  pub classes : defs ≡ classes items
+  pub procedures : StandAt Def items procs (procedures items)
+  pub commands : StandAt Run items runs (commands_of items)
