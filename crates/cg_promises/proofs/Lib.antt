@@ -22,3 +22,4 @@ pub mod Leaves
 pub mod Waited
 pub mod Turned
 pub mod History
+pub mod Slack
