@@ -23,3 +23,4 @@ pub mod Waited
 pub mod Turned
 pub mod History
 pub mod Slack
+pub mod SlackDeaths
