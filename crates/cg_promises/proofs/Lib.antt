@@ -24,3 +24,4 @@ pub mod Turned
 pub mod History
 pub mod Slack
 pub mod SlackDeaths
+pub mod SlackStart

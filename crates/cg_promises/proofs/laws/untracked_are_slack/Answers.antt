@@ -1,3 +1,4 @@
+use Rattle.cg_promises.proofs.SlackStart.{sort_still}
 use Rattle.cg_promises.proofs.SlackDeaths.{dying_slack}
 use Rattle.cg_promises.proofs.Slack.{turn_slack}
 use Rattle.cg_promises.proofs.laws.untracked_are_slack.Goals as goal
