@@ -25,3 +25,5 @@ pub mod History
 pub mod Slack
 pub mod SlackDeaths
 pub mod SlackStart
+pub mod SlackCollections
+pub mod SlackCommands

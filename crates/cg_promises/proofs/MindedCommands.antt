@@ -64,10 +64,10 @@ Shifting w (Collects g) = Unit {0}
 Shifting w Quits = Unit {0}
 
 -- the object that a command finds
-abbrev Found : World → (Object → Bool) → Object → Type 0
+abbrev pub Found : World → (Object → Bool) → Object → Type 0
 Found w test x = Includes w.objects x × (test x ≡ true)
 
-object_passes : (w : World) (test : Object → Bool) (refusal : ℕ) (v : Val) → Each (Found w test) (object w test refusal v)
+pub object_passes : (w : World) (test : Object → Bool) (refusal : ℕ) (v : Val) → Each (Found w test) (object w test refusal v)
 object_passes w test refusal v = each_then (λ x. object_of w v ≡ Some x) (Found w test) (ok_or (object_of w v) refusal) _ (each_some (object_of w v) refusal) (λ x e. go (reference_in v) x e)
   where
     passes : (x : Object) → Includes w.objects x → (b : Bool) → test x ≡ b → Each (Found w test) (if b then Ok x else Err refusal)

@@ -122,7 +122,7 @@ lost_still hard weak objects = test_still hard (with_referent None) (λ x. x.ser
 abbrev pub Fine : List Activity → List Object → ℕ → Type 0
 Fine stack objects n = Excused stack n ⊎ ((y : Object) → Includes objects y → y.serial ≡ n → y.place ≡ Untracked → IsSlackOne objects y)
 
-loose_later : (hard : ℕ → Type 0) (before after : List Object) (o : ℕ) → Still hard before after → IsLoose before o → IsLoose after o
+pub loose_later : (hard : ℕ → Type 0) (before after : List Object) (o : ℕ) → Still hard before after → IsLoose before o → IsLoose after o
 loose_later hard before after o still loose z m e =
     let x = still z m in
     let k = loose x.0 x.1 (sym x.2.stays.serial ∙ e) in

@@ -16,7 +16,7 @@ use Rattle.cg_machine.proofs.Serials.{Rises, Rises-map}
 use Rattle.cg_machine.proofs.Lookups.{at_member, same_object}
 use Rattle.cg_promises.proofs.Slack.{Goes, IsLoose, IsSlackOne, Still, map_still, still_trans, test_still}
 
-not_true : (b : Bool) → not b ≡ false → b ≡ true
+pub not_true : (b : Bool) → not b ≡ false → b ≡ true
 not_true true e = refl
 not_true false e = sym e
 
@@ -75,7 +75,7 @@ same_serial : (b : Bool) (x : Object) → (untracked_if b x).serial ≡ x.serial
 same_serial true x = refl
 same_serial false x = refl
 
-may_not : (a b : Bool) → (if a then b else true) ≡ false → (a ≡ true) × (b ≡ false)
+pub may_not : (a b : Bool) → (if a then b else true) ≡ false → (a ≡ true) × (b ≡ false)
 may_not true b e = (refl, e)
 may_not false b e = absurd (let no : true ≡ false = e in cc)
 
