@@ -27,3 +27,4 @@ pub mod SlackDeaths
 pub mod SlackStart
 pub mod SlackCollections
 pub mod SlackCommands
+pub mod SlackRuns
