@@ -28,3 +28,4 @@ pub mod SlackStart
 pub mod SlackCollections
 pub mod SlackCommands
 pub mod SlackRuns
+pub mod Young
