@@ -29,3 +29,4 @@ pub mod SlackCollections
 pub mod SlackCommands
 pub mod SlackRuns
 pub mod Young
+pub mod FullStart

@@ -110,7 +110,7 @@ opening_slack script budget = record {
 }
 
 -- what the law says
-death_found : (n : ℕ) (d : Death) (stack : List Activity) → Includes stack (Dying d) → d.object ≡ n → list_any (is_death_of n) stack ≡ true
+pub death_found : (n : ℕ) (d : Death) (stack : List Activity) → Includes stack (Dying d) → d.object ≡ n → list_any (is_death_of n) stack ≡ true
 death_found n d [] m e = absurd m
 death_found n d (a ∷ stack) (inl i) e = or_left (is_death_of n a) (list_any (is_death_of n) stack) (subst (λ b. is_death_of n b ≡ true) (sym i) (eq-eqb d.object n e))
 death_found n d (a ∷ stack) (inr m) e = or_right (is_death_of n a) (list_any (is_death_of n) stack) (death_found n d stack m e)
