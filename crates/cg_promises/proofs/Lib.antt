@@ -30,3 +30,4 @@ pub mod SlackCommands
 pub mod SlackRuns
 pub mod Young
 pub mod FullStart
+pub mod Kept
