@@ -31,3 +31,4 @@ pub mod SlackRuns
 pub mod Young
 pub mod FullStart
 pub mod Kept
+pub mod KeptRuns
