@@ -32,3 +32,4 @@ pub mod Young
 pub mod FullStart
 pub mod Kept
 pub mod KeptRuns
+pub mod FullRuns

@@ -1,3 +1,4 @@
+use Rattle.cg_promises.proofs.FullRuns.{reached_lasts}
 use Rattle.cg_promises.proofs.KeptRuns.{step_full}
 use Rattle.cg_promises.proofs.Kept.{never_released}
 use Rattle.cg_promises.proofs.FullStart.{survives_reached}
