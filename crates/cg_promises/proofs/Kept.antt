@@ -60,7 +60,7 @@ pub all_lose_leaves : (kept : ℕ → Type 0) (wanted : Object → Bool) (weaks 
 all_lose_leaves kept wanted [] objects after lose = subst (Leaves kept objects) (sym lose.1) (leaves_same kept objects)
 all_lose_leaves kept wanted (weak ∷ weaks) objects after lose = leaves_trans kept objects (loses_referent weak objects) after (lost_leaves kept weak objects) (all_lose_leaves kept wanted weaks (loses_referent weak objects) after lose.1)
 
-appended : (xs ys : List Entry) (o : ℕ) → Includes (references xs) o → Includes (references (xs ++ ys)) o
+pub appended : (xs ys : List Entry) (o : ℕ) → Includes (references xs) o → Includes (references (xs ++ ys)) o
 appended [] ys o m = absurd m
 appended (x ∷ xs) ys o m = either (Includes-append_cases (entry_references x) (references xs) o m) (λ k. Includes-append_left (entry_references x) (references (xs ++ ys)) o k) (λ k. Includes-append_right (entry_references x) (references (xs ++ ys)) o (appended xs ys o k))
 
@@ -113,7 +113,7 @@ lives_on kept start before after leaves h x m k =
     (b.0, b.1, record { serial = b.2.serial ∙ a.2.serial; refers = λ o r. b.2.refers o (a.2.refers o r); clear = b.2.clear })
 
 -- a release never finds a kept one at 0
-death_in : (o : ℕ) (tops below : List Activity) → list_any (is_death_of o) below ≡ true → list_any (is_death_of o) (tops ++ below) ≡ true
+pub death_in : (o : ℕ) (tops below : List Activity) → list_any (is_death_of o) below ≡ true → list_any (is_death_of o) (tops ++ below) ≡ true
 death_in o [] below e = e
 death_in o (a ∷ tops) below e = or_true (is_death_of o a) (death_in o tops below e)
   where
@@ -121,7 +121,7 @@ death_in o (a ∷ tops) below e = or_true (is_death_of o a) (death_in o tops bel
     or_true true e = refl
     or_true false e = e
 
-held_in : (o : ℕ) (tops below : List Activity) → Includes (flat_map holds below) o → Includes (flat_map holds (tops ++ below)) o
+pub held_in : (o : ℕ) (tops below : List Activity) → Includes (flat_map holds below) o → Includes (flat_map holds (tops ++ below)) o
 held_in o [] below m = m
 held_in o (a ∷ tops) below m = Includes-append_right (holds a) (flat_map holds (tops ++ below)) o (held_in o tops below m)
 

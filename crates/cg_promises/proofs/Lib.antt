@@ -33,3 +33,5 @@ pub mod FullStart
 pub mod Kept
 pub mod KeptRuns
 pub mod FullRuns
+pub mod FullKept
+pub mod FullStop

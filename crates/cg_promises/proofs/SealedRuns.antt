@@ -165,7 +165,7 @@ pub record Keeping (script : Script) (members : List ℕ) (stack : List Activity
   pub sealed : count_by is_stop events ≡ 0 → Sealed script members after.objects after.names after.stack after.next_serial
   pub ends : 0 < count_by is_stop events → (c : Collection) × (below : List Activity) × (stack ≡ Collecting c ∷ below) × (c.phase ≡ Ending)
 
-none_stops : (events : List Event) → ((event : Event) → Includes events event → is_stop event ≡ false) → count_by is_stop events ≡ 0
+pub none_stops : (events : List Event) → ((event : Event) → Includes events event → is_stop event ≡ false) → count_by is_stop events ≡ 0
 none_stops [] h = refl
 none_stops (event ∷ events) h =
     let one : count_by is_stop (event ∷ events) ≡ cond (is_stop event) 1 0 + count_by is_stop events = sum_by-cons (λ x. cond (is_stop x) 1 0) event events in

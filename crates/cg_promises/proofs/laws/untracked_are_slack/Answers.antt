@@ -1,3 +1,5 @@
+use Rattle.cg_promises.proofs.FullKept.{reached_then}
+use Rattle.cg_promises.proofs.FullStop.{stop_ends}
 use Rattle.cg_promises.proofs.FullRuns.{reached_lasts}
 use Rattle.cg_promises.proofs.KeptRuns.{step_full}
 use Rattle.cg_promises.proofs.Kept.{never_released}
