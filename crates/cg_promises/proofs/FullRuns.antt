@@ -30,7 +30,7 @@ use Rattle.cg_promises.proofs.SealedRuns.{none_first}
 use Rattle.cg_promises.proofs.SealedStart.{edge, edge_of}
 use Rattle.cg_promises.proofs.ToldRuns.{Fit, step_fit}
 
-enters_first : (xs ys : List Event) → count_by is_enter (xs ++ ys) ≡ 0 → (count_by is_enter xs ≡ 0) × (count_by is_enter ys ≡ 0)
+pub enters_first : (xs ys : List Event) → count_by is_enter (xs ++ ys) ≡ 0 → (count_by is_enter xs ≡ 0) × (count_by is_enter ys ≡ 0)
 enters_first xs ys e = let all : count_by is_enter (xs ++ ys) ≡ count_by is_enter xs + count_by is_enter ys = sum_by-append (λ x. cond (is_enter x) 1 0) xs ys in (omega (arith, all, e), omega (arith, all, e))
 
 -- a step follows

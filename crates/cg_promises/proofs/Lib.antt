@@ -35,3 +35,4 @@ pub mod KeptRuns
 pub mod FullRuns
 pub mod FullKept
 pub mod FullStop
+pub mod FullLaws

@@ -1,3 +1,4 @@
+use Rattle.cg_promises.proofs.FullLaws.{reached_is_kept}
 use Rattle.cg_promises.proofs.FullKept.{reached_then}
 use Rattle.cg_promises.proofs.FullStop.{stop_ends}
 use Rattle.cg_promises.proofs.FullRuns.{reached_lasts}
