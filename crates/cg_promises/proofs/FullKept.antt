@@ -20,7 +20,8 @@ use Rattle.cg_machine.specs.Run.{Run, StepTaken, events_of, last_world}
 use Rattle.cg_machine.specs.Laws.{is_enter, is_stop, runs_own_frame}
 use Rattle.cg_machine.proofs.Condemned.{survivor_uncondemned}
 use Rattle.cg_machine.proofs.Serials.{Rises}
-use Rattle.cg_promises.proofs.FullStart.{IsReached, edge_from, in_merge, reached_survives}
+use Rattle.cg_promises.specs.Reached.{IsReached}
+use Rattle.cg_promises.proofs.FullStart.{edge_from, in_merge, reached_survives}
 use Rattle.cg_promises.proofs.FullRuns.{IsFullAt, IsRoot, full_after, reached_lasts, root_of}
 use Rattle.cg_promises.proofs.Kept.{Fares, Full, IsKeptBy, death_in, held_in}
 use Rattle.cg_promises.proofs.SealedStart.{edge}

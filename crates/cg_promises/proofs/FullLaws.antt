@@ -16,8 +16,8 @@ use Rattle.cg_machine.specs.Laws.{IsOfCollection, StartsFull, is_enter, is_stop,
 use Rattle.cg_machine.proofs.RunsOrderly.{worlds_orderly}
 use Rattle.cg_laws.specs.Apart.{StandsRightly}
 use Rattle.cg_laws.proofs.RunsApart.{runs_apart}
-use Rattle.cg_promises.specs.Reached.{ReachedIsKept}
-use Rattle.cg_promises.proofs.FullStart.{IsReached, in_merge, looked_at}
+use Rattle.cg_promises.specs.Reached.{IsReached, ReachedIsKept}
+use Rattle.cg_promises.proofs.FullStart.{in_merge, looked_at}
 use Rattle.cg_promises.proofs.FullKept.{full_then, reached_then}
 use Rattle.cg_promises.proofs.FullRuns.{enters_first}
 use Rattle.cg_promises.proofs.FullStop.{NoStop, end_reached, stop_ends}

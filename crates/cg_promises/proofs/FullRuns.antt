@@ -23,7 +23,8 @@ use Rattle.cg_machine.specs.Laws.{IsRooted, is_enter, is_stop}
 use Rattle.cg_machine.proofs.Condemned.{present, survivor_uncondemned}
 use Rattle.cg_machine.proofs.Releasing.{no_times}
 use Rattle.cg_machine.proofs.Serials.{Rises}
-use Rattle.cg_promises.proofs.FullStart.{IsReached, edge_from}
+use Rattle.cg_promises.specs.Reached.{IsReached}
+use Rattle.cg_promises.proofs.FullStart.{edge_from}
 use Rattle.cg_promises.proofs.Kept.{Fares, Full, IsKeptBy}
 use Rattle.cg_promises.proofs.KeptRuns.{IsFull, step_full}
 use Rattle.cg_promises.proofs.SealedRuns.{none_first}

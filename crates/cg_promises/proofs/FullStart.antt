@@ -23,6 +23,7 @@ use Rattle.cg_machine.proofs.Lookups.{same_object}
 use Rattle.cg_machine.proofs.Releasing.{no_times}
 use Rattle.cg_machine.proofs.Serials.{Rises}
 use Rattle.cg_machine.proofs.Unheld.{held_by_member}
+use Rattle.cg_promises.specs.Reached.{IsReached}
 use Rattle.cg_promises.proofs.Freed.{death_on}
 use Rattle.cg_promises.proofs.SealedStart.{edge, edge_of, less_held, more_held}
 use Rattle.cg_promises.proofs.Slack.{Excused, IsLoose, IsSlackOne, IsSlackWorld}
@@ -93,10 +94,6 @@ looked_at Seen young apart thawed = absurd (apart tt)
 looked_at Back young apart thawed = absurd (apart tt)
 looked_at Legacy young apart thawed = absurd (apart tt)
 looked_at Pend young apart thawed = absurd (apart tt)
-
--- what paths lead to
-abbrev pub IsReached : World → ℕ → Type 0
-IsReached w o = Reach (IsRooted w) (Includes (serials w.objects)) (edges (graph_of w.objects)) o
 
 module _ (w : World) (rises : Rises 1 w.next_serial w.objects) (near : (x : Object) → Includes w.objects x → (x.place ≡ Untracked) ⊎ (is_at (Gen 2) (in_merge 2 x) ≡ true)) where
   abbrev now : World

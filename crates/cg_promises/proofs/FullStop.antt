@@ -23,7 +23,7 @@ use Rattle.cg_machine.specs.Collect.{after_release, all_saved, calls_back, empti
 use Rattle.cg_machine.specs.Run.{StepOf}
 use Rattle.cg_machine.specs.Laws.{is_stop}
 use Rattle.cg_promises.proofs.FullRuns.{IsRoot, reached_lasts}
-use Rattle.cg_promises.proofs.FullStart.{IsReached}
+use Rattle.cg_promises.specs.Reached.{IsReached}
 use Rattle.cg_promises.proofs.Kept.{IsBare, appended}
 use Rattle.cg_promises.proofs.SealedRuns.{none_stops}
 

@@ -1,5 +1,6 @@
 //! What holds in every run. Each law is the contract of a function that does nothing.
 ghost use Rattle.cg_promises.specs.Lines.{NoDeadLines};
+ghost use Rattle.cg_promises.specs.Reached.{ReachedIsKept};
 ghost use Rattle.cg_promises.specs.Slack.{UntrackedAreSlack};
 ghost use Rattle.cg_machine.specs.Laws.{EntriesLeaveOnlyBy, FinalSetIsFreed, NoDeadNames, OneFinalizerEach, OnlyFreesNameMembers, Sealing, UnheldIsDying};
 
@@ -51,4 +52,9 @@ pub fn no_dead_lines()
 /// untracked tuples alone.
 pub fn untracked_are_slack()
     ensures { UntrackedAreSlack }
+{}
+
+/// In every run, what paths lead to when a full collection starts, they lead to when it stops, if no frame began.
+pub fn reached_is_kept()
+    ensures { ReachedIsKept }
 {}
