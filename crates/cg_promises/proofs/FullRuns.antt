@@ -63,7 +63,7 @@ module _ (script : Script) (kept : ℕ → Type 0) (start : List Object) (below 
 abbrev pub IsRoot : List (Option Val) → List Activity → ℕ → Type 0
 IsRoot names below o = Includes (name_holdings names) o ⊎ ((o ≡ 1) ⊎ (Includes (flat_map holds below) o ⊎ (list_any (is_death_of o) below ≡ true)))
 
-parts : (w : World) (o : ℕ) → occurrences o (holdings w) ≡ occurrences o (name_holdings w.names) + occurrences o (1 ∷ []) + occurrences o (entry_holdings (graph_of w.objects)) + occurrences o (flat_map holds w.stack)
+pub parts : (w : World) (o : ℕ) → occurrences o (holdings w) ≡ occurrences o (name_holdings w.names) + occurrences o (1 ∷ []) + occurrences o (entry_holdings (graph_of w.objects)) + occurrences o (flat_map holds w.stack)
 parts w o = let a = occurrences-append o (name_holdings w.names ++ (1 ∷ []) ++ entry_holdings (graph_of w.objects)) (flat_map holds w.stack) in
     let b = occurrences-append o (name_holdings w.names ++ (1 ∷ [])) (entry_holdings (graph_of w.objects)) in
     let c = occurrences-append o (name_holdings w.names) (1 ∷ []) in omega (arith, a, b, c)

@@ -36,3 +36,4 @@ pub mod FullRuns
 pub mod FullKept
 pub mod FullStop
 pub mod FullLaws
+pub mod FullLeft

@@ -83,7 +83,7 @@ instance_other x t = other_code x (λ c e. go c (sym (ap (λ (c : KindCode). eli
     go Func e = absurd (let no : false ≡ true = e in cc)
     go Weak e = absurd (let no : false ≡ true = e in cc)
 
-dict_no_tuple : (x : Object) → is_dict x ≡ true → ¬ (is_tuple x ≡ true)
+pub dict_no_tuple : (x : Object) → is_dict x ≡ true → ¬ (is_tuple x ≡ true)
 dict_no_tuple x t = go x.code t
   where
     go : (c : KindCode) → (elim c [ Dict ↦ true | _ ↦ false ]) ≡ true → ¬ ((elim c [ ListKind ↦ false | Tuple ↦ true | Dict ↦ false | Inst ↦ false | Func ↦ false | Weak ↦ false ]) ≡ true)
