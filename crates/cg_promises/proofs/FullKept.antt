@@ -1,21 +1,19 @@
 -- From the start of a full collection up to its stop, if no frame begins: what paths lead to at the start, they lead to still.
-use Rattle.std.proofs.Common.{◌≡◌, ◌≢◌, refl, sym, ◌∙◌, ap, subst, ℕ, Bool, true, false, inl, inr, ◌⊎◌, List, [], ◌∷◌, ◌++◌, map, Option, Some, None}
-use Rattle.std.specs.Prelude.{◌==◌, ◌||◌, count_by, flat_map, if◌then◌else◌}
-use Rattle.std.specs.List.{list_any}
+use Rattle.std.proofs.Common.{◌≡◌, refl, sym, ◌∙◌, ap, subst, ℕ, Bool, true, false, inl, inr, ◌⊎◌, List, [], ◌∷◌, ◌++◌, Option}
+use Rattle.std.specs.Prelude.{count_by, flat_map, if◌then◌else◌}
 use Rattle.cg_value.specs.declared.Val.{Val}
-use Rattle.cg_value.specs.declared.Place.{Place}
 use Rattle.cg_value.specs.declared.Place.TheVariants.{Untracked, Gen}
 use Rattle.cg_script.specs.declared.Script.{Script}
 use Rattle.cg_graph.specs.Member.{Includes}
 use Rattle.cg_graph.specs.Value.{references}
 use Rattle.cg_graph.specs.Object.{Object, is_at, objects_at, serials, with_place}
-use Rattle.cg_graph.specs.Holdings.{graph_of, name_holdings}
-use Rattle.cg_graph.specs.Reach.{Reach, edges, first, next as further}
-use Rattle.cg_graph.proofs.Members.{either, cases_of, Includes-append_cases, Includes-filter, Includes-map, Includes-map_cases}
+use Rattle.cg_graph.specs.Holdings.{graph_of}
+use Rattle.cg_graph.specs.Reach.{edges, first, next as further}
+use Rattle.cg_graph.proofs.Members.{either, Includes-filter, Includes-map, Includes-map_cases}
 use Rattle.cg_machine.specs.declared.event.Event.{Event}
-use Rattle.cg_machine.specs.World.{World, Activity, Dying, Death, Collecting, Collection, CollectPhase, Start, WeakClearing}
-use Rattle.cg_machine.specs.Holdings.{collect_holds, holds, is_death_of}
-use Rattle.cg_machine.specs.Collect.{is_condemned, merged, sorted, survivor_place, untrack, untracked_if, Sorts, StartStep}
+use Rattle.cg_machine.specs.World.{World, Activity, Dying, Death, Collecting, Collection, Start, WeakClearing}
+use Rattle.cg_machine.specs.Holdings.{collect_holds, holds}
+use Rattle.cg_machine.specs.Collect.{is_condemned, merged, sorted, untrack, untracked_if, Sorts, StartStep}
 use Rattle.cg_machine.specs.Run.{Run, StepTaken, events_of, last_world}
 use Rattle.cg_machine.specs.Laws.{is_enter, is_stop, runs_own_frame}
 use Rattle.cg_machine.proofs.Condemned.{survivor_uncondemned}
@@ -23,7 +21,7 @@ use Rattle.cg_machine.proofs.Serials.{Rises}
 use Rattle.cg_promises.specs.Reached.{IsReached}
 use Rattle.cg_promises.proofs.FullStart.{edge_from, in_merge, reached_survives}
 use Rattle.cg_promises.proofs.FullRuns.{IsFullAt, IsRoot, full_after, reached_lasts, root_of}
-use Rattle.cg_promises.proofs.Kept.{Fares, Full, IsKeptBy, death_in, held_in}
+use Rattle.cg_promises.proofs.Kept.{IsKeptBy, death_in, held_in}
 use Rattle.cg_promises.proofs.SealedStart.{edge}
 use Rattle.cg_promises.proofs.ToldRuns.{Fit}
 

@@ -1,16 +1,16 @@
 -- In every run what paths lead to when a full collection starts, they lead to when it stops, if no frame began.
-use Rattle.std.proofs.Common.{◌≡◌, ◌≢◌, refl, sym, ◌∙◌, ap, subst, ℕ, ◌<◌, Bool, true, false, inl, inr, ◌⊎◌, List, [], ◌∷◌, ◌++◌, map, arith}
+use Rattle.std.proofs.Common.{◌≡◌, ◌≢◌, refl, sym, ◌∙◌, ap, subst, ℕ, ◌<◌, Bool, true, false, inl, ◌⊎◌, List, [], ◌∷◌, ◌++◌, map, arith}
 use Rattle.std.specs.Prelude.{count_by}
 use Rattle.cg_value.specs.declared.Place.TheVariants.{Untracked, Gen, Frozen}
 use Rattle.cg_script.specs.declared.Script.{Script}
 use Rattle.cg_graph.specs.Member.{Includes}
-use Rattle.cg_graph.specs.Object.{Object, is_at, objects_at, same_place, serials_at}
+use Rattle.cg_graph.specs.Object.{Object, is_at, objects_at, same_place}
 use Rattle.cg_graph.proofs.Members.{either, Includes-append_cases, Includes-filter, Includes-map}
 use Rattle.cg_machine.specs.declared.event.Event.{Event}
 use Rattle.cg_machine.specs.declared.event.Event.TheVariants.{GcCollectable, GcStart}
-use Rattle.cg_machine.specs.World.{World, Activity, Collecting, Collection, Start, Dying, Death, opening, with_stack}
+use Rattle.cg_machine.specs.World.{World, Activity, Collecting, Collection, Dying, Death, opening, with_stack}
 use Rattle.cg_machine.specs.Effects.{gens_line}
-use Rattle.cg_machine.specs.Collect.{StartStep, EndStep, PhaseStep, collectable, has_flag, lines_if, stats}
+use Rattle.cg_machine.specs.Collect.{StartStep, PhaseStep, collectable, has_flag, lines_if, stats}
 use Rattle.cg_machine.specs.Run.{Run, Step, StepOf, StepTaken, IsRun, events_of, last_world, world_after}
 use Rattle.cg_machine.specs.Laws.{IsOfCollection, StartsFull, is_enter, is_stop, runs_own_frame}
 use Rattle.cg_machine.proofs.RunsOrderly.{worlds_orderly}

@@ -1,5 +1,5 @@
 -- Where all that is tracked is reached, all is: an untracked object is held by what is reached, or by a tuple with a larger serial.
-use Rattle.std.proofs.Common.{◌≡◌, ◌≢◌, refl, sym, ◌∙◌, ap, subst, ℕ, zero, suc, ◌+◌, ◌<◌, ◌≤◌, Bool, true, false, inl, inr, ◌⊎◌, List, [], ◌∷◌, ◌++◌, length, arith}
+use Rattle.std.proofs.Common.{◌≡◌, ◌≢◌, refl, sym, ◌∙◌, ap, subst, ℕ, zero, suc, ◌+◌, ◌<◌, ◌≤◌, true, false, inl, inr, ◌⊎◌, List, length, arith}
 use Rattle.std.specs.Prelude.{◌==◌}
 use Rattle.std.proofs.lemmas.Bool.{eqb-true}
 use Rattle.cg_value.specs.declared.Place.TheVariants.{Untracked}
@@ -7,14 +7,14 @@ use Rattle.cg_script.specs.declared.Script.{Script}
 use Rattle.cg_script.specs.Texts.{TextsAreKnown}
 use Rattle.cg_graph.specs.Member.{Includes, includes}
 use Rattle.cg_graph.specs.Value.{references}
-use Rattle.cg_graph.specs.Object.{Object, is_tuple, same_place, serials}
+use Rattle.cg_graph.specs.Object.{Object, same_place, serials}
 use Rattle.cg_graph.specs.Holdings.{entry_holdings, graph_of, occurrences}
-use Rattle.cg_graph.specs.Reach.{Reach, first, next as further}
+use Rattle.cg_graph.specs.Reach.{first, next as further}
 use Rattle.cg_graph.proofs.Members.{either, cases_of, Includes-map, Includes-map_cases, Includes-of, includes-of}
 use Rattle.cg_machine.specs.World.{World, opening}
 use Rattle.cg_machine.specs.Holdings.{holdings, in_degree}
 use Rattle.cg_machine.specs.Operands.{is_dict}
-use Rattle.cg_machine.specs.Run.{IsRun, StepTaken, last_world, world_after}
+use Rattle.cg_machine.specs.Run.{IsRun, StepTaken, world_after}
 use Rattle.cg_machine.specs.Laws.{NoGarbageIsLeft}
 use Rattle.cg_machine.proofs.Forgotten.{lives_within}
 use Rattle.cg_machine.proofs.OriginsOfRuns.{opening_origin}

@@ -1,32 +1,28 @@
 -- What paths lead to where a full collection is to start, paths lead to up to its stop, if no frame begins.
-use Rattle.std.proofs.Common.{◌≡◌, ◌≢◌, refl, sym, ◌∙◌, ap, subst, ℕ, ◌+◌, ◌<◌, Bool, true, false, inl, inr, ◌⊎◌, List, [], ◌∷◌, ◌++◌, map, Option, Some, None, arith}
-use Rattle.std.specs.Prelude.{◌==◌, ◌||◌, cond, count_by, flat_map, if◌then◌else◌}
+use Rattle.std.proofs.Common.{◌≡◌, sym, ◌∙◌, subst, ℕ, ◌+◌, true, false, inl, inr, ◌⊎◌, List, [], ◌∷◌, ◌++◌, Option, arith}
+use Rattle.std.specs.Prelude.{cond, count_by, flat_map}
 use Rattle.std.specs.List.{list_any}
 use Rattle.std.proofs.lemmas.List.Sums.{sum_by-append}
 use Rattle.cg_value.specs.declared.Val.{Val}
-use Rattle.cg_value.specs.declared.Place.{Place}
-use Rattle.cg_value.specs.declared.Place.TheVariants.{Untracked, Gen, Cand, Seen}
 use Rattle.cg_script.specs.declared.Script.{Script}
 use Rattle.cg_graph.specs.Member.{Includes, includes}
 use Rattle.cg_graph.specs.Value.{references}
-use Rattle.cg_graph.specs.Object.{Object, is_at, objects_at, same_place, serials, with_place}
+use Rattle.cg_graph.specs.Object.{Object, serials}
 use Rattle.cg_graph.specs.Holdings.{entry_holdings, graph_of, name_holdings, occurrences}
-use Rattle.cg_graph.specs.Reach.{Reach, edges, first, next as further}
+use Rattle.cg_graph.specs.Reach.{edges, first, next as further}
 use Rattle.cg_graph.proofs.Objects.{occurrences-append}
-use Rattle.cg_graph.proofs.Members.{either, cases_of, Includes-append_left, Includes-append_right, Includes-append_cases, Includes-filter, Includes-map, Includes-map_cases, Includes-of, includes-of}
+use Rattle.cg_graph.proofs.Members.{either, cases_of, Includes-map, Includes-map_cases, Includes-of, includes-of}
 use Rattle.cg_machine.specs.declared.event.Event.{Event}
-use Rattle.cg_machine.specs.World.{World, Activity, Collecting, Collection, Running, Start, with_stack}
-use Rattle.cg_machine.specs.Holdings.{holdings, holds, is_death_of, is_dying}
-use Rattle.cg_machine.specs.Collect.{is_condemned, merged, merged_place, sorted, survivor_place, Survives, Sorts}
+use Rattle.cg_machine.specs.World.{World, Activity, Running, with_stack}
+use Rattle.cg_machine.specs.Holdings.{holdings, holds, is_death_of}
 use Rattle.cg_machine.specs.Run.{Run, Step, StepOf, StepTaken, events_of, last_world}
 use Rattle.cg_machine.specs.Laws.{IsRooted, is_enter, is_stop}
-use Rattle.cg_machine.proofs.Condemned.{present, survivor_uncondemned}
+use Rattle.cg_machine.proofs.Condemned.{present}
 use Rattle.cg_machine.proofs.Releasing.{no_times}
-use Rattle.cg_machine.proofs.Serials.{Rises}
 use Rattle.cg_promises.specs.Reached.{IsReached}
 use Rattle.cg_promises.proofs.FullStart.{edge_from}
-use Rattle.cg_promises.proofs.Kept.{Fares, Full, IsKeptBy}
-use Rattle.cg_promises.proofs.KeptRuns.{IsFull, step_full}
+use Rattle.cg_promises.proofs.Kept.{Full, IsKeptBy}
+use Rattle.cg_promises.proofs.KeptRuns.{step_full}
 use Rattle.cg_promises.proofs.SealedRuns.{none_first}
 use Rattle.cg_promises.proofs.SealedStart.{edge, edge_of}
 use Rattle.cg_promises.proofs.ToldRuns.{Fit, step_fit}

@@ -1,23 +1,22 @@
 -- Where a full collection is to start: what survives it is what a path leads to from a name, the garbage list, an activity or
 -- a death, among those that it looks at.
-use Rattle.std.proofs.Common.{◌≡◌, ◌≢◌, refl, sym, ◌∙◌, ap, subst, ℕ, zero, suc, ◌+◌, ◌<◌, ◌≤◌, Bool, true, false, inl, inr, ◌⊎◌, List, [], ◌∷◌, ◌++◌, map, filter, arith}
-use Rattle.std.specs.Prelude.{◌==◌, cond, nat_le, flat_map, if◌then◌else◌}
-use Rattle.std.specs.List.{list_any}
+use Rattle.std.proofs.Common.{◌≡◌, ◌≢◌, refl, sym, ◌∙◌, ap, subst, ℕ, ◌+◌, ◌<◌, Bool, true, false, inl, inr, ◌⊎◌, List, [], ◌∷◌, ◌++◌, map, filter, arith}
+use Rattle.std.specs.Prelude.{cond, flat_map, if◌then◌else◌}
 use Rattle.std.proofs.lemmas.Bool.{le-leb}
 use Rattle.cg_value.specs.declared.Place.{Place}
 use Rattle.cg_value.specs.declared.Place.TheVariants.{Untracked, Gen, Frozen, Cand, Seen, Back, Legacy, Pend}
 use Rattle.cg_graph.specs.Member.{Includes, includes}
 use Rattle.cg_graph.specs.Value.{references}
-use Rattle.cg_graph.specs.Object.{Object, is_at, objects_at, same_place, serials, serials_at, with_place}
+use Rattle.cg_graph.specs.Object.{Object, is_at, objects_at, same_place, serials, with_place}
 use Rattle.cg_graph.specs.Holdings.{Graph, entry_holdings, graph_of, name_holdings, occurrences}
 use Rattle.cg_graph.specs.declared.Edge.{Edge}
-use Rattle.cg_graph.specs.Reach.{Reach, edges, first, next as further}
+use Rattle.cg_graph.specs.Reach.{edges, first, next as further}
 use Rattle.cg_graph.proofs.Objects.{occurrences-append}
-use Rattle.cg_graph.proofs.Members.{either, cases_of, Includes-append_left, Includes-append_right, Includes-append_cases, Includes-filter, Includes-filter_cases, Includes-map, Includes-map_cases, Includes-of, includes-of}
-use Rattle.cg_machine.specs.World.{World, Activity, Dying, Death, DyingPhase, Finalizer, AfterFinalizer, Clearing, Calling, AfterCall, LegacyFinalizer, AfterLegacy, Detaching, Emptying}
-use Rattle.cg_machine.specs.Holdings.{dying_holds, holdings, holds, is_death_of, is_dying}
+use Rattle.cg_graph.proofs.Members.{either, cases_of, Includes-append_cases, Includes-filter, Includes-filter_cases, Includes-map, Includes-map_cases, Includes-of, includes-of}
+use Rattle.cg_machine.specs.World.{World, Dying, Death, DyingPhase, Finalizer, AfterFinalizer, Clearing, Calling, AfterCall, LegacyFinalizer, AfterLegacy, Detaching, Emptying}
+use Rattle.cg_machine.specs.Holdings.{dying_holds, holdings, holds, is_dying}
 use Rattle.cg_machine.specs.Collect.{merged, merged_place, IsMemberOf, Survives}
-use Rattle.cg_machine.specs.Laws.{IsRooted, runs_own_frame, IsOfCollection}
+use Rattle.cg_machine.specs.Laws.{runs_own_frame, IsOfCollection}
 use Rattle.cg_machine.proofs.Condemned.{present}
 use Rattle.cg_machine.proofs.Lookups.{same_object}
 use Rattle.cg_machine.proofs.Releasing.{no_times}
@@ -26,9 +25,8 @@ use Rattle.cg_machine.proofs.Unheld.{held_by_member}
 use Rattle.cg_promises.specs.Reached.{IsReached}
 use Rattle.cg_promises.proofs.Freed.{death_on}
 use Rattle.cg_promises.proofs.SealedStart.{edge, edge_of, less_held, more_held}
-use Rattle.cg_promises.proofs.Slack.{Excused, IsLoose, IsSlackOne, IsSlackWorld}
+use Rattle.cg_promises.proofs.Slack.{IsSlackWorld}
 use Rattle.cg_promises.proofs.SlackRuns.{death_found}
-use Rattle.cg_promises.proofs.SlackStart.{tracked_at}
 use Rattle.cg_promises.proofs.Young.{IsYoung}
 
 -- an edge is a reference

@@ -1,27 +1,23 @@
 -- While a full collection goes on in which no frame begins, what names, activities below it and kept objects hold is kept: it
 -- is not condemned, it does not die, and it refers to what it referred to.
-use Rattle.std.proofs.Common.{◌≡◌, ◌≢◌, refl, sym, ◌∙◌, ap, subst, ℕ, ◌+◌, ◌-◌, ◌<◌, Bool, true, false, not, ◌&&◌, inl, inr, ◌⊎◌, List, [], ◌∷◌, ◌++◌, map, length, Option, Some, None, arith}
-use Rattle.std.specs.Prelude.{◌==◌, ◌||◌, count_by, flat_map, if◌then◌else◌, is_some, option_and_then, unwrap_or}
+use Rattle.std.proofs.Common.{◌≡◌, ◌≢◌, refl, sym, ◌∙◌, ap, subst, ℕ, Bool, true, false, not, inl, inr, ◌⊎◌, List, [], ◌∷◌, ◌++◌, map, Option, None}
+use Rattle.std.specs.Prelude.{◌==◌, ◌||◌, flat_map, if◌then◌else◌}
 use Rattle.std.specs.List.{list_any}
 use Rattle.std.proofs.lemmas.Bool.{eqb-true}
 use Rattle.cg_value.specs.declared.Val.{Val}
 use Rattle.cg_value.specs.declared.Val.TheVariants.{Ref}
 use Rattle.cg_value.specs.declared.Entry.{Entry}
 use Rattle.cg_value.specs.declared.Place.{Place}
-use Rattle.cg_value.specs.declared.Place.TheVariants.{Untracked, Gen, Cand, Seen, Legacy as LegacyPlace, Pend}
-use Rattle.cg_script.specs.declared.Script.{Script}
-use Rattle.cg_graph.specs.Member.{Includes, includes}
-use Rattle.cg_graph.specs.Value.{entry_references, item, last_entry, references, without_last}
-use Rattle.cg_graph.specs.Object.{Object, change, entries_of, is_at, is_in_map, is_tuple, marked, object_at, objects_at, same_place, serials, serials_at, with_entries, with_place, with_referent, without}
+use Rattle.cg_graph.specs.Member.{Includes}
+use Rattle.cg_graph.specs.Value.{entry_references, item, references}
+use Rattle.cg_graph.specs.Object.{Object, change, with_entries, with_place, with_referent, without}
 use Rattle.cg_graph.specs.Holdings.{name_holdings}
-use Rattle.cg_graph.proofs.Members.{either, cases_of, true_and, Includes-append_left, Includes-append_right, Includes-append_cases, Includes-filter, Includes-filter_cases, Includes-map, Includes-map_cases}
-use Rattle.cg_machine.specs.World.{World, Activity, TopLevel, Framed, Releasing, Dying, Death, Collecting, Collection, DyingPhase, Finalizer, CollectPhase, Turn, AfterTurn, Start, with_stack}
+use Rattle.cg_graph.proofs.Members.{either, cases_of, Includes-append_left, Includes-append_right, Includes-append_cases, Includes-filter, Includes-map}
+use Rattle.cg_machine.specs.World.{World, Activity, TopLevel, Framed, Releasing, Dying, Collecting, Collection, CollectPhase, Turn, AfterTurn, Start}
 use Rattle.cg_machine.specs.Holdings.{holds, in_degree, is_death_of, is_dying}
-use Rattle.cg_machine.specs.Frame.{Transition, begin_death, released}
 use Rattle.cg_machine.specs.Weak.{AllLose, loses_referent}
 use Rattle.cg_machine.specs.Collect.{all_saved, is_condemned, saved}
 use Rattle.cg_machine.proofs.Releasing.{none_holds}
-use Rattle.cg_promises.proofs.SlackStart.{not_false}
 
 -- an object later: not condemned, and with its references
 pub record Fares (x y : Object) : Type 0 where

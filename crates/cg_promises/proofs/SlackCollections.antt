@@ -1,5 +1,5 @@
 -- Collections: untracked objects are slack still, and what is given up and placed anew is no tuple.
-use Rattle.std.proofs.Common.{◌≡◌, ◌≢◌, refl, sym, ◌∙◌, ap, subst, ℕ, ◌+◌, ◌<◌, Bool, true, false, inl, inr, ◌⊎◌, List, [], ◌∷◌, ◌++◌, map, length, Option, Some, None}
+use Rattle.std.proofs.Common.{◌≡◌, ◌≢◌, refl, sym, ◌∙◌, ap, subst, ℕ, ◌+◌, Bool, true, false, inl, inr, List, [], ◌∷◌, ◌++◌, map, length, Option, Some, None}
 use Rattle.std.specs.Prelude.{◌==◌, ◌||◌, if◌then◌else◌, option_and_then, option_map, unwrap_or}
 use Rattle.std.proofs.lemmas.Bool.{eqb-true}
 use Rattle.cg_value.specs.declared.Entry.{Entry}
@@ -11,14 +11,13 @@ use Rattle.cg_value.specs.declared.Val.TheVariants.{Ref}
 use Rattle.cg_script.specs.declared.Script.{Script}
 use Rattle.cg_graph.specs.Member.{Includes, includes}
 use Rattle.cg_graph.specs.Value.{entry_references, item, last_entry, without_last}
-use Rattle.cg_graph.specs.Object.{Object, change, object_at, objects_at, entries_of, is_at, is_in_map, is_tuple, marked, same_place, serials, serials_at, with_entries, with_place}
-use Rattle.cg_graph.specs.Reach.{Reach, first, next as further}
-use Rattle.cg_graph.proofs.Members.{Includes-append_left, Includes-map, Includes-map_cases, Includes-filter_cases, Includes-of}
+use Rattle.cg_graph.specs.Object.{Object, change, object_at, objects_at, entries_of, is_at, is_in_map, is_tuple, marked, same_place, serials_at, with_entries, with_place}
+use Rattle.cg_graph.specs.Reach.{first, next as further}
+use Rattle.cg_graph.proofs.Members.{Includes-map, Includes-map_cases, Includes-filter_cases, Includes-of}
 use Rattle.cg_machine.specs.declared.event.Event.{Event}
 use Rattle.cg_machine.specs.declared.event.Event.TheVariants.{GcSaved}
 use Rattle.cg_machine.specs.declared.event.FrameSort.TheVariants.{Del, Callback}
 use Rattle.cg_machine.specs.World.{World, Activity, Releasing, Dying, Death, Collecting, Collection, CollectPhase, Start, WeakClearing, WeakCalling, AfterCallback, AfterRelease, Finalizing, AfterFinalizing, Split, Turns, Turn, AfterTurn, Ending, with_change, with_objects}
-use Rattle.cg_machine.specs.Holdings.{holds}
 use Rattle.cg_machine.specs.Frame.{Transition, procedure_of}
 use Rattle.cg_machine.specs.Weak.{AllLose, callback_of, loses_referent}
 use Rattle.cg_machine.specs.Dying.{finalizer_to_run}
@@ -28,7 +27,7 @@ use Rattle.cg_machine.proofs.Lookups.{same_object}
 use Rattle.cg_machine.proofs.Forgotten.{lives_within}
 use Rattle.cg_machine.proofs.DyingOrderly.{HasOrder}
 use Rattle.cg_laws.specs.Apart.{handles}
-use Rattle.cg_promises.proofs.Slack.{AreNoTuples, Fine, Goes, IsNoTuple, IsSlackWorld, Never, Slack, Still, either_slack, excused_on, goes_same, lost_still, moves_slack, placed_goes, push_slack, starts_slack, still_same, still_trans, test_still, turn_slack}
+use Rattle.cg_promises.proofs.Slack.{AreNoTuples, Fine, IsNoTuple, IsSlackWorld, Never, Slack, Still, either_slack, excused_on, lost_still, moves_slack, placed_goes, push_slack, starts_slack, still_same, still_trans, test_still, turn_slack}
 use Rattle.cg_promises.proofs.SlackDeaths.{shortened_still}
 use Rattle.cg_promises.proofs.SlackStart.{Anew, merge_still, sort_still, tracked_at}
 

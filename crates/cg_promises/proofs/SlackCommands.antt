@@ -1,35 +1,34 @@
 -- Commands: an untracked dictionary that gets what may be tracked becomes tracked, so that untracked objects are slack still.
-use Rattle.std.proofs.Common.{◌≡◌, ◌≢◌, refl, sym, ◌∙◌, ap, subst, ℕ, ◌+◌, ◌<◌, Bool, true, false, not, ◌&&◌, inl, inr, ◌⊎◌, List, [], ◌∷◌, ◌++◌, map, Option, Some, None, Ok, arith}
-use Rattle.std.specs.Prelude.{◌==◌, ◌||◌, if◌then◌else◌, is_some, ok_or, option_and_then, option_to_list, remove, slice_get, slice_set}
+use Rattle.std.proofs.Common.{◌≡◌, refl, sym, ◌∙◌, ap, subst, ℕ, Bool, true, false, not, ◌&&◌, inl, inr, ◌⊎◌, List, [], ◌∷◌, ◌++◌, map, Option, Some, None, Ok, arith}
+use Rattle.std.specs.Prelude.{◌==◌, ◌||◌, if◌then◌else◌, is_some, option_and_then, option_to_list, remove, slice_set}
 use Rattle.std.proofs.lemmas.Bool.{eqb-true, eq-eqb, and_parts}
 use Rattle.cg_value.specs.declared.Val.{Val}
 use Rattle.cg_value.specs.declared.Val.TheVariants.{None as Nothing, Int, Str, Ref}
 use Rattle.cg_value.specs.declared.Entry.{Entry}
 use Rattle.cg_value.specs.declared.Place.{Place}
-use Rattle.cg_value.specs.declared.Place.TheVariants.{Untracked, Gen, Frozen, Cand, Seen, Back, Legacy, Pend}
+use Rattle.cg_value.specs.declared.Place.TheVariants.{Untracked, Gen, Frozen}
 use Rattle.cg_value.specs.declared.KindCode.{KindCode}
 use Rattle.cg_value.specs.declared.KindCode.TheVariants.{List as ListKind, Tuple, Dict, Inst, Func, Weak}
-use Rattle.cg_script.specs.declared.Operand.{Operand}
 use Rattle.cg_script.specs.declared.Command.{Command}
 use Rattle.cg_script.specs.declared.Command.TheVariants.{MakeList, MakeTuple, MakeDict, MakeInst, MakeFunc, MakeRef, Bind, Del, Append, SetItem, DelItem, Put, Remove, SetAttr, DelAttr, Item, Get, Attr, Deref, Call, Quit, Collect, Enable, Disable, Threshold, Flags, Freeze, Unfreeze, Print, Refs, Tracked, Finalized, Count, Gens}
 use Rattle.cg_graph.specs.Member.{Includes, includes}
 use Rattle.cg_graph.specs.Value.{item, put, reference_in, references, value_at, without_key}
 use Rattle.cg_graph.specs.Object.{Object, change, first_place, is_tracked, is_tuple, may_be_tracked, object_at, same_place, serials, with_entries, with_place}
-use Rattle.cg_graph.proofs.Members.{either, cases_of, Includes-append_left, Includes-append_right, Includes-append_cases, Includes-map, Includes-map_cases, Includes-of, includes-of, true_or, or_left, or_right}
-use Rattle.cg_machine.specs.World.{World, Numbers, Collecting, Collection, with_change}
-use Rattle.cg_machine.specs.Refusals.{no_attribute, no_index, no_key, wrong_kind}
-use Rattle.cg_machine.specs.Operands.{is_dict, is_list, is_script_list, object, object_of, values}
+use Rattle.cg_graph.proofs.Members.{either, cases_of, Includes-append_left, Includes-append_right, Includes-append_cases, Includes-map_cases, Includes-of, includes-of, or_left, or_right}
+use Rattle.cg_machine.specs.World.{World}
+use Rattle.cg_machine.specs.Refusals.{wrong_kind}
+use Rattle.cg_machine.specs.Operands.{is_dict, is_list, is_script_list, object, object_of}
 use Rattle.cg_machine.specs.Effects.{Calls, Changes, Collects, Effect, Quits, frozen, has_room, makes, may_track, puts, replaced, tracked_by, unfrozen}
 use Rattle.cg_machine.specs.Commands.{effect}
 use Rattle.cg_machine.specs.Weak.{is_instance}
 use Rattle.cg_machine.proofs.CommandLaws.{Each, checked}
-use Rattle.cg_machine.proofs.CommandRefs.{each_then, option_held, put_free, without_key_free, HoldNone, IsNotTo}
+use Rattle.cg_machine.proofs.CommandRefs.{each_then, option_held, put_free, without_key_free}
 use Rattle.cg_machine.proofs.Forgotten.{lives_within}
 use Rattle.cg_machine.proofs.Lookups.{at_member, same_object}
 use Rattle.cg_machine.proofs.Serials.{Rises}
 use Rattle.cg_promises.proofs.MindedCommands.{Found, object_passes}
 use Rattle.cg_promises.proofs.Slack.{Excused, Fine, Goes, IsLoose, IsSlackOne, IsSlackWorld, Slack, Still, loose_later, map_still, moves_slack, test_still}
-use Rattle.cg_promises.proofs.SlackStart.{is_untracked, may_not, not_false, not_true}
+use Rattle.cg_promises.proofs.SlackStart.{is_untracked, may_not, not_true}
 
 -- what a value refers to
 option_holds : (m : Option ℕ) (o : ℕ) → Includes (option_to_list m) o → m ≡ Some o

@@ -1,9 +1,8 @@
 -- In every world of a run untracked objects are slack.
-use Rattle.std.proofs.Common.{◌≡◌, ◌≢◌, refl, sym, ◌∙◌, subst, ℕ, ◌<◌, Bool, true, false, inl, inr, ◌⊎◌, List, [], ◌∷◌, Option, Some, None, Result, Ok, Err}
-use Rattle.std.specs.Prelude.{◌==◌, ◌||◌, if◌then◌else◌}
+use Rattle.std.proofs.Common.{◌≡◌, refl, sym, ◌∙◌, subst, ℕ, Bool, true, false, inl, inr, List, [], ◌∷◌, Option, Some, None, Result, Ok, Err}
+use Rattle.std.specs.Prelude.{if◌then◌else◌}
 use Rattle.std.specs.List.{list_any}
 use Rattle.std.proofs.lemmas.Bool.{eq-eqb}
-use Rattle.cg_value.specs.declared.Place.TheVariants.{Untracked}
 use Rattle.cg_script.specs.declared.Script.{Script}
 use Rattle.cg_script.specs.declared.Command.{Command}
 use Rattle.cg_graph.specs.Member.{Includes}
@@ -26,7 +25,7 @@ use Rattle.cg_machine.proofs.RunsCalm.{HasCommands}
 use Rattle.cg_machine.proofs.Serials.{Rises}
 use Rattle.cg_laws.specs.Apart.{handles}
 use Rattle.cg_promises.specs.Slack.{IsLooseTuple, IsSlack, UntrackedAreSlack}
-use Rattle.cg_promises.proofs.Slack.{AreNoTuples, Excused, IsLoose, IsSlackWorld, Never, Slack, either_slack, push_slack, starts_slack, still_same, turn_slack}
+use Rattle.cg_promises.proofs.Slack.{AreNoTuples, Excused, IsLoose, IsSlackWorld, Never, Slack, push_slack, starts_slack, still_same, turn_slack}
 use Rattle.cg_promises.proofs.SlackDeaths.{dying_slack, frame_end_slack, released_slack}
 use Rattle.cg_promises.proofs.SlackCollections.{phase_slack}
 use Rattle.cg_promises.proofs.SlackCommands.{Slacks, effect_slack}

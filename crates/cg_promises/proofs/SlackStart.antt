@@ -1,5 +1,5 @@
 -- The start of a collection: what it untracks refers to untracked tuples alone.
-use Rattle.std.proofs.Common.{◌≡◌, ◌≢◌, refl, sym, ◌∙◌, ap, subst, ℕ, Bool, true, false, not, ◌&&◌, inl, inr, ◌⊎◌, List, [], ◌∷◌, map, Option, Some, None}
+use Rattle.std.proofs.Common.{◌≡◌, ◌≢◌, refl, sym, ◌∙◌, ap, subst, ℕ, Bool, true, false, not, ◌&&◌, inl, inr, ◌⊎◌, List, [], ◌∷◌, map, Some}
 use Rattle.std.specs.Prelude.{◌==◌, ◌||◌, nat_le, if◌then◌else◌, option_map, unwrap_or}
 use Rattle.std.specs.List.{list_any}
 use Rattle.cg_value.specs.declared.Place.{Place}
@@ -7,14 +7,14 @@ use Rattle.cg_value.specs.declared.Place.TheVariants.{Untracked, Gen, Frozen, Ca
 use Rattle.cg_script.specs.declared.Script.{Script}
 use Rattle.cg_graph.specs.Member.{Includes}
 use Rattle.cg_graph.specs.Value.{references}
-use Rattle.cg_graph.specs.Object.{Object, is_at, is_tracked, is_tuple, may_be_tracked, object_at, objects_at, same_place, serials_at, with_place}
+use Rattle.cg_graph.specs.Object.{Object, is_at, is_tracked, is_tuple, may_be_tracked, object_at, objects_at, same_place, with_place}
 use Rattle.cg_graph.proofs.Members.{either, cases_of, or_left, or_right, true_and, true_or, Includes-filter, Includes-map, Includes-map_cases}
 use Rattle.cg_machine.specs.Operands.{is_dict}
 use Rattle.cg_machine.specs.World.{World}
 use Rattle.cg_machine.specs.Collect.{has_none_tracked, merged_place, older, sorted, survivor_place, untrack, untracked_if, IsGarbage, IsSetAside, Sorts, Survives}
 use Rattle.cg_machine.proofs.Serials.{Rises, Rises-map}
 use Rattle.cg_machine.proofs.Lookups.{at_member, same_object}
-use Rattle.cg_promises.proofs.Slack.{Goes, IsLoose, IsSlackOne, Still, map_still, still_trans, test_still}
+use Rattle.cg_promises.proofs.Slack.{IsLoose, IsSlackOne, Still, map_still, test_still}
 
 pub not_true : (b : Bool) → not b ≡ false → b ≡ true
 not_true true e = refl

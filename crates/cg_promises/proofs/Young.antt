@@ -1,6 +1,6 @@
 -- A generation is 0, 1 or 2: those in which objects stand, and those of collections.
-use Rattle.std.proofs.Common.{◌≡◌, refl, sym, ◌∙◌, ap, subst, ℕ, ◌+◌, ◌-◌, ◌≤◌, ◌<◌, Bool, true, false, not, ◌&&◌, inl, inr, ◌⊎◌, List, [], ◌∷◌, ◌++◌, length, map, Option, Some, None, Result, Ok, Err, arith}
-use Rattle.std.specs.Prelude.{◌/◌, ◌==◌, ◌||◌, min, nat_le, nat_lt, ℤ, pos, negsuc, if◌then◌else◌, is_some, is_none, ok_or, option_and_then, option_to_list, slice_get, unwrap_or}
+use Rattle.std.proofs.Common.{◌≡◌, refl, sym, ◌∙◌, subst, ℕ, ◌+◌, ◌-◌, ◌≤◌, Bool, true, false, not, ◌&&◌, inl, inr, List, [], ◌∷◌, ◌++◌, length, map, Option, Some, None, Result, Ok, Err, arith}
+use Rattle.std.specs.Prelude.{◌/◌, ◌==◌, ◌||◌, nat_le, nat_lt, ℤ, pos, negsuc, if◌then◌else◌, is_some, ok_or, option_and_then, option_to_list, unwrap_or}
 use Rattle.std.proofs.lemmas.Bool.{leb-true, le-leb, ltb-true}
 use Rattle.cg_value.specs.declared.Val.{Val}
 use Rattle.cg_value.specs.declared.Val.TheVariants.{None as Nothing, Int, Str, Ref}
@@ -14,7 +14,7 @@ use Rattle.cg_script.specs.declared.Command.{Command}
 use Rattle.cg_script.specs.declared.Command.TheVariants.{MakeList, MakeTuple, MakeDict, MakeInst, MakeFunc, MakeRef, Bind, Del as DelName, Append, SetItem, DelItem, Put, Remove, SetAttr, DelAttr, Item, Get, Attr, Deref, Call as CallCommand, Quit, Collect, Enable, Disable, Threshold, Flags, Freeze, Unfreeze, Print, Refs, Tracked, Finalized, Count, Gens}
 use Rattle.cg_graph.specs.Member.{Includes, includes}
 use Rattle.cg_graph.specs.Value.{entry_references, item, last_entry, put, value_at, without_last}
-use Rattle.cg_graph.specs.Object.{Object, change, entries_of, first_place, is_at, is_in_map, is_tracked, is_tuple, marked, object_at, objects_at, serials_at, with_entries, with_place, with_referent, without}
+use Rattle.cg_graph.specs.Object.{Object, change, entries_of, first_place, is_at, is_in_map, is_tracked, is_tuple, marked, object_at, objects_at, serials_at, with_entries, with_place, with_referent}
 use Rattle.cg_graph.proofs.Members.{either, Includes-append_cases, Includes-filter, Includes-map, Includes-map_cases, Includes-filter_cases}
 use Rattle.cg_machine.specs.declared.event.Event.{Event}
 use Rattle.cg_machine.specs.declared.event.Event.TheVariants.{Alive, BudgetSpent, Collected, Enter, GcSaved}
@@ -22,13 +22,13 @@ use Rattle.cg_machine.specs.declared.event.FrameSort.{FrameSort}
 use Rattle.cg_machine.specs.declared.event.FrameSort.TheVariants.{Del, Legacy, Callback, Call}
 use Rattle.cg_machine.specs.declared.event.FrameSpec.{FrameSpec}
 use Rattle.cg_machine.specs.Program.{body_of, legacy_of}
-use Rattle.cg_machine.specs.World.{World, Numbers, Activity, TopLevel, Framed, Releasing, Dying, Death, Collecting, Collection, Frame, DyingPhase, Finalizer, AfterFinalizer, Clearing, Calling, AfterCall, LegacyFinalizer, AfterLegacy, Detaching, Emptying, CollectPhase, Start, WeakClearing, WeakCalling, AfterCallback, AfterRelease, Finalizing, AfterFinalizing, Split, Turns, Turn, AfterTurn, Ending, BudgetIsSpent, opening, push, with_change, with_objects, with_stack}
+use Rattle.cg_machine.specs.World.{World, Numbers, Activity, TopLevel, Framed, Releasing, Dying, Collecting, Collection, Frame, DyingPhase, Finalizer, AfterFinalizer, Clearing, Calling, AfterCall, LegacyFinalizer, AfterLegacy, Detaching, Emptying, CollectPhase, Start, WeakClearing, WeakCalling, AfterCallback, AfterRelease, Finalizing, AfterFinalizing, Split, Turns, Turn, AfterTurn, Ending, BudgetIsSpent, opening, push, with_change, with_objects, with_stack}
 use Rattle.cg_machine.specs.Holdings.{in_degree, is_collecting, is_dying}
 use Rattle.cg_machine.specs.Frame.{Transition, start_frame, frame_end, gives_up_function, begin_death, released, procedure_of}
 use Rattle.cg_machine.specs.Weak.{AllLose, has_weak_references, weak_references_if, loses_referent, callback_of}
 use Rattle.cg_machine.specs.Dying.{death_at, has_finalizers, finalizer_to_run, run_finalizer, run_legacy, after_frame, clear_one, call_one, detach_one, empty_one, dying}
 use Rattle.cg_machine.specs.Collect.{all_saved, calls_back, after_release, collection_at, empties, get_older, has_flag, has_none_tracked, looks_at, loses_at_split, merged, merged_place, older, save_all, saved, sorted, survivor_place, takes_turn, untrack, untracked_if, waits, EndStep, FinalizingStep, IsGarbage, IsSetAside, PhaseStep, SplitStep, StartStep, Survives, TurnsStep, WeakClearingStep}
-use Rattle.cg_machine.specs.Effects.{Calls, Changes, Collects, Effect, Quits, frozen, has_room, makes, may_track, place_of_index, puts, replaced, tracked_by, unfrozen}
+use Rattle.cg_machine.specs.Effects.{Calls, Changes, Collects, Effect, Quits, frozen, has_room, makes, may_track, place_of_index, puts, tracked_by, unfrozen}
 use Rattle.cg_machine.specs.Operands.{is_dict}
 use Rattle.cg_machine.specs.Refusals.{bad_generation}
 use Rattle.cg_machine.specs.Commands.{DoesEffect, effect, new_collection, stopped_frame, without_commands}

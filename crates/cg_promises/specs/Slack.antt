@@ -6,7 +6,6 @@ use Rattle.cg_graph.specs.Member.{Includes}
 use Rattle.cg_graph.specs.Value.{references}
 use Rattle.cg_graph.specs.Object.{Object, is_tuple}
 use Rattle.cg_machine.specs.Operands.{is_dict}
-use Rattle.cg_machine.specs.World.{World}
 use Rattle.cg_machine.specs.Holdings.{is_dying}
 use Rattle.cg_machine.specs.Run.{StepTaken, IsRun, world_after}
 
