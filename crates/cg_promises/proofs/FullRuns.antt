@@ -44,7 +44,7 @@ module _ (script : Script) (kept : ℕ → Type 0) (start : List Object) (below 
   one_step : (w : World) (events : List Event) (after : World) → Step script w events after → Fit script w → count_by is_enter events ≡ 0 → count_by is_stop events ≡ 0 → after.outcome ≡ Running → IsFullAt w → IsFullAt after
   one_step w events after step fit quiet on running h =
       let next = step_full script kept start below w fit.sound.rises (λ o k. subst (λ ns. IsKeptBy kept start ns below o) (sym h.same) (held o k)) there h.full.lives events after quiet on running h.full.tops h.full.collection h.full.bare h.full.turn h.full.begun
-          (subst (λ st. StepOf script (with_stack st w) st events after) h.full.is step.step) in
+      (subst (λ st. StepOf script (with_stack st w) st events after) h.full.is step.step) in
       record { same = next.names ∙ h.same; full = next.full }
 
   pub full_after : (w : World) (steps : List StepTaken) (stop : StepTaken) → Run script w (steps ++ stop ∷ []) → Fit script w → count_by is_enter (events_of steps) ≡ 0 → count_by is_stop (events_of steps) ≡ 0 → IsFullAt w → IsFullAt (last_world w steps)

@@ -130,4 +130,3 @@ never_released kept start tops below v o held lives is live none = go held
     go (inr (inr (inl m))) = (none_holds v o none).stack (subst (λ st. Includes (flat_map holds st) o) (sym is) (held_in o tops below m))
     go (inr (inr (inr (inl e)))) = let dies = subst (λ st. list_any (is_death_of o) st ≡ true) (sym is) (death_in o tops below e) in let no : true ≡ false = sym dies ∙ live in cc
     go (inr (inr (inr (inr x)))) = let y = lives x.0 x.1 x.2 in (none_holds v o none).entries y.0 y.1 (y.2.refers o x.3)
-

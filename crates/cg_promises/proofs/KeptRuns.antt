@@ -44,7 +44,6 @@ starts_none script spec u events after step quiet running = go (u.budget == 0) s
 
 module _ (script : Script) (kept : ℕ → Type 0) (start : List Object) (below : List Activity) (v : World) (rises : Rises 1 v.next_serial v.objects) (held : (o : ℕ) → kept o → IsKeptBy kept start v.names below o) (there : (o : ℕ) → kept o → (x : Object) × Includes start x × (x.serial ≡ o))
     (lives : (x : Object) → Includes start x → kept x.serial → (y : Object) × Includes v.objects y × Fares x y) where
-
   -- a world of the collection, with the same names
   pub record IsFull (w : World) : Type 0 where
     pub names : w.names ≡ v.names

@@ -87,15 +87,18 @@ dict_kept x y c = cc
 pub still_trans : (hard : ℕ → Type 0) (before now after : List Object) → Still hard before now → Still hard now after → Still hard before after
 still_trans hard before now after h k y m =
     let a = k y m in
-    let b = h a.0 a.1 in
-    (b.0, b.1, record {
-      stays = record {
-        serial = a.2.stays.serial ∙ b.2.stays.serial;
-        code = a.2.stays.code ∙ b.2.stays.code;
-        untracked = λ t u. a.2.stays.untracked (tuple_kept b.0 a.0 b.2.stays.code ∙ t) (b.2.stays.untracked t u);
-      };
-      loses = either a.2.loses (λ x. inl x) (λ l. either b.2.loses (λ x. inl (subst hard (sym a.2.stays.serial) x)) (λ f. inr (λ u. let c = l u in let d = f c.0 in (d.0, λ o i. d.1 o (c.1 o i)))));
-    })
+    let b = h a.0 a.1 in (
+      b.0,
+      b.1,
+      record {
+        stays = record {
+          serial = a.2.stays.serial ∙ b.2.stays.serial;
+          code = a.2.stays.code ∙ b.2.stays.code;
+          untracked = λ t u. a.2.stays.untracked (tuple_kept b.0 a.0 b.2.stays.code ∙ t) (b.2.stays.untracked t u);
+        };
+        loses = either a.2.loses (λ x. inl x) (λ l. either b.2.loses (λ x. inl (subst hard (sym a.2.stays.serial) x)) (λ f. inr (λ u. let c = l u in let d = f c.0 in (d.0, λ o i. d.1 o (c.1 o i)))));
+      },
+    )
 
 -- those that pass a test change
 pub test_still : (hard : ℕ → Type 0) (f : Object → Object) (test : Object → Bool) (objects : List Object) → ((x : Object) → Includes objects x → test x ≡ true → Goes hard x (f x)) → Still hard objects (map (λ x. if test x then f x else x) objects)
