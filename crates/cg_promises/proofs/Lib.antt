@@ -37,3 +37,4 @@ pub mod FullKept
 pub mod FullStop
 pub mod FullLaws
 pub mod FullLeft
+pub mod FullDecided

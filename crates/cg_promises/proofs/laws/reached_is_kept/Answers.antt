@@ -1,3 +1,4 @@
+use Rattle.cg_promises.proofs.FullDecided.{reached_decided}
 use Rattle.cg_promises.proofs.FullLaws.{reached_is_kept}
 use Rattle.cg_promises.proofs.laws.reached_is_kept.Goals as goal
 
