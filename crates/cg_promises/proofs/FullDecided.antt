@@ -1,11 +1,11 @@
 -- Whether paths lead to an object is decided.
-use Rattle.std.proofs.Common.{◌≡◌, sym, ◌∙◌, ℕ, ◌<◌, Bool, true, false, inl, inr, ◌⊎◌, List}
+use Rattle.std.proofs.Common.{◌≡◌, sym, ◌∙◌, ℕ, Bool, true, false, inl, inr, ◌⊎◌}
 use Rattle.std.specs.Prelude.{◌||◌, nat_lt}
 use Rattle.std.proofs.lemmas.Bool.{lt-ltb, ltb-true}
-use Rattle.cg_graph.specs.Member.{Includes, includes}
+use Rattle.cg_graph.specs.Member.{includes}
 use Rattle.cg_graph.specs.Object.{serials}
 use Rattle.cg_graph.specs.Holdings.{entry_holdings, graph_of, occurrences}
-use Rattle.cg_graph.specs.Reach.{Reach, edges}
+use Rattle.cg_graph.specs.Reach.{edges}
 use Rattle.cg_graph.proofs.Members.{either, cases_of, or_left, or_right, true_or, Includes-of, includes-of}
 use Rattle.cg_graph.proofs.Search.{Reach-mono, reached, reached_all, reached_only}
 use Rattle.cg_machine.specs.World.{World}

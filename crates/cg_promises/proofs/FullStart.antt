@@ -15,7 +15,7 @@ use Rattle.cg_graph.proofs.Objects.{occurrences-append}
 use Rattle.cg_graph.proofs.Members.{either, cases_of, Includes-append_cases, Includes-filter, Includes-filter_cases, Includes-map, Includes-map_cases, Includes-of, includes-of}
 use Rattle.cg_machine.specs.World.{World, Dying, Death, DyingPhase, Finalizer, AfterFinalizer, Clearing, Calling, AfterCall, LegacyFinalizer, AfterLegacy, Detaching, Emptying}
 use Rattle.cg_machine.specs.Holdings.{dying_holds, holdings, holds, is_dying}
-use Rattle.cg_machine.specs.Collect.{merged, merged_place, IsMemberOf, Survives}
+use Rattle.cg_machine.specs.Collect.{merged, merged_place, IsGarbage, IsMemberOf, Survives}
 use Rattle.cg_machine.specs.Laws.{runs_own_frame, IsOfCollection}
 use Rattle.cg_machine.proofs.Condemned.{present}
 use Rattle.cg_machine.proofs.Lookups.{same_object}
@@ -203,3 +203,7 @@ module _ (w : World) (rises : Rises 1 w.next_serial w.objects) (near : (x : Obje
     pub survives_reached : (o : ℕ) → Survives now (Gen 2) o → IsReached w o
     survives_reached o (first held inside) = first_one o held inside
     survives_reached o (further path arrow inside) = next_back _ o (survives_reached _ path) arrow inside
+
+    -- what no path leads to, of those that are looked at, is garbage
+    pub unreached_garbage : (o : ℕ) → IsMemberOf now (Gen 2) o → ¬ IsReached w o → IsGarbage now (Gen 2) o
+    unreached_garbage o m none = record { member = m; no_path = λ s. none (survives_reached o s) }

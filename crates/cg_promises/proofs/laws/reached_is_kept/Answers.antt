@@ -1,4 +1,3 @@
-use Rattle.cg_promises.proofs.FullDecided.{reached_decided}
 use Rattle.cg_promises.proofs.FullLaws.{reached_is_kept}
 use Rattle.cg_promises.proofs.laws.reached_is_kept.Goals as goal
 
