@@ -30,7 +30,7 @@ use Rattle.cg_promises.proofs.ToldCollections.{filter_lives}
 use Rattle.cg_promises.proofs.ToldRuns.{Fit, opening_fit, run_back, run_front, run_fit, step_fit, step_goes}
 
 -- a death on a stack
-death_on : (n : ℕ) (stack : List Activity) → list_any (is_death_of n) stack ≡ true → (d : Death) × Includes stack (Dying d) × (d.object ≡ n)
+pub death_on : (n : ℕ) (stack : List Activity) → list_any (is_death_of n) stack ≡ true → (d : Death) × Includes stack (Dying d) × (d.object ≡ n)
 death_on n [] e = absurd (let no : false ≡ true = e in cc)
 death_on n (a ∷ stack) e = either (true_or (is_death_of n a) (list_any (is_death_of n) stack) e) (here a refl) (λ k. let d = death_on n stack k in (d.0, inr d.1, d.2))
   where

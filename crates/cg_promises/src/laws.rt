@@ -1,5 +1,7 @@
 //! What holds in every run. Each law is the contract of a function that does nothing.
 ghost use Rattle.cg_promises.specs.Lines.{NoDeadLines};
+ghost use Rattle.cg_promises.specs.Reached.{ReachedIsKept};
+ghost use Rattle.cg_promises.specs.Slack.{UntrackedAreSlack};
 ghost use Rattle.cg_machine.specs.Laws.{EntriesLeaveOnlyBy, FinalSetIsFreed, NoDeadNames, OneFinalizerEach, OnlyFreesNameMembers, Sealing, UnheldIsDying};
 
 /// In every run the finalizer of one object begins at most once.
@@ -44,4 +46,15 @@ pub fn entries_leave_only_by()
 /// In every run, after the line that an object is freed no line of the run names it.
 pub fn no_dead_lines()
     ensures { NoDeadLines }
+{}
+
+/// In every run an untracked object, but for the garbage list and what is dying, is a tuple or a dictionary that refers to
+/// untracked tuples alone.
+pub fn untracked_are_slack()
+    ensures { UntrackedAreSlack }
+{}
+
+/// In every run, what paths lead to when a full collection starts, they lead to when it stops, if no frame began.
+pub fn reached_is_kept()
+    ensures { ReachedIsKept }
 {}
