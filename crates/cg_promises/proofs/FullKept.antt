@@ -20,24 +20,10 @@ use Rattle.cg_machine.proofs.Condemned.{survivor_uncondemned}
 use Rattle.cg_machine.proofs.Serials.{Rises}
 use Rattle.cg_promises.specs.Reached.{IsReached}
 use Rattle.cg_promises.proofs.FullStart.{edge_from, in_merge, reached_survives}
-use Rattle.cg_promises.proofs.FullRuns.{IsFullAt, IsRoot, full_after, reached_lasts, root_of}
-use Rattle.cg_promises.proofs.Kept.{IsKeptBy, death_in, held_in}
+use Rattle.cg_promises.proofs.FullRuns.{IsFullAt, IsRoot, full_after, reached_lasts, root_down, root_of, root_up}
+use Rattle.cg_promises.proofs.Kept.{IsKeptBy}
 use Rattle.cg_promises.proofs.SealedStart.{edge}
 use Rattle.cg_promises.proofs.ToldRuns.{Fit}
-
--- a collection that is to start holds nothing and is no death
-root_down : (names : List (Option Val)) (c : Collection) (below : List Activity) (o : ℕ) → c.phase ≡ Start → IsRoot names (Collecting c ∷ below) o → IsRoot names below o
-root_down names c below o phase (inl m) = inl m
-root_down names c below o phase (inr (inl e)) = inr (inl e)
-root_down names c below o phase (inr (inr (inl m))) = inr (inr (inl (subst (λ p. Includes (collect_holds p ++ flat_map holds below) o) phase m)))
-root_down names c below o phase (inr (inr (inr e))) = inr (inr (inr e))
-
--- what stands below stays a root
-root_up : (names : List (Option Val)) (tops below : List Activity) (o : ℕ) → IsRoot names below o → IsRoot names (tops ++ below) o
-root_up names tops below o (inl m) = inl m
-root_up names tops below o (inr (inl e)) = inr (inl e)
-root_up names tops below o (inr (inr (inl m))) = inr (inr (inl (held_in o tops below m)))
-root_up names tops below o (inr (inr (inr e))) = inr (inr (inr (death_in o tops below e)))
 
 joined : (xs : List Activity) (a : Activity) (below : List Activity) → xs ++ a ∷ below ≡ (xs ++ a ∷ []) ++ below
 joined [] a below = refl
@@ -50,16 +36,16 @@ module _ (script : Script) (c : Collection) (below : List Activity) (v : World) 
   abbrev kept : ℕ → Type 0
   kept o = IsReached v o
 
-  abbrev objects_now : List Object
+  abbrev pub objects_now : List Object
   objects_now = (merged 2 v).objects
 
-  sorts : Sorts script 2 (merged 2 v) start.chosen start.places
+  pub sorts : Sorts script 2 (merged 2 v) start.chosen start.places
   sorts = subst (λ g. Sorts script g (merged g v) start.chosen start.places) complete start.sorts
 
-  objects_after : after.objects ≡ sorted 2 start.places objects_now
+  pub objects_after : after.objects ≡ sorted 2 start.places objects_now
   objects_after = ap (λ (w : World). w.objects) start.world ∙ ap (λ g. sorted g start.places (merged g v).objects) complete
 
-  abbrev place_anew : Object → Object
+  abbrev pub place_anew : Object → Object
   place_anew x = if is_at (Gen 2) x then with_place (start.places x) x else x
 
   same_serial : (b : Bool) (x : Object) → (if b then with_place (start.places x) x else x).serial ≡ x.serial
@@ -82,20 +68,20 @@ module _ (script : Script) (c : Collection) (below : List Activity) (v : World) 
       go false f = either (near x m) (λ u. ap (λ p. is_condemned (with_place p x)) (ap (λ p. (in_merge 2 (with_place p x)).place) u)) (λ t. absurd (let no : true ≡ false = sym t ∙ f in cc))
 
   -- where it is after
-  anew : (x : Object) → Includes v.objects x → Includes after.objects (place_anew (in_merge 2 x))
+  pub anew : (x : Object) → Includes v.objects x → Includes after.objects (place_anew (in_merge 2 x))
   anew x m = subst (λ os. Includes os (place_anew (in_merge 2 x))) (sym objects_after) (Includes-map place_anew objects_now (in_merge 2 x) (Includes-map (in_merge 2) v.objects x m))
 
-  from_anew : (y : Object) → Includes after.objects y → (x : Object) × Includes v.objects x × (place_anew (in_merge 2 x) ≡ y)
+  pub from_anew : (y : Object) → Includes after.objects y → (x : Object) × Includes v.objects x × (place_anew (in_merge 2 x) ≡ y)
   from_anew y m =
       let z = Includes-map_cases place_anew objects_now y (subst (λ os. Includes os y) objects_after m) in
       let x = Includes-map_cases (in_merge 2) v.objects z.0 z.1 in
       (x.0, x.1, ap place_anew x.2 ∙ z.2)
 
-  serial_anew : (x : Object) → (place_anew (in_merge 2 x)).serial ≡ x.serial
+  pub serial_anew : (x : Object) → (place_anew (in_merge 2 x)).serial ≡ x.serial
   serial_anew x = same_serial (is_at (Gen 2) (in_merge 2 x)) (in_merge 2 x)
 
   pub held : (o : ℕ) → kept o → IsKeptBy kept after.objects v.names below o
-  held o (first rooted inside) = by_root (root_down v.names c below o phase (subst (λ st. IsRoot v.names st o) top (root_of v o rooted)))
+  held o (first rooted inside) = by_root (root_down v.names c below o (ap collect_holds phase) (subst (λ st. IsRoot v.names st o) top (root_of v o rooted)))
     where
       by_root : IsRoot v.names below o → IsKeptBy kept after.objects v.names below o
       by_root (inl m) = inl m
@@ -138,6 +124,6 @@ module _ (script : Script) (c : Collection) (below : List Activity) (v : World) 
     pub reached_then : (o : ℕ) → IsReached v o → IsReached (last_world after steps) o
     reached_then = reached_lasts v (last_world after steps)
         (λ o r. subst (λ ns. IsRoot ns (last_world after steps).stack o) (sym full_then.same) (subst (λ st. IsRoot v.names st o) (sym (full_then.full.is ∙ joined full_then.full.tops (Collecting full_then.full.collection) below))
-        (root_up v.names (full_then.full.tops ++ Collecting full_then.full.collection ∷ []) below o (root_down v.names c below o phase (subst (λ st. IsRoot v.names st o) top r)))))
+        (root_up v.names (full_then.full.tops ++ Collecting full_then.full.collection ∷ []) below o (root_down v.names c below o (ap collect_holds phase) (subst (λ st. IsRoot v.names st o) top r)))))
         (λ x m k. let y = full_then.full.lives (place_anew (in_merge 2 x)) (anew x m) (subst kept (sym (serial_anew x)) k) in
         (y.0, y.1, y.2.serial ∙ serial_anew x, λ o i. y.2.refers o (same_entries (is_at (Gen 2) (in_merge 2 x)) (in_merge 2 x) o i)))

@@ -13,15 +13,15 @@ use Rattle.cg_graph.specs.Reach.{edges, first, next as further}
 use Rattle.cg_graph.proofs.Objects.{occurrences-append}
 use Rattle.cg_graph.proofs.Members.{either, cases_of, Includes-map, Includes-map_cases, Includes-of, includes-of}
 use Rattle.cg_machine.specs.declared.event.Event.{Event}
-use Rattle.cg_machine.specs.World.{World, Activity, Running, with_stack}
-use Rattle.cg_machine.specs.Holdings.{holdings, holds, is_death_of}
+use Rattle.cg_machine.specs.World.{World, Activity, Collecting, Collection, Running, with_stack}
+use Rattle.cg_machine.specs.Holdings.{collect_holds, holdings, holds, is_death_of}
 use Rattle.cg_machine.specs.Run.{Run, Step, StepOf, StepTaken, events_of, last_world}
 use Rattle.cg_machine.specs.Laws.{IsRooted, is_enter, is_stop}
 use Rattle.cg_machine.proofs.Condemned.{present}
 use Rattle.cg_machine.proofs.Releasing.{no_times}
 use Rattle.cg_promises.specs.Reached.{IsReached}
 use Rattle.cg_promises.proofs.FullStart.{edge_from}
-use Rattle.cg_promises.proofs.Kept.{Full, IsKeptBy}
+use Rattle.cg_promises.proofs.Kept.{Full, IsKeptBy, death_in, held_in}
 use Rattle.cg_promises.proofs.KeptRuns.{step_full}
 use Rattle.cg_promises.proofs.SealedRuns.{none_first}
 use Rattle.cg_promises.proofs.SealedStart.{edge, edge_of}
@@ -31,7 +31,7 @@ pub enters_first : (xs ys : List Event) → count_by is_enter (xs ++ ys) ≡ 0 �
 enters_first xs ys e = let all : count_by is_enter (xs ++ ys) ≡ count_by is_enter xs + count_by is_enter ys = sum_by-append (λ x. cond (is_enter x) 1 0) xs ys in (omega (arith, all, e), omega (arith, all, e))
 
 -- a step follows
-running_still : (script : Script) (w : World) (steps : List StepTaken) (stop : StepTaken) → Run script w (steps ++ stop ∷ []) → w.outcome ≡ Running
+pub running_still : (script : Script) (w : World) (steps : List StepTaken) (stop : StepTaken) → Run script w (steps ++ stop ∷ []) → w.outcome ≡ Running
 running_still script w [] stop run = run.0.running
 running_still script w (step ∷ steps) stop run = run.0.running
 
@@ -58,6 +58,20 @@ module _ (script : Script) (kept : ℕ → Type 0) (start : List Object) (below 
 -- the roots of a world whose stack ends so
 abbrev pub IsRoot : List (Option Val) → List Activity → ℕ → Type 0
 IsRoot names below o = Includes (name_holdings names) o ⊎ ((o ≡ 1) ⊎ (Includes (flat_map holds below) o ⊎ (list_any (is_death_of o) below ≡ true)))
+
+-- a collection that holds nothing is no death
+pub root_down : (names : List (Option Val)) (c : Collection) (below : List Activity) (o : ℕ) → collect_holds c.phase ≡ [] → IsRoot names (Collecting c ∷ below) o → IsRoot names below o
+root_down names c below o none (inl m) = inl m
+root_down names c below o none (inr (inl e)) = inr (inl e)
+root_down names c below o none (inr (inr (inl m))) = inr (inr (inl (subst (λ (ns : List ℕ). Includes (ns ++ flat_map holds below) o) none m)))
+root_down names c below o none (inr (inr (inr e))) = inr (inr (inr e))
+
+-- what stands below stays a root
+pub root_up : (names : List (Option Val)) (tops below : List Activity) (o : ℕ) → IsRoot names below o → IsRoot names (tops ++ below) o
+root_up names tops below o (inl m) = inl m
+root_up names tops below o (inr (inl e)) = inr (inl e)
+root_up names tops below o (inr (inr (inl m))) = inr (inr (inl (held_in o tops below m)))
+root_up names tops below o (inr (inr (inr e))) = inr (inr (inr (death_in o tops below e)))
 
 pub parts : (w : World) (o : ℕ) → occurrences o (holdings w) ≡ occurrences o (name_holdings w.names) + occurrences o (1 ∷ []) + occurrences o (entry_holdings (graph_of w.objects)) + occurrences o (flat_map holds w.stack)
 parts w o = let a = occurrences-append o (name_holdings w.names ++ (1 ∷ []) ++ entry_holdings (graph_of w.objects)) (flat_map holds w.stack) in

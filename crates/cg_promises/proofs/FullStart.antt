@@ -116,7 +116,7 @@ module _ (w : World) (rises : Rises 1 w.next_serial w.objects) (near : (x : Obje
   count_holdings o = ap (occurrences o) same_holdings
 
   -- a member stands at no other place
-  member_tracked : (o : ℕ) → IsMemberOf now (Gen 2) o → (x : Object) → Includes w.objects x → x.serial ≡ o → x.place ≢ Untracked
+  pub member_tracked : (o : ℕ) → IsMemberOf now (Gen 2) o → (x : Object) → Includes w.objects x → x.serial ≡ o → x.place ≢ Untracked
   member_tracked o m x i s u =
       let z = Includes-map_cases (λ (y : Object). y.serial) members o m in
       let at = Includes-filter_cases (is_at (Gen 2)) now.objects z.0 z.1 in
@@ -125,7 +125,7 @@ module _ (w : World) (rises : Rises 1 w.next_serial w.objects) (near : (x : Obje
       let standing : same_place (merged_place 2 x.place) (Gen 2) ≡ true = subst (λ (q : Object). same_place (merged_place 2 q.place) (Gen 2) ≡ true) same (subst (λ (q : Object). is_at (Gen 2) q ≡ true) (sym y.2) at.1) in
       let no : false ≡ true = sym (ap (λ p. same_place (merged_place 2 p) (Gen 2)) u) ∙ standing in cc
 
-  member_lives : (o : ℕ) → IsMemberOf now (Gen 2) o → Includes (serials w.objects) o
+  pub member_lives : (o : ℕ) → IsMemberOf now (Gen 2) o → Includes (serials w.objects) o
   member_lives o m =
       let z = Includes-map_cases (λ (y : Object). y.serial) members o m in
       let y = Includes-map_cases (in_merge 2) w.objects z.0 (Includes-filter_cases (is_at (Gen 2)) now.objects z.0 z.1).0 in

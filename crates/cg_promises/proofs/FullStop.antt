@@ -1,5 +1,5 @@
 -- The step in which a full collection stops is that of its end.
-use Rattle.std.proofs.Common.{◌≡◌, ◌≢◌, refl, sym, ◌∙◌, subst, ℕ, ◌-◌, ◌<◌, Bool, true, false, not, ◌&&◌, inl, inr, ◌⊎◌, List, [], ◌∷◌, ◌++◌, map, Option, Some, None, arith}
+use Rattle.std.proofs.Common.{◌≡◌, ◌≢◌, refl, sym, ◌∙◌, ap, subst, ℕ, ◌-◌, ◌<◌, Bool, true, false, not, ◌&&◌, inl, inr, ◌⊎◌, List, [], ◌∷◌, ◌++◌, map, Option, Some, None, arith}
 use Rattle.std.specs.Prelude.{◌==◌, count_by, flat_map, if◌then◌else◌, option_and_then}
 use Rattle.cg_value.specs.declared.Entry.{Entry}
 use Rattle.cg_value.specs.declared.Place.TheVariants.{Untracked, Gen, Legacy}
@@ -22,7 +22,7 @@ use Rattle.cg_machine.specs.Dying.{after_frame, death_at, call_one, clear_one, d
 use Rattle.cg_machine.specs.Collect.{all_saved, empties, has_flag, looks_at, older, save_all, saved, EndStep, PhaseStep}
 use Rattle.cg_machine.specs.Run.{StepOf}
 use Rattle.cg_machine.specs.Laws.{is_stop}
-use Rattle.cg_promises.proofs.FullRuns.{IsRoot, reached_lasts}
+use Rattle.cg_promises.proofs.FullRuns.{IsRoot, reached_lasts, root_down}
 use Rattle.cg_promises.specs.Reached.{IsReached}
 use Rattle.cg_promises.proofs.Kept.{IsBare, appended}
 use Rattle.cg_promises.proofs.SealedRuns.{none_stops}
@@ -100,7 +100,7 @@ dying_quiet script o Emptying below w = go (last_entry (entries_of w.objects o))
     go (Some e) = no_event
 
 -- a collection that has begun stops at its end alone
-phase_quiet : (script : Script) (c : Collection) (phase : CollectPhase) (below : List Activity) (w : World) (events : List Event) (after : World) → phase ≢ Start → PhaseStep script c phase below w events after → (phase ≡ Ending) ⊎ NoStop events
+pub phase_quiet : (script : Script) (c : Collection) (phase : CollectPhase) (below : List Activity) (w : World) (events : List Event) (after : World) → phase ≢ Start → PhaseStep script c phase below w events after → (phase ≡ Ending) ⊎ NoStop events
 phase_quiet script c Start below w events after begun step = absurd (begun refl)
 phase_quiet script c (WeakClearing waiting) below w events after begun (inl step) = inr (subst NoStop (sym step.yields.0) (one_event (Cleared step.weak) refl))
 phase_quiet script c (WeakClearing waiting) below w events after begun (inr step) = inr (subst NoStop (sym step.1.0) no_event)
@@ -160,13 +160,7 @@ all_saved_grow (o ∷ keeps) objects = grows_trans objects (saved o objects) (al
 -- what paths lead to before the end, they lead to after it
 pub end_reached : (script : Script) (c : Collection) (below : List Activity) (w : World) (events : List Event) (after : World) → w.stack ≡ Collecting c ∷ below → c.phase ≡ Ending → EndStep script c below w events after → (o : ℕ) → IsReached w o → IsReached after o
 end_reached script c below w events after top phase step = reached_lasts w after
-    (λ o r. subst (λ (u : World). IsRoot u.names u.stack o) (sym step.world) (root_down w.names c below o phase (subst (λ st. IsRoot w.names st o) top r)))
+    (λ o r. subst (λ (u : World). IsRoot u.names u.stack o) (sym step.world) (root_down w.names c below o (ap collect_holds phase) (subst (λ st. IsRoot w.names st o) top r)))
     (λ x m path. subst (λ (u : World). (y : Object) × Includes u.objects y × (y.serial ≡ x.serial) × ((o : ℕ) → Includes (references x.entries) o → Includes (references y.entries) o)) (sym step.world)
     (grows_trans w.objects (all_saved step.keeps w.objects) (map (λ z. if is_at Legacy z then with_place (Gen (older c.generation)) z else z) (all_saved step.keeps w.objects)) (all_saved_grow step.keeps w.objects)
     (test_grows (with_place (Gen (older c.generation))) (is_at Legacy) (all_saved step.keeps w.objects) (λ z. refl) (λ z o i. i)) x m))
-  where
-    root_down : (names : List (Option Val)) (c : Collection) (below : List Activity) (o : ℕ) → c.phase ≡ Ending → IsRoot names (Collecting c ∷ below) o → IsRoot names below o
-    root_down names c below o phase (inl m) = inl m
-    root_down names c below o phase (inr (inl e)) = inr (inl e)
-    root_down names c below o phase (inr (inr (inl m))) = inr (inr (inl (subst (λ p. Includes (collect_holds p ++ flat_map holds below) o) phase m)))
-    root_down names c below o phase (inr (inr (inr e))) = inr (inr (inr e))

@@ -38,3 +38,8 @@ pub mod FullStop
 pub mod FullLaws
 pub mod FullLeft
 pub mod FullDecided
+pub mod FullStands
+pub mod FullEarly
+pub mod FullSplit
+pub mod FullAside
+pub mod FullLate

@@ -2,7 +2,7 @@
 ghost use Rattle.cg_promises.specs.Lines.{NoDeadLines};
 ghost use Rattle.cg_promises.specs.Reached.{ReachedIsKept};
 ghost use Rattle.cg_promises.specs.Slack.{UntrackedAreSlack};
-ghost use Rattle.cg_machine.specs.Laws.{EntriesLeaveOnlyBy, FinalSetIsFreed, NoDeadNames, OneFinalizerEach, OnlyFreesNameMembers, Sealing, UnheldIsDying};
+ghost use Rattle.cg_machine.specs.Laws.{EntriesLeaveOnlyBy, FinalSetIsFreed, FullCollectionLeavesNone, NoDeadNames, OneFinalizerEach, OnlyFreesNameMembers, Sealing, UnheldIsDying};
 
 /// In every run the finalizer of one object begins at most once.
 pub fn one_finalizer_each()
@@ -57,4 +57,10 @@ pub fn untracked_are_slack()
 /// In every run, what paths lead to when a full collection starts, they lead to when it stops, if no frame began.
 pub fn reached_is_kept()
     ensures { ReachedIsKept }
+{}
+
+/// In every run, after a full collection in which no frame begins and at whose start no object is in the permanent generation,
+/// a list of objects leads to each object from one that is dying, or held otherwise than by an entry.
+pub fn full_collections_leave_none()
+    ensures { FullCollectionLeavesNone }
 {}

@@ -6,7 +6,7 @@
 mod laws;
 
 pub use laws::{
-    entries_leave_only_by, final_sets_are_freed, final_sets_are_sealed, no_dead_lines,
+    entries_leave_only_by, final_sets_are_freed, final_sets_are_sealed, full_collections_leave_none, no_dead_lines,
     no_dead_names, one_finalizer_each, only_frees_name_members, reached_is_kept, unheld_is_dying,
     untracked_are_slack,
 };
