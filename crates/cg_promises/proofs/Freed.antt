@@ -75,7 +75,7 @@ module _ (script : Script) (members : List ℕ) (k : ℕ) (c : Collection) (belo
       holder rest y i r inside (inr (inr (inl dies))) = not_dying y.serial inside dies
       holder rest y i r inside (inr (inr (inr waits))) = apart y i waits.0
 
-  none_lives : (o : ℕ) → Includes members o → ¬ Includes (serials v.objects) o
+  pub none_lives : (o : ℕ) → Includes members o → ¬ Includes (serials v.objects) o
   none_lives o k m = let x = Includes-map_cases (λ (z : Object). z.serial) v.objects o m in none_from v.next_serial x.0 x.1 (subst (Includes members) (sym x.2) k) (omega arith)
 
 -- what is there stays, or is freed

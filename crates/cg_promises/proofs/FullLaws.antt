@@ -25,7 +25,7 @@ use Rattle.cg_promises.proofs.SealedRuns.{none_first, none_stops}
 use Rattle.cg_promises.proofs.ToldRuns.{Fit, opening_fit, run_back, run_front, run_fit, step_fit}
 use Rattle.cg_promises.proofs.Young.{opening_young, young_after}
 
-rejoined : (xs ys zs : List StepTaken) → (xs ++ ys) ++ zs ≡ xs ++ (ys ++ zs)
+pub rejoined : (xs ys zs : List StepTaken) → (xs ++ ys) ++ zs ≡ xs ++ (ys ++ zs)
 rejoined [] ys zs = refl
 rejoined (x ∷ xs) ys zs = ap (λ l. x ∷ l) (rejoined xs ys zs)
 
@@ -35,7 +35,7 @@ begins script w f events after step =
     let phase_step : PhaseStep script f.collection f.collection.phase f.below w events after = subst (λ st. StepOf script w st events after) f.top step.step in
     subst (λ p. PhaseStep script f.collection p f.below w events after) f.phase phase_step
 
-start_quiet : (script : Script) (w : World) (c : Collection) (below : List Activity) (events : List Event) (after : World) → StartStep script w c below events after → NoStop events
+pub start_quiet : (script : Script) (w : World) (c : Collection) (below : List Activity) (events : List Event) (after : World) → StartStep script w c below events after → NoStop events
 start_quiet script w c below events after step = subst NoStop (sym step.lines) (λ e m. either (Includes-append_cases ((GcStart c.generation ∷ []) ++ lines_if (has_flag c.flags stats) (gens_line w.objects ∷ [])) (lines_if (has_flag c.flags collectable) (map GcCollectable step.collectables)) e m)
     (λ k. either (Includes-append_cases (GcStart c.generation ∷ []) (lines_if (has_flag c.flags stats) (gens_line w.objects ∷ [])) e k) (λ i. either i (λ s. subst (λ z. is_stop z ≡ false) s refl) (λ n. absurd n)) (λ i. sizes (has_flag c.flags stats) e i))
     (λ k. collected (has_flag c.flags collectable) step.collectables e k))

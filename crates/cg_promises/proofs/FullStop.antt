@@ -139,10 +139,10 @@ stop_ends script kept v below events after (Collecting e ∷ tops) c bare begun 
 abbrev pub Grows : List Object → List Object → Type 0
 Grows before after = (x : Object) → Includes before x → (y : Object) × Includes after y × (y.serial ≡ x.serial) × ((o : ℕ) → Includes (references x.entries) o → Includes (references y.entries) o)
 
-grows_trans : (before now after : List Object) → Grows before now → Grows now after → Grows before after
+pub grows_trans : (before now after : List Object) → Grows before now → Grows now after → Grows before after
 grows_trans before now after h k x m = let y = h x m in let z = k y.0 y.1 in (z.0, z.1, z.2 ∙ y.2, λ o i. z.3 o (y.3 o i))
 
-test_grows : (f : Object → Object) (test : Object → Bool) (objects : List Object) → ((x : Object) → (f x).serial ≡ x.serial) → ((x : Object) (o : ℕ) → Includes (references x.entries) o → Includes (references (f x).entries) o) → Grows objects (map (λ x. if test x then f x else x) objects)
+pub test_grows : (f : Object → Object) (test : Object → Bool) (objects : List Object) → ((x : Object) → (f x).serial ≡ x.serial) → ((x : Object) (o : ℕ) → Includes (references x.entries) o → Includes (references (f x).entries) o) → Grows objects (map (λ x. if test x then f x else x) objects)
 test_grows f test objects serial more x m = (if test x then f x else x, Includes-map (λ x. if test x then f x else x) objects x m, same (test x), longer (test x))
   where
     same : (b : Bool) → (if b then f x else x).serial ≡ x.serial
@@ -153,7 +153,7 @@ test_grows f test objects serial more x m = (if test x then f x else x, Includes
     longer true o i = more x o i
     longer false o i = i
 
-all_saved_grow : (keeps : List ℕ) (objects : List Object) → Grows objects (all_saved keeps objects)
+pub all_saved_grow : (keeps : List ℕ) (objects : List Object) → Grows objects (all_saved keeps objects)
 all_saved_grow [] objects = λ x m. (x, m, refl, λ o i. i)
 all_saved_grow (o ∷ keeps) objects = grows_trans objects (saved o objects) (all_saved keeps (saved o objects)) (test_grows (λ x. with_entries (x.entries ++ item (Ref o) ∷ []) x) (λ x. x.serial == 1) objects (λ x. refl) (λ x r i. appended x.entries (item (Ref o) ∷ []) r i)) (all_saved_grow keeps (saved o objects))
 

@@ -43,3 +43,7 @@ pub mod FullEarly
 pub mod FullSplit
 pub mod FullAside
 pub mod FullLate
+pub mod FullBegins
+pub mod FullSaved
+pub mod FullEnds
+pub mod FullNone
