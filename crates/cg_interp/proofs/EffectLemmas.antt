@@ -62,7 +62,7 @@ shape_fits w command own e (Sets numbers sets keeps) = absurd (sets_none command
 shape_fits w command own e (Freezes is) = absurd (subst IsForObjects is own)
 shape_fits w command own e (Unfreezes is) = absurd (subst IsForObjects is own)
 shape_fits w command own e (StartsFrame f h) = member_at w.objects f h.member
-shape_fits w command own e (StartsCollection g) = tt
+shape_fits w command own e (StartsCollection g low) = tt
 shape_fits w command own e Ends = tt
 shape_fits w command own e s = refl
 

@@ -179,7 +179,7 @@ module _ (script : Script) (members : List ℕ) where
             (opened lines given_up after (changes_leave now command wants_memory lines given_up after shape).stack (shape_opens script members now h command (Changes wants_memory lines given_up after) shape));
         calls = λ f k. let out = shape_opens script members now h command (Calls f.serial) (StartsFrame f k) in
             keeps _ _ (starts_sealed script members (record { sort = CallFrame; proc = procedure_of now f.serial; subject = f.serial; func = Some f.serial }) now out (λ g e. let s : f.serial ≡ g = cc in subst (λ n. ¬ Includes members n) s out) h);
-        asks = λ g e. absurd (let no : true ≡ false = sym h.collecting ∙ e in cc);
+        asks = λ g low e. absurd (let no : true ≡ false = sym h.collecting ∙ e in cc);
       }
 
   keeps_sealed : Steps script (λ w. Rises 1 w.next_serial w.objects × IsSealedWorld script members w) StepKeeps

@@ -38,7 +38,7 @@ pub fn final_sets_are_freed()
 {}
 
 /// In every run an object that never was in the final set of a collection that does not save all loses an entry only by a
-/// command, by its own death, or, a weak reference, by the death of what it referred to.
+/// command, where no collection is due before it, by its own death, or, a weak reference, by the death of what it referred to.
 pub fn entries_leave_only_by()
     ensures { EntriesLeaveOnlyBy }
 {}
