@@ -1,5 +1,5 @@
 -- Commands: an untracked dictionary that gets what may be tracked becomes tracked, so that untracked objects are slack still.
-use Rattle.std.proofs.Common.{◌≡◌, refl, sym, ◌∙◌, ap, subst, ℕ, Bool, true, false, not, ◌&&◌, inl, inr, ◌⊎◌, List, [], ◌∷◌, ◌++◌, map, Option, Some, None, Ok, Err, arith}
+use Rattle.std.proofs.Common.{◌≡◌, refl, sym, ◌∙◌, ap, subst, ◌≢◌, ℕ, Bool, true, false, not, ◌&&◌, inl, inr, ◌⊎◌, List, [], ◌∷◌, ◌++◌, map, Option, Some, None, Ok, Err, arith}
 use Rattle.std.specs.Prelude.{◌==◌, ◌||◌, if◌then◌else◌, is_some, ok_or, option_and_then, option_to_list, remove, slice_set}
 use Rattle.std.proofs.lemmas.Bool.{eqb-true, eq-eqb, and_parts}
 use Rattle.cg_value.specs.declared.Val.{Val}
@@ -10,39 +10,20 @@ use Rattle.cg_value.specs.declared.Place.TheVariants.{Untracked, Gen, Frozen}
 use Rattle.cg_value.specs.declared.KindCode.{KindCode}
 use Rattle.cg_value.specs.declared.KindCode.TheVariants.{List as ListKind, Tuple, Dict, Inst, Func, Weak}
 use Rattle.cg_script.specs.declared.Command.{Command}
-use Rattle.cg_script.specs.declared.Command.TheVariants.{MakeList, MakeTuple, MakeDict, MakeInst, MakeFunc, MakeRef, Bind, Del, Append, SetItem, DelItem, Put, Remove, SetAttr, DelAttr, Item, Get, Attr, Deref, Call, Quit, Collect, Enable, Disable, Threshold, Flags, Freeze, Unfreeze, Print, Refs, Tracked, Finalized, Count, Gens}
 use Rattle.cg_graph.specs.Member.{Includes, includes}
 use Rattle.cg_graph.specs.Value.{entry_references, item, put, reference_in, references, same_value, value_at, without_key}
 use Rattle.cg_graph.specs.Object.{Object, change, first_place, is_tracked, is_tuple, may_be_tracked, object_at, same_place, serials, with_entries, with_place}
 use Rattle.cg_graph.proofs.Members.{either, cases_of, Includes-append_left, Includes-append_right, Includes-append_cases, Includes-map_cases, Includes-of, includes-of, or_left, or_right}
 use Rattle.cg_machine.specs.World.{World}
-use Rattle.cg_machine.specs.Refusals.{wrong_kind}
-use Rattle.cg_machine.specs.Operands.{is_dict, is_list, is_script_list, object, object_of, tested}
-use Rattle.cg_machine.specs.Effects.{Calls, Changes, Collects, Effect, Quits, frozen, has_room, makes, may_track, puts, replaced, tracked_by, unfrozen}
-use Rattle.cg_machine.specs.Commands.{effect}
-use Rattle.cg_machine.specs.Weak.{is_instance}
-use Rattle.cg_machine.proofs.CommandLaws.{Each, checked}
-use Rattle.cg_machine.proofs.CommandRefs.{each_some, each_then, option_held, put_free}
+use Rattle.cg_machine.specs.Operands.{is_dict, object_of}
+use Rattle.cg_machine.specs.Effects.{Calls, Changes, Collects, Effect, Quits, frozen, may_track, replaced, tracked_by, unfrozen, with_new}
+use Rattle.cg_machine.proofs.CommandRefs.{option_held, put_free}
 use Rattle.cg_machine.proofs.Forgotten.{lives_within}
-use Rattle.cg_machine.proofs.Lookups.{at_member, found_at, same_object}
+use Rattle.cg_machine.proofs.Lookups.{at_member, references_of_member, same_object}
 use Rattle.cg_machine.proofs.Serials.{Rises}
+use Rattle.cg_machine.proofs.Shapes.{IsMutable, Shape, Binds, Makes, Edits, Puts, Shows, Tells, Stays, Sets, Freezes, Unfreezes, StartsFrame, StartsCollection, Ends}
 use Rattle.cg_promises.proofs.Slack.{Excused, Fine, Goes, IsLoose, IsSlackOne, IsSlackWorld, Slack, Still, loose_later, map_still, moves_slack, test_still}
 use Rattle.cg_promises.proofs.SlackStart.{is_untracked, may_not, not_true}
-
--- the object that a command finds
-abbrev pub Found : World → (Object → Bool) → Object → Type 0
-Found w test x = Includes w.objects x × (test x ≡ true)
-
-pub object_passes : (w : World) (test : Object → Bool) (refusal : ℕ) (v : Val) → Each (Found w test) (object w test refusal v)
-object_passes w test refusal v = each_then (λ x. object_of w v ≡ Some x) (Found w test) (ok_or (object_of w v) refusal) _ (each_some (object_of w v) refusal) (λ x e. go (reference_in v) x e)
-  where
-    passes : (x : Object) → Includes w.objects x → (b : Bool) → test x ≡ b → Each (Found w test) (if b then Ok x else Err refusal)
-    passes x m true e = (m, e)
-    passes x m false e = tt
-
-    go : (r : Option ℕ) (x : Object) → option_and_then (object_at w.objects) r ≡ Some x → Each (Found w test) (tested test refusal x)
-    go None x e = absurd (let no : None ≡ Some x = e in cc)
-    go (Some s) x e = passes x (found_at w.objects s x e).0 (test x) refl
 
 -- what a value refers to
 option_holds : (m : Option ℕ) (o : ℕ) → Includes (option_to_list m) o → m ≡ Some o
@@ -65,44 +46,42 @@ put_from entries key v o m =
     values_held : List ℕ
     values_held = option_to_list (reference_in key) ++ option_to_list (reference_in v)
 
-without_key_fewer : (entries : List Entry) (key : Val) (o : ℕ) → Includes (references (without_key entries key)) o → Includes (references entries) o
-without_key_fewer [] key o m = m
-without_key_fewer (e ∷ entries) key o m = go (same_value e.key key) m (without_key_fewer entries key o)
-  where
-    go : (b : Bool) → Includes (references (if b then entries else e ∷ without_key entries key)) o → (Includes (references (without_key entries key)) o → Includes (references entries) o) → Includes (references (e ∷ entries)) o
-    go true k rest = Includes-append_right (entry_references e) (references entries) o k
-    go false k rest = either (Includes-append_cases (entry_references e) (references (without_key entries key)) o k) (λ i. Includes-append_left (entry_references e) (references entries) o i) (λ i. Includes-append_right (entry_references e) (references entries) o (rest i))
+-- entries that are among others refer to no more
+references_within : (xs ys : List Entry) → ((e : Entry) → Includes xs e → Includes ys e) → (o : ℕ) → Includes (references xs) o → Includes (references ys) o
+references_within [] ys h o m = absurd m
+references_within (x ∷ xs) ys h o m = either (Includes-append_cases (entry_references x) (references xs) o m) (references_of_member ys x o (h x (inl refl))) (references_within xs ys (λ e k. h e (inr k)) o)
 
 -- kinds that are neither tuples nor dictionaries
 abbrev IsOther : Object → Type 0
 IsOther x = (¬ (is_tuple x ≡ true)) × (¬ (is_dict x ≡ true))
 
-other_code : (x : Object) → ((c : KindCode) → x.code ≡ c → ((c ≡ ListKind) ⊎ (c ≡ Inst))) → IsOther x
-other_code x h = either (h x.code refl)
-    (λ e. (λ t. let f : is_tuple x ≡ false = ap (λ (c : KindCode). elim c [ ListKind ↦ false | Tuple ↦ true | Dict ↦ false | Inst ↦ false | Func ↦ false | Weak ↦ false ]) e in let no : true ≡ false = sym t ∙ f in cc, λ t. let f : is_dict x ≡ false = ap (λ (c : KindCode). elim c [ Dict ↦ true | _ ↦ false ]) e in let no : true ≡ false = sym t ∙ f in cc))
-    (λ e. (λ t. let f : is_tuple x ≡ false = ap (λ (c : KindCode). elim c [ ListKind ↦ false | Tuple ↦ true | Dict ↦ false | Inst ↦ false | Func ↦ false | Weak ↦ false ]) e in let no : true ≡ false = sym t ∙ f in cc, λ t. let f : is_dict x ≡ false = ap (λ (c : KindCode). elim c [ Dict ↦ true | _ ↦ false ]) e in let no : true ≡ false = sym t ∙ f in cc))
-
-list_other : (x : Object) → is_list x ≡ true → IsOther x
-list_other x t = other_code x (λ c e. go c (sym (ap (λ (c : KindCode). elim c [ ListKind ↦ true | _ ↦ false ]) e) ∙ t))
+-- what changes is a dictionary or neither, and never a tuple
+mutable_other : (x : Object) → IsMutable x.code → IsOther x ⊎ (x.code ≢ ListKind)
+mutable_other x m = go x.code m
   where
-    go : (c : KindCode) → (elim c [ ListKind ↦ true | _ ↦ false ]) ≡ true → (c ≡ ListKind) ⊎ (c ≡ Inst)
-    go ListKind e = inl refl
-    go Tuple e = absurd (let no : false ≡ true = e in cc)
-    go Dict e = absurd (let no : false ≡ true = e in cc)
-    go Inst e = absurd (let no : false ≡ true = e in cc)
-    go Func e = absurd (let no : false ≡ true = e in cc)
-    go Weak e = absurd (let no : false ≡ true = e in cc)
+    go : (c : KindCode) → IsMutable c → ((¬ (elim c [ ListKind ↦ false | Tuple ↦ true | Dict ↦ false | Inst ↦ false | Func ↦ false | Weak ↦ false ] ≡ true)) × (¬ (elim c [ Dict ↦ true | _ ↦ false ] ≡ true))) ⊎ (c ≢ ListKind)
+    go ListKind k = inl (λ e. let no : false ≡ true = e in cc, λ e. let no : false ≡ true = e in cc)
+    go Dict k = inr (λ e. cc)
+    go Inst k = inr (λ e. cc)
+    go c k = absurd k
 
-instance_other : (x : Object) → is_instance x ≡ true → IsOther x
-instance_other x t = other_code x (λ c e. go c (sym (ap (λ (c : KindCode). elim c [ Inst ↦ true | _ ↦ false ]) e) ∙ t))
+mutable_no_tuple : (x : Object) → IsMutable x.code → ¬ (is_tuple x ≡ true)
+mutable_no_tuple x m = go x.code m
   where
-    go : (c : KindCode) → (elim c [ Inst ↦ true | _ ↦ false ]) ≡ true → (c ≡ ListKind) ⊎ (c ≡ Inst)
-    go Inst e = inr refl
-    go Tuple e = absurd (let no : false ≡ true = e in cc)
-    go Dict e = absurd (let no : false ≡ true = e in cc)
-    go ListKind e = absurd (let no : false ≡ true = e in cc)
-    go Func e = absurd (let no : false ≡ true = e in cc)
-    go Weak e = absurd (let no : false ≡ true = e in cc)
+    go : (c : KindCode) → IsMutable c → ¬ (elim c [ ListKind ↦ false | Tuple ↦ true | Dict ↦ false | Inst ↦ false | Func ↦ false | Weak ↦ false ] ≡ true)
+    go ListKind k e = let no : false ≡ true = e in cc
+    go Dict k e = let no : false ≡ true = e in cc
+    go Inst k e = let no : false ≡ true = e in cc
+    go c k e = absurd k
+
+-- a dictionary alone is untracked when it is made
+first_dict : (kind : KindCode) → first_place kind ≡ Untracked → kind ≡ Dict
+first_dict ListKind e = absurd (let no : Gen 0 ≡ Untracked = e in cc)
+first_dict Tuple e = absurd (let no : Gen 0 ≡ Untracked = e in cc)
+first_dict Dict e = refl
+first_dict Inst e = absurd (let no : Gen 0 ≡ Untracked = e in cc)
+first_dict Func e = absurd (let no : Gen 0 ≡ Untracked = e in cc)
+first_dict Weak e = absurd (let no : Gen 0 ≡ Untracked = e in cc)
 
 pub dict_no_tuple : (x : Object) → is_dict x ≡ true → ¬ (is_tuple x ≡ true)
 dict_no_tuple x t = go x.code t
@@ -246,16 +225,13 @@ module _ (w : World) (rises : Rises 1 w.next_serial w.objects) (live : (x : Obje
     put_slack : Slack w.next_serial after_put w.stack
     put_slack = moved after_put (test_still (Fine w.stack after_put) put_in (λ z. z.serial == x.serial) w.objects (λ z k t. put_loses z k (one x z m k t) (becomes z) refl refl))
 
-  puts_slack : (x : Object) (key v : Val) → Includes w.objects x → ¬ (is_tuple x ≡ true) → Each Slacks (puts w x key v)
-  puts_slack x key v m no_tuple = checked Slacks (if is_some (value_at x.entries key) then Ok tt else has_room w 1) _ (λ _. put_slack x key v m no_tuple)
-
   -- a new object
-  makes_slack : (name : ℕ) (kind : KindCode) (class : Option ℕ) (entries : List Entry) (referent : Option ℕ) → (first_place kind ≡ Untracked → (kind ≡ Dict) × (entries ≡ [])) → Each Slacks (makes w name kind class entries referent)
-  makes_slack name kind class entries referent bare = checked Slacks _ _ (λ _. checked Slacks _ _ (λ _. record {
+  made_slack : (kind : KindCode) (class : Option ℕ) (entries : List Entry) (referent : Option ℕ) → (first_place kind ≡ Untracked → (kind ≡ Dict) × (entries ≡ [])) → IsSlackWorld (with_new w kind class entries referent)
+  made_slack kind class entries referent bare = record {
     slack = λ y m u. either (Includes-append_cases w.objects (fresh ∷ []) y m) (λ k. either (h.slack y k u) (λ e. inl e) (λ s. inr (s.0, λ o r. loose_on o (s.1 o r) (live y k o r))))
         (λ k. inr (either k (λ e. new y e u) (λ no. absurd no)));
     handled = λ c m o i. let k = h.handled c m o i in (omega (arith, k.0), λ z j e. either (Includes-append_cases w.objects (fresh ∷ []) z j) (λ l. k.1 z l e) (λ l. either l (λ f. absurd (let low = k.0 in let same : w.next_serial ≡ o = ap (λ (q : Object). q.serial) f ∙ e in omega (arith, low, same))) (λ no. absurd no)));
-  }))
+  }
     where
       fresh : Object
       fresh = record { serial = w.next_serial; code = kind; class = class; entries = entries; place = first_place kind; finalized = false; referent = referent }
@@ -270,47 +246,20 @@ module _ (w : World) (rises : Rises 1 w.next_serial w.objects) (live : (x : Obje
       new : (y : Object) → fresh ≡ y → y.place ≡ Untracked → IsSlackOne (w.objects ++ fresh ∷ []) y
       new y e u = subst (IsSlackOne (w.objects ++ fresh ∷ [])) e (new_one (ap (λ (q : Object). q.place) e ∙ u))
 
-  tracked_first : (kind : KindCode) (entries : List Entry) → first_place kind ≡ Gen 0 → first_place kind ≡ Untracked → (kind ≡ Dict) × (entries ≡ [])
-  tracked_first kind entries e u = absurd (let no : Gen 0 ≡ Untracked = sym e ∙ u in cc)
+  edit_slack : (x : Object) (entries : List Entry) → Includes w.objects x → IsMutable x.code → (x.code ≢ ListKind → (e : Entry) → Includes entries e → Includes x.entries e) → Slack w.next_serial (change (with_entries entries) x.serial w.objects) w.stack
+  edit_slack x entries m mutable adds = either (mutable_other x mutable) (λ other. other_slack x entries m other) (λ no. fewer_slack x entries m (references_within entries x.entries (adds no)))
 
-  quit_slack : (v : Val) → Slacks (elim v [ Nothing ↦ Quits | _ ↦ Changes false [] [] w ])
-  quit_slack Nothing = tt
-  quit_slack (Int n) = h
-  quit_slack (Str s) = h
-  quit_slack (Ref o) = h
-
-  pub effect_slack : (command : Command) → Each Slacks (effect w command)
-  effect_slack (MakeList name items) = checked Slacks _ _ (λ vs. makes_slack name ListKind None (map item vs) None (tracked_first ListKind (map item vs) refl))
-  effect_slack (MakeTuple name items) = checked Slacks _ _ (λ vs. makes_slack name Tuple None (map item vs) None (tracked_first Tuple (map item vs) refl))
-  effect_slack (MakeDict name) = makes_slack name Dict None [] None (λ e. (refl, refl))
-  effect_slack (MakeInst name class) = makes_slack name Inst (Some class) [] None (tracked_first Inst [] refl)
-  effect_slack (MakeFunc name proc cells) = checked Slacks _ _ (λ vs. makes_slack name Func (Some proc) (map item vs) None (tracked_first Func (map item vs) refl))
-  effect_slack (MakeRef name target callback) = checked Slacks _ _ (λ v. checked Slacks _ _ (λ f. checked Slacks _ _ (λ x. checked Slacks _ _ (λ es. makes_slack name Weak None es (Some x.serial) (tracked_first Weak es refl)))))
-  effect_slack (Bind name operand) = checked Slacks _ _ (λ v. h)
-  effect_slack (Del name) = checked Slacks _ _ (λ v. h)
-  effect_slack (Append list operand) = checked Slacks _ _ (λ l. checked Slacks _ _ (λ v. each_then (Found w is_script_list) Slacks (object w is_script_list wrong_kind l) _ (object_passes w is_script_list wrong_kind l) (λ x found. checked Slacks _ _ (λ _. other_slack x (x.entries ++ item v ∷ []) found.0 (list_other x (and_parts (is_list x) (not (x.serial == 1)) found.1).0)))))
-  effect_slack (SetItem list index operand) = checked Slacks _ _ (λ l. checked Slacks _ _ (λ v. each_then (Found w is_script_list) Slacks (object w is_script_list wrong_kind l) _ (object_passes w is_script_list wrong_kind l) (λ x found. checked Slacks _ _ (λ i. checked Slacks _ _ (λ e. other_slack x (slice_set x.entries i (item v)) found.0 (list_other x (and_parts (is_list x) (not (x.serial == 1)) found.1).0))))))
-  effect_slack (DelItem list index) = checked Slacks _ _ (λ l. each_then (Found w is_list) Slacks (object w is_list wrong_kind l) _ (object_passes w is_list wrong_kind l) (λ x found. checked Slacks _ _ (λ i. checked Slacks _ _ (λ e. other_slack x (remove x.entries i) found.0 (list_other x found.1)))))
-  effect_slack (Put dict key operand) = checked Slacks _ _ (λ d. checked Slacks _ _ (λ k. checked Slacks _ _ (λ v. each_then (Found w is_dict) Slacks (object w is_dict wrong_kind d) _ (object_passes w is_dict wrong_kind d) (λ x found. checked Slacks _ _ (λ _. puts_slack x k v found.0 (dict_no_tuple x found.1))))))
-  effect_slack (Remove dict key) = checked Slacks _ _ (λ d. checked Slacks _ _ (λ k. each_then (Found w is_dict) Slacks (object w is_dict wrong_kind d) _ (object_passes w is_dict wrong_kind d) (λ x found. checked Slacks _ _ (λ _. checked Slacks _ _ (λ e. fewer_slack x (without_key x.entries k) found.0 (without_key_fewer x.entries k))))))
-  effect_slack (SetAttr instance name operand) = checked Slacks _ _ (λ o. checked Slacks _ _ (λ v. each_then (Found w is_instance) Slacks (object w is_instance wrong_kind o) _ (object_passes w is_instance wrong_kind o) (λ x found. puts_slack x (Str name) v found.0 (instance_other x found.1).0)))
-  effect_slack (DelAttr instance name) = checked Slacks _ _ (λ o. each_then (Found w is_instance) Slacks (object w is_instance wrong_kind o) _ (object_passes w is_instance wrong_kind o) (λ x found. checked Slacks _ _ (λ e. other_slack x (without_key x.entries (Str name)) found.0 (instance_other x found.1))))
-  effect_slack (Item name list index) = checked Slacks _ _ (λ l. checked Slacks _ _ (λ x. checked Slacks _ _ (λ i. checked Slacks _ _ (λ e. h))))
-  effect_slack (Get name dict key) = checked Slacks _ _ (λ d. checked Slacks _ _ (λ k. checked Slacks _ _ (λ x. checked Slacks _ _ (λ _. checked Slacks _ _ (λ v. h)))))
-  effect_slack (Attr name instance attribute) = checked Slacks _ _ (λ o. checked Slacks _ _ (λ x. checked Slacks _ _ (λ v. h)))
-  effect_slack (Deref name weak) = checked Slacks _ _ (λ v. checked Slacks _ _ (λ x. h))
-  effect_slack (Call function) = checked Slacks _ _ (λ v. checked Slacks _ _ (λ x. tt))
-  effect_slack (Quit operand) = checked Slacks _ _ (λ v. quit_slack v)
-  effect_slack (Collect generation) = checked Slacks _ _ (λ g. tt)
-  effect_slack Enable = h
-  effect_slack Disable = h
-  effect_slack (Threshold first second third) = h
-  effect_slack (Flags bits) = h
-  effect_slack Freeze = places_slack frozen refl frozen_untracked
-  effect_slack Unfreeze = places_slack unfrozen refl unfrozen_untracked
-  effect_slack (Print operand) = checked Slacks _ _ (λ v. h)
-  effect_slack (Refs operand) = checked Slacks _ _ (λ v. checked Slacks _ _ (λ x. h))
-  effect_slack (Tracked operand) = checked Slacks _ _ (λ v. h)
-  effect_slack (Finalized operand) = checked Slacks _ _ (λ v. h)
-  effect_slack Count = h
-  effect_slack Gens = h
+  pub shape_slack : (command : Command) (e : Effect) → Shape w command e → Slacks e
+  shape_slack command e (Binds name v own hand) = h
+  shape_slack command e (Makes name kind class entries referent own parts) = made_slack kind class entries referent (λ u. let d = first_dict kind u in (d, parts.bare d))
+  shape_slack command e (Edits wants x entries given k mutable edit) = edit_slack x entries k.member mutable edit.adds
+  shape_slack command e (Puts x key v k mutable hand_key hand room) = put_slack x key v k.member (mutable_no_tuple x mutable)
+  shape_slack command e (Shows v hand) = h
+  shape_slack command e (Tells line tells) = h
+  shape_slack command e Stays = h
+  shape_slack command e (Sets numbers own keeps) = h
+  shape_slack command e (Freezes is) = places_slack frozen refl frozen_untracked
+  shape_slack command e (Unfreezes is) = places_slack unfrozen refl unfrozen_untracked
+  shape_slack command e (StartsFrame f k) = tt
+  shape_slack command e (StartsCollection g low) = tt
+  shape_slack command e Ends = tt
