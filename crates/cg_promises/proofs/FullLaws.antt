@@ -23,7 +23,7 @@ use Rattle.cg_promises.proofs.FullRuns.{enters_first}
 use Rattle.cg_promises.proofs.FullStop.{NoStop, end_reached, stop_ends}
 use Rattle.cg_promises.proofs.SealedRuns.{none_first, none_stops}
 use Rattle.cg_promises.proofs.ToldRuns.{Fit, opening_fit, run_back, run_front, run_fit, step_fit}
-use Rattle.cg_promises.proofs.Young.{opening_young, young_after}
+use Rattle.cg_promises.proofs.YoungRuns.{opening_young, young_after}
 
 pub rejoined : (xs ys zs : List StepTaken) → (xs ++ ys) ++ zs ≡ xs ++ (ys ++ zs)
 rejoined [] ys zs = refl

@@ -29,6 +29,8 @@ pub mod SlackCollections
 pub mod SlackCommands
 pub mod SlackRuns
 pub mod Young
+pub mod YoungCollections
+pub mod YoungRuns
 pub mod FullStart
 pub mod Kept
 pub mod KeptRuns
