@@ -1,6 +1,6 @@
 -- What is set aside in a full collection in which no frame begins: it keeps its references, and it is in its place or dying.
-use Rattle.std.proofs.Common.{◌≡◌, ◌≢◌, refl, sym, ◌∙◌, ap, subst, ℕ, Bool, true, false, inl, inr, ◌⊎◌, List, [], ◌∷◌, ◌++◌, map}
-use Rattle.std.specs.Prelude.{◌==◌, if◌then◌else◌, is_some}
+use Rattle.std.proofs.Common.{◌≡◌, ◌≢◌, refl, sym, ◌∙◌, ap, subst, ℕ, Bool, true, false, inl, inr, ◌⊎◌, List, ◌∷◌, map}
+use Rattle.std.specs.Prelude.{if◌then◌else◌, is_some}
 use Rattle.cg_value.specs.declared.Place.TheVariants.{Legacy}
 use Rattle.cg_script.specs.declared.Script.{Script}
 use Rattle.cg_graph.specs.Member.{Includes}

@@ -1,5 +1,5 @@
 -- The start of a full collection: what is looked at is kept, set aside, or condemned.
-use Rattle.std.proofs.Common.{◌≡◌, ◌≢◌, refl, sym, ◌∙◌, ap, subst, ℕ, Bool, true, false, inl, inr, ◌⊎◌, List, [], ◌∷◌, Option, Some}
+use Rattle.std.proofs.Common.{◌≡◌, refl, sym, ◌∙◌, ap, subst, ℕ, Bool, true, false, inl, inr, ◌⊎◌, List, [], ◌∷◌, Some}
 use Rattle.std.specs.Prelude.{if◌then◌else◌, is_some, option_and_then}
 use Rattle.cg_value.specs.declared.Place.{Place}
 use Rattle.cg_value.specs.declared.Place.TheVariants.{Untracked, Gen, Frozen, Cand, Seen, Back, Legacy, Pend}
@@ -12,7 +12,7 @@ use Rattle.cg_graph.proofs.Members.{either, cases_of, Includes-filter, Includes-
 use Rattle.cg_machine.specs.declared.event.Event.{Event}
 use Rattle.cg_machine.specs.Program.{legacy_of}
 use Rattle.cg_machine.specs.World.{World, Activity, Dying, Death, Collecting, Collection, Start, WeakClearing}
-use Rattle.cg_machine.specs.Collect.{has_legacy, merged, members_at, IsGarbage, IsMemberOf, StartStep}
+use Rattle.cg_machine.specs.Collect.{has_legacy, merged, members_at, IsMemberOf, StartStep}
 use Rattle.cg_machine.specs.Laws.{runs_own_frame}
 use Rattle.cg_machine.proofs.Lookups.{at_member}
 use Rattle.cg_machine.proofs.Serials.{Rises, Rises-map}
@@ -21,9 +21,9 @@ use Rattle.cg_promises.specs.Reached.{IsReached}
 use Rattle.cg_promises.proofs.FullAside.{IsAsideBy, IsLegacy}
 use Rattle.cg_promises.proofs.FullDecided.{reached_decided}
 use Rattle.cg_promises.proofs.FullEarly.{Early}
-use Rattle.cg_promises.proofs.FullKept.{anew, from_anew, place_anew, serial_anew, sorts}
-use Rattle.cg_promises.proofs.FullSplit.{WasAside, WasGarbage}
-use Rattle.cg_promises.proofs.FullStands.{Alike, AreAlike, IsPut, Stands, StandsSo, Reached, Loose, Condemned, SetAside}
+use Rattle.cg_promises.proofs.FullKept.{anew, from_anew, place_anew, sorts}
+use Rattle.cg_promises.proofs.FullSplit.{WasAside, WasGarbage, aside_garbage}
+use Rattle.cg_promises.proofs.FullStands.{Alike, Stands, StandsSo, Reached, Loose, Condemned, SetAside}
 use Rattle.cg_promises.proofs.FullStart.{edge_from, in_merge, member_tracked, unreached_garbage}
 use Rattle.cg_promises.proofs.Primed.{IsWanted}
 use Rattle.cg_promises.proofs.SealedStart.{edge}
@@ -38,10 +38,6 @@ legacy_is Cand e = absurd (let no : false ≡ true = e in cc)
 legacy_is Seen e = absurd (let no : false ≡ true = e in cc)
 legacy_is Back e = absurd (let no : false ≡ true = e in cc)
 legacy_is Pend e = absurd (let no : false ≡ true = e in cc)
-
-pub aside_garbage : (script : Script) (v : World) (o : ℕ) → WasAside script v o → WasGarbage v o
-aside_garbage script v o (first held inside) = inside
-aside_garbage script v o (further path step inside) = inside
 
 -- an object among those that are looked at
 pub looked : (v : World) (o : ℕ) → IsMemberOf (merged 2 v) (Gen 2) o → (x : Object) × Includes v.objects x × (x.serial ≡ o) × Includes (objects_at (merged 2 v).objects (Gen 2)) (in_merge 2 x)

@@ -1,19 +1,19 @@
 -- A full collection in which no frame begins, up to its second detection: nothing is on top of it, and entries stay.
-use Rattle.std.proofs.Common.{◌≡◌, ◌≢◌, refl, sym, ◌∙◌, ap, subst, ℕ, ◌+◌, ◌<◌, Bool, true, false, inl, inr, ◌⊎◌, List, [], ◌∷◌, ◌++◌, Option, Some, None, arith}
+use Rattle.std.proofs.Common.{◌≡◌, ◌≢◌, refl, sym, ◌∙◌, ap, subst, ℕ, ◌<◌, Bool, true, false, inl, inr, ◌⊎◌, List, [], ◌∷◌, ◌++◌, Option, Some, None, arith}
 use Rattle.std.specs.Prelude.{◌==◌, count_by, if◌then◌else◌, option_and_then}
 use Rattle.std.proofs.lemmas.Bool.{eqb-true}
 use Rattle.cg_value.specs.declared.Val.{Val}
-use Rattle.cg_value.specs.declared.Place.TheVariants.{Gen, Cand, Seen, Pend}
+use Rattle.cg_value.specs.declared.Place.TheVariants.{Cand, Seen, Pend}
 use Rattle.cg_script.specs.declared.Script.{Script}
 use Rattle.cg_graph.specs.Member.{Includes}
-use Rattle.cg_graph.specs.Object.{Object, change, is_at, is_in_map, object_at, serials_at, with_place, with_referent}
+use Rattle.cg_graph.specs.Object.{Object, change, is_at, object_at, serials_at, with_place, with_referent}
 use Rattle.cg_graph.proofs.Members.{either}
 use Rattle.cg_machine.specs.declared.event.Event.{Event}
-use Rattle.cg_machine.specs.World.{World, Activity, Collecting, Collection, CollectPhase, Start, WeakClearing, WeakCalling, AfterCallback, AfterRelease, Finalizing, AfterFinalizing, Split, Turns, Turn, AfterTurn, Ending, Running, with_change, with_objects, with_stack}
+use Rattle.cg_machine.specs.World.{World, Activity, Collecting, Collection, CollectPhase, Start, WeakClearing, WeakCalling, AfterCallback, AfterRelease, Finalizing, AfterFinalizing, Split, Turns, Turn, AfterTurn, Ending, Running, with_objects, with_stack}
 use Rattle.cg_machine.specs.Frame.{Yields}
 use Rattle.cg_machine.specs.Weak.{loses_referent}
 use Rattle.cg_machine.specs.Dying.{finalizer_to_run}
-use Rattle.cg_machine.specs.Collect.{calls_back, collection_at, looks_at, older, waits, FinalizingStep, PhaseStep, WeakClearingStep}
+use Rattle.cg_machine.specs.Collect.{calls_back, collection_at, looks_at, waits, FinalizingStep, PhaseStep, WeakClearingStep}
 use Rattle.cg_machine.specs.Run.{Run, Step, StepOf, StepTaken, events_of, last_world}
 use Rattle.cg_machine.specs.Laws.{is_enter, is_stop}
 use Rattle.cg_machine.proofs.Lookups.{same_object}
@@ -24,7 +24,7 @@ use Rattle.cg_promises.proofs.FullStands.{AreAlike, StandsSo, Pending, alike_sam
 use Rattle.cg_promises.proofs.FullStop.{phase_quiet}
 use Rattle.cg_promises.proofs.KeptRuns.{starts_none}
 use Rattle.cg_promises.proofs.Primed.{cand_is, seen_is}
-use Rattle.cg_promises.proofs.SealedRuns.{none_first, none_stops}
+use Rattle.cg_promises.proofs.SealedRuns.{none_stops}
 use Rattle.cg_promises.proofs.ToldRuns.{Fit, step_fit}
 
 -- the phases of that time in which no frame is underway

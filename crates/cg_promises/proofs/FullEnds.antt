@@ -1,11 +1,11 @@
 -- The stop of a full collection in which no frame began: all that is tracked after it is reached.
-use Rattle.std.proofs.Common.{◌≡◌, ◌≢◌, refl, sym, ◌∙◌, ap, subst, ℕ, Bool, true, false, ◌&&◌, inl, inr, ◌⊎◌, List, [], ◌∷◌, ◌++◌, map, arith}
-use Rattle.std.specs.Prelude.{◌==◌, ◌||◌, filter, if◌then◌else◌, is_some}
+use Rattle.std.proofs.Common.{◌≡◌, ◌≢◌, refl, sym, ◌∙◌, ap, subst, ℕ, Bool, true, false, ◌&&◌, inl, inr, List, [], ◌∷◌, ◌++◌, map, arith}
+use Rattle.std.specs.Prelude.{◌==◌, filter, if◌then◌else◌, is_some}
 use Rattle.cg_value.specs.declared.Val.TheVariants.{Ref}
 use Rattle.cg_value.specs.declared.Place.TheVariants.{Untracked, Gen, Legacy}
 use Rattle.cg_script.specs.declared.Script.{Script}
 use Rattle.cg_graph.specs.Member.{Includes}
-use Rattle.cg_graph.specs.Value.{item, references}
+use Rattle.cg_graph.specs.Value.{item}
 use Rattle.cg_graph.specs.Object.{Object, is_at, same_place, serials, with_entries, with_place}
 use Rattle.cg_graph.specs.Holdings.{graph_of}
 use Rattle.cg_graph.specs.Reach.{edges, first, next as further}
@@ -18,11 +18,11 @@ use Rattle.cg_machine.proofs.Condemned.{Includes-of_count, present}
 use Rattle.cg_machine.proofs.Serials.{Rises}
 use Rattle.cg_promises.specs.Reached.{IsReached}
 use Rattle.cg_promises.proofs.FullAside.{AllWait, IsLegacy}
-use Rattle.cg_promises.proofs.FullBegins.{aside_garbage, legacy_first, looked, looked_edge}
+use Rattle.cg_promises.proofs.FullBegins.{legacy_first, looked, looked_edge}
 use Rattle.cg_promises.proofs.FullDecided.{reached_decided}
 use Rattle.cg_promises.proofs.FullRuns.{rooted_by}
 use Rattle.cg_promises.proofs.FullSaved.{IsNamed, all_saved_named, named_on}
-use Rattle.cg_promises.proofs.FullSplit.{WasAside}
+use Rattle.cg_promises.proofs.FullSplit.{WasAside, aside_garbage}
 use Rattle.cg_promises.proofs.FullStands.{Rests, RestsSo, RestsReached, RestsLoose, RestsAside, IsFinal}
 use Rattle.cg_promises.proofs.FullStop.{Grows, all_saved_grow, grows_trans, test_grows}
 use Rattle.cg_promises.proofs.SealedStart.{edge, edge_of}

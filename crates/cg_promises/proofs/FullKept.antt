@@ -1,7 +1,6 @@
 -- From the start of a full collection up to its stop, if no frame begins: what paths lead to at the start, they lead to still.
-use Rattle.std.proofs.Common.{◌≡◌, refl, sym, ◌∙◌, ap, subst, ℕ, Bool, true, false, inl, inr, ◌⊎◌, List, [], ◌∷◌, ◌++◌, Option}
-use Rattle.std.specs.Prelude.{count_by, flat_map, if◌then◌else◌}
-use Rattle.cg_value.specs.declared.Val.{Val}
+use Rattle.std.proofs.Common.{◌≡◌, refl, sym, ◌∙◌, ap, subst, ℕ, Bool, true, false, inl, inr, ◌⊎◌, List, [], ◌∷◌, ◌++◌}
+use Rattle.std.specs.Prelude.{count_by, if◌then◌else◌}
 use Rattle.cg_value.specs.declared.Place.TheVariants.{Untracked, Gen}
 use Rattle.cg_script.specs.declared.Script.{Script}
 use Rattle.cg_graph.specs.Member.{Includes}
@@ -12,7 +11,7 @@ use Rattle.cg_graph.specs.Reach.{edges, first, next as further}
 use Rattle.cg_graph.proofs.Members.{either, Includes-filter, Includes-map, Includes-map_cases}
 use Rattle.cg_machine.specs.declared.event.Event.{Event}
 use Rattle.cg_machine.specs.World.{World, Activity, Dying, Death, Collecting, Collection, Start, WeakClearing}
-use Rattle.cg_machine.specs.Holdings.{collect_holds, holds}
+use Rattle.cg_machine.specs.Holdings.{collect_holds}
 use Rattle.cg_machine.specs.Collect.{is_condemned, merged, sorted, untrack, untracked_if, Sorts, StartStep}
 use Rattle.cg_machine.specs.Run.{Run, StepTaken, events_of, last_world}
 use Rattle.cg_machine.specs.Laws.{is_enter, is_stop, runs_own_frame}

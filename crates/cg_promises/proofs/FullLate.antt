@@ -1,15 +1,15 @@
 -- A full collection in which no frame begins, from its second detection to its stop: what is set aside stays so, or is due to run
 -- its legacy finalizer; all others are kept, untracked, or members of the final set.
-use Rattle.std.proofs.Common.{◌≡◌, ◌≢◌, refl, sym, ◌∙◌, ap, subst, ℕ, ◌+◌, Bool, true, false, not, ◌&&◌, inl, inr, ◌⊎◌, List, [], ◌∷◌, ◌++◌, map, length, Option, Some, None, arith}
+use Rattle.std.proofs.Common.{◌≡◌, refl, sym, ◌∙◌, ap, subst, ℕ, ◌+◌, Bool, true, false, not, ◌&&◌, inl, inr, List, [], ◌∷◌, ◌++◌, map, length, Option, Some, None}
 use Rattle.std.specs.Prelude.{◌==◌, count_by, if◌then◌else◌, is_some, option_and_then}
 use Rattle.std.proofs.lemmas.Bool.{eqb-true}
 use Rattle.cg_value.specs.declared.Val.TheVariants.{Ref}
 use Rattle.cg_value.specs.declared.Entry.{Entry}
-use Rattle.cg_value.specs.declared.Place.TheVariants.{Untracked, Gen, Cand, Legacy}
+use Rattle.cg_value.specs.declared.Place.TheVariants.{Untracked, Gen, Cand}
 use Rattle.cg_script.specs.declared.Script.{Script}
 use Rattle.cg_graph.specs.Member.{Includes}
-use Rattle.cg_graph.specs.Value.{entry_references, item, last_entry, references, without_last}
-use Rattle.cg_graph.specs.Object.{Object, change, entries_of, is_at, is_tuple, object_at, objects_at, with_entries, with_place, with_referent, without}
+use Rattle.cg_graph.specs.Value.{entry_references, item, last_entry, without_last}
+use Rattle.cg_graph.specs.Object.{Object, change, entries_of, is_at, is_tuple, object_at, objects_at, with_entries, with_place, with_referent}
 use Rattle.cg_graph.proofs.Members.{either, cases_of, true_and, Includes-filter, Includes-filter_cases}
 use Rattle.cg_machine.specs.declared.event.Event.{Event}
 use Rattle.cg_machine.specs.declared.event.Event.TheVariants.{Alive, Collected, GcSaved, GcUncollectable}
@@ -20,13 +20,13 @@ use Rattle.cg_machine.specs.Frame.{Transition, Yields, begin_death, released}
 use Rattle.cg_machine.specs.Weak.{callback_of, has_weak_references, loses_referent, weak_references_if}
 use Rattle.cg_machine.specs.Dying.{after_frame, call_one, clear_one, death_at, detach_one, dying, empty_one, finalizer_to_run, has_finalizers, run_finalizer, run_legacy}
 use Rattle.cg_machine.specs.Collect.{collection_at, empties, has_flag, lines_if, older, save_all, saved, takes_turn, uncollectable, PhaseStep, TurnsStep}
-use Rattle.cg_machine.specs.Run.{Run, Step, StepOf, StepTaken, events_of, last_world}
+use Rattle.cg_machine.specs.Run.{Run, StepOf, StepTaken, events_of, last_world}
 use Rattle.cg_machine.specs.Laws.{is_enter, is_stop}
 use Rattle.cg_machine.proofs.Lookups.{at_member}
 use Rattle.cg_machine.proofs.Releasing.{none_holds}
 use Rattle.cg_machine.proofs.Serials.{Rises}
 use Rattle.cg_laws.specs.Apart.{handles}
-use Rattle.cg_promises.proofs.FullAside.{Abide, Abides, AllWait, Dies, IsAsideBy, IsCalm, IsLegacy, IsLight, Waits, abide_same, abide_trans, all_wait, dies_first, dies_under, dies_without, test_abide}
+use Rattle.cg_promises.proofs.FullAside.{Abide, AllWait, Dies, IsAsideBy, IsCalm, IsLegacy, IsLight, abide_same, abide_trans, all_wait, dies_first, dies_under, dies_without, test_abide}
 use Rattle.cg_promises.proofs.FullRuns.{enters_first, running_still}
 use Rattle.cg_promises.proofs.FullStands.{RestsSo, rests_final, rests_loose, rests_same, test_all}
 use Rattle.cg_promises.proofs.Kept.{appended}
@@ -34,7 +34,6 @@ use Rattle.cg_promises.proofs.KeptRuns.{starts_none}
 use Rattle.cg_promises.proofs.Primed.{cand_is}
 use Rattle.cg_promises.proofs.Sealed.{IsLate}
 use Rattle.cg_promises.proofs.SealedRuns.{none_first, stops}
-use Rattle.cg_promises.proofs.SlackStart.{not_false}
 use Rattle.cg_promises.proofs.ToldRuns.{Fit, step_fit}
 
 module _ (script : Script) (kept aside : ℕ → Type 0) (members : List ℕ) (start : List Object) (below : List Activity) (by : (o : ℕ) → aside o → IsAsideBy script aside start o) (apart : (n : ℕ) → aside n → ¬ Includes members n) where

@@ -1,16 +1,15 @@
 -- In every run a full collection in which no frame begins leaves no garbage.
-use Rattle.std.proofs.Common.{◌≡◌, ◌≢◌, refl, sym, ◌∙◌, ap, subst, ℕ, ◌+◌, ◌<◌, Bool, true, false, inl, inr, ◌⊎◌, List, [], ◌∷◌, ◌++◌, length, arith}
+use Rattle.std.proofs.Common.{◌≡◌, ◌≢◌, refl, sym, ◌∙◌, ap, subst, ℕ, ◌+◌, ◌<◌, true, false, inl, List, [], ◌∷◌, ◌++◌, length, arith}
 use Rattle.std.specs.Prelude.{count_by}
 use Rattle.cg_value.specs.declared.Place.TheVariants.{Untracked, Cand}
 use Rattle.cg_script.specs.declared.Script.{Script}
 use Rattle.cg_script.specs.Texts.{TextsAreKnown}
 use Rattle.cg_graph.specs.Member.{Includes}
 use Rattle.cg_graph.specs.Value.{references}
-use Rattle.cg_graph.specs.Object.{Object, serials, serials_at}
+use Rattle.cg_graph.specs.Object.{Object, serials_at}
 use Rattle.cg_graph.proofs.Members.{either, cases_of, Includes-map}
-use Rattle.cg_machine.specs.declared.event.Event.{Event}
-use Rattle.cg_machine.specs.World.{World, Activity, TopLevel, Framed, Releasing, Dying, Collecting, Collection, CollectPhase, Start, Split, Turns, Ending, opening, with_stack}
-use Rattle.cg_machine.specs.Collect.{has_flag, is_condemned, save_all, EndStep, PhaseStep, SplitStep, StartStep}
+use Rattle.cg_machine.specs.World.{World, Activity, TopLevel, Framed, Releasing, Dying, Collecting, Collection, Split, Turns, Ending, opening, with_stack}
+use Rattle.cg_machine.specs.Collect.{has_flag, is_condemned, save_all, EndStep, PhaseStep, SplitStep}
 use Rattle.cg_machine.specs.Run.{IsRun, Run, Step, StepOf, StepTaken, events_of, last_world, world_after}
 use Rattle.cg_machine.specs.Laws.{FullCollectionLeavesNone, NoGarbageIsLeft, Splits, StartsFull, final_set, is_enter, is_stop}
 use Rattle.cg_machine.proofs.Ending.{Run-append, last_world-append}
@@ -22,7 +21,7 @@ use Rattle.cg_laws.proofs.RunsApart.{runs_apart}
 use Rattle.cg_laws.proofs.SetsApart.{stands_at}
 use Rattle.cg_promises.specs.Reached.{IsReached}
 use Rattle.cg_promises.proofs.Freed.{none_lives}
-use Rattle.cg_promises.proofs.FullAside.{Abides, AllWait, Dies, IsLight, Waits}
+use Rattle.cg_promises.proofs.FullAside.{AllWait, IsLight}
 use Rattle.cg_promises.proofs.FullBegins.{aside_by, begins_early}
 use Rattle.cg_promises.proofs.FullEarly.{Early, FoundSplit, finds_split}
 use Rattle.cg_promises.proofs.FullEnds.{tracked_reached}
@@ -31,11 +30,11 @@ use Rattle.cg_promises.proofs.FullLate.{Late, late_after}
 use Rattle.cg_promises.proofs.FullLaws.{begins, faded_full, near_full, reached_is_kept, rejoined, start_quiet}
 use Rattle.cg_promises.proofs.FullLeft.{none_left}
 use Rattle.cg_promises.proofs.FullRuns.{enters_first}
-use Rattle.cg_promises.proofs.FullSaved.{IsNamed, IsNamedOrCand, Saves, saves_after}
+use Rattle.cg_promises.proofs.FullSaved.{IsNamed, Saves, saves_after}
 use Rattle.cg_promises.proofs.FullSplit.{WasAside, WasGarbage, aside_apart, aside_there, rest_so}
-use Rattle.cg_promises.proofs.FullStands.{Alike, RestsSo}
+use Rattle.cg_promises.proofs.FullStands.{RestsSo}
 use Rattle.cg_promises.proofs.FullStop.{stop_ends}
-use Rattle.cg_promises.proofs.Kept.{Fares, IsBare}
+use Rattle.cg_promises.proofs.Kept.{IsBare}
 use Rattle.cg_promises.proofs.Minded.{IsMinded}
 use Rattle.cg_promises.proofs.MindedRuns.{minded_after, opening_minded}
 use Rattle.cg_promises.proofs.Primed.{cand_is}

@@ -1,5 +1,5 @@
 -- With SAVEALL each member of the final set is condemned still, or is named by the garbage list.
-use Rattle.std.proofs.Common.{◌≡◌, ◌≢◌, refl, sym, ◌∙◌, ap, subst, ℕ, ◌+◌, Bool, true, false, inl, inr, ◌⊎◌, List, [], ◌∷◌, ◌++◌, map, length, arith}
+use Rattle.std.proofs.Common.{◌≡◌, refl, sym, ◌∙◌, subst, ℕ, ◌+◌, Bool, true, false, inl, inr, ◌⊎◌, List, [], ◌∷◌, ◌++◌, map, length}
 use Rattle.std.specs.Prelude.{◌==◌, count_by, if◌then◌else◌}
 use Rattle.std.proofs.lemmas.Bool.{eqb-true, eq-eqb}
 use Rattle.cg_value.specs.declared.Entry.{Entry}
@@ -8,14 +8,14 @@ use Rattle.cg_value.specs.declared.Place.TheVariants.{Gen, Cand}
 use Rattle.cg_script.specs.declared.Script.{Script}
 use Rattle.cg_graph.specs.Member.{Includes}
 use Rattle.cg_graph.specs.Value.{entry_references, item, references}
-use Rattle.cg_graph.specs.Object.{Object, change, is_tuple, objects_at, serials, with_entries, with_place}
-use Rattle.cg_graph.proofs.Members.{either, cases_of, Includes-append_left, Includes-append_right, Includes-map, Includes-map_cases}
+use Rattle.cg_graph.specs.Object.{Object, change, is_tuple, serials, with_entries, with_place}
+use Rattle.cg_graph.proofs.Members.{either, cases_of, Includes-append_right, Includes-map, Includes-map_cases}
 use Rattle.cg_machine.specs.declared.event.Event.{Event}
 use Rattle.cg_machine.specs.declared.event.Event.TheVariants.{Collected, GcSaved, GcUncollectable}
 use Rattle.cg_machine.specs.World.{World, Activity, Collecting, Collection, CollectPhase, Turns, Turn, Ending, with_change, with_objects, with_stack}
 use Rattle.cg_machine.specs.Frame.{Transition}
 use Rattle.cg_machine.specs.Collect.{all_saved, collection_at, has_flag, lines_if, older, save_all, saved, takes_turn, uncollectable, PhaseStep, TurnsStep}
-use Rattle.cg_machine.specs.Run.{Run, Step, StepOf, StepTaken, events_of, last_world}
+use Rattle.cg_machine.specs.Run.{Run, StepOf, StepTaken, events_of, last_world}
 use Rattle.cg_machine.specs.Laws.{is_stop}
 use Rattle.cg_promises.proofs.FullStands.{test_all}
 use Rattle.cg_promises.proofs.FullStop.{Grows, all_saved_grow, grows_trans, test_grows}

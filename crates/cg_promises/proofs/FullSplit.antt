@@ -1,24 +1,21 @@
 -- The second detection of a full collection in which no frame began: nothing survives it, since paths led to what holds anything
 -- else from the start, or it is set aside together with what it holds.
-use Rattle.std.proofs.Common.{◌≡◌, ◌≢◌, refl, sym, ◌∙◌, ap, subst, ℕ, ◌+◌, ◌<◌, Bool, true, false, inl, inr, ◌⊎◌, List, [], ◌∷◌, ◌++◌, filter, Option, None, arith}
-use Rattle.std.specs.Prelude.{◌==◌, flat_map, if◌then◌else◌}
-use Rattle.cg_value.specs.declared.Val.{Val}
+use Rattle.std.proofs.Common.{◌≡◌, refl, sym, ◌∙◌, ap, subst, ℕ, ◌<◌, Bool, true, false, inl, inr, ◌⊎◌, List, [], ◌∷◌, filter, None, arith}
+use Rattle.std.specs.Prelude.{◌==◌, flat_map}
 use Rattle.cg_value.specs.declared.Place.{Place}
-use Rattle.cg_value.specs.declared.Place.TheVariants.{Untracked, Gen, Frozen, Cand, Seen, Back, Legacy, Pend}
+use Rattle.cg_value.specs.declared.Place.TheVariants.{Untracked, Gen, Cand, Seen, Legacy, Pend}
 use Rattle.cg_script.specs.declared.Script.{Script}
 use Rattle.cg_graph.specs.Member.{Includes, includes}
 use Rattle.cg_graph.specs.Value.{references}
 use Rattle.cg_graph.specs.Object.{Object, is_at, objects_at, same_place, serials, serials_at, with_place, with_referent}
 use Rattle.cg_graph.specs.Holdings.{entry_holdings, graph_of, name_holdings, occurrences}
 use Rattle.cg_graph.specs.Reach.{edges, first, next as further}
-use Rattle.cg_graph.proofs.Members.{either, cases_of, Includes-append_cases, Includes-filter, Includes-map, Includes-map_cases, Includes-of, includes-of}
-use Rattle.cg_graph.proofs.Objects.{occurrences-append}
+use Rattle.cg_graph.proofs.Members.{either, cases_of, Includes-filter, Includes-map, Includes-map_cases, Includes-of, includes-of}
 use Rattle.cg_machine.specs.declared.event.Event.{Event}
-use Rattle.cg_machine.specs.World.{World, Activity, Dying, Death, Collecting, Collection, Split}
+use Rattle.cg_machine.specs.World.{World, Activity, Collecting, Collection, Split}
 use Rattle.cg_machine.specs.Holdings.{collect_holds, holdings, holds}
 use Rattle.cg_machine.specs.Weak.{AllLose, loses_referent}
 use Rattle.cg_machine.specs.Collect.{get_older, is_condemned, loses_at_split, merged, members_at, older, IsGarbage, IsMemberOf, IsSetAside, SplitStep, Survives}
-use Rattle.cg_machine.proofs.Condemned.{present}
 use Rattle.cg_machine.proofs.Lookups.{same_object}
 use Rattle.cg_machine.proofs.Releasing.{no_times}
 use Rattle.cg_machine.proofs.Serials.{Rises}
@@ -40,6 +37,10 @@ WasGarbage v o = IsGarbage (merged 2 v) (Gen 2) o
 
 abbrev pub WasAside : Script → World → ℕ → Type 0
 WasAside script v o = IsSetAside script (merged 2 v) (Gen 2) o
+
+pub aside_garbage : (script : Script) (v : World) (o : ℕ) → WasAside script v o → WasGarbage v o
+aside_garbage script v o (first held inside) = inside
+aside_garbage script v o (further path step inside) = inside
 
 -- what is held more often than by those that pass is held otherwise
 held_outside : (w : World) (p : Object → Bool) (o : ℕ) → occurrences o (entry_holdings (graph_of (filter p w.objects))) < occurrences o (holdings w) → IsRoot w.names w.stack o ⊎ HasOutside p w.objects o
@@ -112,10 +113,6 @@ module _ (script : Script) (v : World) (c : Collection) (below : List Activity) 
       subst (λ n. Includes (edges (members_at (merged 2 v) (Gen 2))) (edge n o)) z.3
       (edge_of (objects_at (merged 2 v).objects (Gen 2)) z.0 o (Includes-filter (is_at (Gen 2)) (merged 2 v).objects z.0 z.2 z.1) held)
 
-  aside_garbage : (o : ℕ) → aside o → garbage o
-  aside_garbage o (first held inside) = inside
-  aside_garbage o (further path step inside) = inside
-
   -- one that is set aside holds none that is condemned
   aside_holds : (y x : Object) → Includes w.objects y → Includes w.objects x → x.place ≡ Cand → Includes (references y.entries) x.serial → aside y.serial → ⊥
   aside_holds y x i m e r a = go (early.stands x m).0
@@ -124,7 +121,7 @@ module _ (script : Script) (v : World) (c : Collection) (below : List Activity) 
       go (Reached k) = not_kept x m e k
       go (Loose u) = let no : Cand ≡ Untracked = sym e ∙ u in cc
       go (Pending u) = let no : Cand ≡ Pend = sym e ∙ u in cc
-      go (Condemned k g n) = n (further a (arrow y x.serial i r (aside_garbage y.serial a).member) g)
+      go (Condemned k g n) = n (further a (arrow y x.serial i r (aside_garbage script v y.serial a).member) g)
       go (SetAside u k) = let no : Cand ≡ Legacy = sym e ∙ u in cc
 
   -- nor does any that is not condemned

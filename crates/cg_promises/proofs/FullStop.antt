@@ -1,9 +1,8 @@
 -- The step in which a full collection stops is that of its end.
 use Rattle.std.proofs.Common.{◌≡◌, ◌≢◌, refl, sym, ◌∙◌, ap, subst, ℕ, ◌-◌, ◌<◌, Bool, true, false, not, ◌&&◌, inl, inr, ◌⊎◌, List, [], ◌∷◌, ◌++◌, map, Option, Some, None, arith}
-use Rattle.std.specs.Prelude.{◌==◌, count_by, flat_map, if◌then◌else◌, option_and_then}
+use Rattle.std.specs.Prelude.{◌==◌, count_by, if◌then◌else◌, option_and_then}
 use Rattle.cg_value.specs.declared.Entry.{Entry}
 use Rattle.cg_value.specs.declared.Place.TheVariants.{Untracked, Gen, Legacy}
-use Rattle.cg_value.specs.declared.Val.{Val}
 use Rattle.cg_value.specs.declared.Val.TheVariants.{Ref}
 use Rattle.cg_script.specs.declared.Script.{Script}
 use Rattle.cg_graph.specs.Member.{Includes}
@@ -15,7 +14,7 @@ use Rattle.cg_machine.specs.declared.event.Event.TheVariants.{Alive, BudgetSpent
 use Rattle.cg_machine.specs.declared.event.FrameSpec.{FrameSpec}
 use Rattle.cg_machine.specs.Program.{body_of, legacy_of}
 use Rattle.cg_machine.specs.World.{World, Activity, TopLevel, Framed, Releasing, Dying, Collecting, Collection, DyingPhase, Finalizer, AfterFinalizer, Clearing, Calling, AfterCall, LegacyFinalizer, AfterLegacy, Detaching, Emptying, CollectPhase, Start, WeakClearing, WeakCalling, AfterCallback, AfterRelease, Finalizing, AfterFinalizing, Split, Turns, Turn, AfterTurn, Ending, BudgetIsSpent, with_change, with_stack}
-use Rattle.cg_machine.specs.Holdings.{collect_holds, holds, in_degree, is_dying}
+use Rattle.cg_machine.specs.Holdings.{collect_holds, in_degree, is_dying}
 use Rattle.cg_machine.specs.Frame.{Transition, begin_death, released, start_frame}
 use Rattle.cg_machine.specs.Weak.{has_weak_references, weak_references_if}
 use Rattle.cg_machine.specs.Dying.{after_frame, death_at, call_one, clear_one, detach_one, dying, empty_one, finalizer_to_run, has_finalizers, run_finalizer, run_legacy}

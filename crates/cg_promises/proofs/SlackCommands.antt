@@ -1,9 +1,8 @@
 -- Commands: an untracked dictionary that gets what may be tracked becomes tracked, so that untracked objects are slack still.
-use Rattle.std.proofs.Common.{◌≡◌, refl, sym, ◌∙◌, ap, subst, ◌≢◌, ℕ, Bool, true, false, not, ◌&&◌, inl, inr, ◌⊎◌, List, [], ◌∷◌, ◌++◌, map, Option, Some, None, Ok, Err, arith}
-use Rattle.std.specs.Prelude.{◌==◌, ◌||◌, if◌then◌else◌, is_some, ok_or, option_and_then, option_to_list, remove, slice_set}
-use Rattle.std.proofs.lemmas.Bool.{eqb-true, eq-eqb, and_parts}
+use Rattle.std.proofs.Common.{◌≡◌, refl, sym, ◌∙◌, ap, subst, ◌≢◌, ℕ, Bool, true, false, not, ◌&&◌, inl, inr, ◌⊎◌, List, [], ◌∷◌, ◌++◌, Option, Some, None, arith}
+use Rattle.std.specs.Prelude.{◌==◌, ◌||◌, if◌then◌else◌, option_and_then, option_to_list}
+use Rattle.std.proofs.lemmas.Bool.{eqb-true, eq-eqb}
 use Rattle.cg_value.specs.declared.Val.{Val}
-use Rattle.cg_value.specs.declared.Val.TheVariants.{None as Nothing, Int, Str, Ref}
 use Rattle.cg_value.specs.declared.Entry.{Entry}
 use Rattle.cg_value.specs.declared.Place.{Place}
 use Rattle.cg_value.specs.declared.Place.TheVariants.{Untracked, Gen, Frozen}
@@ -11,7 +10,7 @@ use Rattle.cg_value.specs.declared.KindCode.{KindCode}
 use Rattle.cg_value.specs.declared.KindCode.TheVariants.{List as ListKind, Tuple, Dict, Inst, Func, Weak}
 use Rattle.cg_script.specs.declared.Command.{Command}
 use Rattle.cg_graph.specs.Member.{Includes, includes}
-use Rattle.cg_graph.specs.Value.{entry_references, item, put, reference_in, references, same_value, value_at, without_key}
+use Rattle.cg_graph.specs.Value.{entry_references, put, reference_in, references}
 use Rattle.cg_graph.specs.Object.{Object, change, first_place, is_tracked, is_tuple, may_be_tracked, object_at, same_place, serials, with_entries, with_place}
 use Rattle.cg_graph.proofs.Members.{either, cases_of, Includes-append_left, Includes-append_right, Includes-append_cases, Includes-map_cases, Includes-of, includes-of, or_left, or_right}
 use Rattle.cg_machine.specs.World.{World}
