@@ -9,7 +9,7 @@ use Rattle.cg_machine.specs.World.{World, Activity, Dying, Death, Numbers, Runni
 use Rattle.cg_machine.specs.Collect.{begun}
 use Rattle.cg_machine.specs.Frame.{begin_death, start_frame}
 use Rattle.cg_machine.specs.Holdings.{holdings, is_death_of, is_collection}
-use Rattle.cg_machine.specs.Laws.{IsHeldByItsDeathAlone, IsOrderly}
+use Rattle.cg_machine.specs.Laws.{IsHeldInItsFramesAlone, IsOrderly}
 use Rattle.cg_machine.specs.Represents.{Represents, Goes}
 use Rattle.cg_policy.specs.Policy.{Policy}
 use Rattle.cg_collect.specs.declared.answer.CollectStep.{CollectStep}
@@ -37,7 +37,7 @@ pub record Stands (asked : Bool) (c : Collection) (store : Store) (policy : Poli
   pub shows : Shows asked c store policy w below
   pub running : w.outcome ≡ Running
   pub orderly : IsOrderly w
-  pub unheld : (d : Death) → Includes w.stack (Dying d) → IsHeldByItsDeathAlone d.object d.phase (holdings w)
+  pub unheld : (d : Death) → Includes w.stack (Dying d) → IsHeldInItsFramesAlone d.object d.phase (holdings w)
   pub once : (o : ℕ) → count_by (is_death_of o) w.stack ≤ 1
   pub alone : count_by is_collection below ≡ 0
 

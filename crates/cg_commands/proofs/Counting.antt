@@ -46,7 +46,7 @@ shape_stays w command own none e (Sets numbers sets keeps) = absurd (sets_none c
 shape_stays w command own none e (Freezes is) = absurd (subst IsForObjects is own)
 shape_stays w command own none e (Unfreezes is) = absurd (subst IsForObjects is own)
 shape_stays w command own none e (StartsFrame f h) = tt
-shape_stays w command own none e (StartsCollection g) = tt
+shape_stays w command own none e (StartsCollection g low) = tt
 shape_stays w command own none e Ends = tt
 shape_stays w command own none e s = refl
 

@@ -80,7 +80,7 @@ shape_sized w command e (Sets numbers own keeps) = at_most (makes_object command
 shape_sized w command e (Freezes is) = at_most (makes_object command) w _ (placed w frozen _)
 shape_sized w command e (Unfreezes is) = at_most (makes_object command) w _ (placed w unfrozen w.numbers)
 shape_sized w command e (StartsFrame f h) = tt
-shape_sized w command e (StartsCollection g) = tt
+shape_sized w command e (StartsCollection g low) = tt
 shape_sized w command e Ends = tt
 
 effect_sized : (w : World) (command : Command) → Each (HasSize (makes_object command) w) (effect w command)

@@ -13,7 +13,7 @@ use Rattle.cg_heap.proofs.HoldLemmas.{outside-unheld}
 use Rattle.cg_machine.specs.World.{World, Activity, Releasing, Dying, Death, DyingPhase, Finalizer, AfterFinalizer, Clearing, Calling, AfterCall, LegacyFinalizer, AfterLegacy, Detaching, Emptying, with_stack}
 use Rattle.cg_machine.specs.Holdings.{holdings, holds, in_degree, is_dying, dying_holds}
 use Rattle.cg_machine.specs.Frame.{Transition, begin_death}
-use Rattle.cg_machine.specs.Laws.{IsHeldByItsDeathAlone}
+use Rattle.cg_machine.specs.Laws.{IsHeldInItsFramesAlone}
 use Rattle.cg_machine.specs.Represents.{Represents, Goes}
 use Rattle.cg_death.specs.declared.answer.DeathStep.TheVariants as answer_of
 use Rattle.cg_death.specs.Answers.{Stands, WentOn, GaveDeath, ReleaseAnswer, ReleaseSteps}
@@ -32,7 +32,7 @@ matches-unheld refs store w m = record {
 }
 
 -- a dying object that is held is held by its own death, once
-held_by_death : (o : ℕ) (phase : DyingPhase) (held : List ℕ) → IsHeldByItsDeathAlone o phase held → 0 < occurrences o held → occurrences o (dying_holds o phase) ≡ 1
+held_by_death : (o : ℕ) (phase : DyingPhase) (held : List ℕ) → IsHeldInItsFramesAlone o phase held → 0 < occurrences o held → occurrences o (dying_holds o phase) ≡ 1
 held_by_death o Finalizer held h m = absurd (omega (arith, h, m))
 held_by_death o AfterFinalizer held h m = occurrences-one o
 held_by_death o (Clearing waiting) held h m = absurd (omega (arith, h, m))

@@ -8,7 +8,7 @@ use Rattle.cg_graph.specs.Changes.{unheld}
 use Rattle.cg_graph.proofs.Members.{either}
 use Rattle.cg_machine.specs.World.{World, Activity, Releasing, Dying, Death, AfterCall, Calling, with_stack}
 use Rattle.cg_machine.specs.Holdings.{holdings, is_death_of}
-use Rattle.cg_machine.specs.Laws.{IsHeldByItsDeathAlone}
+use Rattle.cg_machine.specs.Laws.{IsHeldInItsFramesAlone}
 use Rattle.cg_machine.specs.Run.{StepOf}
 use Rattle.cg_death.specs.declared.answer.DeathStep.{DeathStep}
 use Rattle.cg_death.specs.declared.answer.DeathStep.TheVariants as answer_of
@@ -107,7 +107,7 @@ module _ (script : Script) (store : Store) (o weak callback : ℕ) where
     top = refl;
     running = s.running;
     unheld = λ d m. either m (λ e. cc) (λ k. either k
-        (λ e. let same : death o (Calling ws) ≡ d = cc in subst (λ (x : Death). IsHeldByItsDeathAlone x.object x.phase (holdings (here store v o (AfterCall weak callback ws) below))) same (s.unheld (death o (AfterCall weak callback ws)) (inl refl)))
+        (λ e. let same : death o (Calling ws) ≡ d = cc in subst (λ (x : Death). IsHeldInItsFramesAlone x.object x.phase (holdings (here store v o (AfterCall weak callback ws) below))) same (s.unheld (death o (AfterCall weak callback ws)) (inl refl)))
         (λ n. s.unheld d (inr n)));
     once = λ q.
         let was = s.once q in

@@ -11,7 +11,7 @@ use Rattle.cg_machine.specs.declared.event.FrameSort.TheVariants as sort_of
 use Rattle.cg_machine.specs.declared.event.FrameSpec.{FrameSpec}
 use Rattle.cg_machine.specs.World.{World, Activity, Releasing, Dying, Death, Numbers, Running}
 use Rattle.cg_machine.specs.Holdings.{holdings, is_death_of}
-use Rattle.cg_machine.specs.Laws.{IsHeldByItsDeathAlone}
+use Rattle.cg_machine.specs.Laws.{IsHeldInItsFramesAlone}
 use Rattle.cg_machine.specs.Represents.{Represents, GoesOn, HandsOutDeath, HandsOutFrame}
 use Rattle.cg_death.specs.declared.phase.Phase.{Phase}
 use Rattle.cg_death.specs.declared.phase.Phase.TheVariants as phase_of
@@ -26,7 +26,7 @@ pub record Stands (store : Store) (w : World) (stack : List Activity) : Type 0 w
   pub represents : Represents store w
   pub top : w.stack ≡ stack
   pub running : w.outcome ≡ Running
-  pub unheld : (d : Death) → Includes w.stack (Dying d) → IsHeldByItsDeathAlone d.object d.phase (holdings w)
+  pub unheld : (d : Death) → Includes w.stack (Dying d) → IsHeldInItsFramesAlone d.object d.phase (holdings w)
   pub once : (o : ℕ) → count_by (is_death_of o) w.stack ≤ 1
 
 -- what no step of a death or a release changes, the numbers aside: it starts no frame itself, and ends no run

@@ -104,7 +104,7 @@ IsThere w QuitsEffect = Unit {0}
 
 shape_there : (w : World) (command : Command) (e : Effect) → Shape w command e → IsThere w e
 shape_there w command e (StartsFrame f h) = member_at w.objects f h.member
-shape_there w command e (StartsCollection g) = tt
+shape_there w command e (StartsCollection g low) = tt
 shape_there w command e Ends = tt
 shape_there w command e s = tt
 

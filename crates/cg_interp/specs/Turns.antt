@@ -8,7 +8,7 @@ use Rattle.cg_machine.specs.World.{World, Outcome, Ended, BudgetIsSpent, Dying}
 use Rattle.cg_graph.specs.Member.{Includes}
 use Rattle.cg_graph.specs.Store.{objects_of}
 use Rattle.cg_machine.specs.Holdings.{holdings, is_death_of}
-use Rattle.cg_machine.specs.Laws.{IsHeldByItsDeathAlone}
+use Rattle.cg_machine.specs.Laws.{IsHeldInItsFramesAlone}
 use Rattle.cg_machine.specs.Frame.{Transition, begin_death}
 use Rattle.cg_machine.specs.Run.{StepTaken, Run, last_world}
 use Rattle.cg_machine.specs.Represents.{Goes}
@@ -65,7 +65,7 @@ Releases script w e (Some o) = GivesDeath script w o e
 
 -- What holds of the deaths of every run: a dying object is held by nothing but its own death, and is dying once.
 pub record DyingIsSound (w : World) : Type 0 where
-  pub unheld : (d : machine.Death) → Includes w.stack (Dying d) → IsHeldByItsDeathAlone d.object d.phase (holdings w)
+  pub unheld : (d : machine.Death) → Includes w.stack (Dying d) → IsHeldInItsFramesAlone d.object d.phase (holdings w)
   pub once : (o : ℕ) → count_by (is_death_of o) w.stack ≤ 1
 
 -- That holds in every world to which the machine goes.

@@ -50,6 +50,6 @@ module _ (w : World) (garbage : HasGarbageList w.objects) (made : 1 < w.next_ser
   shape_kept command e (Freezes is) = places_kept frozen w.objects refl
   shape_kept command e (Unfreezes is) = places_kept unfrozen w.objects refl
   shape_kept command e (StartsFrame f h) = tt
-  shape_kept command e (StartsCollection g) = tt
+  shape_kept command e (StartsCollection g low) = tt
   shape_kept command e Ends = tt
   shape_kept command e s = same_list w.objects

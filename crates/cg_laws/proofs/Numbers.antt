@@ -107,6 +107,6 @@ shape_counts w command e (Makes name kind class entries referent own parts) = re
 shape_counts w command e (Sets numbers own keeps) = record { counts_one = omega (arith, keeps.zero_count, keeps.one_count, keeps.two_count); pending = keeps.pending; total = keeps.total }
 shape_counts w command e (Freezes is) = record { counts_one = omega arith; pending = refl; total = refl }
 shape_counts w command e (StartsFrame f h) = tt
-shape_counts w command e (StartsCollection g) = tt
+shape_counts w command e (StartsCollection g low) = tt
 shape_counts w command e Ends = tt
 shape_counts w command e s = kept w.numbers

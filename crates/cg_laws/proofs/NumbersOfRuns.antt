@@ -96,7 +96,7 @@ module _ (limits : Limits) (script : Script) (short : (p : ℕ) → length (body
         let l = changes_leave now command wants_memory lines given_up after shape in
         counted (push (Releasing given_up) after) (gives_up given_up after l.stack l.budget (shape_counts now command (Changes wants_memory lines given_up after) shape));
     calls = λ f k. counted (start_frame script (record { sort = CallFrame; proc = procedure_of now f.serial; subject = f.serial; func = Some f.serial }) now).1 (starts_counts limits script (record { sort = CallFrame; proc = procedure_of now f.serial; subject = f.serial; func = Some f.serial }) now (short (procedure_of now f.serial)) stays);
-    asks = λ g e. record { now = stays; soon = λ first. asked_settles limits v.numbers v.budget (a ∷ below) g h };
+    asks = λ g low e. record { now = stays; soon = λ first. asked_settles limits v.numbers v.budget (a ∷ below) g h };
   }
 
 -- a collection that is due is pushed

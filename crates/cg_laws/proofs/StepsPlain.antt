@@ -212,7 +212,7 @@ command_plain script command b a below v ha garbage made = record {
     list = shape_kept (on a below v) garbage made command (Changes wants_memory lines given_up after) shape;
   };
   calls = λ f k none. starts_plain script (record { sort = CallFrame; proc = procedure_of (on a below v) f.serial; subject = f.serial; func = Some f.serial }) v.objects below (on a below v) (unchanged script a below v ha garbage made a ha);
-  asks = λ g e none. record { stack = begins_alone a g true below (on a below v) ha (free_below a below ha e); list = same_list v.objects };
+  asks = λ g low e none. record { stack = begins_alone a g true below (on a below v) ha (free_below a below ha e); list = same_list v.objects };
 }
 
 steps_plain : (script : Script) → Steps script (IsReady script) StepIsPlain

@@ -283,5 +283,5 @@ module _ (script : Script) (w : World) (rises : Rises 1 w.next_serial w.objects)
   shape_mild command e (Freezes is) = places_mild frozen _ refl frozen_condemned frozen_place
   shape_mild command e (Unfreezes is) = places_mild unfrozen _ refl unfrozen_condemned unfrozen_place
   shape_mild command e (StartsFrame f h) = object_apart command is_function f h
-  shape_mild command e (StartsCollection g) = tt
+  shape_mild command e (StartsCollection g low) = tt
   shape_mild command e Ends = tt

@@ -88,7 +88,7 @@ command_moves script w command a below v ha sound running taken less = record {
   stops = λ lines answers. shortened_moves script w (on a below v) sound running taken less (emptied a ∷ below) (emptied_shortened a below ha);
   changes = λ wants_memory lines given_up after shape. changes_moves script w (on a below v) sound running taken less given_up after (changes_leave (on a below v) command wants_memory lines given_up after shape) (shape_grows (on a below v) sound.rises command (Changes wants_memory lines given_up after) shape);
   calls = λ f k. starts script (record { sort = CallFrame; proc = procedure_of (on a below v) f.serial; subject = f.serial; func = Some f.serial }) w (on a below v) sound running less;
-  asks = λ g e. collects_moves script w (on a below v) sound running taken less g e;
+  asks = λ g low e. collects_moves script w (on a below v) sound running taken less g e;
 }
 
 -- A due collection is pushed.

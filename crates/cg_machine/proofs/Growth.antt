@@ -129,5 +129,5 @@ shape_grows w r command e (Sets numbers own keeps) = stays_so w w.names numbers 
 shape_grows w r command e (Freezes is) = places w frozen _
 shape_grows w r command e (Unfreezes is) = places w unfrozen _
 shape_grows w r command e (StartsFrame f h) = (f, h.member, refl, h.passes)
-shape_grows w r command e (StartsCollection g) = tt
+shape_grows w r command e (StartsCollection g low) = tt
 shape_grows w r command e Ends = tt

@@ -1,5 +1,5 @@
 -- A property of the worlds of runs holds by what each kind of step does: which kinds there are is told here, once.
-use Rattle.std.proofs.Common.{◌≡◌, refl, sym, subst, ℕ, Bool, true, false, inl, inr, List, [], ◌∷◌, Option, Some, None, Result, Ok, Err}
+use Rattle.std.proofs.Common.{◌≡◌, refl, sym, subst, ℕ, ◌≤◌, Bool, true, false, inl, inr, List, [], ◌∷◌, Option, Some, None, Result, Ok, Err}
 use Rattle.std.specs.Prelude.{if◌then◌else◌}
 use Rattle.cg_script.specs.declared.Script.{Script}
 use Rattle.cg_script.specs.declared.Command.{Command}
@@ -19,7 +19,7 @@ use Rattle.cg_machine.specs.Effects.{Effect, Changes, Calls, Collects, Quits}
 use Rattle.cg_machine.specs.Commands.{effect, refused, without_commands, new_collection, DoesEffect}
 use Rattle.cg_machine.specs.Run.{StepTaken, Step, StepOf, Run, IsRun, TopLevelStep, CommandInFrame, FrameStep, last_world, world_after}
 use Rattle.cg_machine.proofs.CommandLaws.{Each}
-use Rattle.cg_machine.proofs.Shapes.{Shape, StartsFrame, HasObject, effect_shaped}
+use Rattle.cg_machine.proofs.Shapes.{Shape, StartsCollection, StartsFrame, HasObject, effect_shaped}
 
 -- what has commands
 abbrev pub HasCommands : Activity → Type 0
@@ -55,7 +55,7 @@ pub record CommandSteps (script : Script) (R : World → List Event → World �
   pub stops : (lines : List Event) → AreAnswers lines → R w lines (on (emptied a) below u)
   pub changes : (wants_memory : Bool) (lines : List Event) (given_up : List ℕ) (after : World) → Shape u command (Changes wants_memory lines given_up after) → R w lines (push (Releasing given_up) after)
   pub calls : (f : Object) → HasObject u command is_function f → (let t : Transition = start_frame script (record { sort = CallFrame; proc = procedure_of u f.serial; subject = f.serial; func = Some f.serial }) u in R w t.0 t.1)
-  pub asks : (g : ℕ) → is_collecting u ≡ false → R w [] (push (new_collection g true u) u)
+  pub asks : (g : ℕ) → g ≤ 2 → is_collecting u ≡ false → R w [] (push (new_collection g true u) u)
 
 -- What each kind of step does: R tells of the world before it, what it prints and the world after it.
 pub record Steps (script : Script) (Known : World → Type 0) (R : World → List Event → World → Type 0) : Type 0 where
@@ -71,6 +71,11 @@ pub record Steps (script : Script) (Known : World → Type 0) (R : World → Lis
 called : (u : World) (command : Command) (e : Effect) → Shape u command e → (f : ℕ) → e ≡ Calls f → (x : Object) × HasObject u command is_function x × (x.serial ≡ f)
 called u command e (StartsFrame x h) f is = (x, h, let same : x.serial ≡ f = cc in same)
 called u command e s f is = absurd (cc)
+
+-- the generation that a command asks for
+asked : (u : World) (command : Command) (e : Effect) → Shape u command e → (g : ℕ) → e ≡ Collects g → g ≤ 2
+asked u command e (StartsCollection n low) g is = let same : n ≡ g = cc in subst (λ m. m ≤ 2) same low
+asked u command e s g is = absurd (cc)
 
 module _ (script : Script) (Known : World → Type 0) (R : World → List Event → World → Type 0) (h : Steps script Known R) where
   to : (w : World) (t : Transition) (events : List Event) (after : World) → Yields t events after → R w t.0 t.1 → R w events after
@@ -101,7 +106,7 @@ module _ (script : Script) (Known : World → Type 0) (R : World → List Event 
     where
       asks : (b : Bool) → is_collecting (on a below u) ≡ b → Yields (if b then (Collected 0 ∷ [], on a below u) else ([], push (new_collection g true (on a below u)) (on a below u))) events after → R w events after
       asks true e y = to w _ events after y (k.stays (Collected 0 ∷ []) refl)
-      asks false e y = to w _ events after y (k.asks g e)
+      asks false e y = to w _ events after y (k.asks g (asked (on a below u) command (Collects g) s g refl) e)
   does w u command a below ha k (Ok Quits) s events after step = to w _ events after step (quits w u command a below ha k)
 
   module _ (below : List Activity) (v : World) (events : List Event) (after : World) where

@@ -76,7 +76,7 @@ module _ (script : Script) (b a : Activity) (below : List Activity) (v : World) 
       from = λ y k. from y ((shape_mild script u rises c.over command (Changes wants_memory lines given_up after) shape).comes y k);
     };
     calls = λ f k. starts_leaves script (record { sort = CallFrame; proc = procedure_of u f.serial; subject = f.serial; func = Some f.serial }) w below u (unchanged a);
-    asks = λ g e. leaves_from w below (push (new_collection g true u) u) (new_collection g true u ∷ a ∷ []) refl (from_refl w below v.objects);
+    asks = λ g low e. leaves_from w below (push (new_collection g true u) u) (new_collection g true u ∷ a ∷ []) refl (from_refl w below v.objects);
   }
 
 -- nothing more is held when a command is taken

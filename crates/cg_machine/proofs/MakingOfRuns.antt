@@ -33,7 +33,7 @@ module _ (most b : ℕ) (script : Script) (short : (p : ℕ) → length (body_of
         let l = changes_leave (on a below v) command wants_memory lines given_up after shape in
         gives_up most b v.next_serial v.budget after.next_serial after.budget a below given_up after.stack l.serial l.stack l.budget h;
     calls = λ f k. starts_makes most b script (record { sort = CallFrame; proc = procedure_of (on a below v) f.serial; subject = f.serial; func = Some f.serial }) (on a below v) (short (procedure_of (on a below v) f.serial)) (record { within = omega (arith, h.within) });
-    asks = λ g e. record { within = omega (arith, h.within) };
+    asks = λ g low e. record { within = omega (arith, h.within) };
   }
 
   keeps_few : Steps script (λ w. Unit {0} × IsFew most b w) (λ w events. IsFew most b)

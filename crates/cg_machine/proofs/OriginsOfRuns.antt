@@ -51,7 +51,7 @@ module _ (script : Script) where
       objects = λ y m. either (shape_comes (on b below v) command (Changes wants_memory lines given_up after) shape y m) (λ x. later_of_script script x.0 y x.2 (k.0.objects x.0 x.1)) (made_of_script command k.1 y y.code y.class refl refl);
     };
     calls = λ f h. starts_origin script (record { sort = CallFrame; proc = procedure_of (on b below v) f.serial; subject = f.serial; func = Some f.serial }) (on b below v) k.0;
-    asks = λ g e. record { commands = k.0.commands; objects = k.0.objects };
+    asks = λ g low e. record { commands = k.0.commands; objects = k.0.objects };
   }
 
   keeps_origin : Steps script (λ w. Unit {0} × IsAllOfScript script w) (λ w events. IsAllOfScript script)

@@ -153,5 +153,5 @@ module _ (texts : List (List ℕ)) (short : All (λ text. length text ≤ 1024) 
   shape_prints command named e (Freezes is) = places_print frozen _
   shape_prints command named e (Unfreezes is) = places_print unfrozen _
   shape_prints command named e (StartsFrame f h) = tt
-  shape_prints command named e (StartsCollection g) = tt
+  shape_prints command named e (StartsCollection g low) = tt
   shape_prints command named e Ends = tt

@@ -39,7 +39,7 @@ module _ (script : Script) (known : TextsAreKnown script) (short : All (λ text.
     stops = λ lines answers. answers_print lines answers (on (emptied a) below v) h;
     changes = λ wants_memory lines given_up after shape. let p = shape_prints script.names short (on a below v) h command named (Changes wants_memory lines given_up after) shape in record { lines = p.lines; known = p.known };
     calls = λ f k. starts_prints script.names script (record { sort = CallFrame; proc = procedure_of (on a below v) f.serial; subject = f.serial; func = Some f.serial }) (on a below v) h;
-    asks = λ g e. silent script.names _ h;
+    asks = λ g low e. silent script.names _ h;
   }
 
   taken_names : (command : Command) (a b : Activity) (below : List Activity) → Takes command a b → ((c : Command) → Includes (flat_map commands_on (a ∷ below)) c → NamesTexts (length script.names) c) → NamesTexts (length script.names) command

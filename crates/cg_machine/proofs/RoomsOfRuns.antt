@@ -38,7 +38,7 @@ module _ (b : ℕ) (script : Script) where
         let l = changes_leave (on a below v) command wants_memory lines given_up after shape in
         gives_up b v.budget a below given_up after.stack after.budget ha (shape_gives_few (on a below v) command (Changes wants_memory lines given_up after) shape) l.stack l.budget h;
     calls = λ f k. starts_room b script (record { sort = CallFrame; proc = procedure_of (on a below v) f.serial; subject = f.serial; func = Some f.serial }) (on a below v) (no_release a below ha) h;
-    asks = λ g e. record { frames = omega (arith, h.frames); apart = (no_release a below ha, h.apart) };
+    asks = λ g low e. record { frames = omega (arith, h.frames); apart = (no_release a below ha, h.apart) };
   }
 
   keeps_room : Steps script (λ w. Unit {0} × HasRoom b w) (λ w events. HasRoom b)

@@ -13,7 +13,7 @@ use Rattle.cg_machine.specs.Frame.{procedure_of}
 use Rattle.cg_machine.specs.Effects.{Changes, Calls}
 use Rattle.cg_machine.specs.Commands.{new_collection}
 use Rattle.cg_machine.specs.Run.{StepTaken, Step, Run, last_world}
-use Rattle.cg_machine.specs.Laws.{DyingIsUnheld, IsHeldByItsDeathAlone}
+use Rattle.cg_machine.specs.Laws.{DyingIsUnheld, IsHeldInItsFramesAlone}
 use Rattle.cg_machine.proofs.Serials.{Rises}
 use Rattle.cg_machine.proofs.Sound.{Sound, opening_sound}
 use Rattle.cg_machine.proofs.Number.{step_falls}
@@ -102,7 +102,7 @@ module _ (script : Script) (a : Activity) (below : List Activity) (v : World) (h
     changes = λ wants_memory lines given_up after shape. changes after given_up (changes_leave (on a below v) command wants_memory lines given_up after shape) (shape_mild script (on a below v) rises c.over command (Changes wants_memory lines given_up after) shape);
     calls = λ f k. starts_calm script (record { sort = CallFrame; proc = procedure_of (on a below v) f.serial; subject = f.serial; func = Some f.serial }) (on a below v) c.referred c.over resting tt
         (λ o l g i. either i (shape_mild script (on a below v) rises c.over command (Calls f.serial) (StartsFrame f k) o g) (λ n. n));
-    asks = λ g e. collects script below v a g true h c;
+    asks = λ g low e. collects script below v a g true h c;
   }
 
 keeps_calm : (script : Script) → Steps script (λ w. Sound w × Calm script w) (λ w events. Calm script)
@@ -136,7 +136,7 @@ calm_after script w (step ∷ steps) sound calm run =
     calm_after script step.world steps (step_falls script w step.events step.world run.0 sound).0 (step_calm script w step.events step.world run.0 sound calm) run.1
 
 -- a death of a world that has the invariant
-stands_unheld : (script : Script) (w : World) (o : ℕ) (phase : DyingPhase) → Includes w.stack (Dying (record { object = o; phase = phase })) → Stands script w o phase → IsHeldByItsDeathAlone o phase (holdings w)
+stands_unheld : (script : Script) (w : World) (o : ℕ) (phase : DyingPhase) → Includes w.stack (Dying (record { object = o; phase = phase })) → Stands script w o phase → IsHeldInItsFramesAlone o phase (holdings w)
 stands_unheld script w o Finalizer m h = unheld_degree w o h
 stands_unheld script w o AfterFinalizer m h = λ e. (none_holds w o e).stack (held_by_member w.stack (Dying (record { object = o; phase = AfterFinalizer })) o m (inl refl))
 stands_unheld script w o (Clearing waiting) m h = unheld_degree w o h.0

@@ -179,7 +179,7 @@ command_does script w command a below v ha rises c h = record {
       gives_up_orderly given_up after (λ k. no_clearing a below ha (subst IsClearing l.stack k)) (given_live script (on a below v) rises c.over c.referred h after given_up l.stack m) (command_orderly script (on a below v) rises c.over c.referred h after given_up l.stack m);
   calls = λ f k. starts_orderly script (record { sort = CallFrame; proc = procedure_of (on a below v) f.serial; subject = f.serial; func = Some f.serial }) (on a below v) (no_clearing a below ha)
       (λ o m. either m (λ e. subst (Includes (serials v.objects)) e (Includes-map (λ (z : Object). z.serial) v.objects f k.member)) (λ n. absurd n)) h;
-  asks = λ g e. collects_orderly a g true below v ha h;
+  asks = λ g low e. collects_orderly a g true below v ha h;
 }
 
 keeps_order : (script : Script) → Steps script (λ w. (Sound w × Calm script w) × HasOrder w) (λ w events. HasOrder)

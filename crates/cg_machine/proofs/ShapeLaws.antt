@@ -55,7 +55,7 @@ shape_leaves w command e (Sets numbers own keeps) = record { stack = refl; budge
 shape_leaves w command e (Freezes is) = record { stack = refl; budget = refl; outcome = refl; rises = λ r. Rises-map (λ x. with_place (frozen x.place) x) (λ x. refl) 1 w.next_serial w.objects r; serial = omega arith }
 shape_leaves w command e (Unfreezes is) = record { stack = refl; budget = refl; outcome = refl; rises = λ r. Rises-map (λ x. with_place (unfrozen x.place) x) (λ x. refl) 1 w.next_serial w.objects r; serial = omega arith }
 shape_leaves w command e (StartsFrame f h) = tt
-shape_leaves w command e (StartsCollection g) = tt
+shape_leaves w command e (StartsCollection g low) = tt
 shape_leaves w command e Ends = tt
 
 pub changes_leave : (w : World) (command : Command) (wants_memory : Bool) (lines : List Event) (given_up : List ℕ) (after : World) → Shape w command (Changes wants_memory lines given_up after) → Leaves w after
@@ -83,7 +83,7 @@ shape_gives_few w command e (Makes name kind class entries referent own parts) =
 shape_gives_few w command e (Edits wants x entries given h mutable edit) = few_given w command x entries given edit
 shape_gives_few w command e (Puts x key v h mutable hand_key hand room) = few_value (value_at x.entries key)
 shape_gives_few w command e (StartsFrame f h) = tt
-shape_gives_few w command e (StartsCollection g) = tt
+shape_gives_few w command e (StartsCollection g low) = tt
 shape_gives_few w command e Ends = tt
 shape_gives_few w command e s = omega arith
 
@@ -109,7 +109,7 @@ shape_comes w command e (Sets numbers own keeps) = λ y m. inl (y, m, later_refl
 shape_comes w command e (Freezes is) = λ y m. inl ((map_alters (λ x. with_place (frozen x.place) x) (λ x. place_later (frozen x.place) x) w.objects).origin y m)
 shape_comes w command e (Unfreezes is) = λ y m. inl ((map_alters (λ x. with_place (unfrozen x.place) x) (λ x. place_later (unfrozen x.place) x) w.objects).origin y m)
 shape_comes w command e (StartsFrame f h) = tt
-shape_comes w command e (StartsCollection g) = tt
+shape_comes w command e (StartsCollection g low) = tt
 shape_comes w command e Ends = tt
 
 -- Each reference that is given up, printed or bound to a name is at hand, or is the serial that the command makes.
@@ -183,7 +183,7 @@ module _ (w : World) (command : Command) where
   shape_of_hand e (Freezes is) = record { gives = λ o m. absurd m; prints = λ line m. absurd m; names = λ u m. inl m }
   shape_of_hand e (Unfreezes is) = record { gives = λ o m. absurd m; prints = λ line m. absurd m; names = λ u m. inl m }
   shape_of_hand e (StartsFrame f h) = h.hand
-  shape_of_hand e (StartsCollection g) = tt
+  shape_of_hand e (StartsCollection g low) = tt
   shape_of_hand e Ends = tt
 
 pub effect_of_hand : (w : World) (command : Command) → Each (EffectIsOfHand w command) (effect w command)

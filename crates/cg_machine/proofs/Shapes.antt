@@ -1,8 +1,8 @@
 -- What the effect of a command can be, in ten forms. What it binds, puts, gives up, calls or prints is at hand.
 use Rattle.std.proofs.Common.{◌≡◌, ◌≢◌, refl, sym, ◌∙◌, ap, subst, ℕ, zero, suc, ◌+◌, ◌≤◌, Bool, true, false, not, inl, inr, ◌⊎◌, List, [], ◌∷◌, ◌++◌, map, length, length-append, Option, Some, None, Result, Ok, Err, arith}
-use Rattle.std.specs.Prelude.{◌==◌, ◌||◌, nat_le, nat_lt, if◌then◌else◌, is_some, is_none, ok_or, option_and_then, option_to_list, slice_set, slice_get, remove}
+use Rattle.std.specs.Prelude.{ℤ, pos, negsuc, ◌==◌, ◌||◌, nat_le, nat_lt, if◌then◌else◌, is_some, is_none, ok_or, option_and_then, option_to_list, slice_set, slice_get, remove}
 use Rattle.std.proofs.lemmas.List.{length-set}
-use Rattle.std.proofs.lemmas.Bool.{eq-eqb, leb-true}
+use Rattle.std.proofs.lemmas.Bool.{eq-eqb, leb-true, ltb-true}
 use Rattle.cg_value.specs.declared.Val.{Val}
 use Rattle.cg_value.specs.declared.Val.TheVariants.{None as Nothing, Int, Str, Ref}
 use Rattle.cg_value.specs.declared.Entry.{Entry}
@@ -20,9 +20,9 @@ use Rattle.cg_graph.proofs.Members.{either, true_and, or_left, or_right, Include
 use Rattle.cg_machine.specs.declared.event.Event.{Event}
 use Rattle.cg_machine.specs.declared.event.Event.TheVariants.{Made, Value, RefCount, Tracked as TrackedLine, Finalized as FinalizedLine, Count as CountLine, Gens as GensLine}
 use Rattle.cg_machine.specs.World.{World, Numbers, with_change}
-use Rattle.cg_machine.specs.Effects.{Effect, Changes, Calls, Collects, Quits, makes, puts, has_room, live, entry_count, replaced, frozen, unfrozen, tracked_by, given_up_by, bound, with_new, callback_entries}
+use Rattle.cg_machine.specs.Effects.{Effect, Changes, Calls, Collects, Quits, makes, puts, has_room, live, entry_count, place_of_index, replaced, frozen, unfrozen, tracked_by, given_up_by, bound, with_new, callback_entries}
 use Rattle.cg_machine.specs.Commands.{effect}
-use Rattle.cg_machine.specs.Refusals.{◌>>=◌, unless, most_objects, most_entries, object_limit, entry_limit, no_name, no_index, no_key, no_attribute, not_callable, not_weak, wrong_kind}
+use Rattle.cg_machine.specs.Refusals.{◌>>=◌, unless, most_objects, most_entries, object_limit, entry_limit, no_name, no_index, no_key, no_attribute, bad_generation, not_callable, not_weak, wrong_kind}
 use Rattle.cg_machine.specs.Operands.{is_dict, is_list, is_script_list, is_sequence, is_weak, object_of, tested, object, value_of, value, values}
 use Rattle.cg_machine.specs.Weak.{is_instance, is_function, has_weak_references}
 use Rattle.cg_machine.specs.Laws.{HasFunction}
@@ -65,6 +65,7 @@ pub record HasParts (w : World) (command : Command) (kind : KindCode) (class : O
   pub entry_room : entry_count w + length entries ≤ 4000000
   pub by : IsMadeBy command kind class
   pub items : AreItems w command entries
+  pub bare : kind ≡ Dict → entries ≡ []
   pub refers : (r : ℕ) → referent ≡ Some r → (kind ≡ Weak) × ((z : Object) × HasObject w command has_weak_references z × (z.serial ≡ r))
   pub callbacks : kind ≡ Weak → AtMostOne entries × ((f : ℕ) → Includes (references entries) f → HasFunction w.objects f)
 
@@ -77,10 +78,11 @@ IsMutable Inst = Unit {0}
 IsMutable Func = ⊥
 IsMutable Weak = ⊥
 
--- other entries of an object: those it had, and one item at hand, which the garbage list does not get; at most one entry is given up,
--- and the references of the others stay
+-- other entries of an object: those it had, and in a list one item at hand, which the garbage list does not get; at most one entry is
+-- given up, and the references of the others stay
 pub record IsEdit (w : World) (command : Command) (x : Object) (entries : List Entry) (given_up : List ℕ) : Type 0 where
   pub come : (e : Entry) → Includes entries e → Includes x.entries e ⊎ (x.serial ≢ 1) × (e.key ≡ Nothing) × IsAtHand w command e.val
+  pub adds : x.code ≢ ListKind → (e : Entry) → Includes entries e → Includes x.entries e
   pub longer : length entries ≤ length x.entries + 1
   pub room : length entries ≤ length x.entries ⊎ (entry_count w + 1 ≤ 4000000)
   pub given : (given_up ≡ []) ⊎ ((e : Entry) × Includes x.entries e × (given_up ≡ entry_references e))
@@ -127,7 +129,7 @@ pub data Shape (w : World) (command : Command) : Effect → Type 0 where
   Freezes : command ≡ Freeze → Shape w command (Changes false [] [] (record w { objects = replaced frozen w; numbers = record w.numbers { zero_count = 0; one_count = 0; two_count = 0 } }))
   Unfreezes : command ≡ Unfreeze → Shape w command (Changes false [] [] (record w { objects = replaced unfrozen w }))
   StartsFrame : (f : Object) → HasObject w command is_function f → Shape w command (Calls f.serial)
-  StartsCollection : (g : ℕ) → Shape w command (Collects g)
+  StartsCollection : (g : ℕ) → g ≤ 2 → Shape w command (Collects g)
   Ends : Shape w command Quits
 
 -- Checks in order, where each result is known.
@@ -235,12 +237,12 @@ module _ (w : World) (command : Command) where
   binds_shaped : (name : ℕ) (v : Val) → Includes (command_texts command) name → IsAtHand w command v → Shape w command (Changes false [] (given_up_by w name) (bound w name (Some v)))
   binds_shaped name v own hand = Binds name (Some v) own (λ u e. let same : v ≡ u = cc in subst (IsAtHand w command) same hand)
 
-  makes_shaped : (name : ℕ) (kind : KindCode) (class : Option ℕ) (entries : List Entry) (referent : Option ℕ) → Includes (command_texts command) name → IsMadeBy command kind class → AreItems w command entries
+  makes_shaped : (name : ℕ) (kind : KindCode) (class : Option ℕ) (entries : List Entry) (referent : Option ℕ) → Includes (command_texts command) name → IsMadeBy command kind class → AreItems w command entries → (kind ≡ Dict → entries ≡ [])
       → ((r : ℕ) → referent ≡ Some r → (kind ≡ Weak) × ((z : Object) × HasObject w command has_weak_references z × (z.serial ≡ r)))
       → (kind ≡ Weak → AtMostOne entries × ((f : ℕ) → Includes (references entries) f → HasFunction w.objects f)) → S (makes w name kind class entries referent)
-  makes_shaped name kind class entries referent own by items refers callbacks = each_then (λ u. nat_lt (live w) most_objects ≡ true) (Shape w command) (unless (nat_lt (live w) most_objects) object_limit) _ (each_unless (nat_lt (live w) most_objects) object_limit) (λ u room.
+  makes_shaped name kind class entries referent own by items bare refers callbacks = each_then (λ u. nat_lt (live w) most_objects ≡ true) (Shape w command) (unless (nat_lt (live w) most_objects) object_limit) _ (each_unless (nat_lt (live w) most_objects) object_limit) (λ u room.
       each_then (λ u. nat_le (entry_count w + length entries) most_entries ≡ true) (Shape w command) (has_room w (length entries)) _ (each_unless (nat_le (entry_count w + length entries) most_entries) entry_limit) (λ u fits.
-      Makes name kind class entries referent own (record { room = room; entry_room = leb-true (entry_count w + length entries) 4000000 fits; by = by; items = items; refers = refers; callbacks = callbacks })))
+      Makes name kind class entries referent own (record { room = room; entry_room = leb-true (entry_count w + length entries) 4000000 fits; by = by; items = items; bare = bare; refers = refers; callbacks = callbacks })))
 
   no_referent : (kind : KindCode) (r : ℕ) → None ≡ Some r → (kind ≡ Weak) × ((z : Object) × HasObject w command has_weak_references z × (z.serial ≡ r))
   no_referent kind r e = absurd (cc)
@@ -267,8 +269,9 @@ module _ (w : World) (command : Command) where
   edits : (wants_memory : Bool) (test : Object → Bool) (x : Object) (entries : List Entry) (given_up : List ℕ) → HasObject w command test x → IsMutable x.code → IsEdit w command x entries given_up → Shape w command (Changes wants_memory [] given_up (with_change (with_entries entries) x.serial w))
   edits wants_memory test x entries given_up h mutable edit = Edits wants_memory x entries given_up (any_object_at test x h) mutable edit
 
-  appended : (x : Object) (v : Val) → x.serial ≢ 1 → IsAtHand w command v → entry_count w + 1 ≤ 4000000 → IsEdit w command x (x.entries ++ item v ∷ []) []
-  appended x v other hand fits = record {
+  appended : (x : Object) (v : Val) → x.code ≡ ListKind → x.serial ≢ 1 → IsAtHand w command v → entry_count w + 1 ≤ 4000000 → IsEdit w command x (x.entries ++ item v ∷ []) []
+  appended x v list other hand fits = record {
+    adds = λ no. absurd (no list);
     come = λ e m. either (Includes-append_cases x.entries (item v ∷ []) e m) (λ k. inl k) (λ k. either k (λ i. inr (other, ap (λ (z : Entry). z.key) (sym i), subst (λ (z : Entry). IsAtHand w command z.val) i hand)) (λ n. absurd n));
     longer = omega (arith, length-append x.entries (item v ∷ []));
     room = inr fits;
@@ -276,8 +279,9 @@ module _ (w : World) (command : Command) where
     keeps = λ n. appended_goes x.entries (item v) n;
   }
 
-  replaced_at : (x : Object) (i : ℕ) (e : Entry) (v : Val) → x.serial ≢ 1 → IsAtHand w command v → slice_get x.entries i ≡ Some e → IsEdit w command x (slice_set x.entries i (item v)) (entry_references e)
-  replaced_at x i e v other hand at = record {
+  replaced_at : (x : Object) (i : ℕ) (e : Entry) (v : Val) → x.code ≡ ListKind → x.serial ≢ 1 → IsAtHand w command v → slice_get x.entries i ≡ Some e → IsEdit w command x (slice_set x.entries i (item v)) (entry_references e)
+  replaced_at x i e v list other hand at = record {
+    adds = λ no. absurd (no list);
     come = λ d m. either (set_member x.entries i (item v) d m) (λ k. inl k) (λ s. inr (other, ap (λ (z : Entry). z.key) (sym s), subst (λ (z : Entry). IsAtHand w command z.val) s hand));
     longer = omega (arith, length-set x.entries i (item v));
     room = inl (omega (arith, length-set x.entries i (item v)));
@@ -288,6 +292,7 @@ module _ (w : World) (command : Command) where
   removed_at : (x : Object) (i : ℕ) (e : Entry) → slice_get x.entries i ≡ Some e → IsEdit w command x (remove x.entries i) (entry_references e)
   removed_at x i e at = record {
     come = λ d m. inl (removed_member x.entries i d m);
+    adds = λ no d m. removed_member x.entries i d m;
     longer = omega (arith, removed_shorter x.entries i e at);
     room = inl (removed_shorter x.entries i e at);
     given = inr (e, slice_get_member x.entries i e at, refl);
@@ -297,6 +302,7 @@ module _ (w : World) (command : Command) where
   removed_key : (x : Object) (key : Val) (e : Entry) → entry_at x.entries key ≡ Some e → IsEdit w command x (without_key x.entries key) (entry_references e)
   removed_key x key e at = let part = without_key_part x.entries key in record {
     come = λ d m. inl (part.0 d m);
+    adds = λ no d m. part.0 d m;
     longer = omega (arith, part.1);
     room = inl part.1;
     given = inr (e, entry_at_member x.entries key e at, refl);
@@ -348,6 +354,24 @@ module _ (w : World) (command : Command) where
   callback_shaped (Str s) hand = is_found IsCallback _ is_function not_callable (Str s) hand (λ x h is. item_callback (Str s) hand x h is)
   callback_shaped (Ref p) hand = is_found IsCallback _ is_function not_callable (Ref p) hand (λ x h is. item_callback (Ref p) hand x h is)
 
+-- the code of a list
+list_code : (k : KindCode) → elim k [ ListKind ↦ true | _ ↦ false ] ≡ true → k ≡ ListKind
+list_code ListKind e = refl
+list_code Tuple e = absurd (let no : false ≡ true = e in cc)
+list_code Dict e = absurd (let no : false ≡ true = e in cc)
+list_code Inst e = absurd (let no : false ≡ true = e in cc)
+list_code Func e = absurd (let no : false ≡ true = e in cc)
+list_code Weak e = absurd (let no : false ≡ true = e in cc)
+
+-- there are three generations
+generation_low : (i : ℤ) (g : ℕ) → place_of_index i 3 ≡ Some g → g ≤ 2
+generation_low (pos n) g e = go (nat_lt n 3) refl e
+  where
+    go : (b : Bool) → nat_lt n 3 ≡ b → (if b then Some n else None) ≡ Some g → g ≤ 2
+    go true t k = let same : n ≡ g = cc in let low = ltb-true n 3 t in omega (arith, same, low)
+    go false t k = absurd (let no : None ≡ Some g = k in cc)
+generation_low (negsuc n) g e = absurd (let no : None ≡ Some g = e in cc)
+
 -- the kinds that change
 list_mutable : (k : KindCode) → elim k [ ListKind ↦ true | _ ↦ false ] ≡ true → IsMutable k
 list_mutable ListKind e = tt
@@ -391,20 +415,20 @@ sets_shaped w command first second third flags enabled own = Sets (record w.numb
 
 -- The effect of each command in each world has a shape.
 pub effect_shaped : (w : World) (command : Command) → Each (Shape w command) (effect w command)
-effect_shaped w (MakeList name items) = all_valued w _ _ items (λ t m. inr m) (λ vs hand. makes_shaped w _ name ListKind None (map item vs) None (inl refl) (ByList name items) (items_of w _ vs hand) (no_referent w _ ListKind) (λ e. absurd (cc)))
-effect_shaped w (MakeTuple name items) = all_valued w _ _ items (λ t m. inr m) (λ vs hand. makes_shaped w _ name Tuple None (map item vs) None (inl refl) (ByTuple name items) (items_of w _ vs hand) (no_referent w _ Tuple) (λ e. absurd (cc)))
-effect_shaped w (MakeDict name) = makes_shaped w _ name Dict None [] None (inl refl) (ByDict name) (λ e m. absurd m) (no_referent w _ Dict) (λ e. absurd (cc))
-effect_shaped w (MakeInst name class) = makes_shaped w _ name Inst (Some class) [] None (inl refl) (ByInst name class) (λ e m. absurd m) (no_referent w _ Inst) (λ e. absurd (cc))
-effect_shaped w (MakeFunc name proc cells) = all_valued w _ _ cells (λ t m. inr m) (λ vs hand. makes_shaped w _ name Func (Some proc) (map item vs) None (inl refl) (ByFunc name proc cells) (items_of w _ vs hand) (no_referent w _ Func) (λ e. absurd (cc)))
+effect_shaped w (MakeList name items) = all_valued w _ _ items (λ t m. inr m) (λ vs hand. makes_shaped w _ name ListKind None (map item vs) None (inl refl) (ByList name items) (items_of w _ vs hand) (λ e. absurd (cc)) (no_referent w _ ListKind) (λ e. absurd (cc)))
+effect_shaped w (MakeTuple name items) = all_valued w _ _ items (λ t m. inr m) (λ vs hand. makes_shaped w _ name Tuple None (map item vs) None (inl refl) (ByTuple name items) (items_of w _ vs hand) (λ e. absurd (cc)) (no_referent w _ Tuple) (λ e. absurd (cc)))
+effect_shaped w (MakeDict name) = makes_shaped w _ name Dict None [] None (inl refl) (ByDict name) (λ e m. absurd m) (λ e. refl) (no_referent w _ Dict) (λ e. absurd (cc))
+effect_shaped w (MakeInst name class) = makes_shaped w _ name Inst (Some class) [] None (inl refl) (ByInst name class) (λ e m. absurd m) (λ e. refl) (no_referent w _ Inst) (λ e. absurd (cc))
+effect_shaped w (MakeFunc name proc cells) = all_valued w _ _ cells (λ t m. inr m) (λ vs hand. makes_shaped w _ name Func (Some proc) (map item vs) None (inl refl) (ByFunc name proc cells) (items_of w _ vs hand) (λ e. absurd (cc)) (no_referent w _ Func) (λ e. absurd (cc)))
 effect_shaped w (MakeRef name target callback) = valued w _ _ target (λ t m. inr (Includes-append_left (operand_texts target) (operand_texts callback) t m)) (λ v hand. valued w _ _ callback (λ t m. inr (Includes-append_right (operand_texts target) (operand_texts callback) t m)) (λ c hand_c. found w _ _ has_weak_references wrong_kind v hand (λ x h.
-    each_then (IsCallback w (MakeRef name target callback)) (Shape w (MakeRef name target callback)) (callback_entries w c) _ (callback_shaped w (MakeRef name target callback) c hand_c) (λ entries k. makes_shaped w _ name Weak None entries (Some x.serial) (inl refl) (ByRef name target callback) k.items (λ r e. (refl, (x, h, let same : x.serial ≡ r = cc in same))) (λ e. (k.single, k.functions))))))
+    each_then (IsCallback w (MakeRef name target callback)) (Shape w (MakeRef name target callback)) (callback_entries w c) _ (callback_shaped w (MakeRef name target callback) c hand_c) (λ entries k. makes_shaped w _ name Weak None entries (Some x.serial) (inl refl) (ByRef name target callback) k.items (λ e. absurd (cc)) (λ r e. (refl, (x, h, let same : x.serial ≡ r = cc in same))) (λ e. (k.single, k.functions))))))
 effect_shaped w (Bind name operand) = valued w _ _ operand (λ t m. inr m) (λ v hand. binds_shaped w _ name v (inl refl) hand)
 effect_shaped w (Del name) = any w _ _ _ (λ v. Binds name None (inl refl) (λ u e. absurd (let no : None ≡ Some u = e in cc)))
 effect_shaped w (Append list operand) = valued w _ _ list (Includes-append_left (operand_texts list) (operand_texts operand)) (λ l hand_l. valued w _ _ operand (Includes-append_right (operand_texts list) (operand_texts operand)) (λ v hand. found w _ _ is_script_list wrong_kind l hand_l (λ x h.
     each_then (λ u. nat_le (entry_count w + 1) most_entries ≡ true) (Shape w (Append list operand)) (has_room w 1) _ (each_unless (nat_le (entry_count w + 1) most_entries) entry_limit) (λ u fits.
-    let is = script_list_is x h.passes in edits w _ true is_script_list x (x.entries ++ item v ∷ []) [] h (list_mutable x.code is.0) (appended w _ x v is.1 hand (leb-true (entry_count w + 1) 4000000 fits))))))
+    let is = script_list_is x h.passes in edits w _ true is_script_list x (x.entries ++ item v ∷ []) [] h (list_mutable x.code is.0) (appended w _ x v (list_code x.code is.0) is.1 hand (leb-true (entry_count w + 1) 4000000 fits))))))
 effect_shaped w (SetItem list index operand) = valued w _ _ list (Includes-append_left (operand_texts list) (operand_texts operand)) (λ l hand_l. valued w _ _ operand (Includes-append_right (operand_texts list) (operand_texts operand)) (λ v hand. found w _ _ is_script_list wrong_kind l hand_l (λ x h.
-    any w _ _ _ (λ i. there w _ _ (slice_get x.entries i) no_index (λ e at. let is = script_list_is x h.passes in edits w _ false is_script_list x (slice_set x.entries i (item v)) (entry_references e) h (list_mutable x.code is.0) (replaced_at w _ x i e v is.1 hand at))))))
+    any w _ _ _ (λ i. there w _ _ (slice_get x.entries i) no_index (λ e at. let is = script_list_is x h.passes in edits w _ false is_script_list x (slice_set x.entries i (item v)) (entry_references e) h (list_mutable x.code is.0) (replaced_at w _ x i e v (list_code x.code is.0) is.1 hand at))))))
 effect_shaped w (DelItem list index) = valued w _ _ list (λ t m. m) (λ l hand. found w _ _ is_list wrong_kind l hand (λ x h. any w _ _ _ (λ i. there w _ _ (slice_get x.entries i) no_index (λ e at. edits w _ false is_list x (remove x.entries i) (entry_references e) h (list_mutable x.code h.passes) (removed_at w _ x i e at)))))
 effect_shaped w (Put dict key operand) = valued w _ _ dict (λ t m. Includes-append_left (operand_texts dict ++ operand_texts key) (operand_texts operand) t (Includes-append_left (operand_texts dict) (operand_texts key) t m)) (λ d hand_d. valued w _ _ key (λ t m. Includes-append_left (operand_texts dict ++ operand_texts key) (operand_texts operand) t (Includes-append_right (operand_texts dict) (operand_texts key) t m)) (λ k hand_k.
     valued w _ _ operand (Includes-append_right (operand_texts dict ++ operand_texts key) (operand_texts operand)) (λ v hand. found w _ _ is_dict wrong_kind d hand_d (λ x h. any w _ _ _ (λ u. puts_shaped w _ x k v (keyed w _ is_dict x h (or_left (is_dict x) (is_instance x) h.passes)) (dict_mutable x.code h.passes) hand_k hand)))))
@@ -420,7 +444,7 @@ effect_shaped w (Attr name instance attr) = valued w _ _ instance (λ t m. inr (
 effect_shaped w (Deref name weak) = valued w _ _ weak (λ t m. inr m) (λ v hand. found w _ _ is_weak not_weak v hand (λ x h. binds_shaped w _ name (elim x.referent [ None ↦ Nothing | Some o ↦ Ref o ]) (inl refl) (referent_shaped w _ x h.member h.hand)))
 effect_shaped w (Call function) = valued w _ _ function (λ t m. m) (λ v hand. found w _ _ is_function not_callable v hand (λ x h. StartsFrame x h))
 effect_shaped w (Quit operand) = any w _ _ _ (λ v. quit_shaped w _ v)
-effect_shaped w (Collect generation) = any w _ _ _ (λ g. StartsCollection g)
+effect_shaped w (Collect generation) = there w _ _ (place_of_index generation 3) bad_generation (λ g at. StartsCollection g (generation_low generation g at))
 effect_shaped w Enable = sets_shaped w Enable _ _ _ _ _ tt
 effect_shaped w Disable = sets_shaped w Disable _ _ _ _ _ tt
 effect_shaped w (Threshold first second third) = sets_shaped w (Threshold first second third) _ _ _ _ _ tt

@@ -69,7 +69,7 @@ module _ (script : Script) where
     changes = λ wants_memory lines given_up after shape kept. (tt, subst (AreKnown after.objects) (sym (changes_leave (on b below v) command wants_memory lines given_up after shape).stack) (taken command a b below after.objects takes kept));
     calls = λ f h kept. starts_known script (record { sort = Call; proc = procedure_of (on b below v) f.serial; subject = f.serial; func = Some f.serial }) (on b below v) (b ∷ below) (refl, functions v f rises h.member h.passes) (λ r. r)
         (taken command a b below (start_frame script (record { sort = Call; proc = procedure_of (on b below v) f.serial; subject = f.serial; func = Some f.serial }) (on b below v)).1.objects takes kept);
-    asks = λ g e kept. (tt, taken command a b below v.objects takes kept);
+    asks = λ g low e kept. (tt, taken command a b below v.objects takes kept);
   }
 
   keeps_known : Steps script Holds Keeps

@@ -5,7 +5,7 @@ use Rattle.cg_graph.specs.Member.{Includes}
 use Rattle.cg_machine.specs.World.{World, Dying, Death}
 use Rattle.cg_machine.specs.Holdings.{holdings}
 use Rattle.cg_machine.specs.Run.{StepTaken, Run, IsRun, last_world, world_after}
-use Rattle.cg_machine.specs.Laws.{IsOrderly, IsHeldByItsDeathAlone}
+use Rattle.cg_machine.specs.Laws.{IsOrderly, IsHeldInItsFramesAlone}
 use Rattle.cg_machine.specs.Bounds.{IsBounded}
 use Rattle.cg_machine.specs.Origins.{HasOrigins}
 use Rattle.cg_machine.specs.Locals.{HasLivingLocals}
@@ -15,7 +15,7 @@ use Rattle.cg_machine.specs.Made.{HasFewSerials}
 -- a world of a run of the script with this budget
 pub record IsLawful (script : Script) (budget : ℕ) (w : World) : Type 0 where
   pub orderly : IsOrderly w
-  pub unheld : (d : Death) → Includes w.stack (Dying d) → IsHeldByItsDeathAlone d.object d.phase (holdings w)
+  pub unheld : (d : Death) → Includes w.stack (Dying d) → IsHeldInItsFramesAlone d.object d.phase (holdings w)
   pub bounded : IsBounded budget w
   pub origins : HasOrigins script w
   pub locals : HasLivingLocals w

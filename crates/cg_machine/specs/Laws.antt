@@ -1,5 +1,5 @@
--- What holds in every run. The first five are contracts of functions without a body; the others are stated, and their proofs
--- are to come. (Ours, after what PEP 442 and the developer guide promise.)
+-- What holds in every run. Each is the contract of a function without a body: the first five of this crate, the others of one
+-- above it. (Ours, after what PEP 442 and the developer guide promise.)
 use Rattle.cg_machine.specs.Represents.{Underway, death_waits}
 use Rattle.cg_machine.specs.Lines.{line, text_of}
 use Rattle.std.specs.Prelude.{◌≡◌, ◌≢◌, ℕ, ◌<◌, ◌≤◌, Bool, true, false, List, [], ◌∷◌, ◌++◌, ◌==◌, ◌⊎◌, Option, Some, None, count_by, is_some, option_to_list, IsTrue, flat_map}
@@ -22,6 +22,7 @@ use Rattle.cg_machine.specs.World.{World, Activity, TopLevel, Framed, Releasing,
 use Rattle.cg_machine.specs.Holdings.{holdings, in_degree, is_collection, is_dying, holds}
 use Rattle.cg_machine.specs.Weak.{callback_in, has_weak_references, is_function}
 use Rattle.cg_machine.specs.Collect.{has_flag, is_condemned, save_all}
+use Rattle.cg_machine.specs.Due.{due}
 use Rattle.cg_machine.specs.Run.{world_after, StepTaken, IsRun, IsWholeRun, last_world, events_of}
 
 -- No run is stuck: each is the beginning of a whole run.
@@ -41,16 +42,16 @@ abbrev pub FrontsBeginWholeTexts : Type 0
 FrontsBeginWholeTexts = (script : Script) (budget : ℕ) (steps : List StepTaken) → IsRun script budget steps
     → (printed : List Event) → (printed ≡ []) ⊎ Underway script (world_after script budget steps) printed → BeginsWholeText script budget (events_of steps ++ printed)
 
--- In every world of a run a dying object is held by nothing, or by its own death.
-abbrev pub IsHeldByItsDeathAlone : ℕ → DyingPhase → List ℕ → Type 0
-IsHeldByItsDeathAlone o AfterFinalizer held = occurrences o held ≢ 0
-IsHeldByItsDeathAlone o AfterLegacy held = occurrences o held ≢ 0
-IsHeldByItsDeathAlone o phase held = occurrences o held ≡ 0
+-- A dying object is held while a frame of its own is underway, by its death at least, and by nothing at any other time.
+abbrev pub IsHeldInItsFramesAlone : ℕ → DyingPhase → List ℕ → Type 0
+IsHeldInItsFramesAlone o AfterFinalizer held = occurrences o held ≢ 0
+IsHeldInItsFramesAlone o AfterLegacy held = occurrences o held ≢ 0
+IsHeldInItsFramesAlone o phase held = occurrences o held ≡ 0
 
--- So no release but that of its own hold leaves it at 0.
+-- It is so in every world of a run. So no release but that of its own hold leaves it at 0.
 abbrev pub DyingIsUnheld : Type 0
 DyingIsUnheld = (script : Script) (budget : ℕ) (steps : List StepTaken) → IsRun script budget steps
-    → (d : Death) → Includes (world_after script budget steps).stack (Dying d) → IsHeldByItsDeathAlone d.object d.phase (holdings (world_after script budget steps))
+    → (d : Death) → Includes (world_after script budget steps).stack (Dying d) → IsHeldInItsFramesAlone d.object d.phase (holdings (world_after script budget steps))
 
 -- the weak references that an activity waits with: their callbacks are to come, or that of the first one runs
 abbrev pub collection_waits : CollectPhase → List ℕ
@@ -268,20 +269,21 @@ pub record ReferredTo (script : Script) (budget : ℕ) (steps : List StepTaken) 
   pub same : object.serial ≡ weak
   pub refers : object.referent ≡ Some referent
 
--- The activity on top may take entries of an object: a command, its own death, or, a weak reference, the death of its referent.
-abbrev pub MayLoseEntries : Script → ℕ → List StepTaken → Object → List Activity → Type 0
-MayLoseEntries script budget steps x [] = ⊥
-MayLoseEntries script budget steps x (TopLevel commands ∷ below) = Unit {0}
-MayLoseEntries script budget steps x (Framed f ∷ below) = Unit {0}
-MayLoseEntries script budget steps x (Releasing references ∷ below) = ⊥
-MayLoseEntries script budget steps x (Dying d ∷ below) = (d.object ≡ x.serial) ⊎ (x.code ≡ Weak) × ReferredTo script budget steps x.serial d.object
-MayLoseEntries script budget steps x (Collecting c ∷ below) = ⊥
+-- The step that follows may take entries of an object: that of a command, of its own death, or, a weak reference, of the death of
+-- its referent.
+abbrev pub MayLoseEntries : Script → ℕ → List StepTaken → Object → World → List Activity → Type 0
+MayLoseEntries script budget steps x w [] = ⊥
+MayLoseEntries script budget steps x w (TopLevel commands ∷ below) = (commands ≢ []) × (due w ≡ None)
+MayLoseEntries script budget steps x w (Framed f ∷ below) = (f.commands ≢ []) × (due w ≡ None)
+MayLoseEntries script budget steps x w (Releasing references ∷ below) = ⊥
+MayLoseEntries script budget steps x w (Dying d ∷ below) = (d.object ≡ x.serial) ⊎ (x.code ≡ Weak) × ReferredTo script budget steps x.serial d.object
+MayLoseEntries script budget steps x w (Collecting c ∷ below) = ⊥
 
 -- An object that never was in such a final set loses an entry only so.
 abbrev pub EntriesLeaveOnlyBy : Type 0
 EntriesLeaveOnlyBy = (script : Script) (budget : ℕ) (before : List StepTaken) (step : StepTaken) → IsRun script budget (before ++ step ∷ [])
     → (x y : Object) → Includes (world_after script budget before).objects x → Includes step.world.objects y → x.serial ≡ y.serial
-    → ¬ WasFinal script budget before x.serial → ¬ IsLengthened x y → MayLoseEntries script budget before x (world_after script budget before).stack
+    → ¬ WasFinal script budget before x.serial → ¬ IsLengthened x y → MayLoseEntries script budget before x (world_after script budget before) (world_after script budget before).stack
 
 -- Each member of the final set, tuples included, has been freed when the collection stops.
 abbrev pub FinalSetIsFreed : Type 0

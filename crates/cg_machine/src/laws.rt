@@ -18,7 +18,7 @@ pub fn fronts_begin_whole_texts()
     ensures { FrontsBeginWholeTexts }
 {}
 
-/// In every world of a run a dying object is held by nothing, or by its own death while a frame of its own runs.
+/// In every world of a run a dying object is held while a frame of its own is underway, and by nothing at any other time.
 pub fn dying_is_unheld()
     ensures { DyingIsUnheld }
 {}

@@ -30,7 +30,7 @@ use Rattle.cg_promises.proofs.ToldCollections.{filter_lives}
 use Rattle.cg_promises.proofs.ToldRuns.{Fit, opening_fit, run_back, run_front, run_fit, step_fit, step_goes}
 
 -- a death on a stack
-death_on : (n : ℕ) (stack : List Activity) → list_any (is_death_of n) stack ≡ true → (d : Death) × Includes stack (Dying d) × (d.object ≡ n)
+pub death_on : (n : ℕ) (stack : List Activity) → list_any (is_death_of n) stack ≡ true → (d : Death) × Includes stack (Dying d) × (d.object ≡ n)
 death_on n [] e = absurd (let no : false ≡ true = e in cc)
 death_on n (a ∷ stack) e = either (true_or (is_death_of n a) (list_any (is_death_of n) stack) e) (here a refl) (λ k. let d = death_on n stack k in (d.0, inr d.1, d.2))
   where
@@ -75,7 +75,7 @@ module _ (script : Script) (members : List ℕ) (k : ℕ) (c : Collection) (belo
       holder rest y i r inside (inr (inr (inl dies))) = not_dying y.serial inside dies
       holder rest y i r inside (inr (inr (inr waits))) = apart y i waits.0
 
-  none_lives : (o : ℕ) → Includes members o → ¬ Includes (serials v.objects) o
+  pub none_lives : (o : ℕ) → Includes members o → ¬ Includes (serials v.objects) o
   none_lives o k m = let x = Includes-map_cases (λ (z : Object). z.serial) v.objects o m in none_from v.next_serial x.0 x.1 (subst (Includes members) (sym x.2) k) (omega arith)
 
 -- what is there stays, or is freed

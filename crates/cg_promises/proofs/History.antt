@@ -1,18 +1,24 @@
 -- An object that never was in a final set without SAVEALL loses entries only by a command, by its own death, or, a weak reference,
 -- by the death of what it referred to.
-use Rattle.std.proofs.Common.{◌≡◌, refl, sym, ◌∙◌, ap, subst, ℕ, ◌≤◌, true, false, inl, inr, List, [], ◌∷◌, ◌++◌}
+use Rattle.std.proofs.Common.{◌≡◌, ◌≢◌, refl, sym, ◌∙◌, ap, subst, ℕ, ◌≤◌, true, false, inl, inr, List, [], ◌∷◌, ◌++◌, Option, Some, None}
 use Rattle.std.proofs.lemmas.List.{append_assoc, append-nil}
 use Rattle.cg_script.specs.declared.Script.{Script}
+use Rattle.cg_script.specs.declared.Command.{Command}
 use Rattle.cg_graph.specs.Member.{Includes}
 use Rattle.cg_graph.specs.Object.{Object}
 use Rattle.cg_graph.proofs.Members.{either, Includes-append_left}
-use Rattle.cg_machine.specs.World.{World, Activity, TopLevel, Framed, Releasing, Dying, DyingPhase, Calling, Collecting, Collection, CollectPhase, Turns, Turn, AfterTurn, opening, with_stack}
+use Rattle.cg_machine.specs.World.{World, Activity, TopLevel, Framed, Frame, Releasing, Dying, DyingPhase, Calling, Collecting, Collection, CollectPhase, Turns, Turn, AfterTurn, opening, with_stack}
 use Rattle.cg_machine.specs.Holdings.{is_collection}
+use Rattle.cg_machine.specs.Due.{due}
+use Rattle.cg_machine.specs.Frame.{frame_end, gives_up_function}
+use Rattle.cg_machine.specs.declared.event.FrameSort.{FrameSort}
+use Rattle.cg_machine.specs.declared.event.FrameSort.TheVariants.{Del, Legacy, Callback, Call}
 use Rattle.cg_machine.specs.Collect.{PhaseStep}
 use Rattle.cg_machine.specs.Represents.{death_waits}
-use Rattle.cg_machine.specs.Run.{Run, Step, StepOf, StepTaken, last_world}
+use Rattle.cg_machine.specs.Run.{CommandInFrame, FrameStep, Run, Step, StepOf, StepTaken, TopLevelStep, last_world}
 use Rattle.cg_machine.specs.Laws.{EntriesLeaveOnlyBy, IsLengthened, IsOfCollection, MayLoseEntries, ReferredTo, WasFinal, all_waits}
 use Rattle.cg_machine.proofs.Ending.{Run-append, last_world-append}
+use Rattle.cg_machine.proofs.Invariants.{on}
 use Rattle.cg_machine.proofs.Forgotten.{lives_within}
 use Rattle.cg_machine.proofs.LeftRuns.{LeavesUnder, leaves_below, step_leaves}
 use Rattle.cg_machine.proofs.Lookups.{same_object}
@@ -27,6 +33,16 @@ use Rattle.cg_promises.proofs.Sealing.{alone_below}
 use Rattle.cg_promises.proofs.ToldRuns.{Fit, opening_fit, run_back, run_front, run_fit, step_fit}
 use Rattle.cg_promises.proofs.Turned.{AreFinal, FinalAt, IsEarly, final_stays, late_final, phase_stack}
 use Rattle.cg_promises.proofs.Waited.{Waited, step_waited}
+
+-- the end of a frame leaves the objects
+ended_objects : (f : Frame) (w : World) → (frame_end f w).1.objects ≡ w.objects
+ended_objects f w = go f.sort
+  where
+    go : (sort : FrameSort) → (gives_up_function sort f.function w).objects ≡ w.objects
+    go Del = refl
+    go Legacy = refl
+    go Callback = refl
+    go Call = refl
 
 module _ (script : Script) (budget : ℕ) where
   abbrev world : List StepTaken → World
@@ -120,10 +136,32 @@ module _ (script : Script) (budget : ℕ) where
     is_x : (z : Object) → Includes (world before).objects z → z.serial ≡ y.serial → z ≡ x
     is_x z m e = same_object 1 (world before).next_serial (world before).objects z x fit.sound.rises m mx (e ∙ sym same)
 
-    may : (stack : List Activity) → (world before).stack ≡ stack → StepOf script (with_stack stack (world before)) stack step.events step.world → MayLoseEntries script budget before x stack
+    -- where no object changes, none gets shorter
+    unchanged : (next : World) → step.world ≡ next → next.objects ≡ (world before).objects → ⊥
+    unchanged next e same_objects =
+        let m = subst (λ os. Includes os y) (ap (λ (w : World). w.objects) e ∙ same_objects) my in
+        shorter (subst (λ q. IsLengthened q y) (is_x y m refl) ([], sym (append-nil y.entries)))
+
+    by_top_level : (commands : List Command) (below : List Activity) → (let w : World = on (TopLevel commands) below (world before) in (d : Option ℕ) → due w ≡ d → TopLevelStep script w d commands below step.events step.world → (commands ≢ []) × (due w ≡ None))
+    by_top_level commands below (Some g) e taken = absurd (unchanged _ taken.1 refl)
+    by_top_level [] below None e taken = absurd (unchanged _ taken.1 refl)
+    by_top_level (command ∷ commands) below None e taken = (λ i. cc, e)
+
+    by_frame : (f : Frame) (commands : List Command) → f.commands ≡ commands → (below : List Activity) → (let w : World = on (Framed f) below (world before) in (d : Option ℕ) → due w ≡ d → FrameStep script w f commands below step.events step.world → (f.commands ≢ []) × (due w ≡ None))
+    by_frame f [] left below d e taken = absurd (unchanged _ taken.1 (ended_objects f (with_stack below (world before))))
+    by_frame f (command ∷ commands) left below d e taken = by_command (due (on (Framed f) below (world before))) refl taken
+      where
+        by_command : (let w : World = on (Framed f) below (world before) in (d : Option ℕ) → due w ≡ d → CommandInFrame script w d f command commands below step.events step.world → (f.commands ≢ []) × (due w ≡ None))
+        by_command (Some g) e taken = absurd (unchanged _ taken.1 refl)
+        by_command None e taken = (λ i. let no : [] ≡ command ∷ commands = sym i ∙ left in cc, e)
+
+    none_due : (stack : List Activity) → (world before).stack ≡ stack → due (with_stack stack (world before)) ≡ None → due (world before) ≡ None
+    none_due stack top e = ap (λ st. due (with_stack st (world before))) top ∙ e
+
+    may : (stack : List Activity) → (world before).stack ≡ stack → StepOf script (with_stack stack (world before)) stack step.events step.world → MayLoseEntries script budget before x (world before) stack
     may [] top taken = taken
-    may (TopLevel commands ∷ below) top taken = tt
-    may (Framed f ∷ below) top taken = tt
+    may (TopLevel commands ∷ below) top taken = let k = by_top_level commands below (due (on (TopLevel commands) below (world before))) refl taken in (k.0, none_due (TopLevel commands ∷ below) top k.1)
+    may (Framed f ∷ below) top taken = let k = by_frame f f.commands refl below (due (on (Framed f) below (world before))) refl taken in (k.0, none_due (Framed f ∷ below) top k.1)
     may (Releasing refs ∷ below) top taken = let z = released_lengthens refs below (world before) y (subst (λ (w : World). Includes w.objects y) taken.1 my) in
         either z.3 (λ l. shorter (subst (λ q. IsLengthened q y) (is_x z.0 z.1 z.2) l)) (λ no. no)
     may (Dying d ∷ below) top taken =

@@ -161,5 +161,5 @@ module _ (w : World) (rises : Rises 1 w.next_serial w.objects) where
   shape_shifts command made fits e (Freezes is) = places_shift frozen _
   shape_shifts command made fits e (Unfreezes is) = places_shift unfrozen _
   shape_shifts command made fits e (StartsFrame f h) = tt
-  shape_shifts command made fits e (StartsCollection g) = tt
+  shape_shifts command made fits e (StartsCollection g low) = tt
   shape_shifts command made fits e Ends = tt

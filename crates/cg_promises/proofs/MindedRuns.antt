@@ -86,7 +86,7 @@ module _ (script : Script) (count : ℕ) (below : List Activity) (v : World) whe
       changes = λ wants_memory lines given_up after shape. shifts_minded after given_up (changes_leave now command wants_memory lines given_up after shape).stack
           (shape_shifts now rises command (hand_made command) (λ t m. subst (λ c. t < c) (sym h.count) (fits t m)) (Changes wants_memory lines given_up after) shape);
       calls = λ f k. starts_minded count script (record { sort = CallFrame; proc = procedure_of now f.serial; subject = f.serial; func = Some f.serial }) now h;
-      asks = λ g e. push_minded count (new_collection g true now) v.objects v.names (a ∷ below) (λ n. refl) h;
+      asks = λ g low e. push_minded count (new_collection g true now) v.objects v.names (a ∷ below) (λ n. refl) h;
     }
 
 -- a weak reference that waits in a death is one

@@ -132,7 +132,7 @@ cand_is Back e = absurd (let no : false ≡ true = e in cc)
 cand_is Legacy e = absurd (let no : false ≡ true = e in cc)
 cand_is Pend e = absurd (let no : false ≡ true = e in cc)
 
-seen_is : (p : Place) → same_place p Seen ≡ true → p ≡ Seen
+pub seen_is : (p : Place) → same_place p Seen ≡ true → p ≡ Seen
 seen_is Seen e = refl
 seen_is Cand e = absurd (let no : false ≡ true = e in cc)
 seen_is Untracked e = absurd (let no : false ≡ true = e in cc)

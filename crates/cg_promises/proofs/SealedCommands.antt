@@ -252,5 +252,5 @@ module _ (script : Script) (members : List ℕ) (w : World) (h : Sealed script m
   shape_opens command e (Freezes is) = places_open frozen _ frozen_legacy refl
   shape_opens command e (Unfreezes is) = places_open unfrozen _ unfrozen_legacy refl
   shape_opens command e (StartsFrame f found) = object_out command is_function f found
-  shape_opens command e (StartsCollection g) = tt
+  shape_opens command e (StartsCollection g low) = tt
   shape_opens command e Ends = tt

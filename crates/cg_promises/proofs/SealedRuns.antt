@@ -88,7 +88,7 @@ module _ (script : Script) (members : List ℕ) (c : Collection) (below : List A
       (if_out c.asked (Collected (c.collected + length step.told) ∷ []) (one_out members (Collected (c.collected + length step.told)) (λ n m. absurd m)))))
 
 -- the end of a collection prints a stop
-stops : (front : List Event) (g m n : ℕ) (back : List Event) (events : List Event) → events ≡ front ++ GcStop g m n ∷ back → count_by is_stop events ≡ 0 → ⊥
+pub stops : (front : List Event) (g m n : ℕ) (back : List Event) (events : List Event) → events ≡ front ++ GcStop g m n ∷ back → count_by is_stop events ≡ 0 → ⊥
 stops front g m n back events e none =
     let all : count_by is_stop (front ++ GcStop g m n ∷ back) ≡ count_by is_stop front + count_by is_stop (GcStop g m n ∷ back) = sum_by-append (λ x. cond (is_stop x) 1 0) front (GcStop g m n ∷ back) in
     let one : count_by is_stop (GcStop g m n ∷ back) ≡ 1 + count_by is_stop back = sum_by-cons (λ x. cond (is_stop x) 1 0) (GcStop g m n) back in
@@ -101,7 +101,7 @@ pub record Keeping (script : Script) (members : List ℕ) (stack : List Activity
   pub sealed : count_by is_stop events ≡ 0 → Sealed script members after.objects after.names after.stack after.next_serial
   pub ends : 0 < count_by is_stop events → (c : Collection) × (below : List Activity) × (stack ≡ Collecting c ∷ below) × (c.phase ≡ Ending)
 
-none_stops : (events : List Event) → ((event : Event) → Includes events event → is_stop event ≡ false) → count_by is_stop events ≡ 0
+pub none_stops : (events : List Event) → ((event : Event) → Includes events event → is_stop event ≡ false) → count_by is_stop events ≡ 0
 none_stops [] h = refl
 none_stops (event ∷ events) h =
     let one : count_by is_stop (event ∷ events) ≡ cond (is_stop event) 1 0 + count_by is_stop events = sum_by-cons (λ x. cond (is_stop x) 1 0) event events in
@@ -179,7 +179,7 @@ module _ (script : Script) (members : List ℕ) where
             (opened lines given_up after (changes_leave now command wants_memory lines given_up after shape).stack (shape_opens script members now h command (Changes wants_memory lines given_up after) shape));
         calls = λ f k. let out = shape_opens script members now h command (Calls f.serial) (StartsFrame f k) in
             keeps _ _ (starts_sealed script members (record { sort = CallFrame; proc = procedure_of now f.serial; subject = f.serial; func = Some f.serial }) now out (λ g e. let s : f.serial ≡ g = cc in subst (λ n. ¬ Includes members n) s out) h);
-        asks = λ g e. absurd (let no : true ≡ false = sym h.collecting ∙ e in cc);
+        asks = λ g low e. absurd (let no : true ≡ false = sym h.collecting ∙ e in cc);
       }
 
   keeps_sealed : Steps script (λ w. Rises 1 w.next_serial w.objects × IsSealedWorld script members w) StepKeeps
@@ -194,7 +194,7 @@ module _ (script : Script) (members : List ℕ) where
   }
 
 -- none of a run's first steps stops, and none of the others
-none_first : (xs ys : List Event) → count_by is_stop (xs ++ ys) ≡ 0 → (count_by is_stop xs ≡ 0) × (count_by is_stop ys ≡ 0)
+pub none_first : (xs ys : List Event) → count_by is_stop (xs ++ ys) ≡ 0 → (count_by is_stop xs ≡ 0) × (count_by is_stop ys ≡ 0)
 none_first xs ys e = let all : count_by is_stop (xs ++ ys) ≡ count_by is_stop xs + count_by is_stop ys = sum_by-append (λ x. cond (is_stop x) 1 0) xs ys in (omega (arith, all, e), omega (arith, all, e))
 
 module _ (script : Script) (members : List ℕ) where

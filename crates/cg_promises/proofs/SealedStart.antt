@@ -34,7 +34,7 @@ use Rattle.cg_promises.proofs.Primed.{IsWanted, Primed, cand_is, legacy_later, r
 use Rattle.cg_promises.proofs.Sealed.{Fits, IsDone, NotAfter, Sealed}
 
 -- counts
-less_held : (p : Object → Bool) (objects : List Object) (o : ℕ) → occurrences o (entry_holdings (graph_of (filter p objects))) ≤ occurrences o (entry_holdings (graph_of objects))
+pub less_held : (p : Object → Bool) (objects : List Object) (o : ℕ) → occurrences o (entry_holdings (graph_of (filter p objects))) ≤ occurrences o (entry_holdings (graph_of objects))
 less_held p [] o = omega arith
 less_held p (x ∷ objects) o = go (p x) (less_held p objects o)
   where
@@ -43,7 +43,7 @@ less_held p (x ∷ objects) o = go (p x) (less_held p objects o)
     go false k = omega (arith, k, occurrences-append o (references x.entries) (entry_holdings (graph_of objects)))
 
 -- one that does not pass holds more
-more_held : (p : Object → Bool) (objects : List Object) (y : Object) (o : ℕ) → Includes objects y → p y ≡ false → Includes (references y.entries) o → occurrences o (entry_holdings (graph_of (filter p objects))) < occurrences o (entry_holdings (graph_of objects))
+pub more_held : (p : Object → Bool) (objects : List Object) (y : Object) (o : ℕ) → Includes objects y → p y ≡ false → Includes (references y.entries) o → occurrences o (entry_holdings (graph_of (filter p objects))) < occurrences o (entry_holdings (graph_of objects))
 more_held p [] y o m t k = absurd m
 more_held p (x ∷ objects) y o (inl e) t k = go (p x) (ap p e ∙ t)
   where
@@ -59,10 +59,10 @@ more_held p (x ∷ objects) y o (inr m) t k = go (p x) (more_held p objects y o 
     go true k = omega (arith, k, occurrences-append o (references x.entries) (entry_holdings (graph_of (filter p objects))), occurrences-append o (references x.entries) (entry_holdings (graph_of objects)))
     go false k = omega (arith, k, occurrences-append o (references x.entries) (entry_holdings (graph_of objects)))
 
-abbrev edge : ℕ → ℕ → Edge
+abbrev pub edge : ℕ → ℕ → Edge
 edge a b = record { from = a; to = b }
 
-edge_of : (xs : List Object) (y : Object) (o : ℕ) → Includes xs y → Includes (references y.entries) o → Includes (edges (graph_of xs)) (record { from = y.serial; to = o })
+pub edge_of : (xs : List Object) (y : Object) (o : ℕ) → Includes xs y → Includes (references y.entries) o → Includes (edges (graph_of xs)) (record { from = y.serial; to = o })
 edge_of [] y o m k = absurd m
 edge_of (x ∷ xs) y o (inl e) k = Includes-append_left (map (edge x.serial) (references x.entries)) (edges (graph_of xs)) (edge y.serial o)
     (subst (λ (z : Object). Includes (map (edge x.serial) (references x.entries)) (edge z.serial o)) e (Includes-map (edge x.serial) (references x.entries) o (subst (λ (z : Object). Includes (references z.entries) o) (sym e) k)))

@@ -104,5 +104,5 @@ module _ (script : Script) (w : World) (rises : Rises 1 w.next_serial w.objects)
   shape_tells command e (Freezes is) = places w frozen _
   shape_tells command e (Unfreezes is) = places w unfrozen _
   shape_tells command e (StartsFrame f h) = Includes-map (λ (z : Object). z.serial) w.objects f h.member
-  shape_tells command e (StartsCollection g) = tt
+  shape_tells command e (StartsCollection g low) = tt
   shape_tells command e Ends = tt

@@ -54,7 +54,7 @@ module _ (script : Script) (below : List Activity) (v : World) where
     stops = λ lines answers. unchanged (emptied a) lines (answers_told lines answers);
     changes = λ wants_memory lines given_up after shape. let t = does (Changes wants_memory lines given_up after) shape in record { follows = t.follows; serial = t.serial; told = t.told; lasts = t.lasts };
     calls = λ f k. starts_told v.objects v.next_serial script (record { sort = CallFrame; proc = procedure_of (on a below v) f.serial; subject = f.serial; func = Some f.serial }) (on a below v) (same_old v.objects) (omega arith) (does (Calls f.serial) (StartsFrame f k));
-    asks = λ g e. quiet v.objects v.next_serial (push (new_collection g true (on a below v)) (on a below v)) (same_old v.objects) (omega arith);
+    asks = λ g low e. quiet v.objects v.next_serial (push (new_collection g true (on a below v)) (on a below v)) (same_old v.objects) (omega arith);
   }
     where
       does : (e : Effect) → Shape (on a below v) command e → DoesTell (on a below v) e

@@ -165,7 +165,7 @@ module _ (P : ℕ → ℕ → Type 0) where
       stops = λ lines answers. emptied_waited a below ha rest;
       changes = λ wants_memory lines given_up after shape. push_other (Releasing given_up) after.stack (λ d e. cc) (subst Waited (sym (changes_leave (on a below v) command wants_memory lines given_up after shape).stack) here);
       calls = λ f k. starts script (record { sort = CallFrame; proc = procedure_of (on a below v) f.serial; subject = f.serial; func = Some f.serial }) (on a below v) here;
-      asks = λ g e. push_other (new_collection g true (on a below v)) (a ∷ below) (λ d e. cc) here;
+      asks = λ g low e. push_other (new_collection g true (on a below v)) (a ∷ below) (λ d e. cc) here;
     }
       where
         here : Waited (a ∷ below)

@@ -1,0 +1,136 @@
+-- Where an object may stand while a full collection goes on in which no frame begins: before the second detection, and after it.
+use Rattle.std.proofs.Common.{◌≡◌, refl, sym, ◌∙◌, subst, ℕ, Bool, true, false, inl, inr, ◌⊎◌, List, map}
+use Rattle.std.specs.Prelude.{if◌then◌else◌}
+use Rattle.cg_value.specs.declared.Place.{Place}
+use Rattle.cg_value.specs.declared.Place.TheVariants.{Untracked, Cand, Seen, Legacy, Pend}
+use Rattle.cg_script.specs.declared.Script.{Script}
+use Rattle.cg_graph.specs.Member.{Includes}
+use Rattle.cg_graph.specs.Object.{Object}
+use Rattle.cg_graph.proofs.Members.{Includes-map, Includes-map_cases}
+use Rattle.cg_machine.specs.Program.{legacy_of}
+use Rattle.cg_promises.proofs.Primed.{IsWanted}
+
+-- Before the second detection. Kept is what paths led to at the start, `aside` what was to be set aside then.
+pub data Stands (kept garbage aside : ℕ → Type 0) (y : Object) : Type 0 where
+  Reached : kept y.serial → Stands kept garbage aside y
+  Loose : y.place ≡ Untracked → Stands kept garbage aside y
+  Pending : y.place ≡ Pend → Stands kept garbage aside y
+  Condemned : IsWanted y.place → garbage y.serial → ¬ aside y.serial → Stands kept garbage aside y
+  SetAside : y.place ≡ Legacy → ¬ ¬ aside y.serial → Stands kept garbage aside y
+
+-- what is to be set aside is so, or waits for its callback
+abbrev pub IsPut : (ℕ → Type 0) → Object → Type 0
+IsPut aside y = aside y.serial → (y.place ≡ Legacy) ⊎ (y.place ≡ Pend)
+
+abbrev pub StandsSo : (kept garbage aside : ℕ → Type 0) → Object → Type 0
+StandsSo kept garbage aside y = Stands kept garbage aside y × IsPut aside y
+
+-- After it, with the members of the final set.
+pub data Rests (kept aside : ℕ → Type 0) (members : List ℕ) (y : Object) : Type 0 where
+  RestsReached : kept y.serial → Rests kept aside members y
+  RestsLoose : y.place ≡ Untracked → Rests kept aside members y
+  RestsAside : y.place ≡ Legacy → ¬ ¬ aside y.serial → Rests kept aside members y
+  IsFinal : Includes members y.serial → Rests kept aside members y
+
+-- what is condemned is a member
+abbrev pub RestsSo : (kept aside : ℕ → Type 0) (members : List ℕ) → Object → Type 0
+RestsSo kept aside members y = Rests kept aside members y × (y.place ≡ Cand → Includes members y.serial)
+
+-- a property of objects, where those that pass a test change
+pub test_all : (P : Object → Type 0) (f : Object → Object) (test : Object → Bool) (objects : List Object) → ((x : Object) → Includes objects x → test x ≡ true → P x → P (f x)) → ((x : Object) → Includes objects x → P x) → (y : Object) → Includes (map (λ x. if test x then f x else x) objects) y → P y
+test_all P f test objects h all y m = let x = Includes-map_cases (λ x. if test x then f x else x) objects y m in subst P x.2 (one (test x.0) x.0 refl x.1 (all x.0 x.1))
+  where
+    one : (b : Bool) (x : Object) → test x ≡ b → Includes objects x → P x → P (if b then f x else x)
+    one true x t m p = h x m t p
+    one false x t m p = p
+
+module _ (kept garbage aside : ℕ → Type 0) where
+  -- in its place
+  pub stands_same : (x y : Object) → y.serial ≡ x.serial → y.place ≡ x.place → StandsSo kept garbage aside x → StandsSo kept garbage aside y
+  stands_same x y s p h = (go h.0, λ a. subst (λ q. (q ≡ Legacy) ⊎ (q ≡ Pend)) (sym p) (h.1 (subst aside s a)))
+    where
+      go : Stands kept garbage aside x → Stands kept garbage aside y
+      go (Reached k) = Reached (subst kept (sym s) k)
+      go (Loose u) = Loose (p ∙ u)
+      go (Pending u) = Pending (p ∙ u)
+      go (Condemned w g n) = Condemned (subst IsWanted (sym p) w) (subst garbage (sym s) g) (λ a. n (subst aside s a))
+      go (SetAside u a) = SetAside (p ∙ u) (λ n. a (λ k. n (subst aside (sym s) k)))
+
+  -- among the condemned ones
+  pub stands_wanted : (x y : Object) → y.serial ≡ x.serial → IsWanted x.place → IsWanted y.place → StandsSo kept garbage aside x → StandsSo kept garbage aside y
+  stands_wanted x y s before after h = (go h.0, λ a. absurd (put (h.1 (subst aside s a))))
+    where
+      put : (x.place ≡ Legacy) ⊎ (x.place ≡ Pend) → ⊥
+      put (inl e) = subst IsWanted e before
+      put (inr e) = subst IsWanted e before
+
+      go : Stands kept garbage aside x → Stands kept garbage aside y
+      go (Reached k) = Reached (subst kept (sym s) k)
+      go (Loose u) = absurd (subst IsWanted u before)
+      go (Pending u) = absurd (subst IsWanted u before)
+      go (Condemned w g n) = Condemned after (subst garbage (sym s) g) (λ a. n (subst aside s a))
+      go (SetAside u a) = absurd (subst IsWanted u before)
+
+module _ (kept aside : ℕ → Type 0) (members : List ℕ) where
+  pub rests_same : (x y : Object) → y.serial ≡ x.serial → y.place ≡ x.place → RestsSo kept aside members x → RestsSo kept aside members y
+  rests_same x y s p h = (go h.0, λ e. subst (Includes members) (sym s) (h.1 (sym p ∙ e)))
+    where
+      go : Rests kept aside members x → Rests kept aside members y
+      go (RestsReached k) = RestsReached (subst kept (sym s) k)
+      go (RestsLoose u) = RestsLoose (p ∙ u)
+      go (RestsAside u a) = RestsAside (p ∙ u) (λ n. a (λ k. n (subst aside (sym s) k)))
+      go (IsFinal m) = IsFinal (subst (Includes members) (sym s) m)
+
+  -- untracked
+  pub rests_loose : (y : Object) → y.place ≡ Untracked → RestsSo kept aside members y
+  rests_loose y u = (RestsLoose u, λ e. absurd (let no : Untracked ≡ Cand = sym u ∙ e in cc))
+
+  -- a member
+  pub rests_final : (y : Object) → Includes members y.serial → RestsSo kept aside members y
+  rests_final y m = (IsFinal m, λ e. m)
+
+-- the same object with the same entries
+pub record Alike (script : Script) (x y : Object) : Type 0 where
+  pub serial : y.serial ≡ x.serial
+  pub entries : y.entries ≡ x.entries
+  pub legacy : legacy_of script y ≡ legacy_of script x
+
+-- each object is there still, and none is new
+pub record AreAlike (script : Script) (before after : List Object) : Type 0 where
+  pub there : (x : Object) → Includes before x → (y : Object) × Includes after y × Alike script x y
+  pub back : (y : Object) → Includes after y → (x : Object) × Includes before x × Alike script x y
+
+pub alike_trans : (script : Script) (before now after : List Object) → AreAlike script before now → AreAlike script now after → AreAlike script before after
+alike_trans script before now after h k = record {
+  there = λ x m. let y = h.there x m in let z = k.there y.0 y.1 in (z.0, z.1, one x y.0 z.0 y.2 z.2);
+  back = λ z m. let y = k.back z m in let x = h.back y.0 y.1 in (x.0, x.1, one x.0 y.0 z x.2 y.2);
+}
+  where
+    one : (x y z : Object) → Alike script x y → Alike script y z → Alike script x z
+    one x y z a b = record { serial = b.serial ∙ a.serial; entries = b.entries ∙ a.entries; legacy = b.legacy ∙ a.legacy }
+
+pub alike_same : (script : Script) (objects : List Object) → AreAlike script objects objects
+alike_same script objects = record {
+  there = λ x m. (x, m, record { serial = refl; entries = refl; legacy = refl });
+  back = λ x m. (x, m, record { serial = refl; entries = refl; legacy = refl });
+}
+
+pub map_alike : (script : Script) (f : Object → Object) (objects : List Object) → ((x : Object) → Alike script x (f x)) → AreAlike script objects (map f objects)
+map_alike script f objects h = record {
+  there = λ x m. (f x, Includes-map f objects x m, h x);
+  back = λ y m. let x = Includes-map_cases f objects y m in (x.0, x.1, subst (Alike script x.0) x.2 (h x.0));
+}
+
+pub test_alike : (script : Script) (f : Object → Object) (test : Object → Bool) (objects : List Object) → ((x : Object) → Alike script x (f x)) → AreAlike script objects (map (λ x. if test x then f x else x) objects)
+test_alike script f test objects h = map_alike script (λ x. if test x then f x else x) objects (λ x. one (test x) x)
+  where
+    one : (b : Bool) (x : Object) → Alike script x (if b then f x else x)
+    one true x = h x
+    one false x = record { serial = refl; entries = refl; legacy = refl }
+
+-- those of a place of condemned ones
+pub wanted_cand : (p : Place) → p ≡ Cand → IsWanted p
+wanted_cand p e = subst IsWanted (sym e) tt
+
+pub wanted_seen : (p : Place) → p ≡ Seen → IsWanted p
+wanted_seen p e = subst IsWanted (sym e) tt

@@ -1,5 +1,0 @@
-use Rattle.cg_promises.proofs.History.{entries_leave}
-use Rattle.cg_promises.proofs.laws.entries_leave_only_by.Goals as goal
-
-pub returns : goal.returns
-returns c = entries_leave

@@ -1,5 +1,0 @@
-use Rattle.cg_promises.proofs.Sealing.{sealing}
-use Rattle.cg_promises.proofs.laws.final_sets_are_sealed.Goals as goal
-
-pub returns : goal.returns
-returns c = sealing

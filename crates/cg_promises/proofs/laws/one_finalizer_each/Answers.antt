@@ -1,5 +1,0 @@
-use Rattle.cg_promises.proofs.Promises.{one_finalizer}
-use Rattle.cg_promises.proofs.laws.one_finalizer_each.Goals as goal
-
-pub returns : goal.returns
-returns c = one_finalizer

@@ -1,5 +1,0 @@
-use Rattle.cg_promises.proofs.Sealing.{only_frees}
-use Rattle.cg_promises.proofs.laws.only_frees_name_members.Goals as goal
-
-pub returns : goal.returns
-returns c = only_frees

@@ -1,5 +1,0 @@
-use Rattle.cg_promises.proofs.MindedRuns.{unheld_dying}
-use Rattle.cg_promises.proofs.laws.unheld_is_dying.Goals as goal
-
-pub returns : goal.returns
-returns c = unheld_dying
