@@ -2,20 +2,19 @@
 use Rattle.std.proofs.Common.{◌≡◌, ◌≢◌, refl, sym, ◌∙◌, ap, subst, ℕ, ◌≤◌, ◌⊎◌, inl, inr, Bool, true, false, cond, List, [], ◌∷◌, length, map, Option, Some, None, IsSome, arith}
 use Rattle.std.specs.Prelude.{◌↔◌, filter, option_map}
 use Rattle.std.specs.FinMap as fin
-use Rattle.std.proofs.lemmas.Bool.{eqb-true, eq-eqb}
 use Rattle.cg_value.specs.declared.KindCode.{KindCode}
 use Rattle.cg_value.specs.declared.Place.{Place}
-use Rattle.cg_value.specs.declared.Place.TheVariants.{Untracked, Gen, Frozen, Cand, Seen, Back, Legacy, Pend}
+use Rattle.cg_value.specs.declared.Place.TheVariants.{Untracked}
 use Rattle.cg_graph.specs.Maps.{mapped}
 use Rattle.cg_graph.specs.Member.{Includes}
 use Rattle.cg_graph.specs.Value.{references}
-use Rattle.cg_graph.specs.Object.{Object, with_place, same_place, is_at, objects_at, serials, serials_at}
+use Rattle.cg_graph.specs.Object.{Object, with_place, is_at, objects_at, serials, serials_at}
 use Rattle.cg_graph.specs.Holdings.{occurrences}
 use Rattle.cg_graph.specs.Reach.{edges}
 use Rattle.cg_graph.specs.Reachable.{graph_at, StandsAt}
 use Rattle.cg_graph.specs.Store.{Store, Node, list_at, objects_of, object_from, entries_of, entries_in, outside_of, outside_in, place_of, place_in, IsLive, HasCode}
 use Rattle.cg_graph.proofs.Maps.{get-mapped, same_map}
-use Rattle.cg_graph.proofs.Members.{either, cases_of, Includes-map, Includes-map_cases, Includes-filter, Includes-filter_cases}
+use Rattle.cg_graph.proofs.Members.{Includes-map, Includes-map_cases, Includes-filter, Includes-filter_cases}
 use Rattle.cg_graph.proofs.Objects.{objects-mapped}
 use Rattle.cg_heap.specs.Calls.{IsListed}
 use Rattle.cg_machine.specs.Collect.{SameMembers}
