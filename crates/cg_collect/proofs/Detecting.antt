@@ -46,7 +46,8 @@ use Rattle.cg_collect.specs.Phases.{collection_of, from_on, cleared_lines, refer
 use Rattle.cg_collect.specs.Ready.{IsAt, IsApartUnseen, HasNoneBehind}
 use Rattle.cg_collect.specs.Answers.{CollectSteps}
 use Rattle.cg_collect.specs.Turns.{collection_at}
-use Rattle.cg_collect.proofs.Standing.{place_is, place_at_is, stands_at, place_there, live_there, stood_at, same_more, entries_on, outside_on, objects_on, list_length, map_alike}
+use Rattle.cg_machine.proofs.Places.{place_at_is, place_is}
+use Rattle.cg_collect.proofs.Standing.{stands_at, place_there, live_there, stood_at, same_more, entries_on, outside_on, objects_on, list_length, map_alike}
 use Rattle.cg_collect.proofs.Telling.{from_ahead, from_first, at_first, split_at}
 use Rattle.cg_collect.proofs.Stopping.{at_right, tells_line, tells_none}
 use Rattle.cg_collect.proofs.FinalRows.{references_left, references_other, refers, flat_map_alike, lose_all, waiting-rest, none_to_lose, same_without}

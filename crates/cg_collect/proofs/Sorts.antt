@@ -30,7 +30,8 @@ use Rattle.cg_heap.specs.Calls.{IsListed, code_may_be_tracked, node_may_be_track
 use Rattle.cg_trial.specs.Split.{IsSameButPlaces}
 use Rattle.cg_trial.proofs.Worlds.{counts_alike}
 use Rattle.cg_collect.specs.Starting.{IsLedByLegacy, has_tracked}
-use Rattle.cg_collect.proofs.Standing.{map_alike, place_is, place_at_is, place_differs, place_there, entries_there, code_there, lives_at, stands_at, stood_at, edge_at, edge_back, entries_on, code_on, objects_on, list_length}
+use Rattle.cg_machine.proofs.Places.{place_at_is, place_differs, place_is}
+use Rattle.cg_collect.proofs.Standing.{map_alike, place_there, entries_there, code_there, lives_at, stands_at, stood_at, edge_at, edge_back, entries_on, code_on, objects_on, list_length}
 use Rattle.cg_collect.proofs.Aside.{legacy_alike}
 use Rattle.cg_collect.proofs.Untracked.{trackable, any_alike, has_tracked_alike}
 use Rattle.cg_collect.proofs.Traces.{Trace, at_or_not, s3, same13, same14, same15, same16, candidate_on, candidate_back, unmoved, unmoved3, unmoved4, survivor_test, dict_untracked, dict_stays, tuple_untracked, split_alike, tuple_or}

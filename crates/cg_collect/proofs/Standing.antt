@@ -2,23 +2,23 @@
 use Rattle.std.proofs.Common.{◌≡◌, ◌≢◌, refl, sym, ◌∙◌, ap, subst, ℕ, ◌≤◌, ◌⊎◌, inl, inr, Bool, true, false, cond, List, [], ◌∷◌, length, map, Option, Some, None, IsSome, arith}
 use Rattle.std.specs.Prelude.{◌↔◌, filter, option_map}
 use Rattle.std.specs.FinMap as fin
-use Rattle.std.proofs.lemmas.Bool.{eqb-true, eq-eqb}
 use Rattle.cg_value.specs.declared.KindCode.{KindCode}
 use Rattle.cg_value.specs.declared.Place.{Place}
-use Rattle.cg_value.specs.declared.Place.TheVariants.{Untracked, Gen, Frozen, Cand, Seen, Back, Legacy, Pend}
+use Rattle.cg_value.specs.declared.Place.TheVariants.{Untracked}
 use Rattle.cg_graph.specs.Maps.{mapped}
 use Rattle.cg_graph.specs.Member.{Includes}
 use Rattle.cg_graph.specs.Value.{references}
-use Rattle.cg_graph.specs.Object.{Object, with_place, same_place, is_at, objects_at, serials, serials_at}
+use Rattle.cg_graph.specs.Object.{Object, with_place, is_at, objects_at, serials, serials_at}
 use Rattle.cg_graph.specs.Holdings.{occurrences}
 use Rattle.cg_graph.specs.Reach.{edges}
 use Rattle.cg_graph.specs.Reachable.{graph_at, StandsAt}
 use Rattle.cg_graph.specs.Store.{Store, Node, list_at, objects_of, object_from, entries_of, entries_in, outside_of, outside_in, place_of, place_in, IsLive, HasCode}
 use Rattle.cg_graph.proofs.Maps.{get-mapped, same_map}
-use Rattle.cg_graph.proofs.Members.{either, cases_of, Includes-map, Includes-map_cases, Includes-filter, Includes-filter_cases}
+use Rattle.cg_graph.proofs.Members.{Includes-map, Includes-map_cases, Includes-filter, Includes-filter_cases}
 use Rattle.cg_graph.proofs.Objects.{objects-mapped}
 use Rattle.cg_heap.specs.Calls.{IsListed}
 use Rattle.cg_machine.specs.Collect.{SameMembers}
+use Rattle.cg_machine.proofs.Places.{place_at_is, place_is}
 use Rattle.cg_machine.proofs.Saving.{no_longer}
 use Rattle.cg_trial.specs.View.{number_in}
 use Rattle.cg_trial.specs.Split.{IsSameNode, IsSameButPlaces}
@@ -26,34 +26,6 @@ use Rattle.cg_trial.proofs.Lists.{occurs, occurs_in, occurrences-cons, none_or_s
 use Rattle.cg_trial.proofs.Splits.{arrow}
 use Rattle.cg_trial.proofs.Objects.{once_key, found, finds, edges_of_objects, objects_of_edges}
 use Rattle.cg_trial.proofs.Placed.{once_at, where_is, is_there}
-
--- the test on places tells them apart
-pub place_is : (p q : Place) → same_place p q ≡ true → p ≡ q
-place_is Untracked Untracked h = refl
-place_is (Gen m) (Gen n) h = ap Gen (eqb-true m n h)
-place_is Frozen Frozen h = refl
-place_is Cand Cand h = refl
-place_is Seen Seen h = refl
-place_is Back Back h = refl
-place_is Legacy Legacy h = refl
-place_is Pend Pend h = refl
-place_is p q h = absurd (cc)
-
-pub place_self : (p : Place) → same_place p p ≡ true
-place_self Untracked = refl
-place_self (Gen i) = eq-eqb i i refl
-place_self Frozen = refl
-place_self Cand = refl
-place_self Seen = refl
-place_self Back = refl
-place_self Legacy = refl
-place_self Pend = refl
-
-pub place_at_is : (p q : Place) → p ≡ q → same_place p q ≡ true
-place_at_is p q e = ap (same_place p) (sym e) ∙ place_self p
-
-pub place_differs : (p q : Place) → p ≢ q → same_place p q ≡ false
-place_differs p q differ = either (cases_of (same_place p q)) (λ e. absurd (differ (place_is p q e))) (λ e. e)
 
 -- maps that do the same to each member
 pub map_alike : {X Y : Type 0} (f g : X → Y) (xs : List X) → ((x : X) → Includes xs x → f x ≡ g x) → map f xs ≡ map g xs

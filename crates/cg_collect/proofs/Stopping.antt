@@ -44,7 +44,8 @@ use Rattle.cg_collect.specs.Ready.{IsAt}
 use Rattle.cg_collect.specs.Saving.{with_saved, kept_aside}
 use Rattle.cg_collect.specs.Answers.{Shows, CollectSteps}
 use Rattle.cg_collect.specs.Turns.{collection_at, list_around}
-use Rattle.cg_collect.proofs.Standing.{place_is, place_at_is, node_of_live, node_there, place_there, live_there, object_there, once_among, same_times, list_has, outside_on}
+use Rattle.cg_machine.proofs.Places.{place_at_is, place_is}
+use Rattle.cg_collect.proofs.Standing.{node_of_live, node_there, place_there, live_there, object_there, once_among, same_times, list_has, outside_on}
 use Rattle.cg_collect.proofs.Moving.{walk_passes, comes_next}
 use Rattle.cg_collect.proofs.Telling.{from_ahead, split_at, at_first}
 use Rattle.cg_collect.proofs.Saved.{occurrences-filter, objects-all_saved, saved-alike, saved-rewritten}

@@ -31,7 +31,8 @@ use Rattle.cg_collect.specs.Ready.{IsReadyAt, IsApartUnseen, IsEmptyAt, IsAt, Ha
 use Rattle.cg_collect.specs.Answers.{Shows, CollectSteps}
 use Rattle.cg_collect.specs.Turns.{pass_of, passes_on, collection_at, TurnLeaves}
 use Rattle.cg_collect.specs.Starting.{told_weak, told_if}
-use Rattle.cg_collect.proofs.Standing.{place_is, place_there, live_there, nobody_at}
+use Rattle.cg_machine.proofs.Places.{place_is}
+use Rattle.cg_collect.proofs.Standing.{place_there, live_there, nobody_at}
 use Rattle.cg_collect.proofs.Moving.{walk_passes, comes_next}
 use Rattle.cg_collect.proofs.Worlds.{only_tells}
 

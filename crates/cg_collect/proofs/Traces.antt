@@ -18,7 +18,8 @@ use Rattle.cg_heap.specs.Calls.{IsListed}
 use Rattle.cg_trial.specs.Split.{IsSameButPlaces}
 use Rattle.cg_trial.proofs.Placed.{where_is, is_there}
 use Rattle.cg_collect.specs.Starting.{StaysAt, MergesYounger, UntracksSurvivors, WasUntracked, GetOlder, SetsLegacyAside, has_tracked}
-use Rattle.cg_collect.proofs.Standing.{place_is, place_at_is, place_differs, same_itself, same_more, live_on, live_back, lives_at, nobody_at, stood_at}
+use Rattle.cg_machine.proofs.Places.{place_at_is, place_differs, place_is}
+use Rattle.cg_collect.proofs.Standing.{same_itself, same_more, live_on, live_back, lives_at, nobody_at, stood_at}
 use Rattle.cg_collect.proofs.Untracked.{trackable, trackable_alike, has_tracked_alike}
 
 -- an object stands at a place or not

@@ -46,7 +46,8 @@ use Rattle.cg_collect.specs.Phases.{collection_of}
 use Rattle.cg_collect.specs.Ready.{IsApartUnseen, IsUnsaved}
 use Rattle.cg_collect.specs.Answers.{CollectSteps}
 use Rattle.cg_collect.specs.Turns.{collection_at, to_clear, still_cleared, others_cleared, still_released}
-use Rattle.cg_collect.proofs.Standing.{place_at_is, node_of_live, object_there, entries_on}
+use Rattle.cg_machine.proofs.Places.{place_at_is}
+use Rattle.cg_collect.proofs.Standing.{node_of_live, object_there, entries_on}
 use Rattle.cg_collect.proofs.Moving.{moved_same, moved_from}
 use Rattle.cg_collect.proofs.Garbage.{garbage-moved}
 use Rattle.cg_collect.proofs.Pending.{apart_away}

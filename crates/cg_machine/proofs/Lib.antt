@@ -56,3 +56,4 @@ pub mod StandingSteps
 pub mod StandingRuns
 pub mod Lawful
 pub mod Representing
+pub mod Places

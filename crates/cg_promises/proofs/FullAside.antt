@@ -90,10 +90,13 @@ module _ (script : Script) (aside : ℕ → Type 0) (start : List Object) where
   pub all_wait : (before after : List Object) (tops to : List Activity) → Abide to before after → ((n : ℕ) → aside n → Dies tops n → Dies to n) → AllWait before tops → AllWait after to
   all_wait before after tops to k deaths h x m a =
       let y = h x m a in
-      let z = k y.0 y.1 (subst aside (sym y.2.serial) a) in
-      (z.0, z.1, record {
-        serial = z.2.serial ∙ y.2.serial;
-        refers = λ o i. z.2.refers o (y.2.refers o i);
-        legacy = z.2.legacy ∙ y.2.legacy;
-        place = either y.2.place (λ i. z.2.place i) (λ d. inr (subst (Dies to) (sym z.2.serial) (deaths y.0.serial (subst aside (sym y.2.serial) a) d)));
-      })
+      let z = k y.0 y.1 (subst aside (sym y.2.serial) a) in (
+        z.0,
+        z.1,
+        record {
+          serial = z.2.serial ∙ y.2.serial;
+          refers = λ o i. z.2.refers o (y.2.refers o i);
+          legacy = z.2.legacy ∙ y.2.legacy;
+          place = either y.2.place (λ i. z.2.place i) (λ d. inr (subst (Dies to) (sym z.2.serial) (deaths y.0.serial (subst aside (sym y.2.serial) a) d)));
+        },
+      )

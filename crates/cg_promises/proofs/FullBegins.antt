@@ -2,7 +2,7 @@
 use Rattle.std.proofs.Common.{◌≡◌, refl, sym, ◌∙◌, ap, subst, ℕ, Bool, true, false, inl, inr, ◌⊎◌, List, [], ◌∷◌, Some}
 use Rattle.std.specs.Prelude.{if◌then◌else◌, is_some, option_and_then}
 use Rattle.cg_value.specs.declared.Place.{Place}
-use Rattle.cg_value.specs.declared.Place.TheVariants.{Untracked, Gen, Frozen, Cand, Seen, Back, Legacy, Pend}
+use Rattle.cg_value.specs.declared.Place.TheVariants.{Untracked, Gen, Cand, Legacy}
 use Rattle.cg_script.specs.declared.Script.{Script}
 use Rattle.cg_graph.specs.Member.{Includes}
 use Rattle.cg_graph.specs.Value.{references}
@@ -18,6 +18,7 @@ use Rattle.cg_machine.proofs.Lookups.{at_member}
 use Rattle.cg_machine.proofs.Serials.{Rises, Rises-map}
 use Rattle.cg_laws.proofs.SetsApart.{stands_at}
 use Rattle.cg_promises.specs.Reached.{IsReached}
+use Rattle.cg_machine.proofs.Places.{place_is}
 use Rattle.cg_promises.proofs.FullAside.{IsAsideBy, IsLegacy}
 use Rattle.cg_promises.proofs.FullDecided.{reached_decided}
 use Rattle.cg_promises.proofs.FullEarly.{Early}
@@ -28,16 +29,6 @@ use Rattle.cg_promises.proofs.FullStart.{edge_from, in_merge, member_tracked, un
 use Rattle.cg_promises.proofs.Primed.{IsWanted}
 use Rattle.cg_promises.proofs.SealedStart.{edge}
 use Rattle.cg_promises.proofs.Slack.{IsSlackWorld}
-
-legacy_is : (p : Place) → same_place p Legacy ≡ true → p ≡ Legacy
-legacy_is Legacy e = refl
-legacy_is Untracked e = absurd (let no : false ≡ true = e in cc)
-legacy_is (Gen i) e = absurd (let no : false ≡ true = e in cc)
-legacy_is Frozen e = absurd (let no : false ≡ true = e in cc)
-legacy_is Cand e = absurd (let no : false ≡ true = e in cc)
-legacy_is Seen e = absurd (let no : false ≡ true = e in cc)
-legacy_is Back e = absurd (let no : false ≡ true = e in cc)
-legacy_is Pend e = absurd (let no : false ≡ true = e in cc)
 
 -- an object among those that are looked at
 pub looked : (v : World) (o : ℕ) → IsMemberOf (merged 2 v) (Gen 2) o → (x : Object) × Includes v.objects x × (x.serial ≡ o) × Includes (objects_at (merged 2 v).objects (Gen 2)) (in_merge 2 x)
@@ -108,7 +99,7 @@ module _ (script : Script) (c : Collection) (below : List Activity) (v : World) 
 
       garbage_stands : garbage x.serial → Stands kept garbage aside placed
       garbage_stands g = either (cases_of (same_place (start.places old) Legacy))
-          (λ e. SetAside (legacy_is (start.places old) e) (λ n. let no : Legacy ≡ Cand = sym (legacy_is (start.places old) e) ∙ sent g n in cc))
+          (λ e. SetAside (place_is (start.places old) Legacy e) (λ n. let no : Legacy ≡ Cand = sym (place_is (start.places old) Legacy e) ∙ sent g n in cc))
           (λ f. let none : ¬ aside x.serial = (λ a. let no : true ≡ false = sym (ap (λ p. same_place p Legacy) (put a)) ∙ f in cc) in Condemned (subst IsWanted (sym (sent g none)) tt) g none)
 
       looked_stands : StandsSo kept garbage aside placed

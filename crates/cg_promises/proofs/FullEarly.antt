@@ -19,11 +19,11 @@ use Rattle.cg_machine.specs.Laws.{is_enter, is_stop}
 use Rattle.cg_machine.proofs.Lookups.{same_object}
 use Rattle.cg_machine.proofs.Serials.{Rises}
 use Rattle.cg_laws.proofs.SetsApart.{stands_at}
+use Rattle.cg_machine.proofs.Places.{place_is}
 use Rattle.cg_promises.proofs.FullRuns.{enters_first, running_still}
 use Rattle.cg_promises.proofs.FullStands.{AreAlike, StandsSo, Pending, alike_same, alike_trans, stands_same, stands_wanted, test_alike, test_all, wanted_cand, wanted_seen}
 use Rattle.cg_promises.proofs.FullStop.{phase_quiet}
 use Rattle.cg_promises.proofs.KeptRuns.{starts_none}
-use Rattle.cg_promises.proofs.Primed.{cand_is, seen_is}
 use Rattle.cg_promises.proofs.SealedRuns.{none_stops}
 use Rattle.cg_promises.proofs.ToldRuns.{Fit, step_fit}
 
@@ -102,7 +102,7 @@ module _ (script : Script) (kept garbage aside : ℕ → Type 0) (start : List O
     is_cand o m x k t =
         let z = stands_at v.objects Cand o m in
         let same : z.0 ≡ x = same_object 1 v.next_serial v.objects z.0 x rises z.1 k (z.3 ∙ sym (eqb-true x.serial o t)) in
-        subst (λ (q : Object). q.place ≡ Cand) same (cand_is z.0.place z.2)
+        subst (λ (q : Object). q.place ≡ Cand) same (place_is z.0.place Cand z.2)
 
     looks_at_early : (o : ℕ) (m : Option ℕ) → Includes (serials_at v.objects Cand) o → Yields (looks_at script c o below (standing Finalizing) m) events after → Early after
     looks_at_early o None i step = to _ step.1 (at Finalizing _ tt refl refl (test_alike script (with_place Seen) (λ x. x.serial == o) v.objects (λ x. record { serial = refl; entries = refl; legacy = refl }))
@@ -112,7 +112,7 @@ module _ (script : Script) (kept garbage aside : ℕ → Type 0) (start : List O
     finalizing_early : FinalizingStep script c below (standing Finalizing) events after → Early after
     finalizing_early (inl step) = looks_at_early step.object (option_and_then (finalizer_to_run script) (object_at v.objects step.object)) step.condemned step.yields
     finalizing_early (inr step) = to _ step.1.1 (at Split _ tt refl refl (test_alike script (with_place Cand) (is_at Seen) v.objects (λ x. record { serial = refl; entries = refl; legacy = refl }))
-        (test_all (StandsSo kept garbage aside) (with_place Cand) (is_at Seen) v.objects (λ x m t p. stands_wanted kept garbage aside x (with_place Cand x) refl (wanted_seen x.place (seen_is x.place t)) tt p) stands))
+        (test_all (StandsSo kept garbage aside) (with_place Cand) (is_at Seen) v.objects (λ x m t p. stands_wanted kept garbage aside x (with_place Cand x) refl (wanted_seen x.place (place_is x.place Seen t)) tt p) stands))
 
     phase_early : (phase : CollectPhase) → IsEarly phase → phase ≢ Split → PhaseStep script c phase below (standing phase) events after → Early after
     phase_early (WeakClearing waiting) early on step = weak_clearing_early waiting step

@@ -87,7 +87,6 @@ module _ (script : Script) (v : World) (rises : Rises 1 v.next_serial v.objects)
       both : {a b : Bool} → a ≡ true → b ≡ true → (a && b) ≡ true
       both {a} {b} p q = subst (λ x. (x && b) ≡ true) (sym p) q
 
-
   first_reached : (o : ℕ) → WasAside script v o → IsLegacy script (WasAside script v) v.objects o → IsReached z o
   first_reached o a l =
       let y = wait l.0 l.1 (subst (WasAside script v) (sym l.2) a) in

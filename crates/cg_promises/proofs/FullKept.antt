@@ -1,6 +1,7 @@
 -- From the start of a full collection up to its stop, if no frame begins: what paths lead to at the start, they lead to still.
 use Rattle.std.proofs.Common.{◌≡◌, refl, sym, ◌∙◌, ap, subst, ℕ, Bool, true, false, inl, inr, ◌⊎◌, List, [], ◌∷◌, ◌++◌}
 use Rattle.std.specs.Prelude.{count_by, if◌then◌else◌}
+use Rattle.std.proofs.lemmas.List.{append_assoc}
 use Rattle.cg_value.specs.declared.Place.TheVariants.{Untracked, Gen}
 use Rattle.cg_script.specs.declared.Script.{Script}
 use Rattle.cg_graph.specs.Member.{Includes}
@@ -23,10 +24,6 @@ use Rattle.cg_promises.proofs.FullRuns.{IsFullAt, IsRoot, full_after, reached_la
 use Rattle.cg_promises.proofs.Kept.{IsKeptBy}
 use Rattle.cg_promises.proofs.SealedStart.{edge}
 use Rattle.cg_promises.proofs.ToldRuns.{Fit}
-
-joined : (xs : List Activity) (a : Activity) (below : List Activity) → xs ++ a ∷ below ≡ (xs ++ a ∷ []) ++ below
-joined [] a below = refl
-joined (x ∷ xs) a below = ap (λ st. x ∷ st) (joined xs a below)
 
 module _ (script : Script) (c : Collection) (below : List Activity) (v : World) (events : List Event) (after : World) (top : v.stack ≡ Collecting c ∷ below) (phase : c.phase ≡ Start) (complete : c.generation ≡ 2) (rises : Rises 1 v.next_serial v.objects)
     (near : (x : Object) → Includes v.objects x → (x.place ≡ Untracked) ⊎ (is_at (Gen 2) (in_merge 2 x) ≡ true))
@@ -122,7 +119,7 @@ module _ (script : Script) (c : Collection) (below : List Activity) (v : World) 
 
     pub reached_then : (o : ℕ) → IsReached v o → IsReached (last_world after steps) o
     reached_then = reached_lasts v (last_world after steps)
-        (λ o r. subst (λ ns. IsRoot ns (last_world after steps).stack o) (sym full_then.same) (subst (λ st. IsRoot v.names st o) (sym (full_then.full.is ∙ joined full_then.full.tops (Collecting full_then.full.collection) below))
+        (λ o r. subst (λ ns. IsRoot ns (last_world after steps).stack o) (sym full_then.same) (subst (λ st. IsRoot v.names st o) (sym (full_then.full.is ∙ sym (append_assoc full_then.full.tops (Collecting full_then.full.collection ∷ []) below)))
         (root_up v.names (full_then.full.tops ++ Collecting full_then.full.collection ∷ []) below o (root_down v.names c below o (ap collect_holds phase) (subst (λ st. IsRoot v.names st o) top r)))))
         (λ x m k. let y = full_then.full.lives (place_anew (in_merge 2 x)) (anew x m) (subst kept (sym (serial_anew x)) k) in
         (y.0, y.1, y.2.serial ∙ serial_anew x, λ o i. y.2.refers o (same_entries (is_at (Gen 2) (in_merge 2 x)) (in_merge 2 x) o i)))

@@ -26,12 +26,12 @@ use Rattle.cg_machine.proofs.Lookups.{at_member}
 use Rattle.cg_machine.proofs.Releasing.{none_holds}
 use Rattle.cg_machine.proofs.Serials.{Rises}
 use Rattle.cg_laws.specs.Apart.{handles}
+use Rattle.cg_machine.proofs.Places.{place_is}
 use Rattle.cg_promises.proofs.FullAside.{Abide, AllWait, Dies, IsAsideBy, IsCalm, IsLegacy, IsLight, abide_same, abide_trans, all_wait, dies_first, dies_under, dies_without, test_abide}
 use Rattle.cg_promises.proofs.FullRuns.{enters_first, running_still}
 use Rattle.cg_promises.proofs.FullStands.{RestsSo, rests_final, rests_loose, rests_same, test_all}
 use Rattle.cg_promises.proofs.Kept.{appended}
 use Rattle.cg_promises.proofs.KeptRuns.{starts_none}
-use Rattle.cg_promises.proofs.Primed.{cand_is}
 use Rattle.cg_promises.proofs.Sealed.{IsLate}
 use Rattle.cg_promises.proofs.SealedRuns.{none_first, stops}
 use Rattle.cg_promises.proofs.ToldRuns.{Fit, step_fit}
@@ -227,7 +227,7 @@ module _ (script : Script) (kept aside : ℕ → Type 0) (members : List ℕ) (s
       turn_taken x m = go (has_flag c.flags save_all) (is_tuple x)
         where
           member : Includes members x.serial
-          member = let at = Includes-filter_cases (is_at Cand) v.objects x m in (rests x at.0).1 (cand_is x.place at.1)
+          member = let at = Includes-filter_cases (is_at Cand) v.objects x m in (rests x at.0).1 (place_is x.place Cand at.1)
 
           go : (s t : Bool) → (let next : Transition = if s then (GcSaved x.serial ∷ [], collection_at c Turns below (with_objects (change (with_place (Gen (older c.generation))) x.serial (saved x.serial v.objects)) (standing Turns)))
               else if t then ([], collection_at c Turns below (with_change (with_place (Gen (older c.generation))) x.serial (standing Turns))) else ([], collection_at c (Turn x.serial) below (standing Turns)) in Late next.1)

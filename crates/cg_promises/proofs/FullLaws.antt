@@ -1,6 +1,7 @@
 -- In every run what paths lead to when a full collection starts, they lead to when it stops, if no frame began.
 use Rattle.std.proofs.Common.{◌≡◌, ◌≢◌, refl, sym, ◌∙◌, ap, subst, ℕ, ◌<◌, Bool, true, false, inl, ◌⊎◌, List, [], ◌∷◌, ◌++◌, map, arith}
 use Rattle.std.specs.Prelude.{count_by}
+use Rattle.std.proofs.lemmas.List.{append_assoc}
 use Rattle.cg_value.specs.declared.Place.TheVariants.{Untracked, Gen, Frozen}
 use Rattle.cg_script.specs.declared.Script.{Script}
 use Rattle.cg_graph.specs.Member.{Includes}
@@ -24,10 +25,6 @@ use Rattle.cg_promises.proofs.FullStop.{NoStop, end_reached, stop_ends}
 use Rattle.cg_promises.proofs.SealedRuns.{none_first, none_stops}
 use Rattle.cg_promises.proofs.ToldRuns.{Fit, opening_fit, run_back, run_front, run_fit, step_fit}
 use Rattle.cg_promises.proofs.YoungRuns.{opening_young, young_after}
-
-pub rejoined : (xs ys zs : List StepTaken) → (xs ++ ys) ++ zs ≡ xs ++ (ys ++ zs)
-rejoined [] ys zs = refl
-rejoined (x ∷ xs) ys zs = ap (λ l. x ∷ l) (rejoined xs ys zs)
 
 -- the step of the start
 pub begins : (script : Script) (w : World) (f : StartsFull w) (events : List Event) (after : World) → Step script w events after → StartStep script w f.collection f.below events after
@@ -92,6 +89,6 @@ module _ (script : Script) (budget : ℕ) (before : List StepTaken) (run : IsRun
 
 pub reached_is_kept : ReachedIsKept
 reached_is_kept script budget before during stop run f quiet on more o path =
-    let all = subst (IsRun script budget) (rejoined before during (stop ∷ [])) run in
+    let all = subst (IsRun script budget) (append_assoc before during (stop ∷ [])) run in
     let front = run_front script (opening script budget) before (during ++ stop ∷ []) all in
     kept_on script budget before front f during stop (run_back script (opening script budget) before (during ++ stop ∷ []) all) (run_fit script (opening script budget) before front (opening_fit script budget)) quiet on more o path

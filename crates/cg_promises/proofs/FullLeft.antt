@@ -21,6 +21,7 @@ use Rattle.cg_machine.proofs.OriginsOfRuns.{opening_origin}
 use Rattle.cg_machine.proofs.Releasing.{entry_holder, no_times}
 use Rattle.cg_machine.proofs.Serials.{Rises}
 use Rattle.cg_promises.specs.Reached.{IsReached}
+use Rattle.cg_machine.proofs.Places.{place_is}
 use Rattle.cg_promises.proofs.FullRuns.{rooted_by}
 use Rattle.cg_promises.proofs.Minded.{IsMinded, degree_free}
 use Rattle.cg_promises.proofs.MindedRuns.{minded_after, opening_minded}
@@ -29,7 +30,6 @@ use Rattle.cg_promises.proofs.Slack.{Excused, IsSlackOne, IsSlackWorld}
 use Rattle.cg_promises.proofs.SlackCommands.{dict_no_tuple}
 use Rattle.cg_promises.proofs.SlackDeaths.{tuple_code}
 use Rattle.cg_promises.proofs.SlackRuns.{death_found, opening_slack, slack_after}
-use Rattle.cg_promises.proofs.SlackStart.{is_untracked}
 use Rattle.cg_promises.proofs.ToldRuns.{opening_fit, run_fit}
 
 positive : (n : ℕ) → (n == 0) ≡ false → 0 < n
@@ -45,7 +45,7 @@ module _ (k : ℕ) (w : World) (rises : Rises 1 w.next_serial w.objects) (minded
   excused x m (inr d) = first (inl (death_found x.serial d.0 w.stack d.1 d.2)) (here x m)
 
   by_kind : (x : Object) → Includes w.objects x → IsReached w x.serial ⊎ IsSlackOne w.objects x
-  by_kind x m = either (cases_of (same_place x.place Untracked)) (λ t. either (slack.slack x m (is_untracked x.place t)) (λ e. inl (excused x m e)) (λ s. inr s))
+  by_kind x m = either (cases_of (same_place x.place Untracked)) (λ t. either (slack.slack x m (place_is x.place Untracked t)) (λ e. inl (excused x m e)) (λ s. inr s))
       (λ f. inl (tracked x m (λ u. let no : true ≡ false = sym (ap (λ p. same_place p Untracked) u) ∙ f in cc)))
 
   -- it is reached, or an entry holds it

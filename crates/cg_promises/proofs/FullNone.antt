@@ -1,6 +1,7 @@
 -- In every run a full collection in which no frame begins leaves no garbage.
 use Rattle.std.proofs.Common.{◌≡◌, ◌≢◌, refl, sym, ◌∙◌, ap, subst, ℕ, ◌+◌, ◌<◌, true, false, inl, List, [], ◌∷◌, ◌++◌, length, arith}
 use Rattle.std.specs.Prelude.{count_by}
+use Rattle.std.proofs.lemmas.List.{append_assoc}
 use Rattle.cg_value.specs.declared.Place.TheVariants.{Untracked, Cand}
 use Rattle.cg_script.specs.declared.Script.{Script}
 use Rattle.cg_script.specs.Texts.{TextsAreKnown}
@@ -20,6 +21,7 @@ use Rattle.cg_laws.specs.Apart.{IsApart, IsInLatePhase, StandsRightly}
 use Rattle.cg_laws.proofs.RunsApart.{runs_apart}
 use Rattle.cg_laws.proofs.SetsApart.{stands_at}
 use Rattle.cg_promises.specs.Reached.{IsReached}
+use Rattle.cg_machine.proofs.Places.{place_is}
 use Rattle.cg_promises.proofs.Freed.{none_lives}
 use Rattle.cg_promises.proofs.FullAside.{AllWait, IsLight}
 use Rattle.cg_promises.proofs.FullBegins.{aside_by, begins_early}
@@ -27,7 +29,7 @@ use Rattle.cg_promises.proofs.FullEarly.{Early, FoundSplit, finds_split}
 use Rattle.cg_promises.proofs.FullEnds.{tracked_reached}
 use Rattle.cg_promises.proofs.FullKept.{full_then, there}
 use Rattle.cg_promises.proofs.FullLate.{Late, late_after}
-use Rattle.cg_promises.proofs.FullLaws.{begins, faded_full, near_full, reached_is_kept, rejoined, start_quiet}
+use Rattle.cg_promises.proofs.FullLaws.{begins, faded_full, near_full, reached_is_kept, start_quiet}
 use Rattle.cg_promises.proofs.FullLeft.{none_left}
 use Rattle.cg_promises.proofs.FullRuns.{enters_first}
 use Rattle.cg_promises.proofs.FullSaved.{IsNamed, Saves, saves_after}
@@ -37,7 +39,6 @@ use Rattle.cg_promises.proofs.FullStop.{stop_ends}
 use Rattle.cg_promises.proofs.Kept.{IsBare}
 use Rattle.cg_promises.proofs.Minded.{IsMinded}
 use Rattle.cg_promises.proofs.MindedRuns.{minded_after, opening_minded}
-use Rattle.cg_promises.proofs.Primed.{cand_is}
 use Rattle.cg_promises.proofs.Sealed.{IsLate}
 use Rattle.cg_promises.proofs.SealedRuns.{none_first, none_stops, sealed_after}
 use Rattle.cg_promises.proofs.Sealing.{starts_sealed_world}
@@ -211,7 +212,7 @@ module _ (script : Script) (budget : ℕ) (before : List StepTaken) (known : Tex
           saves = flag;
           all = λ n i. inl (λ x j e. let z = stands_at split.world.objects Cand n i in
               let same : z.0 ≡ x = same_object 1 split.world.next_serial split.world.objects z.0 x fit_split.sound.rises z.1 j (z.3 ∙ sym e) in
-              subst (λ (q : Object). q.place ≡ Cand) same (cand_is z.0.place z.2));
+              subst (λ (q : Object). q.place ≡ Cand) same (place_is z.0.place Cand z.2));
         }
 
     freed : has_flag early.collection.flags save_all ≡ false → (y : Object) → Includes u.objects y → ¬ Includes members y.serial
@@ -243,7 +244,7 @@ module _ (script : Script) (budget : ℕ) (before : List StepTaken) (known : Tex
 
 pub full_leaves_none : FullCollectionLeavesNone
 full_leaves_none script budget before during stop known run f quiet on more =
-    let all = subst (IsRun script budget) (rejoined before during (stop ∷ [])) run in
+    let all = subst (IsRun script budget) (append_assoc before during (stop ∷ [])) run in
     let front = run_front script (opening script budget) before (during ++ stop ∷ []) all in
     let back = run_back script (opening script budget) before (during ++ stop ∷ []) all in
     let same : world_after script budget (before ++ during ++ stop ∷ []) ≡ stop.world = last_world-append (opening script budget) (before ++ during) (stop ∷ []) in

@@ -22,11 +22,12 @@ use Rattle.cg_machine.proofs.Serials.{Rises}
 use Rattle.cg_laws.specs.Apart.{IsInLatePhase}
 use Rattle.cg_laws.proofs.SetsApart.{stands_at}
 use Rattle.cg_promises.specs.Reached.{IsReached}
+use Rattle.cg_machine.proofs.Places.{place_is}
 use Rattle.cg_promises.proofs.FullEarly.{Early}
 use Rattle.cg_promises.proofs.FullRuns.{IsRoot, parts, root_down, root_up, rooted_by}
 use Rattle.cg_promises.proofs.FullStands.{Alike, AreAlike, RestsSo, Rests, RestsReached, RestsLoose, RestsAside, IsFinal, Stands, StandsSo, Reached, Loose, Pending, Condemned, SetAside, alike_same, alike_trans, stands_same, test_alike, test_all}
 use Rattle.cg_promises.proofs.FullStart.{HasOutside, in_merge, some_outside}
-use Rattle.cg_promises.proofs.Primed.{IsWanted, cand_is}
+use Rattle.cg_promises.proofs.Primed.{IsWanted}
 use Rattle.cg_promises.proofs.SealedStart.{edge, edge_of}
 use Rattle.cg_promises.proofs.Slack.{Excused, IsSlackWorld, IsSlackOne}
 use Rattle.cg_promises.proofs.SlackRuns.{death_found}
@@ -148,8 +149,8 @@ module _ (script : Script) (v : World) (c : Collection) (below : List Activity) 
     where
       go : ((x : Object) × Includes w.objects x × (is_at Cand x ≡ true) × (x.serial ≡ o)) → ⊥
       go x = either (held_outside w (is_at Cand) x.0.serial (subst (λ n. occurrences n (entry_holdings (graph_of (objects_at w.objects Cand))) < occurrences n (holdings w)) (sym x.3) less))
-          (λ r. not_kept x.0 x.1 (cand_is x.0.place x.2) (root_kept x.0 x.1 r))
-          (λ y. none_outside y.0 x.0 y.1 y.2 x.1 (cand_is x.0.place x.2) y.3)
+          (λ r. not_kept x.0 x.1 (place_is x.0.place Cand x.2) (root_kept x.0 x.1 r))
+          (λ y. none_outside y.0 x.0 y.1 y.2 x.1 (place_is x.0.place Cand x.2) y.3)
 
   no_survivor : (o : ℕ) → ¬ Survives w Cand o
   no_survivor o (first held inside) = first_none o held inside
@@ -197,5 +198,5 @@ module _ (script : Script) (v : World) (c : Collection) (below : List Activity) 
     pub aside_apart : (n : ℕ) → aside n → ¬ Includes members n
     aside_apart n a m =
         let z = stands_at step.objects Cand n m in
-        let at = cand_is z.0.place z.2 in
+        let at = place_is z.0.place Cand z.2 in
         either ((stand_still z.0 z.1).1 (subst aside (sym z.3) a)) (λ e. let no : Cand ≡ Legacy = sym at ∙ e in cc) (λ e. let no : Cand ≡ Pend = sym at ∙ e in cc)

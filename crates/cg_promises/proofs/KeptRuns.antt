@@ -3,6 +3,7 @@ use Rattle.std.proofs.Common.{◌≡◌, ◌≢◌, refl, sym, ◌∙◌, ap, su
 use Rattle.std.specs.Prelude.{◌==◌, cond, count_by, if◌then◌else◌, is_some, option_and_then}
 use Rattle.std.proofs.lemmas.Bool.{eqb-true}
 use Rattle.std.proofs.lemmas.List.Sums.{sum_by-cons}
+use Rattle.std.proofs.lemmas.List.{append_assoc}
 use Rattle.cg_value.specs.declared.Entry.{Entry}
 use Rattle.cg_value.specs.declared.Place.TheVariants.{Untracked, Gen, Cand, Seen, Pend}
 use Rattle.cg_script.specs.declared.Script.{Script}
@@ -89,11 +90,7 @@ module _ (script : Script) (kept : ℕ → Type 0) (start : List Object) (below 
             never_released kept start (Releasing refs ∷ tops ++ Collecting c ∷ []) below now o (held o k) lives is (not_false (is_dying now o) parts.0) (eqb-true (in_degree now o) 0 parts.1)
           where
             is : Releasing refs ∷ under ≡ (Releasing refs ∷ tops ++ Collecting c ∷ []) ++ below
-            is = ap (λ st. Releasing refs ∷ st) (joined tops)
-              where
-                joined : (xs : List Activity) → xs ++ Collecting c ∷ below ≡ (xs ++ Collecting c ∷ []) ++ below
-                joined [] = refl
-                joined (x ∷ xs) = ap (λ st. x ∷ st) (joined xs)
+            is = ap (λ st. Releasing refs ∷ st) (sym (append_assoc tops (Collecting c ∷ []) below))
 
         go : (b : Bool) → (not (is_dying now o) && (in_degree now o == 0)) ≡ b → (let t : Transition = if b then ([], begin_death o now) else ([], now) in IsFull t.1)
         go true e = full (Dying (record { object = o; phase = Finalizer }) ∷ Releasing refs ∷ tops) c (begin_death o now) refl refl (test_leaves kept (λ x. with_referent None (with_place Untracked x)) (λ x. x.serial == o) v.objects (λ x m t k e. record { serial = refl; refers = λ r i. i; clear = refl }))

@@ -30,6 +30,7 @@ use Rattle.cg_machine.proofs.Forgotten.{lives_within}
 use Rattle.cg_machine.proofs.Lookups.{at_member, same_object}
 use Rattle.cg_laws.specs.Apart.{StandsRightly}
 use Rattle.cg_laws.proofs.SetsApart.{NoneCollects, stands_at}
+use Rattle.cg_machine.proofs.Places.{place_is}
 use Rattle.cg_promises.proofs.Told.{Follows, Marks}
 
 -- the places of condemned objects
@@ -122,26 +123,6 @@ all_lose_linger wanted [] objects after lose = subst (Linger objects) (sym lose.
 all_lose_linger wanted (weak ∷ weaks) objects after lose = linger_trans objects (loses_referent weak objects) after (lost_linger weak objects) (all_lose_linger wanted weaks (loses_referent weak objects) after lose.1)
 
 -- places
-pub cand_is : (p : Place) → same_place p Cand ≡ true → p ≡ Cand
-cand_is Cand e = refl
-cand_is Seen e = absurd (let no : false ≡ true = e in cc)
-cand_is Untracked e = absurd (let no : false ≡ true = e in cc)
-cand_is (Gen i) e = absurd (let no : false ≡ true = e in cc)
-cand_is Frozen e = absurd (let no : false ≡ true = e in cc)
-cand_is Back e = absurd (let no : false ≡ true = e in cc)
-cand_is Legacy e = absurd (let no : false ≡ true = e in cc)
-cand_is Pend e = absurd (let no : false ≡ true = e in cc)
-
-pub seen_is : (p : Place) → same_place p Seen ≡ true → p ≡ Seen
-seen_is Seen e = refl
-seen_is Cand e = absurd (let no : false ≡ true = e in cc)
-seen_is Untracked e = absurd (let no : false ≡ true = e in cc)
-seen_is (Gen i) e = absurd (let no : false ≡ true = e in cc)
-seen_is Frozen e = absurd (let no : false ≡ true = e in cc)
-seen_is Back e = absurd (let no : false ≡ true = e in cc)
-seen_is Legacy e = absurd (let no : false ≡ true = e in cc)
-seen_is Pend e = absurd (let no : false ≡ true = e in cc)
-
 merged_wanted : (g : ℕ) (p : Place) → IsWanted (merged_place g p) → IsWanted p
 merged_wanted g (Gen i) w = go (nat_le i g) w
   where
@@ -281,7 +262,7 @@ module _ (script : Script) (c : Collection) (below : List Activity) (v : World) 
   looked_at f o marks member = if_linger f (λ x. x.serial == o) v.objects marks (λ x m t w.
       let z = stands_at v.objects Cand o member in
       let same_one : z.0 ≡ x = same_object 1 v.next_serial v.objects z.0 x rises z.1 m (z.3 ∙ sym (eqb-true x.serial o t)) in
-      subst (λ (y : Object). IsWanted y.place) same_one (subst IsWanted (sym (cand_is z.0.place z.2)) tt))
+      subst (λ (y : Object). IsWanted y.place) same_one (subst IsWanted (sym (place_is z.0.place Cand z.2)) tt))
 
   seen_ran : (f : Object → Object) (o : ℕ) → ((x : Object) → Marks x (f x)) → ((x : Object) → Includes v.objects x → x.serial ≡ o → Ran script (f x)) → RanAt script Finalizing v.objects → RanAt script Finalizing (change f o v.objects)
   seen_ran f o marks ran h y m e = let x = Includes-map_cases (λ x. if x.serial == o then f x else x) v.objects y m in subst (Ran script) x.2 (one (x.0.serial == o) x.0 refl x.1 (ap (λ (z : Object). z.place) x.2 ∙ e))
@@ -312,10 +293,10 @@ module _ (script : Script) (c : Collection) (below : List Activity) (v : World) 
 
   finalizing_primed : (events : List Event) (after : World) → FinalizingStep script c below (at Finalizing) events after → PrimedIn Finalizing → IsPrimed after
   finalizing_primed events after (inl step) h = to after _ step.yields.1 (looks_at_primed step.object (option_and_then (finalizer_to_run script) (object_at v.objects step.object)) refl step.condemned h)
-  finalizing_primed events after (inr step) h = to after _ step.1.1 (goes Finalizing c Split _ (if_linger (with_place Cand) (is_at Seen) v.objects (placed_marks Cand) (λ x m t w. subst IsWanted (sym (seen_is x.place t)) tt)) ran h)
+  finalizing_primed events after (inr step) h = to after _ step.1.1 (goes Finalizing c Split _ (if_linger (with_place Cand) (is_at Seen) v.objects (placed_marks Cand) (λ x m t w. subst IsWanted (sym (place_is x.place Seen t)) tt)) ran h)
     where
       one : (b : Bool) (x : Object) → is_at Seen x ≡ b → Includes v.objects x → (if b then with_place Cand x else x).place ≡ Cand → Ran script (if b then with_place Cand x else x)
-      one true x t m e = ran_later script x (with_place Cand x) (placed_marks Cand x) (h.ran (record c { phase = Finalizing }) (inl refl) x m (seen_is x.place t))
+      one true x t m e = ran_later script x (with_place Cand x) (placed_marks Cand x) (h.ran (record c { phase = Finalizing }) (inl refl) x m (place_is x.place Seen t))
       one false x t m e = absurd (subst (λ os. Includes os x.serial) step.0 (Includes-map (λ (z : Object). z.serial) (objects_at v.objects Cand) x (Includes-filter (is_at Cand) v.objects x (ap (λ q. same_place q Cand) e) m)))
 
       ran : RanAt script Split (map (λ x. if is_at Seen x then with_place Cand x else x) v.objects)

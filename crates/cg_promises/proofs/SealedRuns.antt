@@ -3,13 +3,12 @@ use Rattle.std.proofs.Common.{◌≡◌, refl, sym, ◌∙◌, ap, subst, ℕ, �
 use Rattle.std.specs.Prelude.{if◌then◌else◌, count_by, filter, option_map, unwrap_or}
 use Rattle.std.specs.List.{list_any}
 use Rattle.std.proofs.lemmas.List.Sums.{sum_by-append, sum_by-cons}
-use Rattle.cg_value.specs.declared.Place.{Place}
-use Rattle.cg_value.specs.declared.Place.TheVariants.{Legacy, Untracked, Gen, Frozen, Cand, Seen, Back, Pend}
+use Rattle.cg_value.specs.declared.Place.TheVariants.{Legacy}
 use Rattle.cg_script.specs.declared.Script.{Script}
 use Rattle.cg_script.specs.declared.Command.{Command}
 use Rattle.cg_graph.specs.Member.{Includes}
 use Rattle.cg_graph.specs.Value.{references}
-use Rattle.cg_graph.specs.Object.{Object, entries_of, is_at, object_at, same_place, serials, serials_at}
+use Rattle.cg_graph.specs.Object.{Object, entries_of, is_at, object_at, serials, serials_at}
 use Rattle.cg_graph.proofs.Members.{either, true_and, Includes-append_cases, Includes-map_cases, Includes-filter_cases}
 use Rattle.cg_machine.specs.declared.event.Event.{Event}
 use Rattle.cg_machine.specs.declared.event.Event.TheVariants.{Collected, End, GcSaved, GcStop, GcUncollectable, Refused}
@@ -29,6 +28,7 @@ use Rattle.cg_machine.proofs.Shapes.{StartsFrame}
 use Rattle.cg_machine.proofs.ShapeLaws.{changes_leave}
 use Rattle.cg_machine.proofs.Invariants.{AreAnswers, CommandSteps, FromFrame, FromTop, HasCommands, Steps, Takes, any_step, emptied, on}
 use Rattle.cg_machine.proofs.Serials.{Rises}
+use Rattle.cg_machine.proofs.Places.{place_is}
 use Rattle.cg_promises.proofs.Sealed.{Clears, Fits, IsLate, NotAfter, Passes, Sealed, TellsOut, comes_excused, goes_sealed, loosen, none_out, one_out, one_still, push_sealed, same_shrinks, shrunk, starts_sealed, turn_sealed, TellsStill}
 use Rattle.cg_promises.proofs.SealedDeaths.{dying_sealed, frame_end_sealed, late_sealed, released_sealed}
 use Rattle.cg_promises.proofs.SealedCommands.{Opens, shape_opens}
@@ -45,16 +45,6 @@ due_none w e = go (is_due w.numbers) (is_collecting w) e
     go true false k = let no : true ≡ false = sym k in absurd (cc)
 
 -- the lines of the end of a collection name none that is condemned
-at_place : (p q : Place) → same_place p q ≡ true → q ≡ Legacy → p ≡ Legacy
-at_place Legacy q e k = refl
-at_place Untracked q e k = absurd (let no : false ≡ true = subst (λ r. same_place Untracked r ≡ true) k e in cc)
-at_place (Gen i) q e k = absurd (let no : false ≡ true = subst (λ r. same_place (Gen i) r ≡ true) k e in cc)
-at_place Frozen q e k = absurd (let no : false ≡ true = subst (λ r. same_place Frozen r ≡ true) k e in cc)
-at_place Cand q e k = absurd (let no : false ≡ true = subst (λ r. same_place Cand r ≡ true) k e in cc)
-at_place Seen q e k = absurd (let no : false ≡ true = subst (λ r. same_place Seen r ≡ true) k e in cc)
-at_place Back q e k = absurd (let no : false ≡ true = subst (λ r. same_place Back r ≡ true) k e in cc)
-at_place Pend q e k = absurd (let no : false ≡ true = subst (λ r. same_place Pend r ≡ true) k e in cc)
-
 module _ (script : Script) (members : List ℕ) (c : Collection) (below : List Activity) (v : World) (stack : List Activity) (h : Sealed script members v.objects v.names stack v.next_serial) where
   aside_out : (test : Object → Bool) → ((x : Object) → test x ≡ true → x.place ≡ Legacy) → (n : ℕ) → Includes (serials (filter test v.objects)) n → ¬ Includes members n
   aside_out test aside n m k =
@@ -82,8 +72,8 @@ module _ (script : Script) (members : List ℕ) (c : Collection) (below : List A
   end_out events after step = subst (TellsOut members) (sym step.lines)
       (both_out (lines_if (has_flag c.flags uncollectable) (map GcUncollectable step.told) ++ map GcSaved step.keeps) (GcStop c.generation c.collected (length step.told) ∷ lines_if c.asked (Collected (c.collected + length step.told) ∷ []))
       (both_out (lines_if (has_flag c.flags uncollectable) (map GcUncollectable step.told)) (map GcSaved step.keeps)
-      (if_out (has_flag c.flags uncollectable) (map GcUncollectable step.told) (each_out GcUncollectable step.told one_name (λ n m. aside_out (is_at Legacy) (λ x t. at_place x.place Legacy t refl) n (same_lives step.told (serials_at v.objects Legacy) step.told_order n m))))
-      (each_out GcSaved step.keeps one_name (λ n m. aside_out (is_saved script c) (λ x t. at_place x.place Legacy (true_and (is_at Legacy x) _ t).0 refl) n (same_lives step.keeps (serials (filter (is_saved script c) v.objects)) step.keeps_order n m))))
+      (if_out (has_flag c.flags uncollectable) (map GcUncollectable step.told) (each_out GcUncollectable step.told one_name (λ n m. aside_out (is_at Legacy) (λ x t. place_is x.place Legacy t) n (same_lives step.told (serials_at v.objects Legacy) step.told_order n m))))
+      (each_out GcSaved step.keeps one_name (λ n m. aside_out (is_saved script c) (λ x t. place_is x.place Legacy (true_and (is_at Legacy x) _ t).0) n (same_lives step.keeps (serials (filter (is_saved script c) v.objects)) step.keeps_order n m))))
       (both_out (GcStop c.generation c.collected (length step.told) ∷ []) (lines_if c.asked (Collected (c.collected + length step.told) ∷ [])) (one_out members (GcStop c.generation c.collected (length step.told)) (λ n m. absurd m))
       (if_out c.asked (Collected (c.collected + length step.told) ∷ []) (one_out members (Collected (c.collected + length step.told)) (λ n m. absurd m)))))
 

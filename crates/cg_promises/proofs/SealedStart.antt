@@ -29,8 +29,9 @@ use Rattle.cg_machine.proofs.Serials.{Rises, Rises-map}
 use Rattle.cg_machine.proofs.Standing.{AreKnown, IsKnown, KnowsFunction}
 use Rattle.cg_machine.proofs.Unheld.{AreOver, AreResting, IsLocalHeld, IsOver, held_by_member, rests_cases}
 use Rattle.cg_laws.proofs.SetsApart.{NoneCollects, stands_at}
+use Rattle.cg_machine.proofs.Places.{place_is}
 use Rattle.cg_promises.proofs.Told.{Marks}
-use Rattle.cg_promises.proofs.Primed.{IsWanted, Primed, cand_is, legacy_later, ran_later}
+use Rattle.cg_promises.proofs.Primed.{IsWanted, Primed, legacy_later, ran_later}
 use Rattle.cg_promises.proofs.Sealed.{Fits, IsDone, NotAfter, Sealed}
 
 -- counts
@@ -163,7 +164,7 @@ module _ (script : Script) (c : Collection) (below : List Activity) (v : World) 
     dead_of o k =
         let y = stands_at step.objects Cand o k in
         let x = back y.0 y.1 in
-        let at : y.0.place ≡ Cand = cand_is y.0.place y.2 in
+        let at : y.0.place ≡ Cand = place_is y.0.place Cand y.2 in
         either x.2.3 (λ old. absurd (let no : Gen (older c.generation) ≡ Cand = sym old.1 ∙ at in cc))
         (λ same. record { object = x.0; member = x.1; serial = sym x.2.0.serial ∙ y.3; place = sym same.1 ∙ at; dead = not_alive x.0.serial same.0 })
 
@@ -193,7 +194,7 @@ module _ (script : Script) (c : Collection) (below : List Activity) (v : World) 
         go false t = absurd (d.dead (outside_survives now d.object (among d.object d.member d.place) x.0 x.1 t refers))
         go true t = either x.2.3
             (λ old. absurd (d.dead (next_survives now d.object (among d.object d.member d.place) x.0 x.1 t refers ((step.survivors x.0.serial).0 (Includes-of step.alive x.0.serial old.0)))))
-            (λ same. there (same.1 ∙ cand_is x.0.place t))
+            (λ same. there (same.1 ∙ place_is x.0.place Cand t))
 
     unreferred : (y : Object) → Includes step.objects y → (o : ℕ) → Includes members o → y.referent ≢ Some o
     unreferred y m o k e =

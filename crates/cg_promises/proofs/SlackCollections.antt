@@ -27,9 +27,10 @@ use Rattle.cg_machine.proofs.Lookups.{same_object}
 use Rattle.cg_machine.proofs.Forgotten.{lives_within}
 use Rattle.cg_machine.proofs.DyingOrderly.{HasOrder}
 use Rattle.cg_laws.specs.Apart.{handles}
+use Rattle.cg_laws.proofs.SetsApart.{is_tracked_at}
 use Rattle.cg_promises.proofs.Slack.{AreNoTuples, Fine, IsNoTuple, IsSlackWorld, Never, Slack, Still, either_slack, excused_on, lost_still, moves_slack, placed_goes, push_slack, starts_slack, still_same, still_trans, test_still, turn_slack}
 use Rattle.cg_promises.proofs.SlackDeaths.{shortened_still}
-use Rattle.cg_promises.proofs.SlackStart.{Anew, merge_still, sort_still, tracked_at}
+use Rattle.cg_promises.proofs.SlackStart.{Anew, merge_still, sort_still}
 
 false_true : true ≡ false → ⊥
 false_true e = cc
@@ -64,7 +65,7 @@ saved_place o objects y m = let x = Includes-map_cases (λ x. if x.serial == 1 t
 
 -- those of a place of tracked ones go to another
 spread_still : (hard : ℕ → Type 0) (p q : Place) (objects : List Object) → same_place Untracked p ≡ false → q ≢ Untracked → Still hard objects (map (λ x. if is_at p x then with_place q x else x) objects)
-spread_still hard p q objects apart tracked = test_still hard (with_place q) (is_at p) objects (λ x m t. placed_goes hard q x tracked (λ a. tracked_at p x apart t))
+spread_still hard p q objects apart tracked = test_still hard (with_place q) (is_at p) objects (λ x m t. placed_goes hard q x tracked (λ a. is_tracked_at p x apart t))
 
 -- one goes to a place of tracked ones that is no untracked tuple
 one_still : (hard : ℕ → Type 0) (p : Place) (o : ℕ) (objects : List Object) → p ≢ Untracked → ((x : Object) → Includes objects x → x.serial ≡ o → is_tuple x ≡ true → x.place ≢ Untracked) → Still hard objects (change (with_place p) o objects)
@@ -76,7 +77,7 @@ member_tracked next p objects o rises apart m x i s =
     let z = Includes-map_cases (λ (y : Object). y.serial) (objects_at objects p) o m in
     let at = Includes-filter_cases (is_at p) objects z.0 z.1 in
     let same : z.0 ≡ x = same_object 1 next objects z.0 x rises at.0 i (z.2 ∙ sym s) in
-    tracked_at p x apart (subst (λ y. is_at p y ≡ true) same at.1)
+    is_tracked_at p x apart (subst (λ y. is_at p y ≡ true) same at.1)
 
 survivor_inside : (w : World) (p : Place) (o : ℕ) → Survives w p o → Includes (serials_at w.objects p) o
 survivor_inside w p o (first held inside) = inside

@@ -21,8 +21,9 @@ use Rattle.cg_machine.proofs.Forgotten.{lives_within}
 use Rattle.cg_machine.proofs.Lookups.{at_member, references_of_member, same_object}
 use Rattle.cg_machine.proofs.Serials.{Rises}
 use Rattle.cg_machine.proofs.Shapes.{IsMutable, Shape, Binds, Makes, Edits, Puts, Shows, Tells, Stays, Sets, Freezes, Unfreezes, StartsFrame, StartsCollection, Ends}
+use Rattle.cg_machine.proofs.Places.{place_is}
 use Rattle.cg_promises.proofs.Slack.{Excused, Fine, Goes, IsLoose, IsSlackOne, IsSlackWorld, Slack, Still, loose_later, map_still, moves_slack, test_still}
-use Rattle.cg_promises.proofs.SlackStart.{is_untracked, may_not, not_true}
+use Rattle.cg_promises.proofs.SlackStart.{may_not, not_true}
 
 -- what a value refers to
 option_holds : (m : Option ℕ) (o : ℕ) → Includes (option_to_list m) o → m ≡ Some o
@@ -120,7 +121,7 @@ module _ (w : World) (rises : Rises 1 w.next_serial w.objects) (live : (x : Obje
   excused x m other u = either (h.slack x m u) (λ e. e) (λ k. absurd (either k.0 other.0 other.1))
 
   other_loses : (x y : Object) (hard : ℕ → Type 0) → y.place ≡ x.place → (x.place ≡ Untracked → hard y.serial) → hard y.serial ⊎ (y.place ≡ Untracked → (x.place ≡ Untracked) × ((o : ℕ) → Includes (references y.entries) o → Includes (references x.entries) o))
-  other_loses x y hard same k = either (cases_of (same_place x.place Untracked)) (λ t. inl (k (is_untracked x.place t)))
+  other_loses x y hard same k = either (cases_of (same_place x.place Untracked)) (λ t. inl (k (place_is x.place Untracked t)))
       (λ f. inr (λ u. absurd (let at : same_place x.place Untracked ≡ true = ap (λ p. same_place p Untracked) (sym same ∙ u) in let no : true ≡ false = sym at ∙ f in cc)))
 
   other_slack : (x : Object) (es : List Entry) → Includes w.objects x → IsOther x → Slack w.next_serial (change (with_entries es) x.serial w.objects) w.stack
@@ -153,7 +154,7 @@ module _ (w : World) (rises : Rises 1 w.next_serial w.objects) (live : (x : Obje
       let at : object_of w v ≡ Some z = ap (option_and_then (object_at w.objects)) is ∙ subst (λ n. object_at w.objects n ≡ Some z) s (at_member 1 w.next_serial w.objects z rises m) in
       let no : may_be_tracked z ≡ false = sym (ap (λ (q : Option Object). elim q [ None ↦ false | Some x ↦ may_be_tracked x ]) at) ∙ e in
       let kind = may_not (is_tuple z) (is_tracked z) no in
-      (kind.0, is_untracked z.place (not_true (same_place z.place Untracked) kind.1))
+      (kind.0, place_is z.place Untracked (not_true (same_place z.place Untracked) kind.1))
 
   module _ (x : Object) (key v : Val) (m : Includes w.objects x) (no_tuple : ¬ (is_tuple x ≡ true)) where
     abbrev put_in : Object → Object

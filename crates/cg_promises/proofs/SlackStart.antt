@@ -1,9 +1,9 @@
 -- The start of a collection: what it untracks refers to untracked tuples alone.
-use Rattle.std.proofs.Common.{◌≡◌, ◌≢◌, refl, sym, ◌∙◌, ap, subst, ℕ, Bool, true, false, not, ◌&&◌, inl, inr, ◌⊎◌, List, [], ◌∷◌, map, Some}
+use Rattle.std.proofs.Common.{◌≡◌, refl, sym, ◌∙◌, ap, subst, ℕ, Bool, true, false, not, ◌&&◌, inl, inr, ◌⊎◌, List, [], ◌∷◌, map, Some}
 use Rattle.std.specs.Prelude.{◌==◌, ◌||◌, nat_le, if◌then◌else◌, option_map, unwrap_or}
 use Rattle.std.specs.List.{list_any}
 use Rattle.cg_value.specs.declared.Place.{Place}
-use Rattle.cg_value.specs.declared.Place.TheVariants.{Untracked, Gen, Frozen, Cand, Seen, Back, Legacy, Pend}
+use Rattle.cg_value.specs.declared.Place.TheVariants.{Untracked, Gen, Cand, Legacy}
 use Rattle.cg_script.specs.declared.Script.{Script}
 use Rattle.cg_graph.specs.Member.{Includes}
 use Rattle.cg_graph.specs.Value.{references}
@@ -14,6 +14,8 @@ use Rattle.cg_machine.specs.World.{World}
 use Rattle.cg_machine.specs.Collect.{has_none_tracked, merged_place, older, sorted, survivor_place, untrack, untracked_if, IsGarbage, IsSetAside, Sorts, Survives}
 use Rattle.cg_machine.proofs.Serials.{Rises, Rises-map}
 use Rattle.cg_machine.proofs.Lookups.{at_member, same_object}
+use Rattle.cg_machine.proofs.Places.{place_is}
+use Rattle.cg_laws.proofs.SetsApart.{is_tracked_at}
 use Rattle.cg_promises.proofs.Slack.{IsLoose, IsSlackOne, Still, map_still, test_still}
 
 pub not_true : (b : Bool) → not b ≡ false → b ≡ true
@@ -23,20 +25,6 @@ not_true false e = sym e
 pub not_false : (b : Bool) → not b ≡ true → b ≡ false
 not_false true e = sym e
 not_false false e = refl
-
-pub is_untracked : (p : Place) → same_place p Untracked ≡ true → p ≡ Untracked
-is_untracked Untracked e = refl
-is_untracked (Gen i) e = absurd (let no : false ≡ true = e in cc)
-is_untracked Frozen e = absurd (let no : false ≡ true = e in cc)
-is_untracked Cand e = absurd (let no : false ≡ true = e in cc)
-is_untracked Seen e = absurd (let no : false ≡ true = e in cc)
-is_untracked Back e = absurd (let no : false ≡ true = e in cc)
-is_untracked Legacy e = absurd (let no : false ≡ true = e in cc)
-is_untracked Pend e = absurd (let no : false ≡ true = e in cc)
-
--- what stands at a place of tracked ones
-pub tracked_at : (p : Place) (x : Object) → same_place Untracked p ≡ false → is_at p x ≡ true → x.place ≢ Untracked
-tracked_at p x apart t e = let same : same_place Untracked p ≡ true = subst (λ q. same_place q p ≡ true) e t in let no : true ≡ false = sym same ∙ apart in cc
 
 -- a list of which none passes
 any_of : (f : ℕ → Bool) (xs : List ℕ) (x : ℕ) → Includes xs x → f x ≡ true → list_any f xs ≡ true
@@ -112,7 +100,7 @@ module _ (script : Script) (g : ℕ) (w : World) (chosen : Object → Bool) (pla
 
   untracked_bare : (c : Bool) (x : Object) → Includes (objects_at w.objects (Gen g)) x → is_at (Gen g) x ≡ true → chosen x ≡ c → not (is_tracked (untracked_if c x)) ≡ true → IsBare x
   untracked_bare true x m t k e = bare_tuple x m k
-  untracked_bare false x m t k e = absurd (tracked_at (Gen g) x refl t (is_untracked x.place (not_true (same_place x.place Untracked) (not_false (is_tracked x) e))))
+  untracked_bare false x m t k e = absurd (is_tracked_at (Gen g) x refl t (place_is x.place Untracked (not_true (same_place x.place Untracked) (not_false (is_tracked x) e))))
 
   bare : (x : Object) → Includes (objects_at w.objects (Gen g)) x → is_at (Gen g) x ≡ true → places x ≡ Untracked → IsBare x
   bare x m t u = either (true_or (not (is_tracked (untracked_if (chosen x) x))) ((g == 2) && is_dict (untracked_if (chosen x) x) && has_none_tracked passed (untracked_if (chosen x) x)) (passes x m u))
@@ -123,11 +111,11 @@ module _ (script : Script) (g : ℕ) (w : World) (chosen : Object → Bool) (pla
 
   -- what it refers to is an untracked tuple after
   placed : (b c : Bool) (x : Object) → Includes w.objects x → is_at (Gen g) x ≡ b → chosen x ≡ c → is_tracked (untracked_if (b && c) x) ≡ false → (if b then with_place (places x) x else x).place ≡ Untracked
-  placed false c x m t k u = is_untracked x.place (not_true (same_place x.place Untracked) u)
+  placed false c x m t k u = place_is x.place Untracked (not_true (same_place x.place Untracked) u)
   placed true true x m t k u =
       let member = Includes-filter (is_at (Gen g)) w.objects x t m in
       sorts.survivors x member (sorts.tuples.at_most x member k).0 ∙ ap (λ d. survivor_place g passed (untracked_if d x)) k
-  placed true false x m t k u = absurd (tracked_at (Gen g) x refl t (is_untracked x.place (not_true (same_place x.place Untracked) u)))
+  placed true false x m t k u = absurd (is_tracked_at (Gen g) x refl t (place_is x.place Untracked (not_true (same_place x.place Untracked) u)))
 
   sorted_tuple : (b : Bool) (x : Object) → is_tuple (if b then with_place (places x) x else x) ≡ is_tuple x
   sorted_tuple true x = refl
@@ -170,6 +158,6 @@ module _ (script : Script) (g : ℕ) (w : World) (chosen : Object → Bool) (pla
 
   pub sort_still : Still Anew w.objects after
   sort_still = test_still Anew (λ x. with_place (places x) x) (is_at (Gen g)) w.objects (λ x m t. record {
-    stays = record { serial = refl; code = refl; untracked = λ a u. absurd (tracked_at (Gen g) x refl t u) };
+    stays = record { serial = refl; code = refl; untracked = λ a u. absurd (is_tracked_at (Gen g) x refl t u) };
     loses = inl (slack_new x m t);
   })

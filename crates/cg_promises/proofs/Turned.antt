@@ -21,7 +21,7 @@ use Rattle.cg_machine.specs.Weak.{callback_of, loses_referent}
 use Rattle.cg_machine.specs.Dying.{finalizer_to_run}
 use Rattle.cg_machine.specs.Collect.{calls_back, collection_at, empties, has_flag, looks_at, older, save_all, saved, takes_turn, waits, FinalizingStep, PhaseStep, TurnsStep, WeakClearingStep}
 use Rattle.cg_laws.proofs.SetsApart.{NoneCollects}
-use Rattle.cg_promises.proofs.Primed.{cand_is}
+use Rattle.cg_machine.proofs.Places.{place_is}
 
 -- a phase of which nothing is said below, and after which such a phase comes
 abbrev pub IsEarly : CollectPhase → Type 0
@@ -204,7 +204,7 @@ module _ (Was : ℕ → Type 0) (script : Script) (c : Collection) (below : List
       go false false e = only (record c { phase = Turn x.serial }) v.objects (h, h e x m at)
 
   turns_final : (events : List Event) (after : World) → TurnsStep c below (standing Turns) events after → Finals Was c v.objects → FinalIn after
-  turns_final events after (inl step) h = let f = Includes-filter_cases (is_at Cand) v.objects step.object step.member in reach after _ step.yields.1 (turn_final step.object f.0 (cand_is step.object.place f.1) h)
+  turns_final events after (inl step) h = let f = Includes-filter_cases (is_at Cand) v.objects step.object step.member in reach after _ step.yields.1 (turn_final step.object f.0 (place_is step.object.place Cand f.1) h)
   turns_final events after (inr step) h = reach after _ step.1.1 (only (record c { phase = Ending }) v.objects tt)
 
   empties_final : (o : ℕ) (m : Option Entry) → Finals Was c v.objects → Was o → FinalIn (empties c o below (standing (Turn o)) m).1
