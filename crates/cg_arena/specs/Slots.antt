@@ -3,7 +3,7 @@ use Rattle.std.specs.Prelude.{ℕ, true, Option, Some, None}
 use Rattle.cg_value.specs.declared.Place.{Place}
 use Rattle.cg_value.specs.declared.Place.TheVariants.{Untracked}
 use Rattle.cg_value.specs.declared.KindCode.TheVariants.{List as ListCode}
-use Rattle.cg_arena.specs.Nodes.{ArenaNode, new_node}
+use Rattle.cg_arena.specs.Nodes.{ArenaNode, new_node, number_lowered}
 use Rattle.cg_arena.specs.declared.slot.Slot.{Slot}
 
 -- the node
@@ -36,6 +36,9 @@ with_mark c = record c { finalized = true }
 
 abbrev pub with_number : ℕ → Slot → Slot
 with_number number c = record c { number = number }
+
+abbrev pub with_lowered : Slot → Slot
+with_lowered c = record c { number = number_lowered c.place c.number }
 
 -- the parts of a slot that may be vacant
 abbrev pub before_in : Option Slot → Option ℕ

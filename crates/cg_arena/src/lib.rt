@@ -7,8 +7,11 @@
 mod arena;
 mod ends;
 mod links;
+mod near;
 mod slot;
 #[cfg(test)]
 mod tests;
 
 pub use arena::Arena;
+pub use near::Near;
+pub use slot::Head;

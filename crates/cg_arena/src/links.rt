@@ -1,7 +1,7 @@
 //! Nodes in slots, and the links between them.
 ghost use Rattle.std.specs.Prelude.{◌≡◌, Some, IsSome, option_and_then, option_map, ◌+◌, ◌<◌, ◌^◌};
 ghost use Rattle.slab.specs.Slab.{get, ContainsKey};
-ghost use Rattle.cg_arena.specs.Slots.{with_after, with_before, with_place, with_count, with_mark, with_number, after_in};
+ghost use Rattle.cg_arena.specs.Slots.{with_after, with_before, with_place, with_count, with_mark, with_number, with_lowered, after_in};
 ghost use Rattle.cg_arena.specs.Links.{rewritten, after_set, before_set, tied, ends_without, ends_joined, place_set, all_placed, chain_from};
 
 use crate::ends::Ends;
@@ -54,6 +54,15 @@ pub fn set_number(slots: &mut Slab<Slot>, at: usize, number: u32)
 {
     if let Some(slot) = slots.get_mut(at) {
         slot.set_number(number);
+    }
+}
+
+/// Lowers the collector's number of a candidate, if it is above 0.
+pub fn lower_candidate(slots: &mut Slab<Slot>, at: usize)
+    ensures { slots.new ≡ rewritten with_lowered at slots.old }
+{
+    if let Some(slot) = slots.get_mut(at) {
+        slot.lower();
     }
 }
 

@@ -22,7 +22,7 @@ pub struct Slot {
 }
 
 impl Slot {
-    ghost use Rattle.cg_arena.specs.Slots.{node_of, with_mark, with_number, with_before};
+    ghost use Rattle.cg_arena.specs.Slots.{node_of, with_mark, with_number, with_lowered, with_before};
 
     /// A new node in no list: count 0, not finalized, the collector's number 0.
     pub fn new(serial: u64, code: KindCode, class: Option<u32>, body: usize, place: Place) -> Slot
@@ -73,6 +73,15 @@ impl Slot {
         self.number = number;
     }
 
+    /// Lowers the collector's number of a candidate, if it is above 0.
+    pub fn lower(&mut self)
+        ensures { self.new ≡ with_lowered self.old }
+    {
+        if let Place::Cand = self.place {
+            self.number = self.number.saturating_sub(1);
+        }
+    }
+
     /// The slot before it in its list.
     pub fn before(&self) -> Option<usize>
         ensures { result ≡ self.now.before }
@@ -85,5 +94,28 @@ impl Slot {
         ensures { self.new ≡ with_before before self.old }
     {
         self.before = before;
+    }
+}
+
+/// What kind of object it is, where it stands, and the collector's number.
+#[derive(Clone, Copy, Debug)]
+pub struct Head {
+    pub code: KindCode,
+    pub place: Place,
+    pub number: u32,
+}
+
+impl Head {
+    /// Those of a slot.
+    pub fn of(slot: Slot) -> Head
+        ensures code { result.code ≡ slot.code }
+        ensures place { result.place ≡ slot.place }
+        ensures number { result.number ≡ slot.number }
+    {
+        Head {
+            code: slot.code,
+            place: slot.place,
+            number: slot.number(),
+        }
     }
 }
