@@ -1,7 +1,8 @@
-use Rattle.std.proofs.Common.{refl}
+use Rattle.std.proofs.Common.{◌≡◌, IfSome, refl, sym, subst}
 use Rattle.indexmap.specs.IndexMap.{spare}
+use Rattle.cg_arena.specs.Nodes.{ArenaNode}
 use Rattle.cg_arena.specs.Links.{tied}
-use Rattle.cg_arena.proofs.Sound.{row_there, slot_there, slot_placed}
+use Rattle.cg_arena.proofs.Sound.{row_there, slot_there, slot_placed, node_here}
 use Rattle.cg_arena.proofs.Drops.{size_there, left_there, dropped_sound, dropped_view, dropped_room}
 use Rattle.cg_arena.proofs.arena.Arena.drop_seat.Goals as goal
 
@@ -46,3 +47,9 @@ returns-clause-room c =
     c.number_of-from.result c.number_of-from.ensures.number c.number_of-from.ensures.below c.unlink.ensures.slots c.unlink.result c.unlink.ensures.ends
     c.remove.ensures.updates c.remove.ensures.len c.take_row-at.ensures.rows
     (spare c.take_row-at.new.rows) c.remove.ensures.capacity c.take_row-at.ensures.room
+
+pub returns-clause-code : goal.returns-clause-code
+returns-clause-code c = subst (λ o. IfSome o (λ (n : ArenaNode). c.slot_at-slot.result.code ≡ n.code)) (sym (node_here c.self.inside.slots c.self.inside.ends c.self.inside.rows.entries (spare c.self.inside.rows) c.args.self.now c.self.view_is c.args.serial c.take_row-at.result c.slot_at-slot.result c.take_row-at.ensures.at c.slot_at-slot.ensures)) refl
+
+pub returns-clause-body : goal.returns-clause-body
+returns-clause-body c = subst (λ o. IfSome o (λ (n : ArenaNode). c.slot_at-slot.result.body ≡ n.body)) (sym (node_here c.self.inside.slots c.self.inside.ends c.self.inside.rows.entries (spare c.self.inside.rows) c.args.self.now c.self.view_is c.args.serial c.take_row-at.result c.slot_at-slot.result c.take_row-at.ensures.at c.slot_at-slot.ensures)) refl

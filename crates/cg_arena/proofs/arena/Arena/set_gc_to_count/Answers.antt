@@ -11,6 +11,9 @@ slot_near-at-requires-clause-named c = c.self.invariant.names
 pub slot_near-at-requires-clause-there : goal.slot_near-at-requires-clause-there
 slot_near-at-requires-clause-there c = row_there c.self.inside.slots c.self.inside.ends c.self.inside.rows.entries (spare c.self.inside.rows) c.args.self.now c.self.view_is c.args.serial c.requires.has
 
+pub slot_at-number-requires : goal.slot_at-number-requires
+slot_at-number-requires c = slot_there c.self.inside.slots c.self.inside.ends c.self.inside.rows.entries c.self.invariant c.args.serial c.slot_near-at.result c.slot_near-at.ensures
+
 pub invariant_of-self : goal.invariant_of-self
 invariant_of-self c =
     field_sound (with_number c.slot_at-number.result.count) (λ x. refl) (λ x. refl) (λ x. refl) (λ x. refl) c.self.inside.slots c.self.inside.ends c.self.inside.rows.entries c.self.invariant c.slot_near-at.result
