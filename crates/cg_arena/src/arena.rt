@@ -237,10 +237,11 @@ impl Arena {
     {
         let at = take_row(&mut self.rows, serial);
         let slot = slot_at(&self.slots, at);
+        let seat = (slot.code, slot.body);
         let from = number_of(slot.place);
         self.ends[from] = unlink(&mut self.slots, self.ends[from], slot);
         self.slots.remove(at);
-        (slot.code, slot.body)
+        seat
     }
 
     /// The count rises by 1. It is below 2^32 - 1 before. (Developer guide: the count is the number of references.)

@@ -11,6 +11,7 @@ mod near;
 mod slot;
 #[cfg(test)]
 mod tests;
+mod word;
 
 pub use arena::Arena;
 pub use near::Near;

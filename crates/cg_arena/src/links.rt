@@ -108,8 +108,8 @@ fn tie(slots: &mut Slab<Slot>, before: Option<usize>, after: Option<usize>)
 /// Takes a slot out of its list, and answers the ends of the list then.
 pub fn unlink(slots: &mut Slab<Slot>, ends: Ends, slot: Slot) -> Ends
     requires { 0 < ends.size }
-    ensures slots { slots.new ≡ tied slot.before slot.after slots.old }
-    ensures ends { result ≡ ends_without slot.before slot.after ends }
+    ensures slots { slots.new ≡ tied slot.word.before slot.after slots.old }
+    ensures ends { result ≡ ends_without slot.word.before slot.after ends }
 {
     let before = slot.before();
     tie(slots, before, slot.after);
