@@ -47,12 +47,7 @@ fn lower<B: Kind>(heap: &mut Heap<B>, value: Val)
 }
 
 /// Each reference of the entries of an object that is near lowers its candidate's number by one.
-fn lower_all<B: Kind, L: Ledger>(
-    heap: &mut Heap<B>,
-    object: u64,
-    near: Near,
-    steps: &mut Steps<L>,
-)
+fn lower_all<B: Kind, L: Ledger>(heap: &mut Heap<B>, object: u64, near: Near, steps: &mut Steps<L>)
     requires ready { IsReady (view_of heap.old) }
     requires live { IsTrue ((view_of heap.old).live object) }
     requires room { (o : ℕ) → Includes ((view_of heap.old).listed Place.Cand) o → occurrences o (references ((view_of heap.old).entries object)) ≤ (view_of heap.old).number o }
