@@ -39,7 +39,7 @@ ended_there None there = absurd (cc)
 ended_there (Some c) there = refl
 
 -- s is left by the node, and is `left` then; there the node gets its place, and then no slot after it; then it is tied to the last of the other list
-module _ (s left placed ended new : Slab Slot) (ends : List Ends) (rows : List (ℕ × ℕ)) (sound : IsSound s ends rows) (spare : ℕ) (v : Nodes) (view_is : value_of s ends rows spare ≡ v) (t k : ℕ) (c : Slot) (row_is : row_of rows t ≡ Some k) (slot_is : get s k ≡ Some c) (p : ℕ) (p_is : p ≡ place_number c.place) (below_p : p < 10) (left_is : left ≡ tied c.before c.after s) (d : Ends) (d_is : d ≡ ends_without c.before c.after (ends_at ends p)) (place : Place) (placed_is : placed ≡ rewritten (with_place place) k left) (ended_is : ended ≡ rewritten (with_after None) k placed) (q : ℕ) (q_is : q ≡ place_number place) (below_q : q < 10) where
+module _ (s left placed ended new : Slab Slot) (ends : List Ends) (rows : List (ℕ × ℕ)) (sound : IsSound s ends rows) (spare : ℕ) (v : Nodes) (view_is : value_of s ends rows spare ≡ v) (t k : ℕ) (c : Slot) (row_is : row_of rows t ≡ Some k) (slot_is : get s k ≡ Some c) (p : ℕ) (p_is : p ≡ place_number c.place) (below_p : p < 10) (left_is : left ≡ tied c.word.before c.after s) (d : Ends) (d_is : d ≡ ends_without c.word.before c.after (ends_at ends p)) (place : Place) (placed_is : placed ≡ rewritten (with_place place) k left) (ended_is : ended ≡ rewritten (with_after None) k placed) (q : ℕ) (q_is : q ≡ place_number place) (below_q : q < 10) where
   abbrev between_ends : List Ends
   between_ends = slice_set ends p d
 

@@ -118,7 +118,7 @@ module _ (s new : Slab Slot) (ends : List Ends) (rows : List (ℕ × ℕ)) (soun
       ∙ sym (list-at s ends sound.chain None sound.ten sound.spelled r below))
 
 -- a field of one node is written
-module _ (f : Slot → Slot) (befores : (x : Slot) → (f x).before ≡ x.before) (afters : (x : Slot) → (f x).after ≡ x.after) (serial_same : (x : Slot) → (f x).serial ≡ x.serial) (place_same : (x : Slot) → (f x).place ≡ x.place) (s : Slab Slot) (ends : List Ends) (rows : List (ℕ × ℕ)) (sound : IsSound s ends rows) (k : ℕ) where
+module _ (f : Slot → Slot) (befores : (x : Slot) → (f x).word.before ≡ x.word.before) (afters : (x : Slot) → (f x).after ≡ x.after) (serial_same : (x : Slot) → (f x).serial ≡ x.serial) (place_same : (x : Slot) → (f x).place ≡ x.place) (s : Slab Slot) (ends : List Ends) (rows : List (ℕ × ℕ)) (sound : IsSound s ends rows) (k : ℕ) where
   shape : SameShape s (rewritten f k s)
   shape = shape-rewritten f k s serial_same
 

@@ -1,9 +1,10 @@
 -- What a slot holds: a node, its serial, and its two links.
-use Rattle.std.specs.Prelude.{ℕ, true, Option, Some, None}
+use Rattle.std.specs.Prelude.{ℕ, Option, Some, None}
 use Rattle.cg_value.specs.declared.Place.{Place}
 use Rattle.cg_value.specs.declared.Place.TheVariants.{Untracked}
 use Rattle.cg_value.specs.declared.KindCode.TheVariants.{List as ListCode}
-use Rattle.cg_arena.specs.Nodes.{ArenaNode, new_node}
+use Rattle.cg_arena.specs.Nodes.{ArenaNode, new_node, number_lowered}
+use Rattle.cg_arena.specs.Word.{word_marked, word_numbered, word_linked}
 use Rattle.cg_arena.specs.declared.slot.Slot.{Slot}
 
 -- the node
@@ -13,14 +14,14 @@ node_of c = record {
   class = c.class;
   body = c.body;
   count = c.count;
-  finalized = c.finalized;
+  finalized = c.word.marked;
   place = c.place;
-  number = c.number;
+  number = c.word.number;
 }
 
 -- the slot with one field changed
 abbrev pub with_before : Option ℕ → Slot → Slot
-with_before before c = record c { before = before }
+with_before before c = record c { word = word_linked before c.word }
 
 abbrev pub with_after : Option ℕ → Slot → Slot
 with_after after c = record c { after = after }
@@ -32,15 +33,18 @@ abbrev pub with_count : ℕ → Slot → Slot
 with_count count c = record c { count = count }
 
 abbrev pub with_mark : Slot → Slot
-with_mark c = record c { finalized = true }
+with_mark c = record c { word = word_marked c.word }
 
 abbrev pub with_number : ℕ → Slot → Slot
-with_number number c = record c { number = number }
+with_number number c = record c { word = word_numbered number c.word }
+
+abbrev pub with_lowered : Slot → Slot
+with_lowered c = with_number (number_lowered c.place c.word.number) c
 
 -- the parts of a slot that may be vacant
 abbrev pub before_in : Option Slot → Option ℕ
 before_in None = None
-before_in (Some c) = c.before
+before_in (Some c) = c.word.before
 
 abbrev pub after_in : Option Slot → Option ℕ
 after_in None = None

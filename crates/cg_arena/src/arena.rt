@@ -4,14 +4,16 @@ ghost use Rattle.std.specs.FinMap as map;
 ghost use Rattle.slab.specs.Slab.{get, slab_len, HasRoomFor, Updates};
 ghost use Rattle.indexmap.specs.IndexMap.{spare};
 ghost use Rattle.cg_graph.specs.Places.{place_number};
-ghost use Rattle.cg_arena.specs.Table.{row_of};
+ghost use Rattle.cg_arena.specs.Table.{row_of, IsNamed};
+ghost use Rattle.cg_arena.specs.Slots.{serial_in};
 
 use crate::ends::Ends;
 use crate::links::{
-    join, mark_finalized, place_all, serial_at, set_after, set_count, set_number, set_place,
-    slot_at, unlink,
+    join, lower_candidate, mark_finalized, place_all, serial_at, set_after, set_count, set_number,
+    set_place, slot_at, unlink,
 };
-use crate::slot::Slot;
+use crate::near::Near;
+use crate::slot::{Head, Slot};
 use cg_serial::{SerialHashing, serial_hashing};
 use cg_value::{KindCode, Place};
 use indexmap::IndexMap;
@@ -82,6 +84,23 @@ fn slot_of(rows: &IndexMap<u64, usize, SerialHashing>, serial: u64) -> usize
     }
 }
 
+/// The slot of a serial that has a row. Where the serial stands in the slot `near`, nothing is looked up.
+fn slot_near(
+    slots: &Slab<Slot>,
+    rows: &IndexMap<u64, usize, SerialHashing>,
+    serial: u64,
+    near: Near,
+) -> usize
+    requires named { IsNamed (λ k. serial_in (get slots.now k)) (row_of rows.now.entries) }
+    requires there { IsSome (row_of rows.now.entries serial) }
+    ensures { row_of rows.now.entries serial ≡ Some result }
+{
+    match slots.get(near.slot) {
+        Some(slot) if slot.serial == serial => near.slot,
+        _ => slot_of(rows, serial),
+    }
+}
+
 /// Puts a node into a slot that `reserve` made room for.
 fn occupy(slots: &mut Slab<Slot>, slot: Slot) -> usize
     requires { HasRoomFor slots.old 1 }
@@ -109,16 +128,21 @@ fn add_row(rows: &mut IndexMap<u64, usize, SerialHashing>, serial: u64, at: usiz
     }
 }
 
-/// Takes out the row of a serial.
-fn remove_row(rows: &mut IndexMap<u64, usize, SerialHashing>, serial: u64)
+/// Takes out the row of a serial that has one, and answers its slot.
+fn take_row(rows: &mut IndexMap<u64, usize, SerialHashing>, serial: u64) -> usize
+    requires { IsSome (row_of rows.old.entries serial) }
+    ensures at { row_of rows.old.entries serial ≡ Some result }
     ensures rows { (s : ℕ) → row_of rows.new.entries s ≡ (if serial == s then None else row_of rows.old.entries s) }
     ensures room { spare rows.old ≤ spare rows.new }
 {
-    rows.swap_remove(&serial);
+    match rows.swap_remove(&serial) {
+        Some(slot) => slot,
+        None => unreachable!(),
+    }
 }
 
 impl Arena {
-    ghost use Rattle.cg_arena.specs.Nodes.{HasNode, IsPlace, TakesNumber, IsListed, count_of as count_at, place_of as place_at, list_at, following, no_nodes, new_node, with_room, with_node, without_node, with_node_changed, node_finalized, node_numbered, counted_up, counted_down, with_node_moved, with_lists_merged};
+    ghost use Rattle.cg_arena.specs.Nodes.{HasNode, IsPlace, TakesNumber, IsListed, count_of as count_at, place_of as place_at, list_at, following, no_nodes, new_node, with_room, with_node, without_node, with_node_changed, node_finalized, node_numbered, node_lowered, counted_up, counted_down, with_node_moved, with_lists_merged};
     ghost use Rattle.cg_arena.specs.Slots.{node_of};
 
     /// No node. It takes no memory yet.
@@ -199,12 +223,25 @@ impl Arena {
         ensures drops { self.new ≡ without_node serial (with_room self.new.room self.old) }
         ensures room { self.old.room ≤ self.new.room }
     {
-        let at = slot_of(&self.rows, serial);
+        let _seat = self.drop_seat(serial);
+    }
+
+    /// `drop_node`, and `seat_of` before it.
+    pub fn drop_seat(&mut self, serial: u64) -> (KindCode, usize)
+        requires has { HasNode self.old serial }
+        requires unheld { count_at self.old serial ≡ 0 }
+        ensures drops { self.new ≡ without_node serial (with_room self.new.room self.old) }
+        ensures room { self.old.room ≤ self.new.room }
+        ensures code { IfSome (map.get self.old.nodes serial) (λ n. result.0 ≡ n.code) }
+        ensures body { IfSome (map.get self.old.nodes serial) (λ n. result.1 ≡ n.body) }
+    {
+        let at = take_row(&mut self.rows, serial);
         let slot = slot_at(&self.slots, at);
+        let seat = (slot.code, slot.body);
         let from = number_of(slot.place);
         self.ends[from] = unlink(&mut self.slots, self.ends[from], slot);
         self.slots.remove(at);
-        remove_row(&mut self.rows, serial);
+        seat
     }
 
     /// The count rises by 1. It is below 2^32 - 1 before. (Developer guide: the count is the number of references.)
@@ -244,6 +281,15 @@ impl Arena {
         ensures { map.get self.now.nodes serial ≡ Some (node_of result) }
     {
         let at = slot_of(&self.rows, serial);
+        slot_at(&self.slots, at)
+    }
+
+    /// `node`, where it is near.
+    fn node_near(&self, serial: u64, near: Near) -> Slot
+        requires { HasNode self.now serial }
+        ensures { map.get self.now.nodes serial ≡ Some (node_of result) }
+    {
+        let at = slot_near(&self.slots, &self.rows, serial, near);
         slot_at(&self.slots, at)
     }
 
@@ -289,6 +335,36 @@ impl Arena {
         (slot.code, slot.body)
     }
 
+    /// `seat_of`, where the node is near.
+    pub fn seat_near(&self, serial: u64, near: Near) -> (KindCode, usize)
+        requires { HasNode self.now serial }
+        ensures code { IfSome (map.get self.now.nodes serial) (λ n. result.0 ≡ n.code) }
+        ensures body { IfSome (map.get self.now.nodes serial) (λ n. result.1 ≡ n.body) }
+    {
+        let slot = self.node_near(serial, near);
+        (slot.code, slot.body)
+    }
+
+    /// The kind, the place and the collector's number, by one look-up.
+    pub fn head_of(&self, serial: u64) -> Head
+        requires { HasNode self.now serial }
+        ensures code { IfSome (map.get self.now.nodes serial) (λ n. result.code ≡ n.code) }
+        ensures place { IfSome (map.get self.now.nodes serial) (λ n. result.place ≡ n.place) }
+        ensures number { IfSome (map.get self.now.nodes serial) (λ n. result.number ≡ n.number) }
+    {
+        Head::of(self.node(serial))
+    }
+
+    /// `head_of`, where the node is near.
+    pub fn head_near(&self, serial: u64, near: Near) -> Head
+        requires { HasNode self.now serial }
+        ensures code { IfSome (map.get self.now.nodes serial) (λ n. result.code ≡ n.code) }
+        ensures place { IfSome (map.get self.now.nodes serial) (λ n. result.place ≡ n.place) }
+        ensures number { IfSome (map.get self.now.nodes serial) (λ n. result.number ≡ n.number) }
+    {
+        Head::of(self.node_near(serial, near))
+    }
+
     /// The place, in whose list the node stands.
     pub fn place_of(&self, serial: u64) -> Place
         requires { HasNode self.now serial }
@@ -332,13 +408,43 @@ impl Arena {
         set_number(&mut self.slots, at, number);
     }
 
+    /// The collector's number of a node that is near, which stands in a generation or among the candidates, becomes its
+    /// count. (Developer guide, "Identifying reference cycles": `gc_refs` is set to the reference count.)
+    pub fn set_gc_to_count(&mut self, serial: u64, near: Near)
+        requires has { HasNode self.old serial }
+        requires place { TakesNumber (place_at self.old serial) }
+        ensures { self.new ≡ with_node_changed (node_numbered (count_at self.old serial)) serial self.old }
+    {
+        let at = slot_near(&self.slots, &self.rows, serial, near);
+        let number = slot_at(&self.slots, at).count;
+        set_number(&mut self.slots, at, number);
+    }
+
+    /// The collector's number of a candidate falls by 1, if it is above 0; any other node stays as it is.
+    pub fn lower(&mut self, serial: u64)
+        requires { HasNode self.old serial }
+        ensures { self.new ≡ with_node_changed node_lowered serial self.old }
+    {
+        let at = slot_of(&self.rows, serial);
+        lower_candidate(&mut self.slots, at);
+    }
+
     /// The node goes to the end of the list of a place, which may be its own. (Ours; CPython's `gc_list_move`.)
     pub fn move_to(&mut self, serial: u64, place: Place)
         requires has { HasNode self.old serial }
         requires place { IsPlace place }
         ensures { self.new ≡ with_node_moved serial place self.old }
     {
-        let at = slot_of(&self.rows, serial);
+        self.move_near(serial, Near::default(), place);
+    }
+
+    /// `move_to`, where the node is near.
+    pub fn move_near(&mut self, serial: u64, near: Near, place: Place)
+        requires has { HasNode self.old serial }
+        requires place { IsPlace place }
+        ensures { self.new ≡ with_node_moved serial place self.old }
+    {
+        let at = slot_near(&self.slots, &self.rows, serial, near);
         let slot = slot_at(&self.slots, at);
         let from = number_of(slot.place);
         self.ends[from] = unlink(&mut self.slots, self.ends[from], slot);
@@ -370,6 +476,27 @@ impl Arena {
         ensures { result ≡ slice_get (list_at self.now place) 0 }
     {
         serial_at(&self.slots, self.ends[number_of(place)].first)
+    }
+
+    /// `first`, and where it is.
+    pub fn first_near(&self, place: Place, near: &mut Near) -> Option<u64>
+        requires { IsPlace place }
+        ensures { result ≡ slice_get (list_at self.now place) 0 }
+    {
+        let first = self.ends[number_of(place)].first;
+        *near = Near::at(first);
+        serial_at(&self.slots, first)
+    }
+
+    /// `next` of a node that is near, and where that is. So a walk over a list looks nothing up.
+    pub fn next_near(&self, serial: u64, near: &mut Near) -> Option<u64>
+        requires { HasNode self.now serial }
+        ensures { result ≡ following serial (list_at self.now (place_at self.now serial)) }
+    {
+        let at = slot_near(&self.slots, &self.rows, serial, *near);
+        let after = slot_at(&self.slots, at).after;
+        *near = Near::at(after);
+        serial_at(&self.slots, after)
     }
 
     /// What comes after a node in its list, or `None` at the end.

@@ -7,8 +7,12 @@
 mod arena;
 mod ends;
 mod links;
+mod near;
 mod slot;
 #[cfg(test)]
 mod tests;
+mod word;
 
 pub use arena::Arena;
+pub use near::Near;
+pub use slot::Head;

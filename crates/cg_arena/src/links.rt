@@ -1,7 +1,7 @@
 //! Nodes in slots, and the links between them.
 ghost use Rattle.std.specs.Prelude.{◌≡◌, Some, IsSome, option_and_then, option_map, ◌+◌, ◌<◌, ◌^◌};
 ghost use Rattle.slab.specs.Slab.{get, ContainsKey};
-ghost use Rattle.cg_arena.specs.Slots.{with_after, with_before, with_place, with_count, with_mark, with_number, after_in};
+ghost use Rattle.cg_arena.specs.Slots.{with_after, with_before, with_place, with_count, with_mark, with_number, with_lowered, after_in};
 ghost use Rattle.cg_arena.specs.Links.{rewritten, after_set, before_set, tied, ends_without, ends_joined, place_set, all_placed, chain_from};
 
 use crate::ends::Ends;
@@ -57,6 +57,15 @@ pub fn set_number(slots: &mut Slab<Slot>, at: usize, number: u32)
     }
 }
 
+/// Lowers the collector's number of a candidate, if it is above 0.
+pub fn lower_candidate(slots: &mut Slab<Slot>, at: usize)
+    ensures { slots.new ≡ rewritten with_lowered at slots.old }
+{
+    if let Some(slot) = slots.get_mut(at) {
+        slot.lower();
+    }
+}
+
 /// Gives a node another place.
 pub fn set_place(slots: &mut Slab<Slot>, at: usize, place: Place)
     ensures { slots.new ≡ rewritten (with_place place) at slots.old }
@@ -99,8 +108,8 @@ fn tie(slots: &mut Slab<Slot>, before: Option<usize>, after: Option<usize>)
 /// Takes a slot out of its list, and answers the ends of the list then.
 pub fn unlink(slots: &mut Slab<Slot>, ends: Ends, slot: Slot) -> Ends
     requires { 0 < ends.size }
-    ensures slots { slots.new ≡ tied slot.before slot.after slots.old }
-    ensures ends { result ≡ ends_without slot.before slot.after ends }
+    ensures slots { slots.new ≡ tied slot.word.before slot.after slots.old }
+    ensures ends { result ≡ ends_without slot.word.before slot.after ends }
 {
     let before = slot.before();
     tie(slots, before, slot.after);

@@ -4,86 +4,118 @@
 ghost use Rattle.std.specs.Prelude.{◌≡◌, false, None};
 ghost use Rattle.cg_arena.specs.Nodes.{ArenaNode, new_node};
 
+use crate::word::Word;
 use cg_value::{KindCode, Place};
 
 /// A node, its serial, and the slots before and after it in the list of its place.
-#[derive(Clone, Copy, Debug)]
+///
+/// It takes 64 bytes.
+#[derive(Clone, Copy)]
 pub struct Slot {
     pub serial: u64,
-    pub code: KindCode,
-    pub class: Option<u32>,
     pub body: usize,
-    pub count: u32,
-    finalized: bool,
-    pub place: Place,
-    number: u32,
-    before: Option<usize>,
+    word: Word,
     pub after: Option<usize>,
+    pub class: Option<u32>,
+    pub count: u32,
+    pub place: Place,
+    pub code: KindCode,
 }
 
 impl Slot {
-    ghost use Rattle.cg_arena.specs.Slots.{node_of, with_mark, with_number, with_before};
+    ghost use Rattle.cg_arena.specs.Slots.{node_of, with_mark, with_number, with_lowered, with_before};
 
     /// A new node in no list: count 0, not finalized, the collector's number 0.
     pub fn new(serial: u64, code: KindCode, class: Option<u32>, body: usize, place: Place) -> Slot
         ensures node { node_of result ≡ new_node code class body place }
         ensures serial { result.serial ≡ serial }
-        ensures before { result.before ≡ None }
+        ensures before { result.word.before ≡ None }
         ensures after { result.after ≡ None }
     {
         Slot {
             serial,
-            code,
-            class,
             body,
-            count: 0,
-            finalized: false,
-            place,
-            number: 0,
-            before: None,
+            word: Word::new(),
             after: None,
+            class,
+            count: 0,
+            place,
+            code,
         }
     }
 
     /// Whether the object was finalized.
     pub fn is_finalized(&self) -> bool
-        ensures { result ≡ self.now.finalized }
+        ensures { result ≡ self.now.word.marked }
     {
-        self.finalized
+        self.word.is_marked()
     }
 
     /// Marks the object as finalized.
     pub fn mark_finalized(&mut self)
         ensures { self.new ≡ with_mark self.old }
     {
-        self.finalized = true;
+        self.word.mark();
     }
 
     /// The collector's number.
     pub fn number(&self) -> u32
-        ensures { result ≡ self.now.number }
+        ensures { result ≡ self.now.word.number }
     {
-        self.number
+        self.word.number()
     }
 
     /// Gives the node another collector's number.
     pub fn set_number(&mut self, number: u32)
         ensures { self.new ≡ with_number number self.old }
     {
-        self.number = number;
+        self.word.set_number(number);
+    }
+
+    /// Lowers the collector's number of a candidate, if it is above 0.
+    pub fn lower(&mut self)
+        ensures { self.new ≡ with_lowered self.old }
+    {
+        if let Place::Cand = self.place {
+            let number = self.number().saturating_sub(1);
+            self.set_number(number);
+        }
     }
 
     /// The slot before it in its list.
     pub fn before(&self) -> Option<usize>
-        ensures { result ≡ self.now.before }
+        ensures { result ≡ self.now.word.before }
     {
-        self.before
+        self.word.before()
     }
 
     /// Names another slot as the one before it.
     pub fn set_before(&mut self, before: Option<usize>)
         ensures { self.new ≡ with_before before self.old }
     {
-        self.before = before;
+        self.word.set_before(before);
+    }
+}
+
+/// What kind of object it is, where it stands, and the collector's number.
+#[derive(Clone, Copy, Debug)]
+pub struct Head {
+    pub code: KindCode,
+    pub place: Place,
+    pub number: u32,
+}
+
+impl Head {
+    /// Those of a slot.
+    pub fn of(slot: Slot) -> Head
+        ensures code { result.code ≡ slot.code }
+        ensures place { result.place ≡ slot.place }
+        ensures number { result.number ≡ slot.word.number }
+    {
+        Head {
+            code: slot.code,
+            place: slot.place,
+            number: slot.number(),
+        }
     }
 }

@@ -8,6 +8,7 @@ ghost use Rattle.cg_collect.specs.Ready.{IsEmptyAt};
 ghost use Rattle.cg_collect.specs.Starting.{SetsLegacyAside, SetsFinalizedAside, Closes, SetsReferencesAside};
 ghost use Rattle.cg_trial.specs.View.{targets};
 
+use cg_arena::Near;
 use cg_death::finalizers_of;
 use cg_heap::Heap;
 use cg_kind::Kind;
@@ -29,12 +30,14 @@ fn set_finalized_aside<B: Kind>(heap: &mut Heap<B>, script: &Script)
     ensures { SetsFinalizedAside script.now heap.old heap.new }
 {
     heap.sound();
-    let mut next = heap.first(Place::Cand);
+    let mut near = Near::default();
+    let mut next = heap.first_near(Place::Cand, &mut near);
     'objects: while let Some(object) = next {
         heap.sound();
-        next = heap.next(object);
+        let here = near;
+        next = heap.next_near(object, &mut near);
         if finalizers_of(heap, script, object).legacy.is_some() {
-            heap.move_to(object, Place::Legacy);
+            heap.move_near(object, here, Place::Legacy);
         }
     }
     heap.sound();

@@ -5,6 +5,7 @@ ghost use Rattle.cg_graph.specs.Store.{IsLive};
 ghost use Rattle.cg_heap.specs.Calls.{IsLiveValue, may_be_tracked};
 ghost use Rattle.cg_collect.specs.Starting.{Untracks, UntracksSurvivors, UntracksOne, has_tracked};
 
+use cg_arena::Near;
 use cg_heap::Heap;
 use cg_kind::Kind;
 use cg_value::{KindCode, Place, Val};
@@ -27,33 +28,35 @@ fn untrack_kind<B: Kind>(heap: &mut Heap<B>, generation: u8, kind: KindCode)
     ensures { Untracks generation kind heap.old heap.new }
 {
     heap.sound();
-    let mut next = heap.first(Place::Gen(generation));
+    let mut near = Near::default();
+    let mut next = heap.first_near(Place::Gen(generation), &mut near);
     'objects: while let Some(object) = next {
         heap.sound();
-        next = heap.next(object);
-        untrack_one(heap, object, kind);
+        let here = near;
+        next = heap.next_near(object, &mut near);
+        untrack_one(heap, object, here, kind);
     }
     heap.sound();
 }
 
-/// One of them.
-fn untrack_one<B: Kind>(heap: &mut Heap<B>, object: u64, kind: KindCode)
+/// One of them, which is near.
+fn untrack_one<B: Kind>(heap: &mut Heap<B>, object: u64, near: Near, kind: KindCode)
     requires { IsLive heap.old object }
     ensures { UntracksOne object kind heap.old heap.new }
 {
-    if heap.kind_of(object) == kind && !has_tracked(heap, object) {
-        heap.move_to(object, Place::Untracked);
+    if heap.head_near(object, near).code == kind && !has_tracked(heap, object, near) {
+        heap.move_near(object, near, Place::Untracked);
     }
 }
 
-/// Whether a reference of an object may be tracked.
-fn has_tracked<B: Kind>(heap: &Heap<B>, object: u64) -> bool
+/// Whether a reference of an object that is near may be tracked.
+fn has_tracked<B: Kind>(heap: &Heap<B>, object: u64, near: Near) -> bool
     requires { IsLive heap.now object }
     ensures { result ≡ has_tracked heap.now object }
 {
     heap.sound();
-    'entries: for i in 0..heap.len(object) {
-        let entry = heap.entry_at(object, i);
+    'entries: for i in 0..heap.len_near(object, near) {
+        let entry = heap.entry_near(object, i, near);
         if may_be_tracked(heap, entry.val) || may_be_tracked(heap, entry.key) {
             return true;
         }
@@ -68,7 +71,8 @@ fn may_be_tracked<B: Kind>(heap: &Heap<B>, val: Val) -> bool
 {
     match val {
         Val::Ref(object) => {
-            heap.kind_of(object) != KindCode::Tuple || heap.place_of(object) != Place::Untracked
+            let head = heap.head_of(object);
+            head.code != KindCode::Tuple || head.place != Place::Untracked
         }
         _ => false,
     }

@@ -5,12 +5,12 @@ ghost use Rattle.cg_value.specs.declared.Val.TheVariants as val_of;
 ghost use Rattle.cg_graph.specs.Value.{references, references_of_value};
 ghost use Rattle.cg_graph.specs.Object.{first_place as place_at_first};
 ghost use Rattle.cg_graph.specs.Holdings.{occurrences};
-ghost use Rattle.cg_arena.specs.Nodes.{HasNode, count_of as count_at, counted_up, new_node, with_node, with_room};
+ghost use Rattle.cg_arena.specs.Nodes.{HasNode, count_of as count_at, counted_up, new_node, with_node, without_node, with_room};
 ghost use Rattle.cg_heap.specs.Keeps.{seat_in};
 ghost use Rattle.cg_heap.specs.Calls.{number_less};
 
 use crate::boxes::Seat;
-use cg_arena::Arena;
+use cg_arena::{Arena, Near};
 use cg_value::{Entry, KindCode, Place, Val};
 use std::alloc::{AllocError, Global};
 
@@ -20,6 +20,26 @@ pub fn seat_of(arena: &Arena, object: u64) -> Seat
     ensures { seat_in (fin.get arena.now.nodes object) ≡ Some (result.code, result.body) }
 {
     let (code, body) = arena.seat_of(object);
+    Seat { code, body }
+}
+
+/// `seat_of`, where the object is near.
+pub fn seat_near(arena: &Arena, object: u64, near: Near) -> Seat
+    requires { HasNode arena.now object }
+    ensures { seat_in (fin.get arena.now.nodes object) ≡ Some (result.code, result.body) }
+{
+    let (code, body) = arena.seat_near(object, near);
+    Seat { code, body }
+}
+
+/// The node of an object that nothing counts is gone. It answers where its entries are.
+pub fn drop_seat(arena: &mut Arena, object: u64) -> Seat
+    requires has { HasNode arena.old object }
+    requires unheld { count_at arena.old object ≡ 0 }
+    ensures seat { seat_in (fin.get arena.old.nodes object) ≡ Some (result.code, result.body) }
+    ensures drops { arena.new ≡ without_node object (with_room arena.new.room arena.old) }
+{
+    let (code, body) = arena.drop_seat(object);
     Seat { code, body }
 }
 

@@ -12,13 +12,14 @@ mod bindings;
 mod entries;
 mod holds;
 mod look;
+mod near;
 mod objects;
 mod places;
 mod weak;
 
 use crate::boxes::Boxes;
 use crate::counts::{seat_of, unbound};
-use cg_arena::Arena;
+use cg_arena::{Arena, Head};
 use cg_kind::Kind;
 use cg_value::{Entry, KindCode, Place, Val};
 use cg_weak::WeakTable;
@@ -167,6 +168,16 @@ impl<B: Kind> Heap<B> {
         ensures { IfSome (fin.get self.now.nodes object) (λ n. result ≡ n.number) }
     {
         self.arena.gc_of(object)
+    }
+
+    /// The kind, the place and the collector's number, by one look-up.
+    pub fn head_of(&self, object: u64) -> Head
+        requires { IsLive self.now object }
+        ensures code { IfSome (fin.get self.now.nodes object) (λ n. result.code ≡ n.code) }
+        ensures place { result.place ≡ place_at self.now object }
+        ensures number { IfSome (fin.get self.now.nodes object) (λ n. result.number ≡ n.number) }
+    {
+        self.arena.head_of(object)
     }
 
     /// The number of entries.

@@ -8,7 +8,7 @@
 //! - `boxes`: the six boxes as one.
 //! - `counts`: the counts of the nodes.
 //! - `heap`: the type, and what it answers; `heap/holds`, `heap/bindings`, `heap/entries`, `heap/places`,
-//!   `heap/objects`, `heap/weak` and `heap/look`: its other calls.
+//!   `heap/objects`, `heap/weak`, `heap/look` and `heap/near`: its other calls.
 //! - `steps`: the counter of looks at entries.
 #![tactic(auto)]
 

@@ -1,30 +1,33 @@
 //! What the search asks of the heap, over what it sees of it.
-ghost use Rattle.std.specs.Prelude.{◌≡◌, ◌↔◌, IsTrue};
+ghost use Rattle.std.specs.Prelude.{◌≡◌, ◌↔◌, ◌<◌, ◌∷◌, [], IsTrue};
 ghost use Rattle.cg_graph.specs.Member.{Includes};
+ghost use Rattle.cg_graph.specs.Store.{place_of};
 ghost use Rattle.cg_arena.specs.Nodes.{IsPlace};
-ghost use Rattle.cg_trial.specs.View.{view_of, Numbered, Moved, IsNext};
+ghost use Rattle.cg_trial.specs.View.{view_of, Numbered, Moved, Lowered, IsNext};
 
+use cg_arena::Near;
 use cg_heap::Heap;
 use cg_kind::Kind;
 use cg_value::Place;
 
-/// Whether the object is a candidate. Then it stands in no other place.
-pub fn is_candidate<B: Kind>(heap: &Heap<B>, object: u64) -> bool
-    requires { IsTrue ((view_of heap.now).live object) }
+/// Whether the object, which stands in this place, is a candidate. Then it stands in no other place.
+pub fn is_candidate<B: Kind>(heap: &Heap<B>, object: u64, place: Place) -> bool
+    requires live { IsTrue ((view_of heap.now).live object) }
+    requires stands { place ≡ place_of heap.now object }
     ensures is { IsTrue result ↔ Includes ((view_of heap.now).listed Place.Cand) object }
     ensures alone { IsTrue result → (p : Place) → Includes ((view_of heap.now).listed p) object → Place.Cand ≡ p }
 {
     heap.sound();
-    matches!(heap.place_of(object), Place::Cand)
+    matches!(place, Place::Cand)
 }
 
-/// The object after this one in the list of its place.
-pub fn following<B: Kind>(heap: &Heap<B>, object: u64) -> Option<u64>
+/// The object after this one, which is near, in the list of its place, and where that is.
+pub fn following<B: Kind>(heap: &Heap<B>, object: u64, near: &mut Near) -> Option<u64>
     requires { IsTrue ((view_of heap.now).live object) }
     ensures { IsNext (view_of heap.now) object result }
 {
     heap.sound();
-    heap.next(object)
+    heap.next_near(object, near)
 }
 
 /// Gives a candidate another number.
@@ -37,12 +40,32 @@ pub fn set_number<B: Kind>(heap: &mut Heap<B>, object: u64, number: u32)
     heap.set_gc(object, number);
 }
 
-/// The object goes to the end of the list of a place.
-pub fn move_last<B: Kind>(heap: &mut Heap<B>, object: u64, place: Place)
+/// The number of a candidate that is near becomes its in-degree.
+pub fn number_by_degree<B: Kind>(heap: &mut Heap<B>, object: u64, near: Near)
+    requires live { IsTrue ((view_of heap.old).live object) }
+    requires candidate { Includes ((view_of heap.old).listed Place.Cand) object }
+    ensures { Numbered object ((view_of heap.old).degree object) (view_of heap.old) (view_of heap.new) }
+{
+    heap.sound();
+    heap.set_gc_to_refs(object, near);
+}
+
+/// The number of the object, if it is a candidate, is one lower.
+pub fn lower_number<B: Kind>(heap: &mut Heap<B>, object: u64)
+    requires live { IsTrue ((view_of heap.old).live object) }
+    requires room { Includes ((view_of heap.old).listed Place.Cand) object → 0 < (view_of heap.old).number object }
+    ensures { Lowered (object ∷ []) (view_of heap.old) (view_of heap.new) }
+{
+    heap.sound();
+    heap.lower(object);
+}
+
+/// The object, which may be near, goes to the end of the list of a place.
+pub fn move_last<B: Kind>(heap: &mut Heap<B>, object: u64, near: Near, place: Place)
     requires live { IsTrue ((view_of heap.old).live object) }
     requires place { IsPlace place }
     ensures { Moved object place (view_of heap.old) (view_of heap.new) }
 {
     heap.sound();
-    heap.move_to(object, place);
+    heap.move_near(object, near, place);
 }

@@ -12,7 +12,10 @@ ghost use Rattle.cg_trial.specs.Paths.{entries_in};
 ghost use Rattle.cg_trial.specs.Sift.{Woken, IsApart, IsSifted, IsSieved};
 ghost use Rattle.cg_trial.specs.Split.{IsSplitPlace, kept_place, entry_number_at, IsSameButPlaces};
 
-use crate::candidates::{following, is_candidate, move_last, set_number};
+use crate::candidates::{
+    following, is_candidate, lower_number, move_last, number_by_degree, set_number,
+};
+use cg_arena::Near;
 use cg_heap::{Heap, Steps};
 use cg_kind::Kind;
 use cg_value::{Place, Val};
@@ -24,11 +27,11 @@ fn copy<B: Kind>(heap: &mut Heap<B>)
     ensures same { IsSameButNumbers (view_of heap.old) (view_of heap.new) }
     ensures copied { (o : ℕ) → Includes ((view_of heap.old).listed Place.Cand) o → (view_of heap.new).number o ≡ (view_of heap.old).degree o }
 {
-    let mut cursor = heap.first(Place::Cand);
+    let mut near = Near::default();
+    let mut cursor = heap.first_near(Place::Cand, &mut near);
     'objects: while let Some(object) = cursor {
-        let count = heap.refs(object) as u32;
-        set_number(heap, object, count);
-        cursor = following(heap, object);
+        number_by_degree(heap, object, near);
+        cursor = following(heap, object, &mut near);
     }
 }
 
@@ -39,23 +42,20 @@ fn lower<B: Kind>(heap: &mut Heap<B>, value: Val)
     ensures { Lowered (targets value) (view_of heap.old) (view_of heap.new) }
 {
     if let Val::Ref(object) = value {
-        if is_candidate(heap, object) {
-            let number = heap.gc_of(object) - 1;
-            set_number(heap, object, number);
-        }
+        lower_number(heap, object);
     }
 }
 
-/// Each reference of the object's entries lowers its candidate's number by one.
-fn lower_all<B: Kind, L: Ledger>(heap: &mut Heap<B>, object: u64, steps: &mut Steps<L>)
+/// Each reference of the entries of an object that is near lowers its candidate's number by one.
+fn lower_all<B: Kind, L: Ledger>(heap: &mut Heap<B>, object: u64, near: Near, steps: &mut Steps<L>)
     requires ready { IsReady (view_of heap.old) }
     requires live { IsTrue ((view_of heap.old).live object) }
     requires room { (o : ℕ) → Includes ((view_of heap.old).listed Place.Cand) o → occurrences o (references ((view_of heap.old).entries object)) ≤ (view_of heap.old).number o }
     ensures lowered { Lowered (references ((view_of heap.old).entries object)) (view_of heap.old) (view_of heap.new) }
     ensures looks { steps.new ≡ steps.old + length ((view_of heap.old).entries object) }
 {
-    for i in 0..heap.len(object) {
-        let entry = heap.look(object, i, steps);
+    for i in 0..heap.len_near(object, near) {
+        let entry = heap.look_near(object, i, near, steps);
         lower(heap, entry.val);
         lower(heap, entry.key);
     }
@@ -68,10 +68,11 @@ fn subtract<B: Kind, L: Ledger>(heap: &mut Heap<B>, steps: &mut Steps<L>)
     ensures lowered { Lowered (held_by (view_of heap.old) ((view_of heap.old).listed Place.Cand)) (view_of heap.old) (view_of heap.new) }
     ensures looks { steps.new ≡ steps.old + entries_in (view_of heap.old) ((view_of heap.old).listed Place.Cand) }
 {
-    let mut cursor = heap.first(Place::Cand);
+    let mut near = Near::default();
+    let mut cursor = heap.first_near(Place::Cand, &mut near);
     'objects: while let Some(object) = cursor {
-        lower_all(heap, object, steps);
-        cursor = following(heap, object);
+        lower_all(heap, object, near, steps);
+        cursor = following(heap, object, &mut near);
     }
 }
 
@@ -82,24 +83,30 @@ fn take_back<B: Kind>(heap: &mut Heap<B>, value: Val)
     ensures { Woken (targets value) (view_of heap.old) (view_of heap.new) }
 {
     if let Val::Ref(object) = value {
-        if is_candidate(heap, object) {
-            if heap.gc_of(object) == 0 {
+        let head = heap.head_of(object);
+        if is_candidate(heap, object, head.place) {
+            if head.number == 0 {
                 set_number(heap, object, 1);
-                move_last(heap, object, Place::Cand);
+                move_last(heap, object, Near::default(), Place::Cand);
             }
         }
     }
 }
 
-/// What the object's entries refer to is taken back.
-fn take_back_all<B: Kind, L: Ledger>(heap: &mut Heap<B>, object: u64, steps: &mut Steps<L>)
+/// What the entries of an object that is near refer to is taken back.
+fn take_back_all<B: Kind, L: Ledger>(
+    heap: &mut Heap<B>,
+    object: u64,
+    near: Near,
+    steps: &mut Steps<L>,
+)
     requires ready { IsReady (view_of heap.old) }
     requires live { IsTrue ((view_of heap.old).live object) }
     ensures woken { Woken (references ((view_of heap.old).entries object)) (view_of heap.old) (view_of heap.new) }
     ensures looks { steps.new ≡ steps.old + length ((view_of heap.old).entries object) }
 {
-    for i in 0..heap.len(object) {
-        let entry = heap.look(object, i, steps);
+    for i in 0..heap.len_near(object, near) {
+        let entry = heap.look_near(object, i, near, steps);
         take_back(heap, entry.val);
         take_back(heap, entry.key);
     }
@@ -116,14 +123,16 @@ fn take_out<B: Kind, L: Ledger>(heap: &mut Heap<B>, kept: Place, steps: &mut Ste
     ensures later { steps.old ≤ steps.new }
     ensures looks { steps.new ≤ steps.old + entries_in (view_of heap.old) ((view_of heap.old).listed Place.Cand) }
 {
-    let mut cursor = heap.first(Place::Cand);
+    let mut near = Near::default();
+    let mut cursor = heap.first_near(Place::Cand, &mut near);
     'objects: while let Some(object) = cursor {
-        if heap.gc_of(object) == 0 {
-            cursor = following(heap, object);
+        if heap.head_near(object, near).number == 0 {
+            cursor = following(heap, object, &mut near);
         } else {
-            take_back_all(heap, object, steps);
-            cursor = following(heap, object);
-            move_last(heap, object, kept);
+            let here = near;
+            take_back_all(heap, object, here, steps);
+            cursor = following(heap, object, &mut near);
+            move_last(heap, object, here, kept);
         }
     }
 }

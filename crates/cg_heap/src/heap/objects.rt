@@ -14,7 +14,7 @@ ghost use Rattle.cg_graph.specs.Rows.{Row};
 ghost use Rattle.cg_heap.specs.Weak.{HasReferent, IsInNoRow, attached, with_new_row};
 
 use super::Heap;
-use crate::counts::{add_object, seat_of};
+use crate::counts::{add_object, drop_seat};
 use crate::fault::HeapFault;
 use cg_kind::Kind;
 use cg_value::{Entry, KindCode, Val};
@@ -122,9 +122,8 @@ impl<B: Kind> Heap<B> {
         requires no_row { IsInNoRow object self.old.rows }
         ensures { self.new ≡ gone object self.old }
     {
-        let seat = seat_of(&self.arena, object);
+        let seat = drop_seat(&mut self.arena, object);
         self.boxes.free(seat);
-        self.arena.drop_node(object);
         self.objects -= 1;
     }
 }

@@ -2,21 +2,21 @@ use Rattle.cg_collect.proofs.Untracked.{untracking_first, untracking_live, untra
 use Rattle.cg_collect.proofs.untracking.untrack_kind.Goals as goal
 
 pub objects-init : goal.objects-init
-objects-init g c = untracking_first c.args.generation c.args.kind c.args.heap.now c.first-next.result c.first-next.ensures
+objects-init g c = untracking_first c.args.generation c.args.kind c.args.heap.now c.first_near-next.result c.first_near-next.ensures
 
-pub next-next-requires : goal.next-next-requires
-next-next-requires g c = untracking_live c.args.generation c.args.kind c.args.heap.now c.objects.heap c.objects.next c.in-Some.object c.sound-in-Some.ensures.listed c.objects.invariant c.in-Some.is
+pub next_near-next-requires : goal.next_near-next-requires
+next_near-next-requires g c = untracking_live c.args.generation c.args.kind c.args.heap.now c.objects.heap c.objects.next c.in-Some.object c.sound-in-Some.ensures.listed c.objects.invariant c.in-Some.is
 
 pub untrack_one-requires : goal.untrack_one-requires
 untrack_one-requires g c = untracking_live c.args.generation c.args.kind c.args.heap.now c.objects.heap c.objects.next c.in-Some.object c.sound-in-Some.ensures.listed c.objects.invariant c.in-Some.is
 
 pub objects-smaller : goal.objects-smaller
 objects-smaller g c = untracking_shorter c.args.generation c.args.kind c.args.heap.now c.objects.heap c.objects.next c.in-Some.object c.sound-in-Some.ensures.listed c.objects.invariant c.in-Some.is
-    c.next-next.result c.next-next.ensures c.untrack_one.new.heap c.untrack_one.ensures
+    c.next_near-next.result c.next_near-next.ensures c.untrack_one.new.heap c.untrack_one.ensures
 
 pub objects-preserved : goal.objects-preserved
 objects-preserved g c = untracking_more c.args.generation c.args.kind c.args.heap.now c.objects.heap c.objects.next c.in-Some.object c.sound-in-Some.ensures.listed c.objects.invariant c.in-Some.is
-    c.next-next.result c.next-next.ensures c.untrack_one.new.heap c.untrack_one.ensures
+    c.next_near-next.result c.next_near-next.ensures c.untrack_one.new.heap c.untrack_one.ensures
 
 pub returns : goal.returns
 returns g c = untracking_done c.args.generation c.args.kind c.args.heap.now c.objects.heap c.objects.next c.sound-2.ensures.listed c.objects.invariant c.in_default.is

@@ -4,7 +4,7 @@ use Rattle.cg_trial.proofs.Entries.{subtracting_at, subtracting_first, subtracti
 use Rattle.cg_trial.proofs.subtraction.subtract.Goals as goal
 
 pub objects-init : goal.objects-init
-objects-init g c = subtracting_first _ _ _ c.first-cursor.ensures
+objects-init g c = subtracting_first _ _ _ c.first_near-cursor.ensures
 
 pub lower_all-requires-clause-ready : goal.lower_all-requires-clause-ready
 lower_all-requires-clause-ready g c = ready_same _ _ c.requires.ready c.objects.invariant.lowered.rest

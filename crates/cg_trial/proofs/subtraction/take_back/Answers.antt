@@ -7,10 +7,10 @@ use Rattle.cg_trial.proofs.Waking.{woken_one}
 use Rattle.cg_trial.proofs.Views.{number_told}
 use Rattle.cg_trial.proofs.subtraction.take_back.Goals as goal
 
-pub returns-then-gc_of-eq0 : goal.returns-then-gc_of-eq0
-returns-then-gc_of-eq0 g c =
+pub returns-then-head-eq0 : goal.returns-then-head-eq0
+returns-then-head-eq0 g c =
     let live = c.requires.live c.in-Ref.object (subst (λ (v : Val). Includes (targets v) c.in-Ref.object) (sym c.in-Ref.is) (inl refl)) in
     subst (λ (v : Val). Woken (targets v) (view_of c.args.heap.now) (view_of c.move_last.new.heap)) (sym c.in-Ref.is)
     (woken_one c.in-Ref.object (view_of c.args.heap.now) (view_of c.set_number.new.heap) (view_of c.move_last.new.heap) c.requires.ready
     (c.is_candidate.ensures.is.0 c.if-is_candidate.true) (c.is_candidate.ensures.alone c.if-is_candidate.true)
-    (sym (number_told c.args.heap.now c.in-Ref.object _ live c.gc_of.ensures) ∙ c.if-gc_of-eq0.true) c.set_number.ensures c.move_last.ensures)
+    (sym (number_told c.args.heap.now c.in-Ref.object _ live c.head_of-head.ensures.number) ∙ c.if-head-eq0.true) c.set_number.ensures c.move_last.ensures)

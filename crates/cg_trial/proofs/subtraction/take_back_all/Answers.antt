@@ -12,23 +12,23 @@ take_back-requires-clause-ready g c = waking_ready _ _ _ _ c.requires.ready c.lo
 
 pub take_back-requires-clause-live : goal.take_back-requires-clause-live
 take_back-requires-clause-live g c =
-    entry_live_value _ (view_of c.args.heap.now) (view_of c.loop-i.heap) _ _ c.requires.ready c.requires.live c.loop-i.invariant.waking.woken.same c.look-entry.ensures.entry
+    entry_live_value _ (view_of c.args.heap.now) (view_of c.loop-i.heap) _ _ c.requires.ready c.requires.live c.loop-i.invariant.waking.woken.same c.look_near-entry.ensures.entry
 
 pub take_back-requires-in-loop-i-clause-ready : goal.take_back-requires-in-loop-i-clause-ready
 take_back-requires-in-loop-i-clause-ready g c = woken_ready _ _ _ (waking_ready _ _ _ _ c.requires.ready c.loop-i.invariant.waking) c.take_back.ensures
 
 pub take_back-requires-in-loop-i-clause-live : goal.take_back-requires-in-loop-i-clause-live
 take_back-requires-in-loop-i-clause-live g c =
-    entry_live_key _ (view_of c.args.heap.now) (view_of c.loop-i.heap) _ _ _ c.requires.ready c.requires.live c.loop-i.invariant.waking.woken.same c.take_back.ensures.same c.look-entry.ensures.entry
+    entry_live_key _ (view_of c.args.heap.now) (view_of c.loop-i.heap) _ _ _ c.requires.ready c.requires.live c.loop-i.invariant.waking.woken.same c.take_back.ensures.same c.look_near-entry.ensures.entry
 
 pub loop-i-preserved : goal.loop-i-preserved
 loop-i-preserved g c = record {
-  waking = waking_more _ _ _ _ _ _ _ c.loop-i.invariant.waking c.look-entry.ensures.entry c.take_back.ensures c.take_back-in-loop-i.ensures;
+  waking = waking_more _ _ _ _ _ _ _ c.loop-i.invariant.waking c.look_near-entry.ensures.entry c.take_back.ensures c.take_back-in-loop-i.ensures;
   looks = omega arith;
 }
 
-pub look-entry-requires-clause-live : goal.look-entry-requires-clause-live
-look-entry-requires-clause-live g c = live_same (view_of c.args.heap.now) (view_of c.loop-i.heap) c.args.object c.loop-i.invariant.waking.woken.same c.requires.live
+pub look_near-entry-requires-clause-live : goal.look_near-entry-requires-clause-live
+look_near-entry-requires-clause-live g c = live_same (view_of c.args.heap.now) (view_of c.loop-i.heap) c.args.object c.loop-i.invariant.waking.woken.same c.requires.live
 
-pub look-entry-requires-clause-within : goal.look-entry-requires-clause-within
-look-entry-requires-clause-within g c = omega (arith, length_same (view_of c.args.heap.now) (view_of c.loop-i.heap) c.args.object c.loop-i.invariant.waking.woken.same)
+pub look_near-entry-requires-clause-within : goal.look_near-entry-requires-clause-within
+look_near-entry-requires-clause-within g c = omega (arith, length_same (view_of c.args.heap.now) (view_of c.loop-i.heap) c.args.object c.loop-i.invariant.waking.woken.same)

@@ -8,25 +8,25 @@ use Rattle.cg_trial.proofs.subtraction.take_out.Goals as goal
 
 pub objects-init : goal.objects-init
 objects-init g c = record {
-  sifting = sifting_first _ _ _ c.requires.empty c.first-cursor.ensures;
+  sifting = sifting_first _ _ _ c.requires.empty c.first_near-cursor.ensures;
   looks = empty_entries (view_of c.args.heap.now) _ _ c.requires.empty;
 }
 
-pub gc_of-requires : goal.gc_of-requires
-gc_of-requires g c = let so = sifting_at _ (view_of c.args.heap.now) (view_of c.objects.heap) _ _ c.objects.invariant.sifting c.in-Some.is in
+pub head_near-requires : goal.head_near-requires
+head_near-requires g c = let so = sifting_at _ (view_of c.args.heap.now) (view_of c.objects.heap) _ _ c.objects.invariant.sifting c.in-Some.is in
     sifting_live _ _ _ _ c.requires.ready so
 
 pub following-cursor-requires : goal.following-cursor-requires
 following-cursor-requires g c = let so = sifting_at _ (view_of c.args.heap.now) (view_of c.objects.heap) _ _ c.objects.invariant.sifting c.in-Some.is in
     sifting_live _ _ _ _ c.requires.ready so
 
-pub objects-smaller-then-gc_of-eq0 : goal.objects-smaller-then-gc_of-eq0
-objects-smaller-then-gc_of-eq0 g c = let so = sifting_at _ (view_of c.args.heap.now) (view_of c.objects.heap) _ _ c.objects.invariant.sifting c.in-Some.is in
+pub objects-smaller-then-head_near-eq0 : goal.objects-smaller-then-head_near-eq0
+objects-smaller-then-head_near-eq0 g c = let so = sifting_at _ (view_of c.args.heap.now) (view_of c.objects.heap) _ _ c.objects.invariant.sifting c.in-Some.is in
     pass_lighter _ _ _ _ _ _ c.requires.ready so c.in-Some.is c.following-cursor.ensures
 
-pub objects-preserved-then-gc_of-eq0 : goal.objects-preserved-then-gc_of-eq0
-objects-preserved-then-gc_of-eq0 g c = let so = sifting_at _ (view_of c.args.heap.now) (view_of c.objects.heap) _ _ c.objects.invariant.sifting c.in-Some.is in
-    record { sifting = sifting_pass _ _ _ _ _ so (sym (number_told c.objects.heap _ _ (sifting_live _ _ _ _ c.requires.ready so) c.gc_of.ensures) ∙ c.if-gc_of-eq0.true) c.following-cursor.ensures; looks = c.objects.invariant.looks }
+pub objects-preserved-then-head_near-eq0 : goal.objects-preserved-then-head_near-eq0
+objects-preserved-then-head_near-eq0 g c = let so = sifting_at _ (view_of c.args.heap.now) (view_of c.objects.heap) _ _ c.objects.invariant.sifting c.in-Some.is in
+    record { sifting = sifting_pass _ _ _ _ _ so (sym (number_told c.objects.heap _ _ (sifting_live _ _ _ _ c.requires.ready so) c.head_near.ensures.number) ∙ c.if-head_near-eq0.true) c.following-cursor.ensures; looks = c.objects.invariant.looks }
 
 pub take_back_all-requires-clause-ready : goal.take_back_all-requires-clause-ready
 take_back_all-requires-clause-ready g c = sifting_ready _ _ _ _ c.requires.ready c.objects.invariant.sifting
@@ -35,8 +35,8 @@ pub take_back_all-requires-clause-live : goal.take_back_all-requires-clause-live
 take_back_all-requires-clause-live g c = let so = sifting_at _ (view_of c.args.heap.now) (view_of c.objects.heap) _ _ c.objects.invariant.sifting c.in-Some.is in
     sifting_live _ _ _ _ c.requires.ready so
 
-pub following-cursor-requires-else-gc_of-eq0 : goal.following-cursor-requires-else-gc_of-eq0
-following-cursor-requires-else-gc_of-eq0 g c = let so = sifting_at _ (view_of c.args.heap.now) (view_of c.objects.heap) _ _ c.objects.invariant.sifting c.in-Some.is in
+pub following-cursor-requires-else-head_near-eq0 : goal.following-cursor-requires-else-head_near-eq0
+following-cursor-requires-else-head_near-eq0 g c = let so = sifting_at _ (view_of c.args.heap.now) (view_of c.objects.heap) _ _ c.objects.invariant.sifting c.in-Some.is in
     sifting_alive c.args.kept (view_of c.args.heap.now) (view_of c.objects.heap) (view_of c.take_back_all.new.heap) c.in-Some.object (references (entries_of c.objects.heap c.in-Some.object)) c.requires.ready so c.take_back_all.ensures.woken
 
 pub move_last-requires-clause-live : goal.move_last-requires-clause-live
@@ -45,13 +45,13 @@ move_last-requires-clause-live g c = let so = sifting_at _ (view_of c.args.heap.
 
 pub objects-smaller : goal.objects-smaller
 objects-smaller g c = let so = sifting_at _ (view_of c.args.heap.now) (view_of c.objects.heap) _ _ c.objects.invariant.sifting c.in-Some.is in
-    keep_lighter _ _ _ _ _ _ _ c.requires.ready c.requires.apart c.requires.alone so (λ z. c.if-gc_of-eq0.false (number_told c.objects.heap _ _ (sifting_live _ _ _ _ c.requires.ready so) c.gc_of.ensures ∙ z)) c.take_back_all.ensures.woken c.following-cursor-else-gc_of-eq0.ensures c.move_last.ensures _ c.in-Some.is
+    keep_lighter _ _ _ _ _ _ _ c.requires.ready c.requires.apart c.requires.alone so (λ z. c.if-head_near-eq0.false (number_told c.objects.heap _ _ (sifting_live _ _ _ _ c.requires.ready so) c.head_near.ensures.number ∙ z)) c.take_back_all.ensures.woken c.following-cursor-else-head_near-eq0.ensures c.move_last.ensures _ c.in-Some.is
 
 pub objects-preserved : goal.objects-preserved
 objects-preserved g c = let so = sifting_at _ (view_of c.args.heap.now) (view_of c.objects.heap) _ _ c.objects.invariant.sifting c.in-Some.is in
-    let more = keep_looks _ _ _ _ _ _ _ c.requires.ready c.requires.apart c.requires.alone so (λ z. c.if-gc_of-eq0.false (number_told c.objects.heap _ _ (sifting_live _ _ _ _ c.requires.ready so) c.gc_of.ensures ∙ z)) c.take_back_all.ensures.woken c.following-cursor-else-gc_of-eq0.ensures c.move_last.ensures in
+    let more = keep_looks _ _ _ _ _ _ _ c.requires.ready c.requires.apart c.requires.alone so (λ z. c.if-head_near-eq0.false (number_told c.objects.heap _ _ (sifting_live _ _ _ _ c.requires.ready so) c.head_near.ensures.number ∙ z)) c.take_back_all.ensures.woken c.following-cursor-else-head_near-eq0.ensures c.move_last.ensures in
     record {
-      sifting = sifting_keep _ _ _ _ _ _ _ c.requires.ready c.requires.apart c.requires.alone so (λ z. c.if-gc_of-eq0.false (number_told c.objects.heap _ _ (sifting_live _ _ _ _ c.requires.ready so) c.gc_of.ensures ∙ z)) c.take_back_all.ensures.woken c.following-cursor-else-gc_of-eq0.ensures c.move_last.ensures;
+      sifting = sifting_keep _ _ _ _ _ _ _ c.requires.ready c.requires.apart c.requires.alone so (λ z. c.if-head_near-eq0.false (number_told c.objects.heap _ _ (sifting_live _ _ _ _ c.requires.ready so) c.head_near.ensures.number ∙ z)) c.take_back_all.ensures.woken c.following-cursor-else-head_near-eq0.ensures c.move_last.ensures;
       looks = omega arith;
     }
 

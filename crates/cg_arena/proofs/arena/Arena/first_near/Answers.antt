@@ -1,0 +1,12 @@
+use Rattle.std.proofs.Common.{ap, ◌∙◌}
+use Rattle.std.specs.Prelude.{slice_get}
+use Rattle.indexmap.specs.IndexMap.{spare}
+use Rattle.cg_graph.specs.Places.{list_of}
+use Rattle.cg_arena.proofs.Lookups.{first_is}
+use Rattle.cg_arena.proofs.arena.Arena.first_near.Goals as goal
+
+pub returns : goal.returns
+returns c =
+    c.serial_at.ensures
+    ∙ first_is c.self.inside.slots c.self.inside.ends c.self.inside.rows.entries (spare c.self.inside.rows) c.args.self.now c.self.view_is c.self.invariant c.number_of.result c.number_of.ensures.below
+    ∙ ap (λ p. slice_get (list_of c.args.self.now.lists p) 0) c.number_of.ensures.number

@@ -1,0 +1,6 @@
+use Rattle.std.proofs.Common.{Some, sym, ap, ◌∙◌}
+use Rattle.cg_arena.specs.Slots.{serial_in}
+use Rattle.cg_arena.proofs.arena.slot_near.Goals as goal
+
+pub returns-in-Some : goal.returns-in-Some
+returns-in-Some c = c.requires.named.named c.args.near.slot c.args.serial (ap serial_in (sym c.in-Some.ensures) ∙ ap Some c.if-slot-serial.true)
