@@ -4,7 +4,7 @@ use Rattle.cg_collect.specs.declared.phase.Phase.{Phase}
 use Rattle.cg_collect.specs.declared.phase.Phase.TheVariants as phase_of
 use Rattle.cg_collect.specs.Turns.{pass_of, passes_on}
 use Rattle.cg_collect.specs.Looks.{most_looks}
-use Rattle.cg_looks.specs.Whole.{Step, AreSteps, looks_after, looks_at_start, looks_at_split, CollectionsLookTwice}
+use Rattle.cg_collect.specs.WholeCollections.{Step, AreSteps, looks_after, looks_at_start, looks_at_split, CollectionsLookTwice}
 
 -- Past the second detection no step looks at any.
 past_split : (g : ℕ) (phase : Phase) (looks : ℕ) (steps : List Step) → 7 ≤ pass_of phase → AreSteps g phase looks steps → looks_after looks steps ≤ looks

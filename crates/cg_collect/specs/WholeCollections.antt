@@ -1,4 +1,4 @@
--- The steps of one collection, and how many entries they look at together.
+-- The steps of a whole collection, and how many entries they look at together. (Ours.)
 use Rattle.std.specs.Prelude.{◌≡◌, ℕ, ◌+◌, ◌≤◌, List, [], ◌∷◌}
 use Rattle.cg_graph.specs.Store.{Store}
 use Rattle.cg_collect.specs.declared.phase.Phase.{Phase}
