@@ -161,10 +161,6 @@ module _ (script : Script) (store : Store) (v : World) (o : ℕ) (below : List A
     keeps = record { numbers = refl; budget = refl; outcome = refl };
   }
 
--- a turn that hands out a frame
-abbrev pub running : Phase → FrameSpec → Turn
-running phase spec = record { phase = phase; release = None; answer = answer_of.Frame spec }
-
 -- the turns of these phases
 module _ (script : Script) (store new : Store) (o : ℕ) where
   pub turn-no_finalizer : option_and_then (finalizer_to_run script) (object_at (objects_of store) o) ≡ None → DeathSteps script store (activities o phase_of.Finalizer None store) store (activities o phase_of.Clearing None store) answer_of.Continue

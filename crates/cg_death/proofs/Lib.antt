@@ -22,6 +22,6 @@ pub mod RowsLeft
 pub mod Steadying
 pub mod SteadyRows
 pub mod SteadySteps
-pub mod HoldNumbers
-pub mod NamesKept
+pub mod LeavingTheRest
+pub mod TakingTurns
 mod ClassesKept

@@ -13,10 +13,7 @@ ghost use Rattle.cg_heap.specs.Calls.{HasFewHolds};
 ghost use Rattle.cg_heap.specs.Weak.{cleared_weak};
 ghost use Rattle.cg_death.specs.declared.phase.Phase.TheVariants as phase_of;
 ghost use Rattle.cg_death.specs.Activities.{IsUnheld, HasHolds, AreNewer, HasCallback, HaveCallbacks};
-ghost use Rattle.cg_death.specs.Answers.{TurnSteps, TurnAnswers, MakesNone};
-ghost use Rattle.cg_death.specs.Falls.{TurnFalls};
-ghost use Rattle.cg_death.specs.Deaths.{LeavesSettled, GoesOnAfter};
-ghost use Rattle.cg_death.specs.Steady.{TurnStaysSteady, TakesFewHolds, KeepsNames, TurnStandsAfterFrame, TurnDiesUnheld};
+ghost use Rattle.cg_death.specs.Turns.{TakesTurn};
 
 use crate::finalizers::finalizers_of;
 use crate::phase::{Phase, Turn};
@@ -32,19 +29,7 @@ pub fn clear_one<B: Kind>(object: u64, heap: &mut Heap<B>) -> Turn
     requires few { HasFewHolds heap.old }
     requires unheld { IsUnheld heap.old object }
     requires newer { AreNewer heap.old object }
-    ensures steps { (script : Script) →
-        TurnSteps script heap.old object phase_of.Clearing heap.new result }
-    ensures falls { TurnFalls heap.old object phase_of.Clearing heap.new result }
-    ensures answers { TurnAnswers object phase_of.Clearing heap.new result }
-    ensures settled { LeavesSettled result }
-    ensures going { GoesOnAfter result }
-    ensures objects { MakesNone heap.old heap.new }
-    ensures holds { TakesFewHolds heap.old heap.new }
-    ensures names { KeepsNames heap.old heap.new }
-    ensures framed { TurnStandsAfterFrame result }
-    ensures died { TurnDiesUnheld result heap.new }
-    ensures steady { (script : Script) →
-        TurnStaysSteady script heap.old object phase_of.Clearing heap.new result }
+    ensures { (script : Script) → TakesTurn script heap.old object phase_of.Clearing heap.new result }
 {
     heap.sound();
     match newest_to_clear(object, heap) {
@@ -103,19 +88,7 @@ pub fn call_one<B: Kind>(object: u64, heap: &mut Heap<B>) -> Turn
     requires few { HasFewHolds heap.old }
     requires live { IsLive heap.old object }
     requires callbacks { HaveCallbacks heap.old object }
-    ensures steps { (script : Script) →
-        TurnSteps script heap.old object phase_of.Calling heap.new result }
-    ensures falls { TurnFalls heap.old object phase_of.Calling heap.new result }
-    ensures answers { TurnAnswers object phase_of.Calling heap.new result }
-    ensures settled { LeavesSettled result }
-    ensures going { GoesOnAfter result }
-    ensures objects { MakesNone heap.old heap.new }
-    ensures holds { TakesFewHolds heap.old heap.new }
-    ensures names { KeepsNames heap.old heap.new }
-    ensures framed { TurnStandsAfterFrame result }
-    ensures died { TurnDiesUnheld result heap.new }
-    ensures steady { (script : Script) →
-        TurnStaysSteady script heap.old object phase_of.Calling heap.new result }
+    ensures { (script : Script) → TakesTurn script heap.old object phase_of.Calling heap.new result }
 {
     match heap.newest_waiting(object) {
         None => Turn::to(Phase::LegacyFinalizer),
@@ -128,19 +101,7 @@ fn call_back<B: Kind>(object: u64, weak: u64, heap: &mut Heap<B>) -> Turn
     requires few { HasFewHolds heap.old }
     requires callbacks { HaveCallbacks heap.old object }
     requires newest { slice_get (waiting_in heap.old.rows object) 0 ≡ Some weak }
-    ensures steps { (script : Script) →
-        TurnSteps script heap.old object phase_of.Calling heap.new result }
-    ensures falls { TurnFalls heap.old object phase_of.Calling heap.new result }
-    ensures answers { TurnAnswers object phase_of.Calling heap.new result }
-    ensures settled { LeavesSettled result }
-    ensures going { GoesOnAfter result }
-    ensures objects { MakesNone heap.old heap.new }
-    ensures holds { TakesFewHolds heap.old heap.new }
-    ensures names { KeepsNames heap.old heap.new }
-    ensures framed { TurnStandsAfterFrame result }
-    ensures died { TurnDiesUnheld result heap.new }
-    ensures steady { (script : Script) →
-        TurnStaysSteady script heap.old object phase_of.Calling heap.new result }
+    ensures { (script : Script) → TakesTurn script heap.old object phase_of.Calling heap.new result }
 {
     heap.sound();
     let callback = take_callback(weak, heap);
@@ -170,19 +131,7 @@ fn take_callback<B: Kind>(weak: u64, heap: &mut Heap<B>) -> u64
 pub fn end_call<B: Kind>(object: u64, weak: u64, callback: u64, heap: &mut Heap<B>) -> Turn
     requires unheld { IsUnheld heap.old object }
     requires held { HasHolds heap.old (callback ∷ weak ∷ []) }
-    ensures steps { (script : Script) →
-        TurnSteps script heap.old object (phase_of.AfterCall weak callback) heap.new result }
-    ensures falls { TurnFalls heap.old object (phase_of.AfterCall weak callback) heap.new result }
-    ensures answers { TurnAnswers object (phase_of.AfterCall weak callback) heap.new result }
-    ensures settled { LeavesSettled result }
-    ensures going { GoesOnAfter result }
-    ensures objects { MakesNone heap.old heap.new }
-    ensures holds { TakesFewHolds heap.old heap.new }
-    ensures names { KeepsNames heap.old heap.new }
-    ensures framed { TurnStandsAfterFrame result }
-    ensures died { TurnDiesUnheld result heap.new }
-    ensures steady { (script : Script) →
-        TurnStaysSteady script heap.old object (phase_of.AfterCall weak callback) heap.new result }
+    ensures { (script : Script) → TakesTurn script heap.old object (phase_of.AfterCall weak callback) heap.new result }
 {
     let answer = give_up(heap, callback);
     Turn {
@@ -195,17 +144,7 @@ pub fn end_call<B: Kind>(object: u64, weak: u64, callback: u64, heap: &mut Heap<
 /// The newest weak reference that the object's own frames made loses it, without callback.
 pub fn detach_one<B: Kind>(object: u64, heap: &mut Heap<B>, script: &Script) -> Turn
     requires { IsLive heap.old object }
-    ensures steps { TurnSteps script.now heap.old object phase_of.Detaching heap.new result }
-    ensures falls { TurnFalls heap.old object phase_of.Detaching heap.new result }
-    ensures answers { TurnAnswers object phase_of.Detaching heap.new result }
-    ensures settled { LeavesSettled result }
-    ensures going { GoesOnAfter result }
-    ensures objects { MakesNone heap.old heap.new }
-    ensures holds { TakesFewHolds heap.old heap.new }
-    ensures names { KeepsNames heap.old heap.new }
-    ensures framed { TurnStandsAfterFrame result }
-    ensures died { TurnDiesUnheld result heap.new }
-    ensures steady { TurnStaysSteady script.now heap.old object phase_of.Detaching heap.new result }
+    ensures { TakesTurn script.now heap.old object phase_of.Detaching heap.new result }
 {
     heap.sound();
     match newest_to_detach(object, heap, script) {

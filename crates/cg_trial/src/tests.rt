@@ -1,5 +1,5 @@
 //! Small graphs in a heap over six kinds, split. What is to be left is found by hand, and what is kept by the plain search.
-ghost use Rattle.std.specs.Prelude.{◌≡◌, ◌<◌, map, replicate, slice_get, IfOk, IfSome, None};
+ghost use Rattle.std.specs.Prelude.{◌≡◌, ◌<◌, ◌≤◌, ◌+◌, map, replicate, slice_get, IfOk, IfSome, None};
 ghost use Rattle.std.specs.List.{All};
 ghost use Rattle.std.specs.FinMap as fin;
 ghost use Rattle.cg_value.specs.declared.Val.{Val};
@@ -366,6 +366,53 @@ fn check_row<B: Kind, L: Ledger>(
     Ok(())
 }
 
+/// Splits generation 0, where one object with three entries stands, and nothing among the candidates. It stops where that
+/// is not so.
+fn split_one_of_three<B: Kind, L: Ledger>(
+    rt: &impl Abort,
+    heap: &mut Heap<B>,
+    steps: &mut Steps<L>,
+)
+    ensures least { steps.old + 3 ≤ steps.new }
+    ensures most { steps.new ≤ steps.old + 6 }
+{
+    heap.sound();
+    assert!(rt; heap.size(Place::Gen(0)) == 1);
+    assert!(rt; heap.size(Place::Cand) == 0);
+    assert!(rt; heap.size(Place::Back) == 0);
+    let Some(object) = heap.first(Place::Gen(0)) else {
+        panic!(rt; "no object stands in generation 0");
+    };
+    assert!(rt; heap.len(object) == 3);
+    split(heap, Place::Gen(0), steps);
+}
+
+/// Splits a list that holds itself three times: each of its entries is looked at, and none more than twice.
+fn look_at_three<B: Kind, L: Ledger>(
+    rt: &impl Abort,
+    alloc: Global,
+    kinds: Vec<B>,
+    blank: Blank,
+) -> Result<Steps<L>, Fail>
+    requires kinds { map B.kind kinds.items ≡ six_kinds }
+    requires empty { map B.bodies kinds.items ≡ replicate 6 fin.empty }
+    requires name { blank.name ≡ L.name }
+    requires parts { blank.parts ≡ L.parts }
+    requires some { 0 < blank.parts }
+    ensures least { IfOk result (λ looks. 3 ≤ looks) }
+    ensures most { IfOk result (λ looks. looks ≤ 6) }
+{
+    let mut scene = Scene::new(alloc, kinds)?;
+    build(&mut scene, rt, Graph::HoldsItselfThrice)?;
+    release_others(&mut scene, rt, alloc, &[])?;
+    let mut steps = Steps::<L>::new(blank);
+    let Scene { mut heap, .. } = scene;
+    split_one_of_three(rt, &mut heap, &mut steps);
+    let left = serials_in(alloc, &heap, Place::Cand)?;
+    assert_eq!(rt; left.as_slice(), &[2u64]);
+    Ok(steps)
+}
+
 fn table_row(graph: Graph, held: &'static [u64], left: &'static [u64]) -> Row {
     Row {
         graph,
@@ -402,5 +449,12 @@ fn what_no_path_reaches_is_left(rt: HostRuntime) -> Result<(), Fail> {
     for row in rows {
         check_row::<AnyKind, Brand>(&rt, alloc, six(alloc)?, Blank::new(1), row)?;
     }
+    Ok(())
+}
+
+#[test]
+fn three_entries_are_looked_at_three_to_six_times(rt: HostRuntime) -> Result<(), Fail> {
+    let alloc = rt.alloc();
+    let _ = look_at_three::<AnyKind, Brand>(&rt, alloc, six(alloc)?, Blank::new(1))?;
     Ok(())
 }
