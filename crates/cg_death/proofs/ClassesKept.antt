@@ -1,8 +1,7 @@
 -- The classes that a script's lines keep are those that the machine reads in them.
-use Rattle.std.proofs.Common.{◌≡◌, refl, sym, ap, ℕ, List, [], ◌∷◌, slice_get, Some, None}
+use Rattle.std.proofs.Common.{◌≡◌, refl, ap, List, [], ◌∷◌}
 use Rattle.cg_script.specs.declared.Item.{Item}
 use Rattle.cg_script.specs.declared.Item.TheVariants.{Budget, Class, Def, Run}
-use Rattle.cg_script.specs.declared.ClassDef.{ClassDef}
 use Rattle.cg_script.specs.Classes.{classes_in}
 use Rattle.cg_machine.specs.Program.{classes}
 

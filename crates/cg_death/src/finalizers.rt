@@ -65,7 +65,7 @@ pub fn finalizers_of<B: Kind>(heap: &Heap<B>, script: &Script, object: u64) -> F
 }
 
 /// The finalizer of an object, if it has not run. (PEP 442: a finalizer is called once.)
-fn finalizer_to_run<B: Kind>(heap: &Heap<B>, script: &Script, object: u64) -> Option<u32>
+pub fn finalizer_to_run<B: Kind>(heap: &Heap<B>, script: &Script, object: u64) -> Option<u32>
     requires { IsLive heap.now object }
     ensures { result ≡
         option_and_then (finalizer_to_run script.now) (object_at (objects_of heap.now) object) }
@@ -89,7 +89,10 @@ pub fn run_finalizer<B: Kind>(object: u64, heap: &mut Heap<B>, script: &Script) 
             heap.move_to(object, Place::Gen(0));
             heap.set_finalized(object);
             heap.hold(object);
-            Turn::runs(frame(FrameSort::Del, proc, object), Phase::AfterFinalizer)
+            Turn::runs(
+                finalizer_frame(FrameSort::Del, proc, object),
+                Phase::AfterFinalizer,
+            )
         }
     }
 }
@@ -105,13 +108,16 @@ pub fn run_legacy<B: Kind>(object: u64, heap: &mut Heap<B>, script: &Script) -> 
         Some(proc) => {
             heap.move_to(object, Place::Gen(0));
             heap.hold(object);
-            Turn::runs(frame(FrameSort::Legacy, proc, object), Phase::AfterLegacy)
+            Turn::runs(
+                finalizer_frame(FrameSort::Legacy, proc, object),
+                Phase::AfterLegacy,
+            )
         }
     }
 }
 
-/// The frame of a finalizer.
-fn frame(sort: FrameSort, proc: u32, object: u64) -> FrameSpec
+/// The frame of a finalizer or a legacy finalizer.
+pub fn finalizer_frame(sort: FrameSort, proc: u32, object: u64) -> FrameSpec
     ensures { result ≡ record { sort = sort; proc = proc; subject = object; func = None } }
 {
     FrameSpec {

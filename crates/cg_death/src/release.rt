@@ -34,7 +34,7 @@ impl Release {
     }
 
     /// Gives up a hold of one object.
-    pub(crate) fn of(object: u64) -> Release
+    pub fn of(object: u64) -> Release
         ensures { references_left result ≡ object ∷ [] }
     {
         Release {

@@ -1,5 +1,5 @@
 //! The phases on weak references: they lose the object, and the callbacks of those that waited are called.
-ghost use Rattle.std.specs.Prelude.{◌≡◌, ◌<◌, ◌∷◌, [], ℕ, Some, None, true, false, IfSome, IsSome, slice_get, option_map, if◌then◌else◌, is_some, unwrap_or};
+ghost use Rattle.std.specs.Prelude.{◌≡◌, ◌<◌, ◌∷◌, [], ℕ, Some, None, true, false, IfSome, IsSome, slice_get, option_map, option_and_then, if◌then◌else◌, is_some, unwrap_or};
 ghost use Rattle.cg_script.specs.declared.Script.{Script};
 ghost use Rattle.cg_value.specs.declared.Val.TheVariants as val_of;
 ghost use Rattle.cg_graph.specs.Value.{item};
@@ -7,6 +7,7 @@ ghost use Rattle.cg_graph.specs.Object.{object_at};
 ghost use Rattle.cg_graph.specs.Rows.{referent_in, waiting_in};
 ghost use Rattle.cg_graph.specs.Store.{IsLive, entries_of, objects_of};
 ghost use Rattle.cg_graph.specs.Changes.{held, rewritten};
+ghost use Rattle.cg_machine.specs.declared.event.FrameSort.TheVariants as sort_of;
 ghost use Rattle.cg_machine.specs.Weak.{weak_references_if, has_weak_references, callback_of};
 ghost use Rattle.cg_machine.specs.Dying.{has_finalizers};
 ghost use Rattle.cg_heap.specs.Calls.{HasFewHolds};
@@ -77,10 +78,18 @@ fn has_callback<B: Kind>(weak: u64, heap: &Heap<B>) -> bool
     requires { IsLive heap.now weak }
     ensures { result ≡ is_some (callback_of (objects_of heap.now) weak) }
 {
+    callback_of(heap, weak).is_some()
+}
+
+/// The callback of a weak reference, if it has one.
+pub fn callback_of<B: Kind>(heap: &Heap<B>, weak: u64) -> Option<u64>
+    requires { IsLive heap.now weak }
+    ensures { result ≡ callback_of (objects_of heap.now) weak }
+{
     if heap.len(weak) == 0 {
-        return false;
+        return None;
     }
-    reference(heap.entry_at(weak, 0).val).is_some()
+    reference(heap.entry_at(weak, 0).val)
 }
 
 /// The newest weak reference that waits has its callback taken out and called; both are held.
@@ -106,13 +115,28 @@ fn call_back<B: Kind>(object: u64, weak: u64, heap: &mut Heap<B>) -> Turn
     heap.sound();
     let callback = take_callback(weak, heap);
     heap.forget_weak(weak);
-    let frame = FrameSpec {
+    Turn::runs(
+        callback_frame(heap, weak, callback),
+        Phase::AfterCall { weak, callback },
+    )
+}
+
+/// The frame of the callback of a weak reference.
+pub fn callback_frame<B: Kind>(heap: &Heap<B>, weak: u64, callback: u64) -> FrameSpec
+    requires { IsLive heap.now callback }
+    ensures { result ≡ record {
+      sort = sort_of.Callback;
+      proc = unwrap_or (option_and_then (λ x. x.class) (object_at (objects_of heap.now) callback)) 0;
+      subject = weak;
+      func = Some callback;
+    } }
+{
+    FrameSpec {
         sort: FrameSort::Callback,
         proc: heap.class_of(callback).unwrap_or(0),
         subject: weak,
         func: Some(callback),
-    };
-    Turn::runs(frame, Phase::AfterCall { weak, callback })
+    }
 }
 
 /// Takes the callback of a weak reference out of it. It is held from outside then.

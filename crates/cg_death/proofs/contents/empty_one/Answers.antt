@@ -19,16 +19,16 @@ returns-in-Some g c = λ script. record {
   steps = turn-taken script c.args.heap.now c.detach.new.self c.args.object c.in-Some.entry c.new.result c.sound.ensures.live c.in-Some.ensures.last c.in-Some.ensures.rest c.new.ensures;
   answers = tt;
   falls = λ e.
-    subst (λ st. Falls c.args.object c.args.heap.now phase_of.Emptying None st phase_of.Emptying (Some c.new.result)) (sym c.in-Some.ensures.rest)
-    (falls-taken c.args.heap.now c.args.object c.in-Some.entry c.new.result c.requires.unheld.live c.in-Some.ensures.last c.new.ensures);
+      subst (λ st. Falls c.args.object c.args.heap.now phase_of.Emptying None st phase_of.Emptying (Some c.new.result)) (sym c.in-Some.ensures.rest)
+      (falls-taken c.args.heap.now c.args.object c.in-Some.entry c.new.result c.requires.unheld.live c.in-Some.ensures.last c.new.ensures);
   going = λ e over. absurd (cc);
   ends = λ e. absurd (cc);
   framed = tt;
   died = tt;
   settled = tt;
   steady = λ s.
-    subst (λ st. IsSteadyAt script st c.args.object phase_of.Emptying (Some c.new.result)) (sym c.in-Some.ensures.rest)
-    (steady-taken script c.args.heap.now c.args.object c.in-Some.entry c.new.result c.sound.ensures c.in-Some.ensures.last c.new.ensures s);
+      subst (λ st. IsSteadyAt script st c.args.object phase_of.Emptying (Some c.new.result)) (sym c.in-Some.ensures.rest)
+      (steady-taken script c.args.heap.now c.args.object c.in-Some.entry c.new.result c.sound.ensures c.in-Some.ensures.last c.new.ensures s);
   rest = subst (LeavesTheRest c.args.heap.now) (sym c.in-Some.ensures.rest) (rest-taken c.in-Some.entry c.args.object (without_last (entries_of c.args.heap.now c.args.object)) c.args.heap.now);
 }
 

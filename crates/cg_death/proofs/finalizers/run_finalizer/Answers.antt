@@ -36,5 +36,5 @@ pub returns-in-Some : goal.returns-in-Some
 returns-in-Some g c =
     let new_is = c.hold.ensures ∙ ap (held (c.args.object ∷ [])) (c.set_finalized.ensures ∙ ap (with_node marked c.args.object) c.move_to.ensures) in
     runs c.args.script.now c.args.heap.now _ c.hold.new.self new_is c.args.object phase_of.Finalizer phase_of.AfterFinalizer c.runs.result (rest-own_frame c.args.object (Gen 0) c.args.heap.now) (steady-finalizer c.args.script.now c.args.heap.now c.args.object)
-    _ (c.runs.ensures ∙ ap (running phase_of.AfterFinalizer) c.frame.ensures)
+    _ (c.runs.ensures ∙ ap (running phase_of.AfterFinalizer) c.finalizer_frame.ensures)
     (turn-finalizer c.args.script.now c.args.heap.now c.hold.new.self c.args.object c.in-Some.proc (sym c.in-Some.ensures) c.requires.unheld.live c.requires.unheld.none new_is) refl refl (λ over. absurd (cc))

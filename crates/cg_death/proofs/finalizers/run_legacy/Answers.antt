@@ -28,5 +28,5 @@ pub returns-in-Some : goal.returns-in-Some
 returns-in-Some g c =
     let new_is = c.hold.ensures ∙ ap (held (c.args.object ∷ [])) c.move_to.ensures in
     runs c.args.script.now c.args.heap.now _ c.hold.new.self new_is c.args.object phase_of.LegacyFinalizer phase_of.AfterLegacy c.runs.result (rest-legacy_frame c.args.object (Gen 0) c.args.heap.now) (steady-legacy c.args.script.now c.args.heap.now c.args.object)
-    _ (c.runs.ensures ∙ ap (running phase_of.AfterLegacy) c.frame.ensures)
+    _ (c.runs.ensures ∙ ap (running phase_of.AfterLegacy) c.finalizer_frame.ensures)
     (turn-legacy c.args.script.now c.args.heap.now c.hold.new.self c.args.object c.in-Some.proc (sym c.finalizers_of.ensures.legacy ∙ c.in-Some.is) c.requires.unheld.live c.requires.unheld.none new_is) refl refl (λ over. absurd (cc))
