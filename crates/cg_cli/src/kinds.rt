@@ -1,131 +1,24 @@
-//! Six kinds for a run, each in a struct of the tests' own.
+//! Six kinds in boxes, for a run.
 ghost use Rattle.std.specs.Prelude.{◌≡◌, ◌++◌, ◌∷◌, [], OnOk, map, replicate, IfOk};
 ghost use Rattle.std.specs.FinMap as fin;
-ghost use Rattle.cg_value.specs.declared.KindCode.TheVariants as code;
 ghost use Rattle.cg_heap.specs.Boxes.{six_kinds};
 
+use cg_any_kind::AnyKind;
 use cg_kind::Kind;
-use cg_kinds::{DictKind, FuncKind, InstKind, ListKind, TupleKind, WeakKind};
-use cg_value::{Entry, KindCode, Val};
+use cg_value::KindCode;
 use std::alloc::{AllocError, Global};
 
-/// A kind in a struct of the tests' own.
-#[derive(Drop)]
-struct Own<K: Kind> {
-    kind: K,
-}
-
-impl<K: Kind> Kind for Own<K> {
-    ghost kind = { λ f. K.kind f.kind };
-
-    ghost bodies = { λ f. K.bodies f.kind };
-
-    fn code(&self) -> KindCode {
-        self.kind.code()
-    }
-
-    fn make(&mut self, parts: &[Entry]) -> Result<usize, AllocError> {
-        self.kind.make(parts)
-    }
-
-    fn len(&self, at: usize) -> usize {
-        self.kind.len(at)
-    }
-
-    fn entry_at(&self, at: usize, i: usize) -> Entry {
-        self.kind.entry_at(at, i)
-    }
-
-    fn find(&self, at: usize, key: Val) -> Option<usize> {
-        self.kind.find(at, key)
-    }
-
-    fn put(&mut self, at: usize, key: Val, val: Val) -> Result<Option<Val>, AllocError> {
-        self.kind.put(at, key, val)
-    }
-
-    fn take(&mut self, at: usize, i: usize) -> Entry {
-        self.kind.take(at, i)
-    }
-
-    fn detach(&mut self, at: usize) -> Option<Entry> {
-        self.kind.detach(at)
-    }
-
-    fn reserve(&mut self, at: usize, n: usize) -> Result<(), AllocError> {
-        self.kind.reserve(at, n)
-    }
-
-    fn append_reserved(&mut self, at: usize, val: Val) {
-        self.kind.append_reserved(at, val);
-    }
-
-    fn free(&mut self, at: usize) {
-        self.kind.free(at);
-    }
-}
-
-fn lists(alloc: Global) -> Result<Box<dyn Kind>, AllocError>
-    ensures kind { IfOk result (λ b. kind b ≡ code.List) }
-    ensures empty { IfOk result (λ b. bodies b ≡ fin.empty) }
-{
-    let kind = ListKind::new(alloc);
-    let boxed: Box<dyn Kind> = Box::new(alloc, Own { kind })?;
-    Ok(boxed)
-}
-
-fn tuples(alloc: Global) -> Result<Box<dyn Kind>, AllocError>
-    ensures kind { IfOk result (λ b. kind b ≡ code.Tuple) }
-    ensures empty { IfOk result (λ b. bodies b ≡ fin.empty) }
-{
-    let kind = TupleKind::new(alloc);
-    let boxed: Box<dyn Kind> = Box::new(alloc, Own { kind })?;
-    Ok(boxed)
-}
-
-fn dicts(alloc: Global) -> Result<Box<dyn Kind>, AllocError>
-    ensures kind { IfOk result (λ b. kind b ≡ code.Dict) }
-    ensures empty { IfOk result (λ b. bodies b ≡ fin.empty) }
-{
-    let kind = DictKind::new(alloc);
-    let boxed: Box<dyn Kind> = Box::new(alloc, Own { kind })?;
-    Ok(boxed)
-}
-
-fn instances(alloc: Global) -> Result<Box<dyn Kind>, AllocError>
-    ensures kind { IfOk result (λ b. kind b ≡ code.Inst) }
-    ensures empty { IfOk result (λ b. bodies b ≡ fin.empty) }
-{
-    let kind = InstKind::new(alloc);
-    let boxed: Box<dyn Kind> = Box::new(alloc, Own { kind })?;
-    Ok(boxed)
-}
-
-fn functions(alloc: Global) -> Result<Box<dyn Kind>, AllocError>
-    ensures kind { IfOk result (λ b. kind b ≡ code.Func) }
-    ensures empty { IfOk result (λ b. bodies b ≡ fin.empty) }
-{
-    let kind = FuncKind::new(alloc);
-    let boxed: Box<dyn Kind> = Box::new(alloc, Own { kind })?;
-    Ok(boxed)
-}
-
-fn weak_references(alloc: Global) -> Result<Box<dyn Kind>, AllocError>
-    ensures kind { IfOk result (λ b. kind b ≡ code.Weak) }
-    ensures empty { IfOk result (λ b. bodies b ≡ fin.empty) }
-{
-    let kind = WeakKind::new(alloc);
-    let boxed: Box<dyn Kind> = Box::new(alloc, Own { kind })?;
-    Ok(boxed)
-}
-
-/// One box more.
-fn push(kinds: &mut Vec<Box<dyn Kind>>, made: Box<dyn Kind>) -> Result<(), AllocError>
-    ensures codes { OnOk result (map (λ b. kind b) kinds.new.items ≡
-        map (λ b. kind b) kinds.old.items ++ kind made ∷ []) }
+/// One empty kind more, in a box.
+fn push(
+    kinds: &mut Vec<Box<dyn Kind>>,
+    alloc: Global,
+    code: KindCode,
+) -> Result<(), AllocError>
+    ensures codes { OnOk result (map (λ b. kind b) kinds.new.items ≡ map (λ b. kind b) kinds.old.items ++ code ∷ []) }
     ensures bodies { OnOk result (map (λ b. bodies b) kinds.new.items ≡
-        map (λ b. bodies b) kinds.old.items ++ bodies made ∷ []) }
+        map (λ b. bodies b) kinds.old.items ++ fin.empty ∷ []) }
 {
+    let made: Box<dyn Kind> = Box::new(alloc, AnyKind::new(alloc, code))?;
     kinds.push(made)?;
     Ok(())
 }
@@ -136,11 +29,11 @@ pub fn six(alloc: Global) -> Result<Vec<Box<dyn Kind>>, AllocError>
     ensures empty { IfOk result (λ kinds. map (λ b. bodies b) kinds.items ≡ replicate 6 fin.empty) }
 {
     let mut kinds: Vec<Box<dyn Kind>> = Vec::new(alloc);
-    push(&mut kinds, lists(alloc)?)?;
-    push(&mut kinds, tuples(alloc)?)?;
-    push(&mut kinds, dicts(alloc)?)?;
-    push(&mut kinds, instances(alloc)?)?;
-    push(&mut kinds, functions(alloc)?)?;
-    push(&mut kinds, weak_references(alloc)?)?;
+    push(&mut kinds, alloc, KindCode::List)?;
+    push(&mut kinds, alloc, KindCode::Tuple)?;
+    push(&mut kinds, alloc, KindCode::Dict)?;
+    push(&mut kinds, alloc, KindCode::Inst)?;
+    push(&mut kinds, alloc, KindCode::Func)?;
+    push(&mut kinds, alloc, KindCode::Weak)?;
     Ok(kinds)
 }

@@ -26,3 +26,4 @@ pub mod Losing
 pub mod WalkTurns
 pub mod GivingUp
 pub mod Stepping
+mod LookingTwice

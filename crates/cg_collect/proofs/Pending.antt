@@ -1,6 +1,6 @@
 -- The weak references that wait: their callbacks are called one after the other, and then each is given up.
 use Rattle.std.proofs.Common.{◌≡◌, ◌≢◌, refl, sym, ◌∙◌, ap, subst, ℕ, ◌+◌, ◌<◌, ◌≤◌, true, false, cond, not, List, [], ◌∷◌, ◌++◌, length, Option, Some, None, IsSome, inr, arith}
-use Rattle.std.specs.Prelude.{◌==◌, if◌then◌else◌, filter, drop, IfSome, option_map, option_and_then, slice_get, unwrap_or, is_some}
+use Rattle.std.specs.Prelude.{◌==◌, if◌then◌else◌, filter, drop, option_map, option_and_then, slice_get, unwrap_or, is_some}
 use Rattle.std.specs.FinMap as fin
 use Rattle.std.proofs.lemmas.Bool.{eq-eqb}
 use Rattle.cg_value.specs.declared.Entry.{Entry}
@@ -135,14 +135,6 @@ callback_lives store sound weak f has = known (entries_of store weak) refl (sym 
     known : (es : List Entry) → entries_of store weak ≡ es → callback_in es ≡ Some f → IsLive store f
     known [] is e = absurd (cc)
     known (x ∷ es) is e = value_lives store sound weak 0 x (ap (λ l. slice_get l 0) is) f (refers_to_it x.val f e)
-
--- the class of an object, by what the heap says
-pub class-at : (store : Store) (o : ℕ) (class : Option ℕ) → IsLive store o → IfSome (fin.get store.nodes o) (λ n. class ≡ n.class) → class ≡ option_and_then (λ x. x.class) (object_at (objects_of store) o)
-class-at store o class live is = known (fin.get store.nodes o) live is ∙ ap (option_and_then (λ (x : Object). x.class)) (sym (object-at store o))
-  where
-    known : (x : Option Node) → IsSome x → IfSome x (λ n. class ≡ n.class) → class ≡ option_and_then (λ (x : Object). x.class) (option_map (object_from store.rows o) x)
-    known None h e = absurd (cc)
-    known (Some n) h e = e
 
 -- an object of the heap is one of the world
 pub in_map : (store : Store) (o : ℕ) → is_in_map (objects_of store) o ≡ is_some (fin.get store.nodes o)
@@ -330,19 +322,7 @@ module _ (script : Script) (facts : Facts) (store : Store) (policy : Policy) whe
           keeps = record { budget = refl; outcome = refl };
         })
 
--- a value that is no reference
-pub no_reference : (v : Val) → ((f : ℕ) → v ≡ Ref f → ⊥) → None ≡ reference_in v
-no_reference Nothing none = refl
-no_reference (Int n) none = refl
-no_reference (Str s) none = refl
-no_reference (Ref o) none = absurd (none o refl)
-
 -- the callback of one that has one
 pub callback_there : (x : Option ℕ) → IsSome x → x ≡ Some (unwrap_or x 0)
 callback_there None h = absurd (cc)
 callback_there (Some f) h = refl
-
--- nor has one without entries
-pub no_entry : (entries : List Entry) → length entries ≡ 0 → None ≡ callback_in entries
-no_entry [] e = refl
-no_entry (x ∷ entries) e = absurd (omega (arith, e))

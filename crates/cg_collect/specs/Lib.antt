@@ -7,3 +7,4 @@ pub mod Numbers
 pub mod Collections
 pub mod Starting
 pub mod Saving
+pub mod WholeCollections

@@ -1,26 +1,24 @@
 //! The finalizer phase: condemned objects are looked at, and the finalizers that have not run are run. (PEP 442: a
 //! finalizer is called once.)
-ghost use Rattle.std.specs.Prelude.{◌≡◌, ◌∷◌, [], ℕ, Some, None, slice_get, option_and_then};
+ghost use Rattle.std.specs.Prelude.{◌≡◌, ◌∷◌, [], ℕ, Some, None, slice_get};
 ghost use Rattle.cg_script.specs.declared.Script.{Script as AnyScript};
 ghost use Rattle.cg_policy.specs.Policy.{Policy as Standing};
 ghost use Rattle.cg_value.specs.declared.Place.TheVariants as place_of;
-ghost use Rattle.cg_graph.specs.Object.{object_at};
-ghost use Rattle.cg_graph.specs.Store.{Store, IsLive, list_at, objects_of};
+ghost use Rattle.cg_graph.specs.Store.{Store, IsLive, list_at};
 ghost use Rattle.cg_graph.specs.Changes.{held, moved};
 ghost use Rattle.cg_heap.specs.Calls.{HasFewHolds, with_node, marked};
 ghost use Rattle.cg_machine.specs.declared.event.FrameSort.TheVariants as sort_of;
-ghost use Rattle.cg_machine.specs.Dying.{finalizer_to_run};
 ghost use Rattle.cg_collect.specs.declared.answer.CollectStep.TheVariants as answer_of;
 ghost use Rattle.cg_collect.specs.declared.collection.Facts.{Facts as AnyFacts};
 ghost use Rattle.cg_collect.specs.declared.phase.Phase.TheVariants as phase_of;
 ghost use Rattle.cg_collect.specs.Ready.{IsReadyAt};
 ghost use Rattle.cg_collect.specs.Turns.{TurnSteps, TurnFalls, TurnLeaves, StaysReady, KeepsObjects};
 
-use crate::phase::{Phase, Turn, release_of};
-use cg_death::finalizers_of;
+use crate::phase::{Phase, Turn};
+use cg_death::{Release, finalizer_frame, finalizer_to_run};
 use cg_heap::Heap;
 use cg_kind::Kind;
-use cg_machine::{FrameSort, FrameSpec};
+use cg_machine::FrameSort;
 use cg_script::Script;
 use cg_value::Place;
 
@@ -65,18 +63,6 @@ fn look_at<B: Kind>(heap: &mut Heap<B>, script: &Script, object: u64) -> Turn
     }
 }
 
-/// The finalizer of an object, if it has not run.
-fn finalizer_to_run<B: Kind>(heap: &Heap<B>, script: &Script, object: u64) -> Option<u32>
-    requires { IsLive heap.now object }
-    ensures { result ≡ option_and_then (finalizer_to_run script.now) (object_at (objects_of heap.now) object) }
-{
-    if heap.is_finalized(object) {
-        None
-    } else {
-        finalizers_of(heap, script, object).del
-    }
-}
-
 /// A finalizer runs: its object is marked, and held for its frame.
 fn run<B: Kind>(heap: &mut Heap<B>, object: u64, proc: u32) -> Turn
     requires live { IsLive heap.old object }
@@ -92,12 +78,7 @@ fn run<B: Kind>(heap: &mut Heap<B>, object: u64, proc: u32) -> Turn
     heap.move_to(object, Place::Seen);
     heap.set_finalized(object);
     heap.hold(object);
-    let frame = FrameSpec {
-        sort: FrameSort::Del,
-        proc,
-        subject: object,
-        func: None,
-    };
+    let frame = finalizer_frame(FrameSort::Del, proc, object);
     Turn::runs(frame, Phase::AfterFinalizing(object))
 }
 
@@ -108,5 +89,5 @@ pub fn after_finalizer(object: u64) -> Turn
     ensures falls { (store : Store) → TurnFalls store (phase_of.AfterFinalizing object) store result }
     ensures leaves { (store : Store) → TurnLeaves store (phase_of.AfterFinalizing object) store result }
 {
-    Turn::gives_up(release_of(object), Phase::Finalizing)
+    Turn::gives_up(Release::of(object), Phase::Finalizing)
 }

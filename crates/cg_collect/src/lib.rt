@@ -8,6 +8,7 @@
 //! - `start`: all before the weak phase; `untracking` and `legacy`, parts of it.
 //! - `weak`: the weak phase; `finalizing`: the finalizer phase.
 //! - `detection`: the second detection; `turns`: the clearing; `ending`: the end.
+//! - `laws`: what holds of whole collections.
 #![tactic(auto)]
 
 mod answer;
@@ -15,6 +16,7 @@ mod collection;
 mod detection;
 mod ending;
 mod finalizing;
+mod laws;
 mod legacy;
 mod phase;
 mod start;
@@ -24,3 +26,4 @@ mod weak;
 
 pub use answer::CollectStep;
 pub use collection::Collection;
+pub use laws::a_collection_looks_at_each_twice;

@@ -1,13 +1,11 @@
 //! Where a collection stands, and what a turn of one phase leaves.
 ghost use Rattle.std.specs.Prelude.{◌≡◌, ◌∷◌, [], Some, None, ◌≤◌};
 ghost use Rattle.cg_machine.specs.Collect.{older};
-ghost use Rattle.cg_death.specs.Activities.{references_left};
 ghost use Rattle.cg_collect.specs.declared.answer.CollectStep.TheVariants as answer_of;
 
 use crate::answer::CollectStep;
 use cg_death::Release;
 use cg_machine::{Event, FrameSpec};
-use cg_value::{Entry, Val};
 
 /// Where a collection stands. (PEP 442, "Disposal of cyclic isolates"; developer guide, "Destroying unreachable objects".)
 ///
@@ -130,16 +128,6 @@ impl Turn {
             answer: CollectStep::Continue,
         }
     }
-}
-
-/// A release of one hold of an object.
-pub fn release_of(object: u64) -> Release
-    ensures { references_left result ≡ object ∷ [] }
-{
-    Release::new(Entry {
-        key: Val::None,
-        val: Val::Ref(object),
-    })
 }
 
 /// The older generation, where survivors go.

@@ -12,7 +12,7 @@ ghost use Rattle.cg_collect.specs.Ready.{IsReadyAt};
 ghost use Rattle.cg_collect.specs.Turns.{TurnSteps, TurnFalls, TurnLeaves, StaysReady, KeepsObjects};
 
 use crate::collection::Facts;
-use crate::phase::{Phase, Turn, older, release_of};
+use crate::phase::{Phase, Turn, older};
 use bitflags::Flags;
 use cg_death::Release;
 use cg_heap::Heap;
@@ -84,7 +84,7 @@ pub fn empty_one<B: Kind>(heap: &mut Heap<B>, object: u64) -> Turn
     heap.sound();
     match heap.detach(object) {
         Some(entry) => Turn::gives_up(Release::new(entry), Phase::Turn(object)),
-        None => Turn::gives_up(release_of(object), Phase::AfterTurn(object)),
+        None => Turn::gives_up(Release::of(object), Phase::AfterTurn(object)),
     }
 }
 

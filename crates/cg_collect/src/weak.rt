@@ -20,11 +20,12 @@ ghost use Rattle.cg_collect.specs.Turns.{TurnSteps, TurnFalls, TurnLeaves, Stays
 
 use crate::answer::CollectStep;
 use crate::collection::Facts;
-use crate::phase::{Phase, Turn, older, release_of};
+use crate::phase::{Phase, Turn, older};
+use cg_death::{Release, callback_frame, callback_of};
 use cg_heap::Heap;
 use cg_kind::Kind;
-use cg_machine::{Event, FrameSort, FrameSpec};
-use cg_value::{Place, Val};
+use cg_machine::{Event, FrameSpec};
+use cg_value::Place;
 
 /// Looks at the next weak reference of the walk, or at the next condemned object.
 ///
@@ -117,20 +118,6 @@ fn waits<B: Kind>(heap: &Heap<B>, weak: u64) -> bool
     !is_condemned(heap, weak) && callback_of(heap, weak).is_some()
 }
 
-/// The callback of a weak reference, if it has one.
-fn callback_of<B: Kind>(heap: &Heap<B>, weak: u64) -> Option<u64>
-    requires { IsLive heap.now weak }
-    ensures { result ≡ callback_of (objects_of heap.now) weak }
-{
-    if heap.len(weak) == 0 {
-        return None;
-    }
-    match heap.entry_at(weak, 0).val {
-        Val::Ref(function) => Some(function),
-        _ => None,
-    }
-}
-
 /// The weak references to the next condemned object are looked at, or those to its referent; when all were, the callbacks
 /// follow.
 fn next_member<B: Kind>(heap: &mut Heap<B>, member: Option<u64>) -> Turn
@@ -174,13 +161,13 @@ pub fn call_one<B: Kind>(heap: &mut Heap<B>) -> Turn
 {
     heap.sound();
     match heap.first(Place::Pend) {
-        Some(weak) => Turn::runs(callback_frame(heap, weak), Phase::AfterCallback(weak)),
+        Some(weak) => Turn::runs(frame_of_callback(heap, weak), Phase::AfterCallback(weak)),
         None => Turn::to(Phase::Finalizing),
     }
 }
 
-/// The frame of the callback of a weak reference.
-fn callback_frame<B: Kind>(heap: &Heap<B>, weak: u64) -> FrameSpec
+/// The frame of the callback of a weak reference that has one.
+fn frame_of_callback<B: Kind>(heap: &Heap<B>, weak: u64) -> FrameSpec
     requires live { IsLive heap.now weak }
     requires callback { IsSome (callback_of (objects_of heap.now) weak) }
     ensures { let f = unwrap_or (callback_of (objects_of heap.now) weak) 0 in result ≡ record {
@@ -192,12 +179,7 @@ fn callback_frame<B: Kind>(heap: &Heap<B>, weak: u64) -> FrameSpec
 {
     heap.sound();
     let callback = callback_of(heap, weak).unwrap_or(0);
-    FrameSpec {
-        sort: FrameSort::Callback,
-        proc: heap.class_of(callback).unwrap_or(0),
-        subject: weak,
-        func: Some(callback),
-    }
+    callback_frame(heap, weak, callback)
 }
 
 /// The frame of a callback has ended: the weak reference is given up.
@@ -208,7 +190,7 @@ pub fn after_callback(weak: u64) -> Turn
     ensures falls { (store : Store) → TurnFalls store (phase_of.AfterCallback weak) store result }
     ensures leaves { (store : Store) (g : ℕ) → IsReadyAt store g (phase_of.AfterCallback weak) → TurnLeaves store (phase_of.AfterCallback weak) store result }
 {
-    Turn::gives_up(release_of(weak), Phase::AfterRelease(weak))
+    Turn::gives_up(Release::of(weak), Phase::AfterRelease(weak))
 }
 
 /// One that has died since it was given up is counted as collected; another gets older.

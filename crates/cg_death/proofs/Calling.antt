@@ -58,19 +58,23 @@ procedure-at store f = ap (option_and_then (λ (x : Object). x.class)) (object-a
     known None = refl
     known (Some n) = refl
 
--- what the heap says of it once the callback is out
-pub class-after : (store : Store) (weak f : ℕ) (entries : List Entry) (refs : List ℕ) (class : Option ℕ) → IsLive (held refs (rewritten weak entries store)) f → IfSome (fin.get (held refs (rewritten weak entries store)).nodes f) (λ n. class ≡ n.class) → class ≡ class_in (fin.get store.nodes f)
-class-after store weak f entries refs class live is =
-    known (fin.get (held refs (rewritten weak entries store)).nodes f) live is
-    ∙ ap class_in (get-mapped (λ s n. more (occurrences s refs) n) (rewritten weak entries store).nodes f)
-    ∙ kept (occurrences f refs) (fin.get (rewritten weak entries store).nodes f)
-    ∙ ap class_in (get-mapped (λ s n. if s == weak then with_entries entries n else n) store.nodes f)
-    ∙ changed (f == weak) (fin.get store.nodes f)
+-- what the heap says of it
+pub procedure-told : (store : Store) (f : ℕ) (class : Option ℕ) → IsLive store f → IfSome (fin.get store.nodes f) (λ n. class ≡ n.class) → class ≡ option_and_then (λ (x : Object). x.class) (object_at (objects_of store) f)
+procedure-told store f class live is = known (fin.get store.nodes f) live is ∙ sym (procedure-at store f)
   where
     known : (x : Option Node) → IsSome x → IfSome x (λ n. class ≡ n.class) → class ≡ class_in x
     known None h e = cc
     known (Some n) h e = e
 
+-- it is the same once the callback is out
+pub procedure-after : (store : Store) (weak f : ℕ) (entries : List Entry) (refs : List ℕ) → option_and_then (λ (x : Object). x.class) (object_at (objects_of (forgotten_weak weak (held refs (rewritten weak entries store)))) f) ≡ class_in (fin.get store.nodes f)
+procedure-after store weak f entries refs =
+    procedure-at (forgotten_weak weak (held refs (rewritten weak entries store))) f
+    ∙ ap class_in (get-mapped (λ s n. more (occurrences s refs) n) (rewritten weak entries store).nodes f)
+    ∙ kept (occurrences f refs) (fin.get (rewritten weak entries store).nodes f)
+    ∙ ap class_in (get-mapped (λ s n. if s == weak then with_entries entries n else n) store.nodes f)
+    ∙ changed (f == weak) (fin.get store.nodes f)
+  where
     kept : (k : ℕ) (x : Option Node) → class_in (option_map (more k) x) ≡ class_in x
     kept k None = refl
     kept k (Some n) = refl

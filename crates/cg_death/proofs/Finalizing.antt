@@ -20,9 +20,7 @@ use Rattle.cg_machine.specs.Dying.{dying, death_at, finalizer_to_run, run_finali
 use Rattle.cg_machine.specs.Represents.{Represents, death_waits}
 use Rattle.cg_heap.specs.Calls.{with_node, marked}
 use Rattle.cg_death.specs.declared.answer.DeathStep.TheVariants as answer_of
-use Rattle.cg_death.specs.declared.phase.Phase.{Phase}
 use Rattle.cg_death.specs.declared.phase.Phase.TheVariants as phase_of
-use Rattle.cg_death.specs.declared.phase.Turn.{Turn}
 use Rattle.cg_death.specs.Activities.{death_of, activities}
 use Rattle.cg_death.specs.Answers.{Stands, WentOn, GaveFrame, DeathSteps}
 use Rattle.cg_death.proofs.Worlds.{steps_at}
@@ -160,10 +158,6 @@ module _ (script : Script) (store : Store) (v : World) (o : ℕ) (below : List A
     };
     keeps = record { numbers = refl; budget = refl; outcome = refl };
   }
-
--- a turn that hands out a frame
-abbrev pub running : Phase → FrameSpec → Turn
-running phase spec = record { phase = phase; release = None; answer = answer_of.Frame spec }
 
 -- the turns of these phases
 module _ (script : Script) (store new : Store) (o : ℕ) where

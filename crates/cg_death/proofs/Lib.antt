@@ -24,3 +24,5 @@ pub mod SteadyRows
 pub mod SteadySteps
 pub mod HoldNumbers
 pub mod NamesKept
+pub mod LeavingTheRest
+pub mod TakingTurns

@@ -102,9 +102,9 @@ finalizers-test script None = refl
 finalizers-test script (Some x) = refl
 
 -- whether there is a callback, by the entries
-pub no_entries : (entries : List Entry) → length entries ≡ 0 → false ≡ is_some (callback_in entries)
-no_entries [] e = refl
-no_entries (x ∷ entries) e = absurd (omega (arith, e))
+pub no_entry : (entries : List Entry) → length entries ≡ 0 → None ≡ callback_in entries
+no_entry [] e = refl
+no_entry (x ∷ entries) e = absurd (omega (arith, e))
 
 pub first_entry : (entries : List Entry) (e : Entry) → slice_get entries 0 ≡ Some e → callback_in entries ≡ reference_in e.val
 first_entry [] e is = absurd (cc)

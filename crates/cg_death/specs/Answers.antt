@@ -119,9 +119,6 @@ IsCaused o phase new (answer_of.Frame spec) = CallsAt phase spec.sort
 IsCaused o phase new (answer_of.Died q) = (count_of new q ≡ 0) × (q ≢ o)
 IsCaused o phase new answer_of.Gone = phase ≡ phase_of.Over
 
-abbrev pub TurnAnswers : ℕ → Phase → Store → Turn → Type 0
-TurnAnswers o phase new turn = IsCaused o phase new turn.answer
-
 -- the answers after which a death may be over: a line, and that it has ended
 abbrev pub may_end : DeathStep → Bool
 may_end (answer_of.Emit event) = true

@@ -51,10 +51,6 @@ IsSettledAt phase (Some release) = GivesUpAt phase
 abbrev pub IsSettled : Death → Type 0
 IsSettled d = IsSettledAt d.phase d.release
 
--- the same of what a turn leaves
-abbrev pub LeavesSettled : Turn → Type 0
-LeavesSettled turn = IsSettledAt turn.phase turn.release
-
 -- Something of a death is on the stack, whatever the heap is,
 abbrev pub IsGoing : Death → Type 0
 IsGoing d = (store : Store) → on_stack d store ≢ []
@@ -66,10 +62,6 @@ IsOffStack d = (store : Store) → on_stack d store ≡ []
 -- After another answer than a line or the end, something of a death is left to be done.
 abbrev pub IsGoingAfter : DeathStep → Death → Type 0
 IsGoingAfter answer d = may_end answer ≡ false → IsGoing d
-
--- the same of a turn: its phase is not the last
-abbrev pub GoesOnAfter : Turn → Type 0
-GoesOnAfter turn = may_end turn.answer ≡ false → turn.phase ≢ phase_of.Over
 
 -- the object is gone, or was brought back
 abbrev pub IsOver : Death → Type 0

@@ -3,3 +3,4 @@ pub mod Answers
 pub mod Falls
 pub mod Deaths
 pub mod Steady
+pub mod Turns

@@ -93,9 +93,6 @@ abbrev pub StandsAfterFrame : DeathStep → Phase → Option Release → Type 0
 StandsAfterFrame (answer_of.Frame spec) phase release = IsPhaseAfter spec spec.sort phase × (release ≡ None)
 StandsAfterFrame answer phase release = Unit {0}
 
-abbrev pub TurnStandsAfterFrame : Turn → Type 0
-TurnStandsAfterFrame turn = StandsAfterFrame turn.answer turn.phase turn.release
-
 abbrev pub DeathStandsAfterFrame : DeathStep → Death → Type 0
 DeathStandsAfterFrame answer d = StandsAfterFrame answer d.phase d.release
 
@@ -103,6 +100,3 @@ DeathStandsAfterFrame answer d = StandsAfterFrame answer d.phase d.release
 abbrev pub DiesUnheld : DeathStep → Store → Type 0
 DiesUnheld (answer_of.Died q) store = IsUnheld store q
 DiesUnheld answer store = Unit {0}
-
-abbrev pub TurnDiesUnheld : Turn → Store → Type 0
-TurnDiesUnheld turn store = DiesUnheld turn.answer store

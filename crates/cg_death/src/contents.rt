@@ -5,10 +5,7 @@ ghost use Rattle.cg_heap.specs.Calls.{HasFewHolds};
 ghost use Rattle.cg_heap.specs.Weak.{IsInNoRow};
 ghost use Rattle.cg_death.specs.declared.phase.Phase.TheVariants as phase_of;
 ghost use Rattle.cg_death.specs.Activities.{IsUnheld};
-ghost use Rattle.cg_death.specs.Answers.{TurnSteps, TurnAnswers, MakesNone};
-ghost use Rattle.cg_death.specs.Falls.{TurnFalls};
-ghost use Rattle.cg_death.specs.Deaths.{LeavesSettled, GoesOnAfter};
-ghost use Rattle.cg_death.specs.Steady.{TurnStaysSteady, TakesFewHolds, KeepsNames, TurnStandsAfterFrame, TurnDiesUnheld};
+ghost use Rattle.cg_death.specs.Turns.{TakesTurn};
 
 use crate::answer::DeathStep;
 use crate::phase::{Phase, Turn};
@@ -22,19 +19,7 @@ pub fn empty_one<B: Kind>(object: u64, heap: &mut Heap<B>) -> Turn
     requires few { HasFewHolds heap.old }
     requires unheld { IsUnheld heap.old object }
     requires no_row { IsInNoRow object heap.old.rows }
-    ensures steps { (script : Script) →
-        TurnSteps script heap.old object phase_of.Emptying heap.new result }
-    ensures falls { TurnFalls heap.old object phase_of.Emptying heap.new result }
-    ensures answers { TurnAnswers object phase_of.Emptying heap.new result }
-    ensures settled { LeavesSettled result }
-    ensures going { GoesOnAfter result }
-    ensures objects { MakesNone heap.old heap.new }
-    ensures holds { TakesFewHolds heap.old heap.new }
-    ensures names { KeepsNames heap.old heap.new }
-    ensures framed { TurnStandsAfterFrame result }
-    ensures died { TurnDiesUnheld result heap.new }
-    ensures steady { (script : Script) →
-        TurnStaysSteady script heap.old object phase_of.Emptying heap.new result }
+    ensures { (script : Script) → TakesTurn script heap.old object phase_of.Emptying heap.new result }
 {
     heap.sound();
     match heap.detach(object) {

@@ -12,10 +12,10 @@ ghost use Rattle.cg_heap.specs.Weak.{cleared_weak};
 ghost use Rattle.cg_death.specs.declared.answer.DeathStep.TheVariants as answer_of;
 ghost use Rattle.cg_death.specs.declared.phase.Phase.TheVariants as phase_of;
 ghost use Rattle.cg_death.specs.Activities.{IsUnheld, HasHolds, IsReadyAt, own_holds_at, death_of};
-ghost use Rattle.cg_death.specs.Answers.{DeathSteps, TurnSteps, TurnAnswers, MakesNone};
-ghost use Rattle.cg_death.specs.Falls.{TurnFalls};
-ghost use Rattle.cg_death.specs.Deaths.{object_of, on_stack, held_by, IsReady, IsOver, IsSettled, LeavesSettled, IsGoing, IsOffStack, IsGoingAfter, GoesOnAfter, EndsSo, DeathFalls, HasCause, TakesNext, forgets_referent};
-ghost use Rattle.cg_death.specs.Steady.{IsFresh, IsSteady, TurnStaysSteady, TakesFewHolds, KeepsNames, TurnStandsAfterFrame, DeathStandsAfterFrame, DiesUnheld, TurnDiesUnheld};
+ghost use Rattle.cg_death.specs.Answers.{DeathSteps, MakesNone};
+ghost use Rattle.cg_death.specs.Deaths.{object_of, on_stack, held_by, IsReady, IsOver, IsSettled, IsGoing, IsOffStack, IsGoingAfter, DeathFalls, HasCause, TakesNext, forgets_referent};
+ghost use Rattle.cg_death.specs.Steady.{IsFresh, IsSteady, TakesFewHolds, KeepsNames, DeathStandsAfterFrame, DiesUnheld};
+ghost use Rattle.cg_death.specs.Turns.{TakesTurn};
 ghost use Rattle.cg_script.specs.declared.Script.{Script as AnyScript};
 
 use crate::answer::DeathStep;
@@ -137,19 +137,8 @@ fn turn<B: Kind>(object: u64, phase: Phase, heap: &mut Heap<B>, script: &Script)
     requires few { HasFewHolds heap.old }
     requires held { HasHolds heap.old (own_holds_at object phase) }
     requires ready { IsReadyAt heap.old object phase }
-    ensures steps { TurnSteps script.now heap.old object phase heap.new result }
-    ensures falls { TurnFalls heap.old object phase heap.new result }
-    ensures answers { TurnAnswers object phase heap.new result }
+    ensures takes { TakesTurn script.now heap.old object phase heap.new result }
     ensures over { phase ≡ phase_of.Over → result.answer ≡ answer_of.Gone }
-    ensures ends { result.answer ≡ answer_of.Gone → EndsSo result }
-    ensures settled { LeavesSettled result }
-    ensures going { GoesOnAfter result }
-    ensures objects { MakesNone heap.old heap.new }
-    ensures holds { TakesFewHolds heap.old heap.new }
-    ensures names { KeepsNames heap.old heap.new }
-    ensures steady { TurnStaysSteady script.now heap.old object phase heap.new result }
-    ensures framed { TurnStandsAfterFrame result }
-    ensures died { TurnDiesUnheld result heap.new }
 {
     match phase {
         Phase::Finalizer => run_finalizer(object, heap, script),

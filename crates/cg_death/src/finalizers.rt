@@ -10,10 +10,7 @@ ghost use Rattle.cg_script.specs.declared.Script.{Script};
 ghost use Rattle.cg_heap.specs.Calls.{HasFewHolds};
 ghost use Rattle.cg_death.specs.declared.phase.Phase.TheVariants as phase_of;
 ghost use Rattle.cg_death.specs.Activities.{IsUnheld};
-ghost use Rattle.cg_death.specs.Answers.{TurnSteps, TurnAnswers, MakesNone};
-ghost use Rattle.cg_death.specs.Falls.{TurnFalls};
-ghost use Rattle.cg_death.specs.Deaths.{LeavesSettled, GoesOnAfter};
-ghost use Rattle.cg_death.specs.Steady.{TurnStaysSteady, TakesFewHolds, KeepsNames, TurnStandsAfterFrame, TurnDiesUnheld};
+ghost use Rattle.cg_death.specs.Turns.{TakesTurn};
 
 use crate::phase::{Phase, Turn};
 use cg_heap::Heap;
@@ -67,7 +64,7 @@ pub fn finalizers_of<B: Kind>(heap: &Heap<B>, script: &Script, object: u64) -> F
 }
 
 /// The finalizer of an object, if it has not run. (PEP 442: a finalizer is called once.)
-fn finalizer_to_run<B: Kind>(heap: &Heap<B>, script: &Script, object: u64) -> Option<u32>
+pub fn finalizer_to_run<B: Kind>(heap: &Heap<B>, script: &Script, object: u64) -> Option<u32>
     requires { IsLive heap.now object }
     ensures { result ≡
         option_and_then (finalizer_to_run script.now) (object_at (objects_of heap.now) object) }
@@ -83,17 +80,7 @@ fn finalizer_to_run<B: Kind>(heap: &Heap<B>, script: &Script, object: u64) -> Op
 pub fn run_finalizer<B: Kind>(object: u64, heap: &mut Heap<B>, script: &Script) -> Turn
     requires few { HasFewHolds heap.old }
     requires unheld { IsUnheld heap.old object }
-    ensures steps { TurnSteps script.now heap.old object phase_of.Finalizer heap.new result }
-    ensures falls { TurnFalls heap.old object phase_of.Finalizer heap.new result }
-    ensures answers { TurnAnswers object phase_of.Finalizer heap.new result }
-    ensures settled { LeavesSettled result }
-    ensures going { GoesOnAfter result }
-    ensures objects { MakesNone heap.old heap.new }
-    ensures holds { TakesFewHolds heap.old heap.new }
-    ensures names { KeepsNames heap.old heap.new }
-    ensures framed { TurnStandsAfterFrame result }
-    ensures died { TurnDiesUnheld result heap.new }
-    ensures steady { TurnStaysSteady script.now heap.old object phase_of.Finalizer heap.new result }
+    ensures { TakesTurn script.now heap.old object phase_of.Finalizer heap.new result }
 {
     match finalizer_to_run(heap, script, object) {
         None => Turn::to(Phase::Clearing),
@@ -101,7 +88,10 @@ pub fn run_finalizer<B: Kind>(object: u64, heap: &mut Heap<B>, script: &Script) 
             heap.move_to(object, Place::Gen(0));
             heap.set_finalized(object);
             heap.hold(object);
-            Turn::runs(frame(FrameSort::Del, proc, object), Phase::AfterFinalizer)
+            Turn::runs(
+                finalizer_frame(FrameSort::Del, proc, object),
+                Phase::AfterFinalizer,
+            )
         }
     }
 }
@@ -110,30 +100,23 @@ pub fn run_finalizer<B: Kind>(object: u64, heap: &mut Heap<B>, script: &Script) 
 pub fn run_legacy<B: Kind>(object: u64, heap: &mut Heap<B>, script: &Script) -> Turn
     requires few { HasFewHolds heap.old }
     requires unheld { IsUnheld heap.old object }
-    ensures steps { TurnSteps script.now heap.old object phase_of.LegacyFinalizer heap.new result }
-    ensures falls { TurnFalls heap.old object phase_of.LegacyFinalizer heap.new result }
-    ensures answers { TurnAnswers object phase_of.LegacyFinalizer heap.new result }
-    ensures settled { LeavesSettled result }
-    ensures going { GoesOnAfter result }
-    ensures objects { MakesNone heap.old heap.new }
-    ensures holds { TakesFewHolds heap.old heap.new }
-    ensures names { KeepsNames heap.old heap.new }
-    ensures framed { TurnStandsAfterFrame result }
-    ensures died { TurnDiesUnheld result heap.new }
-    ensures steady { TurnStaysSteady script.now heap.old object phase_of.LegacyFinalizer heap.new result }
+    ensures { TakesTurn script.now heap.old object phase_of.LegacyFinalizer heap.new result }
 {
     match finalizers_of(heap, script, object).legacy {
         None => Turn::to(Phase::Detaching),
         Some(proc) => {
             heap.move_to(object, Place::Gen(0));
             heap.hold(object);
-            Turn::runs(frame(FrameSort::Legacy, proc, object), Phase::AfterLegacy)
+            Turn::runs(
+                finalizer_frame(FrameSort::Legacy, proc, object),
+                Phase::AfterLegacy,
+            )
         }
     }
 }
 
-/// The frame of a finalizer.
-fn frame(sort: FrameSort, proc: u32, object: u64) -> FrameSpec
+/// The frame of a finalizer or a legacy finalizer.
+pub fn finalizer_frame(sort: FrameSort, proc: u32, object: u64) -> FrameSpec
     ensures { result ≡ record { sort = sort; proc = proc; subject = object; func = None } }
 {
     FrameSpec {
@@ -148,19 +131,7 @@ fn frame(sort: FrameSort, proc: u32, object: u64) -> FrameSpec
 /// death goes on.
 pub fn end_finalizer<B: Kind>(object: u64, heap: &mut Heap<B>) -> Turn
     requires { 0 < outside_of heap.old object }
-    ensures steps { (script : Script) →
-        TurnSteps script heap.old object phase_of.AfterFinalizer heap.new result }
-    ensures falls { TurnFalls heap.old object phase_of.AfterFinalizer heap.new result }
-    ensures answers { TurnAnswers object phase_of.AfterFinalizer heap.new result }
-    ensures settled { LeavesSettled result }
-    ensures going { GoesOnAfter result }
-    ensures objects { MakesNone heap.old heap.new }
-    ensures holds { TakesFewHolds heap.old heap.new }
-    ensures names { KeepsNames heap.old heap.new }
-    ensures framed { TurnStandsAfterFrame result }
-    ensures died { TurnDiesUnheld result heap.new }
-    ensures steady { (script : Script) →
-        TurnStaysSteady script heap.old object phase_of.AfterFinalizer heap.new result }
+    ensures { (script : Script) → TakesTurn script heap.old object phase_of.AfterFinalizer heap.new result }
 {
     if is_unheld_now(object, heap) {
         Turn::to(Phase::Clearing)
@@ -172,19 +143,7 @@ pub fn end_finalizer<B: Kind>(object: u64, heap: &mut Heap<B>) -> Turn
 /// The same after the frame of a legacy finalizer.
 pub fn end_legacy<B: Kind>(object: u64, heap: &mut Heap<B>) -> Turn
     requires { 0 < outside_of heap.old object }
-    ensures steps { (script : Script) →
-        TurnSteps script heap.old object phase_of.AfterLegacy heap.new result }
-    ensures falls { TurnFalls heap.old object phase_of.AfterLegacy heap.new result }
-    ensures answers { TurnAnswers object phase_of.AfterLegacy heap.new result }
-    ensures settled { LeavesSettled result }
-    ensures going { GoesOnAfter result }
-    ensures objects { MakesNone heap.old heap.new }
-    ensures holds { TakesFewHolds heap.old heap.new }
-    ensures names { KeepsNames heap.old heap.new }
-    ensures framed { TurnStandsAfterFrame result }
-    ensures died { TurnDiesUnheld result heap.new }
-    ensures steady { (script : Script) →
-        TurnStaysSteady script heap.old object phase_of.AfterLegacy heap.new result }
+    ensures { (script : Script) → TakesTurn script heap.old object phase_of.AfterLegacy heap.new result }
 {
     if is_unheld_now(object, heap) {
         Turn::to(Phase::Detaching)

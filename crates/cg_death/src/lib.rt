@@ -19,5 +19,6 @@ mod weak;
 
 pub use answer::DeathStep;
 pub use death::Death;
-pub use finalizers::{Finalizers, finalizers_of};
+pub use finalizers::{Finalizers, finalizer_frame, finalizer_to_run, finalizers_of};
 pub use release::Release;
+pub use weak::{callback_frame, callback_of};

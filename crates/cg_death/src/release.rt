@@ -8,6 +8,7 @@ ghost use Rattle.cg_death.specs.declared.answer.DeathStep.TheVariants as answer_
 ghost use Rattle.cg_death.specs.Activities.{references_left, HasHolds};
 ghost use Rattle.cg_death.specs.Answers.{ReleaseSteps, once_released, release_answer, MakesNone};
 ghost use Rattle.cg_death.specs.Steady.{TakesFewHolds, KeepsNames, DiesUnheld};
+ghost use Rattle.cg_death.specs.Turns.{LeavesTheRest};
 
 use crate::answer::DeathStep;
 use cg_heap::Heap;
@@ -33,7 +34,7 @@ impl Release {
     }
 
     /// Gives up a hold of one object.
-    pub(crate) fn of(object: u64) -> Release
+    pub fn of(object: u64) -> Release
         ensures { references_left result ≡ object ∷ [] }
     {
         Release {
@@ -100,9 +101,7 @@ pub(crate) fn give_up<B: Kind>(heap: &mut Heap<B>, object: u64) -> DeathStep
     ensures rest { heap.new ≡ unheld (object ∷ []) heap.old }
     ensures answer { result ≡ (if count_of heap.new object == 0 then answer_of.Died object
         else answer_of.Continue) }
-    ensures objects { MakesNone heap.old heap.new }
-    ensures holds { TakesFewHolds heap.old heap.new }
-    ensures names { KeepsNames heap.old heap.new }
+    ensures leaves { LeavesTheRest heap.old heap.new }
     ensures died { DiesUnheld result heap.new }
 {
     if heap.unhold(object) {

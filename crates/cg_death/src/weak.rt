@@ -1,5 +1,5 @@
 //! The phases on weak references: they lose the object, and the callbacks of those that waited are called.
-ghost use Rattle.std.specs.Prelude.{◌≡◌, ◌<◌, ◌∷◌, [], ℕ, Some, None, true, false, IfSome, IsSome, slice_get, option_map, if◌then◌else◌, is_some, unwrap_or};
+ghost use Rattle.std.specs.Prelude.{◌≡◌, ◌<◌, ◌∷◌, [], ℕ, Some, None, true, false, IfSome, IsSome, slice_get, option_map, option_and_then, if◌then◌else◌, is_some, unwrap_or};
 ghost use Rattle.cg_script.specs.declared.Script.{Script};
 ghost use Rattle.cg_value.specs.declared.Val.TheVariants as val_of;
 ghost use Rattle.cg_graph.specs.Value.{item};
@@ -7,16 +7,14 @@ ghost use Rattle.cg_graph.specs.Object.{object_at};
 ghost use Rattle.cg_graph.specs.Rows.{referent_in, waiting_in};
 ghost use Rattle.cg_graph.specs.Store.{IsLive, entries_of, objects_of};
 ghost use Rattle.cg_graph.specs.Changes.{held, rewritten};
+ghost use Rattle.cg_machine.specs.declared.event.FrameSort.TheVariants as sort_of;
 ghost use Rattle.cg_machine.specs.Weak.{weak_references_if, has_weak_references, callback_of};
 ghost use Rattle.cg_machine.specs.Dying.{has_finalizers};
 ghost use Rattle.cg_heap.specs.Calls.{HasFewHolds};
 ghost use Rattle.cg_heap.specs.Weak.{cleared_weak};
 ghost use Rattle.cg_death.specs.declared.phase.Phase.TheVariants as phase_of;
 ghost use Rattle.cg_death.specs.Activities.{IsUnheld, HasHolds, AreNewer, HasCallback, HaveCallbacks};
-ghost use Rattle.cg_death.specs.Answers.{TurnSteps, TurnAnswers, MakesNone};
-ghost use Rattle.cg_death.specs.Falls.{TurnFalls};
-ghost use Rattle.cg_death.specs.Deaths.{LeavesSettled, GoesOnAfter};
-ghost use Rattle.cg_death.specs.Steady.{TurnStaysSteady, TakesFewHolds, KeepsNames, TurnStandsAfterFrame, TurnDiesUnheld};
+ghost use Rattle.cg_death.specs.Turns.{TakesTurn};
 
 use crate::finalizers::finalizers_of;
 use crate::phase::{Phase, Turn};
@@ -32,19 +30,7 @@ pub fn clear_one<B: Kind>(object: u64, heap: &mut Heap<B>) -> Turn
     requires few { HasFewHolds heap.old }
     requires unheld { IsUnheld heap.old object }
     requires newer { AreNewer heap.old object }
-    ensures steps { (script : Script) →
-        TurnSteps script heap.old object phase_of.Clearing heap.new result }
-    ensures falls { TurnFalls heap.old object phase_of.Clearing heap.new result }
-    ensures answers { TurnAnswers object phase_of.Clearing heap.new result }
-    ensures settled { LeavesSettled result }
-    ensures going { GoesOnAfter result }
-    ensures objects { MakesNone heap.old heap.new }
-    ensures holds { TakesFewHolds heap.old heap.new }
-    ensures names { KeepsNames heap.old heap.new }
-    ensures framed { TurnStandsAfterFrame result }
-    ensures died { TurnDiesUnheld result heap.new }
-    ensures steady { (script : Script) →
-        TurnStaysSteady script heap.old object phase_of.Clearing heap.new result }
+    ensures { (script : Script) → TakesTurn script heap.old object phase_of.Clearing heap.new result }
 {
     heap.sound();
     match newest_to_clear(object, heap) {
@@ -92,10 +78,18 @@ fn has_callback<B: Kind>(weak: u64, heap: &Heap<B>) -> bool
     requires { IsLive heap.now weak }
     ensures { result ≡ is_some (callback_of (objects_of heap.now) weak) }
 {
+    callback_of(heap, weak).is_some()
+}
+
+/// The callback of a weak reference, if it has one.
+pub fn callback_of<B: Kind>(heap: &Heap<B>, weak: u64) -> Option<u64>
+    requires { IsLive heap.now weak }
+    ensures { result ≡ callback_of (objects_of heap.now) weak }
+{
     if heap.len(weak) == 0 {
-        return false;
+        return None;
     }
-    reference(heap.entry_at(weak, 0).val).is_some()
+    reference(heap.entry_at(weak, 0).val)
 }
 
 /// The newest weak reference that waits has its callback taken out and called; both are held.
@@ -103,19 +97,7 @@ pub fn call_one<B: Kind>(object: u64, heap: &mut Heap<B>) -> Turn
     requires few { HasFewHolds heap.old }
     requires live { IsLive heap.old object }
     requires callbacks { HaveCallbacks heap.old object }
-    ensures steps { (script : Script) →
-        TurnSteps script heap.old object phase_of.Calling heap.new result }
-    ensures falls { TurnFalls heap.old object phase_of.Calling heap.new result }
-    ensures answers { TurnAnswers object phase_of.Calling heap.new result }
-    ensures settled { LeavesSettled result }
-    ensures going { GoesOnAfter result }
-    ensures objects { MakesNone heap.old heap.new }
-    ensures holds { TakesFewHolds heap.old heap.new }
-    ensures names { KeepsNames heap.old heap.new }
-    ensures framed { TurnStandsAfterFrame result }
-    ensures died { TurnDiesUnheld result heap.new }
-    ensures steady { (script : Script) →
-        TurnStaysSteady script heap.old object phase_of.Calling heap.new result }
+    ensures { (script : Script) → TakesTurn script heap.old object phase_of.Calling heap.new result }
 {
     match heap.newest_waiting(object) {
         None => Turn::to(Phase::LegacyFinalizer),
@@ -128,30 +110,33 @@ fn call_back<B: Kind>(object: u64, weak: u64, heap: &mut Heap<B>) -> Turn
     requires few { HasFewHolds heap.old }
     requires callbacks { HaveCallbacks heap.old object }
     requires newest { slice_get (waiting_in heap.old.rows object) 0 ≡ Some weak }
-    ensures steps { (script : Script) →
-        TurnSteps script heap.old object phase_of.Calling heap.new result }
-    ensures falls { TurnFalls heap.old object phase_of.Calling heap.new result }
-    ensures answers { TurnAnswers object phase_of.Calling heap.new result }
-    ensures settled { LeavesSettled result }
-    ensures going { GoesOnAfter result }
-    ensures objects { MakesNone heap.old heap.new }
-    ensures holds { TakesFewHolds heap.old heap.new }
-    ensures names { KeepsNames heap.old heap.new }
-    ensures framed { TurnStandsAfterFrame result }
-    ensures died { TurnDiesUnheld result heap.new }
-    ensures steady { (script : Script) →
-        TurnStaysSteady script heap.old object phase_of.Calling heap.new result }
+    ensures { (script : Script) → TakesTurn script heap.old object phase_of.Calling heap.new result }
 {
     heap.sound();
     let callback = take_callback(weak, heap);
     heap.forget_weak(weak);
-    let frame = FrameSpec {
+    Turn::runs(
+        callback_frame(heap, weak, callback),
+        Phase::AfterCall { weak, callback },
+    )
+}
+
+/// The frame of the callback of a weak reference.
+pub fn callback_frame<B: Kind>(heap: &Heap<B>, weak: u64, callback: u64) -> FrameSpec
+    requires { IsLive heap.now callback }
+    ensures { result ≡ record {
+      sort = sort_of.Callback;
+      proc = unwrap_or (option_and_then (λ x. x.class) (object_at (objects_of heap.now) callback)) 0;
+      subject = weak;
+      func = Some callback;
+    } }
+{
+    FrameSpec {
         sort: FrameSort::Callback,
         proc: heap.class_of(callback).unwrap_or(0),
         subject: weak,
         func: Some(callback),
-    };
-    Turn::runs(frame, Phase::AfterCall { weak, callback })
+    }
 }
 
 /// Takes the callback of a weak reference out of it. It is held from outside then.
@@ -170,19 +155,7 @@ fn take_callback<B: Kind>(weak: u64, heap: &mut Heap<B>) -> u64
 pub fn end_call<B: Kind>(object: u64, weak: u64, callback: u64, heap: &mut Heap<B>) -> Turn
     requires unheld { IsUnheld heap.old object }
     requires held { HasHolds heap.old (callback ∷ weak ∷ []) }
-    ensures steps { (script : Script) →
-        TurnSteps script heap.old object (phase_of.AfterCall weak callback) heap.new result }
-    ensures falls { TurnFalls heap.old object (phase_of.AfterCall weak callback) heap.new result }
-    ensures answers { TurnAnswers object (phase_of.AfterCall weak callback) heap.new result }
-    ensures settled { LeavesSettled result }
-    ensures going { GoesOnAfter result }
-    ensures objects { MakesNone heap.old heap.new }
-    ensures holds { TakesFewHolds heap.old heap.new }
-    ensures names { KeepsNames heap.old heap.new }
-    ensures framed { TurnStandsAfterFrame result }
-    ensures died { TurnDiesUnheld result heap.new }
-    ensures steady { (script : Script) →
-        TurnStaysSteady script heap.old object (phase_of.AfterCall weak callback) heap.new result }
+    ensures { (script : Script) → TakesTurn script heap.old object (phase_of.AfterCall weak callback) heap.new result }
 {
     let answer = give_up(heap, callback);
     Turn {
@@ -195,17 +168,7 @@ pub fn end_call<B: Kind>(object: u64, weak: u64, callback: u64, heap: &mut Heap<
 /// The newest weak reference that the object's own frames made loses it, without callback.
 pub fn detach_one<B: Kind>(object: u64, heap: &mut Heap<B>, script: &Script) -> Turn
     requires { IsLive heap.old object }
-    ensures steps { TurnSteps script.now heap.old object phase_of.Detaching heap.new result }
-    ensures falls { TurnFalls heap.old object phase_of.Detaching heap.new result }
-    ensures answers { TurnAnswers object phase_of.Detaching heap.new result }
-    ensures settled { LeavesSettled result }
-    ensures going { GoesOnAfter result }
-    ensures objects { MakesNone heap.old heap.new }
-    ensures holds { TakesFewHolds heap.old heap.new }
-    ensures names { KeepsNames heap.old heap.new }
-    ensures framed { TurnStandsAfterFrame result }
-    ensures died { TurnDiesUnheld result heap.new }
-    ensures steady { TurnStaysSteady script.now heap.old object phase_of.Detaching heap.new result }
+    ensures { TakesTurn script.now heap.old object phase_of.Detaching heap.new result }
 {
     heap.sound();
     match newest_to_detach(object, heap, script) {

@@ -1,11 +1,12 @@
 -- What a contract sees of the six boxes: the bodies of each kind, in the order of the kinds. (Ours.)
-use Rattle.std.specs.Prelude.{ℕ, List, [], ◌∷◌, slice_set, slice_index_or, refl}
+use Rattle.std.specs.Prelude.{ℕ, List, slice_set, slice_index_or, refl}
 use Rattle.std.specs.FinMap as fin
 use Rattle.std.specs.Coded.{Coded, code_by, coded×, coded_ℕ, coded_list}
 use Rattle.cg_value.specs.declared.Entry.{Entry}
 use Rattle.cg_value.specs.contracts.Entry as entry
 use Rattle.cg_value.specs.declared.KindCode.{KindCode}
 use Rattle.cg_value.specs.declared.KindCode.TheVariants.{List as ListKind, Tuple, Dict, Inst, Func, Weak}
+pub use Rattle.cg_kind.specs.Six.{six_kinds}
 use Rattle.cg_kind.specs.Bodies.{Body, Bodies, Holds, body_of, entries_at, spare_at, with_body}
 
 -- a body is stored as the pair of its parts
@@ -20,10 +21,6 @@ body_code =
 
 abbrev pub boxes_code : Coded (List Bodies)
 boxes_code = coded_list (fin.code coded_ℕ body_code)
-
--- the kinds, in the order of their boxes
-abbrev pub six_kinds : List KindCode
-six_kinds = ListKind ∷ Tuple ∷ Dict ∷ Inst ∷ Func ∷ Weak ∷ []
 
 -- where the box of a kind stands
 abbrev pub code_index : KindCode → ℕ

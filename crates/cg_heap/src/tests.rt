@@ -1,4 +1,4 @@
-//! Whole heaps over six boxes. The expected answers come from counting references by hand, as `sys.getrefcount` of
+//! Whole heaps over six kinds. The expected answers come from counting references by hand, as `sys.getrefcount` of
 //! Python does.
 ghost use Rattle.std.specs.Prelude.{◌≡◌, ◌↔◌, ◌<◌, ◌≤◌, ◌+◌, ◌++◌, ◌∷◌, [], ℕ, OnOk, map, replicate, slice_get, IfOk, IfSome, IsTrue, Some, None};
 ghost use Rattle.std.specs.FinMap as fin;
@@ -13,8 +13,8 @@ ghost use Rattle.cg_heap.specs.Weak.{HasReferent, IsInNoRow};
 ghost use Rattle.cg_heap.specs.Calls.{CanPutIn, CanTake, IsLiveValue};
 
 use crate::{Heap, HeapFault};
+use cg_any_kind::{AnyKind, six};
 use cg_kind::Kind;
-use cg_kinds::{DictKind, FuncKind, InstKind, ListKind, TupleKind, WeakKind};
 use cg_value::{Entry, KindCode, Place, Val};
 use std::alloc::{AllocError, Global};
 use std::marker::Model;
@@ -270,15 +270,15 @@ impl<B: Kind> Holder<B> {
 
 /// A kind that makes no more than so many objects.
 #[derive(Drop)]
-struct Few<K: Kind> {
-    kind: K,
+struct Few {
+    kind: AnyKind,
     left: u32,
 }
 
-impl<K: Kind> Kind for Few<K> {
-    ghost kind = { λ f. K.kind f.kind };
+impl Kind for Few {
+    ghost kind = { λ f. ⟦<AnyKind as Kind>⟧.kind f.kind };
 
-    ghost bodies = { λ f. K.bodies f.kind };
+    ghost bodies = { λ f. ⟦<AnyKind as Kind>⟧.bodies f.kind };
 
     fn code(&self) -> KindCode {
         self.kind.code()
@@ -329,84 +329,31 @@ impl<K: Kind> Kind for Few<K> {
     }
 }
 
-fn lists(alloc: Global, left: u32) -> Result<Box<dyn Kind>, AllocError>
-    ensures kind { IfOk result (λ b. kind b ≡ code.List) }
-    ensures empty { IfOk result (λ b. bodies b ≡ fin.empty) }
+/// An empty kind that makes one object.
+fn one(alloc: Global, code: KindCode) -> Few
+    ensures kind { ⟦<Few as Kind>⟧.kind result ≡ code }
+    ensures empty { ⟦<Few as Kind>⟧.bodies result ≡ fin.empty }
 {
-    let kind = ListKind::new(alloc);
-    let boxed: Box<dyn Kind> = Box::new(alloc, Few { kind, left })?;
-    Ok(boxed)
+    Few {
+        kind: AnyKind::new(alloc, code),
+        left: 1,
+    }
 }
 
-fn tuples(alloc: Global) -> Result<Box<dyn Kind>, AllocError>
-    ensures kind { IfOk result (λ b. kind b ≡ code.Tuple) }
-    ensures empty { IfOk result (λ b. bodies b ≡ fin.empty) }
+/// Six empty kinds that make one object each.
+fn six_of_one(alloc: Global) -> Result<Vec<Few>, AllocError>
+    ensures kinds { IfOk result (λ kinds. map ⟦<Few as Kind>⟧.kind kinds.items ≡ six_kinds) }
+    ensures empty { IfOk result (λ kinds. map ⟦<Few as Kind>⟧.bodies kinds.items ≡
+        replicate 6 fin.empty) }
 {
-    let kind = TupleKind::new(alloc);
-    let boxed: Box<dyn Kind> = Box::new(alloc, Few { kind, left: 10 })?;
-    Ok(boxed)
-}
-
-fn dicts(alloc: Global) -> Result<Box<dyn Kind>, AllocError>
-    ensures kind { IfOk result (λ b. kind b ≡ code.Dict) }
-    ensures empty { IfOk result (λ b. bodies b ≡ fin.empty) }
-{
-    let kind = DictKind::new(alloc);
-    let boxed: Box<dyn Kind> = Box::new(alloc, Few { kind, left: 10 })?;
-    Ok(boxed)
-}
-
-fn instances(alloc: Global) -> Result<Box<dyn Kind>, AllocError>
-    ensures kind { IfOk result (λ b. kind b ≡ code.Inst) }
-    ensures empty { IfOk result (λ b. bodies b ≡ fin.empty) }
-{
-    let kind = InstKind::new(alloc);
-    let boxed: Box<dyn Kind> = Box::new(alloc, Few { kind, left: 10 })?;
-    Ok(boxed)
-}
-
-fn functions(alloc: Global) -> Result<Box<dyn Kind>, AllocError>
-    ensures kind { IfOk result (λ b. kind b ≡ code.Func) }
-    ensures empty { IfOk result (λ b. bodies b ≡ fin.empty) }
-{
-    let kind = FuncKind::new(alloc);
-    let boxed: Box<dyn Kind> = Box::new(alloc, Few { kind, left: 10 })?;
-    Ok(boxed)
-}
-
-fn weak_references(alloc: Global) -> Result<Box<dyn Kind>, AllocError>
-    ensures kind { IfOk result (λ b. kind b ≡ code.Weak) }
-    ensures empty { IfOk result (λ b. bodies b ≡ fin.empty) }
-{
-    let kind = WeakKind::new(alloc);
-    let boxed: Box<dyn Kind> = Box::new(alloc, Few { kind, left: 10 })?;
-    Ok(boxed)
-}
-
-/// One box more.
-fn push(kinds: &mut Vec<Box<dyn Kind>>, made: Box<dyn Kind>) -> Result<(), AllocError>
-    ensures codes { OnOk result (map (λ b. kind b) kinds.new.items ≡
-        map (λ b. kind b) kinds.old.items ++ kind made ∷ []) }
-    ensures bodies { OnOk result (map (λ b. bodies b) kinds.new.items ≡
-        map (λ b. bodies b) kinds.old.items ++ bodies made ∷ []) }
-{
-    kinds.push(made)?;
-    Ok(())
-}
-
-/// Six empty kinds, of which that of the lists makes no more than so many.
-fn six(alloc: Global, left: u32) -> Result<Vec<Box<dyn Kind>>, AllocError>
-    ensures kinds { IfOk result (λ kinds. map (λ b. kind b) kinds.items ≡ six_kinds) }
-    ensures empty { IfOk result (λ kinds. map (λ b. bodies b) kinds.items ≡ replicate 6 fin.empty) }
-{
-    let mut kinds: Vec<Box<dyn Kind>> = Vec::new(alloc);
-    push(&mut kinds, lists(alloc, left)?)?;
-    push(&mut kinds, tuples(alloc)?)?;
-    push(&mut kinds, dicts(alloc)?)?;
-    push(&mut kinds, instances(alloc)?)?;
-    push(&mut kinds, functions(alloc)?)?;
-    push(&mut kinds, weak_references(alloc)?)?;
-    Ok(kinds)
+    let mut few = Vec::new(alloc);
+    few.push(one(alloc, KindCode::List))?;
+    few.push(one(alloc, KindCode::Tuple))?;
+    few.push(one(alloc, KindCode::Dict))?;
+    few.push(one(alloc, KindCode::Inst))?;
+    few.push(one(alloc, KindCode::Func))?;
+    few.push(one(alloc, KindCode::Weak))?;
+    Ok(few)
 }
 
 #[derive(Clone, Copy, Debug, Drop)]
@@ -529,7 +476,7 @@ fn an_entry_that_is_taken_holds_value_and_key_from_outside(rt: HostRuntime) -> R
         (Step::Entries, Answer::Number(0)),
         (Step::Size(YOUNG), Answer::Number(0)),
     ];
-    drive(&rt, alloc, six(alloc, 10)?, &rows)
+    drive(&rt, alloc, six(alloc)?, &rows)
 }
 
 #[test]
@@ -547,7 +494,7 @@ fn a_list_that_is_refused_changes_nothing(rt: HostRuntime) -> Result<(), Fail> {
         (Step::Live, Answer::Number(1)),
     ];
     // The garbage list is the one that is made.
-    drive(&rt, alloc, six(alloc, 1)?, &rows)
+    drive(&rt, alloc, six_of_one(alloc)?, &rows)
 }
 
 #[test]
@@ -577,5 +524,5 @@ fn weak_references_are_cleared_and_forgotten(rt: HostRuntime) -> Result<(), Fail
         // A weak reference does not hold its referent.
         (Step::GiveUp(2), Answer::Died(true)),
     ];
-    drive(&rt, alloc, six(alloc, 10)?, &rows)
+    drive(&rt, alloc, six(alloc)?, &rows)
 }

@@ -8,12 +8,10 @@ ghost use Rattle.cg_heap.specs.Boxes.{six_kinds};
 ghost use Rattle.cg_heap.specs.Keeps.{HasClass};
 ghost use Rattle.cg_heap.specs.Weak.{HasReferent, IsInNoRow};
 
-mod kinds;
-
+use cg_any_kind::six;
 use cg_heap::{Heap, HeapFault};
 use cg_kind::Kind;
 use cg_value::{Entry, KindCode, Place, Val};
-use kinds::six;
 use std::alloc::{AllocError, Global};
 use std::marker::Model;
 use std::process::Abort;

@@ -1,6 +1,7 @@
 -- Scenes of tests: a heap whose outside holds are at least those that the test has.
 use Rattle.std.proofs.Common.{◌≡◌, ℕ, zero, suc, ◌+◌, ◌<◌, ◌≤◌, Bool, true, false, cond, inl, inr, List, [], ◌∷◌, ◌++◌, length, remove, Option, Some, None, refl, sym, ◌∙◌, ap, subst, arith, append_assoc}
-use Rattle.std.specs.Prelude.{slice_get, ◌==◌, if◌then◌else◌}
+use Rattle.std.specs.Prelude.{slice_get, ◌==◌, if◌then◌else◌, sum_by}
+use Rattle.std.proofs.lemmas.List.Sums.{sum_by-cons}
 use Rattle.cg_graph.specs.Member.{Includes}
 use Rattle.cg_value.specs.declared.Entry.{Entry}
 use Rattle.cg_value.specs.declared.KindCode.{KindCode}
@@ -25,6 +26,8 @@ use Rattle.cg_heap.specs.Weak.{attached}
 use Rattle.cg_heap.proofs.CallerLemmas.{opening_total, total-made, total-unheld, total-rewritten, total-held, total-moved}
 use Rattle.cg_heap.proofs.HoldLemmas.{outside_live, outside-made, outside-unheld, outside-rewritten, outside-moved, outside_grows}
 use Rattle.cg_heap.proofs.ReferenceLemmas.{occurrences-append, name-le}
+use Rattle.cg_trial.specs.Split.{IsSplitPlace, entry_number_at}
+use Rattle.cg_trial.proofs.Objects.{entries_there}
 use Rattle.cg_trial.proofs.Lists.{occurs, occurrences-cons, IsAt, head_is, ahead}
 
 abbrev pub Backed : Store → List ℕ → ℕ → Type 0
@@ -144,3 +147,15 @@ all_live store listed p xs same = All-from_recursion (λ o. IsLive store o) xs (
     go : (ys : List ℕ) → ((o : ℕ) → Includes ys o → IsLive store o) → AllByRecursion (λ o. IsLive store o) ys
     go [] h = tt
     go (y ∷ ys) h = (h y (inl refl), go ys (λ o k. h o (inr k)))
+
+-- where one object stands in a place, its entries are those of the place
+pub entries_of_one : (store : Store) (listed : IsListed store) (p : Place) (is : IsSplitPlace p) (o n : ℕ) → length (list_at store p) ≡ 1 → slice_get (list_at store p) 0 ≡ Some o → length (entries_of store o) ≡ n → entry_number_at store p ≡ n
+entries_of_one store listed p is o n one first has = sym (entries_there store listed p is) ∙ known (list_at store p) one first
+  where
+    known : (xs : List ℕ) → length xs ≡ 1 → slice_get xs 0 ≡ Some o → sum_by (λ q. length (entries_of store q)) xs ≡ n
+    known [] one first = absurd (cc)
+    known (x ∷ []) one first =
+        let same : x ≡ o = cc in
+        let len : length (entries_of store x) ≡ n = ap (λ q. length (entries_of store q)) same ∙ has in
+        omega (arith, sum_by-cons (λ q. length (entries_of store q)) x [], len)
+    known (x ∷ y ∷ xs) one first = absurd (omega (arith, one))

@@ -1,9 +1,8 @@
-//! Small graphs in a heap over six boxes, split. What is to be left is found by hand, and what is kept by the plain search.
-ghost use Rattle.std.specs.Prelude.{◌≡◌, ◌<◌, ◌++◌, ◌∷◌, [], OnOk, map, replicate, slice_get, IfOk, IfSome, None};
+//! Small graphs in a heap over six kinds, split. What is to be left is found by hand, and what is kept by the plain search.
+ghost use Rattle.std.specs.Prelude.{◌≡◌, ◌<◌, ◌≤◌, ◌+◌, map, replicate, slice_get, IfOk, IfSome, None};
 ghost use Rattle.std.specs.List.{All};
 ghost use Rattle.std.specs.FinMap as fin;
 ghost use Rattle.cg_value.specs.declared.Val.{Val};
-ghost use Rattle.cg_value.specs.declared.KindCode.TheVariants as code;
 ghost use Rattle.cg_graph.specs.Store.{IsLive, HasCode, list_at};
 ghost use Rattle.cg_arena.specs.Nodes.{IsPlace};
 ghost use Rattle.cg_heap.specs.Boxes.{six_kinds};
@@ -13,10 +12,10 @@ ghost use Rattle.cg_heap.specs.Calls.{CanPutIn};
 ghost use Rattle.cg_trial.specs.Split.{IsSplitPlace};
 
 use crate::split;
+use cg_any_kind::{AnyKind, six};
 use cg_graph::{Edge, reach_plain};
 use cg_heap::{Heap, HeapFault, Steps};
 use cg_kind::Kind;
-use cg_kinds::{DictKind, FuncKind, InstKind, ListKind, TupleKind, WeakKind};
 use cg_value::{Entry, KindCode, Place, Val};
 use std::alloc::{AllocError, Global};
 use std::marker::{Brand, Model};
@@ -367,6 +366,53 @@ fn check_row<B: Kind, L: Ledger>(
     Ok(())
 }
 
+/// Splits generation 0, where one object with three entries stands, and nothing among the candidates. It stops where that
+/// is not so.
+fn split_one_of_three<B: Kind, L: Ledger>(
+    rt: &impl Abort,
+    heap: &mut Heap<B>,
+    steps: &mut Steps<L>,
+)
+    ensures least { steps.old + 3 ≤ steps.new }
+    ensures most { steps.new ≤ steps.old + 6 }
+{
+    heap.sound();
+    assert!(rt; heap.size(Place::Gen(0)) == 1);
+    assert!(rt; heap.size(Place::Cand) == 0);
+    assert!(rt; heap.size(Place::Back) == 0);
+    let Some(object) = heap.first(Place::Gen(0)) else {
+        panic!(rt; "no object stands in generation 0");
+    };
+    assert!(rt; heap.len(object) == 3);
+    split(heap, Place::Gen(0), steps);
+}
+
+/// Splits a list that holds itself three times: each of its entries is looked at, and none more than twice.
+fn look_at_three<B: Kind, L: Ledger>(
+    rt: &impl Abort,
+    alloc: Global,
+    kinds: Vec<B>,
+    blank: Blank,
+) -> Result<Steps<L>, Fail>
+    requires kinds { map B.kind kinds.items ≡ six_kinds }
+    requires empty { map B.bodies kinds.items ≡ replicate 6 fin.empty }
+    requires name { blank.name ≡ L.name }
+    requires parts { blank.parts ≡ L.parts }
+    requires some { 0 < blank.parts }
+    ensures least { IfOk result (λ looks. 3 ≤ looks) }
+    ensures most { IfOk result (λ looks. looks ≤ 6) }
+{
+    let mut scene = Scene::new(alloc, kinds)?;
+    build(&mut scene, rt, Graph::HoldsItselfThrice)?;
+    release_others(&mut scene, rt, alloc, &[])?;
+    let mut steps = Steps::<L>::new(blank);
+    let Scene { mut heap, .. } = scene;
+    split_one_of_three(rt, &mut heap, &mut steps);
+    let left = serials_in(alloc, &heap, Place::Cand)?;
+    assert_eq!(rt; left.as_slice(), &[2u64]);
+    Ok(steps)
+}
+
 fn table_row(graph: Graph, held: &'static [u64], left: &'static [u64]) -> Row {
     Row {
         graph,
@@ -374,142 +420,6 @@ fn table_row(graph: Graph, held: &'static [u64], left: &'static [u64]) -> Row {
         among_candidates: false,
         left,
     }
-}
-
-/// A kind in a struct of the test's own.
-#[derive(Drop)]
-struct Own<K: Kind> {
-    kind: K,
-}
-
-impl<K: Kind> Kind for Own<K> {
-    ghost kind = { λ f. K.kind f.kind };
-
-    ghost bodies = { λ f. K.bodies f.kind };
-
-    fn code(&self) -> KindCode {
-        self.kind.code()
-    }
-
-    fn make(&mut self, parts: &[Entry]) -> Result<usize, AllocError> {
-        self.kind.make(parts)
-    }
-
-    fn len(&self, at: usize) -> usize {
-        self.kind.len(at)
-    }
-
-    fn entry_at(&self, at: usize, i: usize) -> Entry {
-        self.kind.entry_at(at, i)
-    }
-
-    fn find(&self, at: usize, key: Val) -> Option<usize> {
-        self.kind.find(at, key)
-    }
-
-    fn put(&mut self, at: usize, key: Val, val: Val) -> Result<Option<Val>, AllocError> {
-        self.kind.put(at, key, val)
-    }
-
-    fn take(&mut self, at: usize, i: usize) -> Entry {
-        self.kind.take(at, i)
-    }
-
-    fn detach(&mut self, at: usize) -> Option<Entry> {
-        self.kind.detach(at)
-    }
-
-    fn reserve(&mut self, at: usize, n: usize) -> Result<(), AllocError> {
-        self.kind.reserve(at, n)
-    }
-
-    fn append_reserved(&mut self, at: usize, val: Val) {
-        self.kind.append_reserved(at, val);
-    }
-
-    fn free(&mut self, at: usize) {
-        self.kind.free(at);
-    }
-}
-
-fn lists(alloc: Global) -> Result<Box<dyn Kind>, AllocError>
-    ensures kind { IfOk result (λ b. kind b ≡ code.List) }
-    ensures empty { IfOk result (λ b. bodies b ≡ fin.empty) }
-{
-    let kind = ListKind::new(alloc);
-    let boxed: Box<dyn Kind> = Box::new(alloc, Own { kind })?;
-    Ok(boxed)
-}
-
-fn tuples(alloc: Global) -> Result<Box<dyn Kind>, AllocError>
-    ensures kind { IfOk result (λ b. kind b ≡ code.Tuple) }
-    ensures empty { IfOk result (λ b. bodies b ≡ fin.empty) }
-{
-    let kind = TupleKind::new(alloc);
-    let boxed: Box<dyn Kind> = Box::new(alloc, Own { kind })?;
-    Ok(boxed)
-}
-
-fn dicts(alloc: Global) -> Result<Box<dyn Kind>, AllocError>
-    ensures kind { IfOk result (λ b. kind b ≡ code.Dict) }
-    ensures empty { IfOk result (λ b. bodies b ≡ fin.empty) }
-{
-    let kind = DictKind::new(alloc);
-    let boxed: Box<dyn Kind> = Box::new(alloc, Own { kind })?;
-    Ok(boxed)
-}
-
-fn instances(alloc: Global) -> Result<Box<dyn Kind>, AllocError>
-    ensures kind { IfOk result (λ b. kind b ≡ code.Inst) }
-    ensures empty { IfOk result (λ b. bodies b ≡ fin.empty) }
-{
-    let kind = InstKind::new(alloc);
-    let boxed: Box<dyn Kind> = Box::new(alloc, Own { kind })?;
-    Ok(boxed)
-}
-
-fn functions(alloc: Global) -> Result<Box<dyn Kind>, AllocError>
-    ensures kind { IfOk result (λ b. kind b ≡ code.Func) }
-    ensures empty { IfOk result (λ b. bodies b ≡ fin.empty) }
-{
-    let kind = FuncKind::new(alloc);
-    let boxed: Box<dyn Kind> = Box::new(alloc, Own { kind })?;
-    Ok(boxed)
-}
-
-fn weak_references(alloc: Global) -> Result<Box<dyn Kind>, AllocError>
-    ensures kind { IfOk result (λ b. kind b ≡ code.Weak) }
-    ensures empty { IfOk result (λ b. bodies b ≡ fin.empty) }
-{
-    let kind = WeakKind::new(alloc);
-    let boxed: Box<dyn Kind> = Box::new(alloc, Own { kind })?;
-    Ok(boxed)
-}
-
-/// One box more.
-fn push(kinds: &mut Vec<Box<dyn Kind>>, made: Box<dyn Kind>) -> Result<(), AllocError>
-    ensures codes { OnOk result (map (λ b. kind b) kinds.new.items ≡
-        map (λ b. kind b) kinds.old.items ++ kind made ∷ []) }
-    ensures bodies { OnOk result (map (λ b. bodies b) kinds.new.items ≡
-        map (λ b. bodies b) kinds.old.items ++ bodies made ∷ []) }
-{
-    kinds.push(made)?;
-    Ok(())
-}
-
-/// Six empty kinds.
-fn six(alloc: Global) -> Result<Vec<Box<dyn Kind>>, AllocError>
-    ensures kinds { IfOk result (λ kinds. map (λ b. kind b) kinds.items ≡ six_kinds) }
-    ensures empty { IfOk result (λ kinds. map (λ b. bodies b) kinds.items ≡ replicate 6 fin.empty) }
-{
-    let mut kinds: Vec<Box<dyn Kind>> = Vec::new(alloc);
-    push(&mut kinds, lists(alloc)?)?;
-    push(&mut kinds, tuples(alloc)?)?;
-    push(&mut kinds, dicts(alloc)?)?;
-    push(&mut kinds, instances(alloc)?)?;
-    push(&mut kinds, functions(alloc)?)?;
-    push(&mut kinds, weak_references(alloc)?)?;
-    Ok(kinds)
 }
 
 #[test]
@@ -537,7 +447,14 @@ fn what_no_path_reaches_is_left(rt: HostRuntime) -> Result<(), Fail> {
         },
     ];
     for row in rows {
-        check_row::<Box<dyn Kind>, Brand>(&rt, alloc, six(alloc)?, Blank::new(1), row)?;
+        check_row::<AnyKind, Brand>(&rt, alloc, six(alloc)?, Blank::new(1), row)?;
     }
+    Ok(())
+}
+
+#[test]
+fn three_entries_are_looked_at_three_to_six_times(rt: HostRuntime) -> Result<(), Fail> {
+    let alloc = rt.alloc();
+    let _ = look_at_three::<AnyKind, Brand>(&rt, alloc, six(alloc)?, Blank::new(1))?;
     Ok(())
 }

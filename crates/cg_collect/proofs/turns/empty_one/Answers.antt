@@ -45,8 +45,8 @@ returns-in-Some-clause-keeps g c =
 pub returns-in-None-clause-steps : goal.returns-in-None-clause-steps
 returns-in-None-clause-steps g c = λ script facts policy.
     subst (λ (now : Store). TurnSteps script facts (phase_of.Turn c.args.object) c.args.heap.now policy now policy c.gives_up-in-None.result) (sym c.in-None.ensures.none)
-    (turn_steps script facts (phase_of.Turn c.args.object) c.args.heap.now policy c.args.heap.now policy c.gives_up-in-None.result (phase_of.AfterTurn c.args.object) (Some c.release_of.result) answer_of.Continue c.gives_up-in-None.ensures
-    (turn-emptied c.args.heap.now c.args.object c.release_of.result c.release_of.ensures (c.in-None.ensures.empty.0 refl) script facts policy))
+    (turn_steps script facts (phase_of.Turn c.args.object) c.args.heap.now policy c.args.heap.now policy c.gives_up-in-None.result (phase_of.AfterTurn c.args.object) (Some c.of.result) answer_of.Continue c.gives_up-in-None.ensures
+    (turn-emptied c.args.heap.now c.args.object c.of.result c.of.ensures (c.in-None.ensures.empty.0 refl) script facts policy))
 
 pub returns-in-None-clause-keeps : goal.returns-in-None-clause-keeps
 returns-in-None-clause-keeps g c = subst (KeepsObjects c.args.heap.now) (sym c.in-None.ensures.none) (keeps_all c.args.heap.now)

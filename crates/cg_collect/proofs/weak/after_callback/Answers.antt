@@ -11,8 +11,8 @@ use Rattle.cg_collect.proofs.weak.after_callback.Goals as goal
 
 pub returns-clause-steps : goal.returns-clause-steps
 returns-clause-steps c = λ script facts store policy ready.
-    turn_steps script facts (phase_of.AfterCallback c.args.weak) store policy store policy c.gives_up.result (phase_of.AfterRelease c.args.weak) (Some c.release_of.result) answer_of.Continue c.gives_up.ensures
-    (turn-released script facts store policy c.args.weak ready.2 c.release_of.result c.release_of.ensures)
+    turn_steps script facts (phase_of.AfterCallback c.args.weak) store policy store policy c.gives_up.result (phase_of.AfterRelease c.args.weak) (Some c.of.result) answer_of.Continue c.gives_up.ensures
+    (turn-released script facts store policy c.args.weak ready.2 c.of.result c.of.ensures)
 
 pub returns-clause-ready : goal.returns-clause-ready
 returns-clause-ready c = λ store g ready.

@@ -13,16 +13,16 @@ use Rattle.cg_collect.proofs.Worlds.{turn_steps}
 use Rattle.cg_collect.proofs.Pending.{turn-called, turn-all_called}
 use Rattle.cg_collect.proofs.weak.call_one.Goals as goal
 
-pub callback_frame-requires-clause-live : goal.callback_frame-requires-clause-live
-callback_frame-requires-clause-live g c = (where_is c.args.heap.now c.sound.ensures.listed Pend c.in-Some.weak (head_in (list_at c.args.heap.now Pend) c.in-Some.weak (sym c.in-Some.ensures))).0
+pub frame_of_callback-requires-clause-live : goal.frame_of_callback-requires-clause-live
+frame_of_callback-requires-clause-live g c = (where_is c.args.heap.now c.sound.ensures.listed Pend c.in-Some.weak (head_in (list_at c.args.heap.now Pend) c.in-Some.weak (sym c.in-Some.ensures))).0
 
-pub callback_frame-requires-clause-callback : goal.callback_frame-requires-clause-callback
-callback_frame-requires-clause-callback g c = (c.requires.ready.1 c.in-Some.weak (head_in (list_at c.args.heap.now Pend) c.in-Some.weak (sym c.in-Some.ensures))).1
+pub frame_of_callback-requires-clause-callback : goal.frame_of_callback-requires-clause-callback
+frame_of_callback-requires-clause-callback g c = (c.requires.ready.1 c.in-Some.weak (head_in (list_at c.args.heap.now Pend) c.in-Some.weak (sym c.in-Some.ensures))).1
 
 pub returns-in-Some-clause-steps : goal.returns-in-Some-clause-steps
 returns-in-Some-clause-steps g c = λ script facts policy.
-    turn_steps script facts phase_of.WeakCalling c.args.heap.now policy c.args.heap.now policy c.runs.result (phase_of.AfterCallback c.in-Some.weak) None (answer_of.Frame c.callback_frame.result) c.runs.ensures
-    (turn-called script facts c.args.heap.now policy c.in-Some.weak (sym c.in-Some.ensures) c.callback_frame.result c.callback_frame.ensures)
+    turn_steps script facts phase_of.WeakCalling c.args.heap.now policy c.args.heap.now policy c.runs.result (phase_of.AfterCallback c.in-Some.weak) None (answer_of.Frame c.frame_of_callback.result) c.runs.ensures
+    (turn-called script facts c.args.heap.now policy c.in-Some.weak (sym c.in-Some.ensures) c.frame_of_callback.result c.frame_of_callback.ensures)
 
 pub returns-in-None-clause-steps : goal.returns-in-None-clause-steps
 returns-in-None-clause-steps g c = λ script facts policy.

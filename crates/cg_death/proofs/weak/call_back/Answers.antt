@@ -1,27 +1,20 @@
-use Rattle.std.proofs.Common.{◌≡◌, ◌∙◌, [], ◌∷◌, Some, IsSome, subst, sym, ap, ℕ}
-use Rattle.std.specs.Prelude.{IfSome, unwrap_or}
+use Rattle.std.proofs.Common.{◌≡◌, refl, ◌∙◌, [], ◌∷◌, Some, IsSome, subst, sym, ap, ℕ}
+use Rattle.std.specs.Prelude.{unwrap_or, option_and_then}
 use Rattle.std.specs.FinMap as fin
 use Rattle.cg_graph.specs.Rows.{waiting_in, waited_in}
-use Rattle.cg_graph.specs.Store.{Store, IsLive}
+use Rattle.cg_graph.specs.Object.{Object, object_at}
+use Rattle.cg_graph.specs.Store.{Store, IsLive, objects_of}
 use Rattle.cg_graph.specs.Changes.{held, rewritten}
 use Rattle.cg_machine.specs.declared.event.FrameSort.TheVariants.{Callback}
 use Rattle.cg_heap.specs.Weak.{forgotten_weak}
 use Rattle.cg_heap.proofs.CallerLemmas.{lives_on, kinds-held, kinds-rewritten}
 use Rattle.cg_death.specs.declared.phase.Phase.TheVariants as phase_of
-use Rattle.cg_death.specs.declared.phase.Turn.{Turn}
-use Rattle.cg_death.specs.Answers.{TurnSteps}
 use Rattle.cg_death.proofs.RowSplits.{head_in}
-use Rattle.cg_death.proofs.Finalizing.{running}
-use Rattle.cg_death.proofs.Calling.{turn-called, class-after}
+use Rattle.cg_death.proofs.Calling.{turn-called, procedure-after}
 use Rattle.cg_death.proofs.Querying.{newest-waits, callback-lives}
-use Rattle.cg_death.specs.Answers.{MakesNone}
-use Rattle.cg_death.specs.Steady.{TakesFewHolds, KeepsNames}
-use Rattle.cg_death.proofs.ObjectNumbers.{none-called}
-use Rattle.cg_death.proofs.HoldNumbers.{few-called}
-use Rattle.cg_death.proofs.NamesKept.{kept-called}
-use Rattle.std.proofs.Common.{None}
-use Rattle.cg_death.specs.Steady.{TurnStaysSteady, IsSteadyAt}
+use Rattle.cg_death.proofs.LeavingTheRest.{rest-called}
 use Rattle.cg_death.proofs.SteadyRows.{steady-called}
+use Rattle.cg_death.proofs.TakingTurns.{running, runs}
 use Rattle.cg_death.proofs.weak.call_back.Goals as goal
 
 pub take_callback-callback-requires-clause-live : goal.take_callback-callback-requires-clause-live
@@ -42,34 +35,19 @@ forget_weak-requires-clause-waits g c =
     subst (λ (st : Store). IsSome (waited_in st.rows c.args.weak)) (sym c.take_callback-callback.ensures.rest)
     (newest-waits c.args.heap.now c.args.object c.args.weak c.sound.ensures.rows c.requires.newest).0
 
-pub class_of-requires : goal.class_of-requires
-class_of-requires g c =
+pub callback_frame-requires : goal.callback_frame-requires
+callback_frame-requires g c =
     subst (λ (st : Store). IsSome (fin.get st.nodes c.take_callback-callback.result)) (sym (c.forget_weak.ensures ∙ ap (forgotten_weak c.args.weak) c.take_callback-callback.ensures.rest))
     (callback-lives c.args.heap.now c.args.weak c.take_callback-callback.result c.sound.ensures.live c.take_callback-callback.ensures.callback)
 
-pub returns-clause-steps : goal.returns-clause-steps
-returns-clause-steps g c = λ script.
+pub returns : goal.returns
+returns g c = λ script.
     let f : ℕ = c.take_callback-callback.result in
     let new_is : c.forget_weak.new.self ≡ forgotten_weak c.args.weak (held (f ∷ []) (rewritten c.args.weak [] c.args.heap.now)) = c.forget_weak.ensures ∙ ap (forgotten_weak c.args.weak) c.take_callback-callback.ensures.rest in
-    let class_is = class-after c.args.heap.now c.args.weak f [] (f ∷ []) c.class_of.result
-    (callback-lives c.args.heap.now c.args.weak f c.sound.ensures.live c.take_callback-callback.ensures.callback)
-    (subst (λ (st : Store). IfSome (fin.get st.nodes f) (λ n. c.class_of.result ≡ n.class)) new_is c.class_of.ensures) in
-    let proc_is = c.unwrap_or.ensures ∙ ap (λ k. unwrap_or k 0) class_is in
-    subst (λ (turn : Turn). TurnSteps script c.args.heap.now c.args.object phase_of.Calling c.forget_weak.new.self turn)
-    (sym (c.runs.ensures ∙ ap (λ p. running (phase_of.AfterCall c.args.weak f) (record { sort = Callback; proc = p; subject = c.args.weak; func = Some f })) proc_is))
+    let proc_is = ap (λ (st : Store). unwrap_or (option_and_then (λ (x : Object). x.class) (object_at (objects_of st) f)) 0) new_is ∙ ap (λ k. unwrap_or k 0) (procedure-after c.args.heap.now c.args.weak f [] (f ∷ [])) in
+    let frame_is = c.callback_frame.ensures ∙ ap (λ (p : ℕ). record { sort = Callback; proc = p; subject = c.args.weak; func = Some f }) proc_is in
+    runs script c.args.heap.now _ c.forget_weak.new.self new_is c.args.object phase_of.Calling (phase_of.AfterCall c.args.weak f) c.runs.result (rest-called c.args.weak f c.args.heap.now)
+    (steady-called script c.args.heap.now c.args.object c.args.weak f c.sound.ensures c.requires.newest c.take_callback-callback.ensures.callback)
+    _ (c.runs.ensures ∙ ap (running (phase_of.AfterCall c.args.weak f)) frame_is)
     (turn-called script c.args.heap.now c.forget_weak.new.self c.args.object c.args.weak f c.sound.ensures.rows c.requires.newest c.sound.ensures.live c.take_callback-callback.ensures.callback new_is)
-
-pub returns-clause-objects : goal.returns-clause-objects
-returns-clause-objects g c = subst (MakesNone c.args.heap.now) (sym (c.forget_weak.ensures ∙ ap (forgotten_weak c.args.weak) c.take_callback-callback.ensures.rest)) (none-called c.args.weak c.take_callback-callback.result c.args.heap.now)
-
-pub returns-clause-steady : goal.returns-clause-steady
-returns-clause-steady g c = λ script.
-    subst (λ (turn : Turn). TurnStaysSteady script c.args.heap.now c.args.object phase_of.Calling c.forget_weak.new.self turn) (sym c.runs.ensures)
-    (λ s. subst (λ st. IsSteadyAt script st c.args.object (phase_of.AfterCall c.args.weak c.take_callback-callback.result) None) (sym (c.forget_weak.ensures ∙ ap (forgotten_weak c.args.weak) c.take_callback-callback.ensures.rest))
-    (steady-called script c.args.heap.now c.args.object c.args.weak c.take_callback-callback.result c.sound.ensures c.requires.newest c.take_callback-callback.ensures.callback s))
-
-pub returns-clause-holds : goal.returns-clause-holds
-returns-clause-holds g c = subst (TakesFewHolds c.args.heap.now) (sym (c.forget_weak.ensures ∙ ap (forgotten_weak c.args.weak) c.take_callback-callback.ensures.rest)) (few-called c.args.weak c.take_callback-callback.result c.args.heap.now)
-
-pub returns-clause-names : goal.returns-clause-names
-returns-clause-names g c = subst (KeepsNames c.args.heap.now) (sym (c.forget_weak.ensures ∙ ap (forgotten_weak c.args.weak) c.take_callback-callback.ensures.rest)) (kept-called c.args.weak c.take_callback-callback.result c.args.heap.now)
+    refl (f, refl, refl) (λ over. absurd (cc))

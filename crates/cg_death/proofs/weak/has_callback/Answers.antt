@@ -1,14 +1,6 @@
-use Rattle.std.proofs.Common.{◌∙◌, sym, ap}
+use Rattle.std.proofs.Common.{◌∙◌, ap}
 use Rattle.std.specs.Prelude.{is_some}
-use Rattle.cg_graph.specs.Store.{entries_of}
-use Rattle.cg_death.proofs.Calling.{callback-at}
-use Rattle.cg_death.proofs.Querying.{no_entries, first_entry}
 use Rattle.cg_death.proofs.weak.has_callback.Goals as goal
 
-pub returns-then-len-eq0 : goal.returns-then-len-eq0
-returns-then-len-eq0 g c = no_entries (entries_of c.args.heap.now c.args.weak) (sym c.len.ensures ∙ c.if-len-eq0.true) ∙ ap is_some (sym (callback-at c.args.heap.now c.args.weak))
-
 pub returns : goal.returns
-returns g c =
-    c.is_some.ensures
-    ∙ ap is_some (c.reference.ensures ∙ sym (first_entry (entries_of c.args.heap.now c.args.weak) c.entry_at.result c.entry_at.ensures) ∙ sym (callback-at c.args.heap.now c.args.weak))
+returns g c = c.is_some.ensures ∙ ap is_some c.callback_of.ensures

@@ -8,9 +8,7 @@ use Rattle.std.proofs.Common.{◌∙◌, ap}
 use Rattle.cg_death.specs.Deaths.{forgets_referent}
 use Rattle.cg_death.specs.Answers.{MakesNone}
 use Rattle.cg_death.specs.Steady.{TakesFewHolds, KeepsNames}
-use Rattle.cg_death.proofs.ObjectNumbers.{none-begun}
-use Rattle.cg_death.proofs.HoldNumbers.{few-begun}
-use Rattle.cg_death.proofs.NamesKept.{kept-begun}
+use Rattle.cg_death.proofs.LeavingTheRest.{rest-begun}
 use Rattle.std.proofs.Common.{None}
 use Rattle.cg_death.specs.declared.phase.Phase.TheVariants as phase_of
 use Rattle.cg_death.specs.Steady.{IsSteadyAt}
@@ -27,10 +25,10 @@ returns-clause-begins g c = λ w r.
     begins-death c.args.heap.now c.move_to.new.self c.lose_own_referent.new.heap c.args.object c.sound.ensures.rows c.requires.unheld.none c.requires.none_waits c.move_to.ensures c.lose_own_referent.ensures w r
 
 pub returns-clause-objects : goal.returns-clause-objects
-returns-clause-objects g c = subst (MakesNone c.args.heap.now) (sym (c.lose_own_referent.ensures ∙ ap (forgets_referent c.args.object) c.move_to.ensures)) (none-begun c.args.object Untracked c.args.heap.now)
+returns-clause-objects g c = subst (MakesNone c.args.heap.now) (sym (c.lose_own_referent.ensures ∙ ap (forgets_referent c.args.object) c.move_to.ensures)) (rest-begun c.args.object Untracked c.args.heap.now).objects
 
 pub returns-clause-holds : goal.returns-clause-holds
-returns-clause-holds g c = subst (TakesFewHolds c.args.heap.now) (sym (c.lose_own_referent.ensures ∙ ap (forgets_referent c.args.object) c.move_to.ensures)) (few-begun c.args.object Untracked c.args.heap.now)
+returns-clause-holds g c = subst (TakesFewHolds c.args.heap.now) (sym (c.lose_own_referent.ensures ∙ ap (forgets_referent c.args.object) c.move_to.ensures)) (rest-begun c.args.object Untracked c.args.heap.now).holds
 
 pub returns-clause-steady : goal.returns-clause-steady
 returns-clause-steady g c = λ script fresh.
@@ -38,4 +36,4 @@ returns-clause-steady g c = λ script fresh.
     (steady-begun script c.args.heap.now c.args.object c.sound.ensures.rows c.requires.unheld c.requires.none_waits fresh)
 
 pub returns-clause-names : goal.returns-clause-names
-returns-clause-names g c = subst (KeepsNames c.args.heap.now) (sym (c.lose_own_referent.ensures ∙ ap (forgets_referent c.args.object) c.move_to.ensures)) (kept-begun c.args.object Untracked c.args.heap.now)
+returns-clause-names g c = subst (KeepsNames c.args.heap.now) (sym (c.lose_own_referent.ensures ∙ ap (forgets_referent c.args.object) c.move_to.ensures)) (rest-begun c.args.object Untracked c.args.heap.now).names

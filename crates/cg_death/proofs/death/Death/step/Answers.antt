@@ -21,10 +21,10 @@ returns-in-Some-clause-falls g c = λ e.
 
 pub returns-clause-steps : goal.returns-clause-steps
 returns-clause-steps g c =
-    step-turned c.args.script.now c.args.heap.now c.turn-turn.new.heap c.args.self.now.object c.args.self.now.phase c.args.self.now.release c.next_reference.new.release (activities c.args.self.now.object c.turn-turn.result.phase c.turn-turn.result.release c.turn-turn.new.heap) c.turn-turn.result.answer c.in_default.ensures c.turn-turn.ensures.steps
+    step-turned c.args.script.now c.args.heap.now c.turn-turn.new.heap c.args.self.now.object c.args.self.now.phase c.args.self.now.release c.next_reference.new.release (activities c.args.self.now.object c.turn-turn.result.phase c.turn-turn.result.release c.turn-turn.new.heap) c.turn-turn.result.answer c.in_default.ensures c.turn-turn.ensures.takes.steps
 
 pub returns-clause-over : goal.returns-clause-over
-returns-clause-over g c = λ e. none_left c.args.self.now.object c.turn-turn.result c.turn-turn.new.heap (c.turn-turn.ensures.ends e)
+returns-clause-over g c = λ e. none_left c.args.self.now.object c.turn-turn.result c.turn-turn.new.heap (c.turn-turn.ensures.takes.ends e)
 
 pub returns-in-Some-clause-steady : goal.returns-in-Some-clause-steady
 returns-in-Some-clause-steady g c = λ s.
@@ -32,4 +32,4 @@ returns-in-Some-clause-steady g c = λ s.
     (steady-given_up c.args.script.now c.args.heap.now c.args.self.now.object c.in-Some.object c.args.self.now.phase c.args.self.now.release c.next_reference.new.release c.in-Some.ensures s)
 
 pub returns-clause-steady : goal.returns-clause-steady
-returns-clause-steady g c = λ s. c.turn-turn.ensures.steady (steady-popped c.args.script.now c.args.heap.now c.args.self.now.object c.args.self.now.phase c.args.self.now.release c.next_reference.new.release c.in_default.ensures s)
+returns-clause-steady g c = λ s. c.turn-turn.ensures.takes.steady (steady-popped c.args.script.now c.args.heap.now c.args.self.now.object c.args.self.now.phase c.args.self.now.release c.next_reference.new.release c.in_default.ensures s)

@@ -1,0 +1,49 @@
+-- How a turn is put together of what its phase does: it goes on, tells a line, or runs a frame.
+use Rattle.std.proofs.Common.{◌≡◌, ◌≢◌, refl, sym, subst, ℕ, ◌<◌, None, inl}
+use Rattle.cg_script.specs.declared.Script.{Script}
+use Rattle.cg_graph.specs.Store.{Store}
+use Rattle.cg_machine.specs.declared.event.Event.{Event}
+use Rattle.cg_machine.specs.declared.event.FrameSpec.{FrameSpec}
+use Rattle.cg_death.specs.declared.answer.DeathStep.TheVariants as answer_of
+use Rattle.cg_death.specs.declared.phase.Phase.{Phase}
+use Rattle.cg_death.specs.declared.phase.Phase.TheVariants as phase_of
+use Rattle.cg_death.specs.declared.phase.Turn.{Turn}
+use Rattle.cg_death.specs.Answers.{TurnSteps, CallsAt, TellsAt}
+use Rattle.cg_death.specs.Falls.{pass_of}
+use Rattle.cg_death.specs.Steady.{IsSteadyAt, IsPhaseAfter}
+use Rattle.cg_death.specs.Turns.{LeavesTheRest, TakesTurn}
+
+abbrev pub going_on : Phase → Turn
+going_on next = record { phase = next; release = None; answer = answer_of.Continue }
+
+abbrev pub telling : Event → Phase → Turn
+telling event next = record { phase = next; release = None; answer = answer_of.Emit event }
+
+abbrev pub running : Phase → FrameSpec → Turn
+running next spec = record { phase = next; release = None; answer = answer_of.Frame spec }
+
+module _ (script : Script) (old now new : Store) (new_is : new ≡ now) (o : ℕ) (phase next : Phase) (turn : Turn) (rest : LeavesTheRest old now) (steady : IsSteadyAt script old o phase None → IsSteadyAt script now o next None) where
+  -- what is said of any turn that leaves nothing to be given up
+  stays : IsSteadyAt script old o phase None → IsSteadyAt script new o next None
+  stays s = subst (λ st. IsSteadyAt script st o next None) (sym new_is) (steady s)
+
+  leaves : LeavesTheRest old new
+  leaves = subst (LeavesTheRest old) (sym new_is) rest
+
+  made : (t : Turn) → turn ≡ t → TakesTurn script old o phase new t → TakesTurn script old o phase new turn
+  made t is takes = subst (λ (x : Turn). TakesTurn script old o phase new x) (sym is) takes
+
+  pub goes_on : turn ≡ going_on next → TurnSteps script old o phase new (going_on next) → pass_of phase < pass_of next → next ≢ phase_of.Over → TakesTurn script old o phase new turn
+  goes_on is steps later not_over =
+      made (going_on next) is
+      (record { steps = steps; answers = tt; falls = λ e. inl later; going = λ e. not_over; ends = λ e. absurd (cc); framed = tt; died = tt; settled = tt; steady = stays; rest = leaves })
+
+  pub tells : (event : Event) → turn ≡ telling event next → TurnSteps script old o phase new (telling event next) → TellsAt o phase event → TakesTurn script old o phase new turn
+  tells event is steps told =
+      made (telling event next) is
+      (record { steps = steps; answers = told; falls = λ e. absurd (cc); going = λ e. absurd (cc); ends = λ e. absurd (cc); framed = tt; died = tt; settled = tt; steady = stays; rest = leaves })
+
+  pub runs : (spec : FrameSpec) → turn ≡ running next spec → TurnSteps script old o phase new (running next spec) → CallsAt phase spec.sort → IsPhaseAfter spec spec.sort next → next ≢ phase_of.Over → TakesTurn script old o phase new turn
+  runs spec is steps calls after not_over =
+      made (running next spec) is
+      (record { steps = steps; answers = calls; falls = λ e. absurd (cc); going = λ e. not_over; ends = λ e. absurd (cc); framed = (after, refl); died = tt; settled = tt; steady = stays; rest = leaves })

@@ -1,3 +1,0 @@
-mod RoomLemmas
-mod NameLemmas
-mod ResumingLemmas
