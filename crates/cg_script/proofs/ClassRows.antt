@@ -5,7 +5,6 @@ use Rattle.std.proofs.lemmas.Slice.Eq.{bytes_eq-Decides}
 use Rattle.std.proofs.lemmas.List.{take-append-drop}
 use Rattle.cg_script.specs.declared.item.Item.TheVariants as items
 use Rattle.cg_script.specs.declared.form.Form.TheVariants as forms
-use Rattle.cg_script.specs.declared.form.Grammar.{Grammar}
 use Rattle.cg_script.specs.declared.form.Sort.TheVariants.{Name, Finalizer}
 use Rattle.cg_script.specs.declared.part.Part.{Part}
 use Rattle.cg_script.specs.declared.part.Part.TheVariants as parts
@@ -94,7 +93,7 @@ and_swap true false = refl
 and_swap false true = refl
 and_swap false false = refl
 
-module _ (grammar : Grammar) (n : Naming) (known : Known) (names : Names n known.procs known.classes) where
+module _ (n : Naming) (known : Known) (names : Names n known.procs known.classes) where
   abbrev Case : List ℕ → Type 0
   Case f = IsDel n (finalizer_of known.procs (after_prefix (codes "del=") f) f) f ⊎ IsLegacy n (finalizer_of known.procs (after_prefix (codes "del=") f) f) f
 
@@ -147,18 +146,16 @@ module _ (grammar : Grammar) (n : Naming) (known : Known) (names : Names n known
       let q = both (fits Finalizer f) (fits Finalizer g && true) p.1 in
       record { name = p.0; first = q.0; second = (both (fits Finalizer g) true q.1).0 }
 
-  swapped_good : (c f g : List ℕ) → Good grammar forms.Class (codes "class" ∷ c ∷ f ∷ g ∷ []) → Good grammar forms.Class (codes "class" ∷ c ∷ g ∷ f ∷ [])
+  swapped_good : (c f g : List ℕ) → Good forms.Class (codes "class" ∷ c ∷ f ∷ g ∷ []) → Good forms.Class (codes "class" ∷ c ∷ g ∷ f ∷ [])
   unfolding openers
   swapped_good c f g good =
       let fit = fits_of c f g good.fit in
       let light = good.light in
-      let few = good.few in
       record {
         fit = and_both (fits Name c) (fits Finalizer g && (fits Finalizer f && true)) fit.name (and_both (fits Finalizer g) (fits Finalizer f && true) fit.second (and_both (fits Finalizer f) true fit.first refl));
         single = ap (λ b. b || (names_legacy g && names_legacy f)) (and_swap (names_finalizer g) (names_finalizer f)) ∙ ap (λ b. (names_finalizer f && names_finalizer g) || b) (and_swap (names_legacy g) (names_legacy f)) ∙ good.single;
         enough = omega arith;
         most = omega arith;
-        few = good.few;
         light = omega arith;
         few_words = omega arith;
         sound = (good.sound.0, (good.sound.1.0, (good.sound.1.1.1.0, (good.sound.1.1.0, tt))));
@@ -166,10 +163,10 @@ module _ (grammar : Grammar) (n : Naming) (known : Known) (names : Names n known
         unpassed = refl;
       }
 
-  two_words : (c f g : List ℕ) → Given grammar n known forms.Class (codes "class" ∷ c ∷ f ∷ g ∷ []) → is_unknown (finalizer_of known.procs (after_prefix (codes "del=") f) f) ≡ false
-      → is_unknown (finalizer_of known.procs (after_prefix (codes "del=") g) g) ≡ false → Case f → Case g → Row grammar n known forms.Class (codes "class" ∷ c ∷ f ∷ g ∷ [])
+  two_words : (c f g : List ℕ) → Given n known forms.Class (codes "class" ∷ c ∷ f ∷ g ∷ []) → is_unknown (finalizer_of known.procs (after_prefix (codes "del=") f) f) ≡ false
+      → is_unknown (finalizer_of known.procs (after_prefix (codes "del=") g) g) ≡ false → Case f → Case g → Row n known forms.Class (codes "class" ∷ c ∷ f ∷ g ∷ [])
   two_words c f g given kf kg (inl d) (inr l) =
-      plain_row grammar n known names forms.Class (codes "class" ∷ c ∷ f ∷ g ∷ []) given (in_order c f g (finalizer_of known.procs (after_prefix (codes "del=") f) f) (finalizer_of known.procs (after_prefix (codes "del=") g) g) d l)
+      plain_row n known names forms.Class (codes "class" ∷ c ∷ f ∷ g ∷ []) given (in_order c f g (finalizer_of known.procs (after_prefix (codes "del=") f) f) (finalizer_of known.procs (after_prefix (codes "del=") g) g) d l)
   two_words c f g given kf kg (inr l) (inl d) =
       let p = finalizer_of known.procs (after_prefix (codes "del=") f) f in
       let q = finalizer_of known.procs (after_prefix (codes "del=") g) g in
@@ -189,13 +186,13 @@ module _ (grammar : Grammar) (n : Naming) (known : Known) (names : Names n known
   two_words c f g given kf kg (inl d) (inl e) = absurd (both_del (names_finalizer f) (names_finalizer g) (names_legacy f && names_legacy g) d.named e.named given.good.single)
   two_words c f g given kf kg (inr l) (inr e) = absurd (both_legacy (names_legacy f) (names_legacy g) (names_finalizer f && names_finalizer g) l.named e.named given.good.single)
 
-  pub class_row : (rest : List (List ℕ)) → Given grammar n known forms.Class (codes "class" ∷ rest) → Row grammar n known forms.Class (codes "class" ∷ rest)
+  pub class_row : (rest : List (List ℕ)) → Given n known forms.Class (codes "class" ∷ rest) → Row n known forms.Class (codes "class" ∷ rest)
   class_row [] given = absurd (omega (arith, given.good.enough))
-  class_row (c ∷ []) given = plain_row grammar n known names forms.Class (codes "class" ∷ c ∷ []) given refl
+  class_row (c ∷ []) given = plain_row n known names forms.Class (codes "class" ∷ c ∷ []) given refl
   class_row (c ∷ f ∷ []) given =
       let fit = both (fits Name c) (fits Finalizer f && true) given.good.fit in
       let known_part = neither (is_unknown (finalizer_of known.procs (after_prefix (codes "del=") f) f)) false given.defined in
-      plain_row grammar n known names forms.Class (codes "class" ∷ c ∷ f ∷ []) given
+      plain_row n known names forms.Class (codes "class" ∷ c ∷ f ∷ []) given
       (one_word c f (finalizer_of known.procs (after_prefix (codes "del=") f) f) (case f (both (fits Finalizer f) true fit.1).0 known_part.0))
   class_row (c ∷ f ∷ g ∷ []) given =
       let fit = fits_of c f g given.good.fit in

@@ -5,7 +5,6 @@ use Rattle.std.proofs.lemmas.List.Elements.{All-nil, All-cons, All-append, All-f
 use Rattle.cg_value.specs.Texts.{has_text}
 use Rattle.cg_script.specs.declared.command.Operand.{Operand}
 use Rattle.cg_script.specs.declared.form.Form.{Form}
-use Rattle.cg_script.specs.declared.form.Grammar.{Grammar}
 use Rattle.cg_script.specs.declared.form.Sort.{Sort}
 use Rattle.cg_script.specs.declared.form.Sort.TheVariants.{Key, Variable, Name, Class, Proc, Finalizer, Value, Number, Budget, Count, Flag}
 use Rattle.cg_script.specs.declared.part.Said.{Said}
@@ -25,12 +24,12 @@ use Rattle.cg_script.proofs.Walk.{each_line}
 abbrev Few : ℕ → Known → List (List ℕ) → List Said → Type 0
 Few number known texts saids = number ≤ 400001 → length saids + number ≤ 400001
 
-pub few_saids : (grammar : Grammar) (lines : List (List ℕ)) (known : Known) (texts : List (List ℕ)) (saids : List Said) → lines_from grammar known 1 lines ≡ good texts saids → length saids ≤ 400000
-few_saids grammar lines known texts saids e =
-    let few : length saids + 1 ≤ 400001 = each_line grammar Few
+pub few_saids : (lines : List (List ℕ)) (known : Known) (texts : List (List ℕ)) (saids : List Said) → lines_from known 1 lines ≡ good texts saids → length saids ≤ 400000
+few_saids lines known texts saids e =
+    let few : length saids + 1 ≤ 400001 = each_line Few
     (λ number known inside below. omega arith)
-    (λ number known line texts saids m few below. let more = few (passed_before_last grammar number line m below) in omega arith)
-    (λ number known line form words texts saids m clean few below. let more = few (says_before_last grammar number line form words m below) in omega arith)
+    (λ number known line texts saids m few below. let more = few (passed_before_last number line m below) in omega arith)
+    (λ number known line form words texts saids m clean few below. let more = few (says_before_last number line form words m below) in omega arith)
     lines known 1 texts saids e (omega arith) in
     omega arith
 
@@ -100,9 +99,9 @@ texts_short n form (word ∷ words) texts place all short =
     (with_short_if n texts (text_in (sort_at form place) word) all (text_short n (sort_at form place) word (All-head (IsShort n) word words short)))
     (All-tail (IsShort n) word words short)
 
-line_short : (grammar : Grammar) (number : ℕ) (line : List ℕ) (form : Form) (words texts : List (List ℕ)) → says form words ≡ meaning grammar number line → All (IsShort 1024) texts → All (IsShort 1024) (texts_from texts form 0 words)
-line_short grammar number line form words texts m all =
-    let of = says_of_line grammar number line form words m in
+line_short : (number : ℕ) (line : List ℕ) (form : Form) (words texts : List (List ℕ)) → says form words ≡ meaning number line → All (IsShort 1024) texts → All (IsShort 1024) (texts_from texts form 0 words)
+line_short number line form words texts m all =
+    let of = says_of_line number line form words m in
     let short = of.short in
     texts_short 1024 form words texts 0 all
     (subst (λ ws. All (IsShort 1024) ws) (sym of.words_are)
@@ -111,11 +110,11 @@ line_short grammar number line form words texts m all =
 abbrev Short : ℕ → Known → List (List ℕ) → List Said → Type 0
 Short number known texts saids = All (IsShort 1024) known.texts → All (IsShort 1024) texts
 
-pub short_texts : (grammar : Grammar) (lines : List (List ℕ)) (known : Known) (number : ℕ) (texts : List (List ℕ)) (saids : List Said) → lines_from grammar known number lines ≡ good texts saids
+pub short_texts : (lines : List (List ℕ)) (known : Known) (number : ℕ) (texts : List (List ℕ)) (saids : List Said) → lines_from known number lines ≡ good texts saids
     → All (IsShort 1024) known.texts → All (IsShort 1024) texts
-short_texts grammar lines known number texts saids e =
-    each_line grammar Short
+short_texts lines known number texts saids e =
+    each_line Short
     (λ number known inside all. all)
     (λ number known line texts saids m short all. short all)
-    (λ number known line form words texts saids m clean short all. short (line_short grammar number line form words known.texts m all))
+    (λ number known line form words texts saids m clean short all. short (line_short number line form words known.texts m all))
     lines known number texts saids e

@@ -4,7 +4,6 @@ use Rattle.std.specs.Prelude.{flat_map}
 use Rattle.std.specs.List.{All}
 use Rattle.cg_script.specs.declared.item.Item.{Item}
 use Rattle.cg_script.specs.declared.form.Form.{Form}
-use Rattle.cg_script.specs.declared.form.Grammar.{Grammar}
 use Rattle.cg_script.specs.declared.part.Said.{Said}
 use Rattle.cg_script.specs.declared.part.Said.TheVariants.{Declares, Begins, Ends, Does}
 use Rattle.cg_script.specs.Texts.{command_texts, item_texts}
@@ -12,7 +11,7 @@ use Rattle.cg_script.specs.Pieces.{lines_of}
 use Rattle.cg_script.specs.Meanings.{says, meaning}
 use Rattle.cg_script.specs.Parts.{Known, parts_of, texts_from}
 use Rattle.cg_script.specs.Commands.{said}
-use Rattle.cg_script.specs.Reading.{nothing_known, Lines, good, spoilt, lines_from, body_of, items_of, spells, script_of, reading_by}
+use Rattle.cg_script.specs.Reading.{nothing_known, Lines, good, spoilt, lines_from, body_of, items_of, spells, script_of, reading}
 use Rattle.cg_script.proofs.Below.{Below, below-append, below_all}
 use Rattle.cg_script.proofs.Says.{says_fits}
 use Rattle.cg_script.proofs.Walk.{each_line}
@@ -26,16 +25,16 @@ EachSaid P [] = Unit {0}
 EachSaid P (s ∷ ss) = P s × EachSaid P ss
 
 -- a fact on a line that is good by its words, with the number of all texts
-abbrev pub Holds : Grammar → (ℕ → Said → Type 0) → Type 0
-Holds grammar P = (n number : ℕ) (known : Known) (line : List ℕ) (form : Form) (words : List (List ℕ)) → says form words ≡ meaning grammar number line → length (texts_from known.texts form 0 words) ≤ n
+abbrev pub Holds : (ℕ → Said → Type 0) → Type 0
+Holds P = (n number : ℕ) (known : Known) (line : List ℕ) (form : Form) (words : List (List ℕ)) → says form words ≡ meaning number line → length (texts_from known.texts form 0 words) ≤ n
     → P n (said form (parts_of known form words))
 
-module _ (grammar : Grammar) (P : ℕ → Said → Type 0) (holds : Holds grammar P) where
+module _ (P : ℕ → Said → Type 0) (holds : Holds P) where
   abbrev Good : Known → List (List ℕ) → List Said → Type 0
   Good known texts saids = (length known.texts ≤ length texts) × EachSaid (P (length texts)) saids
 
-  each_good : (lines : List (List ℕ)) (known : Known) (number : ℕ) (texts : List (List ℕ)) (saids : List Said) → lines_from grammar known number lines ≡ good texts saids → Good known texts saids
-  each_good = each_line grammar (λ number known texts saids. Good known texts saids)
+  each_good : (lines : List (List ℕ)) (known : Known) (number : ℕ) (texts : List (List ℕ)) (saids : List Said) → lines_from known number lines ≡ good texts saids → Good known texts saids
+  each_good = each_line (λ number known texts saids. Good known texts saids)
       (λ number known inside. (omega arith, tt))
       (λ number known line texts saids m behind. behind)
       (λ number known line form words texts saids m clean behind.
@@ -51,7 +50,7 @@ module _ (grammar : Grammar) (P : ℕ → Said → Type 0) (holds : Holds gramma
     pub few : length saids ≤ 400000
     pub short : All (IsShort 1024) texts
 
-  script_so : (lines : List (List ℕ)) (all : Lines) → lines_from grammar nothing_known 1 lines ≡ all → (texts : List (List ℕ)) (items : List Item) → script_of all ≡ spells texts items → SaidSo texts items
+  script_so : (lines : List (List ℕ)) (all : Lines) → lines_from nothing_known 1 lines ≡ all → (texts : List (List ℕ)) (items : List Item) → script_of all ≡ spells texts items → SaidSo texts items
   script_so lines (spoilt n c) is texts items e = absurd (cc)
   script_so lines (good texts2 saids) is texts items e =
       let same_texts : texts2 ≡ texts = cc in
@@ -60,18 +59,18 @@ module _ (grammar : Grammar) (P : ℕ → Said → Type 0) (holds : Holds gramma
         saids = saids;
         items_so = same_items;
         each = subst (λ ts. EachSaid (P (length ts)) saids) same_texts (each_good lines nothing_known 1 texts2 saids is).1;
-        few = few_saids grammar lines nothing_known texts2 saids is;
-        short = subst (λ ts. All (IsShort 1024) ts) same_texts (short_texts grammar lines nothing_known 1 texts2 saids is (All-nil (IsShort 1024)));
+        few = few_saids lines nothing_known texts2 saids is;
+        short = subst (λ ts. All (IsShort 1024) ts) same_texts (short_texts lines nothing_known 1 texts2 saids is (All-nil (IsShort 1024)));
       }
 
-  pub said_so : (bytes : List ℕ) (texts : List (List ℕ)) (items : List Item) → reading_by grammar bytes ≡ spells texts items → SaidSo texts items
-  said_so bytes texts items e = script_so (lines_of bytes) (lines_from grammar nothing_known 1 (lines_of bytes)) refl texts items e
+  pub said_so : (bytes : List ℕ) (texts : List (List ℕ)) (items : List Item) → reading bytes ≡ spells texts items → SaidSo texts items
+  said_so bytes texts items e = script_so (lines_of bytes) (lines_from nothing_known 1 (lines_of bytes)) refl texts items e
 
 -- what a good line says names texts below the number of all
-pub texts_hold : (grammar : Grammar) → Holds grammar (λ n s. Below n (said_texts s))
-texts_hold grammar n number known line form words m below =
+pub texts_hold : Holds (λ n s. Below n (said_texts s))
+texts_hold n number known line form words m below =
     let ps = parts_of known form words in
-    let fitting = says_fits grammar number line form words m in
+    let fitting = says_fits number line form words m in
     said_below n ps (each_more _ n ps below (parts_below known.procs known.classes form words known.texts 0)) form
     (λ i h t.
     let w : 0 + i ≡ i = omega arith in
@@ -95,7 +94,7 @@ items_below n true (Does command ∷ later) each = items_below n true later each
 items_below n false (Does command ∷ later) each = below-append n (command_texts command) (flat_map item_texts (items_of false later)) each.0 (items_below n false later each.1)
 
 -- each script that some bytes spell names its own texts
-pub known_texts : (grammar : Grammar) (bytes : List ℕ) (texts : List (List ℕ)) (items : List Item) → reading_by grammar bytes ≡ spells texts items → All (λ k. k < length texts) (flat_map item_texts items)
-known_texts grammar bytes texts items e =
-    let so = said_so grammar (λ n s. Below n (said_texts s)) (texts_hold grammar) bytes texts items e in
+pub known_texts : (bytes : List ℕ) (texts : List (List ℕ)) (items : List Item) → reading bytes ≡ spells texts items → All (λ k. k < length texts) (flat_map item_texts items)
+known_texts bytes texts items e =
+    let so = said_so (λ n s. Below n (said_texts s)) texts_hold bytes texts items e in
     subst (λ is. All (λ k. k < length texts) (flat_map item_texts is)) so.items_so (below_all (length texts) _ (items_below (length texts) false so.saids so.each))

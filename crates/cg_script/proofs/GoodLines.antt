@@ -7,14 +7,13 @@ use Rattle.std.proofs.lemmas.Bool.Decides.{nat_tests}
 use Rattle.std.proofs.lemmas.Slice.Eq.{bytes_eq-Decides}
 use Rattle.cg_script.specs.declared.form.Form.{Form}
 use Rattle.cg_script.specs.declared.form.Form.TheVariants as forms
-use Rattle.cg_script.specs.declared.form.Grammar.{Grammar}
 use Rattle.cg_script.specs.declared.form.Sort.{Sort}
 use Rattle.cg_script.specs.declared.form.Sort.TheVariants.{Key, Variable, Name, Class, Proc, Finalizer, Value, Number, Budget, Count, Flag}
 use Rattle.cg_script.specs.declared.part.Part.{Part}
 use Rattle.cg_script.specs.Pieces.{words_of, word_at, word_is}
 use Rattle.cg_script.specs.Tables.{named}
 use Rattle.cg_script.specs.Words.{is_printable, begins_name, atoms, flags}
-use Rattle.cg_script.specs.Forms.{row, sort_at, most_read, openers, bindings}
+use Rattle.cg_script.specs.Forms.{row, sort_at, openers, bindings}
 use Rattle.cg_script.specs.Meanings.{Meaning, passed, says, bad, fits, all_fit, repeats_finalizer, formed, formed_if, binding_form, worded, is_passed, meaning}
 use Rattle.cg_script.specs.Parts.{Known, part_of, parts_from, parts_of, texts_from, text_in, with_text_if, has_unknown}
 use Rattle.cg_script.specs.Commands.{said}
@@ -32,12 +31,11 @@ Picks form words =
     ((word_is words 1 (codes "=") ≡ false) × (named openers (word_at words 0) ≡ Some form)) ⊎ ((word_is words 1 (codes "=") ≡ true) × ((length words == 2) ≡ false) × (binding_form words ≡ form))
 
 -- words that, with one space between them, are read as a line of the form
-pub record Good (grammar : Grammar) (form : Form) (words : List (List ℕ)) : Type 0 where
+pub record Good (form : Form) (words : List (List ℕ)) : Type 0 where
   pub fit : all_fit form 0 words ≡ true
   pub single : repeats_finalizer form words ≡ false
   pub enough : (row form).fewest ≤ length words
   pub most : length words ≤ (row form).most
-  pub few : length words ≤ most_read grammar form
   pub light : weight words ≤ 1025
   pub few_words : length words ≤ 64
   pub sound : EachSound words
@@ -54,12 +52,10 @@ chosen3 false b c x y z r p q s = absurd (cc)
 chosen3 true true c x y z r p q s = absurd (cc)
 chosen3 true false true x y z r p q s = absurd (cc)
 
-chosen4 : (a b c d : Bool) (x y z w r : Meaning) → a ≡ false → b ≡ false → c ≡ false → d ≡ false → cond a x (cond b y (cond c z (cond d w r))) ≡ r
-chosen4 false false false false x y z w r p q s t = refl
-chosen4 true b c d x y z w r p q s t = absurd (cc)
-chosen4 false true c d x y z w r p q s t = absurd (cc)
-chosen4 false false true d x y z w r p q s t = absurd (cc)
-chosen4 false false false true x y z w r p q s t = absurd (cc)
+chosen2 : (a b : Bool) (x y r : Meaning) → a ≡ false → b ≡ false → cond a x (cond b y r) ≡ r
+chosen2 false false x y r p q = refl
+chosen2 true b x y r p q = absurd (cc)
+chosen2 false true x y r p q = absurd (cc)
 
 or_none : (a b : Bool) → a ≡ false → b ≡ false → (a || b) ≡ false
 or_none false b p q = q
@@ -68,90 +64,83 @@ or_none true b p q = absurd (cc)
 not_less : (a b : ℕ) → b ≤ a → nat_lt a b ≡ false
 not_less a b h = grind (arith, nat_tests)
 
-not_none : (n m : ℕ) → 1 ≤ n → n ≤ m → (m == 0) ≡ false
-not_none n m h k = grind (arith, nat_tests)
-
 not_true : (b : Bool) → b ≡ true → not b ≡ false
 not_true true e = refl
 not_true false e = absurd (cc)
 
-formed_says : (grammar : Grammar) (form : Form) (words : List (List ℕ)) → Good grammar form words → formed grammar form words ≡ says form words
-formed_says grammar form words good =
-    chosen4 (most_read grammar form == 0) (nat_lt (length words) (row form).fewest || nat_lt (row form).most (length words)) (nat_lt (most_read grammar form) (length words))
-    (not (all_fit form 0 words) || repeats_finalizer form words) (bad 2) (bad 3) (bad 2) (bad 4) (says form words) (not_none (length words) (most_read grammar form) (some_words words good.unpassed) good.few)
+formed_says : (form : Form) (words : List (List ℕ)) → Good form words → formed form words ≡ says form words
+formed_says form words good =
+    chosen2 (nat_lt (length words) (row form).fewest || nat_lt (row form).most (length words)) (not (all_fit form 0 words) || repeats_finalizer form words) (bad 3) (bad 4) (says form words)
     (or_none (nat_lt (length words) (row form).fewest) (nat_lt (row form).most (length words)) (not_less (length words) (row form).fewest good.enough) (not_less (row form).most (length words) good.most))
-    (not_less (most_read grammar form) (length words) good.few) (or_none (not (all_fit form 0 words)) (repeats_finalizer form words) (not_true (all_fit form 0 words) good.fit) good.single)
+    (or_none (not (all_fit form 0 words)) (repeats_finalizer form words) (not_true (all_fit form 0 words) good.fit) good.single)
 
-worded_formed : (grammar : Grammar) (form : Form) (words : List (List ℕ)) → Picks form words → worded grammar words ≡ formed grammar form words
-worded_formed grammar form words (inl p) =
-    ap (λ b. cond (not b) (formed_if grammar (named openers (word_at words 0)) words) (cond (length words == 2) (bad 3) (formed grammar (binding_form words) words))) p.0
-    ∙ ap (λ (o : Option Form). formed_if grammar o words) p.1
-worded_formed grammar form words (inr p) =
-    ap (λ b. cond (not b) (formed_if grammar (named openers (word_at words 0)) words) (cond (length words == 2) (bad 3) (formed grammar (binding_form words) words))) p.0
-    ∙ ap (λ b. cond b (bad 3) (formed grammar (binding_form words) words)) p.1
-    ∙ ap (λ (k : Form). formed grammar k words) p.2
+worded_formed : (form : Form) (words : List (List ℕ)) → Picks form words → worded words ≡ formed form words
+worded_formed form words (inl p) =
+    ap (λ b. cond (not b) (formed_if (named openers (word_at words 0)) words) (cond (length words == 2) (bad 3) (formed (binding_form words) words))) p.0
+    ∙ ap (λ (o : Option Form). formed_if o words) p.1
+worded_formed form words (inr p) =
+    ap (λ b. cond (not b) (formed_if (named openers (word_at words 0)) words) (cond (length words == 2) (bad 3) (formed (binding_form words) words))) p.0
+    ∙ ap (λ b. cond b (bad 3) (formed (binding_form words) words)) p.1
+    ∙ ap (λ (k : Form). formed k words) p.2
 
-pub good_says : (grammar : Grammar) (number : ℕ) (form : Form) (words : List (List ℕ)) → Good grammar form words → (number == 400001) ≡ false → meaning grammar number (joined words) ≡ says form words
+pub good_says : (number : ℕ) (form : Form) (words : List (List ℕ)) → Good form words → (number == 400001) ≡ false → meaning number (joined words) ≡ says form words
 unfolding meaning
-good_says grammar number form words good before =
+good_says number form words good before =
     let line = joined words in
     let same : words_of line ≡ words = words_of-joined words good.sound in
     let light = good.light in
     let short : length line ≤ 1024 = omega (arith, length-joined words (some_words words good.unpassed)) in
     let few : length (words_of line) ≤ 64 = subst (λ (ws : List (List ℕ)). length ws ≤ 64) (sym same) good.few_words in
-    chosen3 (list_all is_printable line) (nat_lt 1024 (length line) || nat_lt 64 (length (words_of line)) || (number == 400001)) (is_passed (words_of line)) (bad 1) (bad 5) passed (worded grammar (words_of line))
+    chosen3 (list_all is_printable line) (nat_lt 1024 (length line) || nat_lt 64 (length (words_of line)) || (number == 400001)) (is_passed (words_of line)) (bad 1) (bad 5) passed (worded (words_of line))
     (all_printable words good.sound)
     (or_none (nat_lt 1024 (length line) || nat_lt 64 (length (words_of line))) (number == 400001)
     (or_none (nat_lt 1024 (length line)) (nat_lt 64 (length (words_of line))) (not_less 1024 (length line) short) (not_less 64 (length (words_of line)) few)) before)
     (ap is_passed same ∙ good.unpassed)
-    ∙ ap (worded grammar) same
-    ∙ worded_formed grammar form words good.picks
-    ∙ formed_says grammar form words good
+    ∙ ap (worded) same
+    ∙ worded_formed form words good.picks
+    ∙ formed_says form words good
 
 -- the words of each line that is read are so
-formed_form : (grammar : Grammar) (other : Form) (others : List (List ℕ)) (form : Form) (words : List (List ℕ)) → says form words ≡ formed grammar other others → other ≡ form
-formed_form grammar other others form words e =
-    let a = not_bad (most_read grammar other == 0) 2 _ form words e in
-    let b = not_bad (nat_lt (length others) (row other).fewest || nat_lt (row other).most (length others)) 3 _ form words a.1 in
-    let c = not_bad (nat_lt (most_read grammar other) (length others)) 2 _ form words b.1 in
-    let d = not_bad (not (all_fit other 0 others) || repeats_finalizer other others) 4 _ form words c.1 in
+formed_form : (other : Form) (others : List (List ℕ)) (form : Form) (words : List (List ℕ)) → says form words ≡ formed other others → other ≡ form
+formed_form other others form words e =
+    let b = not_bad (nat_lt (length others) (row other).fewest || nat_lt (row other).most (length others)) 3 _ form words e in
+    let d = not_bad (not (all_fit other 0 others) || repeats_finalizer other others) 4 _ form words b.1 in
     let s : says form words ≡ says other others = d.1 in cc
 
-opened_form : (grammar : Grammar) (found : Option Form) (others : List (List ℕ)) (form : Form) (words : List (List ℕ)) → says form words ≡ formed_if grammar found others → found ≡ Some form
-opened_form grammar None others form words e = absurd (cc)
-opened_form grammar (Some other) others form words e = ap Some (formed_form grammar other others form words e)
+opened_form : (found : Option Form) (others : List (List ℕ)) (form : Form) (words : List (List ℕ)) → says form words ≡ formed_if found others → found ≡ Some form
+opened_form None others form words e = absurd (cc)
+opened_form (Some other) others form words e = ap Some (formed_form other others form words e)
 
-worded_picks : (grammar : Grammar) (others : List (List ℕ)) (form : Form) (words : List (List ℕ)) → says form words ≡ worded grammar others → Picks form others
-worded_picks grammar others form words e = by (word_is others 1 (codes "=")) refl e
+worded_picks : (others : List (List ℕ)) (form : Form) (words : List (List ℕ)) → says form words ≡ worded others → Picks form others
+worded_picks others form words e = by (word_is others 1 (codes "=")) refl e
   where
     by : (b : Bool) → word_is others 1 (codes "=") ≡ b
-        → says form words ≡ cond (not b) (formed_if grammar (named openers (word_at others 0)) others) (cond (length others == 2) (bad 3) (formed grammar (binding_form others) others)) → Picks form others
-    by false eb e = inl (eb, opened_form grammar (named openers (word_at others 0)) others form words e)
+        → says form words ≡ cond (not b) (formed_if (named openers (word_at others 0)) others) (cond (length others == 2) (bad 3) (formed (binding_form others) others)) → Picks form others
+    by false eb e = inl (eb, opened_form (named openers (word_at others 0)) others form words e)
     by true eb e =
-        let three = not_bad (length others == 2) 3 (formed grammar (binding_form others) others) form words e in inr (eb, three.0, formed_form grammar (binding_form others) others form words three.1)
+        let three = not_bad (length others == 2) 3 (formed (binding_form others) others) form words e in inr (eb, three.0, formed_form (binding_form others) others form words three.1)
 
-picked : (grammar : Grammar) (number : ℕ) (line : List ℕ) (form : Form) (words : List (List ℕ)) → says form words ≡ meaning grammar number line → Picks form (words_of line) × (is_passed (words_of line) ≡ false)
+picked : (number : ℕ) (line : List ℕ) (form : Form) (words : List (List ℕ)) → says form words ≡ meaning number line → Picks form (words_of line) × (is_passed (words_of line) ≡ false)
 unfolding meaning
-picked grammar number line form words e =
+picked number line form words e =
     let a = not_bad (not (list_all is_printable line)) 1 _ form words e in
     let b = not_bad (nat_lt 1024 (length line) || nat_lt 64 (length (words_of line)) || (number == 400001)) 5 _ form words a.1 in
-    let c = not_passed (is_passed (words_of line)) (worded grammar (words_of line)) form words b.1 in
-    (worded_picks grammar (words_of line) form words c.1, c.0)
+    let c = not_passed (is_passed (words_of line)) (worded (words_of line)) form words b.1 in
+    (worded_picks (words_of line) form words c.1, c.0)
 
-pub good_line : (grammar : Grammar) (number : ℕ) (line : List ℕ) (form : Form) (words : List (List ℕ)) → says form words ≡ meaning grammar number line → Good grammar form words
-good_line grammar number line form words m =
-    let fitting = says_fits grammar number line form words m in
-    let of = says_of_line grammar number line form words m in
+pub good_line : (number : ℕ) (line : List ℕ) (form : Form) (words : List (List ℕ)) → says form words ≡ meaning number line → Good form words
+good_line number line form words m =
+    let fitting = says_fits number line form words m in
+    let of = says_of_line number line form words m in
     let short = of.short in
     let same = sym of.words_are in
-    let p = picked grammar number line form words m in
+    let p = picked number line form words m in
     let heavy : weight (words_of line) ≤ 1025 = omega (arith, words_weight line) in
     record {
       fit = fitting.fit;
       single = fitting.single;
       enough = fitting.enough;
       most = fitting.most;
-      few = fitting.few;
       light = subst (λ (ws : List (List ℕ)). weight ws ≤ 1025) same heavy;
       few_words = of.few_words;
       sound = subst (λ ws. EachSound ws) same (sound_words line of.printable);
@@ -280,22 +269,20 @@ single_again forms.Class (a ∷ b ∷ c ∷ d ∷ []) most e = e
 single_again forms.Class (a ∷ b ∷ c ∷ d ∷ f ∷ ws) most e = absurd (omega arith)
 single_again form ws most e = refl
 
-pub good_again : (grammar : Grammar) (form : Form) (ws : List (List ℕ)) → Good grammar form ws → Good grammar form (normal_from form 0 ws)
-good_again grammar form ws good =
+pub good_again : (form : Form) (ws : List (List ℕ)) → Good form ws → Good form (normal_from form 0 ws)
+good_again form ws good =
     let again = words_again form ws 0 good.fit good.sound in
     let count = again.count in
     let light = again.light in
     let old_light = good.light in
     let enough = good.enough in
     let most = good.most in
-    let few = good.few in
     let few_words = good.few_words in
     record {
       fit = again.fit;
       single = single_again form ws good.most good.single;
       enough = omega arith;
       most = omega arith;
-      few = omega arith;
       light = omega arith;
       few_words = omega arith;
       sound = again.sound;
@@ -333,8 +320,8 @@ repeated_again known forms.Class (a ∷ []) = refl
 repeated_again known forms.Class (a ∷ b ∷ ws) = refl
 repeated_again known form ws = refl
 
-pub same_again : (grammar : Grammar) (known : Known) (form : Form) (ws : List (List ℕ)) → Good grammar form ws → has_unknown (parts_of known form ws) ≡ false → Same known form ws (normal_from form 0 ws)
-same_again grammar known form ws good defined =
+pub same_again : (known : Known) (form : Form) (ws : List (List ℕ)) → Good form ws → has_unknown (parts_of known form ws) ≡ false → Same known form ws (normal_from form 0 ws)
+same_again known form ws good defined =
     let again = words_again form ws 0 good.fit good.sound in
     let parts = again.parts known.procs known.classes known.texts in
     record {

@@ -4,7 +4,6 @@ use Rattle.std.proofs.lemmas.Bool.Decides.{nat_tests}
 use Rattle.std.specs.Prelude.{is_some}
 use Rattle.cg_script.specs.declared.form.Form.{Form}
 use Rattle.cg_script.specs.declared.form.Form.TheVariants as forms
-use Rattle.cg_script.specs.declared.form.Grammar.{Grammar}
 use Rattle.cg_script.specs.declared.part.Said.{Said}
 use Rattle.cg_script.specs.declared.draft.Draft.{Draft}
 use Rattle.cg_script.specs.Meanings.{Meaning, passed, says, bad, meaning}
@@ -16,39 +15,39 @@ use Rattle.cg_script.specs.Reading.{nothing_known, procs_after, classes_after, f
 use Rattle.cg_script.specs.Views.{known_of, grouped, Takes, script_after, reading_after}
 
 -- the reading behind a draft, by the meaning of the first line
-by_meaning : Grammar → Draft → ℕ → Meaning → List (List ℕ) → Reading
-by_meaning grammar draft number m lines = script_after draft (with_later (known_of draft) number m (λ behind. lines_from grammar behind (number + 1) lines))
+by_meaning : Draft → ℕ → Meaning → List (List ℕ) → Reading
+by_meaning draft number m lines = script_after draft (with_later (known_of draft) number m (λ behind. lines_from behind (number + 1) lines))
 
-module _ (grammar : Grammar) (draft : Draft) (number : ℕ) (line : List ℕ) where
-  first : (m : Meaning) → m ≡ meaning grammar number line → (lines : List (List ℕ)) → reading_after grammar draft number (line ∷ lines) ≡ by_meaning grammar draft number (checked (known_of draft) m) lines
+module _ (draft : Draft) (number : ℕ) (line : List ℕ) where
+  first : (m : Meaning) → m ≡ meaning number line → (lines : List (List ℕ)) → reading_after draft number (line ∷ lines) ≡ by_meaning draft number (checked (known_of draft) m) lines
   unfolding by_meaning meant
-  first m e lines = ap (λ k. by_meaning grammar draft number (checked (known_of draft) k) lines) (sym e)
+  first m e lines = ap (λ k. by_meaning draft number (checked (known_of draft) k) lines) (sym e)
 
-  pub line_passed : passed ≡ meaning grammar number line → (lines : List (List ℕ)) → reading_after grammar draft (number + 1) lines ≡ reading_after grammar draft number (line ∷ lines)
+  pub line_passed : passed ≡ meaning number line → (lines : List (List ℕ)) → reading_after draft (number + 1) lines ≡ reading_after draft number (line ∷ lines)
   unfolding by_meaning
   line_passed e lines = sym (first passed e lines)
 
-  pub line_bad : (code : ℕ) → bad code ≡ meaning grammar number line → (lines : List (List ℕ)) → reading_after grammar draft number (line ∷ lines) ≡ faulty number code
+  pub line_bad : (code : ℕ) → bad code ≡ meaning number line → (lines : List (List ℕ)) → reading_after draft number (line ∷ lines) ≡ faulty number code
   unfolding by_meaning
   line_bad code e lines = first (bad code) e lines
 
-  pub line_faulty : (form : Form) (words : List (List ℕ)) (code : ℕ) → says form words ≡ meaning grammar number line → Some code ≡ fault_in (known_of draft) form words → (lines : List (List ℕ))
-      → reading_after grammar draft number (line ∷ lines) ≡ faulty number code
+  pub line_faulty : (form : Form) (words : List (List ℕ)) (code : ℕ) → says form words ≡ meaning number line → Some code ≡ fault_in (known_of draft) form words → (lines : List (List ℕ))
+      → reading_after draft number (line ∷ lines) ≡ faulty number code
   unfolding by_meaning
-  line_faulty form words code e f lines = first (says form words) e lines ∙ ap (λ c. by_meaning grammar draft number (says_or_bad c form words) lines) (sym f)
+  line_faulty form words code e f lines = first (says form words) e lines ∙ ap (λ c. by_meaning draft number (says_or_bad c form words) lines) (sym f)
 
   said_all : (new : Draft) (s : Said) → ((later : List Said) → grouped new.items.items new.begun later ≡ grouped draft.items.items draft.begun (s ∷ later)) → (all : Lines)
       → script_after new all ≡ script_after draft (also_said s all)
   said_all new s g (good texts later) = ap (spells texts) (g later)
   said_all new s g (spoilt n c) = refl
 
-  pub line_taken : (form : Form) (words : List (List ℕ)) (new : Draft) → says form words ≡ meaning grammar number line → None ≡ fault_in (known_of draft) form words → Takes draft form words new
-      → (lines : List (List ℕ)) → reading_after grammar new (number + 1) lines ≡ reading_after grammar draft number (line ∷ lines)
+  pub line_taken : (form : Form) (words : List (List ℕ)) (new : Draft) → says form words ≡ meaning number line → None ≡ fault_in (known_of draft) form words → Takes draft form words new
+      → (lines : List (List ℕ)) → reading_after new (number + 1) lines ≡ reading_after draft number (line ∷ lines)
   unfolding by_meaning
   line_taken form words new e f t lines =
-      said_all new (said form (parts_of (known_of draft) form words)) t.items (lines_from grammar (known_of new) (number + 1) lines)
-      ∙ ap (λ k. script_after draft (also_said (said form (parts_of (known_of draft) form words)) (lines_from grammar k (number + 1) lines))) t.known
-      ∙ sym (first (says form words) e lines ∙ ap (λ c. by_meaning grammar draft number (says_or_bad c form words) lines) (sym f))
+      said_all new (said form (parts_of (known_of draft) form words)) t.items (lines_from (known_of new) (number + 1) lines)
+      ∙ ap (λ k. script_after draft (also_said (said form (parts_of (known_of draft) form words)) (lines_from k (number + 1) lines))) t.known
+      ∙ sym (first (says form words) e lines ∙ ap (λ c. by_meaning draft number (says_or_bad c form words) lines) (sym f))
 
 is_good : Meaning → Bool
 is_good passed = true
@@ -63,28 +62,28 @@ not_too_many false false true rest e = absurd (cc)
 not_too_many false false false rest e = refl
 
 -- a line that is not bad is not one too many
-good_before_last : (grammar : Grammar) (number : ℕ) (line : List ℕ) → is_good (meaning grammar number line) ≡ true → number ≤ 400001 → number + 1 ≤ 400001
+good_before_last : (number : ℕ) (line : List ℕ) → is_good (meaning number line) ≡ true → number ≤ 400001 → number + 1 ≤ 400001
 unfolding meaning
-good_before_last grammar number line e below =
+good_before_last number line e below =
     let other : (number == 400001) ≡ false = not_too_many _ _ (number == 400001) _ e in grind (arith, nat_tests)
 
-pub passed_before_last : (grammar : Grammar) (number : ℕ) (line : List ℕ) → passed ≡ meaning grammar number line → number ≤ 400001 → number + 1 ≤ 400001
+pub passed_before_last : (number : ℕ) (line : List ℕ) → passed ≡ meaning number line → number ≤ 400001 → number + 1 ≤ 400001
 unfolding is_good
-passed_before_last grammar number line e below = good_before_last grammar number line (ap is_good (sym e)) below
+passed_before_last number line e below = good_before_last number line (ap is_good (sym e)) below
 
-pub says_before_last : (grammar : Grammar) (number : ℕ) (line : List ℕ) (form : Form) (words : List (List ℕ)) → says form words ≡ meaning grammar number line → number ≤ 400001 → number + 1 ≤ 400001
+pub says_before_last : (number : ℕ) (line : List ℕ) (form : Form) (words : List (List ℕ)) → says form words ≡ meaning number line → number ≤ 400001 → number + 1 ≤ 400001
 unfolding is_good
-says_before_last grammar number line form words e below = good_before_last grammar number line (ap is_good (sym e)) below
+says_before_last number line form words e below = good_before_last number line (ap is_good (sym e)) below
 
 -- no line is left, and no procedure is open
-pub all_read : (grammar : Grammar) (draft : Draft) (number : ℕ) → draft.begun ≡ None → reading_after grammar draft number [] ≡ spells draft.names draft.items.items
-all_read grammar draft number e =
+pub all_read : (draft : Draft) (number : ℕ) → draft.begun ≡ None → reading_after draft number [] ≡ spells draft.names draft.items.items
+all_read draft number e =
     ap (λ b. script_after draft (cond (is_some b) (spoilt number 7) (good draft.names []))) e
     ∙ ap (λ b. spells draft.names (grouped draft.items.items b [])) e
     ∙ ap (spells draft.names) (append-nil draft.items.items)
 
-pub not_ended : (grammar : Grammar) (draft : Draft) (number : ℕ) → is_some draft.begun ≡ true → reading_after grammar draft number [] ≡ faulty number 7
-not_ended grammar draft number e = ap (λ b. script_after draft (cond b (spoilt number 7) (good draft.names []))) e
+pub not_ended : (draft : Draft) (number : ℕ) → is_some draft.begun ≡ true → reading_after draft number [] ≡ faulty number 7
+not_ended draft number e = ap (λ b. script_after draft (cond b (spoilt number 7) (good draft.names []))) e
 
 script_of_all : (draft : Draft) → draft.items.items ≡ [] → draft.begun ≡ None → (all : Lines) → script_after draft all ≡ script_of all
 script_of_all draft none closed (good texts later) =
@@ -92,9 +91,9 @@ script_of_all draft none closed (good texts later) =
 script_of_all draft none closed (spoilt n c) = refl
 
 -- the reading behind no line
-pub reads_all : (grammar : Grammar) (draft : Draft) (lines : List (List ℕ)) → known_of draft ≡ nothing_known → draft.items.items ≡ [] → draft.begun ≡ None
-    → reading_after grammar draft 1 lines ≡ script_of (lines_from grammar nothing_known 1 lines)
-reads_all grammar draft lines known none closed = ap (λ k. script_after draft (lines_from grammar k 1 lines)) known ∙ script_of_all draft none closed (lines_from grammar nothing_known 1 lines)
+pub reads_all : (draft : Draft) (lines : List (List ℕ)) → known_of draft ≡ nothing_known → draft.items.items ≡ [] → draft.begun ≡ None
+    → reading_after draft 1 lines ≡ script_of (lines_from nothing_known 1 lines)
+reads_all draft lines known none closed = ap (λ k. script_after draft (lines_from k 1 lines)) known ∙ script_of_all draft none closed (lines_from nothing_known 1 lines)
 
 pub no_line : (bytes : List ℕ) → true ≡ (length bytes == 0) → lines_of bytes ≡ []
 no_line [] e = refl

@@ -6,14 +6,12 @@ use Rattle.cg_script.specs.declared.command.Operand.{Operand}
 use Rattle.cg_script.specs.declared.command.Operand.TheVariants as operands
 use Rattle.cg_script.specs.declared.command.Command.TheVariants as commands
 use Rattle.cg_script.specs.declared.form.Form.TheVariants as forms
-use Rattle.cg_script.specs.declared.form.Grammar.{Grammar}
-use Rattle.cg_script.specs.declared.form.Grammar.TheVariants.{Built, Whole}
 use Rattle.cg_script.specs.declared.form.Sort.TheVariants.{Variable, Value}
 use Rattle.cg_script.specs.declared.part.Said.TheVariants.{Does}
 use Rattle.cg_value.specs.Texts.{place_of, with_text}
 use Rattle.cg_script.specs.Tables.{named}
 use Rattle.cg_script.specs.Words.{atoms, flags, is_quoted, string_text, begins_name, number_of}
-use Rattle.cg_script.specs.Forms.{openers, bindings, most_read}
+use Rattle.cg_script.specs.Forms.{openers, bindings}
 use Rattle.cg_script.specs.Meanings.{fits, all_fit}
 use Rattle.cg_script.specs.Parts.{Known, parts_of, texts_from, with_text_if, value_text, operand_or, has_unknown}
 use Rattle.cg_script.specs.Commands.{flags_in}
@@ -53,18 +51,13 @@ sound_from (w ∷ ws) e =
 abbrev collect_two : List (List ℕ)
 collect_two = codes "collect" ∷ codes "2" ∷ []
 
-few_collect : (grammar : Grammar) → 1 ≤ most_read grammar forms.Collect → 2 ≤ most_read grammar forms.Collect
-few_collect Built h = omega arith
-few_collect Whole h = omega arith
-
-collect_good : (grammar : Grammar) → 1 ≤ most_read grammar forms.Collect → Good grammar forms.Collect collect_two
+collect_good : Good forms.Collect collect_two
 unfolding openers
-collect_good grammar h = record {
+collect_good = record {
   fit = refl;
   single = refl;
   enough = omega arith;
   most = omega arith;
-  few = few_collect grammar h;
   light = omega arith;
   few_words = omega arith;
   sound = sound_from collect_two refl;
@@ -72,16 +65,16 @@ collect_good grammar h = record {
   unpassed = refl;
 }
 
-pub collect_row : (grammar : Grammar) (n : Naming) (known : Known) → Names n known.procs known.classes → (rest : List (List ℕ)) → Given grammar n known forms.Collect (codes "collect" ∷ rest)
-    → Row grammar n known forms.Collect (codes "collect" ∷ rest)
-collect_row grammar n known names [] given = record {
+pub collect_row : (n : Naming) (known : Known) → Names n known.procs known.classes → (rest : List (List ℕ)) → Given n known forms.Collect (codes "collect" ∷ rest)
+    → Row n known forms.Collect (codes "collect" ∷ rest)
+collect_row n known names [] given = record {
   standing = collect_two;
-  good = collect_good grammar given.good.few;
+  good = collect_good;
   same = record { said_same = refl; texts_same = refl; procs_same = refl; classes_same = refl; repeated_same = refl; none_unknown = refl };
   printed = refl;
 }
-collect_row grammar n known names (g ∷ []) given = plain_row grammar n known names forms.Collect (codes "collect" ∷ g ∷ []) given refl
-collect_row grammar n known names (g ∷ h ∷ rest) given = absurd (omega (arith, given.good.most))
+collect_row n known names (g ∷ []) given = plain_row n known names forms.Collect (codes "collect" ∷ g ∷ []) given refl
+collect_row n known names (g ∷ h ∷ rest) given = absurd (omega (arith, given.good.most))
 
 -- a callback that is none is left out
 callback_cases : (texts : List (List ℕ)) (operand : Operand) → (operand ≡ operands.None) ⊎ (callback_words texts operand ≡ value_word texts operand ∷ [])
@@ -104,12 +97,9 @@ none_no_text None texts f e = by (is_quoted f) (begins_name (slice_index f 0)) e
     by false true e = absurd (cc)
     by false false e = refl
 
-few_ref : (grammar : Grammar) → 5 ≤ most_read grammar forms.MakeRef → 4 ≤ most_read grammar forms.MakeRef
-few_ref grammar h = omega arith
-
-ref_four : (grammar : Grammar) (a y f : List ℕ) → Good grammar forms.MakeRef (a ∷ codes "=" ∷ codes "ref" ∷ y ∷ f ∷ []) → Good grammar forms.MakeRef (a ∷ codes "=" ∷ codes "ref" ∷ y ∷ [])
+ref_four : (a y f : List ℕ) → Good forms.MakeRef (a ∷ codes "=" ∷ codes "ref" ∷ y ∷ f ∷ []) → Good forms.MakeRef (a ∷ codes "=" ∷ codes "ref" ∷ y ∷ [])
 unfolding bindings
-ref_four grammar a y f good =
+ref_four a y f good =
     let p = both (fits Variable a) (fits Value y && (fits Value f && true)) good.fit in
     let q = both (fits Value y) (fits Value f && true) p.1 in
     let light = good.light in
@@ -118,7 +108,6 @@ ref_four grammar a y f good =
       single = refl;
       enough = omega arith;
       most = omega arith;
-      few = few_ref grammar good.few;
       light = omega arith;
       few_words = omega arith;
       sound = (good.sound.0, (good.sound.1.0, (good.sound.1.1.0, (good.sound.1.1.1.0, tt))));
@@ -126,21 +115,21 @@ ref_four grammar a y f good =
       unpassed = good.unpassed;
     }
 
-ref_five : (grammar : Grammar) (n : Naming) (known : Known) → Names n known.procs known.classes → (a y f : List ℕ) → Given grammar n known forms.MakeRef (a ∷ codes "=" ∷ codes "ref" ∷ y ∷ f ∷ [])
+ref_five : (n : Naming) (known : Known) → Names n known.procs known.classes → (a y f : List ℕ) → Given n known forms.MakeRef (a ∷ codes "=" ∷ codes "ref" ∷ y ∷ f ∷ [])
     → (let t1 = with_text known.texts a in let t2 = with_text_if t1 (value_text (named atoms y) y) in (operand_or (named atoms f) t2 f ≡ operands.None) ⊎ (callback_words n.texts (operand_or (named atoms f) t2 f) ≡ value_word n.texts (operand_or (named atoms f) t2 f) ∷ []))
-    → Row grammar n known forms.MakeRef (a ∷ codes "=" ∷ codes "ref" ∷ y ∷ f ∷ [])
-ref_five grammar n known names a y f given (inr other) =
+    → Row n known forms.MakeRef (a ∷ codes "=" ∷ codes "ref" ∷ y ∷ f ∷ [])
+ref_five n known names a y f given (inr other) =
     let t1 = with_text known.texts a in
-    plain_row grammar n known names forms.MakeRef (a ∷ codes "=" ∷ codes "ref" ∷ y ∷ f ∷ []) given
+    plain_row n known names forms.MakeRef (a ∷ codes "=" ∷ codes "ref" ∷ y ∷ f ∷ []) given
     (ap (λ (l : List (List ℕ)). text_of n.texts (place_of known.texts a) ∷ codes "=" ∷ codes "ref" ∷ value_word n.texts (operand_or (named atoms y) t1 y) ∷ l) other)
-ref_five grammar n known names a y f given (inl none) =
+ref_five n known names a y f given (inl none) =
     let t1 = with_text known.texts a in
     let t2 = with_text_if t1 (value_text (named atoms y) y) in
     let four = a ∷ codes "=" ∷ codes "ref" ∷ y ∷ [] in
     let same_texts : with_text_if t2 (value_text (named atoms f) f) ≡ t2 = ap (λ (o : Option (List ℕ)). with_text_if t2 o) (none_no_text (named atoms f) t2 f none) in
     record {
       standing = four;
-      good = ref_four grammar a y f given.good;
+      good = ref_four a y f given.good;
       same = record {
         said_same = ap (λ (o : Operand). Does (commands.MakeRef (place_of known.texts a) (operand_or (named atoms y) t1 y) o)) (sym none);
         texts_same = sym same_texts;
@@ -153,13 +142,13 @@ ref_five grammar n known names a y f given (inl none) =
           ∙ shown_normal n known.procs known.classes forms.MakeRef four known.texts 0 names (subst (λ ts. Begins ts n.texts) same_texts given.begins) refl;
     }
 
-pub ref_row : (grammar : Grammar) (n : Naming) (known : Known) → Names n known.procs known.classes → (a : List ℕ) (rest : List (List ℕ)) → Given grammar n known forms.MakeRef (a ∷ codes "=" ∷ codes "ref" ∷ rest)
-    → Row grammar n known forms.MakeRef (a ∷ codes "=" ∷ codes "ref" ∷ rest)
-ref_row grammar n known names a [] given = absurd (omega (arith, given.good.enough))
-ref_row grammar n known names a (y ∷ []) given = plain_row grammar n known names forms.MakeRef (a ∷ codes "=" ∷ codes "ref" ∷ y ∷ []) given refl
-ref_row grammar n known names a (y ∷ f ∷ []) given =
-    ref_five grammar n known names a y f given (callback_cases n.texts (operand_or (named atoms f) (with_text_if (with_text known.texts a) (value_text (named atoms y) y)) f))
-ref_row grammar n known names a (y ∷ f ∷ g ∷ rest) given = absurd (omega (arith, given.good.most))
+pub ref_row : (n : Naming) (known : Known) → Names n known.procs known.classes → (a : List ℕ) (rest : List (List ℕ)) → Given n known forms.MakeRef (a ∷ codes "=" ∷ codes "ref" ∷ rest)
+    → Row n known forms.MakeRef (a ∷ codes "=" ∷ codes "ref" ∷ rest)
+ref_row n known names a [] given = absurd (omega (arith, given.good.enough))
+ref_row n known names a (y ∷ []) given = plain_row n known names forms.MakeRef (a ∷ codes "=" ∷ codes "ref" ∷ y ∷ []) given refl
+ref_row n known names a (y ∷ f ∷ []) given =
+    ref_five n known names a y f given (callback_cases n.texts (operand_or (named atoms f) (with_text_if (with_text known.texts a) (value_text (named atoms y) y)) f))
+ref_row n known names a (y ∷ f ∷ g ∷ rest) given = absurd (omega (arith, given.good.most))
 
 -- the flags by their bits
 all16 : (P : Bool → Bool → Bool → Bool → Type 0) → P true true true true → P true true true false → P true true false true → P true true false false → P true false true true → P true false true false → P true false false true → P true false false false → P false true true true → P false true true false → P false true false true → P false true false false → P false false true true → P false false true false → P false false false true → P false false false false → (a b c d : Bool) → P a b c d
@@ -273,20 +262,15 @@ given false w = []
 abbrev flag_line : Bool → Bool → Bool → Bool → List (List ℕ)
 flag_line a b c d = codes "debug" ∷ (given a (codes "stats") ++ given b (codes "collectable") ++ given c (codes "uncollectable") ++ given d (codes "saveall"))
 
-few_flags : (grammar : Grammar) (n : ℕ) → n ≤ 5 → 1 ≤ most_read grammar forms.Flags → n ≤ most_read grammar forms.Flags
-few_flags Built n h k = omega arith
-few_flags Whole n h k = omega arith
-
-flags_good : (grammar : Grammar) (a b c d : Bool) → 1 ≤ most_read grammar forms.Flags → Good grammar forms.Flags (flag_line a b c d)
+flags_good : (a b c d : Bool) → Good forms.Flags (flag_line a b c d)
 unfolding flags openers
-flags_good grammar a b c d h =
+flags_good a b c d =
     let count : length (flag_line a b c d) ≤ 5 = le_test (length (flag_line a b c d)) 5 (all16 (λ a b c d. nat_le (length (flag_line a b c d)) 5 ≡ true) refl refl refl refl refl refl refl refl refl refl refl refl refl refl refl refl a b c d) in
     record {
       fit = all16 (λ a b c d. all_fit forms.Flags 0 (flag_line a b c d) ≡ true) refl refl refl refl refl refl refl refl refl refl refl refl refl refl refl refl a b c d;
       single = refl;
       enough = omega arith;
       most = omega arith;
-      few = few_flags grammar (length (flag_line a b c d)) count h;
       light = le_test (weight (flag_line a b c d)) 1025 (all16 (λ a b c d. nat_le (weight (flag_line a b c d)) 1025 ≡ true) refl refl refl refl refl refl refl refl refl refl refl refl refl refl refl refl a b c d);
       few_words = omega arith;
       sound = sound_from (flag_line a b c d) (all16 (λ a b c d. sound_test (flag_line a b c d) ≡ true) refl refl refl refl refl refl refl refl refl refl refl refl refl refl refl refl a b c d);
@@ -316,11 +300,10 @@ flags_known known a b c d = all16 (λ a b c d. has_unknown (parts_of known forms
 flags_printed : (n : Naming) (a b c d : Bool) → said_words n (Does (commands.Flags (value a b c d))) ≡ normal_from forms.Flags 0 (flag_line a b c d)
 flags_printed n a b c d = all16 (λ a b c d. said_words n (Does (commands.Flags (value a b c d))) ≡ normal_from forms.Flags 0 (flag_line a b c d)) refl refl refl refl refl refl refl refl refl refl refl refl refl refl refl refl a b c d
 
-pub flags_row : (grammar : Grammar) (n : Naming) (known : Known) → Names n known.procs known.classes → (rest : List (List ℕ)) → Given grammar n known forms.Flags (codes "debug" ∷ rest)
-    → Row grammar n known forms.Flags (codes "debug" ∷ rest)
-flags_row grammar n known names rest given =
+pub flags_row : (n : Naming) (known : Known) → Names n known.procs known.classes → (rest : List (List ℕ)) → Given n known forms.Flags (codes "debug" ∷ rest)
+    → Row n known forms.Flags (codes "debug" ∷ rest)
+flags_row n known names rest given =
     let most = given.good.most in
-    let few = given.good.few in
     let enough = given.good.enough in
     let bits = flags_bits known rest (omega arith) in
     let a = bits.stats in
@@ -329,7 +312,7 @@ flags_row grammar n known names rest given =
     let d = bits.saveall in
     record {
       standing = flag_line a b c d;
-      good = flags_good grammar a b c d (omega arith);
+      good = flags_good a b c d;
       same = record {
         said_same = ap (λ (k : ℕ). Does (commands.Flags k)) (flags_read known a b c d ∙ sym bits.is);
         texts_same = flags_texts known a b c d ∙ sym (no_flag_texts known rest (omega arith));

@@ -9,7 +9,6 @@ use Rattle.cg_script.specs.declared.item.Item.{Item}
 use Rattle.cg_script.specs.declared.item.Item.TheVariants as items
 use Rattle.cg_script.specs.declared.form.Form.{Form}
 use Rattle.cg_script.specs.declared.form.Form.TheVariants as forms
-use Rattle.cg_script.specs.declared.form.Grammar.{Grammar}
 use Rattle.cg_script.specs.declared.part.Part.{Part}
 use Rattle.cg_script.specs.declared.part.Said.{Said}
 use Rattle.cg_script.specs.declared.part.Said.TheVariants.{Declares, Begins as BeginsProc, Ends, Does}
@@ -19,7 +18,7 @@ use Rattle.cg_script.specs.Forms.{row, openers, bindings}
 use Rattle.cg_script.specs.Meanings.{Meaning, says, binding_form, meaning}
 use Rattle.cg_script.specs.Parts.{Known, parts_of, texts_from}
 use Rattle.cg_script.specs.Commands.{said}
-use Rattle.cg_script.specs.Reading.{nothing_known, is_misplaced, is_repeated, fault_in, says_or_bad, checked, meant, procs_after, classes_after, inside_after, known_after, Lines, good, spoilt, also_said, with_later, lines_from, body_of, items_of, spells, script_of, reading_by}
+use Rattle.cg_script.specs.Reading.{nothing_known, is_misplaced, is_repeated, fault_in, says_or_bad, checked, meant, procs_after, classes_after, inside_after, known_after, Lines, good, spoilt, also_said, with_later, lines_from, body_of, items_of, spells, script_of, reading}
 use Rattle.cg_script.specs.Canonical.{Naming, text_of, command_words, end_words, item_lines, procs_in, classes_in, naming_of, joined, line_of_words, canonical}
 use Rattle.cg_script.proofs.Lines.{passed_before_last, says_before_last}
 use Rattle.cg_script.proofs.Walk.{each_line}
@@ -31,40 +30,40 @@ use Rattle.cg_script.proofs.OddRows.{collect_row, ref_row, flags_row}
 use Rattle.cg_script.proofs.ClassRows.{class_row}
 
 -- what is printed of a line that is read
-module _ (grammar : Grammar) (n : Naming) (known : Known) (names : Names n known.procs known.classes) where
-  opener_row : (form : Form) (ws : List (List ℕ)) → named openers (word_at ws 0) ≡ Some form → Given grammar n known form ws → Row grammar n known form ws
+module _ (n : Naming) (known : Known) (names : Names n known.procs known.classes) where
+  opener_row : (form : Form) (ws : List (List ℕ)) → named openers (word_at ws 0) ≡ Some form → Given n known form ws → Row n known form ws
   opener_row form [] e given = let never : true ≡ false = given.good.unpassed in absurd (cc)
   opener_row form (w ∷ rest) e given =
-      subst (λ (u : List ℕ). Given grammar n known form (u ∷ rest) → Row grammar n known form (u ∷ rest)) (sym (opener_is w form e))
-      (opened grammar n known names form rest (collect_row grammar n known names) (flags_row grammar n known names) (class_row grammar n known names)) given
+      subst (λ (u : List ℕ). Given n known form (u ∷ rest) → Row n known form (u ∷ rest)) (sym (opener_is w form e))
+      (opened n known names form rest (collect_row n known names) (flags_row n known names) (class_row n known names)) given
 
-  named_row : (form : Form) (a c : List ℕ) (rest : List (List ℕ)) (found : Option Form) → named bindings c ≡ found → unwrap_or found forms.Bind ≡ form → Given grammar n known form (a ∷ codes "=" ∷ c ∷ rest)
-      → Row grammar n known form (a ∷ codes "=" ∷ c ∷ rest)
+  named_row : (form : Form) (a c : List ℕ) (rest : List (List ℕ)) (found : Option Form) → named bindings c ≡ found → unwrap_or found forms.Bind ≡ form → Given n known form (a ∷ codes "=" ∷ c ∷ rest)
+      → Row n known form (a ∷ codes "=" ∷ c ∷ rest)
   named_row form a c rest None e is given =
-      subst (λ (k : Form). Given grammar n known k (a ∷ codes "=" ∷ c ∷ rest) → Row grammar n known k (a ∷ codes "=" ∷ c ∷ rest)) is (bind_row grammar n known names a c rest) given
+      subst (λ (k : Form). Given n known k (a ∷ codes "=" ∷ c ∷ rest) → Row n known k (a ∷ codes "=" ∷ c ∷ rest)) is (bind_row n known names a c rest) given
   named_row form a c rest (Some other) e is given =
-      subst (λ (k : Form). Given grammar n known k (a ∷ codes "=" ∷ c ∷ rest) → Row grammar n known k (a ∷ codes "=" ∷ c ∷ rest)) is
-      (subst (λ (u : List ℕ). Given grammar n known other (a ∷ codes "=" ∷ u ∷ rest) → Row grammar n known other (a ∷ codes "=" ∷ u ∷ rest)) (sym (binding_is c other e))
-      (bound grammar n known names other a rest (ref_row grammar n known names))) given
+      subst (λ (k : Form). Given n known k (a ∷ codes "=" ∷ c ∷ rest) → Row n known k (a ∷ codes "=" ∷ c ∷ rest)) is
+      (subst (λ (u : List ℕ). Given n known other (a ∷ codes "=" ∷ u ∷ rest) → Row n known other (a ∷ codes "=" ∷ u ∷ rest)) (sym (binding_is c other e))
+      (bound n known names other a rest (ref_row n known names))) given
 
-  third_row : (form : Form) (a c : List ℕ) (rest : List (List ℕ)) (lone : Bool) → cond lone forms.Bind (unwrap_or (named bindings c) forms.Bind) ≡ form → Given grammar n known form (a ∷ codes "=" ∷ c ∷ rest)
-      → Row grammar n known form (a ∷ codes "=" ∷ c ∷ rest)
+  third_row : (form : Form) (a c : List ℕ) (rest : List (List ℕ)) (lone : Bool) → cond lone forms.Bind (unwrap_or (named bindings c) forms.Bind) ≡ form → Given n known form (a ∷ codes "=" ∷ c ∷ rest)
+      → Row n known form (a ∷ codes "=" ∷ c ∷ rest)
   third_row form a c rest true is given =
-      subst (λ (k : Form). Given grammar n known k (a ∷ codes "=" ∷ c ∷ rest) → Row grammar n known k (a ∷ codes "=" ∷ c ∷ rest)) is (bind_row grammar n known names a c rest) given
+      subst (λ (k : Form). Given n known k (a ∷ codes "=" ∷ c ∷ rest) → Row n known k (a ∷ codes "=" ∷ c ∷ rest)) is (bind_row n known names a c rest) given
   third_row form a c rest false is given = named_row form a c rest (named bindings c) refl is given
 
-  binding_row : (form : Form) (ws : List (List ℕ)) → word_is ws 1 (codes "=") ≡ true → (length ws == 2) ≡ false → binding_form ws ≡ form → Given grammar n known form ws → Row grammar n known form ws
+  binding_row : (form : Form) (ws : List (List ℕ)) → word_is ws 1 (codes "=") ≡ true → (length ws == 2) ≡ false → binding_form ws ≡ form → Given n known form ws → Row n known form ws
   binding_row form [] sign more is given = absurd (cc)
   binding_row form (a ∷ []) sign more is given = absurd (cc)
   binding_row form (a ∷ b ∷ []) sign more is given = absurd (cc)
   binding_row form (a ∷ b ∷ c ∷ rest) sign more is given =
-      subst (λ (u : List ℕ). Given grammar n known form (a ∷ u ∷ c ∷ rest) → Row grammar n known form (a ∷ u ∷ c ∷ rest)) (sym ((bytes_eq-Decides b (codes "=")).0 sign))
+      subst (λ (u : List ℕ). Given n known form (a ∷ u ∷ c ∷ rest) → Row n known form (a ∷ u ∷ c ∷ rest)) (sym ((bytes_eq-Decides b (codes "=")).0 sign))
       (λ given. third_row form a c rest (bytes_eq c (codes "ref") && (length (a ∷ b ∷ c ∷ rest) == 3)) is given) given
 
-  line_row : (form : Form) (ws : List (List ℕ)) → Given grammar n known form ws → Row grammar n known form ws
+  line_row : (form : Form) (ws : List (List ℕ)) → Given n known form ws → Row n known form ws
   line_row form ws given = by given.good.picks
     where
-      by : ((word_is ws 1 (codes "=") ≡ false) × (named openers (word_at ws 0) ≡ Some form)) ⊎ ((word_is ws 1 (codes "=") ≡ true) × ((length ws == 2) ≡ false) × (binding_form ws ≡ form)) → Row grammar n known form ws
+      by : ((word_is ws 1 (codes "=") ≡ false) × (named openers (word_at ws 0) ≡ Some form)) ⊎ ((word_is ws 1 (codes "=") ≡ true) × ((length ws == 2) ≡ false) × (binding_form ws ≡ form)) → Row n known form ws
       by (inl p) = opener_row form ws p.1 given
       by (inr p) = binding_row form ws p.0 p.1 p.2 given
 
@@ -73,39 +72,39 @@ module _ (grammar : Grammar) (n : Naming) (known : Known) (names : Names n known
     words : List (List ℕ)
     printed : said_words n (said form (parts_of known form ws)) ≡ words
     sound : EachSound words
-    means : (k : ℕ) → (k == 400001) ≡ false → meaning grammar k (joined words) ≡ says form words
+    means : (k : ℕ) → (k == 400001) ≡ false → meaning k (joined words) ≡ says form words
     clean : fault_in known form words ≡ None
     same : Same known form ws words
 
-  again : (form : Form) (ws : List (List ℕ)) → Given grammar n known form ws → Faultless known form ws → Again form ws
+  again : (form : Form) (ws : List (List ℕ)) → Given n known form ws → Faultless known form ws → Again form ws
   again form ws given clean =
       let r = line_row form ws given in
       let words = normal_from form 0 r.standing in
-      let words_good = good_again grammar form r.standing r.good in
-      let same = same_along known form ws r.standing words r.same (same_again grammar known form r.standing r.good r.same.none_unknown) in
+      let words_good = good_again form r.standing r.good in
+      let same = same_along known form ws r.standing words r.same (same_again known form r.standing r.good r.same.none_unknown) in
       record {
         words = words;
         printed = r.printed;
         sound = words_good.sound;
-        means = λ k before. good_says grammar k form words words_good before;
+        means = λ k before. good_says k form words words_good before;
         clean = no_fault known form ws words clean same;
         same = same;
       }
 
-  line_meant : (form : Form) (words : List (List ℕ)) (k : ℕ) (line : List ℕ) → meaning grammar k line ≡ says form words → fault_in known form words ≡ None → meant grammar known k line ≡ says form words
+  line_meant : (form : Form) (words : List (List ℕ)) (k : ℕ) (line : List ℕ) → meaning k line ≡ says form words → fault_in known form words ≡ None → meant known k line ≡ says form words
   unfolding meant
   line_meant form words k line m clean = ap (checked known) m ∙ ap (λ (o : Option ℕ). says_or_bad o form words) clean
 
-  pub line_back : (form : Form) (ws : List (List ℕ)) → Given grammar n known form ws → Faultless known form ws → (k : ℕ) → (k == 400001) ≡ false → (rest : List (List ℕ))
-      → lines_from grammar known k (joined (said_words n (said form (parts_of known form ws))) ∷ rest) ≡ also_said (said form (parts_of known form ws)) (lines_from grammar (known_after known form ws) (k + 1) rest)
+  pub line_back : (form : Form) (ws : List (List ℕ)) → Given n known form ws → Faultless known form ws → (k : ℕ) → (k == 400001) ≡ false → (rest : List (List ℕ))
+      → lines_from known k (joined (said_words n (said form (parts_of known form ws))) ∷ rest) ≡ also_said (said form (parts_of known form ws)) (lines_from (known_after known form ws) (k + 1) rest)
   line_back form ws given clean k before rest =
       let a = again form ws given clean in
-      ap (λ (l : List (List ℕ)). lines_from grammar known k (joined l ∷ rest)) a.printed
-      ∙ ap (λ (m : Meaning). with_later known k m (λ behind. lines_from grammar behind (k + 1) rest)) (line_meant form a.words k (joined a.words) (a.means k before) a.clean)
-      ∙ ap (λ (s : Said). also_said s (lines_from grammar (known_after known form a.words) (k + 1) rest)) a.same.said_same
-      ∙ ap (λ (b : Known). also_said (said form (parts_of known form ws)) (lines_from grammar b (k + 1) rest)) (same_known known form ws a.words a.same)
+      ap (λ (l : List (List ℕ)). lines_from known k (joined l ∷ rest)) a.printed
+      ∙ ap (λ (m : Meaning). with_later known k m (λ behind. lines_from behind (k + 1) rest)) (line_meant form a.words k (joined a.words) (a.means k before) a.clean)
+      ∙ ap (λ (s : Said). also_said s (lines_from (known_after known form a.words) (k + 1) rest)) a.same.said_same
+      ∙ ap (λ (b : Known). also_said (said form (parts_of known form ws)) (lines_from b (k + 1) rest)) (same_known known form ws a.words a.same)
 
-  pub line_sound : (form : Form) (ws : List (List ℕ)) → Given grammar n known form ws → Faultless known form ws → EachSound (said_words n (said form (parts_of known form ws)))
+  pub line_sound : (form : Form) (ws : List (List ℕ)) → Given n known form ws → Faultless known form ws → EachSound (said_words n (said form (parts_of known form ws)))
   line_sound form ws given clean = let a = again form ws given clean in subst (λ l. EachSound l) (sym a.printed) a.sound
 
 -- lines of which procedures are begun and ended in turn, and declarations stand outside them
@@ -224,22 +223,22 @@ module _ (known : Known) (all : List (List ℕ)) where
   classes_step form ws later enough fresh begins = refl
 
 -- What the lines from a number on say is read again where it is printed, from any number up to that one.
-record Back (grammar : Grammar) (number : ℕ) (known : Known) (texts : List (List ℕ)) (saids : List Said) : Type 0 where
+record Back (number : ℕ) (known : Known) (texts : List (List ℕ)) (saids : List Said) : Type 0 where
   begins : Begins known.texts texts
   nested : Nested known.inside saids
   back : (procs classes : List ℕ) → map (text_of texts) procs ≡ known.procs ++ map (text_of texts) (begun saids) → map (text_of texts) classes ≡ known.classes ++ map (text_of texts) (declared saids)
       → (k : ℕ) → k ≤ number → number ≤ 400001
-      → (lines_from grammar known k (map joined (map (said_words (record { texts = texts; procs = procs; classes = classes })) saids)) ≡ good texts saids)
+      → (lines_from known k (map joined (map (said_words (record { texts = texts; procs = procs; classes = classes })) saids)) ≡ good texts saids)
       × EachLineSound (map (said_words (record { texts = texts; procs = procs; classes = classes })) saids)
 
 not_last : (k number : ℕ) → k ≤ number → number + 1 ≤ 400001 → (k == 400001) ≡ false
 not_last k number h l = grind (arith, nat_tests)
 
-back_said : (grammar : Grammar) (number : ℕ) (known : Known) (line : List ℕ) (form : Form) (words texts : List (List ℕ)) (saids : List Said) → says form words ≡ meaning grammar number line → fault_in known form words ≡ None
-    → Back grammar (number + 1) (known_after known form words) texts saids → Back grammar number known texts (said form (parts_of known form words) ∷ saids)
-back_said grammar number known line form words texts saids m f fact =
+back_said : (number : ℕ) (known : Known) (line : List ℕ) (form : Form) (words texts : List (List ℕ)) (saids : List Said) → says form words ≡ meaning number line → fault_in known form words ≡ None
+    → Back (number + 1) (known_after known form words) texts saids → Back number known texts (said form (parts_of known form words) ∷ saids)
+back_said number known line form words texts saids m f fact =
     let clean = faultless known form words f in
-    let words_good = good_line grammar number line form words m in
+    let words_good = good_line number line form words m in
     record {
       begins = begins_along known.texts (texts_from known.texts form 0 words) texts (begins_texts form words known.texts 0) fact.begins;
       nested = nested_step form (parts_of known form words) known.inside saids clean.placed fact.nested;
@@ -249,16 +248,16 @@ back_said grammar number known line form words texts saids m f fact =
             procs_begin = record { more = map (text_of texts) (begun (said form (parts_of known form words) ∷ saids)); is = ep };
             classes_begin = record { more = map (text_of texts) (declared (said form (parts_of known form words) ∷ saids)); is = ec };
           } in
-          let before = says_before_last grammar number line form words m limit in
-          let given : Given grammar n known form words = record { good = words_good; begins = fact.begins; defined = clean.defined } in
+          let before = says_before_last number line form words m limit in
+          let given : Given n known form words = record { good = words_good; begins = fact.begins; defined = clean.defined } in
           let later = fact.back procs classes (ep ∙ procs_step known texts form words saids words_good.enough clean.fresh fact.begins) (ec ∙ classes_step known texts form words saids words_good.enough clean.fresh fact.begins) (k + 1) (omega arith) before in (
-            line_back grammar n known names form words given clean k (not_last k number h before) (map joined (map (said_words n) saids)) ∙ ap (also_said (said form (parts_of known form words))) later.0,
-            (line_sound grammar n known names form words given clean, later.1),
+            line_back n known names form words given clean k (not_last k number h before) (map joined (map (said_words n) saids)) ∙ ap (also_said (said form (parts_of known form words))) later.0,
+            (line_sound n known names form words given clean, later.1),
           );
     }
 
-all_back : (grammar : Grammar) (lines : List (List ℕ)) (known : Known) (number : ℕ) (texts : List (List ℕ)) (saids : List Said) → lines_from grammar known number lines ≡ good texts saids → Back grammar number known texts saids
-all_back grammar = each_line grammar (λ number known texts saids. Back grammar number known texts saids)
+all_back : (lines : List (List ℕ)) (known : Known) (number : ℕ) (texts : List (List ℕ)) (saids : List Said) → lines_from known number lines ≡ good texts saids → Back number known texts saids
+all_back = each_line (λ number known texts saids. Back number known texts saids)
     (λ number known inside. record {
       begins = begins_self known.texts;
       nested = inside;
@@ -267,28 +266,28 @@ all_back grammar = each_line grammar (λ number known texts saids. Back grammar 
     (λ number known line texts saids m fact. record {
       begins = fact.begins;
       nested = fact.nested;
-      back = λ procs classes ep ec k h limit. fact.back procs classes ep ec k (omega arith) (passed_before_last grammar number line m limit);
+      back = λ procs classes ep ec k h limit. fact.back procs classes ep ec k (omega arith) (passed_before_last number line m limit);
     })
-    (λ number known line form words texts saids m f fact. back_said grammar number known line form words texts saids m f fact)
+    (λ number known line form words texts saids m f fact. back_said number known line form words texts saids m f fact)
 
-canonical_lines : (grammar : Grammar) (texts : List (List ℕ)) (saids : List Said) → Back grammar 1 nothing_known texts saids → lines_from grammar nothing_known 1 (lines_of (canonical texts (items_of false saids))) ≡ good texts saids
+canonical_lines : (texts : List (List ℕ)) (saids : List Said) → Back 1 nothing_known texts saids → lines_from nothing_known 1 (lines_of (canonical texts (items_of false saids))) ≡ good texts saids
 unfolding canonical
-canonical_lines grammar texts saids fact =
+canonical_lines texts saids fact =
     let n = naming_of texts (items_of false saids) in
     let back = fact.back (procs_in (items_of false saids)) (classes_in (items_of false saids)) (ap (map (text_of texts)) (procs_in-items_of false saids)) (ap (map (text_of texts)) (classes_in-items_of false saids)) 1 (omega arith) (omega arith) in
-    ap (λ (l : List (List (List ℕ))). lines_from grammar nothing_known 1 (lines_of (flat_map line_of_words l))) (lines_said n false saids fact.nested)
-    ∙ ap (λ (l : List (List ℕ)). lines_from grammar nothing_known 1 l) (lines_of-written (map (said_words n) saids) back.1)
+    ap (λ (l : List (List (List ℕ))). lines_from nothing_known 1 (lines_of (flat_map line_of_words l))) (lines_said n false saids fact.nested)
+    ∙ ap (λ (l : List (List ℕ)). lines_from nothing_known 1 l) (lines_of-written (map (said_words n) saids) back.1)
     ∙ back.0
 
-by_lines : (grammar : Grammar) (lines : List (List ℕ)) (all : Lines) → lines_from grammar nothing_known 1 lines ≡ all → (names : List (List ℕ)) (items : List Item) → script_of all ≡ spells names items
-    → reading_by grammar (canonical names items) ≡ spells names items
-by_lines grammar lines (spoilt number code) e names items is = absurd (cc)
-by_lines grammar lines (good texts saids) e names items is =
+by_lines : (lines : List (List ℕ)) (all : Lines) → lines_from nothing_known 1 lines ≡ all → (names : List (List ℕ)) (items : List Item) → script_of all ≡ spells names items
+    → reading (canonical names items) ≡ spells names items
+by_lines lines (spoilt number code) e names items is = absurd (cc)
+by_lines lines (good texts saids) e names items is =
     let same_texts : texts ≡ names = cc in
     let same_items : items_of false saids ≡ items = cc in
-    subst (λ (is : List Item). reading_by grammar (canonical names is) ≡ spells names is) same_items
-    (subst (λ (ts : List (List ℕ)). reading_by grammar (canonical ts (items_of false saids)) ≡ spells ts (items_of false saids)) same_texts
-    (ap script_of (canonical_lines grammar texts saids (all_back grammar lines nothing_known 1 texts saids e))))
+    subst (λ (is : List Item). reading (canonical names is) ≡ spells names is) same_items
+    (subst (λ (ts : List (List ℕ)). reading (canonical ts (items_of false saids)) ≡ spells ts (items_of false saids)) same_texts
+    (ap script_of (canonical_lines texts saids (all_back lines nothing_known 1 texts saids e))))
 
-pub read_back : (grammar : Grammar) (bytes : List ℕ) (names : List (List ℕ)) (items : List Item) → reading_by grammar bytes ≡ spells names items → reading_by grammar (canonical names items) ≡ spells names items
-read_back grammar bytes names items e = by_lines grammar (lines_of bytes) (lines_from grammar nothing_known 1 (lines_of bytes)) refl names items e
+pub read_back : (bytes : List ℕ) (names : List (List ℕ)) (items : List Item) → reading bytes ≡ spells names items → reading (canonical names items) ≡ spells names items
+read_back bytes names items e = by_lines (lines_of bytes) (lines_from nothing_known 1 (lines_of bytes)) refl names items e

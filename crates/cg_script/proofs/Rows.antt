@@ -6,7 +6,6 @@ use Rattle.std.proofs.lemmas.Slice.Eq.{bytes_eq-Decides}
 use Rattle.cg_script.specs.declared.item.Item.TheVariants as items
 use Rattle.cg_script.specs.declared.form.Form.{Form}
 use Rattle.cg_script.specs.declared.form.Form.TheVariants as forms
-use Rattle.cg_script.specs.declared.form.Grammar.{Grammar}
 use Rattle.cg_script.specs.declared.form.Sort.{Sort}
 use Rattle.cg_script.specs.declared.form.Sort.TheVariants.{Value}
 use Rattle.cg_script.specs.declared.part.Said.{Said}
@@ -31,15 +30,15 @@ said_words n (BeginsProc name) = def_words n name
 said_words n Ends = end_words
 
 -- a line that is good behind what is known, and its texts among all
-pub record Given (grammar : Grammar) (n : Naming) (known : Known) (form : Form) (ws : List (List ℕ)) : Type 0 where
-  pub good : Good grammar form ws
+pub record Given (n : Naming) (known : Known) (form : Form) (ws : List (List ℕ)) : Type 0 where
+  pub good : Good form ws
   pub begins : Begins (texts_from known.texts form 0 ws) n.texts
   pub defined : has_unknown (parts_of known form ws) ≡ false
 
 -- What is printed of a line: other words that stand for the same, as they are printed.
-pub record Row (grammar : Grammar) (n : Naming) (known : Known) (form : Form) (ws : List (List ℕ)) : Type 0 where
+pub record Row (n : Naming) (known : Known) (form : Form) (ws : List (List ℕ)) : Type 0 where
   pub standing : List (List ℕ)
-  pub good : Good grammar form standing
+  pub good : Good form standing
   pub same : Same known form ws standing
   pub printed : said_words n (said form (parts_of known form ws)) ≡ normal_from form 0 standing
 
@@ -47,8 +46,8 @@ abbrev pub Plain : Naming → Known → Form → List (List ℕ) → Type 0
 Plain n known form ws = said_words n (said form (parts_of known form ws)) ≡ shown_from n known.procs known.classes known.texts form 0 ws
 
 -- mostly these are the words that were read
-pub plain_row : (grammar : Grammar) (n : Naming) (known : Known) (names : Names n known.procs known.classes) (form : Form) (ws : List (List ℕ)) → Given grammar n known form ws → Plain n known form ws → Row grammar n known form ws
-plain_row grammar n known names form ws given plain = record {
+pub plain_row : (n : Naming) (known : Known) (names : Names n known.procs known.classes) (form : Form) (ws : List (List ℕ)) → Given n known form ws → Plain n known form ws → Row n known form ws
+plain_row n known names form ws given plain = record {
   standing = ws;
   good = given.good;
   same = same_self known form ws given.defined;
@@ -153,12 +152,12 @@ opener_is w form e = word_in opener_word openers w form openers_worded e
 pub binding_is : (w : List ℕ) (form : Form) → named bindings w ≡ Some form → w ≡ binding_word form
 binding_is w form e = word_in binding_word bindings w form bindings_worded e
 
-module _ (grammar : Grammar) (n : Naming) (known : Known) (names : Names n known.procs known.classes) where
+module _ (n : Naming) (known : Known) (names : Names n known.procs known.classes) where
   abbrev Opened : Form → List (List ℕ) → Type 0
-  Opened form rest = Given grammar n known form (opener_word form ∷ rest) → Row grammar n known form (opener_word form ∷ rest)
+  Opened form rest = Given n known form (opener_word form ∷ rest) → Row n known form (opener_word form ∷ rest)
 
-  plain : (form : Form) (ws : List (List ℕ)) → Given grammar n known form ws → Plain n known form ws → Row grammar n known form ws
-  plain form ws given p = plain_row grammar n known names form ws given p
+  plain : (form : Form) (ws : List (List ℕ)) → Given n known form ws → Plain n known form ws → Row n known form ws
+  plain form ws given p = plain_row n known names form ws given p
 
   -- lines of no, one, two or three words behind the first
   alone : (form : Form) (rest : List (List ℕ)) → length rest ≡ 0 → Plain n known form (opener_word form ∷ []) → Opened form rest
@@ -212,7 +211,7 @@ module _ (grammar : Grammar) (n : Naming) (known : Known) (names : Names n known
   opened form rest co fl cl given = absurd (omega (arith, given.good.sound.0.0))
 
   abbrev Bound : Form → List ℕ → List (List ℕ) → Type 0
-  Bound form a rest = Given grammar n known form (a ∷ codes "=" ∷ binding_word form ∷ rest) → Row grammar n known form (a ∷ codes "=" ∷ binding_word form ∷ rest)
+  Bound form a rest = Given n known form (a ∷ codes "=" ∷ binding_word form ∷ rest) → Row n known form (a ∷ codes "=" ∷ binding_word form ∷ rest)
 
   bound0 : (form : Form) (a : List ℕ) (rest : List (List ℕ)) → length rest ≡ 0 → Plain n known form (a ∷ codes "=" ∷ binding_word form ∷ []) → Bound form a rest
   bound0 form a rest e p = shape0 (Bound form a) rest e (λ given. plain form (a ∷ codes "=" ∷ binding_word form ∷ []) given p)
@@ -249,6 +248,6 @@ module _ (grammar : Grammar) (n : Naming) (known : Known) (names : Names n known
   bound form a rest re given = absurd (omega (arith, given.good.sound.1.1.0.0))
 
   -- a line that binds a value
-  pub bind_row : (a v : List ℕ) (rest : List (List ℕ)) → Given grammar n known forms.Bind (a ∷ codes "=" ∷ v ∷ rest) → Row grammar n known forms.Bind (a ∷ codes "=" ∷ v ∷ rest)
+  pub bind_row : (a v : List ℕ) (rest : List (List ℕ)) → Given n known forms.Bind (a ∷ codes "=" ∷ v ∷ rest) → Row n known forms.Bind (a ∷ codes "=" ∷ v ∷ rest)
   bind_row a v [] given = plain forms.Bind (a ∷ codes "=" ∷ v ∷ []) given refl
   bind_row a v (b ∷ rest) given = absurd (omega (arith, given.good.most))

@@ -7,7 +7,6 @@ use Rattle.std.proofs.lemmas.List.Elements.{All-nil, All-cons}
 use Rattle.std.proofs.lemmas.Bool.Decides.{nat_tests}
 use Rattle.cg_script.specs.declared.form.Form.{Form}
 use Rattle.cg_script.specs.declared.form.Form.TheVariants as forms
-use Rattle.cg_script.specs.declared.form.Grammar.TheVariants.{Built}
 use Rattle.cg_script.specs.declared.item.Item.TheVariants as items
 use Rattle.cg_script.specs.declared.item.Script.{Script}
 use Rattle.cg_script.specs.declared.part.Part.{Part}
@@ -78,14 +77,14 @@ is_spelled n (Declares (items.Run c)) below few declared = absurd declared
 is_spelled n (Begins name) below few declared = tt
 is_spelled n Ends below few declared = tt
 
-lines_spelled : Holds Built IsSpelledSaid
+lines_spelled : Holds IsSpelledSaid
 lines_spelled n number known line form words m below =
-    let fitting = says_fits Built number line form words m in
+    let fitting = says_fits number line form words m in
     let ps = parts_of known form words in
     let count : length ps ≡ length words = length-parts_from known.procs known.classes form words known.texts 0 in
     let enough = fitting.enough in
     let most = fitting.most in
-    is_spelled n (said form ps) (texts_hold Built n number known line form words m below) (has_few form ps (omega arith)) (is_declared known form words fitting.fit enough)
+    is_spelled n (said form ps) (texts_hold n number known line form words m below) (has_few form ps (omega arith)) (is_declared known form words fitting.fit enough)
 
 length-body_of : (saids : List Said) → length (body_of saids) ≤ length saids
 length-body_of [] = omega arith
@@ -125,7 +124,7 @@ items_spelled n false (Does command ∷ later) few each = All-cons (IsSpelledIte
 pub spelled_script : (bytes : List ℕ) (script : Script) → reading bytes ≡ spells script.names script.items → length script.names ≤ 25600000 → IsSpelled script
 spelled_script bytes script e few_texts =
     let n = length script.names in
-    let so = said_so Built IsSpelledSaid lines_spelled bytes script.names script.items e in
+    let so = said_so IsSpelledSaid lines_spelled bytes script.names script.items e in
     let few = so.few in
     let lines : All (IsSpelledItem n) (items_of false so.saids) = items_spelled n false so.saids few so.each in
     let count = length-items_of false so.saids in

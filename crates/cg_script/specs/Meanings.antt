@@ -1,6 +1,6 @@
 -- What a line means by its words alone. (Ours.)
 --
--- The codes of bad lines: 1 a byte that is not printable, 2 no form that is built, 3 the number of words, 4 the form of a word, 5 a
+-- The codes of bad lines: 1 a byte that is not printable, 2 no known form, 3 the number of words, 4 the form of a word, 5 a
 -- line that is too long, has too many words, or is one too many.
 use Rattle.std.specs.Prelude.{ℕ, ◌+◌, List, [], ◌∷◌, Bool, true, false, not, ◌&&◌, ◌||◌, length, codes, ◌==◌, nat_lt, slice_index, if◌then◌else◌, Option, None, Some, is_some, unwrap_or}
 use Rattle.std.specs.List.{list_all}
@@ -8,11 +8,10 @@ use Rattle.cg_script.specs.declared.form.Form.{Form}
 use Rattle.cg_script.specs.declared.form.Form.TheVariants as forms
 use Rattle.cg_script.specs.declared.form.Sort.{Sort}
 use Rattle.cg_script.specs.declared.form.Sort.TheVariants.{Key, Variable, Name, Class, Proc, Finalizer, Value, Number, Budget, Count, Flag}
-use Rattle.cg_script.specs.declared.form.Grammar.{Grammar}
 use Rattle.cg_script.specs.Pieces.{words_of, word_at, word_is}
 use Rattle.cg_script.specs.Tables.{named}
 use Rattle.cg_script.specs.Words.{is_printable, is_identifier, is_variable, is_value, is_number, is_count, names_finalizer, names_legacy, flags}
-use Rattle.cg_script.specs.Forms.{row, sort_at, most_read, bindings, openers}
+use Rattle.cg_script.specs.Forms.{row, sort_at, bindings, openers}
 
 -- what a line means: nothing, since it is passed over; these words in a form; or nothing that is read, with a code
 pub data Meaning : Type 0 where
@@ -46,11 +45,9 @@ repeats_finalizer forms.Class words = (length words == 4)
 repeats_finalizer form words = false
 
 -- the words of a line of this form
-abbrev pub formed : Grammar → Form → List (List ℕ) → Meaning
-formed grammar form words =
-    if most_read grammar form == 0 then bad 2
-    else if nat_lt (length words) (row form).fewest || nat_lt (row form).most (length words) then bad 3
-    else if nat_lt (most_read grammar form) (length words) then bad 2
+abbrev pub formed : Form → List (List ℕ) → Meaning
+formed form words =
+    if nat_lt (length words) (row form).fewest || nat_lt (row form).most (length words) then bad 3
     else if not (all_fit form 0 words) || repeats_finalizer form words then bad 4
     else says form words
 
@@ -58,16 +55,16 @@ formed grammar form words =
 abbrev pub binding_form : List (List ℕ) → Form
 binding_form words = if word_is words 2 (codes "ref") && (length words == 3) then forms.Bind else unwrap_or (named bindings (word_at words 2)) forms.Bind
 
-abbrev pub formed_if : Grammar → Option Form → List (List ℕ) → Meaning
-formed_if grammar None words = bad 2
-formed_if grammar (Some form) words = formed grammar form words
+abbrev pub formed_if : Option Form → List (List ℕ) → Meaning
+formed_if None words = bad 2
+formed_if (Some form) words = formed form words
 
 -- these words of a line that is not passed over
-abbrev pub worded : Grammar → List (List ℕ) → Meaning
-worded grammar words =
-    if not (word_is words 1 (codes "=")) then formed_if grammar (named openers (word_at words 0)) words
+abbrev pub worded : List (List ℕ) → Meaning
+worded words =
+    if not (word_is words 1 (codes "=")) then formed_if (named openers (word_at words 0)) words
     else if length words == 2 then bad 3
-    else formed grammar (binding_form words) words
+    else formed (binding_form words) words
 
 -- no words, or a first one that begins with `#`
 abbrev pub is_passed : List (List ℕ) → Bool
@@ -75,9 +72,9 @@ is_passed [] = true
 is_passed (word ∷ words) = slice_index word 0 == 35
 
 -- the line of this number
-unfoldable pub meaning : Grammar → ℕ → List ℕ → Meaning
-meaning grammar number line =
+unfoldable pub meaning : ℕ → List ℕ → Meaning
+meaning number line =
     if not (list_all is_printable line) then bad 1
     else if nat_lt 1024 (length line) || nat_lt 64 (length (words_of line)) || (number == 400001) then bad 5
     else if is_passed (words_of line) then passed
-    else worded grammar (words_of line)
+    else worded (words_of line)

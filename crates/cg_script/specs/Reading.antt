@@ -9,8 +9,6 @@ use Rattle.cg_script.specs.declared.item.Item.{Item}
 use Rattle.cg_script.specs.declared.item.Item.TheVariants as items
 use Rattle.cg_script.specs.declared.form.Form.{Form}
 use Rattle.cg_script.specs.declared.form.Form.TheVariants as forms
-use Rattle.cg_script.specs.declared.form.Grammar.{Grammar}
-use Rattle.cg_script.specs.declared.form.Grammar.TheVariants.{Built}
 use Rattle.cg_script.specs.declared.part.Said.{Said}
 use Rattle.cg_script.specs.declared.part.Said.TheVariants.{Declares, Begins, Ends, Does}
 use Rattle.cg_script.specs.Pieces.{lines_of, word_at}
@@ -55,8 +53,8 @@ checked known (says form words) = says_or_bad (fault_in known form words) form w
 checked known (bad code) = bad code
 
 -- what the line of this number means behind what is known
-unfoldable pub meant : Grammar → Known → ℕ → List ℕ → Meaning
-meant grammar known number line = checked known (meaning grammar number line)
+unfoldable pub meant : Known → ℕ → List ℕ → Meaning
+meant known number line = checked known (meaning number line)
 
 -- the procedures behind a line
 abbrev pub procs_after : List (List ℕ) → Form → List (List ℕ) → List (List ℕ)
@@ -102,10 +100,10 @@ with_later known number (says form words) later = also_said (said form (parts_of
 with_later known number (bad code) later = spoilt number code
 
 -- the lines from this number on; a procedure that is open at the end is a fault of the line behind the last
-abbrev pub lines_from : Grammar → Known → ℕ → List (List ℕ) → Lines
-lines_from grammar known number [] = if known.inside then spoilt number 7 else good known.texts []
-lines_from grammar known number (line ∷ lines) =
-    with_later known number (meant grammar known number line) (λ behind. lines_from grammar behind (number + 1) lines)
+abbrev pub lines_from : Known → ℕ → List (List ℕ) → Lines
+lines_from known number [] = if known.inside then spoilt number 7 else good known.texts []
+lines_from known number (line ∷ lines) =
+    with_later known number (meant known number line) (λ behind. lines_from behind (number + 1) lines)
 
 -- the commands up to `end`
 abbrev pub body_of : List Said → List Command
@@ -133,10 +131,6 @@ abbrev pub script_of : Lines → Reading
 script_of (good texts lines) = spells texts (items_of false lines)
 script_of (spoilt number code) = faulty number code
 
--- by one of the grammars
-abbrev pub reading_by : Grammar → List ℕ → Reading
-reading_by grammar bytes = script_of (lines_from grammar nothing_known 1 (lines_of bytes))
-
--- by the forms that are built
+-- what some bytes are read as
 abbrev pub reading : List ℕ → Reading
-reading bytes = reading_by Built bytes
+reading bytes = script_of (lines_from nothing_known 1 (lines_of bytes))

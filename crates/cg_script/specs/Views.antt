@@ -1,9 +1,8 @@
 -- What the parts of the reader stand for. (Ours.)
-use Rattle.std.specs.Prelude.{◌≡◌, ℕ, ◌+◌, ◌*◌, ◌≤◌, List, ◌∷◌, ◌++◌, Bool, true, false, not, map, length, Option, None, Some, is_some}
+use Rattle.std.specs.Prelude.{◌≡◌, ℕ, ◌+◌, ◌*◌, ◌≤◌, List, ◌∷◌, ◌++◌, Bool, true, false, not, length, Option, None, Some, is_some}
 use Rattle.cg_script.specs.declared.item.Item.{Item}
 use Rattle.cg_script.specs.declared.item.Item.TheVariants as variants
 use Rattle.cg_script.specs.declared.form.Form.{Form}
-use Rattle.cg_script.specs.declared.form.Grammar.{Grammar}
 use Rattle.cg_script.specs.declared.part.Said.{Said}
 use Rattle.cg_script.specs.declared.part.Said.TheVariants.{Declares, Begins, Ends, Does}
 use Rattle.cg_script.specs.declared.line.Line.{Line}
@@ -54,8 +53,8 @@ script_after draft (good texts later) = spells texts (grouped draft.items.items 
 script_after draft (spoilt number code) = faulty number code
 
 -- the reading of these lines behind a draft
-abbrev pub reading_after : Grammar → Draft → ℕ → List (List ℕ) → Reading
-reading_after grammar draft number lines = script_after draft (lines_from grammar (known_of draft) number lines)
+abbrev pub reading_after : Draft → ℕ → List (List ℕ) → Reading
+reading_after draft number lines = script_after draft (lines_from (known_of draft) number lines)
 
 -- A draft is no larger than the lines before this one can make it.
 pub record IsSmall (draft : Draft) (number : ℕ) : Type 0 where

@@ -1,6 +1,6 @@
 //! The table of forms: one row for each command and each declaration.
 ghost use Rattle.std.specs.Prelude.{◌≡◌, map};
-ghost use Rattle.cg_script.specs.Forms.{Row as RowOf, row as row_of, sort_at as sort_of, most_read as most_of, bindings, openers};
+ghost use Rattle.cg_script.specs.Forms.{Row as RowOf, row as row_of, sort_at as sort_of, bindings, openers};
 ghost use Rattle.cg_script.specs.Tables.{named as named_in};
 
 use crate::table::named;
@@ -72,13 +72,6 @@ pub enum Sort {
     Flag,
 }
 
-/// Which forms are read: those that the program runs, or all.
-#[derive(Clone, Copy, Debug, PartialEq, Eq)]
-pub enum Grammar {
-    Built,
-    Whole,
-}
-
 /// What a form asks for.
 #[derive(Clone, Copy)]
 pub(crate) struct Row {
@@ -88,21 +81,17 @@ pub(crate) struct Row {
     pub fewest: usize,
     /// The greatest.
     pub most: usize,
-    /// The greatest that is built, 0 where the form is not.
-    built: usize,
 }
 
-fn asks(places: &'static [Sort], fewest: usize, most: usize, built: usize) -> Row
+fn asks(places: &'static [Sort], fewest: usize, most: usize) -> Row
     ensures places { result.places.now ≡ places.now }
     ensures fewest { result.fewest ≡ fewest }
     ensures most { result.most ≡ most }
-    ensures built { result.built ≡ built }
 {
     Row {
         places,
         fewest,
         most,
-        built,
     }
 }
 
@@ -111,48 +100,47 @@ pub(crate) fn row_for(form: Form) -> Row
     ensures places { result.places.now ≡ (row_of form).places }
     ensures fewest { result.fewest ≡ (row_of form).fewest }
     ensures most { result.most ≡ (row_of form).most }
-    ensures built { result.built ≡ (row_of form).built }
 {
     use Sort::{Budget, Class, Count, Finalizer, Flag, Key, Name, Number, Proc, Value, Variable};
     match form {
-        Form::MakeList => asks(&[Variable, Key, Key], 3, 64, 64),
-        Form::MakeTuple => asks(&[Variable, Key, Key], 4, 64, 64),
-        Form::MakeDict => asks(&[Variable, Key, Key], 3, 3, 3),
-        Form::MakeInst => asks(&[Variable, Key, Key, Class], 4, 4, 4),
-        Form::MakeFunc => asks(&[Variable, Key, Key, Proc], 4, 12, 12),
-        Form::MakeRef => asks(&[Variable, Key, Key, Value, Value], 4, 5, 5),
-        Form::Bind => asks(&[Variable, Key, Value], 3, 3, 3),
-        Form::Del => asks(&[Key, Variable], 2, 2, 2),
-        Form::Append => asks(&[Key, Value, Value], 3, 3, 3),
-        Form::SetItem => asks(&[Key, Value, Number, Value], 4, 4, 4),
-        Form::DelItem => asks(&[Key, Value, Number], 3, 3, 3),
-        Form::Put => asks(&[Key, Value, Value, Value], 4, 4, 4),
-        Form::Remove => asks(&[Key, Value, Value], 3, 3, 3),
-        Form::SetAttr => asks(&[Key, Value, Name, Value], 4, 4, 4),
-        Form::DelAttr => asks(&[Key, Value, Name], 3, 3, 3),
-        Form::Item => asks(&[Variable, Key, Key, Value, Number], 5, 5, 5),
-        Form::Get => asks(&[Variable, Key, Key, Value, Value], 5, 5, 5),
-        Form::Attr => asks(&[Variable, Key, Key, Value, Name], 5, 5, 5),
-        Form::Deref => asks(&[Variable, Key, Key, Value], 4, 4, 4),
-        Form::Call => asks(&[Key, Value], 2, 2, 2),
-        Form::Quit => asks(&[Key, Value], 2, 2, 2),
-        Form::Collect => asks(&[Key, Number], 1, 2, 2),
-        Form::Enable => asks(&[Key], 1, 1, 1),
-        Form::Disable => asks(&[Key], 1, 1, 1),
-        Form::Threshold => asks(&[Key, Count, Count, Count], 2, 4, 4),
-        Form::Flags => asks(&[Key, Flag, Flag, Flag, Flag, Flag], 1, 6, 6),
-        Form::Freeze => asks(&[Key], 1, 1, 1),
-        Form::Unfreeze => asks(&[Key], 1, 1, 1),
-        Form::Print => asks(&[Key, Value], 2, 2, 2),
-        Form::Refs => asks(&[Key, Value], 2, 2, 2),
-        Form::Tracked => asks(&[Key, Value], 2, 2, 2),
-        Form::Finalized => asks(&[Key, Value], 2, 2, 2),
-        Form::Count => asks(&[Key], 1, 1, 1),
-        Form::Gens => asks(&[Key], 1, 1, 1),
-        Form::Budget => asks(&[Key, Budget], 2, 2, 2),
-        Form::Class => asks(&[Key, Name, Finalizer, Finalizer], 2, 4, 4),
-        Form::Def => asks(&[Key, Name], 2, 2, 2),
-        Form::End => asks(&[Key], 1, 1, 1),
+        Form::MakeList => asks(&[Variable, Key, Key], 3, 64),
+        Form::MakeTuple => asks(&[Variable, Key, Key], 4, 64),
+        Form::MakeDict => asks(&[Variable, Key, Key], 3, 3),
+        Form::MakeInst => asks(&[Variable, Key, Key, Class], 4, 4),
+        Form::MakeFunc => asks(&[Variable, Key, Key, Proc], 4, 12),
+        Form::MakeRef => asks(&[Variable, Key, Key, Value, Value], 4, 5),
+        Form::Bind => asks(&[Variable, Key, Value], 3, 3),
+        Form::Del => asks(&[Key, Variable], 2, 2),
+        Form::Append => asks(&[Key, Value, Value], 3, 3),
+        Form::SetItem => asks(&[Key, Value, Number, Value], 4, 4),
+        Form::DelItem => asks(&[Key, Value, Number], 3, 3),
+        Form::Put => asks(&[Key, Value, Value, Value], 4, 4),
+        Form::Remove => asks(&[Key, Value, Value], 3, 3),
+        Form::SetAttr => asks(&[Key, Value, Name, Value], 4, 4),
+        Form::DelAttr => asks(&[Key, Value, Name], 3, 3),
+        Form::Item => asks(&[Variable, Key, Key, Value, Number], 5, 5),
+        Form::Get => asks(&[Variable, Key, Key, Value, Value], 5, 5),
+        Form::Attr => asks(&[Variable, Key, Key, Value, Name], 5, 5),
+        Form::Deref => asks(&[Variable, Key, Key, Value], 4, 4),
+        Form::Call => asks(&[Key, Value], 2, 2),
+        Form::Quit => asks(&[Key, Value], 2, 2),
+        Form::Collect => asks(&[Key, Number], 1, 2),
+        Form::Enable => asks(&[Key], 1, 1),
+        Form::Disable => asks(&[Key], 1, 1),
+        Form::Threshold => asks(&[Key, Count, Count, Count], 2, 4),
+        Form::Flags => asks(&[Key, Flag, Flag, Flag, Flag, Flag], 1, 6),
+        Form::Freeze => asks(&[Key], 1, 1),
+        Form::Unfreeze => asks(&[Key], 1, 1),
+        Form::Print => asks(&[Key, Value], 2, 2),
+        Form::Refs => asks(&[Key, Value], 2, 2),
+        Form::Tracked => asks(&[Key, Value], 2, 2),
+        Form::Finalized => asks(&[Key, Value], 2, 2),
+        Form::Count => asks(&[Key], 1, 1),
+        Form::Gens => asks(&[Key], 1, 1),
+        Form::Budget => asks(&[Key, Budget], 2, 2),
+        Form::Class => asks(&[Key, Name, Finalizer, Finalizer], 2, 4),
+        Form::Def => asks(&[Key, Name], 2, 2),
+        Form::End => asks(&[Key], 1, 1),
     }
 }
 
@@ -163,16 +151,6 @@ pub(crate) fn sort_at(form: Form, place: usize) -> Sort
     match row_for(form).places.get(place) {
         Some(sort) => *sort,
         None => Sort::Value,
-    }
-}
-
-/// The greatest number of words that is read.
-pub(crate) fn most_read(grammar: Grammar, form: Form) -> usize
-    ensures { result ≡ most_of grammar form }
-{
-    match grammar {
-        Grammar::Built => row_for(form).built,
-        Grammar::Whole => row_for(form).most,
     }
 }
 

@@ -31,10 +31,10 @@ pub use printer::print;
 pub use reader::parse;
 
 #[cfg(test)]
+mod form_tests;
+#[cfg(test)]
 mod printer_tests;
 #[cfg(test)]
 mod reader_tests;
 #[cfg(test)]
 mod tests;
-#[cfg(test)]
-mod whole_tests;

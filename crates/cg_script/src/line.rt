@@ -4,7 +4,7 @@ ghost use Rattle.cg_script.specs.Pieces.{word_is, word_at};
 ghost use Rattle.cg_script.specs.Meanings.{fits, all_fit, repeats_finalizer, formed, binding_form, worded, is_passed, meaning};
 ghost use Rattle.cg_script.specs.Views.{meaning_of};
 
-use crate::form::{Form, Grammar, Sort, binding_named, most_read, opener_named, row_for, sort_at};
+use crate::form::{Form, Sort, binding_named, opener_named, row_for, sort_at};
 use crate::pieces::{Words, find_words};
 use crate::word::{
     flag, is_count_word, is_identifier_word, is_number_word, is_printable_text, is_value_word,
@@ -92,19 +92,12 @@ fn has_two_alike(form: Form, words: &[&[u8]]) -> bool
 }
 
 /// The words of a line of this form.
-fn formed_line(grammar: Grammar, form: Form, words: &[&[u8]]) -> Line
-    ensures { meaning_of result (map (λ w. w.now) words.now) ≡ formed grammar form (map (λ w. w.now) words.now) }
+fn formed_line(form: Form, words: &[&[u8]]) -> Line
+    ensures { meaning_of result (map (λ w. w.now) words.now) ≡ formed form (map (λ w. w.now) words.now) }
 {
     let row = row_for(form);
-    let read = most_read(grammar, form);
-    if read == 0 {
-        return Line::Bad(UNKNOWN_FORM);
-    }
     if words.len() < row.fewest || row.most < words.len() {
         return Line::Bad(WORD_COUNT);
-    }
-    if read < words.len() {
-        return Line::Bad(UNKNOWN_FORM);
     }
     if !all_words_fit(form, words) || has_two_alike(form, words) {
         return Line::Bad(WORD_FORM);
@@ -127,18 +120,18 @@ fn form_of_binding(words: &[&[u8]]) -> Form
 }
 
 /// A line of these words, which is not passed over.
-fn line_of_words(grammar: Grammar, words: &[&[u8]]) -> Line
+fn line_of_words(words: &[&[u8]]) -> Line
     requires { 1 ≤ length words.now }
-    ensures { meaning_of result (map (λ w. w.now) words.now) ≡ worded grammar (map (λ w. w.now) words.now) }
+    ensures { meaning_of result (map (λ w. w.now) words.now) ≡ worded (map (λ w. w.now) words.now) }
 {
     if words.len() >= 2 && has_word(words, 1, b"=") {
         if words.len() == 2 {
             return Line::Bad(WORD_COUNT);
         }
-        return formed_line(grammar, form_of_binding(words), words);
+        return formed_line(form_of_binding(words), words);
     }
     match opener_named(words[0]) {
-        Some(form) => formed_line(grammar, form, words),
+        Some(form) => formed_line(form, words),
         None => Line::Bad(UNKNOWN_FORM),
     }
 }
@@ -155,14 +148,9 @@ fn is_passed_over(words: &[&[u8]]) -> bool
 
 /// What the line of this number means, and its words, into a list that is empty before.
 #[tactic(auto, unfolding(crate::specs::Meanings::meaning))]
-pub(crate) fn read_line<'a>(
-    grammar: Grammar,
-    number: u32,
-    line: &'a [u8],
-    found: &mut Words<'a>,
-) -> Line
+pub(crate) fn read_line<'a>(number: u32, line: &'a [u8], found: &mut Words<'a>) -> Line
     requires { found.old.items ≡ [] }
-    ensures { meaning_of result (map (λ w. w.now) found.new.items) ≡ meaning grammar number line.now }
+    ensures { meaning_of result (map (λ w. w.now) found.new.items) ≡ meaning number line.now }
 {
     if !is_printable_text(line) {
         return Line::Bad(NOT_PRINTABLE);
@@ -177,5 +165,5 @@ pub(crate) fn read_line<'a>(
     if is_passed_over(words) {
         return Line::Passed;
     }
-    line_of_words(grammar, words)
+    line_of_words(words)
 }

@@ -2,15 +2,13 @@
 ghost use Rattle.std.specs.Prelude.{◌≡◌, ◌+◌, ◌<◌, ◌≤◌, [], ◌∷◌, ℕ, List, length, IfOk, IfErr, OnOk, OnErr};
 ghost use Rattle.cg_script.specs.Texts.{TextsAreKnown};
 ghost use Rattle.cg_script.specs.Pieces.{lines_of};
-ghost use Rattle.cg_script.specs.Reading.{reading, reading_by, spells};
-ghost use Rattle.cg_script.specs.declared.form.Grammar.{Grammar as AnyGrammar};
+ghost use Rattle.cg_script.specs.Reading.{reading, spells};
 ghost use Rattle.cg_script.specs.Views.{reading_after, IsSmall};
 ghost use Rattle.cg_script.specs.Faults.{IsFault};
 ghost use Rattle.cg_script.specs.Spelled.{IsSpelled};
 
 use crate::draft::{Draft, empty, take_words};
 use crate::fault::ScriptFault;
-use crate::form::Grammar;
 use crate::item::Script;
 use crate::line::{Line, read_line};
 use crate::members::Items;
@@ -25,20 +23,19 @@ const NO_END: u8 = 7;
 /// Takes the line of this number. Its words and parts go into lists that serve all lines.
 fn take_line<'a>(
     draft: &mut Draft,
-    grammar: Grammar,
     number: u32,
     line: &'a [u8],
     words: &mut Words<'a>,
     parts: &mut Parts,
 ) -> Result<(), ScriptFault>
     requires { IsSmall draft.old number }
-    ensures ok { OnOk result ((lines : List (List ℕ)) → reading_after grammar draft.new (number + 1) lines ≡ reading_after grammar draft.old number (line.now ∷ lines)) }
+    ensures ok { OnOk result ((lines : List (List ℕ)) → reading_after draft.new (number + 1) lines ≡ reading_after draft.old number (line.now ∷ lines)) }
     ensures small { OnOk result (IsSmall draft.new (number + 1)) }
-    ensures fault { IfErr result (λ fault. (lines : List (List ℕ)) → IsFault fault (reading_after grammar draft.old number (line.now ∷ lines))) }
+    ensures fault { IfErr result (λ fault. (lines : List (List ℕ)) → IsFault fault (reading_after draft.old number (line.now ∷ lines))) }
 {
     words.clear();
     parts.clear();
-    match read_line(grammar, number, line, words) {
+    match read_line(number, line, words) {
         Line::Passed => Ok(()),
         Line::Bad(code) => Err(ScriptFault::Bad { line: number, code }),
         Line::Says(form) => match take_words(draft, form, words.as_slice(), parts) {
@@ -50,11 +47,11 @@ fn take_line<'a>(
 }
 
 /// Takes all lines, and answers the number that the line behind them would have.
-fn take_lines(draft: &mut Draft, grammar: Grammar, bytes: &[u8]) -> Result<u32, ScriptFault>
+fn take_lines(draft: &mut Draft, bytes: &[u8]) -> Result<u32, ScriptFault>
     requires { IsSmall draft.old 1 }
-    ensures ok { IfOk result (λ number. reading_after grammar draft.new number [] ≡ reading_after grammar draft.old 1 (lines_of bytes.now)) }
+    ensures ok { IfOk result (λ number. reading_after draft.new number [] ≡ reading_after draft.old 1 (lines_of bytes.now)) }
     ensures small { IfOk result (λ number. IsSmall draft.new number) }
-    ensures fault { IfErr result (λ fault. IsFault fault (reading_after grammar draft.old 1 (lines_of bytes.now))) }
+    ensures fault { IfErr result (λ fault. IsFault fault (reading_after draft.old 1 (lines_of bytes.now))) }
 {
     let mut number: u32 = 1;
     let mut rest = bytes;
@@ -62,7 +59,7 @@ fn take_lines(draft: &mut Draft, grammar: Grammar, bytes: &[u8]) -> Result<u32, 
     let mut parts = ArrayVec::new();
     'lines: while !rest.is_empty() {
         let (line, after) = cut(rest, b'\n');
-        match take_line(draft, grammar, number, line, &mut words, &mut parts) {
+        match take_line(draft, number, line, &mut words, &mut parts) {
             Ok(()) => {
                 number += 1;
                 rest = after;
@@ -76,8 +73,8 @@ fn take_lines(draft: &mut Draft, grammar: Grammar, bytes: &[u8]) -> Result<u32, 
 /// The script, unless a procedure is not ended.
 fn finish(draft: Draft, number: u32) -> Result<Script, ScriptFault>
     requires { IsSmall draft number }
-    ensures ok { IfOk result (λ script. (grammar : AnyGrammar) → reading_after grammar draft number [] ≡ spells script.names script.items) }
-    ensures fault { IfErr result (λ fault. (grammar : AnyGrammar) → IsFault fault (reading_after grammar draft number [])) }
+    ensures ok { IfOk result (λ script. reading_after draft number [] ≡ spells script.names script.items) }
+    ensures fault { IfErr result (λ fault. IsFault fault (reading_after draft number [])) }
     ensures few_texts { IfOk result (λ script. length script.names ≤ 25600000) }
     ensures few_items { IfOk result (λ script. length script.items ≤ 400000) }
 {
@@ -93,21 +90,6 @@ fn finish(draft: Draft, number: u32) -> Result<Script, ScriptFault>
             items,
         }),
         Err(_) => Err(ScriptFault::OutOfMemory),
-    }
-}
-
-/// The script that the bytes spell by one of the grammars.
-pub(crate) fn parse_by(alloc: Global, grammar: Grammar, bytes: &[u8]) -> Result<Script, ScriptFault>
-    ensures ok { IfOk result (λ script. reading_by grammar bytes.now ≡ spells script.names script.items) }
-    ensures fault { IfErr result (λ fault. IsFault fault (reading_by grammar bytes.now)) }
-    ensures known { IfOk result TextsAreKnown }
-    ensures few_texts { IfOk result (λ script. length script.names ≤ 25600000) }
-    ensures few_items { IfOk result (λ script. length script.items ≤ 400000) }
-{
-    let mut draft = empty(alloc);
-    match take_lines(&mut draft, grammar, bytes) {
-        Ok(number) => finish(draft, number),
-        Err(fault) => Err(fault),
     }
 }
 
@@ -129,5 +111,9 @@ pub fn parse(alloc: Global, bytes: &[u8]) -> Result<Script, ScriptFault>
     ensures few_items { IfOk result (λ script. length script.items ≤ 400000) }
     ensures spelled { IfOk result IsSpelled }
 {
-    parse_by(alloc, Grammar::Built, bytes)
+    let mut draft = empty(alloc);
+    match take_lines(&mut draft, bytes) {
+        Ok(number) => finish(draft, number),
+        Err(fault) => Err(fault),
+    }
 }

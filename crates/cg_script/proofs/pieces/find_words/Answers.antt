@@ -1,4 +1,4 @@
-use Rattle.std.proofs.Common.{◌≡◌, refl, ◌∷◌, ℕ, List, Bor, ◌++◌, ◌≤◌, ◌+◌, [], length, map, arith, ap, ◌∙◌, sym, length-append}
+use Rattle.std.proofs.Common.{◌≡◌, refl, ◌∷◌, ℕ, List, Bor, ◌++◌, ◌≤◌, ◌+◌, [], length, map, arith, ap, length-append}
 use Rattle.std.proofs.lemmas.List.{length-map}
 use Rattle.std.proofs.lemmas.Bool.Decides.{nat_tests}
 use Rattle.cg_script.specs.Pieces.{words_of}

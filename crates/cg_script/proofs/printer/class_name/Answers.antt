@@ -1,5 +1,4 @@
-use Rattle.std.proofs.Common.{◌∙◌, sym, ap}
-use Rattle.std.specs.Prelude.{option_copied}
+use Rattle.std.proofs.Common.{◌∙◌, sym}
 use Rattle.cg_script.specs.Items.{classes}
 use Rattle.cg_script.proofs.Written.{name_there, name_missing}
 use Rattle.cg_script.proofs.printer.class_name.Goals as goal

@@ -7,20 +7,20 @@ use Rattle.cg_script.proofs.Lines.{line_passed, line_bad, line_faulty, line_take
 use Rattle.cg_script.proofs.reader.take_line.Goals as goal
 
 pub take_words-requires-clause-fit : goal.take_words-requires-clause-fit
-take_words-requires-clause-fit c = rw c.as_slice.ensures.value (says_fits c.args.grammar c.args.number c.args.line.now c.in-Says.form _ c.in-Says.ensures).fit
+take_words-requires-clause-fit c = rw c.as_slice.ensures.value (says_fits c.args.number c.args.line.now c.in-Says.form _ c.in-Says.ensures).fit
 
 pub take_words-requires-clause-enough : goal.take_words-requires-clause-enough
 take_words-requires-clause-enough c =
-    let f = says_fits c.args.grammar c.args.number c.args.line.now c.in-Says.form _ c.in-Says.ensures in
+    let f = says_fits c.args.number c.args.line.now c.in-Says.form _ c.in-Says.ensures in
     let e : length (map (λ w. w.now) c.read_line.new.found.items) ≡ length c.read_line.new.found.items = length-map c.read_line.new.found.items (λ w. w.now) in
     rw c.as_slice.ensures.value (rw e at f.enough)
 
 pub returns-in-Passed-clause-ok : goal.returns-in-Passed-clause-ok
-returns-in-Passed-clause-ok c = line_passed c.args.grammar c.args.draft.now c.args.number c.args.line.now c.in-Passed.ensures
+returns-in-Passed-clause-ok c = line_passed c.args.draft.now c.args.number c.args.line.now c.in-Passed.ensures
 
 pub returns-in-Passed-clause-small : goal.returns-in-Passed-clause-small
 returns-in-Passed-clause-small c = record {
-  lines = passed_before_last c.args.grammar c.args.number c.args.line.now c.in-Passed.ensures c.requires.lines;
+  lines = passed_before_last c.args.number c.args.line.now c.in-Passed.ensures c.requires.lines;
   texts = omega (arith, c.requires.texts);
   procs = omega (arith, c.requires.procs);
   classes = omega (arith, c.requires.classes);
@@ -28,15 +28,15 @@ returns-in-Passed-clause-small c = record {
 }
 
 pub returns-in-Bad-clause-fault : goal.returns-in-Bad-clause-fault
-returns-in-Bad-clause-fault c = line_bad c.args.grammar c.args.draft.now c.args.number c.args.line.now c.in-Bad.code c.in-Bad.ensures
+returns-in-Bad-clause-fault c = line_bad c.args.draft.now c.args.number c.args.line.now c.in-Bad.code c.in-Bad.ensures
 
 -- the meaning of the line, by the words that are handed on
-meant_so : (c : goal.In-Ok-None) → says c.in-Says.form (map (λ w. w.now) c.as_slice.result.now) ≡ meaning c.args.grammar c.args.number c.args.line.now
+meant_so : (c : goal.In-Ok-None) → says c.in-Says.form (map (λ w. w.now) c.as_slice.result.now) ≡ meaning c.args.number c.args.line.now
 meant_so c = rw c.as_slice.ensures.value c.in-Says.ensures
 
 pub returns-in-Ok-None-clause-ok : goal.returns-in-Ok-None-clause-ok
 returns-in-Ok-None-clause-ok c =
-    line_taken c.args.grammar c.args.draft.now c.args.number c.args.line.now c.in-Says.form _ c.take_words.new.draft (meant_so c) (sym c.in-Ok-None.field-0-is ∙ c.in-Ok-None.ensures.fault)
+    line_taken c.args.draft.now c.args.number c.args.line.now c.in-Says.form _ c.take_words.new.draft (meant_so c) (sym c.in-Ok-None.field-0-is ∙ c.in-Ok-None.ensures.fault)
     (c.in-Ok-None.ensures.takes (ap Ok c.in-Ok-None.field-0-is))
 
 pub returns-in-Ok-None-clause-small : goal.returns-in-Ok-None-clause-small
@@ -45,7 +45,7 @@ returns-in-Ok-None-clause-small c =
     let known = (c.in-Ok-None.ensures.takes e).known in
     let words = map (λ (w : Bor (List ℕ)). w.now) c.as_slice.result.now in
     record {
-      lines = says_before_last c.args.grammar c.args.number c.args.line.now c.in-Says.form words (meant_so c) c.requires.lines;
+      lines = says_before_last c.args.number c.args.line.now c.in-Says.form words (meant_so c) c.requires.lines;
       texts = omega (arith, c.in-Ok-None.ensures.few_names e, c.requires.texts);
       procs = omega (arith, ap length (ap (λ (k : Known). k.procs) known), one_proc_more c.args.draft.now.procs c.in-Says.form words, c.requires.procs);
       classes = omega (arith, ap length (ap (λ (k : Known). k.classes) known), one_class_more c.args.draft.now.classes c.in-Says.form words, c.requires.classes);
@@ -53,5 +53,5 @@ returns-in-Ok-None-clause-small c =
     }
 
 pub returns-in-Ok-Some-clause-fault : goal.returns-in-Ok-Some-clause-fault
-returns-in-Ok-Some-clause-fault c = line_faulty c.args.grammar c.args.draft.now c.args.number c.args.line.now c.in-Says.form (map (λ (w : Bor (List ℕ)). w.now) c.as_slice.result.now) c.in-Ok-Some.code
+returns-in-Ok-Some-clause-fault c = line_faulty c.args.draft.now c.args.number c.args.line.now c.in-Says.form (map (λ (w : Bor (List ℕ)). w.now) c.as_slice.result.now) c.in-Ok-Some.code
     (rw c.as_slice.ensures.value c.in-Says.ensures) (sym c.in-Ok-Some.field-0-is ∙ c.in-Ok-Some.ensures.fault)

@@ -6,7 +6,7 @@ use Rattle.cg_script.proofs.reader.take_lines.Given as goal
 -- what is left is read behind the draft as the whole is
 abbrev pub invariant-lines : goal.invariant-lines
 invariant-lines l = record {
-  same : reading_after l.grammar l.draft l.number (lines_of l.rest) ≡ reading_after l.grammar l.fn.draft 1 (lines_of l.bytes);
+  same : reading_after l.draft l.number (lines_of l.rest) ≡ reading_after l.fn.draft 1 (lines_of l.bytes);
   small : IsSmall l.draft l.number;
 }
 

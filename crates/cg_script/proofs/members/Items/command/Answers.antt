@@ -1,4 +1,4 @@
-use Rattle.std.proofs.Common.{◌≡◌, ap, sym, subst, ◌∙◌, None, Some, slice_get, option_copied}
+use Rattle.std.proofs.Common.{◌≡◌, ap, sym, subst, ◌∙◌, None, slice_get, option_copied}
 use Rattle.cg_script.specs.declared.item.Item.TheVariants.{Run}
 use Rattle.cg_script.specs.Items.{commands_of}
 use Rattle.cg_script.proofs.Positions.{at_number, past_numbers}

@@ -1,13 +1,11 @@
-//! Reading by the whole grammar.
-use crate::form::Grammar;
-use crate::reader::parse_by;
+//! Reading each form.
 use crate::{Command, Item, Operand, Script, ScriptFault, parse};
 use std::alloc::{AllocError, Global};
 use std::test::Fail;
 
 /// Whether the bytes spell a script, or else the number and the code of their first bad line.
 fn told(alloc: Global, bytes: &[u8]) -> Result<String, AllocError> {
-    match parse_by(alloc, Grammar::Whole, bytes) {
+    match parse(alloc, bytes) {
         Ok(_) => String::from_str(alloc, "good"),
         Err(ScriptFault::Bad { line, code }) => format!(in alloc; "bad {line} {code}"),
         Err(ScriptFault::OutOfMemory) => Err(AllocError),
