@@ -273,4 +273,3 @@ pub returns-in-Gens : goal.returns-in-Gens
 returns-in-Gens g c =
     tells c.args.heap.now c.args.policy.now c.args.locals c.args.room c.args.command.now _ c.in-Gens.is (λ own. own) refl (λ w. gens_line w.objects) (λ w. refl) c.sizes.result
     (λ w r same. ap gens_line (sym r.objects) ∙ sym c.sizes.ensures) c.told-in-Gens.result c.told-in-Gens.ensures
-
