@@ -15,7 +15,9 @@ pub const MOST_BLOCKS: u32 = 10_000;
 
 /// The variables, by number.
 const CHAIN: u32 = 0;
+
 const FIRST: u32 = 1;
+
 const SECOND: u32 = 2;
 
 /// The names of the variables.
