@@ -1,6 +1,6 @@
 -- What words ask for: what `clap` makes of them by the command line below, and the form of the number in them. (The command
 -- line is ours; `fault_of`, `subcommand_of` and `first_of` are clap's own words for a simple command.)
-use Rattle.std.specs.Prelude.{◌≡◌, ℕ, List, [], ◌∷◌, Bool, true, ◌&&◌, nat_le, if◌then◌else◌, codes, Option, None, Some, option_map, option_and_then}
+use Rattle.std.specs.Prelude.{◌≡◌, ◌≤◌, ℕ, List, [], ◌∷◌, Bool, true, ◌&&◌, nat_le, if◌then◌else◌, codes, Option, None, Some, option_map, option_and_then}
 use Rattle.std.specs.Str.{bytes_eq}
 use Rattle.clap.specs.declared.builder.action.ArgAction.TheVariants.{Set}
 use Rattle.clap.specs.Walk.{Text, Row, Rule, first_of, is_empty}
@@ -75,3 +75,9 @@ AsksFor words job = asked words ≡ Some job
 -- the words ask for some job
 abbrev pub Ask : List Text → Type 0
 Ask words = (job : Job) × AsksFor words job
+
+-- what is true of each job that words ask for
+abbrev pub IsInRange : Job → Type 0
+IsInRange (Run None) = Unit {0}
+IsInRange (Run (Some budget)) = budget ≤ 100000
+IsInRange (Generate blocks) = (1 ≤ blocks) × (blocks ≤ 10000)

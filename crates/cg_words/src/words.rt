@@ -1,10 +1,10 @@
 //! What the words after the program's name ask for.
-ghost use Rattle.std.specs.Prelude.{◌≡◌, false, IfOk, map, option_map, string_bytes};
+ghost use Rattle.std.specs.Prelude.{◌≡◌, ◌≤◌, false, IfOk, IfSome, map, option_map, string_bytes};
 ghost use Rattle.std.specs.List.{list_all};
 ghost use Rattle.clap.specs.Words.{app_of, subcommand_rows_of};
 ghost use Rattle.clap.specs.declared.builder.command.Command.TheViews.{out-Command as fields_of};
 ghost use Rattle.cg_script.specs.Words.{is_digit, are_digits};
-ghost use Rattle.cg_words.specs.Words.{number_between, run_by, generate_by, job_in, run_line, generate_line, command_line as line_of_commands, asked};
+ghost use Rattle.cg_words.specs.Words.{number_between, run_by, generate_by, job_in, run_line, generate_line, command_line as line_of_commands, asked, IsInRange};
 
 use clap::error::ErrorKind;
 use clap::{Arg, ArgAction, ArgMatches, Command};
@@ -49,7 +49,8 @@ fn is_numeral(word: &str) -> bool
 
 /// The number that a word writes, where it is in this range.
 fn number_in(word: &str, least: u32, most: u32) -> Option<u32>
-    ensures { result ≡ number_between least most word.now }
+    ensures number { result ≡ number_between least most word.now }
+    ensures within { IfSome result (λ n. (least ≤ n) × (n ≤ most)) }
 {
     if !is_numeral(word) {
         return None;
@@ -100,7 +101,8 @@ fn command_line<'a>(alloc: Global) -> Result<Command<'a>, AllocError>
 
 /// A run, by the text of its option.
 fn run_job_by(budget: Option<&str>) -> Option<Job>
-    ensures { result ≡ run_by (option_map (λ t. t.now) budget.entry) }
+    ensures job { result ≡ run_by (option_map (λ t. t.now) budget.entry) }
+    ensures range { IfSome result IsInRange }
 {
     match budget {
         None => Some(Job::Run { budget: None }),
@@ -115,7 +117,8 @@ fn run_job_by(budget: Option<&str>) -> Option<Job>
 
 /// A large script, by its text.
 fn generate_job_by(blocks: Option<&str>) -> Option<Job>
-    ensures { result ≡ generate_by (option_map (λ t. t.now) blocks.entry) }
+    ensures job { result ≡ generate_by (option_map (λ t. t.now) blocks.entry) }
+    ensures range { IfSome result IsInRange }
 {
     let blocks = number_in(blocks?, 1, MOST_BLOCKS)?;
     Some(Job::Generate { blocks })
@@ -123,7 +126,8 @@ fn generate_job_by(blocks: Option<&str>) -> Option<Job>
 
 /// The job of a subcommand and what was found for its argument.
 fn job_in_matches(matches: &ArgMatches<'_>) -> Option<Job>
-    ensures { result ≡ job_in (subcommand_rows_of matches.now) }
+    ensures job { result ≡ job_in (subcommand_rows_of matches.now) }
+    ensures range { IfSome result IsInRange }
 {
     let (name, found) = matches.subcommand()?;
     match name {
@@ -139,7 +143,8 @@ fn job_in_matches(matches: &ArgMatches<'_>) -> Option<Job>
 /// The words are read by `clap`. It answers `None` where clap refuses them, or where the text taken for N has not this form
 /// and range, and `AllocError` for want of memory alone. (Ours.)
 pub fn read_words(alloc: Global, words: &[String]) -> Result<Option<Job>, AllocError>
-    ensures { IfOk result (λ job. job ≡ asked (map string_bytes words.now)) }
+    ensures job { IfOk result (λ job. job ≡ asked (map string_bytes words.now)) }
+    ensures range { IfOk result (λ job. IfSome job IsInRange) }
 {
     match command_line(alloc)?.try_get_matches_from(words) {
         Ok(matches) => Ok(job_in_matches(&matches)),
