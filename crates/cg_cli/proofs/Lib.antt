@@ -1,5 +1,4 @@
 pub mod Told
 pub mod Budgets
-pub mod Asked
 pub mod Refusals
 pub mod Summed

@@ -27,4 +27,6 @@ mod kinds;
 #[cfg(test)]
 mod rows;
 #[cfg(test)]
+mod summaries;
+#[cfg(test)]
 mod tests;

@@ -9,11 +9,22 @@ const JOBS: [(&[&str], Job); 17] = [
     (&["run", "--budget", "5"], Job::Run { budget: Some(5) }),
     (&["run", "--budget=5"], Job::Run { budget: Some(5) }),
     (&["run", "--budget", "0"], Job::Run { budget: Some(0) }),
-    (&["run", "--budget", "100000"], Job::Run { budget: Some(100_000) }),
-    (&["run", "--budget", "000100"], Job::Run { budget: Some(100) }),
+    (
+        &["run", "--budget", "100000"],
+        Job::Run {
+            budget: Some(100_000),
+        },
+    ),
+    (
+        &["run", "--budget", "000100"],
+        Job::Run { budget: Some(100) },
+    ),
     (&["run", "--budget=007"], Job::Run { budget: Some(7) }),
     (&["run", "--"], Job::Run { budget: None }),
-    (&["run", "--budget", "5", "--"], Job::Run { budget: Some(5) }),
+    (
+        &["run", "--budget", "5", "--"],
+        Job::Run { budget: Some(5) },
+    ),
     (&["generate", "1"], Job::Generate { blocks: 1 }),
     (&["generate", "3"], Job::Generate { blocks: 3 }),
     (&["generate", "007"], Job::Generate { blocks: 7 }),
@@ -88,7 +99,11 @@ fn strings(alloc: Global, words: &[&str]) -> Result<Vec<String>, AllocError> {
 fn words_with_a_job(rt: HostRuntime) -> Result<(), Fail> {
     for (words, job) in JOBS {
         let strings = strings(rt.alloc(), words)?;
-        assert_eq!(rt; read_words(rt.alloc(), strings.as_slice())?, Some(job), "at {words:?}");
+        assert_eq!(rt;
+            read_words(rt.alloc(), strings.as_slice())?,
+            Some(job),
+            "at {words:?}"
+        );
     }
     Ok(())
 }
@@ -97,7 +112,11 @@ fn words_with_a_job(rt: HostRuntime) -> Result<(), Fail> {
 fn words_without_a_job(rt: HostRuntime) -> Result<(), Fail> {
     for words in NONE {
         let strings = strings(rt.alloc(), words)?;
-        assert_eq!(rt; read_words(rt.alloc(), strings.as_slice())?, None, "at {words:?}");
+        assert_eq!(rt;
+            read_words(rt.alloc(), strings.as_slice())?,
+            None,
+            "at {words:?}"
+        );
     }
     Ok(())
 }
