@@ -13,7 +13,6 @@ use Rattle.cg_script.specs.declared.Item.TheVariants.{Budget, Class, Def, Run}
 use Rattle.cg_script.specs.Spelled.{IsSpelled, IsSpelledItem}
 use Rattle.cg_script.specs.Words.{is_digit, are_digits, decimal_value, decimal_after}
 use Rattle.cg_script.proofs.Ascii.{both}
-use Rattle.cg_cli.specs.Words.{IsBudget}
 use Rattle.cg_cli.specs.Statuses.{budget_in, budget_of}
 
 -- the next line sets it
@@ -38,33 +37,3 @@ few_frames given script budget small spelled is = subst (λ n. n ≤ 100000) (sy
     few : (o : Option ℕ) → IfSome o (λ n. n ≤ 100000) → budget_of o script ≤ 100000
     few None s = else_few (budget_in script.items) (set_at_most (length script.names) script.items spelled.lines)
     few (Some n) s = s
-
-digits_tell : IsDigitsTest (λ ds. list_all is_digit ds ≡ true)
-digits_tell = record {
-  empty = refl;
-  parts = λ c cs all. let two = both (is_digit c) (list_all is_digit cs) all in ((grind (arith, nat_tests, two.0), grind (arith, nat_tests, two.0)), two.1);
-  more = λ c cs digit all. grind (arith, nat_tests, digit, all);
-}
-
-numerals : IsNumeralModel (λ ds. list_all is_digit ds ≡ true) (decimal_after 0)
-numerals = numerals_by_fold _ digits_tell decimal_after (search rules)
-
--- one to six digits are read
-pub digits_are_read : {E : Type 0} (word : List ℕ) (r : Result ℕ E) → ParsesUnsigned 32 10 word r → are_digits 6 word ≡ true → r ≡ Ok (decimal_value word)
-digits_are_read word r reads digits =
-    let two = both (nat_le 1 (length word) && nat_le (length word) 6) (list_all is_digit word) digits in
-    let lengths = both (nat_le 1 (length word)) (nat_le (length word) 6) two.0 in
-    let one : 0 < length word = grind (arith, nat_tests, lengths.0) in
-    let six : length word ≤ 6 = grind (arith, nat_tests, lengths.1) in
-    parse_gives numerals 32 word r reads two.1 one (omega (arith, digits_value_short numerals word 6 two.1 six))
-
--- a word that writes a budget
-pub writes : (word : List ℕ) (budget : ℕ) → are_digits 6 word ≡ true → decimal_value word ≡ budget → budget ≤ 100000 → (n : ℕ) → (Some budget ≡ Some n) ↔ IsBudget word n
-writes word budget digits is few n = (
-  λ e. let same : budget ≡ n = cc in record { digits = digits; writes = is ∙ same; few = subst (λ k. k ≤ 100000) same few },
-  λ b. ap (λ k. Some k) (sym is ∙ b.writes),
-)
-
--- a word that writes more
-pub writes_more : (word : List ℕ) (value : ℕ) → decimal_value word ≡ value → 100000 < value → (n : ℕ) → (None ≡ Some n) ↔ IsBudget word n
-writes_more word value is many n = (λ e. absurd (cc), λ b. absurd (omega (arith, is, b.writes, b.few)))

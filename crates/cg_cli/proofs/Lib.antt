@@ -1,4 +1,5 @@
 pub mod Told
 pub mod Budgets
-pub mod Asked
 pub mod KeptLines
+pub mod Refusals
+pub mod Summed

@@ -6,7 +6,7 @@ ghost use Rattle.cg_cli.specs.Statuses.{budget_in as set_in, budget_of};
 use cg_script::{Item, Script};
 
 /// The budget of a run for which neither the words nor the script set one.
-const USUAL: u32 = 10_000;
+pub const USUAL: u32 = 10_000;
 
 /// The budget that the lines of a script set.
 fn budget_in(items: &[Item]) -> Option<u32>

@@ -1,21 +1,22 @@
 //! The command line and the top call.
 //!
 //! `gc_run` is what the program does: its clauses are the headline, that the text of a whole run of the object graph
-//! machine is written, and the cause of every other answer. Scripts are read by `cg_script`, and run by `cg_interp` over a
-//! heap of the kinds that the caller hands in.
+//! machine is written, or the summary of such a text, and the cause of every other answer. Words are read by `cg_words`,
+//! scripts by `cg_script`; a large script is made by `cg_generator`; and scripts are run by `cg_interp` over a heap of the
+//! kinds that the caller hands in.
 #![tactic(auto)]
 
 mod budget;
+mod generate;
 mod input;
 mod run;
 mod status;
 mod tell;
 mod top;
-mod words;
 
+pub use cg_words::{Job, read_words};
 pub use status::Status;
 pub use top::gc_run;
-pub use words::{Job, read_words};
 
 #[cfg(test)]
 mod collections;
@@ -27,5 +28,7 @@ mod kinds;
 mod promises;
 #[cfg(test)]
 mod rows;
+#[cfg(test)]
+mod summaries;
 #[cfg(test)]
 mod tests;

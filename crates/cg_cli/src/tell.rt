@@ -1,11 +1,13 @@
-//! The lines that say why no script was run.
+//! The lines that say why no script was run, and the summary of a run.
 ghost use Rattle.std.specs.Prelude.{◌≡◌, ◌≤◌, ◌+◌, ◌++◌, ◌⊎◌, length, codes, decimal};
 ghost use Rattle.std.specs.Io.KnownBytes.{Appends};
 ghost use Rattle.cg_io.specs.Causes.{AppendsFront, Rose};
+ghost use Rattle.cg_generator.specs.Tallies.{summary_of};
 ghost use Rattle.cg_cli.specs.Statuses.{bad_script_text};
 
 use crate::status::Status;
 use arrayvec::ArrayString;
+use cg_generator::{Tally, summary_line};
 use cg_io::{Sink, WriteFailed};
 use itoa::Buffer;
 
@@ -44,6 +46,19 @@ pub fn tell_bad_script<K: Sink>(line: u32, code: u8, sink: &mut K) -> Status
 {
     match sink.write(bad_script_line(line, code).as_str().as_bytes()) {
         Ok(()) => Status::BadScript,
+        Err(WriteFailed) => Status::WriteFault,
+    }
+}
+
+/// Writes the summary of a tally.
+pub fn tell_summary<K: Sink>(tally: &Tally, sink: &mut K) -> Status
+    ensures done { result ≡ Status.Done → Appends (K.written sink.old) (K.written sink.new) (summary_of tally.now) }
+    ensures write { result ≡ Status.WriteFault → AppendsFront (K.written sink.old) (K.written sink.new) (summary_of tally.now) }
+    ensures cause { result ≡ Status.WriteFault → Rose (K.faults sink.old) (K.faults sink.new) }
+    ensures only { (result ≡ Status.Done) ⊎ (result ≡ Status.WriteFault) }
+{
+    match sink.write(summary_line(tally).as_str().as_bytes()) {
+        Ok(()) => Status::Done,
         Err(WriteFailed) => Status::WriteFault,
     }
 }

@@ -1,6 +1,6 @@
 //! Words, sizes, faults and bad scripts, through the top call.
 use crate::kinds::six;
-use crate::{Job, Status, gc_run, read_words};
+use crate::{Status, gc_run};
 use cg_io::{MemSink, MemSource, PlainSource, Source};
 use std::alloc::{AllocError, Global};
 use std::process::Abort;
@@ -48,24 +48,6 @@ pub fn answer_to<S: Source>(
     answer_with_faults(alloc, words, source, Vec::new(alloc))
 }
 
-#[test]
-fn words_of_a_run(rt: HostRuntime) -> Result<(), Fail> {
-    let alloc = rt.alloc();
-    for (number, budget) in [("0", 0), ("7", 7), ("000012", 12), ("100000", 100_000)] {
-        let words = words_of(alloc, &["run", "--budget", number])?;
-        let job = Job::Run {
-            budget: Some(budget),
-        };
-        assert_eq!(rt; read_words(words.as_slice()), Some(job), "at {number:?}");
-    }
-    let words = words_of(alloc, &["run"])?;
-    assert_eq!(rt;
-        read_words(words.as_slice()),
-        Some(Job::Run { budget: None })
-    );
-    Ok(())
-}
-
 /// These words ask for nothing, and that is told.
 fn check_bad_words(rt: &impl Abort, alloc: Global, words: &[&str]) -> Result<(), AllocError> {
     let mut source = PlainSource::new(Vec::new(alloc));
@@ -86,7 +68,6 @@ fn other_words_are_bad(rt: HostRuntime) -> Result<(), Fail> {
     check_bad_words(&rt, alloc, &["run", "now"])?;
     check_bad_words(&rt, alloc, &["generate", "0"])?;
     check_bad_words(&rt, alloc, &["", "run"])?;
-    check_bad_words(&rt, alloc, &["run", "--budget=5"])?;
     check_bad_words(&rt, alloc, &["run", "--budget"])?;
     check_bad_words(&rt, alloc, &["run", "--budget", "5", "6"])?;
     check_bad_words(&rt, alloc, &["--budget", "5", "run"])?;

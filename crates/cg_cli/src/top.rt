@@ -5,17 +5,19 @@ ghost use Rattle.std.specs.Io.KnownBytes.{Appends, Keeps, IsAtEnd};
 ghost use Rattle.cg_io.specs.Causes.{AppendsFront, Rose};
 ghost use Rattle.cg_heap.specs.Boxes.{six_kinds};
 ghost use Rattle.cg_machine.specs.World.{Ended, BudgetIsSpent};
-ghost use Rattle.cg_cli.specs.Words.{AsksFor, Ask};
+ghost use Rattle.cg_words.specs.Words.{AsksFor, Ask};
+ghost use Rattle.cg_cli.specs.Summaries.{WroteSummary, WroteSummaryFront};
 ghost use Rattle.cg_cli.specs.Statuses.{RanWhole, RanKept, RanBad, TookTooMany, WroteFront, Answers, IsCutShort};
 
+use crate::generate::generate_job;
 use crate::run::run_job;
 use crate::status::Status;
 use crate::tell::tell_bad_words;
-use crate::words::{Job, read_words};
 use cg_io::{Sink, Source};
 use cg_kind::Kind;
 use cg_promises::{no_dead_lines, one_finalizer_each};
-use std::alloc::Global;
+use cg_words::{Job, read_words};
+use std::alloc::{AllocError, Global};
 
 /// The same over kinds of any one type.
 fn gc_over<S: Source, K: Sink, B: Kind>(
@@ -27,15 +29,17 @@ fn gc_over<S: Source, K: Sink, B: Kind>(
 ) -> Status
     requires kinds { map B.kind kinds.items ≡ six_kinds }
     requires empty { map B.bodies kinds.items ≡ replicate 6 fin.empty }
-    ensures done { result ≡ Status.Done → (given : Option ℕ) × AsksFor (map string_bytes words.now) (Job.Run given)
-        × IfSome (S.left source.old) (λ bytes. RanWhole given Ended bytes (K.written sink.old) (K.written sink.new)) }
+    ensures done { result ≡ Status.Done → ((given : Option ℕ) × AsksFor (map string_bytes words.now) (Job.Run given)
+        × IfSome (S.left source.old) (λ bytes. RanWhole given Ended bytes (K.written sink.old) (K.written sink.new)))
+        ⊎ ((blocks : ℕ) × AsksFor (map string_bytes words.now) (Job.Generate blocks) × WroteSummary blocks (K.written sink.old) (K.written sink.new)) }
     ensures spent { result ≡ Status.Budget → (given : Option ℕ) × AsksFor (map string_bytes words.now) (Job.Run given)
         × IfSome (S.left source.old) (λ bytes. RanWhole given BudgetIsSpent bytes (K.written sink.old) (K.written sink.new)) }
     ensures bad_words { result ≡ Status.BadWords → Appends (K.written sink.old) (K.written sink.new) (codes "bad words\n") }
     ensures bad_script { result ≡ Status.BadScript → IfSome (S.left source.old) (λ bytes. RanBad bytes (K.written sink.old) (K.written sink.new)) }
     ensures too_large { result ≡ Status.TooLarge → Appends (K.written sink.old) (K.written sink.new) (codes "too large\n") }
     ensures taken { result ≡ Status.TooLarge → TookTooMany (S.left source.old) (S.left source.new) }
-    ensures read_to_end { (result ≡ Status.Done) ⊎ (result ≡ Status.Budget) ⊎ (result ≡ Status.BadScript) → IsAtEnd (S.left source.new) }
+    ensures read_to_end { (given : Option ℕ) → AsksFor (map string_bytes words.now) (Job.Run given)
+        → (result ≡ Status.Done) ⊎ (result ≡ Status.Budget) ⊎ (result ≡ Status.BadScript) → IsAtEnd (S.left source.new) }
     ensures read_cause { result ≡ Status.ReadFault → Rose (S.faults source.old) (S.faults source.new) }
     ensures read { result ≡ Status.ReadFault → Keeps (K.written sink.old) (K.written sink.new) }
     ensures write_cause { result ≡ Status.WriteFault → Rose (K.faults sink.old) (K.faults sink.new) }
@@ -45,25 +49,35 @@ fn gc_over<S: Source, K: Sink, B: Kind>(
     ensures memory { result ≡ Status.OutOfMemory → Keeps (K.written sink.old) (K.written sink.new) }
     ensures answers { (given : Option ℕ) → AsksFor (map string_bytes words.now) (Job.Run given) → IsCutShort result ⊎ IfSome (S.left source.old) (λ bytes. Answers bytes result) }
     ensures words { Ask (map string_bytes words.now) → result ≢ Status.BadWords }
-    ensures no_job { ¬ (Ask (map string_bytes words.now)) → (result ≡ Status.BadWords) ⊎ (result ≡ Status.WriteFault) }
+    ensures no_job { ¬ (Ask (map string_bytes words.now)) → (result ≡ Status.BadWords) ⊎ (result ≡ Status.WriteFault) ⊎ (result ≡ Status.OutOfMemory) }
     ensures nothing_read { ¬ (Ask (map string_bytes words.now)) → source.new ≡ source.old }
     ensures complete { (given : Option ℕ) → AsksFor (map string_bytes words.now) (Job.Run given) → ¬ (Rose (S.faults source.old) (S.faults source.new)) → ¬ (Rose (K.faults sink.old) (K.faults sink.new))
         → (result ≡ Status.OutOfMemory) ⊎ IfSome (S.left source.old) (λ bytes. Answers bytes result) }
+    ensures write_summary { (blocks : ℕ) → AsksFor (map string_bytes words.now) (Job.Generate blocks) → result ≡ Status.WriteFault
+        → WroteSummaryFront blocks (K.written sink.old) (K.written sink.new) }
+    ensures summary { (blocks : ℕ) → AsksFor (map string_bytes words.now) (Job.Generate blocks)
+        → (result ≡ Status.Done) ⊎ (result ≡ Status.WriteFault) ⊎ (result ≡ Status.OutOfMemory) }
+    ensures summary_reads_nothing { (blocks : ℕ) → AsksFor (map string_bytes words.now) (Job.Generate blocks) → source.new ≡ source.old }
+    ensures complete_summary { (blocks : ℕ) → AsksFor (map string_bytes words.now) (Job.Generate blocks) → ¬ (Rose (K.faults sink.old) (K.faults sink.new))
+        → (result ≡ Status.Done) ⊎ (result ≡ Status.OutOfMemory) }
 {
-    match read_words(words) {
-        Some(job) => run_job(alloc, job.budget(), source, sink, kinds),
-        None => tell_bad_words(sink),
+    match read_words(alloc, words) {
+        Ok(Some(Job::Run { budget })) => run_job(alloc, budget, source, sink, kinds),
+        Ok(Some(Job::Generate { blocks })) => generate_job(alloc, blocks, sink, kinds),
+        Ok(None) => tell_bad_words(sink),
+        Err(AllocError) => Status::OutOfMemory,
     }
 }
 
 /// Does what the words ask for: with `run`, or `run --budget N`, reads a script from the source, runs it on a heap over the
-/// kinds, and writes the text of the run to the sink, one `write` a line.
+/// kinds, and writes the text of the run to the sink, one `write` a line; with `generate N`, runs the script of N blocks with
+/// the usual budget on a heap over the kinds, and writes the summary of its text.
 ///
 /// The kinds stand in the order of `KindCode`, and have no object. The budget is that of the words, else that of the script,
 /// else 10,000. It answers `Done` where the run ended by `end`, and `Budget` where it ended by `budget spent`; `BadWords`,
 /// `BadScript` or `TooLarge`, each with its line written, where the words, a line of the script or its size are not as they
 /// should be; `ReadFault` and `WriteFault` where the source or the sink failed; `OutOfMemory` where memory was refused before
-/// anything was written. What the source tells of its bytes and the sink of what was written, the clauses speak of. (Ours.)
+/// anything was written, and with `generate N` also where a command was refused for want of memory. What the source tells of its bytes and the sink of what was written, the clauses speak of. (Ours.)
 pub fn gc_run<S: Source, K: Sink>(
     alloc: Global,
     words: &[String],
@@ -75,14 +89,16 @@ pub fn gc_run<S: Source, K: Sink>(
     requires empty { map (λ b. bodies b) kinds.items ≡ replicate 6 fin.empty }
 
     // The words ask for a run, the bytes spell a script, and what was written is the text of a whole run of the machine on it,
-    // which ended by `end`, or for want of budget.
-    ensures done { result ≡ Status.Done → (given : Option ℕ) × AsksFor (map string_bytes words.now) (Job.Run given)
-        × IfSome (S.left source.old) (λ bytes. RanWhole given Ended bytes (K.written sink.old) (K.written sink.new)) }
+    // which ended by `end`, or for want of budget. Or they ask for a large script, and what was written is the summary of the
+    // text of such a run of it, in which no command was refused.
+    ensures done { result ≡ Status.Done → ((given : Option ℕ) × AsksFor (map string_bytes words.now) (Job.Run given)
+        × IfSome (S.left source.old) (λ bytes. RanWhole given Ended bytes (K.written sink.old) (K.written sink.new)))
+        ⊎ ((blocks : ℕ) × AsksFor (map string_bytes words.now) (Job.Generate blocks) × WroteSummary blocks (K.written sink.old) (K.written sink.new)) }
     ensures spent { result ≡ Status.Budget → (given : Option ℕ) × AsksFor (map string_bytes words.now) (Job.Run given)
         × IfSome (S.left source.old) (λ bytes. RanWhole given BudgetIsSpent bytes (K.written sink.old) (K.written sink.new)) }
 
     // Its lines begin the finalizer of one object at most once (PEP 442), and name no object that an earlier line frees.
-    ensures promises { (result ≡ Status.Done) ⊎ (result ≡ Status.Budget)
+    ensures promises { (given : Option ℕ) → AsksFor (map string_bytes words.now) (Job.Run given) → (result ≡ Status.Done) ⊎ (result ≡ Status.Budget)
         → IfSome (S.left source.old) (λ bytes. RanKept bytes (K.written sink.old) (K.written sink.new)) }
 
     // What is wrong with the words, the script or its size, and that it was told.
@@ -90,7 +106,8 @@ pub fn gc_run<S: Source, K: Sink>(
     ensures bad_script { result ≡ Status.BadScript → IfSome (S.left source.old) (λ bytes. RanBad bytes (K.written sink.old) (K.written sink.new)) }
     ensures too_large { result ≡ Status.TooLarge → Appends (K.written sink.old) (K.written sink.new) (codes "too large\n") }
     ensures taken { result ≡ Status.TooLarge → TookTooMany (S.left source.old) (S.left source.new) }
-    ensures read_to_end { (result ≡ Status.Done) ⊎ (result ≡ Status.Budget) ⊎ (result ≡ Status.BadScript) → IsAtEnd (S.left source.new) }
+    ensures read_to_end { (given : Option ℕ) → AsksFor (map string_bytes words.now) (Job.Run given)
+        → (result ≡ Status.Done) ⊎ (result ≡ Status.Budget) ⊎ (result ≡ Status.BadScript) → IsAtEnd (S.left source.new) }
 
     // Faults, which come only where the count of faults rose, and want of memory.
     ensures read_cause { result ≡ Status.ReadFault → Rose (S.faults source.old) (S.faults source.new) }
@@ -104,12 +121,21 @@ pub fn gc_run<S: Source, K: Sink>(
     // Which answer comes: by the words and the bytes alone, but for faults, want of memory and how the run ended.
     ensures answers { (given : Option ℕ) → AsksFor (map string_bytes words.now) (Job.Run given) → IsCutShort result ⊎ IfSome (S.left source.old) (λ bytes. Answers bytes result) }
     ensures words { Ask (map string_bytes words.now) → result ≢ Status.BadWords }
-    ensures no_job { ¬ (Ask (map string_bytes words.now)) → (result ≡ Status.BadWords) ⊎ (result ≡ Status.WriteFault) }
+    ensures no_job { ¬ (Ask (map string_bytes words.now)) → (result ≡ Status.BadWords) ⊎ (result ≡ Status.WriteFault) ⊎ (result ≡ Status.OutOfMemory) }
     ensures nothing_read { ¬ (Ask (map string_bytes words.now)) → source.new ≡ source.old }
 
     // Where nothing fails, the answer goes by the bytes and by how the run ended, want of memory aside.
     ensures complete { (given : Option ℕ) → AsksFor (map string_bytes words.now) (Job.Run given) → ¬ (Rose (S.faults source.old) (S.faults source.new)) → ¬ (Rose (K.faults sink.old) (K.faults sink.new))
         → (result ≡ Status.OutOfMemory) ⊎ IfSome (S.left source.old) (λ bytes. Answers bytes result) }
+
+    // With words for a large script: what a fault leaves, and which answer comes. The source is not read.
+    ensures write_summary { (blocks : ℕ) → AsksFor (map string_bytes words.now) (Job.Generate blocks) → result ≡ Status.WriteFault
+        → WroteSummaryFront blocks (K.written sink.old) (K.written sink.new) }
+    ensures summary { (blocks : ℕ) → AsksFor (map string_bytes words.now) (Job.Generate blocks)
+        → (result ≡ Status.Done) ⊎ (result ≡ Status.WriteFault) ⊎ (result ≡ Status.OutOfMemory) }
+    ensures summary_reads_nothing { (blocks : ℕ) → AsksFor (map string_bytes words.now) (Job.Generate blocks) → source.new ≡ source.old }
+    ensures complete_summary { (blocks : ℕ) → AsksFor (map string_bytes words.now) (Job.Generate blocks) → ¬ (Rose (K.faults sink.old) (K.faults sink.new))
+        → (result ≡ Status.Done) ⊎ (result ≡ Status.OutOfMemory) }
 {
     one_finalizer_each();
     no_dead_lines();

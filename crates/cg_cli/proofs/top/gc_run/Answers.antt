@@ -1,12 +1,16 @@
-use Rattle.std.proofs.Common.{inl, inr}
+use Rattle.std.proofs.Common.{◌≡◌, ◌∙◌, sym, inl, inr, Option, Some}
 use Rattle.cg_machine.specs.World.{Ended, BudgetIsSpent}
+use Rattle.cg_words.specs.declared.words.Job.TheVariants.{Run, Generate}
 use Rattle.cg_cli.proofs.KeptLines.{told_kept}
 use Rattle.cg_cli.proofs.top.gc_run.Goals as goal
 
 pub returns-clause-promises : goal.returns-clause-promises
 returns-clause-promises g c =
     let kept = told_kept c.one_finalizer_each.ensures c.no_dead_lines.ensures in
-    λ ended. elim ended [
-      | inl is ↦ let ran = c.gc_over.ensures.done is in kept ran.0 Ended _ _ _ ran.2
+    λ given asks ended. elim ended [
+      | inl is ↦ elim (c.gc_over.ensures.done is) [
+        | inl ran ↦ kept ran.0 Ended _ _ _ ran.2
+        | inr large ↦ let one : Some (Run given) ≡ Some (Generate large.0) = sym asks ∙ large.1 in absurd (cc)
+      ]
       | inr is ↦ let ran = c.gc_over.ensures.spent is in kept ran.0 BudgetIsSpent _ _ _ ran.2
     ]

@@ -1,0 +1,79 @@
+//! Large scripts and their summaries, through the top call. The numbers were worked out by hand from the blocks.
+use crate::kinds::six_refusing;
+use crate::tests::{answer_to, answer_with_faults, words_of};
+use crate::{Status, gc_run};
+use cg_io::{MemSink, MemSource, PlainSource};
+use std::test::Fail;
+
+#[test]
+fn summaries_of_a_few_blocks(rt: HostRuntime) -> Result<(), Fail> {
+    let alloc = rt.alloc();
+    for (blocks, summary) in [
+        ("1", "summary 3 3 1 2 10\n"),
+        ("2", "summary 6 6 1 2 16\n"),
+        ("3", "summary 7 7 1 2 18\n"),
+        ("003", "summary 7 7 1 2 18\n"),
+        ("4", "summary 9 9 1 4 22\n"),
+    ] {
+        let mut source = PlainSource::new(Vec::new(alloc));
+        let found = answer_to(alloc, &["generate", blocks], &mut source)?;
+        assert_eq!(rt; found.status, Status::Done, "at {blocks}");
+        assert_eq!(rt; found.text.as_slice(), summary.as_bytes(), "at {blocks}");
+    }
+    Ok(())
+}
+
+/// Collections are due in it: fourteen, besides the one that it asks for.
+#[test]
+fn the_summary_of_ten_thousand_blocks(rt: HostRuntime) -> Result<(), Fail> {
+    let alloc = rt.alloc();
+    let mut source = PlainSource::new(Vec::new(alloc));
+    let found = answer_to(alloc, &["generate", "10000"], &mut source)?;
+    assert_eq!(rt; found.status, Status::Done);
+    assert_eq!(rt;
+        found.text.as_slice(),
+        b"summary 20001 20001 15 6668 40034\n".as_slice()
+    );
+    Ok(())
+}
+
+/// The garbage list and seven lists of the script are made: where one is refused there is no summary.
+#[test]
+fn a_list_that_is_refused_leaves_no_summary(rt: HostRuntime) -> Result<(), Fail> {
+    let alloc = rt.alloc();
+    let words = words_of(alloc, &["generate", "3"])?;
+    for before in 0..9usize {
+        let mut source = PlainSource::new(Vec::new(alloc));
+        let mut sink = MemSink::new(alloc, Vec::new(alloc), 0);
+        let kinds = six_refusing(alloc, before)?;
+        let status = gc_run(alloc, words.as_slice(), &mut source, &mut sink, kinds);
+        if before < 8 {
+            assert_eq!(rt; status, Status::OutOfMemory, "after {before}");
+            assert!(rt; sink.bytes().is_empty(), "after {before}");
+        } else {
+            assert_eq!(rt; status, Status::Done);
+            assert_eq!(rt; sink.bytes(), b"summary 7 7 1 2 18\n".as_slice());
+        }
+    }
+    Ok(())
+}
+
+#[test]
+fn a_summary_reads_no_source(rt: HostRuntime) -> Result<(), Fail> {
+    let alloc = rt.alloc();
+    let mut source = MemSource::new(Vec::new(alloc), vec![in alloc; 1]?);
+    let found = answer_to(alloc, &["generate", "1"], &mut source)?;
+    assert_eq!(rt; found.status, Status::Done);
+    assert_eq!(rt; found.text.as_slice(), b"summary 3 3 1 2 10\n".as_slice());
+    Ok(())
+}
+
+#[test]
+fn a_failed_write_leaves_the_front_of_a_summary(rt: HostRuntime) -> Result<(), Fail> {
+    let alloc = rt.alloc();
+    let mut source = PlainSource::new(Vec::new(alloc));
+    let found = answer_with_faults(alloc, &["generate", "3"], &mut source, vec![in alloc; 1]?)?;
+    assert_eq!(rt; found.status, Status::WriteFault);
+    assert_eq!(rt; found.text.as_slice(), b"su".as_slice());
+    Ok(())
+}

@@ -1,0 +1,23 @@
+//! A large script from a number, and the tally of a run's text.
+//!
+//! `generated_script` answers the script of so many blocks. `tally` counts the lines of a text; `TallySink` counts those
+//! of a run while they are written, and keeps none. `summary_line` is the line of a tally.
+#![tactic(auto)]
+
+mod counts;
+mod line;
+mod script;
+mod seen;
+mod sink;
+mod summary;
+mod told;
+mod whole;
+
+pub use counts::Tally;
+pub use script::{MOST_BLOCKS, generated_script};
+pub use sink::TallySink;
+pub use summary::summary_line;
+pub use whole::tally;
+
+#[cfg(test)]
+mod tests;
