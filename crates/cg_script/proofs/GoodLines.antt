@@ -22,7 +22,7 @@ use Rattle.cg_script.specs.Canonical.{joined}
 use Rattle.cg_script.proofs.Ascii.{both}
 use Rattle.cg_script.proofs.Says.{not_bad, not_passed, says_fits, says_of_line}
 use Rattle.cg_script.proofs.Joined.{and_both, EachSound, weight, words_of-joined, all_printable, length-joined, words_weight, sound_words}
-use Rattle.cg_script.proofs.NormalWords.{word_again, normal, alike, Alike, AllNames, named_nowhere}
+use Rattle.cg_script.proofs.NormalWords.{word_again, normal, alike, Alike, AllNames, names_by_test, named_nowhere}
 use Rattle.cg_script.proofs.Shown.{normal_from}
 
 -- the first words of a line pick the form
@@ -228,7 +228,7 @@ passed_again form (w ∷ ws) = ap (λ (v : List ℕ). slice_index v 0 == 35) (fi
 
 bindings_named : AllNames bindings
 unfolding bindings
-bindings_named = (refl, (refl, (refl, (refl, (refl, (refl, (refl, (refl, (refl, (refl, tt))))))))))
+bindings_named = names_by_test bindings refl
 
 and_false : (a b : Bool) → a ≡ false → (a && b) ≡ false
 and_false false b e = refl

@@ -232,6 +232,10 @@ abbrev pub AllNames : {A : Type 0} → List (List ℕ × A) → Type 0
 AllNames [] = Unit {0}
 AllNames (row ∷ rows) = (begins_name (slice_index row.0 0) ≡ true) × AllNames rows
 
+pub names_by_test : {A : Type 0} (rows : List (List ℕ × A)) → list_all (λ row. begins_name (slice_index row.0 0)) rows ≡ true → AllNames rows
+names_by_test [] e = tt
+names_by_test (row ∷ rows) e = let p = both (begins_name (slice_index row.0 0)) (list_all (λ row. begins_name (slice_index row.0 0)) rows) e in (p.0, names_by_test rows p.1)
+
 pub named_nowhere : {A : Type 0} (rows : List (List ℕ × A)) (w : List ℕ) → AllNames rows → begins_name (slice_index w 0) ≡ false → named rows w ≡ None
 named_nowhere [] w names e = refl
 named_nowhere (row ∷ rows) w names e =
@@ -244,7 +248,7 @@ named_nowhere (row ∷ rows) w names e =
 
 atoms_named : AllNames atoms
 unfolding atoms
-atoms_named = (refl, (refl, (refl, (refl, (refl, (refl, (refl, (refl, (refl, (refl, (refl, (refl, tt))))))))))))
+atoms_named = names_by_test atoms refl
 
 -- the word of a value, by the value with a word of its own
 abbrev pub normal_value : Option Operand → List ℕ → List ℕ

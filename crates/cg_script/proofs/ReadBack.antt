@@ -34,17 +34,19 @@ module _ (n : Naming) (known : Known) (names : Names n known.procs known.classes
   opener_row : (form : Form) (ws : List (List ℕ)) → named openers (word_at ws 0) ≡ Some form → Given n known form ws → Row n known form ws
   opener_row form [] e given = let never : true ≡ false = given.good.unpassed in absurd (cc)
   opener_row form (w ∷ rest) e given =
-      subst (λ (u : List ℕ). Given n known form (u ∷ rest) → Row n known form (u ∷ rest)) (sym (opener_is w form e))
-      (opened n known names form rest (collect_row n known names) (flags_row n known names) (class_row n known names)) given
+      let is = opener_is w form e in
+      subst (λ (u : List ℕ). Given n known form (u ∷ rest) → Row n known form (u ∷ rest)) (sym is.word)
+      (opened n known names form rest (collect_row n known names) (flags_row n known names) (class_row n known names) is.again) given
 
   named_row : (form : Form) (a c : List ℕ) (rest : List (List ℕ)) (found : Option Form) → named bindings c ≡ found → unwrap_or found forms.Bind ≡ form → Given n known form (a ∷ codes "=" ∷ c ∷ rest)
       → Row n known form (a ∷ codes "=" ∷ c ∷ rest)
   named_row form a c rest None e is given =
       subst (λ (k : Form). Given n known k (a ∷ codes "=" ∷ c ∷ rest) → Row n known k (a ∷ codes "=" ∷ c ∷ rest)) is (bind_row n known names a c rest) given
   named_row form a c rest (Some other) e is given =
+      let found = binding_is c other e in
       subst (λ (k : Form). Given n known k (a ∷ codes "=" ∷ c ∷ rest) → Row n known k (a ∷ codes "=" ∷ c ∷ rest)) is
-      (subst (λ (u : List ℕ). Given n known other (a ∷ codes "=" ∷ u ∷ rest) → Row n known other (a ∷ codes "=" ∷ u ∷ rest)) (sym (binding_is c other e))
-      (bound n known names other a rest (ref_row n known names))) given
+      (subst (λ (u : List ℕ). Given n known other (a ∷ codes "=" ∷ u ∷ rest) → Row n known other (a ∷ codes "=" ∷ u ∷ rest)) (sym found.word)
+      (bound n known names other a rest (ref_row n known names) found.again)) given
 
   third_row : (form : Form) (a c : List ℕ) (rest : List (List ℕ)) (lone : Bool) → cond lone forms.Bind (unwrap_or (named bindings c) forms.Bind) ≡ form → Given n known form (a ∷ codes "=" ∷ c ∷ rest)
       → Row n known form (a ∷ codes "=" ∷ c ∷ rest)

@@ -12,7 +12,7 @@ use Rattle.cg_script.specs.declared.part.Said.{Said}
 use Rattle.cg_script.specs.declared.part.Said.TheVariants.{Declares, Begins as BeginsProc, Ends, Does}
 use Rattle.cg_value.specs.Texts.{place_of, with_text}
 use Rattle.cg_script.specs.Tables.{named}
-use Rattle.cg_script.specs.Forms.{row, sort_at, openers, bindings}
+use Rattle.cg_script.specs.Forms.{row, sort_at, word_of, opening_forms, binding_forms, by_words, openers, bindings}
 use Rattle.cg_script.specs.Parts.{Known, part_of, parts_from, parts_of, texts_from, text_in, with_text_if, has_unknown}
 use Rattle.cg_script.specs.Commands.{value_or, count_or, said}
 use Rattle.cg_script.specs.Canonical.{Naming, text_of, name_of, value_word, command_words, budget_words, class_words, def_words, end_words}
@@ -82,95 +82,50 @@ values_plain n procs classes form (w ∷ ws) texts place values =
     ap (λ (v : List ℕ). v ∷ map (value_word n.texts) (map (λ part. value_or (Some part)) (parts_from procs classes more form (place + 1) ws))) here
     ∙ ap (λ l. shown n (sort_at form place) (part_of procs classes texts (sort_at form place) w) w ∷ l) later
 
--- the words that pick the forms
-abbrev pub opener_word : Form → List ℕ
-opener_word forms.Del = codes "del"
-opener_word forms.Append = codes "append"
-opener_word forms.SetItem = codes "setitem"
-opener_word forms.DelItem = codes "delitem"
-opener_word forms.Put = codes "put"
-opener_word forms.Remove = codes "drop"
-opener_word forms.SetAttr = codes "setattr"
-opener_word forms.DelAttr = codes "delattr"
-opener_word forms.Call = codes "call"
-opener_word forms.Quit = codes "quit"
-opener_word forms.Collect = codes "collect"
-opener_word forms.Enable = codes "enable"
-opener_word forms.Disable = codes "disable"
-opener_word forms.Threshold = codes "threshold"
-opener_word forms.Flags = codes "debug"
-opener_word forms.Freeze = codes "freeze"
-opener_word forms.Unfreeze = codes "unfreeze"
-opener_word forms.Print = codes "print"
-opener_word forms.Refs = codes "refs"
-opener_word forms.Tracked = codes "tracked"
-opener_word forms.Finalized = codes "finalized"
-opener_word forms.Count = codes "count"
-opener_word forms.Gens = codes "gens"
-opener_word forms.Budget = codes "budget"
-opener_word forms.Class = codes "class"
-opener_word forms.Def = codes "def"
-opener_word forms.End = codes "end"
-opener_word form = []
-
-abbrev pub binding_word : Form → List ℕ
-binding_word forms.MakeList = codes "list"
-binding_word forms.MakeTuple = codes "tuple"
-binding_word forms.MakeDict = codes "dict"
-binding_word forms.MakeInst = codes "new"
-binding_word forms.MakeFunc = codes "func"
-binding_word forms.MakeRef = codes "ref"
-binding_word forms.Item = codes "item"
-binding_word forms.Get = codes "get"
-binding_word forms.Attr = codes "attr"
-binding_word forms.Deref = codes "deref"
-binding_word form = []
-
-abbrev WordedBy : (Form → List ℕ) → List (List ℕ × Form) → Type 0
-WordedBy f [] = Unit {0}
-WordedBy f (r ∷ rows) = (r.0 ≡ f r.1) × WordedBy f rows
-
-word_in : (f : Form → List ℕ) (rows : List (List ℕ × Form)) (w : List ℕ) (form : Form) → WordedBy f rows → named rows w ≡ Some form → w ≡ f form
-word_in f [] w form worded e = absurd (cc)
-word_in f (r ∷ rows) w form worded e = by (bytes_eq w r.0) refl e (word_in f rows w form worded.1)
+-- a form among some is found by its word
+by_words-is : (these : List Form) (w : List ℕ) (form : Form) → named (by_words these) w ≡ Some form → w ≡ word_of form
+by_words-is [] w form e = absurd (cc)
+by_words-is (f ∷ these) w form e = by (bytes_eq w (word_of f)) refl e (by_words-is these w form)
   where
-    by : (b : Bool) → bytes_eq w r.0 ≡ b → cond b (Some r.1) (named rows w) ≡ Some form → (named rows w ≡ Some form → w ≡ f form) → w ≡ f form
-    by true eb e later = let same : r.1 ≡ form = cc in (bytes_eq-Decides w r.0).0 eb ∙ worded.0 ∙ ap f same
+    by : (b : Bool) → bytes_eq w (word_of f) ≡ b → cond b (Some f) (named (by_words these) w) ≡ Some form → (named (by_words these) w ≡ Some form → w ≡ word_of form) → w ≡ word_of form
+    by true eb e later = let same : f ≡ form = cc in (bytes_eq-Decides w (word_of f)).0 eb ∙ ap word_of same
     by false eb e later = later e
 
-openers_worded : WordedBy opener_word openers
+-- so its own word finds it
+pub record IsFound (table : List (List ℕ × Form)) (w : List ℕ) (form : Form) : Type 0 where
+  pub word : w ≡ word_of form
+  pub again : named table (word_of form) ≡ Some form
+
+found_by : (table : List (List ℕ × Form)) (w : List ℕ) (form : Form) → w ≡ word_of form → named table w ≡ Some form → IsFound table w form
+found_by table w form is e = record { word = is; again = subst (λ u. named table u ≡ Some form) is e }
+
+pub opener_is : (w : List ℕ) (form : Form) → named openers w ≡ Some form → IsFound openers w form
 unfolding openers
-openers_worded = (refl, (refl, (refl, (refl, (refl, (refl, (refl, (refl, (refl, (refl, (refl, (refl, (refl, (refl, (refl, (refl, (refl, (refl, (refl, (refl, (refl, (refl, (refl, (refl, (refl, (refl, (refl, tt)))))))))))))))))))))))))))
+opener_is w form e = found_by openers w form (by_words-is opening_forms w form e) e
 
-bindings_worded : WordedBy binding_word bindings
+pub binding_is : (w : List ℕ) (form : Form) → named bindings w ≡ Some form → IsFound bindings w form
 unfolding bindings
-bindings_worded = (refl, (refl, (refl, (refl, (refl, (refl, (refl, (refl, (refl, (refl, tt))))))))))
-
-pub opener_is : (w : List ℕ) (form : Form) → named openers w ≡ Some form → w ≡ opener_word form
-opener_is w form e = word_in opener_word openers w form openers_worded e
-
-pub binding_is : (w : List ℕ) (form : Form) → named bindings w ≡ Some form → w ≡ binding_word form
-binding_is w form e = word_in binding_word bindings w form bindings_worded e
+binding_is w form e = found_by bindings w form (by_words-is binding_forms w form e) e
 
 module _ (n : Naming) (known : Known) (names : Names n known.procs known.classes) where
   abbrev Opened : Form → List (List ℕ) → Type 0
-  Opened form rest = Given n known form (opener_word form ∷ rest) → Row n known form (opener_word form ∷ rest)
+  Opened form rest = Given n known form (word_of form ∷ rest) → Row n known form (word_of form ∷ rest)
 
   plain : (form : Form) (ws : List (List ℕ)) → Given n known form ws → Plain n known form ws → Row n known form ws
   plain form ws given p = plain_row n known names form ws given p
 
   -- lines of no, one, two or three words behind the first
-  alone : (form : Form) (rest : List (List ℕ)) → length rest ≡ 0 → Plain n known form (opener_word form ∷ []) → Opened form rest
-  alone form rest e p = shape0 (Opened form) rest e (λ given. plain form (opener_word form ∷ []) given p)
+  alone : (form : Form) (rest : List (List ℕ)) → length rest ≡ 0 → Plain n known form (word_of form ∷ []) → Opened form rest
+  alone form rest e p = shape0 (Opened form) rest e (λ given. plain form (word_of form ∷ []) given p)
 
-  one : (form : Form) (rest : List (List ℕ)) → length rest ≡ 1 → ((a : List ℕ) → Plain n known form (opener_word form ∷ a ∷ [])) → Opened form rest
-  one form rest e p = shape1 (Opened form) rest e (λ a given. plain form (opener_word form ∷ a ∷ []) given (p a))
+  one : (form : Form) (rest : List (List ℕ)) → length rest ≡ 1 → ((a : List ℕ) → Plain n known form (word_of form ∷ a ∷ [])) → Opened form rest
+  one form rest e p = shape1 (Opened form) rest e (λ a given. plain form (word_of form ∷ a ∷ []) given (p a))
 
-  two : (form : Form) (rest : List (List ℕ)) → length rest ≡ 2 → ((a b : List ℕ) → Plain n known form (opener_word form ∷ a ∷ b ∷ [])) → Opened form rest
-  two form rest e p = shape2 (Opened form) rest e (λ a b given. plain form (opener_word form ∷ a ∷ b ∷ []) given (p a b))
+  two : (form : Form) (rest : List (List ℕ)) → length rest ≡ 2 → ((a b : List ℕ) → Plain n known form (word_of form ∷ a ∷ b ∷ [])) → Opened form rest
+  two form rest e p = shape2 (Opened form) rest e (λ a b given. plain form (word_of form ∷ a ∷ b ∷ []) given (p a b))
 
-  three : (form : Form) (rest : List (List ℕ)) → length rest ≡ 3 → ((a b c : List ℕ) → Plain n known form (opener_word form ∷ a ∷ b ∷ c ∷ [])) → Opened form rest
-  three form rest e p = shape3 (Opened form) rest e (λ a b c given. plain form (opener_word form ∷ a ∷ b ∷ c ∷ []) given (p a b c))
+  three : (form : Form) (rest : List (List ℕ)) → length rest ≡ 3 → ((a b c : List ℕ) → Plain n known form (word_of form ∷ a ∷ b ∷ c ∷ [])) → Opened form rest
+  three form rest e p = shape3 (Opened form) rest e (λ a b c given. plain form (word_of form ∷ a ∷ b ∷ c ∷ []) given (p a b c))
 
   threshold_row : (rest : List (List ℕ)) → Opened forms.Threshold rest
   threshold_row [] given = absurd (omega (arith, given.good.enough))
@@ -180,47 +135,48 @@ module _ (n : Naming) (known : Known) (names : Names n known.procs known.classes
   threshold_row (a ∷ b ∷ c ∷ d ∷ rest) given = absurd (omega (arith, given.good.most))
 
   -- a form that some first word picks; what is printed otherwise is given
-  pub opened : (form : Form) (rest : List (List ℕ)) → ((rest : List (List ℕ)) → Opened forms.Collect rest) → ((rest : List (List ℕ)) → Opened forms.Flags rest) → ((rest : List (List ℕ)) → Opened forms.Class rest) → Opened form rest
-  opened forms.Del rest co fl cl given = one forms.Del rest (omega (arith, given.good.enough, given.good.most)) (λ a. refl) given
-  opened forms.Append rest co fl cl given = two forms.Append rest (omega (arith, given.good.enough, given.good.most)) (λ a b. refl) given
-  opened forms.SetItem rest co fl cl given = three forms.SetItem rest (omega (arith, given.good.enough, given.good.most)) (λ a b c. refl) given
-  opened forms.DelItem rest co fl cl given = two forms.DelItem rest (omega (arith, given.good.enough, given.good.most)) (λ a b. refl) given
-  opened forms.Put rest co fl cl given = three forms.Put rest (omega (arith, given.good.enough, given.good.most)) (λ a b c. refl) given
-  opened forms.Remove rest co fl cl given = two forms.Remove rest (omega (arith, given.good.enough, given.good.most)) (λ a b. refl) given
-  opened forms.SetAttr rest co fl cl given = three forms.SetAttr rest (omega (arith, given.good.enough, given.good.most)) (λ a b c. refl) given
-  opened forms.DelAttr rest co fl cl given = two forms.DelAttr rest (omega (arith, given.good.enough, given.good.most)) (λ a b. refl) given
-  opened forms.Call rest co fl cl given = one forms.Call rest (omega (arith, given.good.enough, given.good.most)) (λ a. refl) given
-  opened forms.Quit rest co fl cl given = one forms.Quit rest (omega (arith, given.good.enough, given.good.most)) (λ a. refl) given
-  opened forms.Collect rest co fl cl given = co rest given
-  opened forms.Enable rest co fl cl given = alone forms.Enable rest (omega (arith, given.good.enough, given.good.most)) refl given
-  opened forms.Disable rest co fl cl given = alone forms.Disable rest (omega (arith, given.good.enough, given.good.most)) refl given
-  opened forms.Threshold rest co fl cl given = threshold_row rest given
-  opened forms.Flags rest co fl cl given = fl rest given
-  opened forms.Freeze rest co fl cl given = alone forms.Freeze rest (omega (arith, given.good.enough, given.good.most)) refl given
-  opened forms.Unfreeze rest co fl cl given = alone forms.Unfreeze rest (omega (arith, given.good.enough, given.good.most)) refl given
-  opened forms.Print rest co fl cl given = one forms.Print rest (omega (arith, given.good.enough, given.good.most)) (λ a. refl) given
-  opened forms.Refs rest co fl cl given = one forms.Refs rest (omega (arith, given.good.enough, given.good.most)) (λ a. refl) given
-  opened forms.Tracked rest co fl cl given = one forms.Tracked rest (omega (arith, given.good.enough, given.good.most)) (λ a. refl) given
-  opened forms.Finalized rest co fl cl given = one forms.Finalized rest (omega (arith, given.good.enough, given.good.most)) (λ a. refl) given
-  opened forms.Count rest co fl cl given = alone forms.Count rest (omega (arith, given.good.enough, given.good.most)) refl given
-  opened forms.Gens rest co fl cl given = alone forms.Gens rest (omega (arith, given.good.enough, given.good.most)) refl given
-  opened forms.Budget rest co fl cl given = one forms.Budget rest (omega (arith, given.good.enough, given.good.most)) (λ a. refl) given
-  opened forms.Class rest co fl cl given = cl rest given
-  opened forms.Def rest co fl cl given = one forms.Def rest (omega (arith, given.good.enough, given.good.most)) (λ a. refl) given
-  opened forms.End rest co fl cl given = alone forms.End rest (omega (arith, given.good.enough, given.good.most)) refl given
-  opened form rest co fl cl given = absurd (omega (arith, given.good.sound.0.0))
+  pub opened : (form : Form) (rest : List (List ℕ)) → ((rest : List (List ℕ)) → Opened forms.Collect rest) → ((rest : List (List ℕ)) → Opened forms.Flags rest) → ((rest : List (List ℕ)) → Opened forms.Class rest) → named openers (word_of form) ≡ Some form → Opened form rest
+  unfolding openers
+  opened forms.Del rest co fl cl found given = one forms.Del rest (omega (arith, given.good.enough, given.good.most)) (λ a. refl) given
+  opened forms.Append rest co fl cl found given = two forms.Append rest (omega (arith, given.good.enough, given.good.most)) (λ a b. refl) given
+  opened forms.SetItem rest co fl cl found given = three forms.SetItem rest (omega (arith, given.good.enough, given.good.most)) (λ a b c. refl) given
+  opened forms.DelItem rest co fl cl found given = two forms.DelItem rest (omega (arith, given.good.enough, given.good.most)) (λ a b. refl) given
+  opened forms.Put rest co fl cl found given = three forms.Put rest (omega (arith, given.good.enough, given.good.most)) (λ a b c. refl) given
+  opened forms.Remove rest co fl cl found given = two forms.Remove rest (omega (arith, given.good.enough, given.good.most)) (λ a b. refl) given
+  opened forms.SetAttr rest co fl cl found given = three forms.SetAttr rest (omega (arith, given.good.enough, given.good.most)) (λ a b c. refl) given
+  opened forms.DelAttr rest co fl cl found given = two forms.DelAttr rest (omega (arith, given.good.enough, given.good.most)) (λ a b. refl) given
+  opened forms.Call rest co fl cl found given = one forms.Call rest (omega (arith, given.good.enough, given.good.most)) (λ a. refl) given
+  opened forms.Quit rest co fl cl found given = one forms.Quit rest (omega (arith, given.good.enough, given.good.most)) (λ a. refl) given
+  opened forms.Collect rest co fl cl found given = co rest given
+  opened forms.Enable rest co fl cl found given = alone forms.Enable rest (omega (arith, given.good.enough, given.good.most)) refl given
+  opened forms.Disable rest co fl cl found given = alone forms.Disable rest (omega (arith, given.good.enough, given.good.most)) refl given
+  opened forms.Threshold rest co fl cl found given = threshold_row rest given
+  opened forms.Flags rest co fl cl found given = fl rest given
+  opened forms.Freeze rest co fl cl found given = alone forms.Freeze rest (omega (arith, given.good.enough, given.good.most)) refl given
+  opened forms.Unfreeze rest co fl cl found given = alone forms.Unfreeze rest (omega (arith, given.good.enough, given.good.most)) refl given
+  opened forms.Print rest co fl cl found given = one forms.Print rest (omega (arith, given.good.enough, given.good.most)) (λ a. refl) given
+  opened forms.Refs rest co fl cl found given = one forms.Refs rest (omega (arith, given.good.enough, given.good.most)) (λ a. refl) given
+  opened forms.Tracked rest co fl cl found given = one forms.Tracked rest (omega (arith, given.good.enough, given.good.most)) (λ a. refl) given
+  opened forms.Finalized rest co fl cl found given = one forms.Finalized rest (omega (arith, given.good.enough, given.good.most)) (λ a. refl) given
+  opened forms.Count rest co fl cl found given = alone forms.Count rest (omega (arith, given.good.enough, given.good.most)) refl given
+  opened forms.Gens rest co fl cl found given = alone forms.Gens rest (omega (arith, given.good.enough, given.good.most)) refl given
+  opened forms.Budget rest co fl cl found given = one forms.Budget rest (omega (arith, given.good.enough, given.good.most)) (λ a. refl) given
+  opened forms.Class rest co fl cl found given = cl rest given
+  opened forms.Def rest co fl cl found given = one forms.Def rest (omega (arith, given.good.enough, given.good.most)) (λ a. refl) given
+  opened forms.End rest co fl cl found given = alone forms.End rest (omega (arith, given.good.enough, given.good.most)) refl given
+  opened form rest co fl cl found given = absurd (cc)
 
   abbrev Bound : Form → List ℕ → List (List ℕ) → Type 0
-  Bound form a rest = Given n known form (a ∷ codes "=" ∷ binding_word form ∷ rest) → Row n known form (a ∷ codes "=" ∷ binding_word form ∷ rest)
+  Bound form a rest = Given n known form (a ∷ codes "=" ∷ word_of form ∷ rest) → Row n known form (a ∷ codes "=" ∷ word_of form ∷ rest)
 
-  bound0 : (form : Form) (a : List ℕ) (rest : List (List ℕ)) → length rest ≡ 0 → Plain n known form (a ∷ codes "=" ∷ binding_word form ∷ []) → Bound form a rest
-  bound0 form a rest e p = shape0 (Bound form a) rest e (λ given. plain form (a ∷ codes "=" ∷ binding_word form ∷ []) given p)
+  bound0 : (form : Form) (a : List ℕ) (rest : List (List ℕ)) → length rest ≡ 0 → Plain n known form (a ∷ codes "=" ∷ word_of form ∷ []) → Bound form a rest
+  bound0 form a rest e p = shape0 (Bound form a) rest e (λ given. plain form (a ∷ codes "=" ∷ word_of form ∷ []) given p)
 
-  bound1 : (form : Form) (a : List ℕ) (rest : List (List ℕ)) → length rest ≡ 1 → ((b : List ℕ) → Plain n known form (a ∷ codes "=" ∷ binding_word form ∷ b ∷ [])) → Bound form a rest
-  bound1 form a rest e p = shape1 (Bound form a) rest e (λ b given. plain form (a ∷ codes "=" ∷ binding_word form ∷ b ∷ []) given (p b))
+  bound1 : (form : Form) (a : List ℕ) (rest : List (List ℕ)) → length rest ≡ 1 → ((b : List ℕ) → Plain n known form (a ∷ codes "=" ∷ word_of form ∷ b ∷ [])) → Bound form a rest
+  bound1 form a rest e p = shape1 (Bound form a) rest e (λ b given. plain form (a ∷ codes "=" ∷ word_of form ∷ b ∷ []) given (p b))
 
-  bound2 : (form : Form) (a : List ℕ) (rest : List (List ℕ)) → length rest ≡ 2 → ((b c : List ℕ) → Plain n known form (a ∷ codes "=" ∷ binding_word form ∷ b ∷ c ∷ [])) → Bound form a rest
-  bound2 form a rest e p = shape2 (Bound form a) rest e (λ b c given. plain form (a ∷ codes "=" ∷ binding_word form ∷ b ∷ c ∷ []) given (p b c))
+  bound2 : (form : Form) (a : List ℕ) (rest : List (List ℕ)) → length rest ≡ 2 → ((b c : List ℕ) → Plain n known form (a ∷ codes "=" ∷ word_of form ∷ b ∷ c ∷ [])) → Bound form a rest
+  bound2 form a rest e p = shape2 (Bound form a) rest e (λ b c given. plain form (a ∷ codes "=" ∷ word_of form ∷ b ∷ c ∷ []) given (p b c))
 
   func_row : (a : List ℕ) (rest : List (List ℕ)) → Bound forms.MakeFunc a rest
   func_row a [] given = absurd (omega (arith, given.good.enough))
@@ -230,22 +186,23 @@ module _ (n : Naming) (known : Known) (names : Names n known.procs known.classes
       (values_plain n known.procs known.classes forms.MakeFunc rest (with_text known.texts a) 4 (λ i h. get_or_past (row forms.MakeFunc).places i Value h)))
 
   -- a form that some third word picks
-  pub bound : (form : Form) (a : List ℕ) (rest : List (List ℕ)) → ((a : List ℕ) (rest : List (List ℕ)) → Bound forms.MakeRef a rest) → Bound form a rest
-  bound forms.MakeList a rest re given =
+  pub bound : (form : Form) (a : List ℕ) (rest : List (List ℕ)) → ((a : List ℕ) (rest : List (List ℕ)) → Bound forms.MakeRef a rest) → named bindings (word_of form) ≡ Some form → Bound form a rest
+  unfolding bindings
+  bound forms.MakeList a rest re found given =
       plain forms.MakeList (a ∷ codes "=" ∷ codes "list" ∷ rest) given
       (ap (λ l. text_of n.texts (place_of known.texts a) ∷ codes "=" ∷ codes "list" ∷ l) (values_plain n known.procs known.classes forms.MakeList rest (with_text known.texts a) 3 (λ i h. get_or_past (row forms.MakeList).places i Value h)))
-  bound forms.MakeTuple a rest re given =
+  bound forms.MakeTuple a rest re found given =
       plain forms.MakeTuple (a ∷ codes "=" ∷ codes "tuple" ∷ rest) given
       (ap (λ l. text_of n.texts (place_of known.texts a) ∷ codes "=" ∷ codes "tuple" ∷ l) (values_plain n known.procs known.classes forms.MakeTuple rest (with_text known.texts a) 3 (λ i h. get_or_past (row forms.MakeTuple).places i Value h)))
-  bound forms.MakeDict a rest re given = bound0 forms.MakeDict a rest (omega (arith, given.good.enough, given.good.most)) refl given
-  bound forms.MakeInst a rest re given = bound1 forms.MakeInst a rest (omega (arith, given.good.enough, given.good.most)) (λ b. refl) given
-  bound forms.MakeFunc a rest re given = func_row a rest given
-  bound forms.MakeRef a rest re given = re a rest given
-  bound forms.Item a rest re given = bound2 forms.Item a rest (omega (arith, given.good.enough, given.good.most)) (λ b c. refl) given
-  bound forms.Get a rest re given = bound2 forms.Get a rest (omega (arith, given.good.enough, given.good.most)) (λ b c. refl) given
-  bound forms.Attr a rest re given = bound2 forms.Attr a rest (omega (arith, given.good.enough, given.good.most)) (λ b c. refl) given
-  bound forms.Deref a rest re given = bound1 forms.Deref a rest (omega (arith, given.good.enough, given.good.most)) (λ b. refl) given
-  bound form a rest re given = absurd (omega (arith, given.good.sound.1.1.0.0))
+  bound forms.MakeDict a rest re found given = bound0 forms.MakeDict a rest (omega (arith, given.good.enough, given.good.most)) refl given
+  bound forms.MakeInst a rest re found given = bound1 forms.MakeInst a rest (omega (arith, given.good.enough, given.good.most)) (λ b. refl) given
+  bound forms.MakeFunc a rest re found given = func_row a rest given
+  bound forms.MakeRef a rest re found given = re a rest given
+  bound forms.Item a rest re found given = bound2 forms.Item a rest (omega (arith, given.good.enough, given.good.most)) (λ b c. refl) given
+  bound forms.Get a rest re found given = bound2 forms.Get a rest (omega (arith, given.good.enough, given.good.most)) (λ b c. refl) given
+  bound forms.Attr a rest re found given = bound2 forms.Attr a rest (omega (arith, given.good.enough, given.good.most)) (λ b c. refl) given
+  bound forms.Deref a rest re found given = bound1 forms.Deref a rest (omega (arith, given.good.enough, given.good.most)) (λ b. refl) given
+  bound form a rest re found given = absurd (cc)
 
   -- a line that binds a value
   pub bind_row : (a v : List ℕ) (rest : List (List ℕ)) → Given n known forms.Bind (a ∷ codes "=" ∷ v ∷ rest) → Row n known forms.Bind (a ∷ codes "=" ∷ v ∷ rest)

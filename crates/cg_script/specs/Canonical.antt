@@ -8,7 +8,9 @@ use Rattle.cg_script.specs.declared.command.Command.TheVariants as commands
 use Rattle.cg_script.specs.declared.item.Item.{Item}
 use Rattle.cg_script.specs.declared.item.Item.TheVariants as items
 use Rattle.cg_script.specs.declared.item.ClassDef.{ClassDef}
+use Rattle.cg_script.specs.declared.form.Form.TheVariants as forms
 use Rattle.cg_script.specs.Items.{procedures, classes}
+use Rattle.cg_script.specs.Forms.{word_of}
 
 -- what the numbers in a script stand for: texts, and of the procedures and classes in order the numbers of their names
 pub record Naming : Type 0 where
@@ -56,54 +58,54 @@ flag_words bits bit word = if bit_and bits bit == 0 then [] else word ∷ []
 
 -- the words of a command: one row for each form
 abbrev pub command_words : Naming → Command → List (List ℕ)
-command_words n (commands.MakeList name items) = text_of n.texts name ∷ codes "=" ∷ codes "list" ∷ map (value_word n.texts) items
-command_words n (commands.MakeTuple name items) = text_of n.texts name ∷ codes "=" ∷ codes "tuple" ∷ map (value_word n.texts) items
-command_words n (commands.MakeDict name) = text_of n.texts name ∷ codes "=" ∷ codes "dict" ∷ []
-command_words n (commands.MakeInst name class) = text_of n.texts name ∷ codes "=" ∷ codes "new" ∷ name_of n.texts n.classes class ∷ []
-command_words n (commands.MakeFunc name proc cells) = text_of n.texts name ∷ codes "=" ∷ codes "func" ∷ name_of n.texts n.procs proc ∷ map (value_word n.texts) cells
-command_words n (commands.MakeRef name target callback) = text_of n.texts name ∷ codes "=" ∷ codes "ref" ∷ value_word n.texts target ∷ callback_words n.texts callback
+command_words n (commands.MakeList name items) = text_of n.texts name ∷ codes "=" ∷ word_of forms.MakeList ∷ map (value_word n.texts) items
+command_words n (commands.MakeTuple name items) = text_of n.texts name ∷ codes "=" ∷ word_of forms.MakeTuple ∷ map (value_word n.texts) items
+command_words n (commands.MakeDict name) = text_of n.texts name ∷ codes "=" ∷ word_of forms.MakeDict ∷ []
+command_words n (commands.MakeInst name class) = text_of n.texts name ∷ codes "=" ∷ word_of forms.MakeInst ∷ name_of n.texts n.classes class ∷ []
+command_words n (commands.MakeFunc name proc cells) = text_of n.texts name ∷ codes "=" ∷ word_of forms.MakeFunc ∷ name_of n.texts n.procs proc ∷ map (value_word n.texts) cells
+command_words n (commands.MakeRef name target callback) = text_of n.texts name ∷ codes "=" ∷ word_of forms.MakeRef ∷ value_word n.texts target ∷ callback_words n.texts callback
 command_words n (commands.Bind name value) = text_of n.texts name ∷ codes "=" ∷ value_word n.texts value ∷ []
-command_words n (commands.Del name) = codes "del" ∷ text_of n.texts name ∷ []
-command_words n (commands.Append list value) = codes "append" ∷ value_word n.texts list ∷ value_word n.texts value ∷ []
-command_words n (commands.SetItem list index value) = codes "setitem" ∷ value_word n.texts list ∷ signed_decimal index ∷ value_word n.texts value ∷ []
-command_words n (commands.DelItem list index) = codes "delitem" ∷ value_word n.texts list ∷ signed_decimal index ∷ []
-command_words n (commands.Put dict key value) = codes "put" ∷ value_word n.texts dict ∷ value_word n.texts key ∷ value_word n.texts value ∷ []
-command_words n (commands.Remove dict key) = codes "drop" ∷ value_word n.texts dict ∷ value_word n.texts key ∷ []
-command_words n (commands.SetAttr object attr value) = codes "setattr" ∷ value_word n.texts object ∷ text_of n.texts attr ∷ value_word n.texts value ∷ []
-command_words n (commands.DelAttr object attr) = codes "delattr" ∷ value_word n.texts object ∷ text_of n.texts attr ∷ []
-command_words n (commands.Item name list index) = text_of n.texts name ∷ codes "=" ∷ codes "item" ∷ value_word n.texts list ∷ signed_decimal index ∷ []
-command_words n (commands.Get name dict key) = text_of n.texts name ∷ codes "=" ∷ codes "get" ∷ value_word n.texts dict ∷ value_word n.texts key ∷ []
-command_words n (commands.Attr name object attr) = text_of n.texts name ∷ codes "=" ∷ codes "attr" ∷ value_word n.texts object ∷ text_of n.texts attr ∷ []
-command_words n (commands.Deref name weak) = text_of n.texts name ∷ codes "=" ∷ codes "deref" ∷ value_word n.texts weak ∷ []
-command_words n (commands.Call func) = codes "call" ∷ value_word n.texts func ∷ []
-command_words n (commands.Quit value) = codes "quit" ∷ value_word n.texts value ∷ []
-command_words n (commands.Collect generation) = codes "collect" ∷ signed_decimal generation ∷ []
-command_words n commands.Enable = codes "enable" ∷ []
-command_words n commands.Disable = codes "disable" ∷ []
-command_words n (commands.Threshold first second third) = codes "threshold" ∷ decimal first ∷ (count_words second ++ count_words third)
+command_words n (commands.Del name) = word_of forms.Del ∷ text_of n.texts name ∷ []
+command_words n (commands.Append list value) = word_of forms.Append ∷ value_word n.texts list ∷ value_word n.texts value ∷ []
+command_words n (commands.SetItem list index value) = word_of forms.SetItem ∷ value_word n.texts list ∷ signed_decimal index ∷ value_word n.texts value ∷ []
+command_words n (commands.DelItem list index) = word_of forms.DelItem ∷ value_word n.texts list ∷ signed_decimal index ∷ []
+command_words n (commands.Put dict key value) = word_of forms.Put ∷ value_word n.texts dict ∷ value_word n.texts key ∷ value_word n.texts value ∷ []
+command_words n (commands.Remove dict key) = word_of forms.Remove ∷ value_word n.texts dict ∷ value_word n.texts key ∷ []
+command_words n (commands.SetAttr object attr value) = word_of forms.SetAttr ∷ value_word n.texts object ∷ text_of n.texts attr ∷ value_word n.texts value ∷ []
+command_words n (commands.DelAttr object attr) = word_of forms.DelAttr ∷ value_word n.texts object ∷ text_of n.texts attr ∷ []
+command_words n (commands.Item name list index) = text_of n.texts name ∷ codes "=" ∷ word_of forms.Item ∷ value_word n.texts list ∷ signed_decimal index ∷ []
+command_words n (commands.Get name dict key) = text_of n.texts name ∷ codes "=" ∷ word_of forms.Get ∷ value_word n.texts dict ∷ value_word n.texts key ∷ []
+command_words n (commands.Attr name object attr) = text_of n.texts name ∷ codes "=" ∷ word_of forms.Attr ∷ value_word n.texts object ∷ text_of n.texts attr ∷ []
+command_words n (commands.Deref name weak) = text_of n.texts name ∷ codes "=" ∷ word_of forms.Deref ∷ value_word n.texts weak ∷ []
+command_words n (commands.Call func) = word_of forms.Call ∷ value_word n.texts func ∷ []
+command_words n (commands.Quit value) = word_of forms.Quit ∷ value_word n.texts value ∷ []
+command_words n (commands.Collect generation) = word_of forms.Collect ∷ signed_decimal generation ∷ []
+command_words n commands.Enable = word_of forms.Enable ∷ []
+command_words n commands.Disable = word_of forms.Disable ∷ []
+command_words n (commands.Threshold first second third) = word_of forms.Threshold ∷ decimal first ∷ (count_words second ++ count_words third)
 command_words n (commands.Flags bits) =
-    codes "debug" ∷ (flag_words bits 1 (codes "stats") ++ flag_words bits 2 (codes "collectable") ++ flag_words bits 4 (codes "uncollectable") ++ flag_words bits 32 (codes "saveall"))
-command_words n commands.Freeze = codes "freeze" ∷ []
-command_words n commands.Unfreeze = codes "unfreeze" ∷ []
-command_words n (commands.Print value) = codes "print" ∷ value_word n.texts value ∷ []
-command_words n (commands.Refs value) = codes "refs" ∷ value_word n.texts value ∷ []
-command_words n (commands.Tracked value) = codes "tracked" ∷ value_word n.texts value ∷ []
-command_words n (commands.Finalized value) = codes "finalized" ∷ value_word n.texts value ∷ []
-command_words n commands.Count = codes "count" ∷ []
-command_words n commands.Gens = codes "gens" ∷ []
+    word_of forms.Flags ∷ (flag_words bits 1 (codes "stats") ++ flag_words bits 2 (codes "collectable") ++ flag_words bits 4 (codes "uncollectable") ++ flag_words bits 32 (codes "saveall"))
+command_words n commands.Freeze = word_of forms.Freeze ∷ []
+command_words n commands.Unfreeze = word_of forms.Unfreeze ∷ []
+command_words n (commands.Print value) = word_of forms.Print ∷ value_word n.texts value ∷ []
+command_words n (commands.Refs value) = word_of forms.Refs ∷ value_word n.texts value ∷ []
+command_words n (commands.Tracked value) = word_of forms.Tracked ∷ value_word n.texts value ∷ []
+command_words n (commands.Finalized value) = word_of forms.Finalized ∷ value_word n.texts value ∷ []
+command_words n commands.Count = word_of forms.Count ∷ []
+command_words n commands.Gens = word_of forms.Gens ∷ []
 
 -- of the other lines
 abbrev pub budget_words : ℕ → List (List ℕ)
-budget_words count = codes "budget" ∷ decimal count ∷ []
+budget_words count = word_of forms.Budget ∷ decimal count ∷ []
 
 abbrev pub class_words : Naming → ClassDef → List (List ℕ)
-class_words n c = codes "class" ∷ text_of n.texts c.name ∷ (finalizer_words (codes "del=") n c.del ++ finalizer_words (codes "legacy=") n c.legacy)
+class_words n c = word_of forms.Class ∷ text_of n.texts c.name ∷ (finalizer_words (codes "del=") n c.del ++ finalizer_words (codes "legacy=") n c.legacy)
 
 abbrev pub def_words : Naming → ℕ → List (List ℕ)
-def_words n name = codes "def" ∷ text_of n.texts name ∷ []
+def_words n name = word_of forms.Def ∷ text_of n.texts name ∷ []
 
 abbrev pub end_words : List (List ℕ)
-end_words = codes "end" ∷ []
+end_words = word_of forms.End ∷ []
 
 -- the lines of an item, each by its words
 abbrev pub item_lines : Naming → Item → List (List (List ℕ))

@@ -1,77 +1,94 @@
--- The table of forms: for each command and each declaration the number of its words, and what the place of each asks for. (Ours.)
-use Rattle.std.specs.Prelude.{ℕ, List, [], ◌∷◌, codes, slice_index_or}
+-- The table of forms: for each command and each declaration its word, the number of its words, and what the place of each asks
+-- for. (Ours.)
+use Rattle.std.specs.Prelude.{ℕ, List, [], ◌∷◌, Bool, true, false, map, codes, slice_index_or}
 use Rattle.cg_script.specs.declared.form.Form.{Form}
 use Rattle.cg_script.specs.declared.form.Form.TheVariants as forms
 use Rattle.cg_script.specs.declared.form.Sort.{Sort}
 use Rattle.cg_script.specs.declared.form.Sort.TheVariants.{Key, Variable, Name, Class, Proc, Finalizer, Value, Number, Budget, Count, Flag}
 
--- What a form asks for: the sorts of its first places, and the least and the greatest number of its words. Each place past the
--- first ones asks for a value.
+-- What a form asks for: its word, whether no variable may be that word, the sorts of its first places, and the least and the
+-- greatest number of its words. Each place past the first ones asks for a value.
 pub record Row : Type 0 where
+  pub word : List ℕ
+  pub reserved : Bool
   pub places : List Sort
   pub fewest : ℕ
   pub most : ℕ
 
 -- a row, with its number of words from and to
-abbrev pub asks : List Sort → ℕ → ℕ → Row
-asks places fewest most = record { places = places; fewest = fewest; most = most }
+abbrev pub asks : List ℕ → Bool → List Sort → ℕ → ℕ → Row
+asks word reserved places fewest most = record { word = word; reserved = reserved; places = places; fewest = fewest; most = most }
 
+-- that of a form whose word is reserved
+abbrev pub takes : List ℕ → List Sort → ℕ → ℕ → Row
+takes word places fewest most = asks word true places fewest most
+
+-- one row for each form; a line `x = v` has no word
 abbrev pub row : Form → Row
-row forms.MakeList = asks (Variable ∷ Key ∷ Key ∷ []) 3 64
-row forms.MakeTuple = asks (Variable ∷ Key ∷ Key ∷ []) 4 64
-row forms.MakeDict = asks (Variable ∷ Key ∷ Key ∷ []) 3 3
-row forms.MakeInst = asks (Variable ∷ Key ∷ Key ∷ Class ∷ []) 4 4
-row forms.MakeFunc = asks (Variable ∷ Key ∷ Key ∷ Proc ∷ []) 4 12
-row forms.MakeRef = asks (Variable ∷ Key ∷ Key ∷ Value ∷ Value ∷ []) 4 5
-row forms.Bind = asks (Variable ∷ Key ∷ Value ∷ []) 3 3
-row forms.Del = asks (Key ∷ Variable ∷ []) 2 2
-row forms.Append = asks (Key ∷ Value ∷ Value ∷ []) 3 3
-row forms.SetItem = asks (Key ∷ Value ∷ Number ∷ Value ∷ []) 4 4
-row forms.DelItem = asks (Key ∷ Value ∷ Number ∷ []) 3 3
-row forms.Put = asks (Key ∷ Value ∷ Value ∷ Value ∷ []) 4 4
-row forms.Remove = asks (Key ∷ Value ∷ Value ∷ []) 3 3
-row forms.SetAttr = asks (Key ∷ Value ∷ Name ∷ Value ∷ []) 4 4
-row forms.DelAttr = asks (Key ∷ Value ∷ Name ∷ []) 3 3
-row forms.Item = asks (Variable ∷ Key ∷ Key ∷ Value ∷ Number ∷ []) 5 5
-row forms.Get = asks (Variable ∷ Key ∷ Key ∷ Value ∷ Value ∷ []) 5 5
-row forms.Attr = asks (Variable ∷ Key ∷ Key ∷ Value ∷ Name ∷ []) 5 5
-row forms.Deref = asks (Variable ∷ Key ∷ Key ∷ Value ∷ []) 4 4
-row forms.Call = asks (Key ∷ Value ∷ []) 2 2
-row forms.Quit = asks (Key ∷ Value ∷ []) 2 2
-row forms.Collect = asks (Key ∷ Number ∷ []) 1 2
-row forms.Enable = asks (Key ∷ []) 1 1
-row forms.Disable = asks (Key ∷ []) 1 1
-row forms.Threshold = asks (Key ∷ Count ∷ Count ∷ Count ∷ []) 2 4
-row forms.Flags = asks (Key ∷ Flag ∷ Flag ∷ Flag ∷ Flag ∷ Flag ∷ []) 1 6
-row forms.Freeze = asks (Key ∷ []) 1 1
-row forms.Unfreeze = asks (Key ∷ []) 1 1
-row forms.Print = asks (Key ∷ Value ∷ []) 2 2
-row forms.Refs = asks (Key ∷ Value ∷ []) 2 2
-row forms.Tracked = asks (Key ∷ Value ∷ []) 2 2
-row forms.Finalized = asks (Key ∷ Value ∷ []) 2 2
-row forms.Count = asks (Key ∷ []) 1 1
-row forms.Gens = asks (Key ∷ []) 1 1
-row forms.Budget = asks (Key ∷ Budget ∷ []) 2 2
-row forms.Class = asks (Key ∷ Name ∷ Finalizer ∷ Finalizer ∷ []) 2 4
-row forms.Def = asks (Key ∷ Name ∷ []) 2 2
-row forms.End = asks (Key ∷ []) 1 1
+row forms.MakeList = takes (codes "list") (Variable ∷ Key ∷ Key ∷ []) 3 64
+row forms.MakeTuple = takes (codes "tuple") (Variable ∷ Key ∷ Key ∷ []) 4 64
+row forms.MakeDict = takes (codes "dict") (Variable ∷ Key ∷ Key ∷ []) 3 3
+row forms.MakeInst = takes (codes "new") (Variable ∷ Key ∷ Key ∷ Class ∷ []) 4 4
+row forms.MakeFunc = takes (codes "func") (Variable ∷ Key ∷ Key ∷ Proc ∷ []) 4 12
+row forms.MakeRef = takes (codes "ref") (Variable ∷ Key ∷ Key ∷ Value ∷ Value ∷ []) 4 5
+row forms.Bind = asks [] false (Variable ∷ Key ∷ Value ∷ []) 3 3
+row forms.Del = takes (codes "del") (Key ∷ Variable ∷ []) 2 2
+row forms.Append = takes (codes "append") (Key ∷ Value ∷ Value ∷ []) 3 3
+row forms.SetItem = takes (codes "setitem") (Key ∷ Value ∷ Number ∷ Value ∷ []) 4 4
+row forms.DelItem = takes (codes "delitem") (Key ∷ Value ∷ Number ∷ []) 3 3
+row forms.Put = takes (codes "put") (Key ∷ Value ∷ Value ∷ Value ∷ []) 4 4
+row forms.Remove = takes (codes "drop") (Key ∷ Value ∷ Value ∷ []) 3 3
+row forms.SetAttr = takes (codes "setattr") (Key ∷ Value ∷ Name ∷ Value ∷ []) 4 4
+row forms.DelAttr = takes (codes "delattr") (Key ∷ Value ∷ Name ∷ []) 3 3
+row forms.Item = takes (codes "item") (Variable ∷ Key ∷ Key ∷ Value ∷ Number ∷ []) 5 5
+row forms.Get = takes (codes "get") (Variable ∷ Key ∷ Key ∷ Value ∷ Value ∷ []) 5 5
+row forms.Attr = takes (codes "attr") (Variable ∷ Key ∷ Key ∷ Value ∷ Name ∷ []) 5 5
+row forms.Deref = takes (codes "deref") (Variable ∷ Key ∷ Key ∷ Value ∷ []) 4 4
+row forms.Call = takes (codes "call") (Key ∷ Value ∷ []) 2 2
+row forms.Quit = takes (codes "quit") (Key ∷ Value ∷ []) 2 2
+row forms.Collect = takes (codes "collect") (Key ∷ Number ∷ []) 1 2
+row forms.Enable = takes (codes "enable") (Key ∷ []) 1 1
+row forms.Disable = takes (codes "disable") (Key ∷ []) 1 1
+row forms.Threshold = takes (codes "threshold") (Key ∷ Count ∷ Count ∷ Count ∷ []) 2 4
+row forms.Flags = takes (codes "debug") (Key ∷ Flag ∷ Flag ∷ Flag ∷ Flag ∷ Flag ∷ []) 1 6
+row forms.Freeze = takes (codes "freeze") (Key ∷ []) 1 1
+row forms.Unfreeze = takes (codes "unfreeze") (Key ∷ []) 1 1
+row forms.Print = takes (codes "print") (Key ∷ Value ∷ []) 2 2
+row forms.Refs = takes (codes "refs") (Key ∷ Value ∷ []) 2 2
+row forms.Tracked = takes (codes "tracked") (Key ∷ Value ∷ []) 2 2
+row forms.Finalized = takes (codes "finalized") (Key ∷ Value ∷ []) 2 2
+row forms.Count = takes (codes "count") (Key ∷ []) 1 1
+row forms.Gens = takes (codes "gens") (Key ∷ []) 1 1
+row forms.Budget = takes (codes "budget") (Key ∷ Budget ∷ []) 2 2
+row forms.Class = takes (codes "class") (Key ∷ Name ∷ Finalizer ∷ Finalizer ∷ []) 2 4
+row forms.Def = takes (codes "def") (Key ∷ Name ∷ []) 2 2
+row forms.End = takes (codes "end") (Key ∷ []) 1 1
 
 -- the sort of a place, counted from 0
 abbrev pub sort_at : Form → ℕ → Sort
 sort_at form place = slice_index_or (row form).places place Value
 
--- the third words of lines `x = ..`; any other line of that form binds a value
-unfoldable pub bindings : List (List ℕ × Form)
-bindings = (codes "list", forms.MakeList) ∷ (codes "tuple", forms.MakeTuple) ∷ (codes "dict", forms.MakeDict) ∷ (codes "new", forms.MakeInst)
-    ∷ (codes "func", forms.MakeFunc) ∷ (codes "ref", forms.MakeRef) ∷ (codes "item", forms.Item) ∷ (codes "get", forms.Get)
-    ∷ (codes "attr", forms.Attr) ∷ (codes "deref", forms.Deref) ∷ []
+-- the word of a form
+abbrev pub word_of : Form → List ℕ
+word_of form = (row form).word
 
--- the first words of the other lines
+-- the forms of lines `x = ..` that a third word picks; any other line of that form binds a value
+abbrev pub binding_forms : List Form
+binding_forms = forms.MakeList ∷ forms.MakeTuple ∷ forms.MakeDict ∷ forms.MakeInst ∷ forms.MakeFunc ∷ forms.MakeRef ∷ forms.Item ∷ forms.Get
+    ∷ forms.Attr ∷ forms.Deref ∷ []
+
+-- the forms of the other lines, which their first word picks
+abbrev pub opening_forms : List Form
+opening_forms = forms.Del ∷ forms.Append ∷ forms.SetItem ∷ forms.DelItem ∷ forms.Put ∷ forms.Remove ∷ forms.SetAttr ∷ forms.DelAttr ∷ forms.Call
+    ∷ forms.Quit ∷ forms.Collect ∷ forms.Enable ∷ forms.Disable ∷ forms.Threshold ∷ forms.Flags ∷ forms.Freeze ∷ forms.Unfreeze ∷ forms.Print
+    ∷ forms.Refs ∷ forms.Tracked ∷ forms.Finalized ∷ forms.Count ∷ forms.Gens ∷ forms.Budget ∷ forms.Class ∷ forms.Def ∷ forms.End ∷ []
+
+-- forms by their words
+abbrev pub by_words : List Form → List (List ℕ × Form)
+by_words these = map (λ form. (word_of form, form)) these
+
+unfoldable pub bindings : List (List ℕ × Form)
+bindings = by_words binding_forms
+
 unfoldable pub openers : List (List ℕ × Form)
-openers = (codes "del", forms.Del) ∷ (codes "append", forms.Append) ∷ (codes "setitem", forms.SetItem) ∷ (codes "delitem", forms.DelItem)
-    ∷ (codes "put", forms.Put) ∷ (codes "drop", forms.Remove) ∷ (codes "setattr", forms.SetAttr) ∷ (codes "delattr", forms.DelAttr)
-    ∷ (codes "call", forms.Call) ∷ (codes "quit", forms.Quit) ∷ (codes "collect", forms.Collect) ∷ (codes "enable", forms.Enable)
-    ∷ (codes "disable", forms.Disable) ∷ (codes "threshold", forms.Threshold) ∷ (codes "debug", forms.Flags) ∷ (codes "freeze", forms.Freeze)
-    ∷ (codes "unfreeze", forms.Unfreeze) ∷ (codes "print", forms.Print) ∷ (codes "refs", forms.Refs) ∷ (codes "tracked", forms.Tracked)
-    ∷ (codes "finalized", forms.Finalized) ∷ (codes "count", forms.Count) ∷ (codes "gens", forms.Gens) ∷ (codes "budget", forms.Budget)
-    ∷ (codes "class", forms.Class) ∷ (codes "def", forms.Def) ∷ (codes "end", forms.End) ∷ []
+openers = by_words opening_forms

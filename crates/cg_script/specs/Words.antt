@@ -1,11 +1,12 @@
 -- The forms of words, and what they stand for. (Ours.)
 use Rattle.std.specs.Prelude.{ℕ, ◌+◌, ◌-◌, ◌*◌, List, [], ◌∷◌, Bool, true, false, not, ◌&&◌, ◌||◌, length, codes, take, drop, ◌==◌, nat_le, slice_index, if◌then◌else◌, Option, None, Some, is_some, ℤ, pos, neg_ℤ}
-use Rattle.std.specs.List.{list_all, list_any}
+use Rattle.std.specs.List.{list_all}
 use Rattle.std.specs.Str.{bytes_eq}
 use Rattle.cg_script.specs.declared.command.Operand.{Operand}
 use Rattle.cg_script.specs.declared.command.Operand.TheVariants as operands
-use Rattle.cg_script.specs.Pieces.{words_of}
+use Rattle.cg_script.specs.declared.form.Form.{Form}
 use Rattle.cg_script.specs.Tables.{named}
+use Rattle.cg_script.specs.Forms.{row, openers, bindings}
 
 -- space to `~`
 abbrev pub is_printable : ℕ → Bool
@@ -31,12 +32,20 @@ is_name_byte b = begins_name b || is_digit b
 abbrev pub is_identifier : List ℕ → Bool
 is_identifier word = nat_le 1 (length word) && nat_le (length word) 32 && begins_name (slice_index word 0) && list_all is_name_byte word
 
--- the words that no variable may be
-unfoldable pub reserved_words : List (List ℕ)
-reserved_words = words_of (codes "none self ref garbage c0 c1 c2 c3 c4 c5 c6 c7 list tuple dict new func item get attr deref del append setitem delitem put drop setattr delattr call quit collect enable disable threshold debug freeze unfreeze print refs tracked finalized count gens budget class def end")
+-- the values with a word of their own
+unfoldable pub atoms : List (List ℕ × Operand)
+atoms = (codes "none", operands.None) ∷ (codes "self", operands.SelfLocal) ∷ (codes "ref", operands.WeakLocal) ∷ (codes "garbage", operands.Garbage)
+    ∷ (codes "c0", operands.Cell 0) ∷ (codes "c1", operands.Cell 1) ∷ (codes "c2", operands.Cell 2) ∷ (codes "c3", operands.Cell 3)
+    ∷ (codes "c4", operands.Cell 4) ∷ (codes "c5", operands.Cell 5) ∷ (codes "c6", operands.Cell 6) ∷ (codes "c7", operands.Cell 7) ∷ []
 
+-- whether the word of a form is reserved
+abbrev pub reserves : Option Form → Bool
+reserves None = false
+reserves (Some form) = (row form).reserved
+
+-- the words that no variable may be: of values, and of forms
 abbrev pub is_reserved : List ℕ → Bool
-is_reserved word = list_any (bytes_eq word) reserved_words
+is_reserved word = is_some (named atoms word) || reserves (named openers word) || reserves (named bindings word)
 
 abbrev pub is_variable : List ℕ → Bool
 is_variable word = is_identifier word && not (is_reserved word)
@@ -74,12 +83,6 @@ number_of word = if has_minus word then neg_ℤ (pos (decimal_value (drop 1 word
 -- 1 to 10 digits of a number up to a limit
 abbrev pub is_count : ℕ → List ℕ → Bool
 is_count most word = are_digits 10 word && nat_le (decimal_value word) most
-
--- the values with a word of their own
-unfoldable pub atoms : List (List ℕ × Operand)
-atoms = (codes "none", operands.None) ∷ (codes "self", operands.SelfLocal) ∷ (codes "ref", operands.WeakLocal) ∷ (codes "garbage", operands.Garbage)
-    ∷ (codes "c0", operands.Cell 0) ∷ (codes "c1", operands.Cell 1) ∷ (codes "c2", operands.Cell 2) ∷ (codes "c3", operands.Cell 3)
-    ∷ (codes "c4", operands.Cell 4) ∷ (codes "c5", operands.Cell 5) ∷ (codes "c6", operands.Cell 6) ∷ (codes "c7", operands.Cell 7) ∷ []
 
 -- a word that begins with `'`: a string, which is what follows
 abbrev pub is_quoted : List ℕ → Bool

@@ -1,9 +1,7 @@
 //! The table of forms: one row for each command and each declaration.
-ghost use Rattle.std.specs.Prelude.{◌≡◌, map};
-ghost use Rattle.cg_script.specs.Forms.{Row as RowOf, row as row_of, sort_at as sort_of, bindings, openers};
+ghost use Rattle.std.specs.Prelude.{◌≡◌, true};
+ghost use Rattle.cg_script.specs.Forms.{row as row_of, sort_at as sort_of, word_of as word_in, by_words, bindings, openers};
 ghost use Rattle.cg_script.specs.Tables.{named as named_in};
-
-use crate::table::named;
 
 /// A form of lines.
 #[derive(Clone, Copy, Debug, PartialEq, Eq)]
@@ -75,6 +73,10 @@ pub enum Sort {
 /// What a form asks for.
 #[derive(Clone, Copy)]
 pub(crate) struct Row {
+    /// The word that picks it; none for `x = v`.
+    pub word: &'static [u8],
+    /// Whether no variable may be that word.
+    pub reserved: bool,
     /// The sorts of the first places; each place past them asks for a value.
     places: &'static [Sort],
     /// The least number of words.
@@ -83,64 +85,87 @@ pub(crate) struct Row {
     pub most: usize,
 }
 
-fn asks(places: &'static [Sort], fewest: usize, most: usize) -> Row
+fn asks(
+    word: &'static [u8],
+    reserved: bool,
+    places: &'static [Sort],
+    fewest: usize,
+    most: usize,
+) -> Row
+    ensures word { result.word.now ≡ word.now }
+    ensures reserved { result.reserved ≡ reserved }
     ensures places { result.places.now ≡ places.now }
     ensures fewest { result.fewest ≡ fewest }
     ensures most { result.most ≡ most }
 {
     Row {
+        word,
+        reserved,
         places,
         fewest,
         most,
     }
 }
 
+/// The row of a form whose word is reserved.
+fn takes(word: &'static [u8], places: &'static [Sort], fewest: usize, most: usize) -> Row
+    ensures word { result.word.now ≡ word.now }
+    ensures reserved { result.reserved ≡ true }
+    ensures places { result.places.now ≡ places.now }
+    ensures fewest { result.fewest ≡ fewest }
+    ensures most { result.most ≡ most }
+{
+    asks(word, true, places, fewest, most)
+}
+
 /// What a form asks for.
 pub(crate) fn row_for(form: Form) -> Row
+    ensures word { result.word.now ≡ (row_of form).word }
+    ensures reserved { result.reserved ≡ (row_of form).reserved }
     ensures places { result.places.now ≡ (row_of form).places }
     ensures fewest { result.fewest ≡ (row_of form).fewest }
     ensures most { result.most ≡ (row_of form).most }
 {
     use Sort::{Budget, Class, Count, Finalizer, Flag, Key, Name, Number, Proc, Value, Variable};
     match form {
-        Form::MakeList => asks(&[Variable, Key, Key], 3, 64),
-        Form::MakeTuple => asks(&[Variable, Key, Key], 4, 64),
-        Form::MakeDict => asks(&[Variable, Key, Key], 3, 3),
-        Form::MakeInst => asks(&[Variable, Key, Key, Class], 4, 4),
-        Form::MakeFunc => asks(&[Variable, Key, Key, Proc], 4, 12),
-        Form::MakeRef => asks(&[Variable, Key, Key, Value, Value], 4, 5),
-        Form::Bind => asks(&[Variable, Key, Value], 3, 3),
-        Form::Del => asks(&[Key, Variable], 2, 2),
-        Form::Append => asks(&[Key, Value, Value], 3, 3),
-        Form::SetItem => asks(&[Key, Value, Number, Value], 4, 4),
-        Form::DelItem => asks(&[Key, Value, Number], 3, 3),
-        Form::Put => asks(&[Key, Value, Value, Value], 4, 4),
-        Form::Remove => asks(&[Key, Value, Value], 3, 3),
-        Form::SetAttr => asks(&[Key, Value, Name, Value], 4, 4),
-        Form::DelAttr => asks(&[Key, Value, Name], 3, 3),
-        Form::Item => asks(&[Variable, Key, Key, Value, Number], 5, 5),
-        Form::Get => asks(&[Variable, Key, Key, Value, Value], 5, 5),
-        Form::Attr => asks(&[Variable, Key, Key, Value, Name], 5, 5),
-        Form::Deref => asks(&[Variable, Key, Key, Value], 4, 4),
-        Form::Call => asks(&[Key, Value], 2, 2),
-        Form::Quit => asks(&[Key, Value], 2, 2),
-        Form::Collect => asks(&[Key, Number], 1, 2),
-        Form::Enable => asks(&[Key], 1, 1),
-        Form::Disable => asks(&[Key], 1, 1),
-        Form::Threshold => asks(&[Key, Count, Count, Count], 2, 4),
-        Form::Flags => asks(&[Key, Flag, Flag, Flag, Flag, Flag], 1, 6),
-        Form::Freeze => asks(&[Key], 1, 1),
-        Form::Unfreeze => asks(&[Key], 1, 1),
-        Form::Print => asks(&[Key, Value], 2, 2),
-        Form::Refs => asks(&[Key, Value], 2, 2),
-        Form::Tracked => asks(&[Key, Value], 2, 2),
-        Form::Finalized => asks(&[Key, Value], 2, 2),
-        Form::Count => asks(&[Key], 1, 1),
-        Form::Gens => asks(&[Key], 1, 1),
-        Form::Budget => asks(&[Key, Budget], 2, 2),
-        Form::Class => asks(&[Key, Name, Finalizer, Finalizer], 2, 4),
-        Form::Def => asks(&[Key, Name], 2, 2),
-        Form::End => asks(&[Key], 1, 1),
+        Form::MakeList => takes(b"list", &[Variable, Key, Key], 3, 64),
+        Form::MakeTuple => takes(b"tuple", &[Variable, Key, Key], 4, 64),
+        Form::MakeDict => takes(b"dict", &[Variable, Key, Key], 3, 3),
+        Form::MakeInst => takes(b"new", &[Variable, Key, Key, Class], 4, 4),
+        Form::MakeFunc => takes(b"func", &[Variable, Key, Key, Proc], 4, 12),
+        Form::MakeRef => takes(b"ref", &[Variable, Key, Key, Value, Value], 4, 5),
+        Form::Bind => asks(b"", false, &[Variable, Key, Value], 3, 3),
+        Form::Del => takes(b"del", &[Key, Variable], 2, 2),
+        Form::Append => takes(b"append", &[Key, Value, Value], 3, 3),
+        Form::SetItem => takes(b"setitem", &[Key, Value, Number, Value], 4, 4),
+        Form::DelItem => takes(b"delitem", &[Key, Value, Number], 3, 3),
+        Form::Put => takes(b"put", &[Key, Value, Value, Value], 4, 4),
+        Form::Remove => takes(b"drop", &[Key, Value, Value], 3, 3),
+        Form::SetAttr => takes(b"setattr", &[Key, Value, Name, Value], 4, 4),
+        Form::DelAttr => takes(b"delattr", &[Key, Value, Name], 3, 3),
+        Form::Item => takes(b"item", &[Variable, Key, Key, Value, Number], 5, 5),
+        Form::Get => takes(b"get", &[Variable, Key, Key, Value, Value], 5, 5),
+        Form::Attr => takes(b"attr", &[Variable, Key, Key, Value, Name], 5, 5),
+        Form::Deref => takes(b"deref", &[Variable, Key, Key, Value], 4, 4),
+        Form::Call => takes(b"call", &[Key, Value], 2, 2),
+        Form::Quit => takes(b"quit", &[Key, Value], 2, 2),
+        Form::Collect => takes(b"collect", &[Key, Number], 1, 2),
+        Form::Enable => takes(b"enable", &[Key], 1, 1),
+        Form::Disable => takes(b"disable", &[Key], 1, 1),
+        Form::Threshold => takes(b"threshold", &[Key, Count, Count, Count], 2, 4),
+        Form::Flags => takes(b"debug", &[Key, Flag, Flag, Flag, Flag, Flag], 1, 6),
+        Form::Freeze => takes(b"freeze", &[Key], 1, 1),
+        Form::Unfreeze => takes(b"unfreeze", &[Key], 1, 1),
+        Form::Print => takes(b"print", &[Key, Value], 2, 2),
+        Form::Refs => takes(b"refs", &[Key, Value], 2, 2),
+        Form::Tracked => takes(b"tracked", &[Key, Value], 2, 2),
+        Form::Finalized => takes(b"finalized", &[Key, Value], 2, 2),
+        Form::Count => takes(b"count", &[Key], 1, 1),
+        Form::Gens => takes(b"gens", &[Key], 1, 1),
+        Form::Budget => takes(b"budget", &[Key, Budget], 2, 2),
+        Form::Class => takes(b"class", &[Key, Name, Finalizer, Finalizer], 2, 4),
+        Form::Def => takes(b"def", &[Key, Name], 2, 2),
+        Form::End => takes(b"end", &[Key], 1, 1),
     }
 }
 
@@ -154,57 +179,76 @@ pub(crate) fn sort_at(form: Form, place: usize) -> Sort
     }
 }
 
-/// The third words of lines `x = ..`.
-static BINDINGS: [(&[u8], Form); 10] = [
-    (b"list", Form::MakeList),
-    (b"tuple", Form::MakeTuple),
-    (b"dict", Form::MakeDict),
-    (b"new", Form::MakeInst),
-    (b"func", Form::MakeFunc),
-    (b"ref", Form::MakeRef),
-    (b"item", Form::Item),
-    (b"get", Form::Get),
-    (b"attr", Form::Attr),
-    (b"deref", Form::Deref),
+/// The word of a form.
+pub(crate) fn word_of(form: Form) -> &'static [u8]
+    ensures { result.now ≡ word_in form }
+{
+    row_for(form).word
+}
+
+/// The forms of lines `x = ..` that a third word picks.
+static BINDINGS: [Form; 10] = [
+    Form::MakeList,
+    Form::MakeTuple,
+    Form::MakeDict,
+    Form::MakeInst,
+    Form::MakeFunc,
+    Form::MakeRef,
+    Form::Item,
+    Form::Get,
+    Form::Attr,
+    Form::Deref,
 ];
 
-/// The first words of the other lines.
-static OPENERS: [(&[u8], Form); 27] = [
-    (b"del", Form::Del),
-    (b"append", Form::Append),
-    (b"setitem", Form::SetItem),
-    (b"delitem", Form::DelItem),
-    (b"put", Form::Put),
-    (b"drop", Form::Remove),
-    (b"setattr", Form::SetAttr),
-    (b"delattr", Form::DelAttr),
-    (b"call", Form::Call),
-    (b"quit", Form::Quit),
-    (b"collect", Form::Collect),
-    (b"enable", Form::Enable),
-    (b"disable", Form::Disable),
-    (b"threshold", Form::Threshold),
-    (b"debug", Form::Flags),
-    (b"freeze", Form::Freeze),
-    (b"unfreeze", Form::Unfreeze),
-    (b"print", Form::Print),
-    (b"refs", Form::Refs),
-    (b"tracked", Form::Tracked),
-    (b"finalized", Form::Finalized),
-    (b"count", Form::Count),
-    (b"gens", Form::Gens),
-    (b"budget", Form::Budget),
-    (b"class", Form::Class),
-    (b"def", Form::Def),
-    (b"end", Form::End),
+/// The forms of the other lines, which their first word picks.
+static OPENERS: [Form; 27] = [
+    Form::Del,
+    Form::Append,
+    Form::SetItem,
+    Form::DelItem,
+    Form::Put,
+    Form::Remove,
+    Form::SetAttr,
+    Form::DelAttr,
+    Form::Call,
+    Form::Quit,
+    Form::Collect,
+    Form::Enable,
+    Form::Disable,
+    Form::Threshold,
+    Form::Flags,
+    Form::Freeze,
+    Form::Unfreeze,
+    Form::Print,
+    Form::Refs,
+    Form::Tracked,
+    Form::Finalized,
+    Form::Count,
+    Form::Gens,
+    Form::Budget,
+    Form::Class,
+    Form::Def,
+    Form::End,
 ];
+
+/// The form among these that has a word.
+fn form_with(forms: &[Form], word: &[u8]) -> Option<Form>
+    ensures { result ≡ named_in (by_words forms.now) word.now }
+{
+    'forms: for form in forms {
+        if word == word_of(*form) {
+            return Some(*form);
+        }
+    }
+    None
+}
 
 /// The form of a line `x = ..` with this third word, but for lines that bind a value.
 #[tactic(auto, unfolding(crate::specs::Forms::bindings))]
 pub(crate) fn binding_named(word: &[u8]) -> Option<Form>
     ensures { result ≡ named_in bindings word.now }
 {
-    named(&BINDINGS, word)
+    form_with(&BINDINGS, word)
 }
 
 /// The form of another line with this first word.
@@ -212,5 +256,5 @@ pub(crate) fn binding_named(word: &[u8]) -> Option<Form>
 pub(crate) fn opener_named(word: &[u8]) -> Option<Form>
     ensures { result ≡ named_in openers word.now }
 {
-    named(&OPENERS, word)
+    form_with(&OPENERS, word)
 }

@@ -5,6 +5,7 @@ ghost use Rattle.cg_script.specs.Canonical.{text_of, name_of, value_word, callba
 ghost use Rattle.cg_script.specs.Pieced.{piece_bytes, piece_words, names_by};
 
 use crate::command::{Command, Operand};
+use crate::form::{Form, word_of};
 use crate::item::{ClassDef, Item, Script};
 use crate::members::Items;
 use cg_value::Names;
@@ -238,31 +239,37 @@ fn write_command(out: &mut Vec<u8>, naming: &Named<'_>, command: &Command) -> Re
             out,
             naming,
             Text(*name),
-            &[Word(b"="), Word(b"list")],
+            &[Word(b"="), Word(word_of(Form::MakeList))],
             items.as_slice(),
         ),
         Command::MakeTuple { name, items } => write_line(
             out,
             naming,
             Text(*name),
-            &[Word(b"="), Word(b"tuple")],
+            &[Word(b"="), Word(word_of(Form::MakeTuple))],
             items.as_slice(),
         ),
         Command::MakeDict { name } => {
-            write_line(out, naming, Text(*name), &[Word(b"="), Word(b"dict")], &[])
+            write_line(
+                out,
+                naming,
+                Text(*name),
+                &[Word(b"="), Word(word_of(Form::MakeDict))],
+                &[],
+            )
         }
         Command::MakeInst { name, class } => write_line(
             out,
             naming,
             Text(*name),
-            &[Word(b"="), Word(b"new"), Class(*class)],
+            &[Word(b"="), Word(word_of(Form::MakeInst)), Class(*class)],
             &[],
         ),
         Command::MakeFunc { name, proc, cells } => write_line(
             out,
             naming,
             Text(*name),
-            &[Word(b"="), Word(b"func"), Proc(*proc)],
+            &[Word(b"="), Word(word_of(Form::MakeFunc)), Proc(*proc)],
             cells.as_slice(),
         ),
         Command::MakeRef {
@@ -275,7 +282,7 @@ fn write_command(out: &mut Vec<u8>, naming: &Named<'_>, command: &Command) -> Re
             Text(*name),
             &[
                 Word(b"="),
-                Word(b"ref"),
+                Word(word_of(Form::MakeRef)),
                 Value(*target),
                 callback_if(*callback),
             ],
@@ -284,39 +291,45 @@ fn write_command(out: &mut Vec<u8>, naming: &Named<'_>, command: &Command) -> Re
         Command::Bind { name, value } => {
             write_line(out, naming, Text(*name), &[Word(b"="), Value(*value)], &[])
         }
-        Command::Del { name } => write_line(out, naming, Word(b"del"), &[Text(*name)], &[]),
+        Command::Del { name } => write_line(
+            out,
+            naming,
+            Word(word_of(Form::Del)),
+            &[Text(*name)],
+            &[],
+        ),
         Command::Append { list, value } => write_line(
             out,
             naming,
-            Word(b"append"),
+            Word(word_of(Form::Append)),
             &[Value(*list), Value(*value)],
             &[],
         ),
         Command::SetItem { list, index, value } => write_line(
             out,
             naming,
-            Word(b"setitem"),
+            Word(word_of(Form::SetItem)),
             &[Value(*list), Number(*index), Value(*value)],
             &[],
         ),
         Command::DelItem { list, index } => write_line(
             out,
             naming,
-            Word(b"delitem"),
+            Word(word_of(Form::DelItem)),
             &[Value(*list), Number(*index)],
             &[],
         ),
         Command::Put { dict, key, value } => write_line(
             out,
             naming,
-            Word(b"put"),
+            Word(word_of(Form::Put)),
             &[Value(*dict), Value(*key), Value(*value)],
             &[],
         ),
         Command::Remove { dict, key } => write_line(
             out,
             naming,
-            Word(b"drop"),
+            Word(word_of(Form::Remove)),
             &[Value(*dict), Value(*key)],
             &[],
         ),
@@ -327,14 +340,14 @@ fn write_command(out: &mut Vec<u8>, naming: &Named<'_>, command: &Command) -> Re
         } => write_line(
             out,
             naming,
-            Word(b"setattr"),
+            Word(word_of(Form::SetAttr)),
             &[Value(*object), Text(*attr), Value(*value)],
             &[],
         ),
         Command::DelAttr { object, attr } => write_line(
             out,
             naming,
-            Word(b"delattr"),
+            Word(word_of(Form::DelAttr)),
             &[Value(*object), Text(*attr)],
             &[],
         ),
@@ -342,59 +355,110 @@ fn write_command(out: &mut Vec<u8>, naming: &Named<'_>, command: &Command) -> Re
             out,
             naming,
             Text(*name),
-            &[Word(b"="), Word(b"item"), Value(*list), Number(*index)],
+            &[
+                Word(b"="),
+                Word(word_of(Form::Item)),
+                Value(*list),
+                Number(*index),
+            ],
             &[],
         ),
         Command::Get { name, dict, key } => write_line(
             out,
             naming,
             Text(*name),
-            &[Word(b"="), Word(b"get"), Value(*dict), Value(*key)],
+            &[
+                Word(b"="),
+                Word(word_of(Form::Get)),
+                Value(*dict),
+                Value(*key),
+            ],
             &[],
         ),
         Command::Attr { name, object, attr } => write_line(
             out,
             naming,
             Text(*name),
-            &[Word(b"="), Word(b"attr"), Value(*object), Text(*attr)],
+            &[
+                Word(b"="),
+                Word(word_of(Form::Attr)),
+                Value(*object),
+                Text(*attr),
+            ],
             &[],
         ),
         Command::Deref { name, weak } => write_line(
             out,
             naming,
             Text(*name),
-            &[Word(b"="), Word(b"deref"), Value(*weak)],
+            &[Word(b"="), Word(word_of(Form::Deref)), Value(*weak)],
             &[],
         ),
-        Command::Call { func } => write_line(out, naming, Word(b"call"), &[Value(*func)], &[]),
-        Command::Quit { value } => write_line(out, naming, Word(b"quit"), &[Value(*value)], &[]),
+        Command::Call { func } => write_line(
+            out,
+            naming,
+            Word(word_of(Form::Call)),
+            &[Value(*func)],
+            &[],
+        ),
+        Command::Quit { value } => write_line(
+            out,
+            naming,
+            Word(word_of(Form::Quit)),
+            &[Value(*value)],
+            &[],
+        ),
         Command::Collect { generation } => write_line(
             out,
             naming,
-            Word(b"collect"),
+            Word(word_of(Form::Collect)),
             &[Number(*generation)],
             &[],
         ),
-        Command::Enable => write_line(out, naming, Word(b"enable"), &[], &[]),
-        Command::Disable => write_line(out, naming, Word(b"disable"), &[], &[]),
+        Command::Enable => write_line(out, naming, Word(word_of(Form::Enable)), &[], &[]),
+        Command::Disable => write_line(out, naming, Word(word_of(Form::Disable)), &[], &[]),
         Command::Threshold {
             first,
             second,
             third,
         } => write_threshold(out, naming, *first, *second, *third),
         Command::Flags { bits } => write_flags(out, naming, *bits),
-        Command::Freeze => write_line(out, naming, Word(b"freeze"), &[], &[]),
-        Command::Unfreeze => write_line(out, naming, Word(b"unfreeze"), &[], &[]),
-        Command::Print { value } => write_line(out, naming, Word(b"print"), &[Value(*value)], &[]),
-        Command::Refs { value } => write_line(out, naming, Word(b"refs"), &[Value(*value)], &[]),
+        Command::Freeze => write_line(out, naming, Word(word_of(Form::Freeze)), &[], &[]),
+        Command::Unfreeze => write_line(out, naming, Word(word_of(Form::Unfreeze)), &[], &[]),
+        Command::Print { value } => write_line(
+            out,
+            naming,
+            Word(word_of(Form::Print)),
+            &[Value(*value)],
+            &[],
+        ),
+        Command::Refs { value } => write_line(
+            out,
+            naming,
+            Word(word_of(Form::Refs)),
+            &[Value(*value)],
+            &[],
+        ),
         Command::Tracked { value } => {
-            write_line(out, naming, Word(b"tracked"), &[Value(*value)], &[])
+            write_line(
+                out,
+                naming,
+                Word(word_of(Form::Tracked)),
+                &[Value(*value)],
+                &[],
+            )
         }
         Command::Finalized { value } => {
-            write_line(out, naming, Word(b"finalized"), &[Value(*value)], &[])
+            write_line(
+                out,
+                naming,
+                Word(word_of(Form::Finalized)),
+                &[Value(*value)],
+                &[],
+            )
         }
-        Command::Count => write_line(out, naming, Word(b"count"), &[], &[]),
-        Command::Gens => write_line(out, naming, Word(b"gens"), &[], &[]),
+        Command::Count => write_line(out, naming, Word(word_of(Form::Count)), &[], &[]),
+        Command::Gens => write_line(out, naming, Word(word_of(Form::Gens)), &[], &[]),
     }
 }
 
@@ -409,7 +473,13 @@ fn write_threshold(
         ++ line_of_words (command_words (names_by naming.now) (Command.Threshold first second third))) }
 {
     let counts = [Piece::Count(first), count_if(second), count_if(third)];
-    write_line(out, naming, Piece::Word(b"threshold"), &counts, &[])
+    write_line(
+        out,
+        naming,
+        Piece::Word(word_of(Form::Threshold)),
+        &counts,
+        &[],
+    )
 }
 
 fn write_flags(out: &mut Vec<u8>, naming: &Named<'_>, bits: u32) -> Result<(), AllocError>
@@ -421,7 +491,7 @@ fn write_flags(out: &mut Vec<u8>, naming: &Named<'_>, bits: u32) -> Result<(), A
         flag(bits, 4, b"uncollectable"),
         flag(bits, 32, b"saveall"),
     ];
-    write_line(out, naming, Piece::Word(b"debug"), &flags, &[])
+    write_line(out, naming, Piece::Word(word_of(Form::Flags)), &flags, &[])
 }
 
 fn write_class(out: &mut Vec<u8>, naming: &Named<'_>, class: &ClassDef) -> Result<(), AllocError>
@@ -432,7 +502,7 @@ fn write_class(out: &mut Vec<u8>, naming: &Named<'_>, class: &ClassDef) -> Resul
         del_if(class.del),
         legacy_if(class.legacy),
     ];
-    write_line(out, naming, Piece::Word(b"class"), &words, &[])
+    write_line(out, naming, Piece::Word(word_of(Form::Class)), &words, &[])
 }
 
 /// Writes the lines of a procedure's commands.
@@ -445,6 +515,24 @@ fn write_body(out: &mut Vec<u8>, naming: &Named<'_>, body: &[Command]) -> Result
     Ok(())
 }
 
+fn write_def(out: &mut Vec<u8>, naming: &Named<'_>, name: u32) -> Result<(), AllocError>
+    ensures { OnOk result (out.new.items ≡ out.old.items ++ line_of_words (def_words (names_by naming.now) name)) }
+{
+    write_line(
+        out,
+        naming,
+        Piece::Word(word_of(Form::Def)),
+        &[Piece::Text(name)],
+        &[],
+    )
+}
+
+fn write_end(out: &mut Vec<u8>, naming: &Named<'_>) -> Result<(), AllocError>
+    ensures { OnOk result (out.new.items ≡ out.old.items ++ line_of_words end_words) }
+{
+    write_line(out, naming, Piece::Word(word_of(Form::End)), &[], &[])
+}
+
 fn write_proc(
     out: &mut Vec<u8>,
     naming: &Named<'_>,
@@ -453,9 +541,9 @@ fn write_proc(
 ) -> Result<(), AllocError>
     ensures { OnOk result (out.new.items ≡ out.old.items ++ flat_map line_of_words (def_words (names_by naming.now) name ∷ (map (command_words (names_by naming.now)) body.now ++ end_words ∷ []))) }
 {
-    write_line(out, naming, Piece::Word(b"def"), &[Piece::Text(name)], &[])?;
+    write_def(out, naming, name)?;
     write_body(out, naming, body)?;
-    write_line(out, naming, Piece::Word(b"end"), &[], &[])?;
+    write_end(out, naming)?;
     Ok(())
 }
 
@@ -467,7 +555,7 @@ fn write_item(out: &mut Vec<u8>, naming: &Named<'_>, item: &Item) -> Result<(), 
         Item::Budget(count) => write_line(
             out,
             naming,
-            Piece::Word(b"budget"),
+            Piece::Word(word_of(Form::Budget)),
             &[Piece::Count(*count)],
             &[],
         ),

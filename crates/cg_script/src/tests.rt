@@ -1,5 +1,5 @@
-//! The lists of a script hand out what they were given, in order.
-use crate::{Command, Commands, Item, Items, Operand, Operands};
+//! The lists of a script hand out what they were given, in order, and what has a number.
+use crate::{ClassDef, Command, Commands, Item, Items, Operand, Operands, parse};
 use std::test::Fail;
 
 #[test]
@@ -33,5 +33,25 @@ fn members_in_order(rt: HostRuntime) -> Result<(), Fail> {
             [Item::Budget(3), Item::Run(Command::Count)]
         )
     );
+    Ok(())
+}
+
+#[test]
+fn what_has_a_number_is_found_by_it(rt: HostRuntime) -> Result<(), Fail> {
+    let script = b"del a\nclass C\ndef p\nfreeze\nend\nbudget 3\nclass D\ndef q\nend\ncount";
+    let Ok(script) = parse(rt.alloc(), script) else {
+        return Err(Fail);
+    };
+    let items = &script.items;
+    assert!(rt; matches!(items.command(0), Some(Command::Del { name: 0 })));
+    assert!(rt; matches!(items.command(1), Some(Command::Count)));
+    assert!(rt; items.command(2).is_none());
+    assert!(rt;
+        matches!(items.procedure(0), Some(p) if matches!(p.body.as_slice(), [Command::Freeze]))
+    );
+    assert!(rt; matches!(items.procedure(1), Some(q) if q.body.as_slice().is_empty()));
+    assert!(rt; items.procedure(2).is_none());
+    assert!(rt; matches!(items.class(1), Some(ClassDef { name: 3, .. })));
+    assert!(rt; items.class(2).is_none());
     Ok(())
 }

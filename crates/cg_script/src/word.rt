@@ -1,64 +1,12 @@
 //! The forms of words.
 ghost use Rattle.std.specs.Prelude.{◌≡◌, ◌≤◌, true, map, length, slice_index, drop, codes, take, option_map, pos, neg_ℤ};
-ghost use Rattle.std.specs.List.{list_all, list_any};
-ghost use Rattle.std.specs.Str.{bytes_eq};
+ghost use Rattle.std.specs.List.{list_all};
 ghost use Rattle.cg_script.specs.Tables.{named as named_in};
-ghost use Rattle.cg_script.specs.Words.{is_printable, is_digit, is_letter, is_name_byte, begins_name, is_identifier, is_reserved, is_variable, is_quoted, has_minus, are_digits, decimal_value, is_number, number_of, is_count, is_value, atoms, after_prefix, is_identifier_after, names_finalizer, names_legacy, flags};
+ghost use Rattle.cg_script.specs.Words.{is_printable, is_digit, is_letter, is_name_byte, begins_name, is_identifier, reserves, is_reserved, is_variable, is_quoted, has_minus, are_digits, decimal_value, is_number, number_of, is_count, is_value, atoms, after_prefix, is_identifier_after, names_finalizer, names_legacy, flags};
 
 use crate::command::Operand;
+use crate::form::{Form, binding_named, opener_named, row_for};
 use crate::table::named;
-
-/// The words that no variable may be: those with a meaning of their own somewhere in the language.
-static RESERVED: [&[u8]; 48] = [
-    b"none",
-    b"self",
-    b"ref",
-    b"garbage",
-    b"c0",
-    b"c1",
-    b"c2",
-    b"c3",
-    b"c4",
-    b"c5",
-    b"c6",
-    b"c7",
-    b"list",
-    b"tuple",
-    b"dict",
-    b"new",
-    b"func",
-    b"item",
-    b"get",
-    b"attr",
-    b"deref",
-    b"del",
-    b"append",
-    b"setitem",
-    b"delitem",
-    b"put",
-    b"drop",
-    b"setattr",
-    b"delattr",
-    b"call",
-    b"quit",
-    b"collect",
-    b"enable",
-    b"disable",
-    b"threshold",
-    b"debug",
-    b"freeze",
-    b"unfreeze",
-    b"print",
-    b"refs",
-    b"tracked",
-    b"finalized",
-    b"count",
-    b"gens",
-    b"budget",
-    b"class",
-    b"def",
-    b"end",
-];
 
 /// The most bytes of an identifier.
 const MOST_NAME_BYTES: usize = 32;
@@ -92,18 +40,21 @@ pub(crate) fn is_identifier_word(word: &[u8]) -> bool
     }
 }
 
-/// Whether a word is one of these.
-fn is_one_of(word: &[u8], all: &[&[u8]]) -> bool
-    ensures { result ≡ list_any (λ w. bytes_eq word.now w.now) all.now }
+/// Whether the word of a form is reserved.
+fn reserves(form: Option<Form>) -> bool
+    ensures { result ≡ reserves form }
 {
-    all.iter().any(|other| word == *other)
+    match form {
+        Some(form) => row_for(form).reserved,
+        None => false,
+    }
 }
 
-#[tactic(auto, unfolding(crate::specs::Words::reserved_words))]
+/// Whether no variable may be this word: it has a meaning of its own somewhere in the language.
 fn is_reserved_word(word: &[u8]) -> bool
     ensures { result ≡ is_reserved word.now }
 {
-    is_one_of(word, &RESERVED)
+    atom(word).is_some() || reserves(opener_named(word)) || reserves(binding_named(word))
 }
 
 pub(crate) fn is_variable_word(word: &[u8]) -> bool

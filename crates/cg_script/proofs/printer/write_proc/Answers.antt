@@ -5,5 +5,5 @@ use Rattle.cg_script.proofs.printer.write_proc.Goals as goal
 
 pub returns : goal.returns
 returns c =
-    proc_written line_of_words (command_words (names_by c.args.naming.now)) c.args.body.now (def_words (names_by c.args.naming.now) c.args.name) end_words c.args.out.now.items c.write_line.new.out.items
-    c.write_body.new.out.items c.write_line-2.new.out.items c.in_ok-write_line.ensures c.in_ok-write_body.ensures c.in_ok-write_line-2.ensures
+    proc_written line_of_words (command_words (names_by c.args.naming.now)) c.args.body.now (def_words (names_by c.args.naming.now) c.args.name) end_words c.args.out.now.items c.write_def.new.out.items
+    c.write_body.new.out.items c.write_end.new.out.items c.in_ok-write_def.ensures c.in_ok-write_body.ensures c.in_ok-write_end.ensures
