@@ -1,21 +1,21 @@
 -- What a command of the collector does is the machine's effect.
-use Rattle.std.proofs.Common.{◌≡◌, refl, sym, ◌∙◌, ap, subst, ℕ, ◌+◌, Bool, true, false, List, [], ◌∷◌, map, Option, Some, None, Result, Ok, Err}
+use Rattle.std.proofs.Common.{◌≡◌, refl, sym, ◌∙◌, ap, subst, ◌+◌, Bool, false, List, [], map, Option, Some, None, Result, Ok, Err}
 use Rattle.std.specs.Prelude.{ℤ, ok_or, option_to_list}
 use Rattle.cg_value.specs.declared.Val.TheVariants as val
 use Rattle.cg_value.specs.declared.Place.{Place}
 use Rattle.cg_script.specs.declared.Command.{Command}
 use Rattle.cg_script.specs.declared.Command.TheVariants.{Collect}
 use Rattle.cg_graph.specs.Member.{Includes}
-use Rattle.cg_graph.specs.Object.{Object, with_place}
+use Rattle.cg_graph.specs.Object.{with_place}
 use Rattle.cg_graph.specs.Rows.{Row}
 use Rattle.cg_graph.specs.Store.{Store, waiting_for}
 use Rattle.cg_graph.specs.Value.{item}
 use Rattle.cg_machine.specs.declared.event.Event.{Event}
 use Rattle.cg_machine.specs.World.{World, Numbers}
 use Rattle.cg_machine.specs.Refusals.{bad_generation, ◌>>=◌}
-use Rattle.cg_machine.specs.Effects.{Effect, Changes, Collects as CollectsEffect, replaced, prints}
+use Rattle.cg_machine.specs.Effects.{Changes, Collects as CollectsEffect, replaced, prints}
 use Rattle.cg_machine.specs.Commands.{effect}
-use Rattle.cg_machine.specs.Represents.{Represents, CollectionWaits, death_waits}
+use Rattle.cg_machine.specs.Represents.{Represents, CollectionWaits}
 use Rattle.cg_policy.specs.Policy.{Policy, with_numbers}
 use Rattle.cg_policy.specs.Laws.{policy_of}
 use Rattle.cg_commands.specs.declared.done.Done.{Done}
@@ -25,7 +25,7 @@ use Rattle.cg_commands.specs.declared.done.Refusal.TheVariants.{NoName, WrongKin
 use Rattle.cg_commands.specs.declared.locals.Locals.{Locals}
 use Rattle.cg_commands.specs.Answers.{Performs, policy_after}
 use Rattle.cg_commands.specs.Attempts.{Attempts}
-use Rattle.cg_commands.specs.Controls.{IsControl, IsAsked, IsOfObjectsAndNumbers, HasAsked, Leaves}
+use Rattle.cg_commands.specs.Controls.{IsControl, IsAsked, IsOfObjectsAndNumbers, Leaves}
 use Rattle.cg_commands.specs.Growth.{makes_object}
 use Rattle.cg_commands.specs.Places.{Replaces, KeepsAllButPlaces}
 use Rattle.cg_commands.specs.Stands.{StandsFor}

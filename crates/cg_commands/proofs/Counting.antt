@@ -20,7 +20,7 @@ use Rattle.cg_commands.specs.declared.done.Done.{Done}
 use Rattle.cg_commands.specs.declared.done.Done.TheVariants as done
 use Rattle.cg_commands.specs.declared.done.Refusal.{Refusal}
 use Rattle.cg_commands.specs.declared.locals.Locals.{Locals}
-use Rattle.cg_commands.specs.Answers.{AnswersOnHeap, PerformsOnHeap, Answers, policy_after}
+use Rattle.cg_commands.specs.Answers.{AnswersOnHeap, PerformsOnHeap, policy_after}
 use Rattle.cg_commands.specs.Attempts.{Attempts, counted}
 use Rattle.cg_commands.specs.Growth.{makes_object}
 use Rattle.cg_commands.proofs.Growing.{of_effect, made_makes, nothing_made, made_in_room}

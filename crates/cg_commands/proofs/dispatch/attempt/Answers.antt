@@ -10,7 +10,6 @@ use Rattle.std.proofs.lemmas.Bool.{lt-ltb}
 use Rattle.cg_script.specs.Texts.{command_texts, operands_texts}
 use Rattle.cg_script.specs.Spelled.{HasFewWords}
 use Rattle.cg_script.specs.declared.command.Command.TheVariants as command
-use Rattle.cg_graph.specs.Store.{objects_of}
 use Rattle.cg_machine.specs.declared.event.Event.TheVariants as event
 use Rattle.cg_machine.specs.Commands.{effect}
 use Rattle.cg_machine.specs.Effects.{frozen, unfrozen, gens_line}
