@@ -88,12 +88,13 @@ fn refusing_lists(alloc: Global, before: usize) -> Result<Box<dyn Kind>, AllocEr
     Ok(boxed)
 }
 
-/// An empty kind with a code.
-fn empty(alloc: Global, code: KindCode) -> Result<Box<dyn Kind>, AllocError>
+/// An empty kind, in a box.
+fn boxed(alloc: Global, code: KindCode) -> Result<Box<dyn Kind>, AllocError>
     ensures kind { IfOk result (λ b. kind b ≡ code) }
     ensures empty { IfOk result (λ b. bodies b ≡ fin.empty) }
 {
-    let boxed: Box<dyn Kind> = Box::new(alloc, AnyKind::new(alloc, code))?;
+    let kind = AnyKind::new(alloc, code);
+    let boxed: Box<dyn Kind> = Box::new(alloc, kind)?;
     Ok(boxed)
 }
 
@@ -117,11 +118,11 @@ fn six_with(alloc: Global, lists: Box<dyn Kind>) -> Result<Vec<Box<dyn Kind>>, A
 {
     let mut kinds: Vec<Box<dyn Kind>> = Vec::new(alloc);
     push(&mut kinds, lists)?;
-    push(&mut kinds, empty(alloc, KindCode::Tuple)?)?;
-    push(&mut kinds, empty(alloc, KindCode::Dict)?)?;
-    push(&mut kinds, empty(alloc, KindCode::Inst)?)?;
-    push(&mut kinds, empty(alloc, KindCode::Func)?)?;
-    push(&mut kinds, empty(alloc, KindCode::Weak)?)?;
+    push(&mut kinds, boxed(alloc, KindCode::Tuple)?)?;
+    push(&mut kinds, boxed(alloc, KindCode::Dict)?)?;
+    push(&mut kinds, boxed(alloc, KindCode::Inst)?)?;
+    push(&mut kinds, boxed(alloc, KindCode::Func)?)?;
+    push(&mut kinds, boxed(alloc, KindCode::Weak)?)?;
     Ok(kinds)
 }
 
@@ -130,7 +131,7 @@ pub fn six(alloc: Global) -> Result<Vec<Box<dyn Kind>>, AllocError>
     ensures kinds { IfOk result (λ kinds. map (λ b. kind b) kinds.items ≡ six_kinds) }
     ensures empty { IfOk result (λ kinds. map (λ b. bodies b) kinds.items ≡ replicate 6 fin.empty) }
 {
-    let lists = empty(alloc, KindCode::List)?;
+    let lists = boxed(alloc, KindCode::List)?;
     six_with(alloc, lists)
 }
 

@@ -2,7 +2,7 @@
 use Rattle.std.proofs.Common.{◌≡◌, ◌≢◌, refl, sym, ◌∙◌, ap, subst, ℕ, ◌<◌, ◌≤◌, Bool, true, false, cond, not, ◌&&◌, ◌||◌, inl, inr, List, [], ◌∷◌, ◌++◌, drop, map, reverse, Some, arith}
 use Rattle.std.specs.Prelude.{◌==◌, filter, flat_map, slice_get}
 use Rattle.std.specs.List.{All}
-use Rattle.std.proofs.lemmas.Bool.{eq-eqb, eqb-true, ne_eqb}
+use Rattle.std.proofs.lemmas.Bool.{not-true, eq-eqb, eqb-true, ne_eqb}
 use Rattle.std.proofs.lemmas.List.Elements.{All-nil, All-cons, filter-append}
 use Rattle.cg_graph.specs.Member.{Includes, includes}
 use Rattle.cg_graph.specs.Holdings.{occurrences}
@@ -16,10 +16,6 @@ use Rattle.cg_death.proofs.RowSplits.{all_in, row_of_one, one_of_row, Split, spl
 use Rattle.cg_death.proofs.WeakObjects.{row_there, objects-cleared}
 use Rattle.cg_collect.specs.Phases.{refers_to_any, without_rows_to}
 use Rattle.cg_collect.proofs.Standing.{node_of_live, node_there, object_there}
-
-not_true : (b : Bool) → not b ≡ true → b ≡ false
-not_true true e = absurd (let x : false ≡ true = e in cc)
-not_true false e = refl
 
 -- lists that are filtered
 all_of : {X : Type 0} (P : X → Type 0) (xs : List X) → ((x : X) → Includes xs x → P x) → All P xs
@@ -83,7 +79,7 @@ module _ (rows : List Row) (rise : IsRising rows) (o : ℕ) (ws : List ℕ) (r :
   referent_is = eqb-true r.referent o (true_and (r.referent == o) (not r.waits) passes).0
 
   stays : r.waits ≡ false
-  stays = not_true r.waits (true_and (r.referent == o) (not r.waits) passes).1
+  stays = not-true r.waits (true_and (r.referent == o) (not r.waits) passes).1
 
   pub refers : referent_in rows r.weak ≡ Some o
   refers = referent-is rows r s stays ∙ ap Some referent_is
@@ -166,7 +162,7 @@ module _ (store : Store) (final : List ℕ) (wanted : Object → Bool)
           let (n, got, made) = node_there (at rows) x m in
           let (r, inside, passes, same) = row_there rows x.serial o (ap (λ (y : Object). y.referent) made ∙ refers) in
           let parts = true_and (r.referent == o) (not r.waits) passes in
-          are.left r inside (not_true r.waits parts.1) (subst (Includes final) (sym (eqb-true r.referent o parts.0)) member)
+          are.left r inside (not-true r.waits parts.1) (subst (Includes final) (sym (eqb-true r.referent o parts.0)) member)
 
   -- The weak references to one member, and then those to the others.
   module _ (o : ℕ) (members : List ℕ) (member : Includes final o) (apart : occurrences o members ≡ 0) (others : (rows : List Row) → AreLeft store final members rows → Lose rows (flat_map (weak_references_in rows) members) (rest members rows)) where
@@ -249,7 +245,7 @@ none_to_lose members store none = λ i. record store { rows = filter_all (λ r. 
     each r inside = either (cases_of (refers_to_any members r))
         (λ yes'.
         let parts = true_and (includes members r.referent) (not r.waits) yes' in
-        absurd (subst (λ l. Includes l r.weak) (none r.referent (Includes-of members r.referent parts.0)) (row_listed store.rows r inside (not_true r.waits parts.1))))
+        absurd (subst (λ l. Includes l r.weak) (none r.referent (Includes-of members r.referent parts.0)) (row_listed store.rows r inside (not-true r.waits parts.1))))
         (λ no. ap not no)
 
 -- one that has lost a member leaves the others to lose theirs

@@ -2,7 +2,7 @@
 use Rattle.std.proofs.Common.{◌≡◌, ◌≢◌, refl, sym, ◌∙◌, ap, subst, ℕ, ◌<◌, Bool, true, false, not, List, [], ◌∷◌, ◌++◌, length, Option, Some, None, IsSome, inl, inr, arith}
 use Rattle.std.specs.Prelude.{◌==◌, ◌||◌, if◌then◌else◌, option_map, is_some}
 use Rattle.std.specs.FinMap as fin
-use Rattle.std.proofs.lemmas.Bool.{cases_eq, eq-eqb}
+use Rattle.std.proofs.lemmas.Bool.{not-true, cases_eq, eq-eqb}
 use Rattle.cg_value.specs.declared.KindCode.TheVariants.{List as ListKind, Weak}
 use Rattle.cg_value.specs.declared.Place.{Place}
 use Rattle.cg_value.specs.declared.Place.TheVariants.{Cand, Seen, Back, Legacy, Pend}
@@ -89,10 +89,6 @@ apart_alike old new place entries same apart = (
   },
   same Seen ∙ apart.1,
 )
-
-not_true : (b : Bool) → not b ≡ true → b ≡ false
-not_true true e = absurd (let x : false ≡ true = e in cc)
-not_true false e = refl
 
 is_there_some : (x : Option ℕ) → is_some x ≡ true → IsSome x
 is_there_some None e = absurd (let f : false ≡ true = e in cc)
@@ -245,7 +241,7 @@ module _ (store : Store) (sound : IsSound store) (r : Row) (inside : Includes st
     parts = true_and (not (is_condemned_in (objects_of store) r.weak)) (is_some (callback_of (objects_of store) r.weak)) always
 
     not_condemned : is_condemned_in (objects_of store) r.weak ≡ false
-    not_condemned = not_true (is_condemned_in (objects_of store) r.weak) parts.0
+    not_condemned = not-true (is_condemned_in (objects_of store) r.weak) parts.0
 
     elsewhere : (p : Place) → (same_place p Cand || same_place p Seen) ≡ true → place_of store r.weak ≢ p
     elsewhere p is at =
@@ -359,7 +355,7 @@ pub loses_then : (store new : Store) (sound : IsSound store) (weak : ℕ) (membe
 loses_then store new sound weak member walk loses is =
     let (o, refers) = walk.weak_live weak refl in
     let (r, inside, passes, same) = row_there store.rows weak o refers in
-    let stays : r.waits ≡ false = not_true r.waits (true_and (r.referent == o) (not r.waits) passes).1 in
+    let stays : r.waits ≡ false = not-true r.waits (true_and (r.referent == o) (not r.waits) passes).1 in
     let P : ℕ → Type 0 = λ w. IsWalk store member (Some w) → loses_at store w ≡ true → new ≡ lost_by (waits (objects_of store) w) w store → LosesThen store new w member in
     subst P same (λ walk_at loses_now is_now. at_row store sound r inside stays member walk_at loses_now new is_now) walk loses is
 
@@ -369,7 +365,7 @@ pub passes_then : (store : Store) → AreRows store → (weak : ℕ) (member : O
 passes_then store ok weak member walk keeps =
     let (o, refers) = walk.weak_live weak refl in
     let (r, inside, passes, same) = row_there store.rows weak o refers in
-    let stays : r.waits ≡ false = not_true r.waits (true_and (r.referent == o) (not r.waits) passes).1 in
+    let stays : r.waits ≡ false = not-true r.waits (true_and (r.referent == o) (not r.waits) passes).1 in
     let P : ℕ → Type 0 = λ w. IsWalk store member (Some w) → loses_at store w ≡ false → IsWalk store member (next_older_in store.rows w) × (length (to_look_at store (next_older_in store.rows w)) < length (to_look_at store (Some w))) in
     subst P same (λ walk_at keeps_now. (walk_passes store ok r inside stays member walk_at keeps_now, shorter r inside stays)) walk keeps
   where

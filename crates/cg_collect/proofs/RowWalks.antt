@@ -2,7 +2,7 @@
 use Rattle.std.proofs.Common.{◌≡◌, ◌≢◌, refl, sym, ◌∙◌, ap, subst, ℕ, ◌<◌, ◌≤◌, Bool, true, false, cond, not, List, [], ◌∷◌, ◌++◌, length, map, append_assoc, Option, Some, None, inl, inr, arith}
 use Rattle.std.specs.Prelude.{◌==◌, ◌&&◌, if◌then◌else◌, filter, find, nat_lt, option_and_then, slice_get}
 use Rattle.std.specs.List.{All}
-use Rattle.std.proofs.lemmas.Bool.{eq-eqb, ne_eqb, eqb-true, lt-ltb, le-ltb}
+use Rattle.std.proofs.lemmas.Bool.{not-true, eq-eqb, ne_eqb, eqb-true, lt-ltb, le-ltb}
 use Rattle.std.proofs.lemmas.List.{length-map, length-reverse}
 use Rattle.std.proofs.lemmas.List.Elements.{All-cons, All-head, All-tail, All-nil}
 use Rattle.std.proofs.lemmas.List.Sums.{length-filter, count_by-le-length}
@@ -67,16 +67,12 @@ head_highest test rows rise w first x m =
     below : (r : Row) (s : Split rows r) (y : ℕ) → Includes (newest_first test s.front) y → y < r.weak
     below r s y k = let named = row_of_one test s.front y k in let low = s.lower named.0 named.1 in omega (arith, low, named.3)
 
-not_true : (b : Bool) → not b ≡ true → b ≡ false
-not_true true e = absurd (let x : false ≡ true = e in cc)
-not_true false e = refl
-
 -- the weak references to an object are those that have it as referent
 pub referent-listed : (rows : List Row) → IsRising rows → (o w : ℕ) → Includes (weak_references_in rows o) w → referent_in rows w ≡ Some o
 referent-listed rows rise o w m =
     let found = row_of_one (refers_to o) rows w m in
     let parts = true_and (found.0.referent == o) (not found.0.waits) found.2 in
-    subst (λ q. referent_in rows q ≡ Some o) found.3 (referent-is rows found.0 (split_at rows found.0 rise found.1) (not_true found.0.waits parts.1) ∙ ap Some (eqb-true found.0.referent o parts.0))
+    subst (λ q. referent_in rows q ≡ Some o) found.3 (referent-is rows found.0 (split_at rows found.0 rise found.1) (not-true found.0.waits parts.1) ∙ ap Some (eqb-true found.0.referent o parts.0))
 
 pub listed-referent : (rows : List Row) (o w : ℕ) → referent_in rows w ≡ Some o → Includes (weak_references_in rows o) w
 listed-referent rows o w refers = let found = row_there rows w o refers in subst (Includes (weak_references_in rows o)) found.3 (one_of_row (refers_to o) rows found.0 found.1 found.2)

@@ -1,7 +1,7 @@
 -- What a heap does when a death begins is what the machine does.
 use Rattle.std.proofs.Common.{◌≡◌, refl, sym, ◌∙◌, ap, subst, ℕ, Bool, true, false, not, inl, inr, List, [], Option, Some, None, arith}
 use Rattle.std.specs.Prelude.{◌==◌, if◌then◌else◌, is_some}
-use Rattle.std.proofs.lemmas.Bool.{cases_eq, eq-eqb, ne_eqb}
+use Rattle.std.proofs.lemmas.Bool.{not-true, cases_eq, eq-eqb, ne_eqb}
 use Rattle.cg_value.specs.declared.Place.TheVariants.{Untracked}
 use Rattle.cg_graph.specs.Member.{Includes}
 use Rattle.cg_graph.specs.Object.{with_place, with_referent, change}
@@ -26,10 +26,6 @@ pub record Forgets (rows after : List Row) (o : ℕ) : Type 0 where
   pub waiting : (p : ℕ) → waiting_in after p ≡ waiting_in rows p
   pub inside : (x : Row) → Includes after x → Includes rows x
 
-not_true : (b : Bool) → not b ≡ true → b ≡ false
-not_true true e = absurd (let x : false ≡ true = e in cc)
-not_true false e = refl
-
 forgets_none : (rows : List Row) (o : ℕ) → referent_in rows o ≡ None → Forgets rows rows o
 forgets_none rows o none = record {
   referents = λ q. elim (cases_eq q o) [
@@ -44,7 +40,7 @@ forgets_one : (store : Store) (o referent : ℕ) → AreRows store → referent_
 forgets_one store o referent ok e =
     let found = row_there store.rows o referent e in
     let split = split_at store.rows found.0 ok.rise found.1 in
-    let stays = not_true found.0.waits (true_and (found.0.referent == referent) (not found.0.waits) found.2).1 in
+    let stays = not-true found.0.waits (true_and (found.0.referent == referent) (not found.0.waits) found.2).1 in
     subst (λ w. Forgets store.rows (without_row w store.rows) w) found.3 (record {
       referents = referent-without store.rows found.0 split;
       waiting = waiting-without store.rows found.0 split stays;

@@ -1,7 +1,7 @@
 -- The turns of the phases in which weak references lose a dying object.
 use Rattle.std.proofs.Common.{◌≡◌, refl, sym, ◌∙◌, ap, subst, ℕ, Bool, true, false, not, inl, List, [], ◌∷◌, ◌++◌, Some, None}
 use Rattle.std.specs.Prelude.{◌==◌, if◌then◌else◌, is_some, slice_get}
-use Rattle.std.proofs.lemmas.Bool.{eqb-true}
+use Rattle.std.proofs.lemmas.Bool.{not-true, eqb-true}
 use Rattle.cg_script.specs.declared.Script.{Script}
 use Rattle.cg_graph.specs.Member.{Includes}
 use Rattle.cg_graph.specs.Rows.{Row, referent_in}
@@ -120,10 +120,6 @@ module _ (script : Script) (store : Store) (r : Row) (ok : AreRows store) (insid
         keeps = record { numbers = refl; budget = refl; outcome = refl };
       }))
 
-not_true : (b : Bool) → not b ≡ true → b ≡ false
-not_true true e = absurd (let x : false ≡ true = e in cc)
-not_true false e = refl
-
 -- the same by its referent
 module _ (script : Script) (store new : Store) (o weak : ℕ) (ok : AreRows store) (refers : referent_in store.rows weak ≡ Some o) where
   abbrev row : Row
@@ -133,7 +129,7 @@ module _ (script : Script) (store new : Store) (o weak : ℕ) (ok : AreRows stor
   inside = (row_there store.rows weak o refers).1
 
   stays : row.waits ≡ false
-  stays = not_true row.waits (true_and (row.referent == o) (not row.waits) (row_there store.rows weak o refers).2).1
+  stays = not-true row.waits (true_and (row.referent == o) (not row.waits) (row_there store.rows weak o refers).2).1
 
   both : ◌≡◌ {A = ℕ × ℕ} (row.referent, row.weak) (o, weak)
   both i = (eqb-true row.referent o (true_and (row.referent == o) (not row.waits) (row_there store.rows weak o refers).2).0 i, (row_there store.rows weak o refers).3 i)

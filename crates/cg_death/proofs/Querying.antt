@@ -1,7 +1,7 @@
 -- What the heap answers of weak references is what the world has.
 use Rattle.std.proofs.Common.{◌≡◌, ◌≢◌, refl, sym, ◌∙◌, ap, subst, ℕ, ◌<◌, Bool, true, false, not, ◌||◌, inl, inr, List, [], ◌∷◌, ◌++◌, length, Option, Some, None, IsSome, arith}
 use Rattle.std.specs.Prelude.{◌⊎◌, ◌==◌, ◌↔◌, IfSome, IsNone, if◌then◌else◌, is_some, unwrap_or, option_map, option_and_then, slice_get}
-use Rattle.std.proofs.lemmas.Bool.{eqb-true}
+use Rattle.std.proofs.lemmas.Bool.{not-true, eqb-true}
 use Rattle.std.specs.FinMap as fin
 use Rattle.cg_value.specs.declared.Entry.{Entry}
 use Rattle.cg_value.specs.declared.KindCode.{KindCode}
@@ -26,10 +26,6 @@ use Rattle.cg_machine.proofs.Representing.{occurrences-one}
 use Rattle.cg_death.proofs.RowSplits.{all_in, head_in, row_of_one, split_at, referent-is, waited-is}
 use Rattle.cg_death.proofs.WeakObjects.{weak_references-are}
 
-not_true : (b : Bool) → not b ≡ true → b ≡ false
-not_true true e = absurd (let x : false ≡ true = e in cc)
-not_true false e = refl
-
 -- the weak references of an object that passes a test, and of one that does not
 module _ (store : Store) (o : ℕ) (ok : AreRows store) (test : Object → Bool) where
   pub those-if : unwrap_or (option_map test (object_at (objects_of store) o)) false ≡ true → slice_get (weak_references_in store.rows o) 0 ≡ slice_get (weak_references_if test (objects_of store) o) 0
@@ -44,7 +40,7 @@ newest-is store o ok None e = (tt, tt)
 newest-is store o ok (Some w) e =
     let found = row_of_one (refers_to o) store.rows w (head_in (weak_references_in store.rows o) w (sym e)) in
     let parts = true_and (found.0.referent == o) (not found.0.waits) found.2 in (
-      subst (λ q. referent_in store.rows q ≡ Some o) found.3 (referent-is store.rows found.0 (split_at store.rows found.0 ok.rise found.1) (not_true found.0.waits parts.1) ∙ ap Some (eqb-true found.0.referent o parts.0)),
+      subst (λ q. referent_in store.rows q ≡ Some o) found.3 (referent-is store.rows found.0 (split_at store.rows found.0 ok.rise found.1) (not-true found.0.waits parts.1) ∙ ap Some (eqb-true found.0.referent o parts.0)),
       subst (IsLive store) found.3 (live_of_kind store found.0.weak Weak (all_in (λ (x : Row). HasCode store x.weak Weak) store.rows found.0 ok.weak found.1)),
     )
 

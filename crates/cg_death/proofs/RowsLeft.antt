@@ -2,7 +2,7 @@
 use Rattle.std.proofs.Common.{◌≡◌, ◌≢◌, refl, sym, ◌∙◌, ap, subst, ℕ, ◌≤◌, Bool, true, false, not, inl, inr, List, [], ◌∷◌, ◌++◌, Some, arith}
 use Rattle.std.specs.Prelude.{◌==◌, slice_get, if◌then◌else◌}
 use Rattle.std.specs.List.{All}
-use Rattle.std.proofs.lemmas.Bool.{eq-eqb}
+use Rattle.std.proofs.lemmas.Bool.{not-true, eq-eqb}
 use Rattle.std.proofs.lemmas.List.Elements.{All-nil, All-cons, All-head, All-tail}
 use Rattle.cg_graph.specs.Member.{Includes}
 use Rattle.cg_graph.specs.Rows.{Row, IsRising, refers_to, newest_first, weak_references_in, waiting_row, with_row_waiting, without_row}
@@ -62,17 +62,13 @@ newest_is_greatest test rows weak w rise newest m =
     let high = s.higher found.0 found.1 in
     absurd (omega (arith, high, found.3, top.3))))
 
-not_true : (b : Bool) → not b ≡ true → b ≡ false
-not_true true e = absurd (let x : false ≡ true = e in cc)
-not_true false e = refl
-
 -- a row that still refers once another waits did before, and is not that other
 pub refers_before : (o weak : ℕ) (rows : List Row) (w : ℕ) → Includes (weak_references_in (with_row_waiting weak rows) o) w → Includes (weak_references_in rows o) w × (w ≢ weak)
 refers_before o weak rows w m =
     let found = row_of_one (refers_to o) (with_row_waiting weak rows) w m in
     let parts = true_and (found.0.referent == o) (not found.0.waits) found.2 in
     let from = Includes-map_cases (λ (r : Row). if r.weak == weak then waiting_row r else r) rows found.0 found.1 in
-    go from.0 found.0 (from.0.weak == weak) refl from.1 from.2 (not_true found.0.waits parts.1) found.2 found.3
+    go from.0 found.0 (from.0.weak == weak) refl from.1 from.2 (not-true found.0.waits parts.1) found.2 found.3
   where
     go : (y x : Row) (b : Bool) → (y.weak == weak) ≡ b → Includes rows y → (if y.weak == weak then waiting_row y else y) ≡ x → x.waits ≡ false → refers_to o x ≡ true → x.weak ≡ w → Includes (weak_references_in rows o) w × (w ≢ weak)
     go y x true is inside same stays passes named =

@@ -2,7 +2,7 @@
 use Rattle.std.proofs.Common.{◌≡◌, ◌≢◌, refl, sym, ◌∙◌, ap, subst, ℕ, ◌≤◌, Bool, true, false, cond, not, inr, List, [], ◌∷◌, ◌++◌, length, Some, None, arith}
 use Rattle.std.specs.Prelude.{◌==◌, ◌&&◌, if◌then◌else◌, is_some, slice_get}
 use Rattle.std.specs.List.{All}
-use Rattle.std.proofs.lemmas.Bool.{eqb-true, eq-eqb, ne_eqb}
+use Rattle.std.proofs.lemmas.Bool.{not-true, eqb-true, eq-eqb, ne_eqb}
 use Rattle.std.proofs.lemmas.List.Elements.{All-head}
 use Rattle.std.specs.FinMap as fin
 use Rattle.cg_value.specs.declared.Entry.{Entry}
@@ -45,10 +45,6 @@ use Rattle.cg_death.proofs.RowsLeft.{fewer_in, none_of_fewer, all_left, others_w
 use Rattle.cg_death.proofs.Counting.{unheld-unheld, unheld-held, unheld-rewritten, held_by_none}
 use Rattle.cg_death.proofs.Steadying.{weak_references_by_kind, passes-mapped, passes-same, no_holds, steady-over}
 
-not_true : (b : Bool) → not b ≡ true → b ≡ false
-not_true true e = absurd (let x : false ≡ true = e in cc)
-not_true false e = refl
-
 -- None of those that may refer to it is left.
 none_refers : (test : Object → Bool) (store : Store) (o : ℕ) → AreRows store → slice_get (weak_references_if test (objects_of store) o) 0 ≡ None → RefersOnlyIf test store o → NoneRefers store o
 none_refers test store o ok none only = known (passes test store o) refl
@@ -74,7 +70,7 @@ module _ (store : Store) (o weak : ℕ) (ok : AreRows store) (refers : referent_
   inside = (row_there store.rows weak o refers).1
 
   stays : row.waits ≡ false
-  stays = not_true row.waits (true_and (row.referent == o) (not row.waits) (row_there store.rows weak o refers).2).1
+  stays = not-true row.waits (true_and (row.referent == o) (not row.waits) (row_there store.rows weak o refers).2).1
 
   both : ◌≡◌ {A = ℕ × ℕ} (row.referent, row.weak) (o, weak)
   both i = (eqb-true row.referent o (true_and (row.referent == o) (not row.waits) (row_there store.rows weak o refers).2).0 i, (row_there store.rows weak o refers).3 i)

@@ -1,7 +1,7 @@
 -- The weak references of an object in a heap's rows are those of the world, in the same order.
 use Rattle.std.proofs.Common.{◌≡◌, refl, sym, ◌∙◌, ap, subst, ℕ, ◌<◌, Bool, true, false, cond, T, not, inl, inr, List, [], ◌∷◌, map, reverse, Option, Some, None, arith}
 use Rattle.std.specs.Prelude.{◌==◌, ◌&&◌, filter, find, option_map, unwrap_or, if◌then◌else◌}
-use Rattle.std.proofs.lemmas.Bool.{cases_eq, cases_lt, eq-eqb, ne_eqb, eqb-true}
+use Rattle.std.proofs.lemmas.Bool.{not-true, cases_eq, cases_lt, eq-eqb, ne_eqb, eqb-true}
 use Rattle.std.specs.declared.cmp.Ordering.TheVariants.{Equal, Greater}
 use Rattle.std.specs.Ordering.{nat_cmp, is_lt}
 use Rattle.std.specs.Cmp.{nat_cmp_is, unsigned_tied}
@@ -144,15 +144,11 @@ module _ (store : Store) (rows : AreRows store) (o : ℕ) where
       let row : Row = named.0 in
       let live : HasCode store row.weak Weak = all_in (λ (r : Row). HasCode store r.weak Weak) store.rows row rows.weak kept.0 in
       let parts = true_and (row.referent == o) (not row.waits) kept.1 in
-      let refers : referent_in store.rows row.weak ≡ Some o = referent-is store.rows row (split_at store.rows row rows.rise kept.0) (not_true row.waits parts.1) ∙ ap Some (eqb-true row.referent o parts.0) in
+      let refers : referent_in store.rows row.weak ≡ Some o = referent-is store.rows row (split_at store.rows row rows.rise kept.0) (not-true row.waits parts.1) ∙ ap Some (eqb-true row.referent o parts.0) in
       let there : Includes (fin.entries store.nodes) (row.weak, live.0) = entry_there row.weak live.0 (fin.entries store.nodes) (sym (fin.get-entries store.nodes row.weak) ∙ live.1) in
       let object = Includes-map (λ (e : ℕ × Node). object_from store.rows e.0 e.1) (fin.entries store.nodes) (row.weak, live.0) there in
       subst (Includes in_world) named.2 (Includes-map (λ (x : Object). x.serial) (filter (is_reference_to o) (objects_of store)) (object_from store.rows row.weak live.0)
       (Includes-filter (is_reference_to o) (objects_of store) (object_from store.rows row.weak live.0) (ap (λ r. unwrap_or (option_map (λ p. p == o) r) false) refers ∙ eq-eqb o o refl) object))
-    where
-      not_true : (b : Bool) → not b ≡ true → b ≡ false
-      not_true true e = absurd (let x : false ≡ true = e in cc)
-      not_true false e = refl
 
   pub weak_references-are : weak_references (objects_of store) o ≡ weak_references_in store.rows o
   weak_references-are = ap reverse (same_ascending in_world in_rows (ascends-objects store.rows (is_reference_to o) (fin.entries store.nodes) (fin.entries_sorted store.nodes)) (ascends-rows (refers_to o) store.rows rows.rise) into back)

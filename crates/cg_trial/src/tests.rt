@@ -368,11 +368,7 @@ fn check_row<B: Kind, L: Ledger>(
 
 /// Splits generation 0, where one object with three entries stands, and nothing among the candidates. It stops where that
 /// is not so.
-fn split_one_of_three<B: Kind, L: Ledger>(
-    rt: &impl Abort,
-    heap: &mut Heap<B>,
-    steps: &mut Steps<L>,
-)
+fn split_one_of_three<B: Kind, L: Ledger>(rt: &impl Abort, heap: &mut Heap<B>, steps: &mut Steps<L>)
     ensures least { steps.old + 3 ≤ steps.new }
     ensures most { steps.new ≤ steps.old + 6 }
 {
@@ -409,7 +405,7 @@ fn look_at_three<B: Kind, L: Ledger>(
     let Scene { mut heap, .. } = scene;
     split_one_of_three(rt, &mut heap, &mut steps);
     let left = serials_in(alloc, &heap, Place::Cand)?;
-    assert_eq!(rt; left.as_slice(), &[2u64]);
+    assert_eq!(rt; left.as_slice(), [2u64].as_slice());
     Ok(steps)
 }
 

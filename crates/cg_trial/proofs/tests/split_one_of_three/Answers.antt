@@ -1,10 +1,22 @@
-use Rattle.std.proofs.Common.{sym, arith}
+use Rattle.std.proofs.Common.{◌≡◌, refl, [], length, sym, ◌∙◌, arith, rules}
 use Rattle.cg_value.specs.declared.Place.TheVariants.{Gen}
-use Rattle.cg_trial.proofs.Scenes.{entries_of_one}
+use Rattle.cg_graph.specs.Store.{list_at, entries_of}
+use Rattle.cg_trial.proofs.Scenes.{along_first, along_live, entries_of_one}
 use Rattle.cg_trial.proofs.tests.split_one_of_three.Goals as goal
 
 pub returns-clause-least : goal.returns-clause-least
-returns-clause-least g c = let k = entries_of_one in ?
+returns-clause-least g c =
+    let one : length (list_at c.args.heap.now (Gen 0)) ≡ 1 = search rules in
+    let three : length (entries_of c.args.heap.now c.in-Some.object) ≡ 3 = search rules in
+    let entries = entries_of_one c.args.heap.now c.sound.ensures.listed (Gen 0) (search rules) c.in-Some.object 3 one (sym c.first.ensures ∙ c.in-Some.is) three in
+    omega (arith, entries, c.split.ensures.least)
 
 pub returns-clause-most : goal.returns-clause-most
-returns-clause-most g c = ?
+returns-clause-most g c =
+    let one : length (list_at c.args.heap.now (Gen 0)) ≡ 1 = search rules in
+    let three : length (entries_of c.args.heap.now c.in-Some.object) ≡ 3 = search rules in
+    let entries = entries_of_one c.args.heap.now c.sound.ensures.listed (Gen 0) (search rules) c.in-Some.object 3 one (sym c.first.ensures ∙ c.in-Some.is) three in
+    omega (arith, entries, c.split.ensures.most)
+
+pub len-requires : goal.len-requires
+len-requires g c = along_live c.args.heap.now c.sound.ensures.listed (Gen 0) c.first.result [] c.in-Some.object (along_first c.args.heap.now (Gen 0) c.first.result [] refl c.first.ensures) c.in-Some.is
