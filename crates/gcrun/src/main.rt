@@ -1,4 +1,5 @@
 //! `gcrun run < SCRIPT`: runs a script, writes the text of the run, and ends with the status as its exit status.
+//! `gcrun generate N`: runs the script of N blocks, and writes its summary.
 #![tactic(auto)]
 
 mod kinds;
