@@ -4,3 +4,4 @@ mod ItemLemmas
 mod PairLemmas
 mod TestLemmas
 mod FewLemmas
+mod SlotLemmas

@@ -16,7 +16,9 @@ mod func;
 mod items;
 mod list;
 mod more;
+mod order;
 mod pairs;
+mod slots;
 #[cfg(test)]
 mod tests;
 mod tuple;
