@@ -11,6 +11,8 @@
 
 mod body_slab;
 mod contents;
+#[cfg(test)]
+mod drop_tests;
 mod few;
 mod func;
 mod items;
@@ -19,6 +21,7 @@ mod more;
 mod order;
 mod pairs;
 mod slots;
+mod table;
 #[cfg(test)]
 mod tests;
 mod tuple;
