@@ -5,3 +5,4 @@ mod PairLemmas
 mod TestLemmas
 mod FewLemmas
 mod SlotLemmas
+mod OrderLemmas

@@ -1,5 +1,5 @@
 -- The order in which the keys of a map came: an index of the map in each slot, or a gap. (Ours.)
-use Rattle.std.specs.Prelude.{◌≡◌, ℕ, ◌+◌, ◌*◌, ◌-◌, ◌<◌, ◌≤◌, ◌^◌, ◌==◌, List, Option, None, Some, length, take, slice_index, slice_index_or, if◌then◌else◌}
+use Rattle.std.specs.Prelude.{◌≡◌, ℕ, ◌+◌, ◌*◌, ◌-◌, ◌<◌, ◌≤◌, ◌^◌, ◌==◌, List, Option, None, Some, length, map, take, slice_index, slice_index_or, if◌then◌else◌}
 use Rattle.std.specs.List.{flat_map}
 use Rattle.std.specs.Option.{option_to_list}
 
@@ -17,6 +17,12 @@ pub record AreHomes (slots : List (Option ℕ)) (homes : List ℕ) : Type 0 wher
   pub within : (slot index : ℕ) → slice_index_or slots slot None ≡ Some index → index < length homes
   pub at_home : (slot index : ℕ) → slice_index_or slots slot None ≡ Some index → slice_index homes index ≡ slot
   pub each : length (indexes slots) ≡ length homes
+
+-- the slots of these homes, once the gaps between them are closed
+pub record AreClosed (slots : List (Option ℕ)) (homes : List ℕ) : Type 0 where
+  pub was : List (Option ℕ)
+  pub homes_were : AreHomes was homes
+  pub closed : slots ≡ map (λ index. Some index) (indexes was)
 
 -- each block of 64 slots has a start, the number of pairs in the slots before it
 pub record AreStarts (slots : List (Option ℕ)) (starts : List ℕ) : Type 0 where

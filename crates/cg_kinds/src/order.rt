@@ -1,7 +1,8 @@
 //! The order in which keys came, of a map that fills holes with its last pair.
-ghost use Rattle.std.specs.Prelude.{◌≡◌, ◌≢◌, is_some, ◌+◌, ◌-◌, ◌<◌, ◌^◌, ◌++◌, ◌∷◌, ℕ, [], All, length, map, None, Some, IfOk, OnOk, OnErr, remove, slice_get, slice_index, slice_index_or, slice_set};
+ghost use Rattle.std.specs.Prelude.{◌≡◌, ◌≢◌, is_some, ◌+◌, ◌*◌, ◌-◌, ◌<◌, ◌≤◌, ◌^◌, ◌++◌, ◌∷◌, ℕ, [], All, length, map, None, Some, IfOk, IsSome, OnOk, OnErr, remove, slice_get, slice_index, slice_index_or, slice_set};
 ghost use Rattle.std.specs.List.{range_with_len};
-ghost use Rattle.cg_kinds.specs.Order.{indexes, pairs_before as before, renamed, AreHomes, AreStarts};
+ghost use Rattle.std.specs.Vec.{vec_len, vec_capacity};
+ghost use Rattle.cg_kinds.specs.Order.{indexes, pairs_before as before, renamed, AreHomes, AreStarts, AreClosed};
 
 use crate::slots::{BLOCK, lower_behind, pairs_before, slot_of};
 use std::alloc::{AllocError, Global};
@@ -30,23 +31,26 @@ impl Model for Order {
 }
 
 /// Takes the index out of a slot. The last pair comes to that index.
-fn take_index(slots: &mut Vec<Option<u32>>, homes: &mut Vec<u32>, slot: usize) -> usize
-    requires homes { AreHomes slots.old.items homes.old.items }
-    requires there { IsSome (slice_index_or slots.old.items slot None) }
-    ensures index { slice_index_or slots.old.items slot None ≡ Some result }
-    ensures homes { AreHomes slots.new.items homes.new.items }
-    ensures gap { (k : ℕ) → before slots.new.items k ≡ before (slice_set slots.old.items slot None) k }
-    ensures rest { indexes slots.new.items ≡ map (renamed (length homes.old.items - 1) result) (remove (indexes slots.old.items) (before slots.old.items slot)) }
+fn take_index(slots: &mut [Option<u32>], homes: &mut Vec<u32>, slot: usize) -> usize
+    requires homes { AreHomes slots.old homes.old.items }
+    requires there { IsSome (slice_index_or slots.old slot None) }
+    ensures index { slice_index_or slots.old slot None ≡ Some result }
+    ensures homes { AreHomes slots.new homes.new.items }
+    ensures gap { (k : ℕ) → before slots.new k ≡ before (slice_set slots.old slot None) k }
+    ensures long { length slots.new ≡ length slots.old }
+    ensures rest { indexes slots.new ≡ map (renamed (length homes.old.items - 1) result) (remove (indexes slots.old) (before slots.old slot)) }
 {
     match slots[slot] {
         Some(index) => {
             slots[slot] = None;
             let moved = homes.take_last();
-            if moved as usize != slot {
+            if moved as usize == slot {
+                index as usize
+            } else {
                 homes[index as usize] = moved;
                 slots[moved as usize] = Some(index);
+                index as usize
             }
-            index as usize
         }
         None => unreachable!(),
     }
@@ -56,16 +60,14 @@ fn take_index(slots: &mut Vec<Option<u32>>, homes: &mut Vec<u32>, slot: usize) -
 fn close_gaps(slots: &mut Vec<Option<u32>>)
     ensures { slots.new.items ≡ map (λ index. Some index) (indexes slots.old.items) }
 {
-    slots.retain(
-        |slot: &Option<u32>| -> bool
-            ensures { result ≡ is_some slot.now }
-        { slot.is_some() },
-    );
+    slots.retain(|slot| slot.is_some());
 }
 
-/// Each pair's home, where slots have no gap.
-fn settle(slots: &[Option<u32>], homes: &mut Vec<u32>)
-    requires homes { AreHomes slots.now homes.old.items }
+/// The homes, once the gaps between slots are closed.
+fn settle(slots: &[Option<u32>], homes: &mut [u32])
+    requires closed { AreClosed slots.now homes.old }
+    requires small { length slots.now < 2 ^ 32 }
+    ensures { AreHomes slots.now homes.new }
 {
     'slots: for slot in 0..slots.len() {
         if let Some(index) = slots[slot] {
@@ -74,17 +76,45 @@ fn settle(slots: &[Option<u32>], homes: &mut Vec<u32>)
     }
 }
 
-/// The starts of the blocks, where slots have no gap.
-fn restart(starts: &mut Vec<u32>, slots: usize)
+/// The starts of blocks that have no gap.
+fn restart(starts: &mut [u32])
+    requires { 64 * length starts.old < 2 ^ 32 + 64 }
+    ensures long { length starts.new ≡ length starts.old }
+    ensures start { (block : ℕ) → block < length starts.new → slice_index starts.new block ≡ 64 * block }
 {
-    starts.truncate(slots.div_ceil(BLOCK));
-    'blocks: for block in 0..starts.len() {
+    'starts: for block in 0..starts.len() {
         starts[block] = (block * BLOCK) as u32;
     }
 }
 
-/// So many slots may be.
-const MOST: usize = 0xFFFF_FFFF;
+/// With so many slots it takes no more.
+const MOST: usize = 0xFFFF_FFFE;
+
+/// Makes room for one pair more.
+fn make_room(slots: &mut Vec<Option<u32>>, homes: &mut Vec<u32>, starts: &mut Vec<u32>) -> Result<(), AllocError>
+    requires homes { AreHomes slots.old.items homes.old.items }
+    requires starts { AreStarts slots.old.items starts.old.items }
+    ensures slots { slots.new.items ≡ slots.old.items }
+    ensures homes { homes.new.items ≡ homes.old.items }
+    ensures starts { AreStarts slots.old.items starts.new.items }
+    ensures room { OnOk result (vec_len slots.new < vec_capacity slots.new) }
+    ensures room_at_home { OnOk result (vec_len homes.new < vec_capacity homes.new) }
+    ensures block { OnOk result (length slots.old.items < 64 * length starts.new.items) }
+    ensures small { OnOk result (length slots.old.items + 1 < 2 ^ 32) }
+{
+    let slot = slots.len();
+    if slot >= MOST {
+        return Err(AllocError);
+    }
+    slots.reserve(1)?;
+    homes.reserve(1)?;
+    if slot / BLOCK == starts.len() {
+        starts.push(homes.len() as u32)?;
+        Ok(())
+    } else {
+        Ok(())
+    }
+}
 
 impl Order {
     /// The indexes below a number, in their own order.
@@ -107,16 +137,10 @@ impl Order {
         ensures ok { OnOk result (self.new ≡ self.old ++ length self.old ∷ []) }
         ensures err { OnErr result (self.new ≡ self.old) }
     {
+        make_room(&mut self.slots, &mut self.homes, &mut self.starts)?;
         let slot = self.slots.len();
-        if slot >= MOST {
-            return Err(AllocError);
-        }
-        self.slots.reserve(1)?;
-        self.homes.reserve(1)?;
-        if slot / BLOCK == self.starts.len() {
-            self.starts.push(self.homes.len() as u32)?;
-        }
-        self.slots.push_reserved(Some(self.homes.len() as u32));
+        let index = self.homes.len();
+        self.slots.push_reserved(Some(index as u32));
         self.homes.push_reserved(slot as u32);
         Ok(())
     }
@@ -151,12 +175,20 @@ impl Order {
     {
         let slot = slot_of(self.slots.as_slice(), self.starts.as_slice(), i);
         lower_behind(self.slots.as_slice(), self.starts.as_mut_slice(), slot);
-        let index = take_index(&mut self.slots, &mut self.homes, slot);
+        let index = take_index(self.slots.as_mut_slice(), &mut self.homes, slot);
         if self.homes.len() < self.slots.len() / 2 {
-            close_gaps(&mut self.slots);
-            settle(self.slots.as_slice(), &mut self.homes);
-            restart(&mut self.starts, self.homes.len());
+            self.close();
         }
         index
+    }
+
+    /// Closes the gaps.
+    fn close(&mut self)
+        ensures { self.new ≡ self.old }
+    {
+        close_gaps(&mut self.slots);
+        settle(self.slots.as_slice(), self.homes.as_mut_slice());
+        self.starts.truncate((self.slots.len() + BLOCK - 1) / BLOCK);
+        restart(self.starts.as_mut_slice());
     }
 }
