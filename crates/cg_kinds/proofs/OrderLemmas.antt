@@ -1,7 +1,8 @@
 -- What slots and homes say of each other, and what that leaves of the order once an index is taken or comes last.
-use Rattle.std.proofs.Common.{◌≡◌, ◌≢◌, ℕ, zero, suc, ◌+◌, ◌*◌, ◌-◌, ◌<◌, ◌≤◌, ◌/◌, ◌^◌, ◌==◌, List, [], ◌∷◌, ◌++◌, Option, Some, None, refl, sym, ap, ◌∙◌, subst, length, take, drop, get_or, set, map, arith, length-append, IsSome, inl, inr, tt, cond, eqb, true, false, Bool, ◌⊎◌}
+use Rattle.std.proofs.Common.{◌≡◌, ◌≢◌, ℕ, zero, suc, ◌+◌, ◌*◌, ◌-◌, ◌<◌, ◌≤◌, ◌/◌, ◌^◌, ◌==◌, List, [], ◌∷◌, ◌++◌, Option, Some, None, refl, sym, ap, ◌∙◌, subst, length, take, drop, get_or, set, map, arith, length-append, IsSome, inl, inr, cond, eqb, true, false, Bool, ◌⊎◌}
 use Rattle.std.specs.Prelude.{slice_get, remove, All}
-use Rattle.std.specs.List.{flat_map, filter}
+use Rattle.std.specs.List.{flat_map, filter, range_with_len}
+use Rattle.std.proofs.lemmas.Option.{slice_get-get_or}
 use Rattle.std.specs.Option.{is_some}
 use Rattle.std.specs.Option.{option_to_list}
 use Rattle.std.proofs.lemmas.Bool.{cases_lt, cases_eq}
@@ -371,15 +372,31 @@ place_only slots homes are index slot place pair is =
     sym there.before ∙ ap (pairs_before slots) (one_slot slots homes are index slot there.slot pair there.pair)
 
 all_indexes : (P : ℕ → Type 0) (slots : List (Option ℕ)) → ((slot index : ℕ) → get_or slots slot None ≡ Some index → P index) → All P (indexes slots)
-all_indexes P [] each = tt
-all_indexes P (None ∷ slots) each = all_indexes P slots (λ slot. each (suc slot))
-all_indexes P (Some index ∷ slots) each = (each 0 index refl, all_indexes P slots (λ slot. each (suc slot)))
+all_indexes P slots each = λ k d within.
+    let there = has_slot slots k (get_or (indexes slots) k d) (slice_get-get_or (indexes slots) k d within) in
+    each there.slot (get_or (indexes slots) k d) there.pair
 
 -- what is left once an index is taken out
-pub others_left : (slots : List (Option ℕ)) (homes : List ℕ) → AreHomes slots homes → (slot index : ℕ) → get_or slots slot None ≡ Some index
-    → All (λ other. (other < length (indexes slots)) × (other ≢ index)) (remove (indexes slots) (pairs_before slots slot))
+abbrev pub IsOther : List ℕ → ℕ → ℕ → Type 0
+IsOther order index other = (other < length order) × (other ≢ index)
+
+others_left : (slots : List (Option ℕ)) (homes : List ℕ) → AreHomes slots homes → (slot index : ℕ) → get_or slots slot None ≡ Some index
+    → All (IsOther (indexes slots) index) (remove (indexes slots) (pairs_before slots slot))
 others_left slots homes are slot index pair =
-    subst (All (λ other. (other < length (indexes slots)) × (other ≢ index))) (indexes-gap slots slot index pair)
-      (all_indexes _ (set slots slot None) (λ s k is.
+    subst (All (IsOther (indexes slots) index)) (indexes-gap slots slot index pair)
+      (all_indexes (IsOther (indexes slots) index) (set slots slot None) (λ s k is.
         let left = left_there slots homes are slot s k is in
         (omega (arith, are.within s k left.1, are.each), λ same. left.0 (one_slot slots homes are index slot s pair (left.1 ∙ ap Some same)))))
+
+pub taken_facts : (slots : List (Option ℕ)) (homes : List ℕ) → AreHomes slots homes → (slot index place : ℕ) (order : List ℕ) → get_or slots slot None ≡ Some index → indexes slots ≡ order → pairs_before slots slot ≡ place
+    → (slice_get order place ≡ Some index) × All (IsOther order index) (remove order place)
+taken_facts slots homes are slot index place order pair is before =
+    (ap (λ l. slice_get l place) (sym is) ∙ ap (slice_get (indexes slots)) (sym before) ∙ order_at slots slot index pair,
+     subst (λ l. All (IsOther l index) (remove l place)) is (subst (λ n. All (IsOther (indexes slots) index) (remove (indexes slots) n)) before (others_left slots homes are slot index pair)))
+
+-- one more index of a whole order
+pub range_more : (from count : ℕ) → range_with_len from (suc count) ≡ range_with_len from count ++ (from + count) ∷ []
+range_more from zero = let n : from ≡ from + 0 = omega arith in ap (λ m. m ∷ []) n
+range_more from (suc count) =
+    let n : from + 1 + count ≡ from + suc count = omega arith in
+    ap (λ l. from ∷ l) (range_more (from + 1) count) ∙ ap (λ m. from ∷ range_with_len (from + 1) count ++ m ∷ []) n

@@ -16,14 +16,22 @@ IsKeyed kind = (kind ≡ code.Dict) ⊎ (kind ≡ code.Inst)
 abbrev pub pair_entry : Val × Val → Entry
 pair_entry p = record { key = p.0; val = p.1 }
 
--- the pair at an index, as an entry
-abbrev pub entry_of_index : List (Val × Val) → ℕ → Entry
-entry_of_index pairs index = pair_entry (slice_index_or pairs index (val.None, val.None))
+-- the pairs of a map, as entries
+abbrev pub pairs_of : List (Val × Val) → List Entry
+pairs_of pairs = map pair_entry pairs
+
+-- what stands past the last entry
+abbrev pub nothing : Entry
+nothing = record { key = val.None; val = val.None }
+
+-- the entries at these indexes
+abbrev pub picked : List Entry → List ℕ → List Entry
+picked entries order = map (λ index. slice_index_or entries index nothing) order
 
 -- the pairs of a map, as entries, in its own order or in another
 abbrev pub ordered : List (Val × Val) → Option (List ℕ) → List Entry
-ordered pairs None = map pair_entry pairs
-ordered pairs (Some order) = map (entry_of_index pairs) order
+ordered pairs None = pairs_of pairs
+ordered pairs (Some order) = picked (pairs_of pairs) order
 
 -- an order of so many pairs
 abbrev pub IsOrderOf : ℕ → Option (List ℕ) → Type 0

@@ -1,7 +1,8 @@
 //! Pairs in the order in which their keys came, in a map that may have another order.
-ghost use Rattle.std.specs.Prelude.{◌≡◌, ◌<◌, ◌^◌, ◌++◌, ◌∷◌, [], length, Some, None, IfSome, IfNone, IsNone, IsSome, IsOk, IfOk, OnOk, OnErr, OnSome, option_to_list, position, slice_get, remove};
+ghost use Rattle.std.specs.Prelude.{◌≡◌, ◌<◌, ◌^◌, ◌++◌, ◌∷◌, [], length, Some, None, IfSome, IfNone, IsNone, IsSome, IsOk, IfOk, OnOk, OnErr, OnSome, option_to_list, position, slice_get, remove, swap_remove, take, slice_index_or, option_map, ◌-◌};
 ghost use Rattle.cg_graph.specs.Value.{value_at, put};
 ghost use Rattle.cg_kind.specs.Calls.{has_key};
+ghost use Rattle.cg_kinds.specs.Pairs.{pairs_of, nothing};
 
 use crate::order::Order;
 use cg_value::{Entry, Val};
@@ -33,6 +34,63 @@ impl Model for Table {
 /// At most so many pairs close the gap that one before them leaves.
 const CLOSE: usize = 16;
 
+/// The pair at an index of a map.
+fn pair_at(map: &IndexMap<Val, Val>, index: usize) -> Entry
+    requires { index < length map.now.entries }
+    ensures { result ≡ slice_index_or (pairs_of map.now.entries) index nothing }
+{
+    match map.get_index(index) {
+        Some((key, val)) => Entry {
+            key: *key,
+            val: *val,
+        },
+        None => unreachable!(),
+    }
+}
+
+/// Takes out the pair at an index. The last one comes to its place.
+fn swap_out(map: &mut IndexMap<Val, Val>, index: usize) -> Entry
+    requires { index < length map.old.entries }
+    ensures entry { result ≡ slice_index_or (pairs_of map.old.entries) index nothing }
+    ensures rest { pairs_of map.new.entries ≡ swap_remove (pairs_of map.old.entries) index nothing }
+{
+    match map.swap_remove_index(index) {
+        Some((key, val)) => Entry { key, val },
+        None => unreachable!(),
+    }
+}
+
+/// Takes out the pair at an index; those behind it move down by one.
+fn shift_out(map: &mut IndexMap<Val, Val>, index: usize) -> Entry
+    requires { index < length map.old.entries }
+    ensures entry { result ≡ slice_index_or (pairs_of map.old.entries) index nothing }
+    ensures rest { pairs_of map.new.entries ≡ remove (pairs_of map.old.entries) index }
+{
+    match map.shift_remove_index(index) {
+        Some((key, val)) => Entry { key, val },
+        None => unreachable!(),
+    }
+}
+
+/// The pair that a map got last goes last in the order, or out of the map again.
+fn order_last(map: &mut IndexMap<Val, Val>, order: &mut Option<Order>) -> Result<(), AllocError>
+    ensures ok { OnOk result (map.new.entries ≡ map.old.entries) }
+    ensures order { OnOk result (order.new ≡ option_map (λ o. o ++ length o ∷ []) order.old) }
+    ensures err { OnErr result (map.new.entries ≡ take (length map.old.entries - 1) map.old.entries) }
+    ensures same_order { OnErr result (order.new ≡ order.old) }
+{
+    match order {
+        Some(order) => match order.push() {
+            Ok(()) => Ok(()),
+            Err(error) => {
+                let _ = map.pop();
+                Err(error)
+            }
+        },
+        None => Ok(()),
+    }
+}
+
 impl Table {
     /// No pairs.
     pub fn new(alloc: Global) -> Table
@@ -57,16 +115,9 @@ impl Table {
         requires { i < length self.now }
         ensures { slice_get self.now i ≡ Some result }
     {
-        let index = match &self.order {
-            Some(order) => order.index_at(i),
-            None => i,
-        };
-        match self.map.get_index(index) {
-            Some((key, val)) => Entry {
-                key: *key,
-                val: *val,
-            },
-            None => unreachable!(),
+        match &self.order {
+            Some(order) => pair_at(&self.map, order.index_at(i)),
+            None => pair_at(&self.map, i),
         }
     }
 
@@ -90,16 +141,24 @@ impl Table {
         ensures present { IsSome (value_at self.old key) → IsOk result }
         ensures err { OnErr result (self.new ≡ self.old) }
     {
-        let was = self.map.insert(key, val)?;
-        if was.is_none() {
-            if let Some(order) = &mut self.order {
-                if order.push().is_err() {
-                    let _ = self.map.pop();
-                    return Err(AllocError);
-                }
+        match self.map.insert(key, val)? {
+            Some(was) => Ok(Some(was)),
+            None => {
+                order_last(&mut self.map, &mut self.order)?;
+                Ok(None)
             }
         }
-        Ok(was)
+    }
+
+    /// Before a pair with many behind it goes, the map's order is noted down, if there is memory for it.
+    fn note_order(&mut self, i: usize)
+        requires { i < length self.old }
+        ensures { self.new ≡ self.old }
+    {
+        let count = self.map.len();
+        if self.order.is_none() && count - i > CLOSE {
+            self.order = Order::new(*self.map.allocator(), count).ok();
+        }
     }
 
     /// Takes the pair at a position; those behind it move down by one.
@@ -108,16 +167,10 @@ impl Table {
         ensures entry { slice_get self.old i ≡ Some result }
         ensures rest { self.new ≡ remove self.old i }
     {
-        if self.order.is_none() && self.map.len() - i > CLOSE {
-            self.order = Order::new(*self.map.allocator(), self.map.len()).ok();
-        }
-        let taken = match &mut self.order {
-            Some(order) => self.map.swap_remove_index(order.take(i)),
-            None => self.map.shift_remove_index(i),
-        };
-        match taken {
-            Some((key, val)) => Entry { key, val },
-            None => unreachable!(),
+        self.note_order(i);
+        match &mut self.order {
+            Some(order) => swap_out(&mut self.map, order.take(i)),
+            None => shift_out(&mut self.map, i),
         }
     }
 
