@@ -6,3 +6,4 @@ mod TestLemmas
 mod FewLemmas
 mod SlotLemmas
 mod OrderLemmas
+mod TableLemmas

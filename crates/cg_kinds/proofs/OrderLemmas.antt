@@ -9,7 +9,7 @@ use Rattle.std.proofs.lemmas.Bool.{cases_lt, cases_eq}
 use Rattle.std.proofs.lemmas.Bool.Decides.{nat_tests}
 use Rattle.std.proofs.lemmas.List.{length-set, get_or-set_same, get_or-set_other, get_or_append_left, get_or_push, get_or_past, length_push, length-map, take-append-le}
 use Rattle.std.proofs.lemmas.Grind.{flat_map-append}
-use Rattle.cg_kinds.specs.Order.{indexes, pairs_before, renamed, AreHomes, AreStarts, AreClosed}
+use Rattle.cg_kinds.specs.Order.{indexes, pairs_before, renamed, AreHomes, AreStarts, AreClosed, HasPlace, IsSound}
 use Rattle.cg_kinds.proofs.SlotLemmas.{pair_within, gap_later, before_all, few_pairs}
 
 some_is : (a b : ℕ) → Some a ≡ Some b → a ≡ b
@@ -55,10 +55,10 @@ has_slot (Some m ∷ slots) (suc place) index is =
     let rest = has_slot slots place index is in
     record { slot = suc rest.slot; pair = rest.pair; before = ap suc rest.before }
 
-renamed_other : (last gone index : ℕ) → index ≢ last → renamed last gone index ≡ index
+pub renamed_other : (last gone index : ℕ) → index ≢ last → renamed last gone index ≡ index
 renamed_other last gone index differs = grind (arith, nat_tests)
 
-renamed_last : (last gone : ℕ) → renamed last gone last ≡ gone
+pub renamed_last : (last gone : ℕ) → renamed last gone last ≡ gone
 renamed_last last gone = grind (arith, nat_tests)
 
 -- no index of these slots is the last
@@ -389,10 +389,11 @@ others_left slots homes are slot index pair =
         (omega (arith, are.within s k left.1, are.each), λ same. left.0 (one_slot slots homes are index slot s pair (left.1 ∙ ap Some same)))))
 
 pub taken_facts : (slots : List (Option ℕ)) (homes : List ℕ) → AreHomes slots homes → (slot index place : ℕ) (order : List ℕ) → get_or slots slot None ≡ Some index → indexes slots ≡ order → pairs_before slots slot ≡ place
-    → (slice_get order place ≡ Some index) × All (IsOther order index) (remove order place)
+    → (slice_get order place ≡ Some index) × (All (IsOther order index) (remove order place) × (index < length order))
 taken_facts slots homes are slot index place order pair is before =
     (ap (λ l. slice_get l place) (sym is) ∙ ap (slice_get (indexes slots)) (sym before) ∙ order_at slots slot index pair,
-     subst (λ l. All (IsOther l index) (remove l place)) is (subst (λ n. All (IsOther (indexes slots) index) (remove (indexes slots) n)) before (others_left slots homes are slot index pair)))
+     (subst (λ l. All (IsOther l index) (remove l place)) is (subst (λ n. All (IsOther (indexes slots) index) (remove (indexes slots) n)) before (others_left slots homes are slot index pair)),
+      omega (arith, are.within slot index pair, are.each, ap length is)))
 
 -- one more index of a whole order
 pub range_more : (from count : ℕ) → range_with_len from (suc count) ≡ range_with_len from count ++ (from + count) ∷ []
@@ -400,3 +401,15 @@ range_more from zero = let n : from ≡ from + 0 = omega arith in ap (λ m. m �
 range_more from (suc count) =
     let n : from + 1 + count ≡ from + suc count = omega arith in
     ap (λ l. from ∷ l) (range_more (from + 1) count) ∙ ap (λ m. from ∷ range_with_len (from + 1) count ++ m ∷ []) n
+
+pub sound_order : (slots : List (Option ℕ)) (homes : List ℕ) → AreHomes slots homes → (order : List ℕ) → indexes slots ≡ order → IsSound order
+sound_order slots homes are order is = subst IsSound is (record {
+  within = all_indexes (λ index. index < length (indexes slots)) slots (λ slot index pair. omega (arith, are.within slot index pair, are.each));
+  placed = λ index below.
+    let pair = are.home index (omega (arith, below, are.each)) in
+    record {
+      place = pairs_before slots (get_or homes index 0);
+      at = order_at slots (get_or homes index 0) index pair;
+      only = λ other there. place_only slots homes are index (get_or homes index 0) other pair there;
+    };
+})

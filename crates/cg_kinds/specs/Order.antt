@@ -1,5 +1,5 @@
 -- The order in which the keys of a map came: an index of the map in each slot, or a gap. (Ours.)
-use Rattle.std.specs.Prelude.{◌≡◌, ℕ, ◌+◌, ◌*◌, ◌-◌, ◌<◌, ◌≤◌, ◌^◌, ◌==◌, List, Option, None, Some, length, map, take, slice_index, slice_index_or, if◌then◌else◌}
+use Rattle.std.specs.Prelude.{◌≡◌, ℕ, ◌+◌, ◌*◌, ◌-◌, ◌<◌, ◌≤◌, ◌^◌, ◌==◌, List, Option, None, Some, All, length, map, take, slice_get, slice_index, slice_index_or, if◌then◌else◌}
 use Rattle.std.specs.List.{flat_map}
 use Rattle.std.specs.Option.{option_to_list}
 
@@ -34,3 +34,14 @@ pub record AreStarts (slots : List (Option ℕ)) (starts : List ℕ) : Type 0 wh
 -- the index of a pair after the pair at one index is gone, and the last has come to its place
 abbrev pub renamed : ℕ → ℕ → ℕ → ℕ
 renamed last gone index = if index == last then gone else index
+
+-- the one place of an index in an order
+pub record HasPlace (order : List ℕ) (index : ℕ) : Type 0 where
+  pub place : ℕ
+  pub at : slice_get order place ≡ Some index
+  pub only : (other : ℕ) → slice_get order other ≡ Some index → other ≡ place
+
+-- each index below the length stands in the order once, and no other
+pub record IsSound (order : List ℕ) : Type 0 where
+  pub within : All (λ index. index < length order) order
+  pub placed : (index : ℕ) → index < length order → HasPlace order index

@@ -1,11 +1,12 @@
 -- The body of a dictionary or an instance. (Ours.)
-use Rattle.std.specs.Prelude.{◌≡◌, ◌⊎◌, ◌++◌, ◌<◌, ℕ, map, length, slice_index_or, All, List, [], Option, Some, None, Box}
+use Rattle.std.specs.Prelude.{◌≡◌, ◌⊎◌, ◌++◌, ◌<◌, ℕ, map, length, slice_index_or, List, [], Option, Some, None, Box}
 use Rattle.std.proofs.Common.{Global}
 use Rattle.cg_value.specs.declared.Val.{Val}
 use Rattle.cg_value.specs.declared.Val.TheVariants as val
 use Rattle.cg_value.specs.declared.Entry.{Entry}
 use Rattle.cg_value.specs.declared.KindCode.{KindCode}
 use Rattle.cg_value.specs.declared.KindCode.TheVariants as code
+use Rattle.cg_kinds.specs.Order.{IsSound}
 use Rattle.cg_kind.specs.Bodies.{Body, body_of}
 
 -- dictionaries and instances hold values under keys
@@ -36,7 +37,11 @@ ordered pairs (Some order) = picked (pairs_of pairs) order
 -- an order of so many pairs
 abbrev pub IsOrderOf : ℕ → Option (List ℕ) → Type 0
 IsOrderOf count None = Unit {0}
-IsOrderOf count (Some order) = (length order ≡ count) × All (λ index. index < count) order
+IsOrderOf count (Some order) = length order ≡ count
+
+abbrev pub IsSoundOrder : Option (List ℕ) → Type 0
+IsSoundOrder None = Unit {0}
+IsSoundOrder (Some order) = IsSound order
 
 -- the pairs of a table that may be there
 abbrev pub entries_in : Option (Box (List Entry) Global) → List Entry

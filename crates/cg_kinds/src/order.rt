@@ -2,7 +2,7 @@
 ghost use Rattle.std.specs.Prelude.{◌≡◌, ◌≢◌, is_some, ◌+◌, ◌*◌, ◌-◌, ◌<◌, ◌≤◌, ◌^◌, ◌++◌, ◌∷◌, ℕ, [], All, length, map, None, Some, IfOk, IsSome, OnOk, OnErr, remove, slice_get, slice_index, slice_index_or, slice_set};
 ghost use Rattle.std.specs.List.{range_with_len};
 ghost use Rattle.std.specs.Vec.{vec_len, vec_capacity};
-ghost use Rattle.cg_kinds.specs.Order.{indexes, pairs_before as before, renamed, AreHomes, AreStarts, AreClosed};
+ghost use Rattle.cg_kinds.specs.Order.{indexes, pairs_before as before, renamed, AreHomes, AreStarts, AreClosed, IsSound};
 
 use crate::slots::{BLOCK, lower_behind, pairs_before, slot_of};
 use std::alloc::{AllocError, Global};
@@ -145,6 +145,13 @@ impl Order {
         Ok(())
     }
 
+    /// Costs nothing: each index stands at one place.
+    pub fn sound(&self)
+        ensures { IsSound self.now }
+    {
+        let _count = self.slots.len();
+    }
+
     /// The index at a place.
     pub fn index_at(&self, i: usize) -> usize
         requires { i < length self.now }
@@ -170,6 +177,7 @@ impl Order {
     pub fn take(&mut self, i: usize) -> usize
         requires { i < length self.old }
         ensures index { slice_get self.old i ≡ Some result }
+        ensures within { result < length self.old }
         ensures rest { self.new ≡ map (renamed (length self.old - 1) result) (remove self.old i) }
         ensures others { All (λ index. (index < length self.old) × (index ≢ result)) (remove self.old i) }
     {

@@ -2,7 +2,7 @@
 ghost use Rattle.std.specs.Prelude.{◌≡◌, ◌<◌, ◌^◌, ◌++◌, ◌∷◌, [], length, Some, None, IfSome, IfNone, IsNone, IsSome, IsOk, IfOk, OnOk, OnErr, OnSome, option_to_list, position, slice_get, remove, swap_remove, take, slice_index_or, option_map, ◌-◌};
 ghost use Rattle.cg_graph.specs.Value.{value_at, put};
 ghost use Rattle.cg_kind.specs.Calls.{has_key};
-ghost use Rattle.cg_kinds.specs.Pairs.{pairs_of, nothing};
+ghost use Rattle.cg_kinds.specs.Pairs.{pairs_of, nothing, IsSoundOrder};
 
 use crate::order::Order;
 use cg_value::{Entry, Val};
@@ -72,6 +72,16 @@ fn shift_out(map: &mut IndexMap<Val, Val>, index: usize) -> Entry
     }
 }
 
+/// Costs nothing: each index stands at one place of the order, if there is one.
+fn sound(order: &Option<Order>)
+    ensures { IsSoundOrder order.now }
+{
+    match order {
+        Some(order) => order.sound(),
+        None => {}
+    }
+}
+
 /// The pair that a map got last goes last in the order, or out of the map again.
 fn order_last(map: &mut IndexMap<Val, Val>, order: &mut Option<Order>) -> Result<(), AllocError>
     ensures ok { OnOk result (map.new.entries ≡ map.old.entries) }
@@ -125,6 +135,7 @@ impl Table {
     pub fn find(&self, key: Val) -> Option<usize>
         ensures { result ≡ position (has_key key) self.now }
     {
+        sound(&self.order);
         match self.map.get_index_of(&key) {
             Some(index) => match &self.order {
                 Some(order) => Some(order.place_of(index)),
@@ -141,6 +152,9 @@ impl Table {
         ensures present { IsSome (value_at self.old key) → IsOk result }
         ensures err { OnErr result (self.new ≡ self.old) }
     {
+        // The length is what says that the keys are unique.
+        let _count = self.map.len();
+        sound(&self.order);
         match self.map.insert(key, val)? {
             Some(was) => Ok(Some(was)),
             None => {
@@ -157,7 +171,9 @@ impl Table {
     {
         let count = self.map.len();
         if self.order.is_none() && count - i > CLOSE {
-            self.order = Order::new(*self.map.allocator(), count).ok();
+            if let Ok(order) = Order::new(*self.map.allocator(), count) {
+                self.order = Some(order);
+            }
         }
     }
 
