@@ -1,11 +1,13 @@
 -- Entries at the indexes of an order: what a search finds among them, and what a put or a take leaves.
-use Rattle.std.proofs.Common.{◌≡◌, ◌≢◌, ℕ, zero, suc, ◌+◌, ◌-◌, ◌<◌, ◌≤◌, Bool, true, false, List, [], ◌∷◌, ◌++◌, Option, Some, None, cond, refl, sym, ap, ◌∙◌, subst, length, take, get_or, set, map, arith, length-append, IsSome, inl, inr, true≢false, option_map}
+use Rattle.std.proofs.Common.{◌≡◌, ◌≢◌, ℕ, zero, suc, ◌+◌, ◌-◌, ◌<◌, ◌≤◌, Bool, true, false, List, [], ◌∷◌, ◌++◌, Option, Some, None, cond, refl, sym, ap, ◌∙◌, subst, length, take, get_or, set, map, arith, length-append, IsSome, inl, inr, true≢false, option_map, Result, Ok, Err, OnErr}
 use Rattle.std.specs.Prelude.{position, slice_get, remove, swap_remove, All}
 use Rattle.std.specs.List.{position_from, range_with_len, IsDistinct}
-use Rattle.std.specs.Map.{keys_of}
+use Rattle.std.specs.Map.{keys_of, lookup}
+use Rattle.indexmap.specs.IndexMap.{insert_entry}
+use Rattle.indexmap.proofs.MapLemmas.{absent_from_lookup, insert_entry-absent}
 use Rattle.std.proofs.lemmas.Bool.{cases_lt, cases_eq}
 use Rattle.std.proofs.lemmas.Iterator.Adapters.{position_from-zero}
-use Rattle.std.proofs.lemmas.List.{length-set, length-map, length-take-le, get_or-set_same, get_or-set_other, get_or_append_left, get_or_push, get_or-map, get_or-take, length_push, same_lists, get_or_default, append-nil, map-append, map-set, take-map, take_all, take_more, drop_all}
+use Rattle.std.proofs.lemmas.List.{length-set, length-map, length-take-le, get_or-set_same, get_or-set_other, get_or_append_left, get_or_push, get_or-map, get_or-take, length_push, same_lists, get_or_default, append-nil, map-append, map-set, take-map, take_all, take_more, take_at, drop_all}
 use Rattle.std.proofs.lemmas.List.Edits.{length-remove}
 use Rattle.std.proofs.lemmas.List.FromFn.{length-range_with_len, get_or-range_with_len}
 use Rattle.std.proofs.lemmas.List.Quantifiers.{position-Some}
@@ -339,3 +341,25 @@ last_taken es e i long at =
     ∙ take_more es i e below
     ∙ ap (λ x. take i es ++ x ∷ []) (get_or_from_slice_get es i e e at)
     ∙ ap (λ l. l ++ e ∷ []) (sym (append-nil (take i es)) ∙ ap (λ l. take i es ++ l) (sym (drop_all (suc i) es (omega (arith, n)))))
+
+pub length-swapped : (es : List Entry) (index : ℕ) (d : Entry) → length (swap_remove es index d) ≡ length es - 1
+length-swapped es index d = length-take-le (length es - 1) (set es index (get_or es (length es - 1) d)) (omega (arith, length-set es index (get_or es (length es - 1) d)))
+
+pub length-ordered : (pairs : List (Val × Val)) (order : Option (List ℕ)) → IsOrderOf (length pairs) order → length (ordered pairs order) ≡ length pairs
+length-ordered pairs None long = length-map pairs pair_entry
+length-ordered pairs (Some order) long = length-map order (λ index. get_or (pairs_of pairs) index nothing) ∙ long
+
+-- a refusal tells what holds anyway
+pub on_err : {T E : Type 0} (r : Result T E) (P : Type 0) → P → OnErr r P
+on_err (Ok x) P p = tt
+on_err (Err e) P p = p
+
+pub none_some : IsSome {T = Val} None → ⊥
+none_some some = cc
+
+-- a new pair, which is taken off again
+pub put_back : (pairs now : List (Val × Val)) (key val : Val) → lookup (equal key) pairs ≡ None → now ≡ insert_entry equal pairs key val → take (length now - 1) now ≡ pairs
+put_back pairs now key val none is =
+    let whole : now ≡ pairs ++ (key, val) ∷ [] = is ∙ insert_entry-absent equal key val pairs (absent_from_lookup (equal key) pairs none) in
+    ap (λ l. take (length l - 1) l) whole
+    ∙ take_at pairs ((key, val) ∷ []) (length (pairs ++ (key, val) ∷ []) - 1) (omega (arith, length_push pairs (key, val)))

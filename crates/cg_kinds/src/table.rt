@@ -170,9 +170,14 @@ impl Table {
         ensures { self.new ≡ self.old }
     {
         let count = self.map.len();
-        if self.order.is_none() && count - i > CLOSE {
-            if let Ok(order) = Order::new(*self.map.allocator(), count) {
-                self.order = Some(order);
+        match &self.order {
+            Some(_) => {}
+            None => {
+                if count - i > CLOSE {
+                    if let Ok(order) = Order::new(*self.map.allocator(), count) {
+                        self.order = Some(order);
+                    }
+                }
             }
         }
     }
