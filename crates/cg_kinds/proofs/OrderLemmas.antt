@@ -148,16 +148,18 @@ module _ (slots : List (Option ℕ)) (homes : List ℕ) (are : AreHomes slots ho
     -- the last index is taken out
     pub taken_last : (slot index : ℕ) → get_or slots slot None ≡ Some index → moved ≡ slot → (index ≡ length rest) × AreHomes (set slots slot None) rest
     taken_last slot index pair same =
-        let last : index ≡ length rest = one_index slot index (length rest) pair (subst (λ s. get_or slots s None ≡ Some (length rest)) same last_there) in
-        (last, record {
-          home = λ k below.
-            let was = are.home k (omega (arith, below, long)) in
-            let differs : get_or homes k 0 ≢ slot = λ at. absurd (omega (arith, below, last, one_index slot k index (subst (λ s. get_or slots s None ≡ Some k) at was) pair)) in
-            ap (λ s. get_or (set slots slot None) s None) (rest_home k below) ∙ get_or-set_other slots slot (get_or homes k 0) None None differs ∙ was;
-          within = λ s k is. below s k is;
-          at_home = λ s k is. rest_home k (below s k is) ∙ are.at_home s k (left_there slot s k is).1;
-          each = omega (arith, gap_pairs slot index pair, long);
-        })
+        let last : index ≡ length rest = one_index slot index (length rest) pair (subst (λ s. get_or slots s None ≡ Some (length rest)) same last_there) in (
+          last,
+          record {
+            home = λ k below.
+                let was = are.home k (omega (arith, below, long)) in
+                let differs : get_or homes k 0 ≢ slot = λ at. absurd (omega (arith, below, last, one_index slot k index (subst (λ s. get_or slots s None ≡ Some k) at was) pair)) in
+                ap (λ s. get_or (set slots slot None) s None) (rest_home k below) ∙ get_or-set_other slots slot (get_or homes k 0) None None differs ∙ was;
+            within = λ s k is. below s k is;
+            at_home = λ s k is. rest_home k (below s k is) ∙ are.at_home s k (left_there slot s k is).1;
+            each = omega (arith, gap_pairs slot index pair, long);
+          },
+        )
       where
         below : (s k : ℕ) → get_or (set slots slot None) s None ≡ Some k → k < length rest
         below s k is =
@@ -193,10 +195,10 @@ module _ (slots : List (Option ℕ)) (homes : List ℕ) (are : AreHomes slots ho
         | inr there ↦ get_or-set_other rest index k moved 0 there.1 ∙ rest_home k there.0 ∙ are.at_home s k there.2
       ];
       each =
-        let a = before_all now (length now) (omega arith) in
-        let b = before_all (set slots slot None) (length now) (omega (arith, length-set (set slots slot None) moved (Some index))) in
-        let m = refilled_before (set slots slot None) moved (length rest) index (length now) still in
-        omega (arith, a, b, m, gap_pairs slot index pair, long, length-set rest index moved);
+          let a = before_all now (length now) (omega arith) in
+          let b = before_all (set slots slot None) (length now) (omega (arith, length-set (set slots slot None) moved (Some index))) in
+          let m = refilled_before (set slots slot None) moved (length rest) index (length now) still in
+          omega (arith, a, b, m, gap_pairs slot index pair, long, length-set rest index moved);
     }
       where
         now : List (Option ℕ)
@@ -254,10 +256,10 @@ pub closed_starts : (order : List ℕ) (now : List (Option ℕ)) (starts : List 
     → ((block : ℕ) → block < length starts → get_or starts block 0 ≡ 64 * block) → length now ≤ 64 * length starts → 64 * length starts ≤ length now + 63 → length now < 2 ^ 32 → AreStarts now starts
 closed_starts order now starts closed start covered close small = record {
   start = λ block within.
-    let n : length now ≡ length order = ap length closed ∙ length-map order (λ index. Some index) in
-    start block within
-    ∙ sym (before-closed order (64 * block) (omega (arith, within, close, n)))
-    ∙ ap (λ l. pairs_before l (64 * block)) (sym closed);
+      let n : length now ≡ length order = ap length closed ∙ length-map order (λ index. Some index) in
+      start block within
+      ∙ sym (before-closed order (64 * block) (omega (arith, within, close, n)))
+      ∙ ap (λ l. pairs_before l (64 * block)) (sym closed);
   covered = covered;
   close = omega (arith, close);
   small = small;
@@ -293,11 +295,11 @@ module _ (now : List (Option ℕ)) (homes : List ℕ) (are : AreClosed now homes
   pub settled_all : (now_homes : List ℕ) → length now_homes ≡ length homes → ((s k : ℕ) → s < length now → get_or now s None ≡ Some k → get_or now_homes k 0 ≡ s) → AreHomes now now_homes
   settled_all now_homes long settled = record {
     home = λ index below.
-      let was = are.homes_were.home index (omega (arith, below, long)) in
-      let place = order_at are.was (get_or homes index 0) index was in
-      let there : get_or now (pairs_before are.was (get_or homes index 0)) None ≡ Some index =
+        let was = are.homes_were.home index (omega (arith, below, long)) in
+        let place = order_at are.was (get_or homes index 0) index was in
+        let there : get_or now (pairs_before are.was (get_or homes index 0)) None ≡ Some index =
         ap (λ l. get_or l (pairs_before are.was (get_or homes index 0)) None) are.closed ∙ get_or-closed (indexes are.was) (pairs_before are.was (get_or homes index 0)) index place in
-      ap (λ s. get_or now s None) (settled (pairs_before are.was (get_or homes index 0)) index (pair_within now _ index there) there) ∙ there;
+        ap (λ s. get_or now s None) (settled (pairs_before are.was (get_or homes index 0)) index (pair_within now _ index there) there) ∙ there;
     within = λ slot index is. omega (arith, closed_within slot index is, long);
     at_home = λ slot index is. settled slot index (pair_within now slot index is) is;
     each = ap length (same_order are.was now are.closed) ∙ are.homes_were.each ∙ sym long;
@@ -328,10 +330,10 @@ pushed_homes slots homes are = record {
     | inr new ↦ ap (λ n. get_or (homes ++ length slots ∷ []) n 0) new.1 ∙ get_or_push homes (length slots) 0 (length homes) refl ∙ sym new.0
   ];
   each =
-    ap length (flat_map-append option_to_list slots (Some (length homes) ∷ []))
-    ∙ length_push (indexes slots) (length homes)
-    ∙ ap (λ n. n + 1) are.each
-    ∙ sym (length_push homes (length slots));
+      ap length (flat_map-append option_to_list slots (Some (length homes) ∷ []))
+      ∙ length_push (indexes slots) (length homes)
+      ∙ ap (λ n. n + 1) are.each
+      ∙ sym (length_push homes (length slots));
 }
   where
     now : List (Option ℕ)
@@ -349,8 +351,8 @@ pushed_homes slots homes are = record {
 pub pushed_starts : (slots : List (Option ℕ)) (x : Option ℕ) (starts : List ℕ) → AreStarts slots starts → length slots < 64 * length starts → length slots + 1 < 2 ^ 32 → AreStarts (slots ++ x ∷ []) starts
 pushed_starts slots x starts are block small = record {
   start = λ b within.
-    are.start b within
-    ∙ ap (λ l. length (indexes l)) (sym (take-append-le (64 * b) slots (x ∷ []) (omega (arith, within, are.close))));
+      are.start b within
+      ∙ ap (λ l. length (indexes l)) (sym (take-append-le (64 * b) slots (x ∷ []) (omega (arith, within, are.close))));
   covered = omega (arith, block, length_push slots x);
   close = omega (arith, are.close, length_push slots x);
   small = omega (arith, small, length_push slots x);
@@ -384,16 +386,19 @@ others_left : (slots : List (Option ℕ)) (homes : List ℕ) → AreHomes slots 
     → All (IsOther (indexes slots) index) (remove (indexes slots) (pairs_before slots slot))
 others_left slots homes are slot index pair =
     subst (All (IsOther (indexes slots) index)) (indexes-gap slots slot index pair)
-      (all_indexes (IsOther (indexes slots) index) (set slots slot None) (λ s k is.
-        let left = left_there slots homes are slot s k is in
-        (omega (arith, are.within s k left.1, are.each), λ same. left.0 (one_slot slots homes are index slot s pair (left.1 ∙ ap Some same)))))
+    (all_indexes (IsOther (indexes slots) index) (set slots slot None) (λ s k is.
+    let left = left_there slots homes are slot s k is in
+    (omega (arith, are.within s k left.1, are.each), λ same. left.0 (one_slot slots homes are index slot s pair (left.1 ∙ ap Some same)))))
 
 pub taken_facts : (slots : List (Option ℕ)) (homes : List ℕ) → AreHomes slots homes → (slot index place : ℕ) (order : List ℕ) → get_or slots slot None ≡ Some index → indexes slots ≡ order → pairs_before slots slot ≡ place
     → (slice_get order place ≡ Some index) × (All (IsOther order index) (remove order place) × (index < length order))
-taken_facts slots homes are slot index place order pair is before =
-    (ap (λ l. slice_get l place) (sym is) ∙ ap (slice_get (indexes slots)) (sym before) ∙ order_at slots slot index pair,
-     (subst (λ l. All (IsOther l index) (remove l place)) is (subst (λ n. All (IsOther (indexes slots) index) (remove (indexes slots) n)) before (others_left slots homes are slot index pair)),
-      omega (arith, are.within slot index pair, are.each, ap length is)))
+taken_facts slots homes are slot index place order pair is before = (
+  ap (λ l. slice_get l place) (sym is) ∙ ap (slice_get (indexes slots)) (sym before) ∙ order_at slots slot index pair,
+  (
+    subst (λ l. All (IsOther l index) (remove l place)) is (subst (λ n. All (IsOther (indexes slots) index) (remove (indexes slots) n)) before (others_left slots homes are slot index pair)),
+    omega (arith, are.within slot index pair, are.each, ap length is),
+  ),
+)
 
 -- one more index of a whole order
 pub range_more : (from count : ℕ) → range_with_len from (suc count) ≡ range_with_len from count ++ (from + count) ∷ []
@@ -406,10 +411,10 @@ pub sound_order : (slots : List (Option ℕ)) (homes : List ℕ) → AreHomes sl
 sound_order slots homes are order is = subst IsSound is (record {
   within = all_indexes (λ index. index < length (indexes slots)) slots (λ slot index pair. omega (arith, are.within slot index pair, are.each));
   placed = λ index below.
-    let pair = are.home index (omega (arith, below, are.each)) in
-    record {
-      place = pairs_before slots (get_or homes index 0);
-      at = order_at slots (get_or homes index 0) index pair;
-      only = λ other there. place_only slots homes are index (get_or homes index 0) other pair there;
-    };
+      let pair = are.home index (omega (arith, below, are.each)) in
+      record {
+        place = pairs_before slots (get_or homes index 0);
+        at = order_at slots (get_or homes index 0) index pair;
+        only = λ other there. place_only slots homes are index (get_or homes index 0) other pair there;
+      };
 })

@@ -17,7 +17,7 @@ use Rattle.cg_kinds.specs.Order.{indexes, pairs_before, AreStarts}
 pub before_more : (slots : List (Option ℕ)) (slot : ℕ) → slot < length slots → pairs_before slots (slot + 1) ≡ pairs_before slots slot + length (option_to_list (get_or slots slot None))
 before_more slots slot within =
     let whole : indexes (take (slot + 1) slots) ≡ indexes (take slot slots) ++ (option_to_list (get_or slots slot None) ++ []) =
-      ap indexes (take_more slots slot None within) ∙ flat_map-append option_to_list (take slot slots) (get_or slots slot None ∷ []) in
+    ap indexes (take_more slots slot None within) ∙ flat_map-append option_to_list (take slot slots) (get_or slots slot None ∷ []) in
     ap length whole
     ∙ length-append (indexes (take slot slots)) (option_to_list (get_or slots slot None) ++ [])
     ∙ ap (λ l. pairs_before slots slot + length l) (append-nil (option_to_list (get_or slots slot None)))
@@ -45,9 +45,9 @@ few_before slots slot = omega (arith, few_pairs (take slot slots), length-take s
 pub before_later : (slots : List (Option ℕ)) (slot more : ℕ) → pairs_before slots (slot + more) ≡ pairs_before slots slot + length (indexes (take more (drop slot slots)))
 before_later slots slot more =
     let whole : take (slot + more) slots ≡ take slot slots ++ take more (drop slot slots) =
-      sym (take-append-drop slot (take (slot + more) slots))
-      ∙ ap (λ l. l ++ drop slot (take (slot + more) slots)) (take-take slot (slot + more) slots (omega arith))
-      ∙ ap (λ l. take slot slots ++ l) (drop-take slot more slots) in
+    sym (take-append-drop slot (take (slot + more) slots))
+    ∙ ap (λ l. l ++ drop slot (take (slot + more) slots)) (take-take slot (slot + more) slots (omega arith))
+    ∙ ap (λ l. take slot slots ++ l) (drop-take slot more slots) in
     ap (λ l. length (indexes l)) whole
     ∙ ap length (flat_map-append option_to_list (take slot slots) (take more (drop slot slots)))
     ∙ length-append (indexes (take slot slots)) (indexes (take more (drop slot slots)))
@@ -121,9 +121,9 @@ module _ (slots : List (Option ℕ)) (starts : List ℕ) (are : AreStarts slots 
       let first = are.start block (omega (arith, within)) in
       let last = are.start (block + 1) within in
       let here : pairs_before slots (block * 64 + k) ≡ get_or starts block 0 + k =
-        omega (arith, e, f, first, last, full, before_steps slots (block * 64) k, before_steps slots (block * 64 + k) (64 - k)) in
+      omega (arith, e, f, first, last, full, before_steps slots (block * 64) k, before_steps slots (block * 64 + k) (64 - k)) in
       let next : pairs_before slots (block * 64 + k) < pairs_before slots (block * 64 + k + 1) =
-        omega (arith, here, g, last, full, before_steps slots (block * 64 + k + 1) (63 - k)) in
+      omega (arith, here, g, last, full, before_steps slots (block * 64 + k + 1) (63 - k)) in
       (here, pair_there slots (block * 64 + k) next)
 
   -- a pair's start is no start of a block behind it

@@ -95,8 +95,8 @@ module _ (es : List Entry) (order : List ℕ) (within : All (λ index. index < l
   picked_none t none =
       position_from-zero t (picked es order)
       ∙ from_none t 0 (picked es order) nothing (λ j below.
-          let low : j < length order = omega (arith, below, length-picked) in
-          ap t (picked_at j nothing low) ∙ none_at t 0 es nothing (sym (position_from-zero t es) ∙ none) (get_or order j 0) (index_within j low))
+      let low : j < length order = omega (arith, below, length-picked) in
+      ap t (picked_at j nothing low) ∙ none_at t 0 es nothing (sym (position_from-zero t es) ∙ none) (get_or order j 0) (index_within j low))
 
   module _ (index place : ℕ) (at : slice_get order place ≡ Some index) (only : (other : ℕ) → slice_get order other ≡ Some index → other ≡ place) where
     place_within : place < length order
@@ -133,8 +133,8 @@ module _ (es : List Entry) (order : List ℕ) (within : All (λ index. index < l
     pub picked_set : (e : Entry) → index < length es → picked (set es index e) order ≡ set (picked es order) place e
     picked_set e below =
         same_lists (picked (set es index e) order) (set (picked es order) place e)
-          (length-map order (λ i. get_or (set es index e) i nothing) ∙ sym (length-set (picked es order) place e ∙ length-picked))
-          (λ j d high. at_each j d (omega (arith, high, length-map order (λ i. get_or (set es index e) i nothing))))
+        (length-map order (λ i. get_or (set es index e) i nothing) ∙ sym (length-set (picked es order) place e ∙ length-picked))
+        (λ j d high. at_each j d (omega (arith, high, length-map order (λ i. get_or (set es index e) i nothing))))
       where
         at_each : (j : ℕ) (d : Entry) → j < length order → get_or (picked (set es index e) order) j d ≡ get_or (set (picked es order) place e) j d
         at_each j d low = elim (cases_eq j place) [
@@ -176,22 +176,22 @@ picked_push es order e within long =
     same : map (λ index. get_or (es ++ e ∷ []) index nothing) order ≡ picked es order
     same =
         same_lists _ _ (length-map order (λ index. get_or (es ++ e ∷ []) index nothing) ∙ sym (length-map order (λ index. get_or es index nothing)))
-          (λ j d high.
-            let low : j < length order = omega (arith, high, length-map order (λ index. get_or (es ++ e ∷ []) index nothing)) in
-            get_or-map (λ index. get_or (es ++ e ∷ []) index nothing) order j 0 d low
-            ∙ get_or_append_left es (e ∷ []) nothing (get_or order j 0) (within j 0 low)
-            ∙ sym (get_or-map (λ index. get_or es index nothing) order j 0 d low))
+        (λ j d high.
+        let low : j < length order = omega (arith, high, length-map order (λ index. get_or (es ++ e ∷ []) index nothing)) in
+        get_or-map (λ index. get_or (es ++ e ∷ []) index nothing) order j 0 d low
+        ∙ get_or_append_left es (e ∷ []) nothing (get_or order j 0) (within j 0 low)
+        ∙ sym (get_or-map (λ index. get_or es index nothing) order j 0 d low))
 
 -- a map's own order, noted down
 pub picked_all : (es : List Entry) (count : ℕ) → count ≡ length es → picked es (range_with_len 0 count) ≡ es
 picked_all es count long =
     same_lists _ es (length-map (range_with_len 0 count) (λ index. get_or es index nothing) ∙ length-range_with_len 0 count ∙ long)
-      (λ j d high.
-        let low : j < count = omega (arith, high, length-map (range_with_len 0 count) (λ index. get_or es index nothing), length-range_with_len 0 count) in
-        let in_range : j < length (range_with_len 0 count) = omega (arith, low, length-range_with_len 0 count) in
-        get_or-map (λ index. get_or es index nothing) (range_with_len 0 count) j 0 d in_range
-        ∙ ap (λ n. get_or es n nothing) (get_or-range_with_len 0 count j 0 low ∙ (omega arith))
-        ∙ get_or_default es j nothing d (omega (arith, low, long)))
+    (λ j d high.
+    let low : j < count = omega (arith, high, length-map (range_with_len 0 count) (λ index. get_or es index nothing), length-range_with_len 0 count) in
+    let in_range : j < length (range_with_len 0 count) = omega (arith, low, length-range_with_len 0 count) in
+    get_or-map (λ index. get_or es index nothing) (range_with_len 0 count) j 0 d in_range
+    ∙ ap (λ n. get_or es n nothing) (get_or-range_with_len 0 count j 0 low ∙ (omega arith))
+    ∙ get_or_default es j nothing d (omega (arith, low, long)))
 
 -- the keys of a map are no two the same
 distinct_pairs : (pairs : List (Val × Val)) → IsDistinct equal (keys_of pairs) → (key : Val) (i j : ℕ) → i < j → j < length pairs → has_key key (get_or (pairs_of pairs) i nothing) ≡ true → has_key key (get_or (pairs_of pairs) j nothing) ≡ true → ⊥
@@ -288,8 +288,8 @@ pub picked_take : (es now : List Entry) (order : List ℕ) (i index : ℕ) → l
     → picked now (map (renamed (length order - 1) index) (remove order i)) ≡ remove (picked es order) i
 picked_take es now order i index long low others is =
     same_lists (picked now (map ren (remove order i))) (picked es (remove order i))
-      (length-map (map ren (remove order i)) (λ n. get_or now n nothing) ∙ length-map (remove order i) ren ∙ sym (length-map (remove order i) (λ n. get_or es n nothing)))
-      (λ j d high. at_each j d (omega (arith, high, length-map (map ren (remove order i)) (λ n. get_or now n nothing), length-map (remove order i) ren)))
+    (length-map (map ren (remove order i)) (λ n. get_or now n nothing) ∙ length-map (remove order i) ren ∙ sym (length-map (remove order i) (λ n. get_or es n nothing)))
+    (λ j d high. at_each j d (omega (arith, high, length-map (map ren (remove order i)) (λ n. get_or now n nothing), length-map (remove order i) ren)))
     ∙ map-remove (λ n. get_or es n nothing) order i
   where
     ren : ℕ → ℕ

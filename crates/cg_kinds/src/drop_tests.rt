@@ -112,7 +112,12 @@ fn assert_has(rt: &impl Abort, table: &Table, entries: &[Entry]) -> Result<(), F
 }
 
 /// One step at random, of a table and of a plain list.
-fn step(rt: &impl Abort, table: &mut Table, entries: &mut Vec<Entry>, draw: u64) -> Result<(), Fail> {
+fn step(
+    rt: &impl Abort,
+    table: &mut Table,
+    entries: &mut Vec<Entry>,
+    draw: u64,
+) -> Result<(), Fail> {
     let place = (draw / 8) as usize % (entries.len() + 1);
     if draw % 8 < 3 && place < entries.len() && place < table.len() {
         assert_eq!(rt; table.take(place), entries.remove(place));
@@ -127,7 +132,8 @@ fn step(rt: &impl Abort, table: &mut Table, entries: &mut Vec<Entry>, draw: u64)
 
 /// The next number at random.
 fn next(draw: u64) -> u64 {
-    draw.wrapping_mul(6_364_136_223_846_793_005).wrapping_add(1_442_695_040_888_963_407)
+    draw.wrapping_mul(6_364_136_223_846_793_005)
+        .wrapping_add(1_442_695_040_888_963_407)
 }
 
 #[test]

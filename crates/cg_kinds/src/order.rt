@@ -91,7 +91,11 @@ fn restart(starts: &mut [u32])
 const MOST: usize = 0xFFFF_FFFE;
 
 /// Makes room for one pair more.
-fn make_room(slots: &mut Vec<Option<u32>>, homes: &mut Vec<u32>, starts: &mut Vec<u32>) -> Result<(), AllocError>
+fn make_room(
+    slots: &mut Vec<Option<u32>>,
+    homes: &mut Vec<u32>,
+    starts: &mut Vec<u32>,
+) -> Result<(), AllocError>
     requires homes { AreHomes slots.old.items homes.old.items }
     requires starts { AreStarts slots.old.items starts.old.items }
     ensures slots { slots.new.items ≡ slots.old.items }
@@ -170,7 +174,11 @@ impl Order {
         ensures place { slice_get self.now result ≡ Some index }
         ensures only { (place : ℕ) → slice_get self.now place ≡ Some index → place ≡ result }
     {
-        pairs_before(self.slots.as_slice(), self.starts.as_slice(), self.homes[index] as usize)
+        pairs_before(
+            self.slots.as_slice(),
+            self.starts.as_slice(),
+            self.homes[index] as usize,
+        )
     }
 
     /// Takes the index at a place out. The last index is then called so.

@@ -83,7 +83,10 @@ pub fn slot_of(slots: &[Option<u32>], starts: &[u32], i: usize) -> usize
     let block = block_of(starts, i / BLOCK, i);
     let start = starts[block] as usize;
     let first = block * BLOCK;
-    if i - start < BLOCK && block + 1 < starts.len() && starts[block + 1] as usize == start + BLOCK {
+    if i - start < BLOCK
+        && block + 1 < starts.len()
+        && starts[block + 1] as usize == start + BLOCK
+    {
         // The block has no gap.
         first + (i - start)
     } else {

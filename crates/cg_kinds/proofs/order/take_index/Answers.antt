@@ -38,6 +38,6 @@ returns-else-moved-slot-clause-rest c =
     let there = last_there slots c.args.homes.now.items c.requires.homes rest moved c.take_last-moved.ensures.items in
     let still = still_there slots c.args.homes.now.items c.requires.homes rest moved c.take_last-moved.ensures.items c.args.slot c.if-moved-slot.false in
     indexes-refilled (length rest) c.in-Some.index (set slots c.args.slot None) moved still
-      (λ other is. one_slot slots c.args.homes.now.items c.requires.homes (length rest) moved other there (left_there slots c.args.homes.now.items c.requires.homes c.args.slot other (length rest) is).1)
+    (λ other is. one_slot slots c.args.homes.now.items c.requires.homes (length rest) moved other there (left_there slots c.args.homes.now.items c.requires.homes c.args.slot other (length rest) is).1)
     ∙ ap (map (renamed (length rest) c.in-Some.index)) (indexes-gap slots c.args.slot c.in-Some.index c.in-Some.is)
     ∙ sym (ap (λ n. map (renamed n c.in-Some.index) (remove (indexes slots) (pairs_before slots c.args.slot))) last)

@@ -9,7 +9,7 @@ pub lower-requires : goal.lower-requires
 lower-requires c =
     let there = pair_of c.args.slots.now c.args.slot c.requires.there in
     each_behind c.args.starts.now (c.args.slot / 64 + 1) (block_behind c.args.slots.now c.args.starts.now c.requires.starts c.args.slot there.within)
-      (λ block behind within. behind_positive c.args.slots.now c.args.starts.now c.requires.starts c.args.slot there.index there.is block (omega (arith, behind)) within)
+    (λ block behind within. behind_positive c.args.slots.now c.args.starts.now c.requires.starts c.args.slot there.index there.is block (omega (arith, behind)) within)
 
 pub returns : goal.returns
 returns c =

@@ -14,8 +14,9 @@ invariant_of-self-2 c =
     let index_is : c.len-index.result ≡ length homes = omega (arith, c.len-index.ensures, ap length c.make_room.ensures.homes) in
     let slot_is : c.len-slot.result ≡ length items = omega (arith, c.len-slot.ensures, ap length c.make_room.ensures.slots) in
     let slots_are : c.push_reserved.new.self.items ≡ items ++ Some (length homes) ∷ [] =
-      c.push_reserved.ensures.items ∙ ap (λ l. l ++ Some c.len-index.result ∷ []) c.make_room.ensures.slots ∙ ap (λ n. items ++ Some n ∷ []) index_is in
+    c.push_reserved.ensures.items ∙ ap (λ l. l ++ Some c.len-index.result ∷ []) c.make_room.ensures.slots ∙ ap (λ n. items ++ Some n ∷ []) index_is in
     let homes_are : c.push_reserved-2.new.self.items ≡ homes ++ length items ∷ [] =
-      c.push_reserved-2.ensures.items ∙ ap (λ l. l ++ c.len-slot.result ∷ []) c.make_room.ensures.homes ∙ ap (λ n. homes ++ n ∷ []) slot_is in
-    (subst (λ l. AreHomes l c.push_reserved-2.new.self.items) (sym slots_are) (subst (AreHomes (items ++ Some (length homes) ∷ [])) (sym homes_are) (pushed_homes items homes c.self.invariant.0)),
-     subst (λ l. AreStarts l c.make_room.new.starts.items) (sym slots_are) (pushed_starts items (Some (length homes)) c.make_room.new.starts.items c.make_room.ensures.starts c.in_ok-make_room.ensures.block c.in_ok-make_room.ensures.small))
+    c.push_reserved-2.ensures.items ∙ ap (λ l. l ++ c.len-slot.result ∷ []) c.make_room.ensures.homes ∙ ap (λ n. homes ++ n ∷ []) slot_is in (
+      subst (λ l. AreHomes l c.push_reserved-2.new.self.items) (sym slots_are) (subst (AreHomes (items ++ Some (length homes) ∷ [])) (sym homes_are) (pushed_homes items homes c.self.invariant.0)),
+      subst (λ l. AreStarts l c.make_room.new.starts.items) (sym slots_are) (pushed_starts items (Some (length homes)) c.make_room.new.starts.items c.make_room.ensures.starts c.in_ok-make_room.ensures.block c.in_ok-make_room.ensures.small),
+    )

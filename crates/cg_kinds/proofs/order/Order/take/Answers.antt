@@ -26,4 +26,3 @@ returns-then-len-clause-within c = (taken_facts c.self.inside.slots.items c.self
 pub returns-else-len-clause-within : goal.returns-else-len-clause-within
 returns-else-len-clause-within c = (taken_facts c.self.inside.slots.items c.self.inside.homes.items c.self.invariant.0 c.slot_of-slot.result c.take_index-index.result c.args.i c.args.self.now
     (ap (λ l. get_or l c.slot_of-slot.result None) (sym c.as_mut_slice-2.ensures.value) ∙ c.take_index-index.ensures.index) c.self.view_is (ap (λ l. pairs_before l c.slot_of-slot.result) (sym c.as_slice.ensures.value) ∙ c.slot_of-slot.ensures.before)).1.1
-

@@ -11,7 +11,7 @@ returns-in-Some-order c =
     let pairs = c.self.inside.map.entries in
     let is = c.in-Some-order.is in
     sym (ordered_some pairs c.in-Some-order.order (subst (IsOrderOf (length pairs)) is c.self.invariant) (subst IsSoundOrder is c.sound.ensures) c.get_index_of.ensures.unique
-      c.in-Some.index c.place_of.result c.place_of.ensures.place c.place_of.ensures.only c.args.key (sym (find-pairs c.args.key pairs) ∙ sym c.get_index_of.ensures.index ∙ c.in-Some.is))
+    c.in-Some.index c.place_of.result c.place_of.ensures.place c.place_of.ensures.only c.args.key (sym (find-pairs c.args.key pairs) ∙ sym c.get_index_of.ensures.index ∙ c.in-Some.is))
     ∙ sym (ap (λ o. position (has_key c.args.key) (ordered pairs o)) is)
     ∙ ap (position (has_key c.args.key)) c.self.view_is
 

@@ -7,13 +7,13 @@ use Rattle.cg_kinds.proofs.table.Table.note_order.Goals as goal
 use Rattle.cg_kinds.proofs.table.Table.note_order.Goals.{in-Some-1, in-None-1}
 
 pub invariant_of-self-in-Ok-2 : goal.invariant_of-self-in-Ok-2
-invariant_of-self-in-Ok-2 c = ap length (c.in-Ok.ensures _) ∙ length-range_with_len 0 c.len-count.result ∙ c.len-count.ensures.len
+invariant_of-self-in-Ok-2 c = ap length c.in-Ok.ensures ∙ length-range_with_len 0 c.len-count.result ∙ c.len-count.ensures.len
 
 pub returns-in-Ok : goal.returns-in-Ok
 returns-in-Ok c =
     let pairs = c.self.inside.map.entries in
     let same : picked (pairs_of pairs) c.in-Ok.order ≡ c.args.self.now =
-      ap (picked (pairs_of pairs)) (c.in-Ok.ensures _)
-      ∙ picked_all (pairs_of pairs) c.len-count.result (c.len-count.ensures.len ∙ sym (length-map pairs pair_entry))
-      ∙ sym (ap (ordered pairs) c.in-None.is) ∙ c.self.view_is in
+    ap (picked (pairs_of pairs)) c.in-Ok.ensures
+    ∙ picked_all (pairs_of pairs) c.len-count.result (c.len-count.ensures.len ∙ sym (length-map pairs pair_entry))
+    ∙ sym (ap (ordered pairs) c.in-None.is) ∙ c.self.view_is in
     elim c.match-self-2.branch [ in-Some-1 w ↦ w.self-is ∙ same | in-None-1 w ↦ w.self-is ∙ same ]
