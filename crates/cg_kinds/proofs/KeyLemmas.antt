@@ -2,6 +2,8 @@
 use Rattle.std.proofs.Common.{◌≡◌, ◌≢◌, ℕ, pred, ℤ, pos, negsuc, Bool, true, false, refl, sym, ap, ◌∙◌, inl, inr, eqb}
 use Rattle.std.specs.Prelude.{nat_abs}
 use Rattle.std.proofs.lemmas.Bool.{cases_eq, eq-eqb, ne_eqb}
+use Rattle.std.proofs.lemmas.Bool.Decides.{nat_tests}
+use Rattle.std.proofs.Common.{arith}
 use Rattle.std.specs.Cmp.{signed_Decides}
 use Rattle.std.specs.Ordering.{int_eq}
 use Rattle.cg_value.specs.declared.Val.{Val}
@@ -65,3 +67,25 @@ equal-same_value (Ref o) (Ref p) = swapped o p
 
 pub equal_is : (a b : Val) → equal a b ≡ same_value b a
 equal_is = equal-same_value
+
+same_nat : (a b : ℕ) → eqb a b ≡ true → a ≡ b
+same_nat a b is = grind (arith, nat_tests, is)
+
+-- values that are the same are equal
+pub same_is : (a b : Val) → same_value a b ≡ true → a ≡ b
+same_is Nothing Nothing is = refl
+same_is Nothing (Int n) is = absurd (cc)
+same_is Nothing (Str t) is = absurd (cc)
+same_is Nothing (Ref p) is = absurd (cc)
+same_is (Int m) Nothing is = absurd (cc)
+same_is (Int m) (Int n) is = ap Int (sym ((signed_Decides n m).0 (int_eq-same_int n m ∙ is)))
+same_is (Int m) (Str t) is = absurd (cc)
+same_is (Int m) (Ref p) is = absurd (cc)
+same_is (Str s) Nothing is = absurd (cc)
+same_is (Str s) (Int n) is = absurd (cc)
+same_is (Str s) (Str t) is = ap Str (same_nat s t is)
+same_is (Str s) (Ref p) is = absurd (cc)
+same_is (Ref o) Nothing is = absurd (cc)
+same_is (Ref o) (Int n) is = absurd (cc)
+same_is (Ref o) (Str t) is = absurd (cc)
+same_is (Ref o) (Ref p) is = ap Ref (same_nat o p is)

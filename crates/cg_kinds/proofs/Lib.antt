@@ -4,3 +4,6 @@ mod ItemLemmas
 mod PairLemmas
 mod TestLemmas
 mod FewLemmas
+mod SlotLemmas
+mod OrderLemmas
+mod TableLemmas

@@ -1,3 +1,4 @@
 pub mod Places
 pub mod Contents
 pub mod Pairs
+pub mod Order

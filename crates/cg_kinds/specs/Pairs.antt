@@ -1,11 +1,12 @@
 -- The body of a dictionary or an instance. (Ours.)
-use Rattle.std.specs.Prelude.{◌≡◌, ◌⊎◌, ◌++◌, map, List, [], Option, Some, None, Box}
+use Rattle.std.specs.Prelude.{◌≡◌, ◌⊎◌, ◌++◌, ◌<◌, ℕ, map, length, slice_index_or, List, [], Option, Some, None, Box}
 use Rattle.std.proofs.Common.{Global}
-use Rattle.indexmap.specs.IndexMap.{IndexMap}
 use Rattle.cg_value.specs.declared.Val.{Val}
+use Rattle.cg_value.specs.declared.Val.TheVariants as val
 use Rattle.cg_value.specs.declared.Entry.{Entry}
 use Rattle.cg_value.specs.declared.KindCode.{KindCode}
 use Rattle.cg_value.specs.declared.KindCode.TheVariants as code
+use Rattle.cg_kinds.specs.Order.{IsSound}
 use Rattle.cg_kind.specs.Bodies.{Body, body_of}
 
 -- dictionaries and instances hold values under keys
@@ -16,10 +17,36 @@ IsKeyed kind = (kind ≡ code.Dict) ⊎ (kind ≡ code.Inst)
 abbrev pub pair_entry : Val × Val → Entry
 pair_entry p = record { key = p.0; val = p.1 }
 
--- the pairs of a map that may be there, as entries, in its order
-abbrev pub pairs_in : {S : Type 0} → Option (Box (IndexMap Val Val S) Global) → List Entry
-pairs_in None = []
-pairs_in (Some b) = map pair_entry b.value.entries
+-- the pairs of a map, as entries
+abbrev pub pairs_of : List (Val × Val) → List Entry
+pairs_of pairs = map pair_entry pairs
+
+-- what stands past the last entry
+abbrev pub nothing : Entry
+nothing = record { key = val.None; val = val.None }
+
+-- the entries at these indexes
+abbrev pub picked : List Entry → List ℕ → List Entry
+picked entries order = map (λ index. slice_index_or entries index nothing) order
+
+-- the pairs of a map, as entries, in its own order or in another
+abbrev pub ordered : List (Val × Val) → Option (List ℕ) → List Entry
+ordered pairs None = pairs_of pairs
+ordered pairs (Some order) = picked (pairs_of pairs) order
+
+-- an order of so many pairs
+abbrev pub IsOrderOf : ℕ → Option (List ℕ) → Type 0
+IsOrderOf count None = Unit {0}
+IsOrderOf count (Some order) = length order ≡ count
+
+abbrev pub IsSoundOrder : Option (List ℕ) → Type 0
+IsSoundOrder None = Unit {0}
+IsSoundOrder (Some order) = IsSound order
+
+-- the pairs of a table that may be there
+abbrev pub entries_in : Option (Box (List Entry) Global) → List Entry
+entries_in None = []
+entries_in (Some b) = b.value
 
 -- these few entries, and more behind them
 abbrev pub pairs_body : List Entry → List Entry → Body

@@ -11,12 +11,17 @@
 
 mod body_slab;
 mod contents;
+#[cfg(test)]
+mod drop_tests;
 mod few;
 mod func;
 mod items;
 mod list;
 mod more;
+mod order;
 mod pairs;
+mod slots;
+mod table;
 #[cfg(test)]
 mod tests;
 mod tuple;

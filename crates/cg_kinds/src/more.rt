@@ -3,25 +3,25 @@ ghost use Rattle.std.specs.Prelude.{◌≡◌, ◌<◌, ◌^◌, ◌++◌, [], l
 ghost use Rattle.cg_graph.specs.Value.{value_at, put};
 ghost use Rattle.cg_kind.specs.Calls.{has_key};
 
+use crate::table::Table;
 use cg_value::{Entry, Val};
-use indexmap::IndexMap;
 use std::alloc::{AllocError, Global};
 use std::marker::Model;
 
 /// Pairs in the order in which their keys came. It takes no memory before the first.
 #[derive(Drop)]
 pub struct More {
-    map: Option<Box<IndexMap<Val, Val>>>,
+    table: Option<Box<Table>>,
 }
 
 impl Model for More {
-    ghost use Rattle.std.specs.Prelude.{List, map};
+    ghost use Rattle.std.specs.Prelude.{List};
     ghost use Rattle.cg_value.specs.declared.Entry.{Entry};
-    ghost use Rattle.cg_kinds.specs.Pairs.{pair_entry, pairs_in};
+    ghost use Rattle.cg_kinds.specs.Pairs.{entries_in};
 
     ghost Value = { List Entry };
 
-    ghost view = { λ m. pairs_in m.map };
+    ghost view = { λ m. entries_in m.table };
 }
 
 impl More {
@@ -29,7 +29,7 @@ impl More {
     pub fn new() -> More
         ensures { result ≡ [] }
     {
-        More { map: None }
+        More { table: None }
     }
 
     /// The number of pairs.
@@ -37,8 +37,8 @@ impl More {
         ensures count { result ≡ length self.now }
         ensures small { result < 2 ^ 63 }
     {
-        match &self.map {
-            Some(map) => map.len(),
+        match &self.table {
+            Some(table) => table.len(),
             None => 0,
         }
     }
@@ -48,14 +48,8 @@ impl More {
         requires { i < length self.now }
         ensures { slice_get self.now i ≡ Some result }
     {
-        match &self.map {
-            Some(map) => match map.get_index(i) {
-                Some((key, val)) => Entry {
-                    key: *key,
-                    val: *val,
-                },
-                None => unreachable!(),
-            },
+        match &self.table {
+            Some(table) => table.entry_at(i),
             None => unreachable!(),
         }
     }
@@ -64,8 +58,8 @@ impl More {
     pub fn find(&self, key: Val) -> Option<usize>
         ensures { result ≡ position (has_key key) self.now }
     {
-        match &self.map {
-            Some(map) => map.get_index_of(&key),
+        match &self.table {
+            Some(table) => table.find(key),
             None => None,
         }
     }
@@ -77,12 +71,12 @@ impl More {
         ensures present { IsSome (value_at self.old key) → IsOk result }
         ensures err { OnErr result (self.new ≡ self.old) }
     {
-        match &mut self.map {
-            Some(map) => Ok(map.insert(key, val)?),
+        match &mut self.table {
+            Some(table) => Ok(table.put(key, val)?),
             None => {
-                let mut map = IndexMap::new(alloc);
-                let _ = map.insert(key, val)?;
-                self.map = Some(Box::new(alloc, map)?);
+                let mut table = Table::new(alloc);
+                let _ = table.put(key, val)?;
+                self.table = Some(Box::new(alloc, table)?);
                 Ok(None)
             }
         }
@@ -94,11 +88,8 @@ impl More {
         ensures entry { slice_get self.old i ≡ Some result }
         ensures rest { self.new ≡ remove self.old i }
     {
-        match &mut self.map {
-            Some(map) => match map.shift_remove_index(i) {
-                Some((key, val)) => Entry { key, val },
-                None => unreachable!(),
-            },
+        match &mut self.table {
+            Some(table) => table.take(i),
             None => unreachable!(),
         }
     }
@@ -108,11 +99,8 @@ impl More {
         ensures pairs { self.old ≡ self.new ++ option_to_list result }
         ensures empty { IsNone result → self.old ≡ [] }
     {
-        match &mut self.map {
-            Some(map) => match map.pop() {
-                Some((key, val)) => Some(Entry { key, val }),
-                None => None,
-            },
+        match &mut self.table {
+            Some(table) => table.detach(),
             None => None,
         }
     }

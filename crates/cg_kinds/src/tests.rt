@@ -31,7 +31,7 @@ enum Step {
 }
 
 #[derive(Clone, Copy, Debug, PartialEq, Drop)]
-enum Answer {
+pub enum Answer {
     Nothing,
     Position(Option<usize>),
     Replaced(Option<Val>),
@@ -52,7 +52,7 @@ fn can_put(code: KindCode, count: usize, key: Val) -> bool
     }
 }
 
-fn put<K: Kind>(kind: &mut K, at: usize, key: Val, val: i64) -> Result<Answer, AllocError>
+pub fn put<K: Kind>(kind: &mut K, at: usize, key: Val, val: i64) -> Result<Answer, AllocError>
     requires { Holds (K.bodies kind.old) at }
     ensures { (place : ℕ) → Holds (K.bodies kind.old) place → Holds (K.bodies kind.new) place }
 {
@@ -70,7 +70,7 @@ fn answer_of(entry: Entry) -> Answer {
     }
 }
 
-fn take<K: Kind>(kind: &mut K, at: usize, i: usize) -> Answer
+pub fn take<K: Kind>(kind: &mut K, at: usize, i: usize) -> Answer
     requires { Holds (K.bodies kind.old) at }
     ensures { (place : ℕ) → Holds (K.bodies kind.old) place → Holds (K.bodies kind.new) place }
 {
@@ -148,7 +148,7 @@ fn listed(alloc: Global, pairs: &[(Val, i64)]) -> Result<Vec<Entry>, AllocError>
 }
 
 /// Makes an object.
-fn make<K: Kind>(kind: &mut K, parts: &[Entry]) -> Result<usize, AllocError>
+pub fn make<K: Kind>(kind: &mut K, parts: &[Entry]) -> Result<usize, AllocError>
     requires { IsParts (K.kind kind.old) parts.now }
     ensures held { IfOk result (λ at. Holds (K.bodies kind.new) at) }
     ensures others { (place : ℕ) → Holds (K.bodies kind.old) place → Holds (K.bodies kind.new) place }

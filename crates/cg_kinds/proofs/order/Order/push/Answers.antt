@@ -1,0 +1,22 @@
+use Rattle.std.proofs.Common.{◌≡◌, ◌∙◌, ◌++◌, ◌∷◌, [], ap, sym, Some, None, length, arith, subst}
+use Rattle.std.proofs.lemmas.Int.{ints}
+use Rattle.cg_kinds.specs.Order.{AreHomes, AreStarts}
+use Rattle.cg_kinds.proofs.OrderLemmas.{few_homes, pushed_homes, pushed_starts}
+use Rattle.cg_kinds.proofs.order.Order.push.Goals as goal
+
+pub overflow_cast-index : goal.overflow_cast-index
+overflow_cast-index c = omega (arith, ints, few_homes c.self.inside.slots.items c.self.inside.homes.items c.self.invariant.0, c.len-index.ensures, ap length c.make_room.ensures.homes, c.self.invariant.1.small)
+
+pub invariant_of-self-2 : goal.invariant_of-self-2
+invariant_of-self-2 c =
+    let items = c.self.inside.slots.items in
+    let homes = c.self.inside.homes.items in
+    let index_is : c.len-index.result ≡ length homes = omega (arith, c.len-index.ensures, ap length c.make_room.ensures.homes) in
+    let slot_is : c.len-slot.result ≡ length items = omega (arith, c.len-slot.ensures, ap length c.make_room.ensures.slots) in
+    let slots_are : c.push_reserved.new.self.items ≡ items ++ Some (length homes) ∷ [] =
+    c.push_reserved.ensures.items ∙ ap (λ l. l ++ Some c.len-index.result ∷ []) c.make_room.ensures.slots ∙ ap (λ n. items ++ Some n ∷ []) index_is in
+    let homes_are : c.push_reserved-2.new.self.items ≡ homes ++ length items ∷ [] =
+    c.push_reserved-2.ensures.items ∙ ap (λ l. l ++ c.len-slot.result ∷ []) c.make_room.ensures.homes ∙ ap (λ n. homes ++ n ∷ []) slot_is in (
+      subst (λ l. AreHomes l c.push_reserved-2.new.self.items) (sym slots_are) (subst (AreHomes (items ++ Some (length homes) ∷ [])) (sym homes_are) (pushed_homes items homes c.self.invariant.0)),
+      subst (λ l. AreStarts l c.make_room.new.starts.items) (sym slots_are) (pushed_starts items (Some (length homes)) c.make_room.new.starts.items c.make_room.ensures.starts c.in_ok-make_room.ensures.block c.in_ok-make_room.ensures.small),
+    )

@@ -1,0 +1,7 @@
+use Rattle.std.proofs.Common.{◌∙◌, ap}
+use Rattle.cg_kinds.specs.Pairs.{pairs_of}
+use Rattle.cg_kinds.proofs.TableLemmas.{pairs_of-swap}
+use Rattle.cg_kinds.proofs.table.swap_out.Goals as goal
+
+pub returns-clause-rest : goal.returns-clause-rest
+returns-clause-rest c = ap pairs_of c.in-Some.ensures.entries ∙ pairs_of-swap c.args.map.now.entries c.args.index _ c.requires

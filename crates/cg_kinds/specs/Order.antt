@@ -1,0 +1,47 @@
+-- The order in which the keys of a map came: an index of the map in each slot, or a gap. (Ours.)
+use Rattle.std.specs.Prelude.{◌≡◌, ℕ, ◌+◌, ◌*◌, ◌-◌, ◌<◌, ◌≤◌, ◌^◌, ◌==◌, List, Option, None, Some, All, length, map, take, slice_get, slice_index, slice_index_or, if◌then◌else◌}
+use Rattle.std.specs.List.{flat_map}
+use Rattle.std.specs.Option.{option_to_list}
+
+-- the indexes in the slots, in order
+abbrev pub indexes : List (Option ℕ) → List ℕ
+indexes slots = flat_map option_to_list slots
+
+-- how many pairs are in the slots before one
+abbrev pub pairs_before : List (Option ℕ) → ℕ → ℕ
+pairs_before slots slot = length (indexes (take slot slots))
+
+-- slots and homes say the same of each index, and each index has a slot
+pub record AreHomes (slots : List (Option ℕ)) (homes : List ℕ) : Type 0 where
+  pub home : (index : ℕ) → index < length homes → slice_index_or slots (slice_index homes index) None ≡ Some index
+  pub within : (slot index : ℕ) → slice_index_or slots slot None ≡ Some index → index < length homes
+  pub at_home : (slot index : ℕ) → slice_index_or slots slot None ≡ Some index → slice_index homes index ≡ slot
+  pub each : length (indexes slots) ≡ length homes
+
+-- the slots of these homes, once the gaps between them are closed
+pub record AreClosed (slots : List (Option ℕ)) (homes : List ℕ) : Type 0 where
+  pub was : List (Option ℕ)
+  pub homes_were : AreHomes was homes
+  pub closed : slots ≡ map (λ index. Some index) (indexes was)
+
+-- each block of 64 slots has a start, the number of pairs in the slots before it
+pub record AreStarts (slots : List (Option ℕ)) (starts : List ℕ) : Type 0 where
+  pub start : (block : ℕ) → block < length starts → slice_index starts block ≡ pairs_before slots (64 * block)
+  pub covered : length slots ≤ 64 * length starts
+  pub close : 64 * length starts ≤ length slots + 64
+  pub small : length slots < 2 ^ 32
+
+-- the index of a pair after the pair at one index is gone, and the last has come to its place
+abbrev pub renamed : ℕ → ℕ → ℕ → ℕ
+renamed last gone index = if index == last then gone else index
+
+-- the one place of an index in an order
+pub record HasPlace (order : List ℕ) (index : ℕ) : Type 0 where
+  pub place : ℕ
+  pub at : slice_get order place ≡ Some index
+  pub only : (other : ℕ) → slice_get order other ≡ Some index → other ≡ place
+
+-- each index below the length stands in the order once, and no other
+pub record IsSound (order : List ℕ) : Type 0 where
+  pub within : All (λ index. index < length order) order
+  pub placed : (index : ℕ) → index < length order → HasPlace order index

@@ -1,0 +1,156 @@
+//! Keys that are dropped in large numbers. What a dictionary answers is what a plain list in order of insertion would.
+ghost use Rattle.std.specs.Prelude.{◌≡◌, ◌+◌, ◌<◌, ◌≤◌, ◌^◌, ℕ, [], length, IfOk, OnOk};
+ghost use Rattle.cg_kind.specs.Bodies.{Holds};
+ghost use Rattle.cg_kind.specs.Calls.{IsParts};
+
+use crate::DictKind;
+use crate::table::Table;
+use crate::tests::{Answer, make, put, take};
+use cg_kind::Kind;
+use cg_value::{Entry, Val};
+use std::alloc::{AllocError, Global};
+use std::process::Abort;
+use std::test::Fail;
+
+/// Takes the pair at a place, which a search for its key must find.
+fn drop_key<K: Kind>(
+    rt: &impl Abort,
+    kind: &mut K,
+    at: usize,
+    place: usize,
+    key: u64,
+) -> Result<(), Fail>
+    requires { Holds (K.bodies kind.old) at }
+    ensures { Holds (K.bodies kind.new) at }
+{
+    assert_eq!(rt; kind.find(at, Val::Ref(key)), Some(place));
+    assert_eq!(rt; take(kind, at, place), Answer::Entry(Val::Ref(key), 7));
+    assert_eq!(rt; kind.find(at, Val::Ref(key)), None);
+    Ok(())
+}
+
+/// A dictionary with so many keys.
+fn filled<K: Kind>(kind: &mut K, count: u64) -> Result<usize, AllocError>
+    requires { IsParts (K.kind kind.old) [] }
+    ensures { IfOk result (λ at. Holds (K.bodies kind.new) at) }
+{
+    let at = make(kind, &[])?;
+    'keys: for key in 0..count {
+        put(kind, at, Val::Ref(key), 7)?;
+    }
+    Ok(at)
+}
+
+#[test]
+fn a_hundred_thousand_keys_go_oldest_first(rt: HostRuntime) -> Result<(), Fail> {
+    let mut kind = DictKind::new(rt.alloc());
+    let at = filled(&mut kind, 100_000)?;
+    'keys: for key in 0u64..100_000 {
+        drop_key(&rt, &mut kind, at, 0, key)?;
+    }
+    assert_eq!(&rt; kind.len(at), 0);
+    Ok(())
+}
+
+#[test]
+fn a_hundred_thousand_keys_go_newest_first(rt: HostRuntime) -> Result<(), Fail> {
+    let mut kind = DictKind::new(rt.alloc());
+    let at = filled(&mut kind, 100_000)?;
+    'keys: for gone in 0u64..100_000 {
+        drop_key(&rt, &mut kind, at, 99_999 - gone as usize, 99_999 - gone)?;
+    }
+    assert_eq!(&rt; kind.len(at), 0);
+    Ok(())
+}
+
+#[test]
+fn a_hundred_thousand_keys_go_from_the_middle(rt: HostRuntime) -> Result<(), Fail> {
+    let mut kind = DictKind::new(rt.alloc());
+    let at = filled(&mut kind, 100_000)?;
+    'keys: for gone in 0u64..50_000 {
+        drop_key(&rt, &mut kind, at, 50_000 - gone as usize, 50_000 + gone)?;
+        drop_key(&rt, &mut kind, at, 49_999 - gone as usize, 49_999 - gone)?;
+    }
+    assert_eq!(&rt; kind.len(at), 0);
+    Ok(())
+}
+
+#[test]
+fn a_hundred_thousand_keys_come_and_go_in_turn(rt: HostRuntime) -> Result<(), Fail> {
+    let mut kind = DictKind::new(rt.alloc());
+    let at = filled(&mut kind, 1_000)?;
+    'keys: for key in 0u64..100_000 {
+        drop_key(&rt, &mut kind, at, 0, key)?;
+        put(&mut kind, at, Val::Ref(key + 1_000), 7)?;
+    }
+    assert_eq!(&rt; kind.len(at), 1_000);
+    Ok(())
+}
+
+/// Puts a value under a key of a plain list of entries.
+fn put_plainly(entries: &mut Vec<Entry>, key: Val, val: Val) -> Result<(), AllocError> {
+    'entries: for i in 0..entries.len() {
+        if entries[i].key == key {
+            entries[i] = Entry { key, val };
+            return Ok(());
+        }
+    }
+    entries.push(Entry { key, val })?;
+    Ok(())
+}
+
+/// A table has these entries, and finds the key of each.
+fn assert_has(rt: &impl Abort, table: &Table, entries: &[Entry]) -> Result<(), Fail> {
+    assert_eq!(rt; table.len(), entries.len());
+    'entries: for i in 0..entries.len() {
+        if i < table.len() {
+            assert_eq!(rt; table.entry_at(i), entries[i]);
+            assert_eq!(rt; table.find(entries[i].key), Some(i));
+        }
+    }
+    Ok(())
+}
+
+/// One step at random, of a table and of a plain list.
+fn step(
+    rt: &impl Abort,
+    table: &mut Table,
+    entries: &mut Vec<Entry>,
+    draw: u64,
+) -> Result<(), Fail> {
+    let place = (draw / 8) as usize % (entries.len() + 1);
+    if draw % 8 < 3 && place < entries.len() && place < table.len() {
+        assert_eq!(rt; table.take(place), entries.remove(place));
+    } else {
+        let key = Val::Int((draw / 8 % 600) as i64);
+        let val = Val::Int((draw % 1000) as i64);
+        let _ = table.put(key, val)?;
+        put_plainly(entries, key, val)?;
+    }
+    Ok(())
+}
+
+/// The next number at random.
+fn next(draw: u64) -> u64 {
+    draw.wrapping_mul(6_364_136_223_846_793_005)
+        .wrapping_add(1_442_695_040_888_963_407)
+}
+
+#[test]
+fn steps_at_random_are_those_of_a_plain_list(rt: HostRuntime) -> Result<(), Fail> {
+    let alloc = rt.alloc();
+    let mut table = Table::new(alloc);
+    let mut entries = Vec::new(alloc);
+    let mut draw = 1;
+    'steps: for _ in 0..6_000 {
+        draw = next(draw);
+        step(&rt, &mut table, &mut entries, draw >> 20)?;
+        if draw % 16 == 0 {
+            assert_has(&rt, &table, entries.as_slice())?;
+        }
+    }
+    'ends: for _ in 0..600 {
+        assert_eq!(&rt; table.detach(), entries.pop());
+    }
+    Ok(())
+}

@@ -1,0 +1,210 @@
+//! The order in which keys came, of a map that fills holes with its last pair.
+ghost use Rattle.std.specs.Prelude.{◌≡◌, ◌≢◌, is_some, ◌+◌, ◌*◌, ◌-◌, ◌<◌, ◌≤◌, ◌^◌, ◌++◌, ◌∷◌, ℕ, [], All, length, map, None, Some, IfOk, IsSome, OnOk, OnErr, remove, slice_get, slice_index, slice_index_or, slice_set};
+ghost use Rattle.std.specs.List.{range_with_len};
+ghost use Rattle.std.specs.Vec.{vec_len, vec_capacity};
+ghost use Rattle.cg_kinds.specs.Order.{indexes, pairs_before as before, renamed, AreHomes, AreStarts, AreClosed, IsSound};
+
+use crate::slots::{BLOCK, lower_behind, pairs_before, slot_of};
+use std::alloc::{AllocError, Global};
+use std::marker::Model;
+
+/// The indexes of a map, in the order in which the keys came.
+#[derive(Drop)]
+pub struct Order {
+    /// The index of the pair in each slot; in a gap none.
+    slots: Vec<Option<u32>>,
+    /// The slot of the pair at each index.
+    homes: Vec<u32>,
+    /// The number of pairs before each block of slots.
+    starts: Vec<u32>,
+}
+
+impl Model for Order {
+    ghost use Rattle.std.specs.Prelude.{List, ℕ};
+    ghost use Rattle.cg_kinds.specs.Order.{indexes, AreHomes, AreStarts};
+
+    ghost Value = { List ℕ };
+
+    ghost view = { λ o. indexes o.slots.items };
+
+    ghost invariant = { λ o. AreHomes o.slots.items o.homes.items × AreStarts o.slots.items o.starts.items };
+}
+
+/// Takes the index out of a slot. The last pair comes to that index.
+fn take_index(slots: &mut [Option<u32>], homes: &mut Vec<u32>, slot: usize) -> usize
+    requires homes { AreHomes slots.old homes.old.items }
+    requires there { IsSome (slice_index_or slots.old slot None) }
+    ensures index { slice_index_or slots.old slot None ≡ Some result }
+    ensures homes { AreHomes slots.new homes.new.items }
+    ensures gap { (k : ℕ) → before slots.new k ≡ before (slice_set slots.old slot None) k }
+    ensures long { length slots.new ≡ length slots.old }
+    ensures rest { indexes slots.new ≡ map (renamed (length homes.old.items - 1) result) (remove (indexes slots.old) (before slots.old slot)) }
+{
+    match slots[slot] {
+        Some(index) => {
+            slots[slot] = None;
+            let moved = homes.take_last();
+            if moved as usize == slot {
+                index as usize
+            } else {
+                homes[index as usize] = moved;
+                slots[moved as usize] = Some(index);
+                index as usize
+            }
+        }
+        None => unreachable!(),
+    }
+}
+
+/// Closes the gaps between slots.
+fn close_gaps(slots: &mut Vec<Option<u32>>)
+    ensures { slots.new.items ≡ map (λ index. Some index) (indexes slots.old.items) }
+{
+    slots.retain(|slot| slot.is_some());
+}
+
+/// The homes, once the gaps between slots are closed.
+fn settle(slots: &[Option<u32>], homes: &mut [u32])
+    requires closed { AreClosed slots.now homes.old }
+    requires small { length slots.now < 2 ^ 32 }
+    ensures { AreHomes slots.now homes.new }
+{
+    'slots: for slot in 0..slots.len() {
+        if let Some(index) = slots[slot] {
+            homes[index as usize] = slot as u32;
+        }
+    }
+}
+
+/// The starts of blocks that have no gap.
+fn restart(starts: &mut [u32])
+    requires { 64 * length starts.old < 2 ^ 32 + 64 }
+    ensures long { length starts.new ≡ length starts.old }
+    ensures start { (block : ℕ) → block < length starts.new → slice_index starts.new block ≡ 64 * block }
+{
+    'starts: for block in 0..starts.len() {
+        starts[block] = (block * BLOCK) as u32;
+    }
+}
+
+/// With so many slots it takes no more.
+const MOST: usize = 0xFFFF_FFFE;
+
+/// Makes room for one pair more.
+fn make_room(
+    slots: &mut Vec<Option<u32>>,
+    homes: &mut Vec<u32>,
+    starts: &mut Vec<u32>,
+) -> Result<(), AllocError>
+    requires homes { AreHomes slots.old.items homes.old.items }
+    requires starts { AreStarts slots.old.items starts.old.items }
+    ensures slots { slots.new.items ≡ slots.old.items }
+    ensures homes { homes.new.items ≡ homes.old.items }
+    ensures starts { AreStarts slots.old.items starts.new.items }
+    ensures room { OnOk result (vec_len slots.new < vec_capacity slots.new) }
+    ensures room_at_home { OnOk result (vec_len homes.new < vec_capacity homes.new) }
+    ensures block { OnOk result (length slots.old.items < 64 * length starts.new.items) }
+    ensures small { OnOk result (length slots.old.items + 1 < 2 ^ 32) }
+{
+    let slot = slots.len();
+    if slot >= MOST {
+        return Err(AllocError);
+    }
+    slots.reserve(1)?;
+    homes.reserve(1)?;
+    if slot / BLOCK == starts.len() {
+        starts.push(homes.len() as u32)?;
+        Ok(())
+    } else {
+        Ok(())
+    }
+}
+
+impl Order {
+    /// The indexes below a number, in their own order.
+    pub fn new(alloc: Global, count: usize) -> Result<Order, AllocError>
+        ensures { IfOk result (λ order. order ≡ range_with_len 0 count) }
+    {
+        let mut order = Order {
+            slots: Vec::with_capacity(alloc, count)?,
+            homes: Vec::with_capacity(alloc, count)?,
+            starts: Vec::new(alloc),
+        };
+        'indexes: for _ in 0..count {
+            order.push()?;
+        }
+        Ok(order)
+    }
+
+    /// The next index goes last.
+    pub fn push(&mut self) -> Result<(), AllocError>
+        ensures ok { OnOk result (self.new ≡ self.old ++ length self.old ∷ []) }
+        ensures err { OnErr result (self.new ≡ self.old) }
+    {
+        make_room(&mut self.slots, &mut self.homes, &mut self.starts)?;
+        let slot = self.slots.len();
+        let index = self.homes.len();
+        self.slots.push_reserved(Some(index as u32));
+        self.homes.push_reserved(slot as u32);
+        Ok(())
+    }
+
+    /// Costs nothing: each index stands at one place.
+    pub fn sound(&self)
+        ensures { IsSound self.now }
+    {
+        let _count = self.slots.len();
+    }
+
+    /// The index at a place.
+    pub fn index_at(&self, i: usize) -> usize
+        requires { i < length self.now }
+        ensures index { slice_get self.now i ≡ Some result }
+        ensures within { result < length self.now }
+    {
+        match self.slots[slot_of(self.slots.as_slice(), self.starts.as_slice(), i)] {
+            Some(index) => index as usize,
+            None => unreachable!(),
+        }
+    }
+
+    /// The place of an index.
+    pub fn place_of(&self, index: usize) -> usize
+        requires { index < length self.now }
+        ensures place { slice_get self.now result ≡ Some index }
+        ensures only { (place : ℕ) → slice_get self.now place ≡ Some index → place ≡ result }
+    {
+        pairs_before(
+            self.slots.as_slice(),
+            self.starts.as_slice(),
+            self.homes[index] as usize,
+        )
+    }
+
+    /// Takes the index at a place out. The last index is then called so.
+    pub fn take(&mut self, i: usize) -> usize
+        requires { i < length self.old }
+        ensures index { slice_get self.old i ≡ Some result }
+        ensures within { result < length self.old }
+        ensures rest { self.new ≡ map (renamed (length self.old - 1) result) (remove self.old i) }
+        ensures others { All (λ index. (index < length self.old) × (index ≢ result)) (remove self.old i) }
+    {
+        let slot = slot_of(self.slots.as_slice(), self.starts.as_slice(), i);
+        lower_behind(self.slots.as_slice(), self.starts.as_mut_slice(), slot);
+        let index = take_index(self.slots.as_mut_slice(), &mut self.homes, slot);
+        if self.homes.len() < self.slots.len() / 2 {
+            self.close();
+        }
+        index
+    }
+
+    /// Closes the gaps.
+    fn close(&mut self)
+        ensures { self.new ≡ self.old }
+    {
+        close_gaps(&mut self.slots);
+        settle(self.slots.as_slice(), self.homes.as_mut_slice());
+        self.starts.truncate((self.slots.len() + BLOCK - 1) / BLOCK);
+        restart(self.starts.as_mut_slice());
+    }
+}

@@ -1,0 +1,210 @@
+//! Pairs in the order in which their keys came, in a map that may have another order.
+ghost use Rattle.std.specs.Prelude.{◌≡◌, ◌<◌, ◌^◌, ◌++◌, ◌∷◌, [], length, Some, None, IfSome, IfNone, IsNone, IsSome, IsOk, IfOk, OnOk, OnErr, OnSome, option_to_list, position, slice_get, remove, swap_remove, take, slice_index_or, option_map, ◌-◌};
+ghost use Rattle.cg_graph.specs.Value.{value_at, put};
+ghost use Rattle.cg_kind.specs.Calls.{has_key};
+ghost use Rattle.cg_kinds.specs.Pairs.{pairs_of, nothing, IsSoundOrder};
+
+use crate::order::Order;
+use cg_value::{Entry, Val};
+use indexmap::IndexMap;
+use std::alloc::{AllocError, Global};
+use std::marker::Model;
+
+/// Pairs in the order in which their keys came.
+///
+/// The map keeps that order itself until a pair with many behind it is taken out.
+#[derive(Drop)]
+pub struct Table {
+    map: IndexMap<Val, Val>,
+    order: Option<Order>,
+}
+
+impl Model for Table {
+    ghost use Rattle.std.specs.Prelude.{List, length};
+    ghost use Rattle.cg_value.specs.declared.Entry.{Entry};
+    ghost use Rattle.cg_kinds.specs.Pairs.{ordered, IsOrderOf};
+
+    ghost Value = { List Entry };
+
+    ghost view = { λ t. ordered t.map.entries t.order };
+
+    ghost invariant = { λ t. IsOrderOf (length t.map.entries) t.order };
+}
+
+/// At most so many pairs close the gap that one before them leaves.
+const CLOSE: usize = 16;
+
+/// The pair at an index of a map.
+fn pair_at(map: &IndexMap<Val, Val>, index: usize) -> Entry
+    requires { index < length map.now.entries }
+    ensures { result ≡ slice_index_or (pairs_of map.now.entries) index nothing }
+{
+    match map.get_index(index) {
+        Some((key, val)) => Entry {
+            key: *key,
+            val: *val,
+        },
+        None => unreachable!(),
+    }
+}
+
+/// Takes out the pair at an index. The last one comes to its place.
+fn swap_out(map: &mut IndexMap<Val, Val>, index: usize) -> Entry
+    requires { index < length map.old.entries }
+    ensures entry { result ≡ slice_index_or (pairs_of map.old.entries) index nothing }
+    ensures rest { pairs_of map.new.entries ≡ swap_remove (pairs_of map.old.entries) index nothing }
+{
+    match map.swap_remove_index(index) {
+        Some((key, val)) => Entry { key, val },
+        None => unreachable!(),
+    }
+}
+
+/// Takes out the pair at an index; those behind it move down by one.
+fn shift_out(map: &mut IndexMap<Val, Val>, index: usize) -> Entry
+    requires { index < length map.old.entries }
+    ensures entry { result ≡ slice_index_or (pairs_of map.old.entries) index nothing }
+    ensures rest { pairs_of map.new.entries ≡ remove (pairs_of map.old.entries) index }
+{
+    match map.shift_remove_index(index) {
+        Some((key, val)) => Entry { key, val },
+        None => unreachable!(),
+    }
+}
+
+/// Costs nothing: each index stands at one place of the order, if there is one.
+fn sound(order: &Option<Order>)
+    ensures { IsSoundOrder order.now }
+{
+    match order {
+        Some(order) => order.sound(),
+        None => {}
+    }
+}
+
+/// The pair that a map got last goes last in the order, or out of the map again.
+fn order_last(map: &mut IndexMap<Val, Val>, order: &mut Option<Order>) -> Result<(), AllocError>
+    ensures ok { OnOk result (map.new.entries ≡ map.old.entries) }
+    ensures order { OnOk result (order.new ≡ option_map (λ o. o ++ length o ∷ []) order.old) }
+    ensures err { OnErr result (map.new.entries ≡ take (length map.old.entries - 1) map.old.entries) }
+    ensures same_order { OnErr result (order.new ≡ order.old) }
+{
+    match order {
+        Some(order) => match order.push() {
+            Ok(()) => Ok(()),
+            Err(error) => {
+                let _ = map.pop();
+                Err(error)
+            }
+        },
+        None => Ok(()),
+    }
+}
+
+impl Table {
+    /// No pairs.
+    pub fn new(alloc: Global) -> Table
+        ensures { result ≡ [] }
+    {
+        Table {
+            map: IndexMap::new(alloc),
+            order: None,
+        }
+    }
+
+    /// The number of pairs.
+    pub fn len(&self) -> usize
+        ensures count { result ≡ length self.now }
+        ensures small { result < 2 ^ 63 }
+    {
+        self.map.len()
+    }
+
+    /// The pair at a position.
+    pub fn entry_at(&self, i: usize) -> Entry
+        requires { i < length self.now }
+        ensures { slice_get self.now i ≡ Some result }
+    {
+        match &self.order {
+            Some(order) => pair_at(&self.map, order.index_at(i)),
+            None => pair_at(&self.map, i),
+        }
+    }
+
+    /// The position of a key.
+    pub fn find(&self, key: Val) -> Option<usize>
+        ensures { result ≡ position (has_key key) self.now }
+    {
+        sound(&self.order);
+        match self.map.get_index_of(&key) {
+            Some(index) => match &self.order {
+                Some(order) => Some(order.place_of(index)),
+                None => Some(index),
+            },
+            None => None,
+        }
+    }
+
+    /// A present key gets the value, and a new one goes last. It answers the value that the key had.
+    pub fn put(&mut self, key: Val, val: Val) -> Result<Option<Val>, AllocError>
+        ensures ok { OnOk result (self.new ≡ put self.old key val) }
+        ensures replaced { IfOk result (λ was. was ≡ value_at self.old key) }
+        ensures present { IsSome (value_at self.old key) → IsOk result }
+        ensures err { OnErr result (self.new ≡ self.old) }
+    {
+        // The length is what says that the keys are unique.
+        let _count = self.map.len();
+        sound(&self.order);
+        match self.map.insert(key, val)? {
+            Some(was) => Ok(Some(was)),
+            None => {
+                order_last(&mut self.map, &mut self.order)?;
+                Ok(None)
+            }
+        }
+    }
+
+    /// Before a pair with many behind it goes, the map's order is noted down, if there is memory for it.
+    fn note_order(&mut self, i: usize)
+        requires { i < length self.old }
+        ensures { self.new ≡ self.old }
+    {
+        let count = self.map.len();
+        match &self.order {
+            Some(_) => {}
+            None => {
+                if count - i > CLOSE {
+                    if let Ok(order) = Order::new(*self.map.allocator(), count) {
+                        self.order = Some(order);
+                    }
+                }
+            }
+        }
+    }
+
+    /// Takes the pair at a position; those behind it move down by one.
+    pub fn take(&mut self, i: usize) -> Entry
+        requires { i < length self.old }
+        ensures entry { slice_get self.old i ≡ Some result }
+        ensures rest { self.new ≡ remove self.old i }
+    {
+        self.note_order(i);
+        match &mut self.order {
+            Some(order) => swap_out(&mut self.map, order.take(i)),
+            None => shift_out(&mut self.map, i),
+        }
+    }
+
+    /// Takes the last pair, if there is one.
+    pub fn detach(&mut self) -> Option<Entry>
+        ensures pairs { self.old ≡ self.new ++ option_to_list result }
+        ensures empty { IsNone result → self.old ≡ [] }
+    {
+        let count = self.map.len();
+        if count == 0 {
+            None
+        } else {
+            Some(self.take(count - 1))
+        }
+    }
+}
