@@ -11,11 +11,20 @@ points of `points.py`, and to have the form that this point can give it:
 
 What follows from a point later on, as another value under a name, is explained by nothing.
 """
+from typing import NamedTuple
+
 from .points import CALLBACKS, COLLECTION, CONTENTS, FINALIZED, FLAGS, GARBAGE, HELD, LATE
 from .texts import UNSEEN, Block, Item, Line, is_debug_line, last_place, seen, tree
 
 CONTAINERS = ("dict", "instance", "function")
 FIRST_SERIAL = 2
+
+
+class Collections(NamedTuple):
+    """The same collection in both texts."""
+
+    ours: Block
+    theirs: Block
 
 
 class Differs(Exception):
@@ -69,7 +78,7 @@ class Comparison:
 
     # items in turn
 
-    def match(self, ours: list[Item], theirs: list[Item], collection: Block | None) -> None:
+    def match(self, ours: list[Item], theirs: list[Item], collection: Collections | None) -> None:
         """Matches the items of a block, or of the whole texts."""
         mine = their = 0
         while mine < len(ours) or their < len(theirs):
@@ -102,7 +111,8 @@ class Comparison:
         elif isinstance(ours, Block) and isinstance(theirs, Block) and self.is_same(ours.head, theirs.head):
             if ours.is_collection:
                 self.match_debug_lines(ours, theirs)
-                self.match(without_debug_lines(ours.body), without_debug_lines(theirs.body), theirs)
+                bodies = without_debug_lines(ours.body), without_debug_lines(theirs.body)
+                self.match(*bodies, Collections(ours, theirs))
             else:
                 self.match(ours.body, theirs.body, None)
             if ours.tail is not None or theirs.tail is not None:
@@ -154,7 +164,7 @@ class Comparison:
 
     # frames that a death or a collection brings about
 
-    def match_frames(self, ours: list[Item], theirs: list[Item], collection: Block | None) -> int:
+    def match_frames(self, ours: list[Item], theirs: list[Item], collection: Collections | None) -> int:
         """Matches frames in any order; says how many of ours these are."""
         left = [item for item in ours if isinstance(item, Block) and item.is_free_to_move]
         waiting = list(theirs)
@@ -182,15 +192,22 @@ class Comparison:
                     return mine, their
         return None
 
-    def late_frame(self, ours: list[Block], theirs: list[Block], collection: Block | None) -> Block:
-        """A frame of the callback of a weak reference that a finalizer made in this very collection."""
-        made = words_of(collection.body) if collection is not None else set()
-        for frame in theirs:
-            if frame.words[1] == "callback" and ("made", "weakref", frame.words[2]) in made:
-                return frame
+    def late_frame(self, ours: list[Block], theirs: list[Block], collection: Collections | None) -> Block:
+        """A frame of the callback of a weak reference that a finalizer made in this very collection.
+
+        It has to lose its referent there in our text, which has no frame for it.
+        """
+        if collection is not None:
+            made = words_of(collection.theirs.body)
+            cleared = self.text[collection.ours.place : collection.ours.last]
+            for frame in theirs:
+                _, sort, serial = self.ours_for(frame.words)
+                is_new = ("made", "weakref", frame.words[2]) in made
+                if sort == "callback" and is_new and f"cleared {serial}" in cleared:
+                    return frame
         raise Differs(item_at(ours, 0), theirs[0])
 
-    def explain_order(self, pairs: list[tuple[Block, Block]], collection: Block | None) -> None:
+    def explain_order(self, pairs: list[tuple[Block, Block]], collection: Collections | None) -> None:
         """Says which point an order belongs to; outside collections something that gives up contents is to be gone."""
         if collection is not None:
             self.points.add(COLLECTION)

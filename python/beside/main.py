@@ -1,7 +1,7 @@
 """The command line.
 
-The status is 0 where the script has run, and in a comparison where the texts agree or differ in named points alone; 1 for
-a bad script, and where the texts differ otherwise; 2 where nothing can be said.
+The status is 0 where the script has run, and in a comparison where the texts agree or differ in named points alone; 1
+for a bad script, and where the texts differ otherwise; 2 where nothing can be said.
 """
 import argparse
 import gc
@@ -81,7 +81,6 @@ def run(script: Script, text: list[str] | None, automatic: bool) -> NoReturn:
         leave(AGREES)
 
     machine = Machine(script, ended, schedule, automatic)
-    sys.stderr = machine
     sys.setrecursionlimit(DEEPEST)
     sys.unraisablehook = lambda raised: leave(CANNOT_SAY, f"{raised.exc_type.__name__}: {raised.exc_value}")
     try:

@@ -66,7 +66,7 @@ def new_class(definition: ClassDefinition, run_finalizer: Callable[[str, object,
         return type(definition.name, (), namespace)
     if with_tp_del is None:
         raise Unsupported(
-            f"class {definition.name} has a legacy finalizer, and this Python has no module _testcapi to make one with"
+            f"class {definition.name} has a legacy finalizer, and this Python has no module _testcapi to make one"
         )
     namespace["__tp_del__"] = finalizer_of("legacy", definition.legacy, run_finalizer)
     return with_tp_del(type(definition.name, (), namespace))
@@ -136,7 +136,7 @@ class Registry:
 
 
 def is_named(found: object, names: dict[str, object]) -> bool:
-    """Whether a name is bound to the very object. A generator would be tracked behind the tuples that are looked for."""
+    """Whether a name is bound to the very object. A generator's cells would be tracked behind the tuples looked for."""
     for value in names.values():
         if value is found:
             return True

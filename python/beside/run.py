@@ -14,6 +14,7 @@ import gc
 import sys
 from typing import Callable, Iterable, NoReturn, Protocol
 
+from .collector import Collector
 from .compare import Evidence
 from .objects import (
     MOST_ATTRIBUTES,
@@ -26,7 +27,7 @@ from .objects import (
     new_function,
 )
 from .points import FINALIZED, GARBAGE, HELD
-from .reader import FLAGS, Command, Operand, Procedure, Script, Sort
+from .reader import Command, Operand, Procedure, Script, Sort
 
 NO_NAME = 1
 WRONG_KIND = 2
@@ -86,9 +87,8 @@ class Machine:
         self.held: dict[int, int] = {}
         self.attributes: dict[type, set[str]] = {}
         self.classes: dict[str, type] = {}
-        self.flags = 0
-        self.collecting = False
-        self.saved = 0
+        self.collector = Collector(self.registry, self.emit)
+        # how often CPython itself holds the garbage list
         self.garbage_base = 0
         self.methods = {name[3:]: getattr(self, name) for name in dir(self) if name.startswith("do_")}
 
@@ -101,7 +101,7 @@ class Machine:
         Function.run_callback = self.run_callback
         gc.collect()
         gc.freeze()
-        gc.callbacks.append(self.see_collection)
+        self.collector.watch()
         self.garbage_base = sys.getrefcount(gc.garbage) - 1
         if self.automatic:
             gc.enable()
@@ -131,7 +131,7 @@ class Machine:
 
     def collect_what_is_due(self, command: Command | None) -> None:
         """Starts the collections that are to start by themselves before a command."""
-        while self.schedule is not None and not self.collecting:
+        while self.schedule is not None and not self.collector.is_running:
             generation = self.schedule.due(self.lines, command)
             if generation is None:
                 return
@@ -181,32 +181,6 @@ class Machine:
         """Notes how often the reader itself holds an object."""
         self.held[address] = self.held.get(address, 0) + times
 
-    # collections
-
-    def see_collection(self, phase: str, info: dict[str, int]) -> None:
-        """Writes the lines of a collection's start and end: one of `gc.callbacks`."""
-        self.collecting = phase == "start"
-        generation = info["generation"]
-        if phase == "start":
-            self.emit(f"gc start {generation}")
-            if self.flags & FLAGS["stats"]:
-                self.do_gens(None, ())
-            return
-        for position in range(self.saved, len(gc.garbage)):
-            self.emit(f"gc saved #{self.registry.serial(gc.garbage[position])}")
-        self.saved = len(gc.garbage)
-        self.emit(f"gc stop {generation} {info['collected']} {info['uncollectable']}")
-
-    def write(self, text: str) -> int:
-        """Takes what is written to standard error: a line of the collector's is told by the address in it."""
-        word = text.split(" ", 2)[1] if text.startswith("gc: ") else ""
-        if word in ("collectable", "uncollectable"):
-            address = int(text[text.rindex(" ") + 1 : text.rindex(">")], 16)
-            self.emit(f"gc {word} #{self.registry.serials[address]}")
-        elif not text.startswith("gc: "):
-            sys.__stderr__.write(text)
-        return len(text)
-
     # values
 
     def is_bound(self, operand: Operand, frame: Frame | None) -> bool:
@@ -242,43 +216,43 @@ class Machine:
         return type(value) in self.attributes
 
     def bind(self, name: str, value: object) -> None:
-        """Binds a name; what it had is given up last."""
+        """Binds a name; what it had is given up last, when the reader itself holds nothing any more."""
         old = self.names.get(name)
         self.names[name] = value
         del value
         del old
 
-    def made(self, kind: str, name: str, value: object) -> None:
-        """Tells that an object was made, and binds it."""
+    def made(self, kind: str, value: object) -> object:
+        """Tells that an object was made, and hands it on."""
         self.emit(f"made {kind} #{self.registry.add(value)}")
-        old = self.names.get(name)
-        self.names[name] = value
-        del value
-        del old
+        return value
+
+    # Each command below is one of docs/SCRIPT.md, and answers as `perform` does. Where it gives something up, it holds
+    # nothing else by then.
 
     # commands that make an object
 
     def do_list(self, frame: Frame | None, parts: tuple) -> None:
         name, operands = parts
-        self.made("list", name, self.values(operands, frame))
+        self.bind(name, self.made("list", self.values(operands, frame)))
 
     def do_tuple(self, frame: Frame | None, parts: tuple) -> None:
         name, operands = parts
-        self.made("tuple", name, tuple(self.values(operands, frame)))
+        self.bind(name, self.made("tuple", tuple(self.values(operands, frame))))
 
     def do_dict(self, frame: Frame | None, parts: tuple) -> None:
         (name,) = parts
-        self.made("dict", name, {})
+        self.bind(name, self.made("dict", {}))
 
     def do_new(self, frame: Frame | None, parts: tuple) -> None:
         name, class_name = parts
         found = self.classes[class_name]
         self.attributes.setdefault(found, set())
-        self.made("instance", name, found())
+        self.bind(name, self.made("instance", found()))
 
     def do_func(self, frame: Frame | None, parts: tuple) -> None:
         name, procedure, cells = parts
-        self.made("function", name, new_function(procedure, self.values(cells, frame)))
+        self.bind(name, self.made("function", new_function(procedure, self.values(cells, frame))))
 
     def do_ref(self, frame: Frame | None, parts: tuple) -> int | None:
         name, referent, callback = parts
@@ -288,13 +262,8 @@ class Machine:
         function = self.value(callback, frame)
         if function is not None and type(function) is not Function:
             return NOT_CALLABLE
-        reference = WeakReference(target, function)
         del target, function
-        self.emit(f"made weakref #{self.registry.add(reference)}")
-        old = self.names.get(name)
-        self.names[name] = reference
-        del reference
-        del old
+        self.bind(name, self.made("weakref", WeakReference(self.value(referent, frame), self.value(callback, frame))))
 
     # commands on names
 
@@ -336,7 +305,7 @@ class Machine:
             return WRONG_KIND
         if not 0 <= index < len(target):
             return NO_INDEX
-        self.saved -= target is gc.garbage
+        self.collector.saved -= target is gc.garbage
         old = target.pop(index)
         del target
         del old
@@ -480,11 +449,11 @@ class Machine:
         gc.set_threshold(*parts)
 
     def do_debug(self, frame: Frame | None, parts: tuple) -> None:
-        self.flags = 0
+        flags = 0
         for bits in parts:
-            self.flags |= bits
-        gc.set_debug(self.flags)
-        if self.collecting:
+            flags |= bits
+        self.collector.set_flags(flags)
+        if self.collector.is_running:
             self.evidence.debugged.append(len(self.lines))
 
     def do_freeze(self, frame: Frame | None, parts: tuple) -> None:
@@ -536,5 +505,4 @@ class Machine:
         """Prints nothing: CPython counts other things too."""
 
     def do_gens(self, frame: Frame | None, parts: tuple) -> None:
-        young, middle, old = self.registry.size(0), self.registry.size(1), self.registry.size(2)
-        self.emit(f"gens {young} {middle} {old}")
+        self.collector.tell_sizes()

@@ -1,7 +1,7 @@
 """Makes random scripts over all commands, the same ones each time.
 
-A script keeps as a rule to names that it has bound, with objects of the kinds that its commands ask for, and now and then
-asks for something that is refused. What a procedure binds has a name of its own.
+A script keeps as a rule to names that it has bound, with objects of the kinds that its commands ask for, and now and
+then asks for something that is refused. What a procedure binds has a name of its own.
 """
 from random import Random
 

@@ -1,7 +1,7 @@
 """Makes the stored texts again: `python3 -m tests.make_texts GCRUN`, in the folder `python`.
 
-GCRUN is the built program, crates/gcrun/out/gcrun. The texts of the generated scripts go to tests/texts.jsonl, a line for
-each seed, and those of the scripts in `points` to files beside them.
+GCRUN is the built program, crates/gcrun/out/gcrun. The texts of the generated scripts go to tests/texts.jsonl, a line
+for each seed, and those of the scripts in `points` to files beside them.
 """
 import json
 import subprocess

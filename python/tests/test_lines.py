@@ -18,12 +18,14 @@ class Lines(unittest.TestCase):
 
     def test_lines_have_the_form_of_gcrun(self) -> None:
         script = "a = list; append a a; refs a; tracked a; finalized a; print a; gens; del a; collect"
-        expected = "made list #2; refs 2; tracked yes; finalized no; value #2; gens 1 0 0; gc start 2; gc stop 2 1 0; collected 1; end"
-        self.assertEqual(expected.split("; "), self.lines(script))
+        answers = "made list #2; refs 2; tracked yes; finalized no; value #2; gens 1 0 0"
+        collection = "gc start 2; gc stop 2 1 0; collected 1; end"
+        self.assertEqual(f"{answers}; {collection}".split("; "), self.lines(script))
 
     def test_looking_holds_nothing(self) -> None:
         script = "class C; a = new C; b = a; w = ref a; refs a; l = list a; refs a; del b; del l; refs a; refs garbage"
-        self.assertEqual(["refs 2", "refs 3", "refs 1", "refs 1"], [line for line in self.lines(script) if line[:4] == "refs"])
+        answers = [line for line in self.lines(script) if line.startswith("refs ")]
+        self.assertEqual(["refs 2", "refs 3", "refs 1", "refs 1"], answers)
 
     def test_a_replaced_value_dies_once_all_is_done(self) -> None:
         script = "def d; print x; refs x; end; class C del=d; x = new C; y = list; x = y"
