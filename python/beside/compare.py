@@ -4,7 +4,8 @@ Two texts agree where the lines that both show are the same. Where they are not,
 points of `points.py`, and to have the form that this point can give it:
 
 - an order is another one only among frames that one command brings about with no line of a command between, and these
-  frames are the same; objects that they make may then have other serials, the same way throughout;
+  frames are the same; objects that they make may then have other serials, the same way throughout; outside collections
+  an object is gone behind them whose contents they may be about, or a function between two callbacks;
 - a line that differs is an answer about an object of which the run notes that the point bears on it;
 - lines on saved objects differ only in a collection in which a frame set the debug flags;
 - a frame that CPython has alone is that of a callback of a weak reference which was made in the same collection.
@@ -16,7 +17,6 @@ from typing import NamedTuple
 from .points import CALLBACKS, COLLECTION, CONTENTS, FINALIZED, FLAGS, GARBAGE, HELD, LATE
 from .texts import UNSEEN, Block, Item, Line, is_debug_line, last_place, seen, tree
 
-CONTAINERS = ("dict", "instance", "function")
 FIRST_SERIAL = 2
 
 
@@ -44,6 +44,8 @@ class Evidence:
         self.starts: set[int] = set()
         # the points that bear on a line
         self.notes: dict[int, str] = {}
+        # the serials of dictionaries, instances and functions that have held two objects at a time
+        self.wide: set[str] = set()
         # where a command sets the debug flags while a collection is under way
         self.debugged: list[int] = []
 
@@ -208,25 +210,45 @@ class Comparison:
         raise Differs(item_at(ours, 0), theirs[0])
 
     def explain_order(self, pairs: list[tuple[Block, Block]], collection: Collections | None) -> None:
-        """Says which point an order belongs to; outside collections something that gives up contents is to be gone."""
+        """Says which points an order belongs to. The pairs are in CPython's order."""
         if collection is not None:
             self.points.add(COLLECTION)
             return
-        ours = sorted((mine for mine, _ in pairs), key=lambda block: block.place)
-        if not any(self.kinds.get(serial) in CONTAINERS for serial in self.gone(ours[0].place, ours[-1].last)):
-            raise Differs(ours[0], pairs[0][1])
-        theirs_of_rest = [mine for mine, _ in pairs if mine.words[1] != "callback"]
-        has_callbacks = len(pairs) - len(theirs_of_rest) > 1
-        rest = [mine for mine in ours if mine.words[1] != "callback"]
-        self.points.add(CALLBACKS if has_callbacks and rest == theirs_of_rest else CONTENTS)
+        theirs = [mine for mine, _ in pairs]
+        moved = moved_frames(theirs)
+        callbacks = [frame for frame in theirs if frame.words[1] == "callback"]
+        is_past_callback = any(frame in callbacks for frame in moved)
+        if is_past_callback and "function" in map(self.kinds.get, self.freed(callbacks[0].place, callbacks[-1].place)):
+            self.points.add(CALLBACKS)
+            theirs = [frame for frame in theirs if frame not in callbacks]
+            moved = moved_frames(theirs)
+        if moved:
+            self.explain_contents(moved, theirs)
 
-    def gone(self, first: int, last: int) -> list[str]:
-        """The objects that are freed in a part of our text, and in the lines at its ends that CPython doesn't show."""
-        while first > 0 and self.text[first - 1].split(" ")[0] in UNSEEN:
-            first -= 1
+    def explain_contents(self, moved: list[Block], frames: list[Block]) -> None:
+        """Wants an object whose contents may have brought about the frames that moved.
+
+        It has held two objects, is gone after these frames, and is none of those that they are about.
+        """
+        last = max(frame.last for frame in frames)
         while last + 1 < len(self.text) and self.text[last + 1].split(" ")[0] in UNSEEN:
             last += 1
+        wide = {self.renamed.get(serial, serial) for serial in self.evidence.wide}
+        about = {frame.words[2] for frame in moved}
+        if not (wide - about).intersection(self.freed(moved[-1].last, last)):
+            raise Differs(moved[0], None)
+        self.points.add(CONTENTS)
+
+    def freed(self, first: int, last: int) -> list[str]:
+        """The objects that are gone in a part of our text."""
         return [line.split(" ")[1] for line in self.text[first : last + 1] if line.startswith("free ")]
+
+
+def moved_frames(theirs: list[Block]) -> list[Block]:
+    """Our frames from the first to the last that stands elsewhere in CPython's order, in our order."""
+    ours = sorted(theirs, key=lambda frame: frame.place)
+    places = [place for place, frame in enumerate(ours) if frame is not theirs[place]]
+    return ours[places[0] : places[-1] + 1] if places else []
 
 
 def item_at(items: list, place: int) -> Item | None:

@@ -222,9 +222,19 @@ class Machine:
         del value
         del old
 
+    def note_contents(self, holder: object) -> None:
+        """Notes where a dictionary, an instance or a function holds two objects, so that their order may be seen."""
+        held = 0
+        for found in gc.get_referents(holder):
+            held += self.registry.is_of_script(found)
+        if held > 1:
+            self.evidence.wide.add(f"#{self.registry.serial(holder)}")
+
     def made(self, kind: str, value: object) -> object:
         """Tells that an object was made, and hands it on."""
         self.emit(f"made {kind} #{self.registry.add(value)}")
+        if kind == "function":
+            self.note_contents(value)
         return value
 
     # Each command below is one of docs/SCRIPT.md, and answers as `perform` does. Where it gives something up, it holds
@@ -345,6 +355,7 @@ class Machine:
         target, found = self.value(operand, frame), self.value(key, frame)
         old = target.get(found)
         target[found] = self.value(value, frame)
+        self.note_contents(target)
         del target, found
         del old
 
@@ -383,6 +394,7 @@ class Machine:
         self.note_attribute(type(target), name)
         old = getattr(target, attribute(name), None)
         setattr(target, attribute(name), self.value(value, frame))
+        self.note_contents(target)
         del target
         del old
 
