@@ -1,0 +1,107 @@
+"""The command line.
+
+The status is 0 where the script has run, and in a comparison where the texts agree or differ in named points alone; 1
+for a bad script, and where the texts differ otherwise; 2 where nothing can be said.
+"""
+import argparse
+import gc
+import os
+import sys
+from pathlib import Path
+from typing import NoReturn
+
+from .automatic import Automatic
+from .compare import Comparison, Differs
+from .objects import Unsupported
+from .points import AUTOMATIC
+from .reader import BadScript, Script, TooLarge, read
+from .run import Machine
+from .texts import Item
+
+AGREES = 0
+DIFFERS = 1
+CANNOT_SAY = 2
+DEEPEST = 1_000_000
+
+
+def arguments_of(words: list[str]) -> argparse.Namespace:
+    """The words after the program's name."""
+    parser = argparse.ArgumentParser(prog="gcscript.py", description="Runs a script of gcrun on real objects.")
+    parser.add_argument("script", metavar="SCRIPT", type=Path, help="the script")
+    parser.add_argument("--automatic", action="store_true", help="let CPython start collections by itself")
+    parser.add_argument("--compare", metavar="TEXT", type=Path, help="a text of gcrun to set beside CPython's lines")
+    return parser.parse_args(words)
+
+
+def leave(status: int, message: str = "") -> NoReturn:
+    """Ends the program at once, so that CPython's own end finalizes nothing."""
+    sys.stdout.flush()
+    if message:
+        sys.__stderr__.write(f"gcscript: {message}\n")
+    sys.__stderr__.flush()
+    os._exit(status)
+
+
+def show(lines: list[str]) -> None:
+    """Prints lines."""
+    sys.stdout.write("".join(line + "\n" for line in lines))
+
+
+def first_line(item: Item | None) -> str:
+    """What a message says of an item of a text."""
+    return "nothing more" if item is None else f"`{' '.join(item.words)}`"
+
+
+def compare(text: list[str], machine: Machine, schedule: Automatic | None) -> NoReturn:
+    """Sets CPython's lines beside the text, and ends."""
+    comparison = Comparison(text, machine.lines, machine.evidence)
+    try:
+        points = comparison.run()
+    except Differs as difference:
+        show(machine.lines)
+        leave(DIFFERS, f"gcrun has {first_line(difference.ours)}, CPython {first_line(difference.theirs)}")
+    if schedule is not None and schedule.is_missed:
+        show(machine.lines)
+        leave(DIFFERS, "a collection is due where gcrun goes on")
+    if schedule is not None and schedule.used:
+        points.add(AUTOMATIC)
+    show([f"differs in {point}" for point in sorted(points)] or ["agrees"])
+    leave(AGREES)
+
+
+def run(script: Script, text: list[str] | None, automatic: bool) -> NoReturn:
+    """Runs a script, and ends."""
+    schedule = None if text is None or automatic else Automatic(text)
+
+    def ended(lines: list[str]) -> NoReturn:
+        gc.disable()
+        if text is not None:
+            compare(text, machine, schedule)
+        show(lines)
+        leave(AGREES)
+
+    machine = Machine(script, ended, schedule, automatic)
+    sys.setrecursionlimit(DEEPEST)
+    sys.unraisablehook = lambda raised: leave(CANNOT_SAY, f"{raised.exc_type.__name__}: {raised.exc_value}")
+    try:
+        machine.run()
+    except (Unsupported, RecursionError) as fault:
+        leave(CANNOT_SAY, str(fault))
+
+
+def main(words: list[str]) -> int:
+    """Runs the program; the answer is its status where it has not ended before."""
+    given = arguments_of(words)
+    if sys.implementation.name != "cpython" or sys.version_info[:2] != (3, 12):
+        leave(CANNOT_SAY, "CPython 3.12 is needed")
+    gc.disable()
+    try:
+        text = given.compare.read_text("ascii").splitlines() if given.compare else None
+        script = read(given.script.read_bytes())
+    except OSError as fault:
+        leave(CANNOT_SAY, str(fault))
+    except (BadScript, TooLarge) as fault:
+        agrees = text == [str(fault)]
+        show(["agrees" if agrees else str(fault)])
+        return AGREES if agrees else DIFFERS
+    run(script, text, given.automatic)

@@ -1,0 +1,11 @@
+"""The points on which `gcrun` goes its own way, by the names that a comparison gives them. docs/RULES.md has each."""
+
+CONTENTS = "contents: dictionaries, instances and functions give up their contents in another order"
+COLLECTION = "turns: a collection calls finalizers and clears objects in an order of its own"
+FINALIZED = "finalized: in a death by count CPython marks an object only after its finalizer"
+CALLBACKS = "callbacks: CPython takes the callbacks of a dying object out at once and gives them up together"
+HELD = "held: CPython doesn't hold the one weak reference with a callback of a dying object"
+LATE = "late: CPython leaves the weak references that a finalizer makes to doomed objects"
+FLAGS = "flags: CPython reads the debug flags again within a collection"
+AUTOMATIC = "automatic: CPython starts collections by itself at other moments, so they were started for it"
+GARBAGE = "garbage: the garbage list is tracked in CPython"

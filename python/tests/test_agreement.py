@@ -1,0 +1,51 @@
+"""Scripts beside the texts of gcrun: the examples, one for each named point, and generated ones."""
+import unittest
+
+from beside import points, reader
+
+from .generator import Generator
+from .running import EXAMPLES, POINTS, compare_all, folder_cases, stored_cases
+
+NAMES = {value.partition(":")[0] for name, value in vars(points).items() if name.isupper()}
+FORMS = set(reader.BINDINGS) | set(reader.OPENERS) | {"bind"}
+
+
+class Examples(unittest.TestCase):
+    """The scripts of the folder `examples`."""
+
+    def test_all_agree(self) -> None:
+        for case, outcome in compare_all(folder_cases(EXAMPLES)):
+            with self.subTest(case.name):
+                self.assertEqual(0, outcome.status, outcome.message)
+
+
+class Points(unittest.TestCase):
+    """The scripts of the folder `points`: each differs in the point of its name and in no other."""
+
+    def test_each_is_named(self) -> None:
+        for case, outcome in compare_all(folder_cases(POINTS)):
+            with self.subTest(case.name):
+                self.assertEqual((0, [case.name.partition("-")[0]]), (outcome.status, outcome.points), outcome.message)
+
+    def test_each_point_has_a_script(self) -> None:
+        self.assertEqual(NAMES, {case.name.partition("-")[0] for case in folder_cases(POINTS)})
+
+
+class Generated(unittest.TestCase):
+    """The scripts of the generator."""
+
+    def test_texts_are_of_these_scripts(self) -> None:
+        cases = stored_cases()
+        self.assertGreaterEqual(len(cases), 300)
+        for seed, case in enumerate(cases):
+            self.assertEqual((f"seed {seed}", Generator(seed).script()), (case.name, case.script))
+
+    def test_all_commands_come(self) -> None:
+        words = [line.split() for case in stored_cases() for line in case.script.splitlines()]
+        forms = {line[2] if line[1:2] == ["="] else line[0] for line in words if line}
+        self.assertEqual(FORMS - {"bind"}, forms & FORMS)
+
+    def test_all_agree(self) -> None:
+        for case, outcome in compare_all(stored_cases()):
+            with self.subTest(case.name):
+                self.assertEqual(0, outcome.status, outcome.message)

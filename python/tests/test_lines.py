@@ -1,0 +1,68 @@
+"""What the program prints without a text of gcrun, and what it says where it can't do a script."""
+import unittest
+
+from .running import run
+
+WITHOUT_TESTCAPI = "import sys, runpy; sys.modules['_testcapi'] = None; sys.argv = sys.argv[1:]; "
+RUN_FIRST = "sys.path.insert(0, sys.argv[0].rpartition('/')[0]); runpy.run_path(sys.argv[0], run_name='__main__')"
+
+
+class Lines(unittest.TestCase):
+    """The lines of a run."""
+
+    def lines(self, script: str, *options: str) -> list[str]:
+        """The lines of a script that can be run."""
+        outcome = run(script.replace("; ", "\n"), *options)
+        self.assertEqual((0, ""), (outcome.status, outcome.message))
+        return outcome.output.splitlines()
+
+    def test_lines_have_the_form_of_gcrun(self) -> None:
+        script = "a = list; append a a; refs a; tracked a; finalized a; print a; gens; del a; collect"
+        answers = "made list #2; refs 2; tracked yes; finalized no; value #2; gens 1 0 0"
+        collection = "gc start 2; gc stop 2 1 0; collected 1; end"
+        self.assertEqual(f"{answers}; {collection}".split("; "), self.lines(script))
+
+    def test_looking_holds_nothing(self) -> None:
+        script = "class C; a = new C; b = a; w = ref a; refs a; l = list a; refs a; del b; del l; refs a; refs garbage"
+        answers = [line for line in self.lines(script) if line.startswith("refs ")]
+        self.assertEqual(["refs 2", "refs 3", "refs 1", "refs 1"], answers)
+
+    def test_a_replaced_value_dies_once_all_is_done(self) -> None:
+        script = "def d; print x; refs x; end; class C del=d; x = new C; y = list; x = y"
+        self.assertIn("value #3; refs 2", "; ".join(self.lines(script)))
+
+    def test_sizes_count_no_tuples_of_cpython(self) -> None:
+        script = (
+            "def cb; gens; end; class C; f = func cb; t = tuple f; del t; t = tuple f f f f; del t; a = new C; "
+            "u = ref a f; v = ref a f; del a"
+        )
+        self.assertEqual(["gens 3 0 0", "gens 3 0 0"], [line for line in self.lines(script) if line[:4] == "gens"])
+
+    def test_automatic_collections_are_off_unless_asked_for(self) -> None:
+        script = "threshold 2; " + "a = list; " * 20 + "print 1"
+        self.assertFalse([line for line in self.lines(script) if line[:2] == "gc"])
+        self.assertTrue([line for line in self.lines(script, "--automatic") if line[:2] == "gc"])
+
+    def test_debug_lines_are_told(self) -> None:
+        script = "def p; end; class C legacy=p; a = new C; setattr a me a; del a; debug leak; collect"
+        lines = self.lines(script)
+        self.assertIn("gc uncollectable #2", lines)
+        self.assertIn("gc saved #2", lines)
+
+    def test_a_bad_script_is_not_run(self) -> None:
+        outcome = run("a = list\nlist = list\n")
+        self.assertEqual((1, "bad script 2 4\n"), (outcome.status, outcome.output))
+
+    def test_deep_calls_go_on(self) -> None:
+        script = "budget 9000; def p; call f; end; f = func p; call f"
+        self.assertEqual("budget spent", self.lines(script)[-1])
+
+    def test_too_many_attributes_are_refused(self) -> None:
+        script = "class C\na = new C\n" + "".join(f"setattr a n{number} 1\n" for number in range(31))
+        self.assertEqual(2, run(script).status)
+
+    def test_a_missing_module_is_told(self) -> None:
+        script = "def p\nend\nclass C legacy=p\n"
+        outcome = run(script, python=("-c", WITHOUT_TESTCAPI + RUN_FIRST))
+        self.assertEqual(2, outcome.status)
+        self.assertIn("_testcapi", outcome.message)
