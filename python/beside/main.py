@@ -96,7 +96,7 @@ def main(words: list[str]) -> int:
         leave(CANNOT_SAY, "CPython 3.12 is needed")
     gc.disable()
     try:
-        text = given.compare.read_text("ascii").splitlines() if given.compare else None
+        text = given.compare.read_text("ascii", "replace").splitlines() if given.compare else None
         script = read(given.script.read_bytes())
     except OSError as fault:
         leave(CANNOT_SAY, str(fault))

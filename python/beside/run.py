@@ -59,6 +59,11 @@ class Frame:
         self.function = function
 
 
+def is_atom(value: object) -> bool:
+    """Whether a value is no object of a script."""
+    return value is None or isinstance(value, (int, str))
+
+
 class Schedule(Protocol):
     """Says which collections start by themselves."""
 
@@ -224,11 +229,14 @@ class Machine:
 
     def note_contents(self, holder: object) -> None:
         """Notes where a dictionary, an instance or a function holds two objects, so that their order may be seen."""
+        word = f"#{self.registry.serial(holder)}"
+        if word in self.evidence.wide:
+            return
         held = 0
         for found in gc.get_referents(holder):
             held += self.registry.is_of_script(found)
         if held > 1:
-            self.evidence.wide.add(f"#{self.registry.serial(holder)}")
+            self.evidence.wide.add(word)
 
     def made(self, kind: str, value: object) -> object:
         """Tells that an object was made, and hands it on."""
@@ -355,7 +363,8 @@ class Machine:
         target, found = self.value(operand, frame), self.value(key, frame)
         old = target.get(found)
         target[found] = self.value(value, frame)
-        self.note_contents(target)
+        if not is_atom(self.value(value, frame)) or not is_atom(found):
+            self.note_contents(target)
         del target, found
         del old
 
@@ -394,7 +403,8 @@ class Machine:
         self.note_attribute(type(target), name)
         old = getattr(target, attribute(name), None)
         setattr(target, attribute(name), self.value(value, frame))
-        self.note_contents(target)
+        if not is_atom(self.value(value, frame)):
+            self.note_contents(target)
         del target
         del old
 
@@ -489,7 +499,7 @@ class Machine:
     def do_refs(self, frame: Frame | None, parts: tuple) -> int | None:
         (operand,) = parts
         value = self.value(operand, frame)
-        if value is None or isinstance(value, (int, str)):
+        if is_atom(value):
             return WRONG_KIND
         # less the local `value` and the argument of `getrefcount`
         count = sys.getrefcount(value) - 2
