@@ -8,6 +8,7 @@ use Rattle.cg_script.specs.declared.form.Form.{Form}
 use Rattle.cg_script.specs.declared.form.Form.TheVariants as forms
 use Rattle.cg_script.specs.declared.form.Sort.{Sort}
 use Rattle.cg_script.specs.declared.form.Sort.TheVariants.{Key, Variable, Name, Class, Proc, Finalizer, Value, Number, Budget, Count, Flag}
+use Rattle.cg_script.specs.declared.limits.TheConstants.{MOST_BUDGET, MOST_COUNT, MOST_LINE_BYTES, MOST_LINES, MOST_WORDS}
 use Rattle.cg_script.specs.Pieces.{words_of, word_at, word_is}
 use Rattle.cg_script.specs.Tables.{named}
 use Rattle.cg_script.specs.Words.{is_printable, is_identifier, is_variable, is_value, is_number, is_count, names_finalizer, names_legacy, flags}
@@ -29,8 +30,8 @@ fits Proc word = is_identifier word
 fits Finalizer word = names_finalizer word || names_legacy word
 fits Value word = is_value word
 fits Number word = is_number word
-fits Budget word = is_count 100000 word
-fits Count word = is_count 2147483647 word
+fits Budget word = is_count MOST_BUDGET word
+fits Count word = is_count MOST_COUNT word
 fits Flag word = is_some (named flags word)
 
 -- the words from a place on do
@@ -75,6 +76,6 @@ is_passed (word ∷ words) = slice_index word 0 == 35
 unfoldable pub meaning : ℕ → List ℕ → Meaning
 meaning number line =
     if not (list_all is_printable line) then bad 1
-    else if nat_lt 1024 (length line) || nat_lt 64 (length (words_of line)) || (number == 400001) then bad 5
+    else if nat_lt MOST_LINE_BYTES (length line) || nat_lt MOST_WORDS (length (words_of line)) || (number == MOST_LINES + 1) then bad 5
     else if is_passed (words_of line) then passed
     else worded (words_of line)

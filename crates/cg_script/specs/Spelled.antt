@@ -6,12 +6,13 @@ use Rattle.cg_script.specs.declared.command.Command.TheVariants.{MakeList, MakeT
 use Rattle.cg_script.specs.declared.item.Item.{Item}
 use Rattle.cg_script.specs.declared.item.Item.TheVariants.{Budget, Class, Def, Run}
 use Rattle.cg_script.specs.declared.item.Script.{Script}
+use Rattle.cg_script.specs.declared.limits.TheConstants.{MOST_BUDGET, MOST_LINE_BYTES, MOST_LINES, MOST_TEXTS, MOST_WORDS}
 use Rattle.cg_script.specs.Texts.{command_texts}
 
 -- a line has at most 64 words, and a function at most 8 cells
 abbrev pub HasFewWords : Command → Type 0
-HasFewWords (MakeList name items) = length items ≤ 64
-HasFewWords (MakeTuple name items) = length items ≤ 64
+HasFewWords (MakeList name items) = length items ≤ MOST_WORDS
+HasFewWords (MakeTuple name items) = length items ≤ MOST_WORDS
 HasFewWords (MakeFunc name proc cells) = length cells ≤ 8
 HasFewWords command = Unit {0}
 
@@ -35,15 +36,15 @@ IsForObjects command = Unit {0}
 
 -- what is true of a line: of its command, of those of a procedure, and that a budget is at most 100,000
 abbrev pub IsSpelledItem : ℕ → Item → Type 0
-IsSpelledItem names (Budget n) = n ≤ 100000
+IsSpelledItem names (Budget n) = n ≤ MOST_BUDGET
 IsSpelledItem names (Class c) = Unit {0}
-IsSpelledItem names (Def p) = (length p.body ≤ 400000) × All (IsSpelledCommand names) p.body
+IsSpelledItem names (Def p) = (length p.body ≤ MOST_LINES) × All (IsSpelledCommand names) p.body
 IsSpelledItem names (Run c) = IsSpelledCommand names c
 
 -- What is true of a script that some bytes spell: of its lines, and that a text, which stands in a line, has at most 1,024
 -- bytes.
 pub record IsSpelled (script : Script) : Type 0 where
   pub lines : All (IsSpelledItem (length script.names)) script.items
-  pub few_lines : length script.items ≤ 400000
-  pub short : All (λ text. length text ≤ 1024) script.names
-  pub few_texts : length script.names ≤ 25600000
+  pub few_lines : length script.items ≤ MOST_LINES
+  pub short : All (λ text. length text ≤ MOST_LINE_BYTES) script.names
+  pub few_texts : length script.names ≤ MOST_TEXTS

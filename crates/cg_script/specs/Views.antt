@@ -9,6 +9,7 @@ use Rattle.cg_script.specs.declared.line.Line.{Line}
 use Rattle.cg_script.specs.declared.line.Line.TheVariants as lines
 use Rattle.cg_script.specs.declared.draft.Begun.{Begun}
 use Rattle.cg_script.specs.declared.draft.Draft.{Draft}
+use Rattle.cg_script.specs.declared.limits.TheConstants.{MOST_LINES, MOST_WORDS}
 use Rattle.cg_script.specs.Meanings.{Meaning, passed, says, bad}
 use Rattle.cg_script.specs.Parts.{Known, parts_of}
 use Rattle.cg_script.specs.Commands.{said}
@@ -58,8 +59,8 @@ reading_after draft number lines = script_after draft (lines_from (known_of draf
 
 -- A draft is no larger than the lines before this one can make it.
 pub record IsSmall (draft : Draft) (number : ℕ) : Type 0 where
-  pub lines : number ≤ 400001
-  pub texts : length draft.names + 64 ≤ 64 * number
+  pub lines : number ≤ MOST_LINES + 1
+  pub texts : length draft.names + MOST_WORDS ≤ MOST_WORDS * number
   pub procs : length draft.procs + 1 ≤ number
   pub classes : length draft.classes + 1 ≤ number
   pub items : length draft.items.items + 1 ≤ number

@@ -5,6 +5,7 @@ use Rattle.std.specs.Str.{bytes_eq}
 use Rattle.cg_script.specs.declared.command.Operand.{Operand}
 use Rattle.cg_script.specs.declared.command.Operand.TheVariants as operands
 use Rattle.cg_script.specs.declared.form.Form.{Form}
+use Rattle.cg_script.specs.declared.limits.TheConstants.{MOST_NAME_BYTES}
 use Rattle.cg_script.specs.Tables.{named}
 use Rattle.cg_script.specs.Forms.{row, openers, bindings}
 
@@ -28,9 +29,9 @@ begins_name b = is_letter b || (b == 95)
 abbrev pub is_name_byte : ℕ → Bool
 is_name_byte b = begins_name b || is_digit b
 
--- 1 to 32 bytes, of which the first is no digit
+-- 1 to so many bytes, of which the first is no digit
 abbrev pub is_identifier : List ℕ → Bool
-is_identifier word = nat_le 1 (length word) && nat_le (length word) 32 && begins_name (slice_index word 0) && list_all is_name_byte word
+is_identifier word = nat_le 1 (length word) && nat_le (length word) MOST_NAME_BYTES && begins_name (slice_index word 0) && list_all is_name_byte word
 
 -- the values with a word of their own
 unfoldable pub atoms : List (List ℕ × Operand)

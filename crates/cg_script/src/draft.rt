@@ -10,6 +10,7 @@ ghost use Rattle.cg_script.specs.Views.{known_of, grouped, is_placed, inside_beh
 use crate::command::Command;
 use crate::form::Form;
 use crate::item::{Item, Proc};
+use crate::limits::MOST_WORDS;
 use crate::members::Commands;
 use crate::part::{Parts, Said, names_unknown, read_parts};
 use crate::said::said_of;
@@ -187,13 +188,13 @@ pub(crate) fn take_words(
     requires empty { parts.old.items ≡ [] }
     requires fit { all_fit form 0 (map (λ w. w.now) words.now) ≡ true }
     requires enough { (row form).fewest ≤ length words.now }
-    requires few { length words.now ≤ 64 }
-    requires names { length draft.old.names + 64 < 2 ^ 32 - 1 }
+    requires few { length words.now ≤ MOST_WORDS }
+    requires names { length draft.old.names + MOST_WORDS < 2 ^ 32 - 1 }
     requires procs { length draft.old.procs < 2 ^ 32 - 1 }
     requires classes { length draft.old.classes < 2 ^ 32 - 1 }
     ensures fault { IfOk result (λ code. code ≡ fault_in (known_of draft.old) form (map (λ w. w.now) words.now)) }
     ensures takes { result ≡ Ok None → Takes draft.old form (map (λ w. w.now) words.now) draft.new }
-    ensures few_names { result ≡ Ok None → length draft.new.names ≤ length draft.old.names + 64 }
+    ensures few_names { result ≡ Ok None → length draft.new.names ≤ length draft.old.names + MOST_WORDS }
     ensures few_items { result ≡ Ok None → length draft.new.items.items ≤ length draft.old.items.items + 1 }
 {
     if stands_wrong(form, draft.begun.is_some()) {

@@ -5,6 +5,7 @@ ghost use Rattle.cg_script.specs.Meanings.{fits, all_fit, repeats_finalizer, for
 ghost use Rattle.cg_script.specs.Views.{meaning_of};
 
 use crate::form::{Form, Sort, binding_named, opener_named, row_for, sort_at};
+use crate::limits::{MOST_BUDGET, MOST_COUNT, MOST_LINE_BYTES, MOST_LINES};
 use crate::pieces::{Words, find_words};
 use crate::word::{
     flag, is_count_word, is_identifier_word, is_number_word, is_printable_text, is_value_word,
@@ -22,11 +23,6 @@ pub(crate) enum Line {
     Bad(u8),
 }
 
-/// The number of the first line past the most that a script may have.
-const FIRST_LINE_TOO_MANY: u32 = 400_001;
-
-const MOST_LINE_BYTES: usize = 1024;
-
 // What is wrong with a bad line.
 const NOT_PRINTABLE: u8 = 1;
 
@@ -37,10 +33,6 @@ const WORD_COUNT: u8 = 3;
 const WORD_FORM: u8 = 4;
 
 const TOO_LONG: u8 = 5;
-
-const MOST_BUDGET: u32 = 100_000;
-
-const MOST_COUNT: u32 = 2_147_483_647;
 
 /// Whether a word has the form that its place asks for.
 fn fits_place(sort: Sort, word: &[u8]) -> bool
@@ -155,7 +147,7 @@ pub(crate) fn read_line<'a>(number: u32, line: &'a [u8], found: &mut Words<'a>) 
     if !is_printable_text(line) {
         return Line::Bad(NOT_PRINTABLE);
     }
-    if line.len() > MOST_LINE_BYTES || number == FIRST_LINE_TOO_MANY {
+    if line.len() > MOST_LINE_BYTES || number == MOST_LINES + 1 {
         return Line::Bad(TOO_LONG);
     }
     if !find_words(line, found) {

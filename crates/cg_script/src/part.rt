@@ -9,7 +9,7 @@ ghost use Rattle.cg_script.specs.Parts.{Known, text_in, with_text_if, value_text
 use crate::command::{Command, Operand};
 use crate::form::{Form, Sort, sort_at};
 use crate::item::Item;
-use crate::pieces::MOST_WORDS;
+use crate::limits::MOST_WORDS;
 use crate::table::Table;
 use crate::word::{
     after_del, after_legacy, atom, begins_as_name, count_of_word, flag, is_quoted_word,
@@ -158,8 +158,8 @@ pub(crate) fn read_parts(
 ) -> Result<(), AllocError>
     requires empty { parts.old.items ≡ [] }
     requires fit { all_fit form 0 (map (λ w. w.now) words.now) ≡ true }
-    requires few { length words.now ≤ 64 }
-    requires room { length names.old + 64 < 2 ^ 32 - 1 }
+    requires few { length words.now ≤ MOST_WORDS }
+    requires room { length names.old + MOST_WORDS < 2 ^ 32 - 1 }
     ensures parts { OnOk result (parts.new.items ≡ parts_from procs.now classes.now names.old form 0 (map (λ w. w.now) words.now)) }
     ensures texts { OnOk result (names.new ≡ texts_from names.old form 0 (map (λ w. w.now) words.now)) }
     ensures few_texts { OnOk result (length names.new ≤ length names.old + length words.now) }

@@ -2,10 +2,8 @@
 ghost use Rattle.std.specs.Prelude.{◌≡◌, ◌<◌, ◌≤◌, ◌∷◌, ◌==◌, [], length, map, position, true, false};
 ghost use Rattle.cg_script.specs.Pieces.{pieces, words_of};
 
+use crate::limits::MOST_WORDS;
 use arrayvec::ArrayVec;
-
-/// The most words that a line may have.
-pub(crate) const MOST_WORDS: usize = 64;
 
 /// The words of a line, each a part of it.
 pub(crate) type Words<'a> = ArrayVec<&'a [u8], MOST_WORDS>;

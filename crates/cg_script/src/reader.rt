@@ -10,6 +10,7 @@ ghost use Rattle.cg_script.specs.Spelled.{IsSpelled};
 use crate::draft::{Draft, empty, take_words};
 use crate::fault::ScriptFault;
 use crate::item::Script;
+use crate::limits::{MOST_LINES, MOST_TEXTS};
 use crate::line::{Line, read_line};
 use crate::members::Items;
 use crate::part::Parts;
@@ -75,8 +76,8 @@ fn finish(draft: Draft, number: u32) -> Result<Script, ScriptFault>
     requires { IsSmall draft number }
     ensures ok { IfOk result (λ script. reading_after draft number [] ≡ spells script.names script.items) }
     ensures fault { IfErr result (λ fault. IsFault fault (reading_after draft number [])) }
-    ensures few_texts { IfOk result (λ script. length script.names ≤ 25600000) }
-    ensures few_items { IfOk result (λ script. length script.items ≤ 400000) }
+    ensures few_texts { IfOk result (λ script. length script.names ≤ MOST_TEXTS) }
+    ensures few_items { IfOk result (λ script. length script.items ≤ MOST_LINES) }
 {
     if draft.begun.is_some() {
         return Err(ScriptFault::Bad {
@@ -107,8 +108,8 @@ pub fn parse(alloc: Global, bytes: &[u8]) -> Result<Script, ScriptFault>
 
     // What the layers above rest on.
     ensures known { IfOk result TextsAreKnown }
-    ensures few_texts { IfOk result (λ script. length script.names ≤ 25600000) }
-    ensures few_items { IfOk result (λ script. length script.items ≤ 400000) }
+    ensures few_texts { IfOk result (λ script. length script.names ≤ MOST_TEXTS) }
+    ensures few_items { IfOk result (λ script. length script.items ≤ MOST_LINES) }
     ensures spelled { IfOk result IsSpelled }
 {
     let mut draft = empty(alloc);

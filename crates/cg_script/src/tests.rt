@@ -39,9 +39,7 @@ fn members_in_order(rt: HostRuntime) -> Result<(), Fail> {
 #[test]
 fn what_has_a_number_is_found_by_it(rt: HostRuntime) -> Result<(), Fail> {
     let script = b"del a\nclass C\ndef p\nfreeze\nend\nbudget 3\nclass D\ndef q\nend\ncount";
-    let Ok(script) = parse(rt.alloc(), script) else {
-        return Err(Fail);
-    };
+    let script = parse(rt.alloc(), script)?;
     let items = &script.items;
     assert!(rt; matches!(items.command(0), Some(Command::Del { name: 0 })));
     assert!(rt; matches!(items.command(1), Some(Command::Count)));

@@ -6,10 +6,8 @@ ghost use Rattle.cg_script.specs.Words.{is_printable, is_digit, is_letter, is_na
 
 use crate::command::Operand;
 use crate::form::{Form, binding_named, opener_named, row_for};
+use crate::limits::{MOST_COUNT, MOST_NAME_BYTES};
 use crate::table::named;
-
-/// The most bytes of an identifier.
-const MOST_NAME_BYTES: usize = 32;
 
 fn may_begin_name(byte: u8) -> bool
     ensures { result ≡ begins_name byte }
@@ -193,7 +191,7 @@ pub(crate) fn is_count_word(word: &[u8], most: u32) -> bool
 /// The count that a word writes.
 pub(crate) fn count_of_word(word: &[u8]) -> u32
     requires digits { are_digits 10 word.now ≡ true }
-    requires fits { decimal_value word.now ≤ 2147483647 }
+    requires fits { decimal_value word.now ≤ MOST_COUNT }
     ensures { result ≡ decimal_value word.now }
 {
     decimal(word) as u32

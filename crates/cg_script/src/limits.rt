@@ -1,0 +1,22 @@
+//! The limits of the language. (Ours.)
+
+/// The most lines of a script.
+pub const MOST_LINES: u32 = 400_000;
+
+/// The most bytes of a line.
+pub const MOST_LINE_BYTES: usize = 1024;
+
+/// The most words of a line.
+pub const MOST_WORDS: usize = 64;
+
+/// The most texts of a script: as many as its lines may have words.
+pub const MOST_TEXTS: u32 = 25_600_000;
+
+/// The most bytes of an identifier.
+pub const MOST_NAME_BYTES: usize = 32;
+
+/// The most frames that a budget lets start.
+pub const MOST_BUDGET: u32 = 100_000;
+
+/// The greatest count, as of a threshold.
+pub const MOST_COUNT: u32 = 2_147_483_647;
