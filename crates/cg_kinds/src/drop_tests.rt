@@ -41,50 +41,76 @@ fn filled<K: Kind>(kind: &mut K, count: u64) -> Result<usize, AllocError>
     Ok(at)
 }
 
+/// Drops the oldest key, so many times.
+fn drop_oldest<K: Kind>(rt: &impl Abort, kind: &mut K, count: u64) -> Result<(), Fail>
+    requires { IsParts (K.kind kind.old) [] }
+{
+    let at = filled(kind, count)?;
+    'keys: for key in 0..count {
+        drop_key(rt, kind, at, 0, key)?;
+    }
+    assert_eq!(rt; kind.len(at), 0);
+    Ok(())
+}
+
+/// Drops the newest key, so many times.
+fn drop_newest<K: Kind>(rt: &impl Abort, kind: &mut K, count: u64) -> Result<(), Fail>
+    requires { IsParts (K.kind kind.old) [] }
+{
+    let at = filled(kind, count)?;
+    'keys: for gone in 0..count {
+        let key = count - 1 - gone;
+        drop_key(rt, kind, at, key as usize, key)?;
+    }
+    assert_eq!(rt; kind.len(at), 0);
+    Ok(())
+}
+
+/// Drops the two keys in the middle of twice so many, so many times.
+fn drop_middle<K: Kind>(rt: &impl Abort, kind: &mut K, half: u32) -> Result<(), Fail>
+    requires { IsParts (K.kind kind.old) [] }
+{
+    let at = filled(kind, half as u64 * 2)?;
+    'keys: for gone in 0..half {
+        let left = half - gone;
+        drop_key(rt, kind, at, left as usize, half as u64 + gone as u64)?;
+        drop_key(rt, kind, at, left as usize - 1, left as u64 - 1)?;
+    }
+    assert_eq!(rt; kind.len(at), 0);
+    Ok(())
+}
+
+/// Drops the oldest of a thousand keys and puts a new one, so many times.
+fn drop_and_put<K: Kind>(rt: &impl Abort, kind: &mut K, count: u32) -> Result<(), Fail>
+    requires { IsParts (K.kind kind.old) [] }
+{
+    let at = filled(kind, 1_000)?;
+    'keys: for key in 0..count {
+        drop_key(rt, kind, at, 0, key as u64)?;
+        put(kind, at, Val::Ref(key as u64 + 1_000), 7)?;
+    }
+    assert_eq!(rt; kind.len(at), 1_000);
+    Ok(())
+}
+
 #[test]
 fn a_hundred_thousand_keys_go_oldest_first(rt: HostRuntime) -> Result<(), Fail> {
-    let mut kind = DictKind::new(rt.alloc());
-    let at = filled(&mut kind, 100_000)?;
-    'keys: for key in 0u64..100_000 {
-        drop_key(&rt, &mut kind, at, 0, key)?;
-    }
-    assert_eq!(&rt; kind.len(at), 0);
-    Ok(())
+    drop_oldest(&rt, &mut DictKind::new(rt.alloc()), 100_000)
 }
 
 #[test]
 fn a_hundred_thousand_keys_go_newest_first(rt: HostRuntime) -> Result<(), Fail> {
-    let mut kind = DictKind::new(rt.alloc());
-    let at = filled(&mut kind, 100_000)?;
-    'keys: for gone in 0u64..100_000 {
-        drop_key(&rt, &mut kind, at, 99_999 - gone as usize, 99_999 - gone)?;
-    }
-    assert_eq!(&rt; kind.len(at), 0);
-    Ok(())
+    drop_newest(&rt, &mut DictKind::new(rt.alloc()), 100_000)
 }
 
 #[test]
 fn a_hundred_thousand_keys_go_from_the_middle(rt: HostRuntime) -> Result<(), Fail> {
-    let mut kind = DictKind::new(rt.alloc());
-    let at = filled(&mut kind, 100_000)?;
-    'keys: for gone in 0u64..50_000 {
-        drop_key(&rt, &mut kind, at, 50_000 - gone as usize, 50_000 + gone)?;
-        drop_key(&rt, &mut kind, at, 49_999 - gone as usize, 49_999 - gone)?;
-    }
-    assert_eq!(&rt; kind.len(at), 0);
-    Ok(())
+    drop_middle(&rt, &mut DictKind::new(rt.alloc()), 50_000)
 }
 
 #[test]
 fn a_hundred_thousand_keys_come_and_go_in_turn(rt: HostRuntime) -> Result<(), Fail> {
-    let mut kind = DictKind::new(rt.alloc());
-    let at = filled(&mut kind, 1_000)?;
-    'keys: for key in 0u64..100_000 {
-        drop_key(&rt, &mut kind, at, 0, key)?;
-        put(&mut kind, at, Val::Ref(key + 1_000), 7)?;
-    }
-    assert_eq!(&rt; kind.len(at), 1_000);
-    Ok(())
+    drop_and_put(&rt, &mut DictKind::new(rt.alloc()), 100_000)
 }
 
 /// Puts a value under a key of a plain list of entries.

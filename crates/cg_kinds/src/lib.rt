@@ -6,7 +6,8 @@
 //! - `body_slab`: the slab, once for all six kinds.
 //! - `contents`: what one object holds, as the slab sees it.
 //! - `items`: what lists, tuples, functions and weak references share; `list`, `tuple`, `func` and `weak`: these four.
-//! - `pairs`: dictionaries and instances.
+//! - `pairs`: dictionaries and instances: `few` in a list, `more` in a box.
+//! - `table`: pairs in a map, in the order in which their keys came; `order`: that order, once the map has another; `slots`: its slots and gaps.
 #![tactic(auto)]
 
 mod body_slab;
