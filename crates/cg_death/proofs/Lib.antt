@@ -22,7 +22,5 @@ pub mod RowsLeft
 pub mod Steadying
 pub mod SteadyRows
 pub mod SteadySteps
-pub mod HoldNumbers
-pub mod NamesKept
 pub mod LeavingTheRest
 pub mod TakingTurns

@@ -1,24 +1,22 @@
 //! Where the procedures and the commands outside procedures stand among the lines of a script, so that each is found by its
 //! number.
-ghost use Rattle.std.specs.Prelude.{◌≡◌, ◌≤◌, ◌^◌, ◌++◌, ◌∷◌, [], length, map, IfOk, OnOk};
+ghost use Rattle.std.specs.Prelude.{◌≡◌, ◌++◌, ◌∷◌, [], map, IfOk, OnOk};
 ghost use Rattle.cg_script.specs.Items.{classes, procedures, commands_of, IsIndexOf};
 
 use crate::item::{ClassDef, Item};
 use std::alloc::{AllocError, Global};
 
-/// The classes of some lines, and the positions of their procedures and of their commands outside procedures. A script has at
-/// most 400,000 lines, so a position takes 32 bits.
+/// The classes of some lines, and the positions of their procedures and of their commands outside procedures.
 #[derive(Drop)]
 pub(crate) struct Index {
     pub classes: Vec<ClassDef>,
-    pub procedures: Vec<u32>,
-    pub commands: Vec<u32>,
+    pub procedures: Vec<usize>,
+    pub commands: Vec<usize>,
 }
 
 impl Index {
     /// The index of these lines. It answers `AllocError` for want of memory alone.
     pub fn new(alloc: Global, items: &[Item]) -> Result<Index, AllocError>
-        requires { length items.now ≤ 2 ^ 32 }
         ensures { IfOk result (λ index. IsIndexOf items.now index.classes.items index.procedures.items index.commands.items) }
     {
         let mut index = Index {
@@ -27,13 +25,13 @@ impl Index {
             commands: Vec::new(alloc),
         };
         'items: for at in 0..items.len() {
-            index.add(at as u32, &items[at])?;
+            index.add(at, &items[at])?;
         }
         Ok(index)
     }
 
     /// Adds the line at a position, behind those that stand before it.
-    fn add(&mut self, at: u32, item: &Item) -> Result<(), AllocError>
+    fn add(&mut self, at: usize, item: &Item) -> Result<(), AllocError>
         ensures classes { OnOk result (self.new.classes.items ≡ self.old.classes.items ++ classes (item.now ∷ [])) }
         ensures procedures { OnOk result (self.new.procedures.items
             ≡ self.old.procedures.items ++ map (λ p. at) (procedures (item.now ∷ []))) }

@@ -95,14 +95,11 @@ impl Model for Items {
 }
 
 /// The position at a number, if there is one.
-fn position_in(positions: &Vec<u32>, number: usize) -> Option<usize>
+fn position_in(positions: &Vec<usize>, number: usize) -> Option<usize>
     ensures found { result ≡ slice_get positions.now.items number }
     ensures few { OnSome result (number + 1 < 2 ^ 64) }
 {
-    match positions.get(number) {
-        Some(at) => Some(*at as usize),
-        None => None,
-    }
+    positions.get(number).copied()
 }
 
 /// The procedure in the line at a position, if it is one.
@@ -128,7 +125,6 @@ fn command_in(items: &[Item], at: usize) -> Option<&Command>
 impl Items {
     /// These members in order. It answers `AllocError` for want of memory alone, for the index.
     pub fn new(alloc: Global, members: Vec<Item>) -> Result<Items, AllocError>
-        requires { length members.items ≤ 2 ^ 32 }
         ensures { IfOk result (λ items. items ≡ members.items) }
     {
         let index = Index::new(alloc, members.as_slice())?;
