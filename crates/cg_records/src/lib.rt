@@ -4,10 +4,13 @@
 //! that, in both directions.
 //!
 //! - `serials`: serials in order; `graph`: members, graphs, records of collections.
+//! - `writing`: the text of records.
 #![tactic(auto)]
 
 mod graph;
 mod serials;
+mod writing;
 
 pub use graph::{Graph, Member, Members, Rec, Records};
 pub use serials::Serials;
+pub use writing::write_records;
