@@ -8,6 +8,8 @@
 #![tactic(auto)]
 
 mod graph;
+mod line;
+mod number;
 mod serials;
 mod writing;
 
