@@ -7,12 +7,17 @@
 //! - `writing`: the text of records.
 #![tactic(auto)]
 
+mod draft;
 mod graph;
+mod laws;
 mod line;
 mod number;
+mod reading;
 mod serials;
 mod writing;
 
 pub use graph::{Graph, Member, Members, Rec, Records};
+pub use laws::one_reading;
+pub use reading::read_records;
 pub use serials::Serials;
 pub use writing::write_records;
