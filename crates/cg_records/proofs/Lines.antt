@@ -163,51 +163,8 @@ one_line a b x y p q e =
     let behind = one_ended (numbers_of a) (numbers_of b) x y (are_small a p) (are_small b q) same (ap (λ t. t ++ x) (sym (numbers_text-is a)) ∙ word.1 ∙ ap (λ t. t ++ y) (numbers_text-is b)) in
     (sym (line_of-parts a) ∙ ap (λ w. line_of w (numbers_of a)) word.0 ∙ ap (line_of (word_of b)) behind.0 ∙ line_of-parts b, behind.1)
 
--- what is no number is no line
-abbrev most_of : Word → ℕ
-most_of words.Record = 2
-most_of w = 18446744073709551615
-
-single : (l : Line) → IsLine l → arity (word_of l) ≡ 1 → (n : ℕ) × (n ≤ most_of (word_of l)) × (numbers_text l ≡ decimal n ++ 10 ∷ [])
-unfolding arity
-single (lines.Record g) h e = (g, h, refl)
-single lines.First h e = absurd (omega arith)
-single lines.Second h e = absurd (omega arith)
-single (lines.Member serial degree legacy) h e = absurd (omega arith)
-single (lines.Reference n) h e = (n, omega arith, refl)
-single (lines.Lost n) h e = (n, omega arith, refl)
-single (lines.Legacy n) h e = (n, omega arith, refl)
-single lines.Cut h e = absurd (omega arith)
-single lines.Stop h e = absurd (omega arith)
-single lines.End h e = absurd (omega arith)
-
 line_parts : (w : Word) (l : Line) (bytes rest x : List ℕ) → bytes ≡ word_text w ++ rest → bytes ≡ line_text l ++ x → (w ≡ word_of l) × (rest ≡ numbers_text l ++ x)
 line_parts w l bytes rest x is e = one_word w (word_of l) rest (numbers_text l ++ x) (sym is ∙ e ∙ append_assoc (word_text (word_of l)) (numbers_text l) x)
-
-not_single : (w : Word) (bytes rest : List ℕ) → arity w ≡ 1 → bytes ≡ word_text w ++ rest → ((n : ℕ) (x : List ℕ) → n ≤ most_of w → rest ≢ decimal n ++ 10 ∷ x)
-    → (l : Line) (x : List ℕ) → IsLine l → bytes ≢ line_text l ++ x
-not_single w bytes rest one is none l x h e =
-    let parts = line_parts w l bytes rest x is e in
-    let n = single l h (ap arity (sym parts.0) ∙ one) in
-    let fits : n.0 ≤ most_of w = subst (λ v. n.0 ≤ most_of v) (sym parts.0) n.1 in
-    none n.0 x fits (parts.1 ∙ ap (λ t. t ++ x) n.2 ∙ append_assoc (decimal n.0) (10 ∷ []) x)
-
-module _ (bytes rest : List ℕ) (none : (n : ℕ) (x : List ℕ) → n ≤ 18446744073709551615 → rest ≢ decimal n ++ 10 ∷ x) where
-  pub not_reference : bytes ≡ word_text words.Reference ++ rest → (l : Line) (x : List ℕ) → IsLine l → bytes ≢ line_text l ++ x
-  unfolding arity
-  not_reference is = not_single words.Reference bytes rest refl is none
-
-  pub not_lost : bytes ≡ word_text words.Lost ++ rest → (l : Line) (x : List ℕ) → IsLine l → bytes ≢ line_text l ++ x
-  unfolding arity
-  not_lost is = not_single words.Lost bytes rest refl is none
-
-  pub not_legacy : bytes ≡ word_text words.Legacy ++ rest → (l : Line) (x : List ℕ) → IsLine l → bytes ≢ line_text l ++ x
-  unfolding arity
-  not_legacy is = not_single words.Legacy bytes rest refl is none
-
-pub not_record : (bytes rest : List ℕ) → ((n : ℕ) (x : List ℕ) → n ≤ 2 → rest ≢ decimal n ++ 10 ∷ x) → bytes ≡ word_text words.Record ++ rest → (l : Line) (x : List ℕ) → IsLine l → bytes ≢ line_text l ++ x
-unfolding arity
-not_record bytes rest none is = not_single words.Record bytes rest refl is none
 
 abbrev member_numbers : ℕ → ℕ → ℕ → List ℕ → List ℕ
 member_numbers serial degree mark x = decimal serial ++ 32 ∷ (decimal degree ++ 32 ∷ (decimal mark ++ 10 ∷ x))

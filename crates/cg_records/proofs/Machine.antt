@@ -93,7 +93,7 @@ run_record rs r h =
     chain (draft rs (Within r.generation None (graph [] [] []))) (draft rs (Within r.generation None (graph r.first.members r.first.lost []))) (graph_lines r.first) (map lines.Legacy r.first.legacy ++ rest_lines r.second)
     (Some (draft (rs ++ r ∷ []) Between)) (run_graph rs r.generation None r.first)
     (chain (draft rs (Within r.generation None (graph r.first.members r.first.lost []))) (draft rs (Within r.generation None r.first)) (map lines.Legacy r.first.legacy) (rest_lines r.second) (Some (draft (rs ++ r ∷ []) Between))
-      (run_legacy rs r.generation r.first.members r.first.lost [] r.first.legacy) (run_rest rs r.generation r.first r.second h))
+    (run_legacy rs r.generation r.first.members r.first.lost [] r.first.legacy) (run_rest rs r.generation r.first r.second h))
 
 -- only first graphs have legacy sets
 abbrev pub ArePlain : List Rec → Type 0
@@ -105,7 +105,7 @@ run_records rs [] h = ap (λ l. Some (draft l Ended)) (sym (append-nil rs))
 run_records rs (q ∷ qs) h =
     ap (run (draft rs Between)) (append_assoc (record_lines q) (flat_map record_lines qs) (lines.End ∷ []))
     ∙ chain (draft rs Between) (draft (rs ++ q ∷ []) Between) (record_lines q) (all_lines qs) (Some (draft (rs ++ q ∷ qs) Ended)) (run_record rs q h.0)
-        (run_records (rs ++ q ∷ []) qs h.1 ∙ ap (λ l. Some (draft l Ended)) (append_assoc rs (q ∷ []) qs))
+    (run_records (rs ++ q ∷ []) qs h.1 ∙ ap (λ l. Some (draft l Ended)) (append_assoc rs (q ∷ []) qs))
 
 -- the lines of records lead to these records
 pub run-all_lines : (qs : List Rec) → ArePlain qs → run start (all_lines qs) ≡ Some (draft qs Ended)

@@ -44,12 +44,13 @@ plain_parts word e = parts (length word) (get_or word 0 0) (length word == 0) (l
     parts n d false false false p q r e = (grind (arith, nat_tests), λ z. grind (arith, nat_tests))
 
 pub plain_decimal : (n : ℕ) → n < 2 ^ 64 → is_plain (decimal n) ≡ true
-plain_decimal n h = elim (cases_lt 0 n) [ | inl some ↦ plain (decimal n) (decimal_nonempty n h) (first_decimal n some h) | inr none ↦ zero_plain n (omega arith) ]
+plain_decimal n h = elim (cases_lt 0 n) [ inl some ↦ plain (decimal n) (decimal_nonempty n h) (first_decimal n some h) | inr none ↦ zero_plain n (omega arith) ]
   where
     plain : (ds : List ℕ) → 0 < length ds → 48 < get_or ds 0 0 → is_plain ds ≡ true
     plain [] some high = absurd (omega arith)
     plain (d ∷ []) some high = refl
     plain (d ∷ c ∷ ds) some high = grind (arith, nat_tests)
+
     zero_plain : (n : ℕ) → n ≡ 0 → is_plain (decimal n) ≡ true
     zero_plain n e = ap (λ k. is_plain (decimal k)) e ∙ ap is_plain (decimal_digit 0 (omega arith))
 

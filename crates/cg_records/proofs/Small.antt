@@ -75,9 +75,14 @@ rest_back None h plain = tt
 rest_back (Some g) h plain = graph_back g (lines_split (graph_lines g) (lines.Stop ∷ []) h.1).0 (subst AreNumbers (sym plain) no_numbers)
 
 record_fits : (r : Rec) → IsWritable r → IsSmall r → AreLines (record_lines r)
-record_fits r w h =
-    (w.generation, (tt, lines_append (graph_lines r.first) (map lines.Legacy r.first.legacy ++ rest_lines r.second) (graph_fits r.first h.first)
-      (lines_append (map lines.Legacy r.first.legacy) (rest_lines r.second) (all_fit lines.Legacy (λ n k. k) r.first.legacy h.first.legacy) (rest_fits r.second h.second))))
+record_fits r w h = (
+  w.generation,
+  (
+    tt,
+    lines_append (graph_lines r.first) (map lines.Legacy r.first.legacy ++ rest_lines r.second) (graph_fits r.first h.first)
+        (lines_append (map lines.Legacy r.first.legacy) (rest_lines r.second) (all_fit lines.Legacy (λ n k. k) r.first.legacy h.first.legacy) (rest_fits r.second h.second)),
+  ),
+)
 
 record_back : (r : Rec) → AreLines (record_lines r) → IfSome r.second (λ g. g.legacy ≡ []) → IsWritable r × IsSmall r
 record_back r h plain =

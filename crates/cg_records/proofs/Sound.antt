@@ -116,15 +116,15 @@ module _ (rs : List Rec) (g : ℕ) where
   grows_more None a l c h =
       record {
         says =
-          ap (λ t. flat_map record_lines rs ++ lines.Record g ∷ lines.First ∷ t) (ap (λ t. graph_lines c ++ map lines.Legacy t) h.after ∙ append-nil (graph_lines c) ∙ h.says ∙ ap (λ t. t ++ l ∷ []) (sym (append-nil (graph_lines a)) ∙ ap (λ t. graph_lines a ++ map lines.Legacy t) (sym h.before)))
-          ∙ pushed (flat_map record_lines rs) (lines.Record g) lines.First l (full a);
+            ap (λ t. flat_map record_lines rs ++ lines.Record g ∷ lines.First ∷ t) (ap (λ t. graph_lines c ++ map lines.Legacy t) h.after ∙ append-nil (graph_lines c) ∙ h.says ∙ ap (λ t. t ++ l ∷ []) (sym (append-nil (graph_lines a)) ∙ ap (λ t. graph_lines a ++ map lines.Legacy t) (sym h.before)))
+            ∙ pushed (flat_map record_lines rs) (lines.Record g) lines.First l (full a);
         plain = λ p q. (p, tt);
       }
   grows_more (Some f) a l c h =
       record {
         says =
-          ap (λ t. flat_map record_lines rs ++ lines.Record g ∷ lines.First ∷ t) (ap (λ t. graph_lines f ++ (map lines.Legacy f.legacy ++ lines.Second ∷ t)) h.says ∙ behind (graph_lines f) (map lines.Legacy f.legacy) (graph_lines a))
-          ∙ pushed (flat_map record_lines rs) (lines.Record g) lines.First l (graph_lines f ++ (map lines.Legacy f.legacy ++ lines.Second ∷ graph_lines a));
+            ap (λ t. flat_map record_lines rs ++ lines.Record g ∷ lines.First ∷ t) (ap (λ t. graph_lines f ++ (map lines.Legacy f.legacy ++ lines.Second ∷ t)) h.says ∙ behind (graph_lines f) (map lines.Legacy f.legacy) (graph_lines a))
+            ∙ pushed (flat_map record_lines rs) (lines.Record g) lines.First l (graph_lines f ++ (map lines.Legacy f.legacy ++ lines.Second ∷ graph_lines a));
         plain = λ p q. (p, h.after);
       }
     where
@@ -143,8 +143,8 @@ module _ (rs : List Rec) (g : ℕ) where
       let is : draft rs (Within g None (graph a.members a.lost (a.legacy ++ n ∷ []))) ≡ e = cc in
       subst (Grows (draft rs (Within g None a)) (lines.Legacy n)) is (record {
         says =
-          ap (λ t. flat_map record_lines rs ++ lines.Record g ∷ lines.First ∷ t) (ap (λ t. graph_lines a ++ t) (map_push lines.Legacy a.legacy n) ∙ sym (append_assoc (graph_lines a) (map lines.Legacy a.legacy) (lines.Legacy n ∷ [])))
-          ∙ pushed (flat_map record_lines rs) (lines.Record g) lines.First (lines.Legacy n) (full a);
+            ap (λ t. flat_map record_lines rs ++ lines.Record g ∷ lines.First ∷ t) (ap (λ t. graph_lines a ++ t) (map_push lines.Legacy a.legacy n) ∙ sym (append_assoc (graph_lines a) (map lines.Legacy a.legacy) (lines.Legacy n ∷ [])))
+            ∙ pushed (flat_map record_lines rs) (lines.Record g) lines.First (lines.Legacy n) (full a);
         plain = λ p q. (p, tt);
       })
   legacy_step (Some f) a n e h = absurd (cc)
@@ -154,8 +154,8 @@ module _ (rs : List Rec) (g : ℕ) where
       let is : draft rs (Within g (Some a) (graph [] [] [])) ≡ e = cc in
       subst (Grows (draft rs (Within g None a)) lines.Second) is (record {
         says =
-          ap (λ t. flat_map record_lines rs ++ lines.Record g ∷ lines.First ∷ t) (sym (append_assoc (graph_lines a) (map lines.Legacy a.legacy) (lines.Second ∷ [])))
-          ∙ pushed (flat_map record_lines rs) (lines.Record g) lines.First lines.Second (full a);
+            ap (λ t. flat_map record_lines rs ++ lines.Record g ∷ lines.First ∷ t) (sym (append_assoc (graph_lines a) (map lines.Legacy a.legacy) (lines.Second ∷ [])))
+            ∙ pushed (flat_map record_lines rs) (lines.Record g) lines.First lines.Second (full a);
         plain = λ p q. (p, refl);
       })
   second_step (Some f) a e h = absurd (cc)
@@ -169,9 +169,9 @@ module _ (rs : List Rec) (g : ℕ) where
       let is : draft (rs ++ recorded g a None ∷ []) Between ≡ e = cc in
       subst (Grows (draft rs (Within g None a)) lines.Cut) is (record {
         says =
-          one_record (recorded g a None) (lines.Record g ∷ lines.First ∷ (full a ++ lines.Cut ∷ []))
+            one_record (recorded g a None) (lines.Record g ∷ lines.First ∷ (full a ++ lines.Cut ∷ []))
             (ap (λ t. lines.Record g ∷ lines.First ∷ t) (sym (append_assoc (graph_lines a) (map lines.Legacy a.legacy) (lines.Cut ∷ []))))
-          ∙ pushed (flat_map record_lines rs) (lines.Record g) lines.First lines.Cut (full a);
+            ∙ pushed (flat_map record_lines rs) (lines.Record g) lines.First lines.Cut (full a);
         plain = λ p q. (plain_more rs (recorded g a None) p tt, tt);
       })
   cut_step (Some f) a e h = absurd (cc)
@@ -182,9 +182,9 @@ module _ (rs : List Rec) (g : ℕ) where
       let is : draft (rs ++ recorded g f (Some a) ∷ []) Between ≡ e = cc in
       subst (Grows (draft rs (Within g (Some f) a)) lines.Stop) is (record {
         says =
-          one_record (recorded g f (Some a)) (lines.Record g ∷ lines.First ∷ ((graph_lines f ++ (map lines.Legacy f.legacy ++ lines.Second ∷ graph_lines a)) ++ lines.Stop ∷ []))
+            one_record (recorded g f (Some a)) (lines.Record g ∷ lines.First ∷ ((graph_lines f ++ (map lines.Legacy f.legacy ++ lines.Second ∷ graph_lines a)) ++ lines.Stop ∷ []))
             (ap (λ t. lines.Record g ∷ lines.First ∷ t) (behind (graph_lines f) (map lines.Legacy f.legacy) (graph_lines a)))
-          ∙ pushed (flat_map record_lines rs) (lines.Record g) lines.First lines.Stop (graph_lines f ++ (map lines.Legacy f.legacy ++ lines.Second ∷ graph_lines a));
+            ∙ pushed (flat_map record_lines rs) (lines.Record g) lines.First lines.Stop (graph_lines f ++ (map lines.Legacy f.legacy ++ lines.Second ∷ graph_lines a));
         plain = λ p q. (plain_more rs (recorded g f (Some a)) p q, tt);
       })
     where

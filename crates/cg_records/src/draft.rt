@@ -1,5 +1,6 @@
 //! Records in the making: what was read so far, and which lines may follow.
-ghost use Rattle.std.specs.Prelude.{◌≡◌, [], IfOk};
+ghost use Rattle.std.specs.Prelude.{◌≡◌, ◌&&◌, [], IfOk};
+ghost use Rattle.cg_records.specs.Lists.{none_in};
 ghost use Rattle.cg_records.specs.Reading.{in_graph, between, opened, at_graph, within, step, graph as graph_of};
 
 use crate::graph::{Graph, Member, Members, Rec, Records};
@@ -37,6 +38,13 @@ fn empty_graph(alloc: Global) -> Graph
     }
 }
 
+/// Whether members and their references may still follow.
+fn takes_members(graph: &Graph) -> bool
+    ensures { result ≡ (none_in graph.now.lost && none_in graph.now.legacy) }
+{
+    graph.lost.is_empty() && graph.legacy.is_empty()
+}
+
 /// The graph with what a line says, where the line may stand there.
 fn step_in_graph(alloc: Global, mut graph: Graph, line: Line) -> Result<Option<Graph>, AllocError>
     ensures { IfOk result (λ grown. grown ≡ in_graph graph line) }
@@ -47,7 +55,7 @@ fn step_in_graph(alloc: Global, mut graph: Graph, line: Line) -> Result<Option<G
             degree,
             legacy,
         } => {
-            if !graph.lost.is_empty() || !graph.legacy.is_empty() {
+            if !takes_members(&graph) {
                 return Ok(None);
             }
             let refs = Serials::new(Vec::new(alloc));
@@ -60,7 +68,7 @@ fn step_in_graph(alloc: Global, mut graph: Graph, line: Line) -> Result<Option<G
             Ok(Some(graph))
         }
         Line::Reference(serial) => {
-            if !graph.lost.is_empty() || !graph.legacy.is_empty() {
+            if !takes_members(&graph) {
                 return Ok(None);
             }
             if graph.members.refer(serial)? {

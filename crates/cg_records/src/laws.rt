@@ -7,5 +7,4 @@ ghost use Rattle.cg_records.specs.declared.graph.Rec.{Rec};
 /// No two lists of records share a text, so what was written is read as the same records again.
 pub fn one_reading()
     ensures { (a b : List Rec) → All IsWritable a → All IsSmall a → All IsWritable b → All IsSmall b → text a ≡ text b → a ≡ b }
-{
-}
+{}

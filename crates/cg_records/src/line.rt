@@ -131,7 +131,14 @@ pub(crate) fn read_line(bytes: &[u8]) -> Option<(Line, &[u8])>
         Word::Member => {
             let (serial, degree, mark, rest) = read_member(rest)?;
             let legacy = mark == 1;
-            Some((Line::Member { serial, degree, legacy }, rest))
+            Some((
+                Line::Member {
+                    serial,
+                    degree,
+                    legacy,
+                },
+                rest,
+            ))
         }
         Word::Lost => {
             let (serial, rest) = read_last(rest, u64::MAX)?;

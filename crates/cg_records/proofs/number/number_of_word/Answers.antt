@@ -10,7 +10,7 @@ returns-then-not-is_plain_word-clause-none c = λ n small. not_plain c.args.word
 pub returns-in_err-number-clause-none : goal.returns-in_err-number-clause-none
 returns-in_err-number-clause-none c =
     let none : (n : ℕ) → n < 2 ^ 64 → c.args.word.now ≢ decimal n =
-        λ n small. not_digit c.args.word.now n c.digits.digit-index c.digits.number c.digits-test.true c.digits.invariant.value c.in_err-number.ensures.none small in
+    λ n small. not_digit c.args.word.now n c.digits.digit-index c.digits.number c.digits-test.true c.digits.invariant.value c.in_err-number.ensures.none small in
     if_none _ _ none
 
 pub returns-clause-found : goal.returns-clause-found
