@@ -1,18 +1,16 @@
 -- Reading the lines of records, one after the other, ends with these records.
-use Rattle.std.proofs.Common.{◌≡◌, ℕ, Bool, true, false, cond, ◌&&◌, List, [], ◌∷◌, ◌++◌, map, Option, Some, None, refl, sym, ap, ◌∙◌, append_assoc, append-nil}
+use Rattle.std.proofs.Common.{◌≡◌, ℕ, Bool, List, [], ◌∷◌, ◌++◌, map, Option, Some, None, refl, sym, ap, ◌∙◌, append_assoc, append-nil}
 use Rattle.std.specs.Prelude.{flat_map, option_map, IfSome}
 use Rattle.cg_records.specs.declared.graph.Member.{Member}
 use Rattle.cg_records.specs.declared.graph.Graph.{Graph}
 use Rattle.cg_records.specs.declared.graph.Rec.{Rec}
 use Rattle.cg_records.specs.declared.line.Line.{Line}
 use Rattle.cg_records.specs.declared.line.Line.TheVariants as lines
-use Rattle.cg_records.specs.declared.draft.Stage.{Stage}
-use Rattle.cg_records.specs.declared.draft.Stage.TheVariants.{Between, Opened, Within, Ended}
+use Rattle.cg_records.specs.declared.draft.Stage.TheVariants.{Between, Within, Ended}
 use Rattle.cg_records.specs.declared.draft.Draft.{Draft}
 use Rattle.cg_records.specs.Members.{member, with_reference}
-use Rattle.cg_records.specs.Reading.{graph, recorded, draft, in_graph, at_graph, step}
+use Rattle.cg_records.specs.Reading.{graph, recorded, draft, step}
 use Rattle.cg_records.specs.RecordLines.{member_lines, graph_lines, rest_lines, record_lines, all_lines}
-use Rattle.cg_records.specs.Text.{IsWritable}
 
 abbrev pub then : Option Draft → (Draft → Option Draft) → Option Draft
 then None f = None

@@ -5,7 +5,7 @@ use Rattle.std.specs.List.{All}
 use Rattle.std.proofs.lemmas.List.{nil_from_length}
 use Rattle.cg_records.specs.declared.graph.Rec.{Rec}
 use Rattle.cg_records.specs.declared.line.Line.{Line}
-use Rattle.cg_records.specs.declared.draft.Stage.TheVariants.{Between, Opened, Within, Ended}
+use Rattle.cg_records.specs.declared.draft.Stage.TheVariants.{Ended}
 use Rattle.cg_records.specs.declared.draft.Draft.{Draft}
 use Rattle.cg_records.specs.Text.{text, IsWritable, IsSmall, Spells}
 use Rattle.cg_records.specs.Lines.{line_text, IsLine}

@@ -1,5 +1,5 @@
 -- What was read is what the lines say: a line that may stand in its place is one line more of the draft.
-use Rattle.std.proofs.Common.{◌≡◌, ℕ, Bool, true, false, cond, ◌&&◌, List, [], ◌∷◌, ◌++◌, map, Option, Some, None, refl, sym, ap, subst, ◌∙◌, append_assoc, append-nil}
+use Rattle.std.proofs.Common.{◌≡◌, ℕ, Bool, List, [], ◌∷◌, ◌++◌, map, Option, Some, None, refl, sym, ap, subst, ◌∙◌, append_assoc, append-nil}
 use Rattle.std.specs.Prelude.{flat_map, option_map, IfSome}
 use Rattle.std.proofs.lemmas.List.{map_push}
 use Rattle.std.proofs.lemmas.Grind.{flat_map-append}
@@ -13,8 +13,8 @@ use Rattle.cg_records.specs.declared.draft.Stage.TheVariants.{Between, Opened, W
 use Rattle.cg_records.specs.declared.draft.Draft.{Draft}
 use Rattle.cg_records.specs.Members.{member, with_reference}
 use Rattle.cg_records.specs.Reading.{graph, recorded, draft, in_graph, at_graph, step}
-use Rattle.cg_records.specs.RecordLines.{member_lines, graph_lines, rest_lines, record_lines, all_lines}
-use Rattle.cg_records.proofs.Machine.{then, run, start, goes_on, ArePlain}
+use Rattle.cg_records.specs.RecordLines.{member_lines, graph_lines, record_lines, all_lines}
+use Rattle.cg_records.proofs.Machine.{run, start, goes_on, ArePlain}
 
 -- the lines of a graph, with its legacy set
 abbrev full : Graph → List Line

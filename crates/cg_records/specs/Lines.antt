@@ -1,5 +1,5 @@
 -- The lines of records, one by one: a word, and the numbers behind it. (Ours.)
-use Rattle.std.specs.Prelude.{◌≡◌, ℕ, ◌^◌, ◌<◌, ◌≤◌, Bool, true, false, cond, List, [], ◌∷◌, ◌++◌, codes, decimal}
+use Rattle.std.specs.Prelude.{ℕ, ◌^◌, ◌<◌, ◌≤◌, Bool, true, false, List, [], ◌∷◌, ◌++◌, codes, decimal}
 use Rattle.cg_records.specs.declared.line.Word.{Word}
 use Rattle.cg_records.specs.declared.line.Word.TheVariants as words
 use Rattle.cg_records.specs.declared.line.Line.{Line}

@@ -1,5 +1,5 @@
 -- What a line adds to the records that were read so far, where it may stand there. (Ours.)
-use Rattle.std.specs.Prelude.{ℕ, Bool, true, false, cond, ◌&&◌, List, [], ◌∷◌, ◌++◌, Option, Some, None, option_map}
+use Rattle.std.specs.Prelude.{ℕ, cond, ◌&&◌, List, [], ◌∷◌, ◌++◌, Option, Some, None, option_map}
 use Rattle.cg_records.specs.Lists.{none_in}
 use Rattle.cg_records.specs.Members.{member, with_reference}
 use Rattle.cg_records.specs.declared.graph.Member.{Member}
