@@ -5,6 +5,9 @@
 //!
 //! - `serials`: serials in order; `graph`: members, graphs, records of collections.
 //! - `writing`: the text of records.
+//! - `number`, `line`: a number or a line at the front of bytes; `draft`: what was read so far, and which lines may follow;
+//!   `reading`: the loop over the lines.
+//! - `laws`: no two records share a text.
 #![tactic(auto)]
 
 mod draft;
