@@ -63,13 +63,17 @@ fn reread(alloc: Global, bytes: &[u8]) -> Result<Option<Vec<u8>>, AllocError> {
 #[test]
 fn two_graphs_are_read_and_written(rt: HostRuntime) -> Result<(), Fail> {
     let alloc = rt.alloc();
-    let text = b"record 2\ngraph 1\nm 2 1 0\nr 2\nlost 2\ngraph 2\nm 2 1 0\nr 2\nlost 2\nstop\nend\n";
+    let text =
+        b"record 2\ngraph 1\nm 2 1 0\nr 2\nlost 2\ngraph 2\nm 2 1 0\nr 2\nlost 2\nstop\nend\n";
     let read = read_records(alloc, text)?.ok_or("nothing was read")?;
     let rec = read.as_slice().first().ok_or("no record")?;
     assert_eq!(rt; rec.generation, 2);
     let graph = rec.second.as_ref().ok_or("no second graph")?;
     let member = graph.members.as_slice().first().ok_or("no member")?;
-    assert_eq!(rt; (member.serial, member.degree, member.legacy), (2, 1, false));
+    assert_eq!(rt;
+        (member.serial, member.degree, member.legacy),
+        (2, 1, false)
+    );
     assert_eq!(rt; member.refs.as_slice(), [2].as_slice());
     assert_eq!(rt; graph.lost.as_slice(), [2].as_slice());
     assert_eq!(rt; write_records(alloc, &read)?.as_slice(), text.as_slice());
