@@ -40,6 +40,23 @@ pub record IsWritable (r : Rec) : Type 0 where
   pub generation : r.generation ≤ 2
   pub second : IfSome r.second (λ g. g.legacy ≡ [])
 
+-- Each number of a member is below 2 ^ 64.
+pub record IsSmallMember (m : Member) : Type 0 where
+  pub serial : m.serial < 2 ^ 64
+  pub degree : m.degree < 2 ^ 64
+  pub refs : All (λ n. n < 2 ^ 64) m.refs
+
+-- Each number of a graph is below 2 ^ 64.
+pub record IsSmallGraph (g : Graph) : Type 0 where
+  pub members : All IsSmallMember g.members
+  pub lost : All (λ n. n < 2 ^ 64) g.lost
+  pub legacy : All (λ n. n < 2 ^ 64) g.legacy
+
+-- Each number of a record is below 2 ^ 64.
+pub record IsSmall (r : Rec) : Type 0 where
+  pub first : IsSmallGraph r.first
+  pub second : IfSome r.second IsSmallGraph
+
 -- The bytes are the text of records.
 pub record Spells (bytes : List ℕ) (records : List Rec) : Type 0 where
   pub writable : All IsWritable records

@@ -1,7 +1,8 @@
 //! What a collector saw: objects with their in-degrees and references, and the sets that it found.
-ghost use Rattle.std.specs.Prelude.{◌≡◌};
+ghost use Rattle.std.specs.Prelude.{◌≡◌, ◌++◌, ◌∷◌, [], Some, None, cond, IfOk, OnOk};
 
 use crate::serials::Serials;
+use std::alloc::AllocError;
 use std::marker::Model;
 
 /// An object that a collection looked at.
@@ -33,6 +34,8 @@ impl Model for Members {
 }
 
 impl Members {
+    ghost use Rattle.cg_records.specs.Members.{with_reference};
+
     /// These members in order. It takes no memory.
     pub fn new(members: Vec<Member>) -> Members
         ensures { result ≡ members.items }
@@ -45,6 +48,27 @@ impl Members {
         ensures { result.now ≡ self.now }
     {
         self.members.as_slice()
+    }
+
+    pub(crate) fn push(&mut self, member: Member) -> Result<(), AllocError>
+        ensures { OnOk result (self.new ≡ self.old ++ member ∷ []) }
+    {
+        self.members.push(member)?;
+        Ok(())
+    }
+
+    /// Adds a reference to the last member, and tells whether there is one.
+    pub(crate) fn refer(&mut self, serial: u64) -> Result<bool, AllocError>
+        ensures { IfOk result (λ there. with_reference self.old serial ≡ cond there (Some self.new) None) }
+    {
+        match self.members.pop() {
+            None => Ok(false),
+            Some(mut member) => {
+                member.refs.push(serial)?;
+                self.members.push(member)?;
+                Ok(true)
+            }
+        }
     }
 }
 
@@ -97,5 +121,12 @@ impl Records {
         ensures { result.now ≡ self.now }
     {
         self.members.as_slice()
+    }
+
+    pub(crate) fn push(&mut self, rec: Rec) -> Result<(), AllocError>
+        ensures { OnOk result (self.new ≡ self.old ++ rec ∷ []) }
+    {
+        self.members.push(rec)?;
+        Ok(())
     }
 }

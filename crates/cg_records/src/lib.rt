@@ -4,10 +4,25 @@
 //! that, in both directions.
 //!
 //! - `serials`: serials in order; `graph`: members, graphs, records of collections.
+//! - `writing`: the text of records.
+//! - `number`, `line`: a number or a line at the front of bytes; `draft`: what was read so far, and which lines may follow;
+//!   `reading`: the loop over the lines.
+//! - `laws`: no two records share a text.
 #![tactic(auto)]
 
+mod draft;
 mod graph;
+mod laws;
+mod line;
+mod number;
+mod reading;
 mod serials;
+#[cfg(test)]
+mod tests;
+mod writing;
 
 pub use graph::{Graph, Member, Members, Rec, Records};
+pub use laws::one_reading;
+pub use reading::read_records;
 pub use serials::Serials;
+pub use writing::write_records;

@@ -1,6 +1,8 @@
 //! Serials in order, which contracts see as a list.
-ghost use Rattle.std.specs.Prelude.{◌≡◌};
+ghost use Rattle.std.specs.Prelude.{◌≡◌, ◌++◌, ◌∷◌, [], OnOk};
+ghost use Rattle.cg_records.specs.Lists.{none_in};
 
+use std::alloc::AllocError;
 use std::marker::Model;
 
 /// Serials of objects, in order.
@@ -30,5 +32,18 @@ impl Serials {
         ensures { result.now ≡ self.now }
     {
         self.members.as_slice()
+    }
+
+    pub(crate) fn is_empty(&self) -> bool
+        ensures { result ≡ none_in self.now }
+    {
+        self.members.is_empty()
+    }
+
+    pub(crate) fn push(&mut self, serial: u64) -> Result<(), AllocError>
+        ensures { OnOk result (self.new ≡ self.old ++ serial ∷ []) }
+    {
+        self.members.push(serial)?;
+        Ok(())
     }
 }
