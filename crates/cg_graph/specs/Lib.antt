@@ -3,6 +3,7 @@ pub mod Value
 pub mod Object
 pub mod Holdings
 pub mod Reach
+pub mod Path
 pub mod Maps
 pub mod Places
 pub mod Rows
