@@ -4,7 +4,7 @@ use Rattle.std.specs.Prelude.{ℕ, List, [], ◌∷◌, Bool, true, false, map, 
 use Rattle.cg_script.specs.declared.form.Form.{Form}
 use Rattle.cg_script.specs.declared.form.Form.TheVariants as forms
 use Rattle.cg_script.specs.declared.form.Sort.{Sort}
-use Rattle.cg_script.specs.declared.form.Sort.TheVariants.{Key, Variable, Name, Class, Proc, Finalizer, Value, Number, Budget, Count, Flag}
+use Rattle.cg_script.specs.declared.form.Sort.TheVariants.{Key, Variable, Name, Class, Proc, Finalizer, Value, Number, Profile, Budget, Count, Flag}
 
 -- What a form asks for: its word, whether no variable may be that word, the sorts of its first places, and the least and the
 -- greatest number of its words. Each place past the first ones asks for a value.
@@ -57,8 +57,13 @@ row forms.Print = takes (codes "print") (Key ∷ Value ∷ []) 2 2
 row forms.Refs = takes (codes "refs") (Key ∷ Value ∷ []) 2 2
 row forms.Tracked = takes (codes "tracked") (Key ∷ Value ∷ []) 2 2
 row forms.Finalized = takes (codes "finalized") (Key ∷ Value ∷ []) 2 2
+row forms.Referents = asks (codes "referents") false (Key ∷ Value ∷ []) 2 2
+row forms.Referrers = asks (codes "referrers") false (Key ∷ Value ∷ []) 2 2
+row forms.Why = asks (codes "why") false (Key ∷ Variable ∷ []) 2 2
 row forms.Count = takes (codes "count") (Key ∷ []) 1 1
 row forms.Gens = takes (codes "gens") (Key ∷ []) 1 1
+row forms.Profile = asks (codes "profile") false (Key ∷ Profile ∷ []) 2 2
+row forms.Shutdown = asks (codes "shutdown") false (Key ∷ []) 1 1
 row forms.Budget = takes (codes "budget") (Key ∷ Budget ∷ []) 2 2
 row forms.Class = takes (codes "class") (Key ∷ Name ∷ Finalizer ∷ Finalizer ∷ []) 2 4
 row forms.Def = takes (codes "def") (Key ∷ Name ∷ []) 2 2
@@ -81,7 +86,8 @@ binding_forms = forms.MakeList ∷ forms.MakeTuple ∷ forms.MakeDict ∷ forms.
 abbrev pub opening_forms : List Form
 opening_forms = forms.Del ∷ forms.Append ∷ forms.SetItem ∷ forms.DelItem ∷ forms.Put ∷ forms.Remove ∷ forms.SetAttr ∷ forms.DelAttr ∷ forms.Call
     ∷ forms.Quit ∷ forms.Collect ∷ forms.Enable ∷ forms.Disable ∷ forms.Threshold ∷ forms.Flags ∷ forms.Freeze ∷ forms.Unfreeze ∷ forms.Print
-    ∷ forms.Refs ∷ forms.Tracked ∷ forms.Finalized ∷ forms.Count ∷ forms.Gens ∷ forms.Budget ∷ forms.Class ∷ forms.Def ∷ forms.End ∷ []
+    ∷ forms.Refs ∷ forms.Tracked ∷ forms.Finalized ∷ forms.Referents ∷ forms.Referrers ∷ forms.Why ∷ forms.Count ∷ forms.Gens
+    ∷ forms.Profile ∷ forms.Shutdown ∷ forms.Budget ∷ forms.Class ∷ forms.Def ∷ forms.End ∷ []
 
 -- forms by their words
 abbrev pub by_words : List Form → List (List ℕ × Form)

@@ -1,15 +1,17 @@
 -- The lines of a script by what they are: its commands outside procedures, its procedures and its classes, each found by its
 -- number among its own. (Ours.)
-use Rattle.std.specs.Prelude.{◌≡◌, ℕ, List, [], ◌∷◌, map, Some, slice_get}
+use Rattle.std.specs.Prelude.{◌≡◌, ℕ, Bool, true, false, List, [], ◌∷◌, map, Some, slice_get}
 use Rattle.cg_script.specs.declared.command.Command.{Command}
 use Rattle.cg_script.specs.declared.item.ClassDef.{ClassDef}
 use Rattle.cg_script.specs.declared.item.Proc.{Proc}
 use Rattle.cg_script.specs.declared.item.Item.{Item}
-use Rattle.cg_script.specs.declared.item.Item.TheVariants.{Budget, Class, Def, Run}
+use Rattle.cg_script.specs.declared.item.Item.TheVariants.{Profile, Shutdown, Budget, Class, Def, Run}
 
 -- the commands outside procedures
 abbrev pub commands_of : List Item → List Command
 commands_of [] = []
+commands_of (Profile n ∷ items) = commands_of items
+commands_of (Shutdown ∷ items) = commands_of items
 commands_of (Budget n ∷ items) = commands_of items
 commands_of (Class c ∷ items) = commands_of items
 commands_of (Def p ∷ items) = commands_of items
@@ -18,6 +20,8 @@ commands_of (Run c ∷ items) = c ∷ commands_of items
 -- the procedures, in order: procedures and classes are named by their position among their own
 abbrev pub procedures : List Item → List Proc
 procedures [] = []
+procedures (Profile n ∷ items) = procedures items
+procedures (Shutdown ∷ items) = procedures items
 procedures (Budget n ∷ items) = procedures items
 procedures (Class c ∷ items) = procedures items
 procedures (Def p ∷ items) = p ∷ procedures items
@@ -26,10 +30,24 @@ procedures (Run c ∷ items) = procedures items
 -- the classes, in order
 abbrev pub classes : List Item → List ClassDef
 classes [] = []
+classes (Profile n ∷ items) = classes items
+classes (Shutdown ∷ items) = classes items
 classes (Budget n ∷ items) = classes items
 classes (Class c ∷ items) = c ∷ classes items
 classes (Def p ∷ items) = classes items
 classes (Run c ∷ items) = classes items
+
+-- the profile, 1 where none is declared
+abbrev pub profile_of : List Item → ℕ
+profile_of [] = 1
+profile_of (Profile n ∷ items) = n
+profile_of (item ∷ items) = profile_of items
+
+-- whether a shutdown is declared
+abbrev pub declares_shutdown : List Item → Bool
+declares_shutdown [] = false
+declares_shutdown (Shutdown ∷ items) = true
+declares_shutdown (item ∷ items) = declares_shutdown items
 
 -- What stands at these positions, in order, are the lines of these.
 abbrev pub StandAt : {A : Type 0} → (A → Item) → List Item → List ℕ → List A → Type 0

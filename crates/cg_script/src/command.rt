@@ -172,6 +172,18 @@ pub enum Command {
     Finalized {
         value: Operand,
     },
+    /// `referents v`: what the entries of an object refer to. (`gc.get_referents`.)
+    Referents {
+        value: Operand,
+    },
+    /// `referrers v`: the objects whose entries refer to an object. (`gc.get_referrers`.)
+    Referrers {
+        value: Operand,
+    },
+    /// `why x`: a shortest path of holders that leads to the value of x, that x holds it left out.
+    Why {
+        name: u32,
+    },
     /// `count`: the three counts.
     Count,
     /// `gens`: the sizes of the generations and of the permanent one.

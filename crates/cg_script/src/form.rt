@@ -38,8 +38,13 @@ pub enum Form {
     Refs,
     Tracked,
     Finalized,
+    Referents,
+    Referrers,
+    Why,
     Count,
     Gens,
+    Profile,
+    Shutdown,
     Budget,
     Class,
     Def,
@@ -62,6 +67,8 @@ pub enum Sort {
     Finalizer,
     Value,
     Number,
+    /// 1 or 2.
+    Profile,
     /// A count up to 100,000.
     Budget,
     /// A count up to 2,147,483,647.
@@ -126,7 +133,7 @@ pub(crate) fn row_for(form: Form) -> Row
     ensures fewest { result.fewest ≡ (row_of form).fewest }
     ensures most { result.most ≡ (row_of form).most }
 {
-    use Sort::{Budget, Class, Count, Finalizer, Flag, Key, Name, Number, Proc, Value, Variable};
+    use Sort::{Budget, Class, Count, Finalizer, Flag, Key, Name, Number, Proc, Profile, Value, Variable};
     match form {
         Form::MakeList => takes(b"list", &[Variable, Key, Key], 3, 64),
         Form::MakeTuple => takes(b"tuple", &[Variable, Key, Key], 4, 64),
@@ -160,8 +167,13 @@ pub(crate) fn row_for(form: Form) -> Row
         Form::Refs => takes(b"refs", &[Key, Value], 2, 2),
         Form::Tracked => takes(b"tracked", &[Key, Value], 2, 2),
         Form::Finalized => takes(b"finalized", &[Key, Value], 2, 2),
+        Form::Referents => asks(b"referents", false, &[Key, Value], 2, 2),
+        Form::Referrers => asks(b"referrers", false, &[Key, Value], 2, 2),
+        Form::Why => asks(b"why", false, &[Key, Variable], 2, 2),
         Form::Count => takes(b"count", &[Key], 1, 1),
         Form::Gens => takes(b"gens", &[Key], 1, 1),
+        Form::Profile => asks(b"profile", false, &[Key, Profile], 2, 2),
+        Form::Shutdown => asks(b"shutdown", false, &[Key], 1, 1),
         Form::Budget => takes(b"budget", &[Key, Budget], 2, 2),
         Form::Class => takes(b"class", &[Key, Name, Finalizer, Finalizer], 2, 4),
         Form::Def => takes(b"def", &[Key, Name], 2, 2),
@@ -201,7 +213,7 @@ static BINDINGS: [Form; 10] = [
 ];
 
 /// The forms of the other lines, which their first word picks.
-static OPENERS: [Form; 27] = [
+static OPENERS: [Form; 32] = [
     Form::Del,
     Form::Append,
     Form::SetItem,
@@ -223,8 +235,13 @@ static OPENERS: [Form; 27] = [
     Form::Refs,
     Form::Tracked,
     Form::Finalized,
+    Form::Referents,
+    Form::Referrers,
+    Form::Why,
     Form::Count,
     Form::Gens,
+    Form::Profile,
+    Form::Shutdown,
     Form::Budget,
     Form::Class,
     Form::Def,

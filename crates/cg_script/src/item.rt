@@ -22,6 +22,10 @@ pub struct Proc {
 /// A declaration, or a command outside procedures. Procedures and classes are named by their position among their own.
 #[derive(Drop)]
 pub enum Item {
+    /// Which rules weak references without a callback follow in a collection: 1, those of CPython, or 2.
+    Profile(u8),
+    /// At the end all names are given up, and what is left is collected and counted.
+    Shutdown,
     /// How many frames may start, 0 to 100,000.
     Budget(u32),
     /// A class.
