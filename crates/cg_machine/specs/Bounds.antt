@@ -3,14 +3,15 @@
 use Rattle.std.specs.Prelude.{◌≡◌, ℕ, ◌+◌, ◌*◌, ◌≤◌, Bool, true, false, List, [], ◌∷◌, ◌++◌, length, count_by, flat_map}
 use Rattle.cg_script.specs.declared.Script.{Script}
 use Rattle.cg_script.specs.declared.Command.{Command}
-use Rattle.cg_machine.specs.World.{World, Activity, TopLevel, Framed, Releasing, Dying}
+use Rattle.cg_machine.specs.World.{World, Activity, TopLevel, Framed, Releasing, Dying, ShuttingDown}
 use Rattle.cg_machine.specs.Holdings.{holds, is_collection}
 use Rattle.cg_machine.specs.Run.{StepTaken, IsRun, world_after}
 use Rattle.cg_machine.specs.Laws.{all_waits}
 
--- what an activity is
+-- the script's own commands, or the shutdown that follows them
 abbrev pub is_top_level : Activity → Bool
 is_top_level (TopLevel commands) = true
+is_top_level (ShuttingDown started) = true
 is_top_level activity = false
 
 -- a frame
@@ -28,11 +29,12 @@ abbrev pub is_death : Activity → Bool
 is_death (Dying d) = true
 is_death activity = false
 
--- the script's own commands stand at the bottom, and nowhere else
+-- the script's own commands, or its shutdown, stand at the bottom, and nowhere else
 pub record IsOverTopLevel (stack : List Activity) : Type 0 where
   pub others : List Activity
-  pub commands : List Command
-  pub bottom : stack ≡ others ++ TopLevel commands ∷ []
+  pub lowest : Activity
+  pub is : is_top_level lowest ≡ true
+  pub bottom : stack ≡ others ++ lowest ∷ []
   pub nowhere_else : count_by is_top_level others ≡ 0
 
 -- no release is on top

@@ -16,11 +16,11 @@ use Rattle.cg_graph.specs.Reach.{Reach, Unreachable, IsOutsideHeld, edges}
 use Rattle.cg_machine.specs.declared.event.Event.{Event}
 use Rattle.cg_machine.specs.declared.event.Event.TheVariants.{Cleared, Alive, GcStart, GcCollectable, GcUncollectable, GcSaved, GcStop, Collected}
 use Rattle.cg_machine.specs.declared.event.FrameSort.TheVariants.{Del, Callback}
-use Rattle.cg_machine.specs.Program.{legacy_of}
+use Rattle.cg_machine.specs.Program.{legacy_of, profile_of}
 use Rattle.cg_machine.specs.World.{with_objects, World, Activity, Releasing, Collecting, Collection, CollectPhase, Start, WeakClearing, WeakCalling, AfterCallback, AfterRelease, Finalizing, AfterFinalizing, Split, Turns, Turn, AfterTurn, Ending, Numbers, push, with_stack, with_change}
 use Rattle.cg_machine.specs.Holdings.{holdings}
 use Rattle.cg_machine.specs.Frame.{Transition, Yields, start_frame, procedure_of}
-use Rattle.cg_machine.specs.Weak.{loses_referent, callback_of, MayLoseNext, NoneLeft, AllLose}
+use Rattle.cg_machine.specs.Weak.{loses_referent, callback_in, callback_of, MayLoseNext, NoneLeft, AllLose}
 use Rattle.cg_machine.specs.Dying.{finalizer_to_run}
 use Rattle.cg_machine.specs.Effects.{gens_line}
 use Rattle.cg_machine.specs.Operands.{is_dict}
@@ -170,9 +170,13 @@ is_condemned x = is_at Cand x || is_at Seen x
 abbrev pub is_condemned_in : List Object → ℕ → Bool
 is_condemned_in objects o = unwrap_or (option_map is_condemned (object_at objects o)) false
 
+-- which weak references lose their referent before the finalizers: in profile 2 those with a callback alone (ours)
+abbrev pub is_lost_early : ℕ → Object → Bool
+is_lost_early profile x = not (profile == 2) || is_some (callback_in x.entries)
+
 -- The weak phase: weak references to condemned objects, and condemned ones with a referent, lose it.
-abbrev pub loses_in_weak_phase : List Object → Object → Bool
-loses_in_weak_phase objects x = unwrap_or (option_map (λ o. is_condemned_in objects o || is_condemned x) x.referent) false
+abbrev pub loses_in_weak_phase : ℕ → List Object → Object → Bool
+loses_in_weak_phase profile objects x = is_lost_early profile x && unwrap_or (option_map (λ o. is_condemned_in objects o || is_condemned x) x.referent) false
 
 -- One that is not condemned and has a callback waits. (`weakref` manual: a condemned weak reference is not called back.)
 abbrev pub waits : List Object → ℕ → Bool
@@ -188,15 +192,15 @@ clears_one c waiting below w weak = (
 )
 
 -- any that is next may be the one
-pub record ClearsOne (c : Collection) (waiting : List ℕ) (below : List Activity) (w : World) (events : List Event) (after : World) : Type 0 where
+pub record ClearsOne (profile : ℕ) (c : Collection) (waiting : List ℕ) (below : List Activity) (w : World) (events : List Event) (after : World) : Type 0 where
   pub weak : ℕ
-  pub newest : MayLoseNext (loses_in_weak_phase w.objects) w.objects weak
+  pub newest : MayLoseNext (loses_in_weak_phase profile w.objects) w.objects weak
   pub yields : Yields (clears_one c waiting below w weak) events after
 
 -- when none is left, the callbacks follow
-abbrev pub WeakClearingStep : Collection → List ℕ → List Activity → World → List Event → World → Type 0
-WeakClearingStep c waiting below w events after =
-    ClearsOne c waiting below w events after ⊎ NoneLeft (loses_in_weak_phase w.objects) w.objects × Yields ([], collection_at c (WeakCalling waiting) below w) events after
+abbrev pub WeakClearingStep : ℕ → Collection → List ℕ → List Activity → World → List Event → World → Type 0
+WeakClearingStep profile c waiting below w events after =
+    ClearsOne profile c waiting below w events after ⊎ NoneLeft (loses_in_weak_phase profile w.objects) w.objects × Yields ([], collection_at c (WeakCalling waiting) below w) events after
 
 -- The first of those that wait has its callback called. Then it leaves the list and is given up.
 abbrev pub calls_back : Script → Collection → List ℕ → List Activity → World → Transition
@@ -238,16 +242,21 @@ abbrev pub FinalizingStep : Script → Collection → List Activity → World �
 FinalizingStep script c below w events after =
     LooksAtOne script c below w events after ⊎ NoneAt w Cand × Yields ([], collection_at c Split below (replaced_place Seen Cand w)) events after
 
--- weak references to the final set that finalizers made
+-- whether an object, by its serial, is a member of the final set
+abbrev pub is_final_in : List Object → ℕ → Bool
+is_final_in objects o = unwrap_or (option_map (is_at Cand) (object_at objects o)) false
+
+-- At the second detection weak references to members, and members with a referent, lose it: those that finalizers made, and
+-- in profile 2 those that kept it so far.
 abbrev pub loses_at_split : List Object → Object → Bool
-loses_at_split objects x = unwrap_or (option_map (λ o. unwrap_or (option_map (is_at Cand) (object_at objects o)) false) x.referent) false
+loses_at_split objects x = unwrap_or (option_map (λ o. is_final_in objects o || is_at Cand x) x.referent) false
 
 -- those that are alive go to the older generation
 abbrev pub get_older : ℕ → List ℕ → List Object → List Object
 get_older g alive objects = map (λ x. if includes alive x.serial then with_place (Gen (older g)) x else x) objects
 
 -- The second detection (PEP 442): survivors are alive and get older; the rest is the final set, and weak references to it
--- lose their referents without callback.
+-- and in it lose their referents without callback.
 pub record SplitStep (c : Collection) (below : List Activity) (w : World) (events : List Event) (after : World) : Type 0 where
   pub alive : List ℕ
   pub survivors : (o : ℕ) → Includes alive o ↔ Survives w Cand o
@@ -312,7 +321,7 @@ pub record EndStep (script : Script) (c : Collection) (below : List Activity) (w
 -- what a collection may do at each phase
 abbrev pub PhaseStep : Script → Collection → CollectPhase → List Activity → World → List Event → World → Type 0
 PhaseStep script c Start below w events after = StartStep script w c below events after
-PhaseStep script c (WeakClearing waiting) below w events after = WeakClearingStep c waiting below w events after
+PhaseStep script c (WeakClearing waiting) below w events after = WeakClearingStep (profile_of script.items) c waiting below w events after
 PhaseStep script c (WeakCalling waiting) below w events after = Yields (calls_back script c waiting below w) events after
 PhaseStep script c (AfterCallback weak waiting) below w events after = Yields ([], push (Releasing (weak ∷ [])) (collection_at c (AfterRelease weak waiting) below w)) events after
 PhaseStep script c (AfterRelease weak waiting) below w events after = Yields (after_release c weak waiting below w) events after

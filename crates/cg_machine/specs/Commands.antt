@@ -1,23 +1,26 @@
 -- What each command does, or the first refusal that holds. One clause for each command. (Ours, after what Python does:
 -- docs/SCRIPT.md has the table.)
-use Rattle.std.specs.Prelude.{◌≡◌, ℕ, Bool, true, false, List, [], ◌∷◌, ◌++◌, Some, None, Result, Ok, Err, if◌then◌else◌, unwrap_or, ok_or, map, length, slice_get, slice_set, remove, ◌⊎◌}
+use Rattle.std.specs.Prelude.{◌≡◌, ℕ, Bool, true, false, not, List, [], ◌∷◌, ◌++◌, Some, None, Result, Ok, Err, if◌then◌else◌, unwrap_or, ok_or, map, length, slice_get, slice_set, remove, ◌⊎◌}
 use Rattle.cg_value.specs.declared.Val.TheVariants.{None as Nothing, Str, Ref}
 use Rattle.cg_value.specs.declared.KindCode.TheVariants.{List as ListKind, Tuple, Dict, Inst, Func, Weak}
 use Rattle.cg_script.specs.declared.Script.{Script}
 use Rattle.cg_script.specs.declared.Operand.TheVariants.{Name}
 use Rattle.cg_script.specs.declared.Command.{Command}
-use Rattle.cg_script.specs.declared.Command.TheVariants.{MakeList, MakeTuple, MakeDict, MakeInst, MakeFunc, MakeRef, Bind, Del, Append, SetItem, DelItem, Put, Remove, SetAttr, DelAttr, Item, Get, Attr, Deref, Call, Quit, Collect, Enable, Disable, Threshold, Flags, Freeze, Unfreeze, Print, Refs, Tracked, Finalized, Count, Gens}
-use Rattle.cg_graph.specs.Value.{entry_references, item, value_at, without_key, entry_at}
+use Rattle.cg_script.specs.declared.Command.TheVariants.{MakeList, MakeTuple, MakeDict, MakeInst, MakeFunc, MakeRef, Bind, Del, Append, SetItem, DelItem, Put, Remove, SetAttr, DelAttr, Item, Get, Attr, Deref, Call, Quit, Collect, Enable, Disable, Threshold, Flags, Freeze, Unfreeze, Print, Refs, Tracked, Finalized, Referents, Referrers, Why, Count, Gens}
+use Rattle.cg_graph.specs.Value.{entry_references, references, item, value_at, without_key, entry_at}
 use Rattle.cg_graph.specs.Object.{with_entries, is_tracked}
+use Rattle.cg_graph.specs.Holdings.{graph_of}
+use Rattle.cg_graph.specs.Reach.{edges}
+use Rattle.cg_graph.specs.Path.{IsHeldElse, IsShortestPath, HasNoPath}
 use Rattle.cg_machine.specs.declared.event.Event.{Event}
-use Rattle.cg_machine.specs.declared.event.Event.TheVariants.{Value, RefCount, Tracked as TrackedLine, Finalized as FinalizedLine, Count as CountLine, Refused, Collected}
+use Rattle.cg_machine.specs.declared.event.Event.TheVariants.{Value, RefCount, Tracked as TrackedLine, Finalized as FinalizedLine, Referent, Referrer, Held, Via, Unreachable, Count as CountLine, Refused, Collected}
 use Rattle.cg_machine.specs.declared.event.FrameSort.TheVariants.{Call as CallFrame}
 use Rattle.cg_machine.specs.World.{World, Activity, TopLevel, Framed, Releasing, Collecting, Start, push, with_stack, with_change}
-use Rattle.cg_machine.specs.Holdings.{in_degree, is_collecting}
+use Rattle.cg_machine.specs.Holdings.{in_degree, is_collecting, other_holdings}
 use Rattle.cg_machine.specs.Frame.{procedure_of, Transition, Yields, start_frame}
-use Rattle.cg_machine.specs.Refusals.{bad_generation, no_attribute, no_index, no_key, no_memory, not_callable, not_weak, unhashable, wrong_kind, unless, ◌>>=◌}
+use Rattle.cg_machine.specs.Refusals.{bad_generation, in_collection, no_attribute, no_index, no_key, no_memory, not_callable, not_weak, unhashable, wrong_kind, unless, ◌>>=◌}
 use Rattle.cg_machine.specs.Operands.{any_object, is_dict, is_list, is_script_list, is_sequence, is_weak, object, object_of, value, values}
-use Rattle.cg_machine.specs.Effects.{Calls, Changes, Collects, Effect, Quits, binds, bound, callback_entries, frozen, gens_line, given_up_by, has_room, is_hashable, makes, place_of_index, prints, puts, replaced, sets_entries, sets_numbers, unfrozen}
+use Rattle.cg_machine.specs.Effects.{Calls, Changes, Collects, Effect, Explains, Quits, binds, bound, callback_entries, frozen, gens_line, given_up_by, has_room, is_hashable, lists, makes, place_of_index, prints, puts, referrers, replaced, sets_entries, sets_numbers, unfrozen}
 use Rattle.cg_machine.specs.Weak.{has_weak_references, is_function, is_instance}
 
 -- the command of a world whose top has the commands after it
@@ -139,6 +142,21 @@ effect w (Tracked operand) = do
 effect w (Finalized operand) = do
   v ← value w operand
   prints w (FinalizedLine (elim (object_of w v) [ None ↦ false | Some x ↦ x.finalized ]))
+effect w (Referents operand) = do
+  v ← value w operand
+  x ← object w any_object wrong_kind v
+  _ ← unless (not (is_collecting w)) in_collection
+  lists w Referent (references x.entries)
+effect w (Referrers operand) = do
+  v ← value w operand
+  x ← object w any_object wrong_kind v
+  _ ← unless (not (is_collecting w)) in_collection
+  lists w Referrer (referrers w x.serial)
+effect w (Why name) = do
+  v ← value w (Name name)
+  x ← object w any_object wrong_kind v
+  _ ← unless (not (is_collecting w)) in_collection
+  Ok (Explains x.serial)
 effect w Count = prints w (CountLine w.numbers.zero_count w.numbers.one_count w.numbers.two_count)
 effect w Gens = prints w (gens_line w.objects)
 
@@ -161,6 +179,16 @@ refused refusal w = (Refused refusal ∷ [], with_stack (stopped_frame w.stack) 
 abbrev pub new_collection : ℕ → Bool → World → Activity
 new_collection g asked w = Collecting (record { generation = g; flags = w.numbers.flags; asked = asked; collected = 0; phase = Start })
 
+-- the lines of a path
+abbrev pub path_lines : List ℕ → List Event
+path_lines [] = []
+path_lines (first ∷ path) = Held first ∷ map Via path
+
+-- What `why` tells of an object: a path of holders than which none is shorter, or that there is none.
+pub data Explanation (w : World) (object : ℕ) : List Event → Type 0 where
+  HasPath : (path : List ℕ) → IsShortestPath (IsHeldElse (other_holdings w) object) (edges (graph_of w.objects)) path object → Explanation w object (path_lines path)
+  HasNone : HasNoPath (IsHeldElse (other_holdings w) object) (edges (graph_of w.objects)) object → Explanation w object (Unreachable ∷ [])
+
 -- Where memory may be wanted, the refusal for want of it is allowed besides the effect.
 abbrev pub DoesEffect : Script → World → Result Effect ℕ → List Event → World → Type 0
 DoesEffect script w (Err refusal) events after = Yields (refused refusal w) events after
@@ -170,6 +198,8 @@ DoesEffect script w (Ok (Calls f)) events after =
     Yields (start_frame script (record { sort = CallFrame; proc = procedure_of w f; subject = f; func = Some f }) w) events after
 DoesEffect script w (Ok (Collects g)) events after =
     Yields (if is_collecting w then (Collected 0 ∷ [], w) else ([], push (new_collection g true w) w)) events after
+DoesEffect script w (Ok (Explains o)) events after =
+    Explanation w o events × (after ≡ push (Releasing []) w) ⊎ Yields (refused no_memory w) events after
 DoesEffect script w (Ok Quits) events after = Yields ([], with_stack (without_commands w.stack) w) events after
 
 -- the step of a command

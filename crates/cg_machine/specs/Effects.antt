@@ -1,5 +1,5 @@
 -- What commands do to a world. (Ours; a dictionary becomes tracked when it holds what may be tracked: `gc.is_tracked`.)
-use Rattle.std.specs.Prelude.{ℕ, ◌+◌, ℤ, pos, negsuc, Bool, true, false, not, ◌&&◌, ◌||◌, ◌==◌, nat_lt, nat_le, List, [], ◌∷◌, ◌++◌, Option, Some, None, Result, Ok, if◌then◌else◌, option_and_then, map, length, slice_get, slice_set, sum_by, count_by, is_some, is_none}
+use Rattle.std.specs.Prelude.{ℕ, ◌+◌, ℤ, pos, negsuc, Bool, true, false, not, ◌&&◌, ◌||◌, ◌==◌, nat_lt, nat_le, List, [], ◌∷◌, ◌++◌, Option, Some, None, Result, Ok, if◌then◌else◌, option_and_then, map, filter, length, slice_get, slice_set, sum_by, count_by, is_some, is_none}
 use Rattle.cg_value.specs.declared.Val.{Val}
 use Rattle.cg_value.specs.declared.Val.TheVariants.{None as Nothing, Ref}
 use Rattle.cg_value.specs.declared.Entry.{Entry}
@@ -7,20 +7,23 @@ use Rattle.cg_value.specs.declared.KindCode.{KindCode}
 use Rattle.cg_value.specs.declared.Place.{Place}
 use Rattle.cg_value.specs.declared.Place.TheVariants.{Gen, Frozen}
 use Rattle.cg_graph.specs.Value.{item, value_at, put, references_of_value}
-use Rattle.cg_graph.specs.Object.{first_place, Object, with_entries, with_place, is_tracked, may_be_tracked, serials_at}
+use Rattle.cg_graph.specs.Object.{first_place, Object, with_entries, with_place, is_tracked, may_be_tracked, serials, serials_at}
+use Rattle.cg_graph.specs.Path.{refers_to}
 use Rattle.cg_machine.specs.declared.event.Event.{Event}
-use Rattle.cg_machine.specs.declared.event.Event.TheVariants.{Made, Gens as GensLine}
+use Rattle.cg_machine.specs.declared.event.Event.TheVariants.{Made, Listed, Gens as GensLine}
 use Rattle.cg_machine.specs.World.{World, Numbers, with_change}
 use Rattle.cg_machine.specs.Refusals.{entry_limit, most_entries, most_objects, not_callable, object_limit, unless, ◌>>=◌}
 use Rattle.cg_machine.specs.Operands.{is_dict, object, object_of}
 use Rattle.cg_machine.specs.Weak.{has_weak_references, is_function}
 
--- What a command does. Changes: the lines, the references to be given up, and whether memory may be wanted.
+-- What a command does. Changes: the lines, the references to be given up, and whether memory may be wanted. Explains: the
+-- lines of a path of holders to the object, any of the shortest.
 pub data Effect : Type 0 where
   Changes : (wants_memory : Bool) (lines : List Event) (given_up : List ℕ) (after : World) → Effect
   Calls : (function : ℕ) → Effect
   Collects : (generation : ℕ) → Effect
   Quits : Effect
+  Explains : (object : ℕ) → Effect
 
 -- the sizes of the generations and of the permanent one
 abbrev pub gens_line : List Object → Event
@@ -96,6 +99,14 @@ puts w x key v = do
 -- an answer that changes nothing
 abbrev pub prints : World → Event → Result Effect ℕ
 prints w line = Ok (Changes false (line ∷ []) [] w)
+
+-- Objects are told, a line each, and then how many. Memory may be wanted for the list.
+abbrev pub lists : World → (ℕ → Event) → List ℕ → Result Effect ℕ
+lists w line objects = Ok (Changes true (map line objects ++ Listed (length objects) ∷ []) [] w)
+
+-- the objects whose entries refer to one, by rising serial
+abbrev pub referrers : World → ℕ → List ℕ
+referrers w o = serials (filter (refers_to o) w.objects)
 
 -- the numbers change
 abbrev pub sets_numbers : World → Numbers → Result Effect ℕ

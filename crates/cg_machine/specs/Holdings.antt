@@ -5,7 +5,7 @@ use Rattle.std.specs.List.{list_any}
 use Rattle.cg_graph.specs.Holdings.{name_holdings, occurrences, entry_holdings, graph_of}
 use Rattle.cg_machine.specs.declared.event.FrameSort.{FrameSort}
 use Rattle.cg_machine.specs.declared.event.FrameSort.TheVariants.{Del, Legacy, Callback, Call}
-use Rattle.cg_machine.specs.World.{World, Activity, TopLevel, Framed, Releasing, Dying, Collecting, DyingPhase, Finalizer, AfterFinalizer, Clearing, Calling, AfterCall, LegacyFinalizer, AfterLegacy, Detaching, Emptying, CollectPhase, Start, WeakClearing, WeakCalling, AfterCallback, AfterRelease, Finalizing, AfterFinalizing, Split, Turns, Turn, AfterTurn, Ending}
+use Rattle.cg_machine.specs.World.{World, Activity, TopLevel, Framed, Releasing, Dying, Collecting, ShuttingDown, DyingPhase, Finalizer, AfterFinalizer, Clearing, Calling, AfterCall, LegacyFinalizer, AfterLegacy, Detaching, Emptying, CollectPhase, Start, WeakClearing, WeakCalling, AfterCallback, AfterRelease, Finalizing, AfterFinalizing, Split, Turns, Turn, AfterTurn, Ending}
 
 -- a frame holds its function where a command called it; the locals of other frames are held by what started them
 abbrev pub call_holds : FrameSort → Option ℕ → List ℕ
@@ -48,11 +48,16 @@ holds (Framed f) = call_holds f.sort f.function
 holds (Releasing references) = references
 holds (Dying d) = dying_holds d.object d.phase
 holds (Collecting c) = collect_holds c.phase
+holds (ShuttingDown started) = []
 
 -- The holdings of a world: an object for each time that a name, the garbage root (which holds the garbage list), an entry
 -- of an object, or an activity holds it. Objects that are dying still hold what their entries hold.
 abbrev pub holdings : World → List ℕ
 holdings w = name_holdings w.names ++ (1 ∷ []) ++ entry_holdings (graph_of w.objects) ++ flat_map holds w.stack
+
+-- how often names, the garbage root and what is under way hold an object
+abbrev pub other_holdings : World → ℕ → ℕ
+other_holdings w o = occurrences o (name_holdings w.names ++ (1 ∷ []) ++ flat_map holds w.stack)
 
 -- how often an object is held
 abbrev pub in_degree : World → ℕ → ℕ
@@ -65,6 +70,7 @@ is_death_of o (Framed f) = false
 is_death_of o (Releasing references) = false
 is_death_of o (Dying d) = d.object == o
 is_death_of o (Collecting c) = false
+is_death_of o (ShuttingDown started) = false
 
 -- whether one is on the stack
 abbrev pub is_dying : World → ℕ → Bool
@@ -77,6 +83,7 @@ is_collection (Framed f) = false
 is_collection (Releasing references) = false
 is_collection (Dying d) = false
 is_collection (Collecting c) = true
+is_collection (ShuttingDown started) = false
 
 -- at most one collection is on the stack
 abbrev pub is_collecting : World → Bool

@@ -15,10 +15,10 @@ use Rattle.cg_graph.specs.Object.{Object, entries_of, serials, serials_at}
 use Rattle.cg_graph.specs.Holdings.{occurrences, graph_of, name_holdings}
 use Rattle.cg_graph.specs.Reach.{Reach, IsOutsideHeld, edges}
 use Rattle.cg_machine.specs.declared.event.Event.{Event}
-use Rattle.cg_machine.specs.declared.event.Event.TheVariants.{Made, Enter, Cleared, Free, Alive, GcCollectable, GcUncollectable, GcSaved, GcStop, Value}
+use Rattle.cg_machine.specs.declared.event.Event.TheVariants.{Made, Enter, Cleared, Free, Alive, GcCollectable, GcUncollectable, GcSaved, GcStop, Value, Referent, Referrer, Held, Via}
 use Rattle.cg_machine.specs.declared.event.FrameSort.TheVariants.{Del, Call}
 use Rattle.cg_machine.specs.Program.{finalizer_of, legacy_of}
-use Rattle.cg_machine.specs.World.{World, Activity, TopLevel, Framed, Releasing, Dying, Collecting, Frame, Death, DyingPhase, AfterFinalizer, Calling, AfterCall, LegacyFinalizer, AfterLegacy, Emptying, Collection, CollectPhase, WeakClearing, WeakCalling, AfterCallback, AfterRelease, Split, Start, Outcome}
+use Rattle.cg_machine.specs.World.{World, Activity, TopLevel, Framed, Releasing, Dying, Collecting, ShuttingDown, Frame, Death, DyingPhase, AfterFinalizer, Calling, AfterCall, LegacyFinalizer, AfterLegacy, Emptying, Collection, CollectPhase, WeakClearing, WeakCalling, AfterCallback, AfterRelease, Split, Start, Outcome}
 use Rattle.cg_machine.specs.Holdings.{holdings, in_degree, is_collection, is_dying, holds}
 use Rattle.cg_machine.specs.Weak.{callback_in, has_weak_references, is_function}
 use Rattle.cg_machine.specs.Collect.{has_flag, is_condemned, save_all}
@@ -68,6 +68,7 @@ waits_of (Framed f) = []
 waits_of (Releasing references) = []
 waits_of (Dying d) = death_waits d.phase
 waits_of (Collecting c) = collection_waits c.phase
+waits_of (ShuttingDown started) = []
 
 -- all of a stack
 abbrev pub all_waits : List Activity → List ℕ
@@ -170,6 +171,10 @@ named (GcCollectable n) = n ∷ []
 named (GcUncollectable n) = n ∷ []
 named (GcSaved n) = n ∷ []
 named (Value v) = option_to_list (reference_in v)
+named (Referent n) = n ∷ []
+named (Referrer n) = n ∷ []
+named (Held n) = n ∷ []
+named (Via n) = n ∷ []
 named event = []
 
 -- what a line tells
@@ -206,6 +211,7 @@ HoldsNot o (Framed f) = ¬ Includes (holds (Framed f)) o
 HoldsNot o (Releasing references) = Unit {0}
 HoldsNot o (Dying d) = ¬ Includes (holds (Dying d)) o
 HoldsNot o (Collecting c) = Unit {0}
+HoldsNot o (ShuttingDown started) = Unit {0}
 
 -- the locals of a frame, which are `self`, `ref` and what the cells of its function hold, and the function itself
 abbrev pub function_and_cells : List Object → Option ℕ → List ℕ
@@ -278,6 +284,7 @@ MayLoseEntries script budget steps x w (Framed f ∷ below) = (f.commands ≢ []
 MayLoseEntries script budget steps x w (Releasing references ∷ below) = ⊥
 MayLoseEntries script budget steps x w (Dying d ∷ below) = (d.object ≡ x.serial) ⊎ (x.code ≡ Weak) × ReferredTo script budget steps x.serial d.object
 MayLoseEntries script budget steps x w (Collecting c ∷ below) = ⊥
+MayLoseEntries script budget steps x w (ShuttingDown started ∷ below) = ⊥
 
 -- An object that never was in such a final set loses an entry only so.
 abbrev pub EntriesLeaveOnlyBy : Type 0

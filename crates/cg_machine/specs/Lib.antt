@@ -10,6 +10,7 @@ pub mod Effects
 pub mod Commands
 pub mod Collect
 pub mod Due
+pub mod Shutdown
 pub mod Run
 pub mod Lines
 pub mod Laws

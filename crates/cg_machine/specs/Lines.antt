@@ -9,7 +9,7 @@ use Rattle.cg_script.specs.declared.Script.{Script}
 use Rattle.cg_machine.specs.declared.event.FrameSort.{FrameSort}
 use Rattle.cg_machine.specs.declared.event.FrameSort.TheVariants.{Del, Legacy, Callback, Call}
 use Rattle.cg_machine.specs.declared.event.Event.{Event}
-use Rattle.cg_machine.specs.declared.event.Event.TheVariants.{Made, Enter, Leave, Cleared, Free, Alive, GcStart, GcCollectable, GcUncollectable, GcSaved, GcStop, Collected, Value, RefCount, Tracked, Finalized, Count, Gens, Refused, BudgetSpent, End}
+use Rattle.cg_machine.specs.declared.event.Event.TheVariants.{Made, Enter, Leave, Cleared, Free, Alive, GcStart, GcCollectable, GcUncollectable, GcSaved, GcStop, Collected, Value, RefCount, Tracked, Finalized, Referent, Referrer, Listed, Held, Via, Unreachable, Count, Gens, Refused, BudgetSpent, Left, End}
 use Rattle.cg_machine.specs.Run.{StepTaken, events_of}
 
 -- the word of a kind
@@ -66,10 +66,17 @@ words_of names (Value v) = codes "value " ++ value_text names v
 words_of names (RefCount n) = codes "refs" ++ number_text n
 words_of names (Tracked b) = codes "tracked " ++ yes_or_no b
 words_of names (Finalized b) = codes "finalized " ++ yes_or_no b
+words_of names (Referent n) = codes "referent" ++ serial_text n
+words_of names (Referrer n) = codes "referrer" ++ serial_text n
+words_of names (Listed n) = codes "listed" ++ number_text n
+words_of names (Held n) = codes "held" ++ serial_text n
+words_of names (Via n) = codes "via" ++ serial_text n
+words_of names Unreachable = codes "unreachable"
 words_of names (Count a b c) = codes "count" ++ number_text a ++ number_text b ++ number_text c
 words_of names (Gens a b c p) = codes "gens" ++ number_text a ++ number_text b ++ number_text c ++ number_text p
 words_of names (Refused k) = codes "refused" ++ number_text k
 words_of names BudgetSpent = codes "budget spent"
+words_of names (Left n) = codes "left" ++ number_text n
 words_of names End = codes "end"
 
 -- A value can be printed where its text is known and has at most 1,024 bytes, the length of a line of a script.

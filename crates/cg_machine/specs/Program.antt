@@ -6,7 +6,7 @@ use Rattle.cg_script.specs.declared.Command.{Command}
 use Rattle.cg_value.specs.declared.KindCode.{KindCode}
 use Rattle.cg_value.specs.declared.KindCode.TheVariants.{List as ListKind, Tuple, Dict, Inst, Func, Weak}
 use Rattle.cg_graph.specs.Object.{Object}
-pub use Rattle.cg_script.specs.Items.{commands_of, procedures, classes}
+pub use Rattle.cg_script.specs.Items.{commands_of, procedures, classes, profile_of, declares_shutdown}
 
 -- the body of a procedure; none where the script has no such procedure
 abbrev pub body_of : Script → ℕ → List Command

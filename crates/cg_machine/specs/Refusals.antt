@@ -50,6 +50,10 @@ object_limit = 11
 abbrev pub entry_limit : ℕ
 entry_limit = 12
 
+-- a collection is under way, and the command tells of objects that it may be about to free
+abbrev pub in_collection : ℕ
+in_collection = 13
+
 -- the numbers of live objects and of entries that no run passes
 abbrev pub most_objects : ℕ
 most_objects = 1000000

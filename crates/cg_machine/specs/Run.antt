@@ -1,21 +1,22 @@
 -- Steps and runs of the machine. Only the activity on top steps. (Ours. That an automatic collection starts only between
 -- two commands stands for the points at which CPython's evaluation loop looks for one.)
-use Rattle.std.specs.Prelude.{◌≡◌, ◌≢◌, ℕ, List, [], ◌∷◌, ◌++◌, false, Option, Some, None}
+use Rattle.std.specs.Prelude.{◌≡◌, ◌≢◌, ℕ, List, [], ◌∷◌, ◌++◌, Bool, false, Option, Some, None}
 use Rattle.cg_script.specs.declared.Script.{Script}
 use Rattle.cg_script.specs.declared.Command.{Command}
 use Rattle.cg_machine.specs.declared.event.Event.{Event}
-use Rattle.cg_machine.specs.declared.event.Event.TheVariants.{End}
-use Rattle.cg_machine.specs.World.{World, Activity, TopLevel, Framed, Releasing, Dying, Collecting, Frame, Outcome, Running, Ended, opening, push, with_stack}
+use Rattle.cg_machine.specs.Program.{declares_shutdown}
+use Rattle.cg_machine.specs.World.{World, Activity, TopLevel, Framed, Releasing, Dying, Collecting, ShuttingDown, Frame, Outcome, Running, opening, push, with_stack}
 use Rattle.cg_machine.specs.Frame.{Yields, frame_end, ReleaseStep}
 use Rattle.cg_machine.specs.Dying.{DyingStep}
 use Rattle.cg_machine.specs.Collect.{CollectStep}
 use Rattle.cg_machine.specs.Commands.{CommandStep, new_collection}
 use Rattle.cg_machine.specs.Due.{due}
+use Rattle.cg_machine.specs.Shutdown.{greatest_bound, shut_down, after_commands}
 
--- Before each command, and before the end, a collection that is due is started instead.
+-- Before each command, and before the end or the shutdown, a collection that is due is started instead.
 abbrev pub TopLevelStep : Script → World → Option ℕ → List Command → List Activity → List Event → World → Type 0
 TopLevelStep script w (Some g) commands below events after = Yields ([], push (new_collection g false w) w) events after
-TopLevelStep script w None [] below events after = Yields (End ∷ [], record w { outcome = Ended }) events after
+TopLevelStep script w None [] below events after = Yields (after_commands (declares_shutdown script.items) below w) events after
 TopLevelStep script w None (command ∷ commands) below events after = CommandStep script (with_stack (TopLevel commands ∷ below) w) command events after
 
 -- the next command of a frame, or a collection that is due
@@ -36,6 +37,7 @@ StepOf script w (Framed f ∷ below) events after = FrameStep script w f f.comma
 StepOf script w (Releasing references ∷ below) events after = ReleaseStep w references below events after
 StepOf script w (Dying d ∷ below) events after = DyingStep script w d below events after
 StepOf script w (Collecting c ∷ below) events after = CollectStep script w c below events after
+StepOf script w (ShuttingDown started ∷ below) events after = Yields (shut_down started (greatest_bound w) below w) events after
 
 -- a world that has ended has no step
 pub record Step (script : Script) (w : World) (events : List Event) (after : World) : Type 0 where

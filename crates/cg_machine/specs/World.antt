@@ -66,6 +66,7 @@ pub data Activity : Type 0 where
   Releasing : (references : List ℕ) → Activity  -- references still to be given up
   Dying : Death → Activity
   Collecting : Collection → Activity
+  ShuttingDown : (started : Bool) → Activity  -- the names are given up; whether the last collection was started
 
 -- The numbers of the `gc` module: counts and thresholds of the generations (`gc.get_count`, `gc.set_threshold`), how many
 -- objects wait for a full collection and how many the last one left (developer guide, "collecting the oldest generation"),

@@ -71,6 +71,18 @@ pub enum Event {
     Tracked(bool),
     /// The answer of `finalized`.
     Finalized(bool),
+    /// A line of `referents`: an object to which the entries of the one asked about refer.
+    Referent(u64),
+    /// A line of `referrers`: an object whose entries refer to the one asked about.
+    Referrer(u64),
+    /// How many lines `referents` or `referrers` has given.
+    Listed(u64),
+    /// The first line of `why`: an object that is held otherwise than by an entry.
+    Held(u64),
+    /// A further line of `why`: the object to which an entry of the one before refers.
+    Via(u64),
+    /// The answer of `why` where no path leads to the object.
+    Unreachable,
     /// The three counts.
     Count {
         zero: u64,
@@ -88,6 +100,8 @@ pub enum Event {
     Refused(u8),
     /// The run ends for want of budget.
     BudgetSpent,
+    /// How many objects are left after the shutdown, the garbage list aside.
+    Left(u64),
     /// The run ends.
     End,
 }

@@ -68,6 +68,12 @@ fn push_words(text: &mut ArrayString<ROOM>, event: &Event, names: &Names)
         Event::RefCount(number) => counted(text, "refs", *number),
         Event::Tracked(answer) => answered(text, "tracked ", *answer),
         Event::Finalized(answer) => answered(text, "finalized ", *answer),
+        Event::Referent(serial) => about(text, "referent", *serial),
+        Event::Referrer(serial) => about(text, "referrer", *serial),
+        Event::Listed(number) => counted(text, "listed", *number),
+        Event::Held(serial) => about(text, "held", *serial),
+        Event::Via(serial) => about(text, "via", *serial),
+        Event::Unreachable => plain(text, "unreachable"),
         Event::Count { zero, one, two } => three(text, "count", *zero, *one, *two),
         Event::Gens {
             zero,
@@ -77,6 +83,7 @@ fn push_words(text: &mut ArrayString<ROOM>, event: &Event, names: &Names)
         } => four(text, "gens", *zero, *one, *two, *frozen),
         Event::Refused(number) => counted(text, "refused", u64::from(*number)),
         Event::BudgetSpent => plain(text, "budget spent"),
+        Event::Left(number) => counted(text, "left", *number),
         Event::End => plain(text, "end"),
     }
 }
