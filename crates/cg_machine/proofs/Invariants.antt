@@ -5,21 +5,24 @@ use Rattle.cg_script.specs.declared.Script.{Script}
 use Rattle.cg_script.specs.declared.Command.{Command}
 use Rattle.cg_graph.specs.Object.{Object}
 use Rattle.cg_machine.specs.declared.event.Event.{Event}
-use Rattle.cg_machine.specs.declared.event.Event.TheVariants.{End, Refused, Collected}
+use Rattle.cg_machine.specs.declared.event.Event.TheVariants.{Left, End, Refused, Collected}
 use Rattle.cg_machine.specs.declared.event.FrameSort.TheVariants.{Call as CallFrame}
-use Rattle.cg_machine.specs.World.{World, Activity, TopLevel, Framed, Releasing, Dying, Collecting, Frame, Death, Collection, Ended, opening, push, with_stack}
+use Rattle.cg_machine.specs.World.{World, Activity, TopLevel, Framed, Releasing, Dying, Collecting, ShuttingDown, Frame, Death, Collection, Ended, opening, push, with_stack}
 use Rattle.cg_machine.specs.Holdings.{is_collecting}
 use Rattle.cg_machine.specs.Frame.{Transition, Yields, procedure_of, start_frame, frame_end, released}
 use Rattle.cg_machine.specs.Weak.{is_function}
 use Rattle.cg_machine.specs.Dying.{dying}
 use Rattle.cg_machine.specs.Collect.{PhaseStep}
 use Rattle.cg_machine.specs.Due.{due}
+use Rattle.cg_machine.specs.Program.{declares_shutdown}
+use Rattle.cg_machine.specs.Shutdown.{greatest_bound, shut_down, after_commands}
 use Rattle.cg_machine.specs.Refusals.{no_memory}
-use Rattle.cg_machine.specs.Effects.{Effect, Changes, Calls, Collects, Quits}
-use Rattle.cg_machine.specs.Commands.{effect, refused, without_commands, new_collection, DoesEffect}
+use Rattle.cg_machine.specs.Effects.{Effect, Changes, Calls, Collects, Explains, Quits, live, bound, given_up_by}
+use Rattle.cg_machine.specs.Commands.{effect, refused, without_commands, new_collection, Explanation, DoesEffect}
 use Rattle.cg_machine.specs.Run.{StepTaken, Step, StepOf, Run, IsRun, TopLevelStep, CommandInFrame, FrameStep, last_world, world_after}
 use Rattle.cg_machine.proofs.CommandLaws.{Each}
-use Rattle.cg_machine.proofs.Shapes.{Shape, StartsCollection, StartsFrame, HasObject, effect_shaped}
+use Rattle.cg_machine.proofs.Shapes.{Shape, StartsCollection, StartsFrame, Inspects, AsksWhy, HasObject, effect_shaped}
+use Rattle.cg_machine.proofs.Inspecting.{explained}
 
 -- what has commands
 abbrev pub HasCommands : Activity → Type 0
@@ -57,10 +60,19 @@ pub record CommandSteps (script : Script) (R : World → List Event → World �
   pub calls : (f : Object) → HasObject u command is_function f → (let t : Transition = start_frame script (record { sort = CallFrame; proc = procedure_of u f.serial; subject = f.serial; func = Some f.serial }) u in R w t.0 t.1)
   pub asks : (g : ℕ) → g ≤ 2 → is_collecting u ≡ false → R w [] (push (new_collection g true u) u)
 
+-- the lines of the last step of a run, by the activity that takes it: the script's own commands or its shutdown
+abbrev pub AreLast : World → Activity → List Event → Type 0
+AreLast w (TopLevel []) lines = lines ≡ End ∷ []
+AreLast w (ShuttingDown true) lines = lines ≡ Left (live w) ∷ End ∷ []
+AreLast w a lines = ⊥
+
 -- What each kind of step does: R tells of the world before it, what it prints and the world after it.
 pub record Steps (script : Script) (Known : World → Type 0) (R : World → List Event → World → Type 0) : Type 0 where
   pub starts_due : (a : Activity) (below : List Activity) (v : World) → HasCommands a → (g : ℕ) → due (on a below v) ≡ Some g → Known (on a below v) → R (on a below v) [] (push (new_collection g false (on a below v)) (on a below v))
-  pub ends : (below : List Activity) (v : World) → Known (on (TopLevel []) below v) → R (on (TopLevel []) below v) (End ∷ []) (record (on (TopLevel []) below v) { outcome = Ended })
+  pub ends : (a : Activity) (lines : List Event) (below : List Activity) (v : World) → AreLast (on a below v) a lines → Known (on a below v) → R (on a below v) lines (record (on a below v) { outcome = Ended })
+  pub shuts_down : (below : List Activity) (v : World) → Known (on (TopLevel []) below v) → R (on (TopLevel []) below v) [] (on (ShuttingDown false) below v)
+  pub gives_up : (name : ℕ) (below : List Activity) (v : World) → greatest_bound (on (ShuttingDown false) below v) ≡ Some name → Known (on (ShuttingDown false) below v) → (let w : World = on (ShuttingDown false) below v in R w [] (push (Releasing (given_up_by w name)) (bound w name None)))
+  pub collects_last : (below : List Activity) (v : World) → Known (on (ShuttingDown false) below v) → (let w : World = on (ShuttingDown false) below v in R w [] (push (new_collection 2 false w) (on (ShuttingDown true) below v)))
   pub commands : (command : Command) (a b : Activity) (below : List Activity) (v : World) → Takes command a b → HasCommands b → Known (on a below v) → CommandSteps script R (on a below v) command (on b below v) b below
   pub frame_ends : (f : Frame) (below : List Activity) (v : World) → f.commands ≡ [] → Known (on (Framed f) below v) → R (on (Framed f) below v) (frame_end f (with_stack below v)).0 (frame_end f (with_stack below v)).1
   pub releases : (references : List ℕ) (below : List Activity) (v : World) → Known (on (Releasing references) below v) → (let t : Transition = released references below (on (Releasing references) below v) in R (on (Releasing references) below v) t.0 t.1)
@@ -71,6 +83,11 @@ pub record Steps (script : Script) (Known : World → Type 0) (R : World → Lis
 called : (u : World) (command : Command) (e : Effect) → Shape u command e → (f : ℕ) → e ≡ Calls f → (x : Object) × HasObject u command is_function x × (x.serial ≡ f)
 called u command e (StartsFrame x h) f is = (x, h, let same : x.serial ≡ f = cc in same)
 called u command e s f is = absurd (cc)
+
+-- an answer of `why` is an inspection
+told : (u : World) (command : Command) (e : Effect) → Shape u command e → (o : ℕ) → e ≡ Explains o → (lines : List Event) → Explanation u o lines → Shape u command (Changes true lines [] u)
+told u command e (AsksWhy x h calm) o is lines because = Inspects lines calm (explained u o lines because)
+told u command e s o is lines because = absurd (cc)
 
 -- the generation that a command asks for
 asked : (u : World) (command : Command) (e : Effect) → Shape u command e → (g : ℕ) → e ≡ Collects g → g ≤ 2
@@ -107,12 +124,23 @@ module _ (script : Script) (Known : World → Type 0) (R : World → List Event 
       asks : (b : Bool) → is_collecting (on a below u) ≡ b → Yields (if b then (Collected 0 ∷ [], on a below u) else ([], push (new_collection g true (on a below u)) (on a below u))) events after → R w events after
       asks true e y = to w _ events after y (k.stays (Collected 0 ∷ []) refl)
       asks false e y = to w _ events after y (k.asks g (asked (on a below u) command (Collects g) s g refl) e)
+  does w u command a below ha k (Ok (Explains o)) s events after (inl step) = subst (R w events) (sym step.1) (k.changes true events [] (on a below u) (told (on a below u) command (Explains o) s o refl events step.0))
+  does w u command a below ha k (Ok (Explains o)) s events after (inr step) = to w _ events after step (refuses w u command a below ha k no_memory)
   does w u command a below ha k (Ok Quits) s events after step = to w _ events after step (quits w u command a below ha k)
 
   module _ (below : List Activity) (v : World) (events : List Event) (after : World) where
+    commands_end : (b : Bool) → Yields (after_commands b below (on (TopLevel []) below v)) events after → Known (on (TopLevel []) below v) → R (on (TopLevel []) below v) events after
+    commands_end true step k = to _ _ events after step (h.shuts_down below v k)
+    commands_end false step k = to _ _ events after step (h.ends (TopLevel []) (End ∷ []) below v refl k)
+
+    shuts : (started : Bool) (name : Option ℕ) → greatest_bound (on (ShuttingDown started) below v) ≡ name → Yields (shut_down started name below (on (ShuttingDown started) below v)) events after → Known (on (ShuttingDown started) below v) → R (on (ShuttingDown started) below v) events after
+    shuts false (Some name) e step k = to _ _ events after step (h.gives_up name below v e k)
+    shuts false None e step k = to _ _ events after step (h.collects_last below v k)
+    shuts true name e step k = to _ _ events after step (h.ends (ShuttingDown true) _ below v refl k)
+
     top_level : (commands : List Command) (d : Option ℕ) → due (on (TopLevel commands) below v) ≡ d → TopLevelStep script (on (TopLevel commands) below v) d commands below events after → Known (on (TopLevel commands) below v) → R (on (TopLevel commands) below v) events after
     top_level commands (Some g) e step k = to _ _ events after step (h.starts_due (TopLevel commands) below v tt g e k)
-    top_level [] None e step k = to _ _ events after step (h.ends below v k)
+    top_level [] None e step k = commands_end (declares_shutdown script.items) step k
     top_level (command ∷ commands) None e step k = does _ v command (TopLevel commands) below tt (h.commands command (TopLevel (command ∷ commands)) (TopLevel commands) below v (FromTop commands) tt k) (effect (on (TopLevel commands) below v) command) (effect_shaped (on (TopLevel commands) below v) command) events after step
 
     in_frame : (f : Frame) (command : Command) (commands : List Command) (d : Option ℕ) → due (on (Framed f) below v) ≡ d → f.commands ≡ command ∷ commands → CommandInFrame script (on (Framed f) below v) d f command commands below events after → Known (on (Framed f) below v) → R (on (Framed f) below v) events after
@@ -132,6 +160,7 @@ module _ (script : Script) (Known : World → Type 0) (R : World → List Event 
   step_is v (Releasing references ∷ below) events after step k = to _ _ events after step (h.releases references below v k)
   step_is v (Dying d ∷ below) events after step k = to _ _ events after step (h.dies d below v k)
   step_is v (Collecting c ∷ below) events after step k = h.collects c below v events after step k
+  step_is v (ShuttingDown started ∷ below) events after step k = shuts below v events after started (greatest_bound (on (ShuttingDown started) below v)) refl step k
 
   -- Each step does so.
   pub any_step : (w : World) (events : List Event) (after : World) → Step script w events after → Known w → R w events after

@@ -1,4 +1,4 @@
--- What the effect of a command can be, in ten forms. What it binds, puts, gives up, calls or prints is at hand.
+-- What the effect of a command can be, in a dozen forms. What it binds, puts, gives up, calls or prints is at hand.
 use Rattle.std.proofs.Common.{◌≡◌, ◌≢◌, refl, sym, ◌∙◌, ap, subst, ℕ, zero, suc, ◌+◌, ◌≤◌, Bool, true, false, not, inl, inr, ◌⊎◌, List, [], ◌∷◌, ◌++◌, map, length, length-append, Option, Some, None, Result, Ok, Err, arith}
 use Rattle.std.specs.Prelude.{ℤ, pos, negsuc, ◌==◌, ◌||◌, nat_le, nat_lt, if◌then◌else◌, is_some, is_none, ok_or, option_and_then, option_to_list, slice_set, slice_get, remove}
 use Rattle.std.proofs.lemmas.List.{length-set}
@@ -9,9 +9,9 @@ use Rattle.cg_value.specs.declared.Entry.{Entry}
 use Rattle.cg_value.specs.declared.KindCode.{KindCode}
 use Rattle.cg_value.specs.declared.KindCode.TheVariants.{List as ListKind, Tuple, Dict, Inst, Func, Weak}
 use Rattle.cg_script.specs.declared.Operand.{Operand}
-use Rattle.cg_script.specs.declared.Operand.TheVariants.{None as NoneWord, Str as StrWord}
+use Rattle.cg_script.specs.declared.Operand.TheVariants.{None as NoneWord, Str as StrWord, Name}
 use Rattle.cg_script.specs.declared.Command.{Command}
-use Rattle.cg_script.specs.declared.Command.TheVariants.{MakeList, MakeTuple, MakeDict, MakeInst, MakeFunc, MakeRef, Bind, Del, Append, SetItem, DelItem, Put, Remove, SetAttr, DelAttr, Item, Get, Attr, Deref, Call, Quit, Collect, Enable, Disable, Threshold, Flags, Freeze, Unfreeze, Print, Refs, Tracked, Finalized, Count, Gens}
+use Rattle.cg_script.specs.declared.Command.TheVariants.{MakeList, MakeTuple, MakeDict, MakeInst, MakeFunc, MakeRef, Bind, Del, Append, SetItem, DelItem, Put, Remove, SetAttr, DelAttr, Item, Get, Attr, Deref, Call, Quit, Collect, Enable, Disable, Threshold, Flags, Freeze, Unfreeze, Print, Refs, Tracked, Finalized, Referents, Referrers, Why, Count, Gens}
 use Rattle.cg_script.specs.Texts.{operand_texts, operands_texts, command_texts}
 use Rattle.cg_graph.specs.Member.{Includes}
 use Rattle.cg_graph.specs.Object.{Object, object_at, with_entries}
@@ -20,17 +20,19 @@ use Rattle.cg_graph.proofs.Members.{either, true_and, or_left, or_right, Include
 use Rattle.cg_machine.specs.declared.event.Event.{Event}
 use Rattle.cg_machine.specs.declared.event.Event.TheVariants.{Made, Value, RefCount, Tracked as TrackedLine, Finalized as FinalizedLine, Count as CountLine, Gens as GensLine}
 use Rattle.cg_machine.specs.World.{World, Numbers, with_change}
-use Rattle.cg_machine.specs.Effects.{Effect, Changes, Calls, Collects, Quits, makes, puts, has_room, live, entry_count, place_of_index, replaced, frozen, unfrozen, tracked_by, given_up_by, bound, with_new, callback_entries}
+use Rattle.cg_machine.specs.Effects.{Effect, Changes, Calls, Collects, Explains, Quits, makes, puts, has_room, live, entry_count, place_of_index, replaced, frozen, unfrozen, tracked_by, given_up_by, bound, with_new, callback_entries}
 use Rattle.cg_machine.specs.Commands.{effect}
-use Rattle.cg_machine.specs.Refusals.{◌>>=◌, unless, most_objects, most_entries, object_limit, entry_limit, no_name, no_index, no_key, no_attribute, bad_generation, not_callable, not_weak, wrong_kind}
-use Rattle.cg_machine.specs.Operands.{is_dict, is_list, is_script_list, is_sequence, is_weak, object_of, tested, object, value_of, value, values}
+use Rattle.cg_machine.specs.Refusals.{◌>>=◌, unless, in_collection, most_objects, most_entries, object_limit, entry_limit, no_name, no_index, no_key, no_attribute, bad_generation, not_callable, not_weak, wrong_kind}
+use Rattle.cg_machine.specs.Operands.{any_object, is_dict, is_list, is_script_list, is_sequence, is_weak, object_of, tested, object, value_of, value, values}
 use Rattle.cg_machine.specs.Weak.{is_instance, is_function, has_weak_references}
 use Rattle.cg_machine.specs.Laws.{HasFunction}
+use Rattle.cg_machine.specs.Holdings.{is_collecting}
 use Rattle.cg_machine.proofs.CommandLaws.{Each, checked}
 use Rattle.cg_machine.proofs.CommandRefs.{each_then, each_some}
 use Rattle.cg_machine.proofs.Lookups.{found_at, slice_get_member}
 use Rattle.cg_machine.proofs.PrintableTexts.{removed_member, set_member}
 use Rattle.cg_machine.proofs.Moves.{AtMostOne, Goes, appended_goes, removed_goes, set_goes, without_key_goes}
+use Rattle.cg_machine.proofs.Inspecting.{AllTellThere, referents_there, referrers_there}
 
 -- A value that a command has at hand: what a word of it stands for (`#1`, the value of a name or of a local), or what is in
 -- an entry, or is the referent, of an object that it has at hand.
@@ -131,6 +133,8 @@ pub data Shape (w : World) (command : Command) : Effect → Type 0 where
   StartsFrame : (f : Object) → HasObject w command is_function f → Shape w command (Calls f.serial)
   StartsCollection : (g : ℕ) → g ≤ 2 → Shape w command (Collects g)
   Ends : Shape w command Quits
+  Inspects : (lines : List Event) → is_collecting w ≡ false → AllTellThere w lines → Shape w command (Changes true lines [] w)
+  AsksWhy : (x : Object) → HasObject w command any_object x → is_collecting w ≡ false → Shape w command (Explains x.serial)
 
 -- Checks in order, where each result is known.
 each_unless : (b : Bool) (refusal : ℕ) → Each (λ u. b ≡ true) (unless b refusal)
@@ -413,6 +417,18 @@ attribute w command name own = Word (StrWord name) (Str name) (λ t m. either m 
 sets_shaped : (w : World) (command : Command) (first second third flags : ℕ) (enabled : Bool) → SetsNumbers command → Shape w command (Changes false [] [] (record w { numbers = record w.numbers { zero_threshold = first; one_threshold = second; two_threshold = third; flags = flags; enabled = enabled } }))
 sets_shaped w command first second third flags enabled own = Sets (record w.numbers { zero_threshold = first; one_threshold = second; two_threshold = third; flags = flags; enabled = enabled }) own (record { zero_count = refl; one_count = refl; two_count = refl; pending = refl; total = refl })
 
+-- no collection is under way
+not_collecting : (b : Bool) → not b ≡ true → b ≡ false
+not_collecting false e = refl
+not_collecting true e = absurd (let no : false ≡ true = e in cc)
+
+-- an object that is inspected, while no collection is under way
+inspected : (w : World) (command : Command) (operand : Operand) → ((t : ℕ) → Includes (operand_texts operand) t → Includes (command_texts command) t)
+    → (e : Object → Result Effect ℕ) → ((x : Object) → HasObject w command any_object x → is_collecting w ≡ false → Each (Shape w command) (e x))
+    → Each (Shape w command) (value w operand >>= λ v. object w any_object wrong_kind v >>= λ x. unless (not (is_collecting w)) in_collection >>= λ u. e x)
+inspected w command operand own e h = valued w command _ operand own (λ v hand. found w command _ any_object wrong_kind v hand (λ x there.
+    each_then (λ u. not (is_collecting w) ≡ true) (Shape w command) (unless (not (is_collecting w)) in_collection) _ (each_unless (not (is_collecting w)) in_collection) (λ u calm. h x there (not_collecting (is_collecting w) calm))))
+
 -- The effect of each command in each world has a shape.
 pub effect_shaped : (w : World) (command : Command) → Each (Shape w command) (effect w command)
 effect_shaped w (MakeList name items) = all_valued w _ _ items (λ t m. inr m) (λ vs hand. makes_shaped w _ name ListKind None (map item vs) None (inl refl) (ByList name items) (items_of w _ vs hand) (λ e. absurd (cc)) (no_referent w _ ListKind) (λ e. absurd (cc)))
@@ -455,5 +471,8 @@ effect_shaped w (Print operand) = valued w _ _ operand (λ t m. m) (λ v hand. S
 effect_shaped w (Refs operand) = any w _ _ _ (λ v. any w _ _ _ (λ x. Tells _ tt))
 effect_shaped w (Tracked operand) = any w _ _ _ (λ v. Tells _ tt)
 effect_shaped w (Finalized operand) = any w _ _ _ (λ v. Tells _ tt)
+effect_shaped w (Referents operand) = inspected w _ operand (λ t m. m) _ (λ x h calm. Inspects _ calm (referents_there w x _ h.member))
+effect_shaped w (Referrers operand) = inspected w _ operand (λ t m. m) _ (λ x h calm. Inspects _ calm (referrers_there w x.serial _))
+effect_shaped w (Why name) = inspected w _ (Name name) (λ t m. m) _ (λ x h calm. AsksWhy x h calm)
 effect_shaped w Count = Tells _ tt
 effect_shaped w Gens = Tells _ tt
