@@ -8,9 +8,9 @@ use Rattle.cg_script.specs.declared.form.Form.TheVariants as forms
 use Rattle.cg_script.specs.declared.part.Part.{Part}
 use Rattle.cg_script.specs.declared.part.Said.{Said}
 use Rattle.cg_script.specs.declared.part.Said.TheVariants.{Ends, Does}
-use Rattle.cg_script.specs.Parts.{Known}
+use Rattle.cg_script.specs.Parts.{Known, texts_from}
 use Rattle.cg_script.specs.Commands.{said}
-use Rattle.cg_script.specs.Reading.{items_of, body_of, is_misplaced, inside_after}
+use Rattle.cg_script.specs.Reading.{items_of, body_of, is_misplaced, procs_after, classes_after, budget_after, shutdown_after, inside_after, known_after}
 use Rattle.cg_script.specs.Views.{is_placed, inside_behind}
 
 -- one item more
@@ -55,3 +55,10 @@ pub inside_said : (form : Form) (parts : List Part) (inside : Bool) → inside_b
 inside_said forms.Def parts inside = refl
 inside_said forms.End parts inside = refl
 inside_said form parts inside = refl
+
+-- what is known behind a line, by its parts
+module _ (known : Known) (form : Form) (words texts procs classes : List (List ℕ)) (budget shutdown started inside : Bool) where
+  pub known_so : texts ≡ texts_from known.texts form 0 words → procs ≡ procs_after known.procs form words → classes ≡ classes_after known.classes form words → budget ≡ budget_after known.budget form
+      → shutdown ≡ shutdown_after known.shutdown form → started ≡ true → inside ≡ inside_after known.inside form
+      → record { texts = texts; procs = procs; classes = classes; budget = budget; shutdown = shutdown; started = started; inside = inside } ≡ known_after known form words
+  known_so t p c b s n i = λ j. record { texts = t j; procs = p j; classes = c j; budget = b j; shutdown = s j; started = n j; inside = i j }

@@ -121,6 +121,8 @@ index_of_all items at defs procs commands chosen declared past upto = record {
   classes = upto.classes ∙ ap classes (take_all at items past);
   procedures = upto.procedures ∙ ap (λ l. map (λ p. Some (Def p)) (procedures l)) (take_all at items past);
   commands = upto.commands ∙ ap (λ l. map (λ c. Some (Run c)) (commands_of l)) (take_all at items past);
+  profile = upto.profile;
+  shutdown = upto.shutdown;
 }
 
 -- What stands at a number of one list stands there in the other.
