@@ -1,9 +1,8 @@
 -- The profile that a line declares is 1 or 2, and stands in the first line.
-use Rattle.std.proofs.Common.{◌≡◌, ℕ, ◌+◌, ◌≤◌, List, [], ◌∷◌, length, drop, Bool, true, false, nat_le, refl, sym, ◌∙◌, arith}
+use Rattle.std.proofs.Common.{◌≡◌, ℕ, ◌≤◌, List, [], ◌∷◌, length, drop, Bool, true, false, nat_le, refl, sym, ◌∙◌, arith}
 use Rattle.std.specs.List.{All}
 use Rattle.std.proofs.lemmas.List.Elements.{All-nil, All-cons, All-drop}
 use Rattle.std.proofs.lemmas.Bool.Decides.{nat_tests}
-use Rattle.cg_script.specs.declared.item.Item.{Item}
 use Rattle.cg_script.specs.declared.item.Item.TheVariants as items
 use Rattle.cg_script.specs.declared.form.Form.{Form}
 use Rattle.cg_script.specs.declared.form.Form.TheVariants as forms

@@ -441,11 +441,7 @@ fn declarations_and_inspections(rt: HostRuntime) -> Result<(), Fail> {
             value: Operand::Garbage
         })
     );
-    assert_last!(
-        rt,
-        "del a\nwhy b",
-        Item::Run(Command::Why { name: 1 })
-    );
+    assert_last!(rt, "del a\nwhy b", Item::Run(Command::Why { name: 1 }));
     Ok(())
 }
 

@@ -597,13 +597,7 @@ fn write_item(out: &mut Vec<u8>, naming: &Named<'_>, item: &Item) -> Result<(), 
 {
     match item {
         Item::Profile(profile) => write_counted(out, naming, Form::Profile, u32::from(*profile)),
-        Item::Shutdown => write_line(
-            out,
-            naming,
-            Piece::Word(word_of(Form::Shutdown)),
-            &[],
-            &[],
-        ),
+        Item::Shutdown => write_line(out, naming, Piece::Word(word_of(Form::Shutdown)), &[], &[]),
         Item::Budget(count) => write_counted(out, naming, Form::Budget, *count),
         Item::Class(class) => write_class(out, naming, class),
         Item::Def(proc) => write_proc(out, naming, proc.name, proc.body.as_slice()),

@@ -67,7 +67,11 @@ fn what_a_script_declares(rt: HostRuntime) -> Result<(), Fail> {
         ("profile 2\ndef p\ndel a\nend\nshutdown\ndel a", 2, true),
     ] {
         let read = parse(rt.alloc(), script.as_bytes())?;
-        assert_eq!(rt; (read.profile(), read.shutdown()), (profile, shutdown), "at {script:?}");
+        assert_eq!(rt;
+            (read.profile(), read.shutdown()),
+            (profile, shutdown),
+            "at {script:?}"
+        );
     }
     Ok(())
 }
@@ -94,7 +98,11 @@ fn words_of_values_and_variables(rt: HostRuntime) -> Result<(), Fail> {
         ("a2345678901234567890123456789012x", false, false),
     ] {
         let bytes = word.as_bytes();
-        assert_eq!(rt; (is_value(bytes), is_variable(bytes)), (value, variable), "at {word:?}");
+        assert_eq!(rt;
+            (is_value(bytes), is_variable(bytes)),
+            (value, variable),
+            "at {word:?}"
+        );
     }
     Ok(())
 }

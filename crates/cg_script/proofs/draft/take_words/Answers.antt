@@ -1,4 +1,4 @@
-use Rattle.std.proofs.Common.{◌≡◌, ap, sym, subst, ◌∙◌, ◌∷◌, ◌≤◌, length, map, List, ℕ, Bor, is_some, arith}
+use Rattle.std.proofs.Common.{ap, sym, subst, ◌∙◌, ◌∷◌, ◌≤◌, length, map, List, ℕ, Bor, is_some, arith}
 use Rattle.std.proofs.lemmas.List.{length-map}
 use Rattle.cg_script.specs.Forms.{row}
 use Rattle.cg_script.specs.Commands.{count_at, said}
