@@ -2,7 +2,7 @@
 use Rattle.std.proofs.Common.{◌≡◌, ℕ, ◌+◌, ◌*◌, ◌<◌, ◌≤◌, ◌%◌, ◌==◌, ◌&&◌, Bool, true, false, if◌then◌else◌, List, [], ◌∷◌, ◌++◌, length, map, append_assoc, append-nil, length-append, refl, sym, ap, subst, ◌∙◌, arith, nat_lt, pos}
 use Rattle.std.specs.List.{All, list_all, flat_map, range_with_len, sum_by}
 use Rattle.std.proofs.lemmas.Bool.Decides.{nat_tests}
-use Rattle.std.proofs.lemmas.List.Elements.{All-nil, All-cons, All-append, All-head, All-tail, All-from_recursion}
+use Rattle.std.proofs.lemmas.List.Elements.{All-nil, All-cons, All-append, All-drop, All-head, All-tail, All-from_recursion}
 use Rattle.std.proofs.lemmas.List.FromFn.{map-range_with_len_more, length-range_with_len}
 use Rattle.std.proofs.lemmas.List.Concat.{flat_map-cons}
 use Rattle.std.proofs.lemmas.Grind.{flat_map-append}
@@ -13,7 +13,7 @@ use Rattle.cg_script.specs.declared.command.Command.{Command}
 use Rattle.cg_script.specs.declared.command.Command.TheVariants.{MakeList, Append, Del, Collect}
 use Rattle.cg_script.specs.declared.item.Item.{Item}
 use Rattle.cg_script.specs.declared.item.Item.TheVariants.{Run}
-use Rattle.cg_script.specs.Spelled.{IsSpelled, IsSpelledItem, IsSpelledCommand, HasFewWords}
+use Rattle.cg_script.specs.Spelled.{IsSpelled, IsSpelledItem, IsSpelledCommand, IsNoProfile, HasFewWords}
 use Rattle.cg_script.specs.Texts.{TextsAreKnown, item_texts, command_texts}
 use Rattle.cg_generator.specs.Generated.{variables, ring, tree, link, block, beginning, blocks_to, ending, generated}
 
@@ -105,6 +105,14 @@ spelled_items n =
     (All-from_recursion SpelledItem link (list_spelled 0 (Name 0 ∷ []) (all_below (0 ∷ 0 ∷ []) refl) (omega arith), tt))
     (All-from_recursion SpelledItem ending (spelled (Del 0) (all_below (0 ∷ []) refl) tt, (spelled (Collect (pos 2)) (all_below [] refl) tt, tt)))
 
+-- no item is a profile
+no_profiles : (n : ℕ) → All IsNoProfile (generated n).items
+no_profiles n =
+    all_items IsNoProfile n (All-from_recursion IsNoProfile beginning (tt, tt)) (All-from_recursion IsNoProfile ring (tt, (tt, (tt, (tt, (tt, tt))))))
+    (λ i. All-from_recursion IsNoProfile (tree i) (tt, (tt, (tt, (tt, tt)))))
+    (All-from_recursion IsNoProfile link (tt, tt))
+    (All-from_recursion IsNoProfile ending (tt, (tt, tt)))
+
 -- five items at most for each block
 few_in_blocks : (numbers : List ℕ) → length (flat_map block numbers) ≤ 5 * length numbers
 few_in_blocks [] = omega arith
@@ -120,6 +128,7 @@ few_items n =
 pub generated_spelled : (n : ℕ) → n ≤ 10000 → IsSpelled (generated n)
 generated_spelled n few = record {
   lines = spelled_items n;
+  profile_first = All-drop IsNoProfile 1 (generated n).items (no_profiles n);
   few_lines = omega (arith, few, few_items n);
   short = All-from_recursion (λ text. length text ≤ 1024) variables (omega arith, (omega arith, (omega arith, tt)));
   few_texts = omega arith;

@@ -1,5 +1,5 @@
 -- What holds of each line of a script, and with it of its items.
-use Rattle.std.proofs.Common.{◌≡◌, ℕ, ◌+◌, ◌<◌, ◌≤◌, List, [], ◌∷◌, length, Bool, true, false, refl, ap, subst, ◌∙◌, arith}
+use Rattle.std.proofs.Common.{◌≡◌, ℕ, ◌+◌, ◌<◌, ◌≤◌, List, [], ◌∷◌, drop, length, Bool, true, false, refl, ap, subst, ◌∙◌, arith}
 use Rattle.std.specs.Prelude.{flat_map}
 use Rattle.std.specs.List.{All}
 use Rattle.cg_script.specs.declared.item.Item.{Item}
@@ -15,6 +15,7 @@ use Rattle.cg_script.specs.Reading.{nothing_known, Lines, good, spoilt, lines_fr
 use Rattle.cg_script.proofs.Below.{Below, below-append, below_all}
 use Rattle.cg_script.proofs.Says.{says_fits}
 use Rattle.cg_script.proofs.Walk.{each_line}
+use Rattle.cg_script.proofs.Profiles.{NoProfiles, no_later_profiles}
 use Rattle.cg_script.proofs.Counts.{IsShort, few_saids, short_texts}
 use Rattle.std.proofs.lemmas.List.Elements.{All-nil}
 use Rattle.cg_script.proofs.Known.{is_text, said_texts, said_below, parts_below, each_more, text_below, texts_grow}
@@ -42,12 +43,13 @@ module _ (P : ℕ → Said → Type 0) (holds : Holds P) where
       let grown = texts_grow form words known.texts 0 in
       (omega arith, (holds (length texts) number known line form words m below, behind.1)))
 
-  -- what the lines of a script say, which are few, with its texts, which are short
+  -- what the lines of a script say, which are few and a profile the first of them, with its texts, which are short
   pub record SaidSo (texts : List (List ℕ)) (items : List Item) : Type 0 where
     pub saids : List Said
     pub items_so : items_of false saids ≡ items
     pub each : EachSaid (P (length texts)) saids
     pub few : length saids ≤ 400000
+    pub profile_first : NoProfiles (drop 1 saids)
     pub short : All (IsShort 1024) texts
 
   script_so : (lines : List (List ℕ)) (all : Lines) → lines_from nothing_known 1 lines ≡ all → (texts : List (List ℕ)) (items : List Item) → script_of all ≡ spells texts items → SaidSo texts items
@@ -60,6 +62,7 @@ module _ (P : ℕ → Said → Type 0) (holds : Holds P) where
         items_so = same_items;
         each = subst (λ ts. EachSaid (P (length ts)) saids) same_texts (each_good lines nothing_known 1 texts2 saids is).1;
         few = few_saids lines nothing_known texts2 saids is;
+        profile_first = no_later_profiles lines nothing_known 1 texts2 saids is;
         short = subst (λ ts. All (IsShort 1024) ts) same_texts (short_texts lines nothing_known 1 texts2 saids is (All-nil (IsShort 1024)));
       }
 

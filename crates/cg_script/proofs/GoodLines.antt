@@ -8,7 +8,7 @@ use Rattle.std.proofs.lemmas.Slice.Eq.{bytes_eq-Decides}
 use Rattle.cg_script.specs.declared.form.Form.{Form}
 use Rattle.cg_script.specs.declared.form.Form.TheVariants as forms
 use Rattle.cg_script.specs.declared.form.Sort.{Sort}
-use Rattle.cg_script.specs.declared.form.Sort.TheVariants.{Key, Variable, Name, Class, Proc, Finalizer, Value, Number, Budget, Count, Flag}
+use Rattle.cg_script.specs.declared.form.Sort.TheVariants.{Key, Variable, Name, Class, Proc, Finalizer, Value, Number, Profile, Budget, Count, Flag}
 use Rattle.cg_script.specs.declared.part.Part.{Part}
 use Rattle.cg_script.specs.Pieces.{words_of, word_at, word_is}
 use Rattle.cg_script.specs.Tables.{named}
@@ -204,6 +204,7 @@ sign_again Finalizer w fw fv = refl
 sign_again Flag w fw fv = refl
 sign_again Value w fw fv = both_false Value w (normal Value w) refl fw fv
 sign_again Number w fw fv = both_false Number w (normal Number w) refl fw fv
+sign_again Profile w fw fv = both_false Profile w (normal Profile w) refl fw fv
 sign_again Budget w fw fv = both_false Budget w (normal Budget w) refl fw fv
 sign_again Count w fw fv = both_false Count w (normal Count w) refl fw fv
 
@@ -348,18 +349,18 @@ same_along known form us ws vs a b = record {
 
 pub same_known : (known : Known) (form : Form) (ws vs : List (List ℕ)) → Same known form ws vs → known_after known form vs ≡ known_after known form ws
 same_known known form ws vs same =
-    λ i. record { texts = same.texts_same i; procs = same.procs_same i; classes = same.classes_same i; budget = (known_after known form ws).budget; inside = (known_after known form ws).inside }
+    λ i. record { texts = same.texts_same i; procs = same.procs_same i; classes = same.classes_same i; budget = (known_after known form ws).budget; shutdown = (known_after known form ws).shutdown; started = true; inside = (known_after known form ws).inside }
 
 -- nothing is wrong with a line
 pub record Faultless (known : Known) (form : Form) (words : List (List ℕ)) : Type 0 where
-  pub placed : is_misplaced form known.inside ≡ false
+  pub placed : is_misplaced known form ≡ false
   pub fresh : is_repeated known form words ≡ false
   pub defined : has_unknown (parts_of known form words) ≡ false
 
 pub faultless : (known : Known) (form : Form) (words : List (List ℕ)) → fault_in known form words ≡ None → Faultless known form words
-faultless known form words e = by (is_misplaced form known.inside) (is_repeated known form words) (has_unknown (parts_of known form words)) refl refl refl e
+faultless known form words e = by (is_misplaced known form) (is_repeated known form words) (has_unknown (parts_of known form words)) refl refl refl e
   where
-    by : (a b c : Bool) → is_misplaced form known.inside ≡ a → is_repeated known form words ≡ b → has_unknown (parts_of known form words) ≡ c → cond {A = Option ℕ} a (Some 7) (cond b (Some 8) (cond c (Some 6) None)) ≡ None
+    by : (a b c : Bool) → is_misplaced known form ≡ a → is_repeated known form words ≡ b → has_unknown (parts_of known form words) ≡ c → cond {A = Option ℕ} a (Some 7) (cond b (Some 8) (cond c (Some 6) None)) ≡ None
         → Faultless known form words
     by true b c ea eb ec e = absurd (cc)
     by false true c ea eb ec e = absurd (cc)
@@ -367,7 +368,7 @@ faultless known form words e = by (is_misplaced form known.inside) (is_repeated 
     by false false false ea eb ec e = record { placed = ea; fresh = eb; defined = ec }
 
 pub no_fault : (known : Known) (form : Form) (ws vs : List (List ℕ)) → Faultless known form ws → Same known form ws vs → fault_in known form vs ≡ None
-no_fault known form ws vs clean same = none (is_misplaced form known.inside) (is_repeated known form vs) (has_unknown (parts_of known form vs)) clean.placed (same.repeated_same ∙ clean.fresh) same.none_unknown
+no_fault known form ws vs clean same = none (is_misplaced known form) (is_repeated known form vs) (has_unknown (parts_of known form vs)) clean.placed (same.repeated_same ∙ clean.fresh) same.none_unknown
   where
     none : (a b c : Bool) → a ≡ false → b ≡ false → c ≡ false → cond {A = Option ℕ} a (Some 7) (cond b (Some 8) (cond c (Some 6) None)) ≡ None
     none false false false p q r = refl

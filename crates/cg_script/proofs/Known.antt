@@ -8,7 +8,7 @@ use Rattle.cg_script.specs.declared.command.Operand.TheVariants as operands
 use Rattle.cg_script.specs.declared.form.Form.{Form}
 use Rattle.cg_script.specs.declared.form.Form.TheVariants as forms
 use Rattle.cg_script.specs.declared.form.Sort.{Sort}
-use Rattle.cg_script.specs.declared.form.Sort.TheVariants.{Key, Variable, Name, Class, Proc, Finalizer, Value, Number, Budget, Count, Flag}
+use Rattle.cg_script.specs.declared.form.Sort.TheVariants.{Key, Variable, Name, Class, Proc, Finalizer, Value, Number, Profile, Budget, Count, Flag}
 use Rattle.cg_script.specs.declared.part.Part.{Part}
 use Rattle.cg_script.specs.declared.part.Part.TheVariants as parts
 use Rattle.cg_script.specs.declared.part.Said.{Said}
@@ -103,6 +103,7 @@ part_below procs classes texts Proc word = numbered_below _ (place_in procs word
 part_below procs classes texts Finalizer word = finalizer_of_below _ procs (after_prefix (codes "del=") word) word
 part_below procs classes texts Value word = value_below texts word (named atoms word) refl
 part_below procs classes texts Number word = tt
+part_below procs classes texts Profile word = tt
 part_below procs classes texts Budget word = tt
 part_below procs classes texts Count word = tt
 part_below procs classes texts Flag word = tt
@@ -162,6 +163,7 @@ is_text Proc = false
 is_text Finalizer = false
 is_text Value = false
 is_text Number = false
+is_text Profile = false
 is_text Budget = false
 is_text Count = false
 is_text Flag = false
@@ -175,6 +177,7 @@ text_part procs classes texts Proc word e = absurd (cc)
 text_part procs classes texts Finalizer word e = absurd (cc)
 text_part procs classes texts Value word e = absurd (cc)
 text_part procs classes texts Number word e = absurd (cc)
+text_part procs classes texts Profile word e = absurd (cc)
 text_part procs classes texts Budget word e = absurd (cc)
 text_part procs classes texts Count word e = absurd (cc)
 text_part procs classes texts Flag word e = absurd (cc)
@@ -242,8 +245,13 @@ module _ (n : ℕ) (ps : List Part) (each : EachPart n ps) where
   said_below forms.Refs t = v 1
   said_below forms.Tracked t = v 1
   said_below forms.Finalized t = v 1
+  said_below forms.Referents t = v 1
+  said_below forms.Referrers t = v 1
+  said_below forms.Why t = (t 1 (omega arith) refl, tt)
   said_below forms.Count t = tt
   said_below forms.Gens t = tt
+  said_below forms.Profile t = tt
+  said_below forms.Shutdown t = tt
   said_below forms.Budget t = tt
   said_below forms.Class t = (t 1 (omega arith) refl, tt)
   said_below forms.Def t = (t 1 (omega arith) refl, tt)

@@ -2,6 +2,7 @@ pub mod Ascii
 pub mod Cuts
 pub mod Tables
 pub mod Positions
+pub mod Declared
 pub mod Digits
 pub mod Places
 pub mod Grouped
@@ -22,3 +23,4 @@ pub mod Rows
 pub mod OddRows
 pub mod ClassRows
 pub mod ReadBack
+pub mod Profiles

@@ -12,10 +12,10 @@ use Rattle.std.proofs.lemmas.Fmt.{digits_decimal, digits_value-decimal, decimal_
 use Rattle.cg_script.specs.declared.command.Operand.{Operand}
 use Rattle.cg_script.specs.declared.command.Operand.TheVariants as operands
 use Rattle.cg_script.specs.declared.form.Sort.{Sort}
-use Rattle.cg_script.specs.declared.form.Sort.TheVariants.{Key, Variable, Name, Class, Proc, Finalizer, Value, Number, Budget, Count, Flag}
+use Rattle.cg_script.specs.declared.form.Sort.TheVariants.{Key, Variable, Name, Class, Proc, Finalizer, Value, Number, Profile, Budget, Count, Flag}
 use Rattle.cg_script.specs.declared.part.Part.TheVariants as parts
 use Rattle.cg_script.specs.Tables.{named}
-use Rattle.cg_script.specs.Words.{is_printable, is_digit, begins_name, is_quoted, are_digits, decimal_after, decimal_value, has_minus, is_number, number_of, is_count, is_value, is_variable, string_text, atoms}
+use Rattle.cg_script.specs.Words.{is_printable, is_digit, begins_name, is_quoted, are_digits, decimal_after, decimal_value, has_minus, is_number, number_of, is_count, is_profile, is_value, is_variable, string_text, atoms}
 use Rattle.cg_script.specs.Meanings.{fits}
 use Rattle.cg_script.specs.Parts.{part_of, text_in, value_text, operand_or}
 use Rattle.cg_value.specs.Texts.{place_of}
@@ -259,6 +259,7 @@ normal_value None w = if is_quoted w then w else if begins_name (slice_index w 0
 abbrev pub normal : Sort → List ℕ → List ℕ
 normal Value w = normal_value (named atoms w) w
 normal Number w = signed_decimal (number_of w)
+normal Profile w = decimal (decimal_value w)
 normal Budget w = decimal (decimal_value w)
 normal Count w = decimal (decimal_value w)
 normal s w = w
@@ -307,6 +308,12 @@ pub word_again : (s : Sort) (w : List ℕ) → fits s w ≡ true → 1 ≤ lengt
 word_again Value w fit some graphic = value_again w (named atoms w) refl fit some graphic
 word_again Number w fit some graphic =
     let n = number_again w fit in record { fit = n.number; part = λ procs classes texts. ap parts.Number n.same; text = refl; some = n.some; graphic = n.graphic; light = n.light }
+word_again Profile w fit some graphic =
+    let p = both (is_count 2 w) (nat_le 1 (decimal_value w)) fit in
+    let n = count_again 2 w (omega arith) p.0 in
+    let again : is_profile (decimal (decimal_value w)) ≡ true =
+    and_both (is_count 2 (decimal (decimal_value w))) (nat_le 1 (decimal_value (decimal (decimal_value w)))) n.count (ap (nat_le 1) n.value ∙ p.1) in
+    record { fit = again; part = λ procs classes texts. ap parts.Count n.value; text = refl; some = n.some; graphic = n.graphic; light = n.light }
 word_again Budget w fit some graphic =
     let n = count_again 100000 w (omega arith) fit in
     record { fit = n.count; part = λ procs classes texts. ap parts.Count n.value; text = refl; some = n.some; graphic = n.graphic; light = n.light }
@@ -351,6 +358,7 @@ value_alike w None e fit = by (is_quoted w) (begins_name (slice_index w 0)) refl
 pub alike : (s : Sort) (w : List ℕ) → fits s w ≡ true → Alike w (normal s w)
 alike Value w fit = value_alike w (named atoms w) refl fit
 alike Number w fit = let n = number_again w fit in inr (number_letterless w fit, n.no_letter)
+alike Profile w fit = count_alike 2 w (omega arith) (both (is_count 2 w) (nat_le 1 (decimal_value w)) fit).0
 alike Budget w fit = count_alike 100000 w (omega arith) fit
 alike Count w fit = count_alike 2147483647 w (omega arith) fit
 alike Key w fit = inl refl

@@ -1,12 +1,12 @@
--- The classes of lines and the positions of their procedures and commands: one line on, and how one is found by its number.
-use Rattle.std.proofs.Common.{◌≡◌, refl, sym, ◌∙◌, ap, ℕ, ◌+◌, ◌<◌, ◌≤◌, List, [], ◌∷◌, ◌++◌, length, map, take, get_or, Option, Some, None}
+-- The classes of lines, the positions of their procedures and commands, and what they declare: one line on, and how one is found by its number.
+use Rattle.std.proofs.Common.{◌≡◌, refl, sym, ◌∙◌, ap, ℕ, ◌+◌, ◌<◌, ◌≤◌, Bool, List, [], ◌∷◌, ◌++◌, length, map, take, get_or, Option, Some, None}
 use Rattle.std.specs.Prelude.{slice_get, option_map}
 use Rattle.std.proofs.lemmas.Option.{slice_get-map, slice_get_read}
 use Rattle.std.proofs.lemmas.List.{map-append, take_more, take_all}
 use Rattle.cg_script.specs.declared.item.ClassDef.{ClassDef}
 use Rattle.cg_script.specs.declared.item.Item.{Item}
-use Rattle.cg_script.specs.declared.item.Item.TheVariants.{Budget, Class, Def, Run}
-use Rattle.cg_script.specs.Items.{commands_of, procedures, classes, StandAt, IsIndexOf}
+use Rattle.cg_script.specs.declared.item.Item.TheVariants.{Profile, Shutdown, Budget, Class, Def, Run}
+use Rattle.cg_script.specs.Items.{commands_of, procedures, classes, profile_of, declares_shutdown, StandAt, IsIndexOf}
 
 -- What is read off lines one by one.
 record IsByLines {A : Type 0} (read : List Item → List A) : Type 0 where
@@ -17,6 +17,8 @@ commands_by_lines = record { append = by }
   where
     by : (xs ys : List Item) → commands_of (xs ++ ys) ≡ commands_of xs ++ commands_of ys
     by [] ys = refl
+    by (Profile n ∷ xs) ys = by xs ys
+    by (Shutdown ∷ xs) ys = by xs ys
     by (Budget n ∷ xs) ys = by xs ys
     by (Class c ∷ xs) ys = by xs ys
     by (Def p ∷ xs) ys = by xs ys
@@ -27,6 +29,8 @@ procedures_by_lines = record { append = by }
   where
     by : (xs ys : List Item) → procedures (xs ++ ys) ≡ procedures xs ++ procedures ys
     by [] ys = refl
+    by (Profile n ∷ xs) ys = by xs ys
+    by (Shutdown ∷ xs) ys = by xs ys
     by (Budget n ∷ xs) ys = by xs ys
     by (Class c ∷ xs) ys = by xs ys
     by (Def p ∷ xs) ys = ap (λ l. p ∷ l) (by xs ys)
@@ -37,6 +41,8 @@ classes_by_lines = record { append = by }
   where
     by : (xs ys : List Item) → classes (xs ++ ys) ≡ classes xs ++ classes ys
     by [] ys = refl
+    by (Profile n ∷ xs) ys = by xs ys
+    by (Shutdown ∷ xs) ys = by xs ys
     by (Budget n ∷ xs) ys = by xs ys
     by (Class c ∷ xs) ys = ap (λ l. c ∷ l) (by xs ys)
     by (Def p ∷ xs) ys = by xs ys
@@ -45,6 +51,8 @@ classes_by_lines = record { append = by }
 -- the position of a line, for each thing that is read off it
 own_procedure : (items : List Item) (at : ℕ) (item : Item) → slice_get items at ≡ Some item
     → map (slice_get items) (map (λ p. at) (procedures (item ∷ []))) ≡ map (λ p. Some (Def p)) (procedures (item ∷ []))
+own_procedure items at (Profile n) e = refl
+own_procedure items at Shutdown e = refl
 own_procedure items at (Budget n) e = refl
 own_procedure items at (Class c) e = refl
 own_procedure items at (Def p) e = ap (λ o. o ∷ []) e
@@ -52,16 +60,20 @@ own_procedure items at (Run c) e = refl
 
 own_command : (items : List Item) (at : ℕ) (item : Item) → slice_get items at ≡ Some item
     → map (slice_get items) (map (λ p. at) (commands_of (item ∷ []))) ≡ map (λ c. Some (Run c)) (commands_of (item ∷ []))
+own_command items at (Profile n) e = refl
+own_command items at Shutdown e = refl
 own_command items at (Budget n) e = refl
 own_command items at (Class c) e = refl
 own_command items at (Def p) e = refl
 own_command items at (Run c) e = ap (λ o. o ∷ []) e
 
--- the index of the lines before a position, in the list of all
-pub record IsIndexUpTo (items : List Item) (at : ℕ) (defs : List ClassDef) (procs runs : List ℕ) : Type 0 where
+-- the index of the lines before a position, in the list of all, with what all declare
+pub record IsIndexUpTo (items : List Item) (at : ℕ) (defs : List ClassDef) (procs runs : List ℕ) (chosen : ℕ) (declared : Bool) : Type 0 where
   pub classes : defs ≡ classes (take at items)
   pub procedures : StandAt Def items procs (procedures (take at items))
   pub commands : StandAt Run items runs (commands_of (take at items))
+  pub profile : chosen ≡ profile_of items
+  pub shutdown : declared ≡ declares_shutdown items
 
 module _ (items : List Item) (at : ℕ) (item : Item) (within : at < length items) (is : item ≡ get_or items at item) where
   found : slice_get items at ≡ Some item
@@ -80,25 +92,37 @@ module _ (items : List Item) (at : ℕ) (item : Item) (within : at < length item
       ∙ ap (map (λ x. Some (line x))) (sym (one_more read by))
 
   -- one line more
-  pub index_more : (defs new_defs : List ClassDef) (procs new_procs commands new_commands : List ℕ)
+  pub index_more : (defs new_defs : List ClassDef) (procs new_procs commands new_commands : List ℕ) (chosen new_chosen : ℕ) (declared new_declared : Bool)
       → new_defs ≡ defs ++ classes (item ∷ []) → new_procs ≡ procs ++ map (λ p. at) (procedures (item ∷ [])) → new_commands ≡ commands ++ map (λ c. at) (commands_of (item ∷ []))
-      → IsIndexUpTo items at defs procs commands → IsIndexUpTo items (at + 1) new_defs new_procs new_commands
-  index_more defs new_defs procs new_procs commands new_commands ds ps cs before = record {
+      → new_chosen ≡ chosen → new_declared ≡ declared
+      → IsIndexUpTo items at defs procs commands chosen declared → IsIndexUpTo items (at + 1) new_defs new_procs new_commands new_chosen new_declared
+  index_more defs new_defs procs new_procs commands new_commands chosen new_chosen declared new_declared ds ps cs same still before = record {
     classes = ds ∙ ap (λ l. l ++ classes (item ∷ [])) before.classes ∙ sym (one_more classes classes_by_lines);
     procedures = ap (map (slice_get items)) ps ∙ stand_more Def procedures procs procedures_by_lines (own_procedure items at item found) before.procedures;
     commands = ap (map (slice_get items)) cs ∙ stand_more Run commands_of commands commands_by_lines (own_command items at item found) before.commands;
+    profile = same ∙ before.profile;
+    shutdown = still ∙ before.shutdown;
   }
 
 -- before the first line
-pub index_of_none : (items : List Item) (defs : List ClassDef) (procs commands : List ℕ) → defs ≡ [] → procs ≡ [] → commands ≡ [] → IsIndexUpTo items 0 defs procs commands
-index_of_none items defs procs commands d p c = record { classes = d; procedures = ap (map (slice_get items)) p; commands = ap (map (slice_get items)) c }
+pub index_of_none : (items : List Item) (defs : List ClassDef) (procs commands : List ℕ) (chosen : ℕ) (declared : Bool) → defs ≡ [] → procs ≡ [] → commands ≡ [] → chosen ≡ profile_of items → declared ≡ declares_shutdown items
+    → IsIndexUpTo items 0 defs procs commands chosen declared
+index_of_none items defs procs commands chosen declared d p c which ends = record {
+  classes = d;
+  procedures = ap (map (slice_get items)) p;
+  commands = ap (map (slice_get items)) c;
+  profile = which;
+  shutdown = ends;
+}
 
 -- at the end all lines were looked at
-pub index_of_all : (items : List Item) (at : ℕ) (defs : List ClassDef) (procs commands : List ℕ) → length items ≤ at → IsIndexUpTo items at defs procs commands → IsIndexOf items defs procs commands
-index_of_all items at defs procs commands past upto = record {
+pub index_of_all : (items : List Item) (at : ℕ) (defs : List ClassDef) (procs commands : List ℕ) (chosen : ℕ) (declared : Bool) → length items ≤ at → IsIndexUpTo items at defs procs commands chosen declared → IsIndexOf items defs procs commands chosen declared
+index_of_all items at defs procs commands chosen declared past upto = record {
   classes = upto.classes ∙ ap classes (take_all at items past);
   procedures = upto.procedures ∙ ap (λ l. map (λ p. Some (Def p)) (procedures l)) (take_all at items past);
   commands = upto.commands ∙ ap (λ l. map (λ c. Some (Run c)) (commands_of l)) (take_all at items past);
+  profile = upto.profile;
+  shutdown = upto.shutdown;
 }
 
 -- What stands at a number of one list stands there in the other.

@@ -1,5 +1,5 @@
 -- The canonical bytes of a script that some bytes spell are read as this script.
-use Rattle.std.proofs.Common.{◌≡◌, ℕ, ◌+◌, ◌≤◌, List, [], ◌∷◌, ◌++◌, length, map, Bool, true, false, cond, not, ◌&&◌, ◌==◌, Option, None, Some, refl, sym, ap, subst, ◌∙◌, arith, codes, inl, inr, ◌⊎◌, append_assoc}
+use Rattle.std.proofs.Common.{◌≡◌, ℕ, ◌+◌, ◌≤◌, List, [], ◌∷◌, ◌++◌, length, map, Bool, true, false, cond, ◌&&◌, ◌==◌, Option, None, Some, refl, sym, ap, subst, ◌∙◌, arith, codes, inl, inr, ◌⊎◌, append_assoc}
 use Rattle.std.specs.Prelude.{flat_map, unwrap_or}
 use Rattle.std.specs.Str.{bytes_eq}
 use Rattle.std.proofs.lemmas.Bool.Decides.{nat_tests}
@@ -22,6 +22,7 @@ use Rattle.cg_script.specs.Reading.{nothing_known, is_misplaced, is_repeated, fa
 use Rattle.cg_script.specs.Canonical.{Naming, text_of, command_words, end_words, item_lines, procs_in, classes_in, naming_of, joined, line_of_words, canonical}
 use Rattle.cg_script.proofs.Lines.{passed_before_last, says_before_last}
 use Rattle.cg_script.proofs.Walk.{each_line}
+use Rattle.cg_script.proofs.Grouped.{ends_inside, first_outside}
 use Rattle.cg_script.proofs.Joined.{EachSound, EachLineSound, lines_of-written}
 use Rattle.cg_script.proofs.Shown.{Begins, Names, begins_self, begins_along, begins_texts, text_found, normal_from}
 use Rattle.cg_script.proofs.GoodLines.{Same, Faultless, good_line, good_again, good_says, same_again, same_along, same_known, faultless, no_fault}
@@ -112,6 +113,8 @@ module _ (n : Naming) (known : Known) (names : Names n known.procs known.classes
 -- lines of which procedures are begun and ended in turn, and declarations stand outside them
 abbrev Nested : Bool → List Said → Type 0
 Nested inside [] = inside ≡ false
+Nested inside (Declares (items.Profile profile) ∷ later) = (inside ≡ false) × Nested inside later
+Nested inside (Declares items.Shutdown ∷ later) = (inside ≡ false) × Nested inside later
 Nested inside (Declares (items.Budget count) ∷ later) = (inside ≡ false) × Nested inside later
 Nested inside (Declares (items.Class c) ∷ later) = (inside ≡ false) × Nested inside later
 Nested inside (Declares (items.Def p) ∷ later) = ⊥
@@ -120,20 +123,20 @@ Nested inside (BeginsProc name ∷ later) = (inside ≡ false) × Nested true la
 Nested inside (Ends ∷ later) = (inside ≡ true) × Nested false later
 Nested inside (Does command ∷ later) = Nested inside later
 
-ends_inside : (b : Bool) → not b ≡ false → b ≡ true
-ends_inside true e = refl
-ends_inside false e = absurd (cc)
-
-nested_step : (form : Form) (ps : List Part) (inside : Bool) (later : List Said) → is_misplaced form inside ≡ false → Nested (inside_after inside form) later → Nested inside (said form ps ∷ later)
-nested_step forms.Budget ps inside later e nested = (e, nested)
-nested_step forms.Class ps inside later e nested = (e, nested)
-nested_step forms.Def ps inside later e nested = (e, nested)
-nested_step forms.End ps inside later e nested = (ends_inside inside e, nested)
-nested_step form ps inside later e nested = nested
+nested_step : (known : Known) (form : Form) (ps : List Part) (later : List Said) → is_misplaced known form ≡ false → Nested (inside_after known.inside form) later → Nested known.inside (said form ps ∷ later)
+nested_step known forms.Profile ps later e nested = ((first_outside known.inside known.started e).0, nested)
+nested_step known forms.Shutdown ps later e nested = (e, nested)
+nested_step known forms.Budget ps later e nested = (e, nested)
+nested_step known forms.Class ps later e nested = (e, nested)
+nested_step known forms.Def ps later e nested = (e, nested)
+nested_step known forms.End ps later e nested = (ends_inside known.inside e, nested)
+nested_step known form ps later e nested = nested
 
 -- the procedures and classes that lines define
 abbrev begun : List Said → List ℕ
 begun [] = []
+begun (Declares (items.Profile profile) ∷ later) = begun later
+begun (Declares items.Shutdown ∷ later) = begun later
 begun (Declares (items.Budget count) ∷ later) = begun later
 begun (Declares (items.Class c) ∷ later) = begun later
 begun (Declares (items.Def p) ∷ later) = p.name ∷ begun later
@@ -144,6 +147,8 @@ begun (Does command ∷ later) = begun later
 
 abbrev declared : List Said → List ℕ
 declared [] = []
+declared (Declares (items.Profile profile) ∷ later) = declared later
+declared (Declares items.Shutdown ∷ later) = declared later
 declared (Declares (items.Budget count) ∷ later) = declared later
 declared (Declares (items.Class c) ∷ later) = c.name ∷ declared later
 declared (Declares (items.Def p) ∷ later) = declared later
@@ -154,6 +159,8 @@ declared (Does command ∷ later) = declared later
 
 procs_in-items_of : (inside : Bool) (saids : List Said) → procs_in (items_of inside saids) ≡ begun saids
 procs_in-items_of inside [] = refl
+procs_in-items_of inside (Declares (items.Profile profile) ∷ later) = procs_in-items_of inside later
+procs_in-items_of inside (Declares items.Shutdown ∷ later) = procs_in-items_of inside later
 procs_in-items_of inside (Declares (items.Budget count) ∷ later) = procs_in-items_of inside later
 procs_in-items_of inside (Declares (items.Class c) ∷ later) = procs_in-items_of inside later
 procs_in-items_of inside (Declares (items.Def p) ∷ later) = ap (λ (l : List ℕ). p.name ∷ l) (procs_in-items_of inside later)
@@ -165,6 +172,8 @@ procs_in-items_of false (Does command ∷ later) = procs_in-items_of false later
 
 classes_in-items_of : (inside : Bool) (saids : List Said) → classes_in (items_of inside saids) ≡ declared saids
 classes_in-items_of inside [] = refl
+classes_in-items_of inside (Declares (items.Profile profile) ∷ later) = classes_in-items_of inside later
+classes_in-items_of inside (Declares items.Shutdown ∷ later) = classes_in-items_of inside later
 classes_in-items_of inside (Declares (items.Budget count) ∷ later) = classes_in-items_of inside later
 classes_in-items_of inside (Declares (items.Class c) ∷ later) = ap (λ (l : List ℕ). c.name ∷ l) (classes_in-items_of inside later)
 classes_in-items_of inside (Declares (items.Def p) ∷ later) = classes_in-items_of inside later
@@ -182,6 +191,8 @@ LinesSaid n true saids = (map (command_words n) (body_of saids) ++ end_words ∷
 lines_said : (n : Naming) (inside : Bool) (saids : List Said) → Nested inside saids → LinesSaid n inside saids
 lines_said n false [] nested = refl
 lines_said n true [] nested = absurd (cc)
+lines_said n false (Declares (items.Profile profile) ∷ later) nested = ap (λ (l : List (List (List ℕ))). said_words n (Declares (items.Profile profile)) ∷ l) (lines_said n false later nested.1)
+lines_said n false (Declares items.Shutdown ∷ later) nested = ap (λ (l : List (List (List ℕ))). said_words n (Declares items.Shutdown) ∷ l) (lines_said n false later nested.1)
 lines_said n false (Declares (items.Budget count) ∷ later) nested = ap (λ (l : List (List (List ℕ))). said_words n (Declares (items.Budget count)) ∷ l) (lines_said n false later nested.1)
 lines_said n false (Declares (items.Class c) ∷ later) nested = ap (λ (l : List (List (List ℕ))). said_words n (Declares (items.Class c)) ∷ l) (lines_said n false later nested.1)
 lines_said n false (Declares (items.Def p) ∷ later) nested = absurd nested
@@ -189,6 +200,8 @@ lines_said n false (Declares (items.Run c) ∷ later) nested = absurd nested
 lines_said n false (BeginsProc name ∷ later) nested = ap (λ (l : List (List (List ℕ))). said_words n (BeginsProc name) ∷ l) (lines_said n true later nested.1)
 lines_said n false (Ends ∷ later) nested = let never : false ≡ true = nested.0 in absurd (cc)
 lines_said n false (Does command ∷ later) nested = ap (λ (l : List (List (List ℕ))). command_words n command ∷ l) (lines_said n false later nested)
+lines_said n true (Declares (items.Profile profile) ∷ later) nested = let never : true ≡ false = nested.0 in absurd (cc)
+lines_said n true (Declares items.Shutdown ∷ later) nested = let never : true ≡ false = nested.0 in absurd (cc)
 lines_said n true (Declares (items.Budget count) ∷ later) nested = let never : true ≡ false = nested.0 in absurd (cc)
 lines_said n true (Declares (items.Class c) ∷ later) nested = let never : true ≡ false = nested.0 in absurd (cc)
 lines_said n true (Declares (items.Def p) ∷ later) nested = absurd nested
@@ -243,7 +256,7 @@ back_said number known line form words texts saids m f fact =
     let words_good = good_line number line form words m in
     record {
       begins = begins_along known.texts (texts_from known.texts form 0 words) texts (begins_texts form words known.texts 0) fact.begins;
-      nested = nested_step form (parts_of known form words) known.inside saids clean.placed fact.nested;
+      nested = nested_step known form (parts_of known form words) saids clean.placed fact.nested;
       back = λ procs classes ep ec k h limit.
           let n : Naming = record { texts = texts; procs = procs; classes = classes } in
           let names : Names n known.procs known.classes = record {

@@ -15,13 +15,15 @@ use Rattle.cg_script.specs.Tables.{named}
 use Rattle.cg_script.specs.Forms.{row, sort_at, word_of, opening_forms, binding_forms, by_words, openers, bindings}
 use Rattle.cg_script.specs.Parts.{Known, part_of, parts_from, parts_of, texts_from, text_in, with_text_if, has_unknown}
 use Rattle.cg_script.specs.Commands.{value_or, count_or, said}
-use Rattle.cg_script.specs.Canonical.{Naming, text_of, name_of, value_word, command_words, budget_words, class_words, def_words, end_words}
+use Rattle.cg_script.specs.Canonical.{Naming, text_of, name_of, value_word, command_words, profile_words, shutdown_words, budget_words, class_words, def_words, end_words}
 use Rattle.cg_script.proofs.Shown.{Begins, Names, shown, shown_from, shown_normal, normal_from}
 use Rattle.cg_script.proofs.GoodLines.{Good, Same, same_self}
 
 -- the words of what a line says
 abbrev pub said_words : Naming → Said → List (List ℕ)
 said_words n (Does command) = command_words n command
+said_words n (Declares (items.Profile profile)) = profile_words profile
+said_words n (Declares items.Shutdown) = shutdown_words
 said_words n (Declares (items.Budget count)) = budget_words count
 said_words n (Declares (items.Class c)) = class_words n c
 said_words n (Declares (items.Def p)) = []
@@ -158,8 +160,13 @@ module _ (n : Naming) (known : Known) (names : Names n known.procs known.classes
   opened forms.Refs rest co fl cl found given = one forms.Refs rest (omega (arith, given.good.enough, given.good.most)) (λ a. refl) given
   opened forms.Tracked rest co fl cl found given = one forms.Tracked rest (omega (arith, given.good.enough, given.good.most)) (λ a. refl) given
   opened forms.Finalized rest co fl cl found given = one forms.Finalized rest (omega (arith, given.good.enough, given.good.most)) (λ a. refl) given
+  opened forms.Referents rest co fl cl found given = one forms.Referents rest (omega (arith, given.good.enough, given.good.most)) (λ a. refl) given
+  opened forms.Referrers rest co fl cl found given = one forms.Referrers rest (omega (arith, given.good.enough, given.good.most)) (λ a. refl) given
+  opened forms.Why rest co fl cl found given = one forms.Why rest (omega (arith, given.good.enough, given.good.most)) (λ a. refl) given
   opened forms.Count rest co fl cl found given = alone forms.Count rest (omega (arith, given.good.enough, given.good.most)) refl given
   opened forms.Gens rest co fl cl found given = alone forms.Gens rest (omega (arith, given.good.enough, given.good.most)) refl given
+  opened forms.Profile rest co fl cl found given = one forms.Profile rest (omega (arith, given.good.enough, given.good.most)) (λ a. refl) given
+  opened forms.Shutdown rest co fl cl found given = alone forms.Shutdown rest (omega (arith, given.good.enough, given.good.most)) refl given
   opened forms.Budget rest co fl cl found given = one forms.Budget rest (omega (arith, given.good.enough, given.good.most)) (λ a. refl) given
   opened forms.Class rest co fl cl found given = cl rest given
   opened forms.Def rest co fl cl found given = one forms.Def rest (omega (arith, given.good.enough, given.good.most)) (λ a. refl) given

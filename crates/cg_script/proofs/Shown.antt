@@ -12,7 +12,7 @@ use Rattle.cg_script.specs.declared.command.Operand.{Operand}
 use Rattle.cg_script.specs.declared.command.Operand.TheVariants as operands
 use Rattle.cg_script.specs.declared.form.Form.{Form}
 use Rattle.cg_script.specs.declared.form.Sort.{Sort}
-use Rattle.cg_script.specs.declared.form.Sort.TheVariants.{Key, Variable, Name, Class, Proc, Finalizer, Value, Number, Budget, Count, Flag}
+use Rattle.cg_script.specs.declared.form.Sort.TheVariants.{Key, Variable, Name, Class, Proc, Finalizer, Value, Number, Profile, Budget, Count, Flag}
 use Rattle.cg_script.specs.declared.part.Part.{Part}
 use Rattle.cg_script.specs.Tables.{named}
 use Rattle.cg_script.specs.Words.{begins_name, is_quoted, number_of, string_text, atoms}
@@ -114,6 +114,7 @@ shown n Proc p w = name_of n.texts n.procs (count_or (Some p))
 shown n Finalizer p w = w
 shown n Value p w = value_word n.texts (value_or (Some p))
 shown n Number p w = signed_decimal (number_or (pos 0) (Some p))
+shown n Profile p w = decimal (count_or (Some p))
 shown n Budget p w = decimal (count_or (Some p))
 shown n Count p w = decimal (count_or (Some p))
 shown n Flag p w = w
@@ -198,6 +199,7 @@ shown_word n procs classes texts Proc w names begins known = counted_name (map (
 shown_word n procs classes texts Finalizer w names begins known = refl
 shown_word n procs classes texts Value w names begins known = value_shown n.texts texts w (named atoms w) refl begins
 shown_word n procs classes texts Number w names begins known = refl
+shown_word n procs classes texts Profile w names begins known = refl
 shown_word n procs classes texts Budget w names begins known = refl
 shown_word n procs classes texts Count w names begins known = refl
 shown_word n procs classes texts Flag w names begins known = refl

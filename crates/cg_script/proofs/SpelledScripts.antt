@@ -13,7 +13,7 @@ use Rattle.cg_script.specs.declared.part.Part.{Part}
 use Rattle.cg_script.specs.declared.part.Said.{Said}
 use Rattle.cg_script.specs.declared.part.Said.TheVariants.{Declares, Begins, Ends, Does}
 use Rattle.cg_script.specs.Texts.{command_texts}
-use Rattle.cg_script.specs.Spelled.{HasFewWords, IsSpelledCommand, IsSpelledItem, IsSpelled}
+use Rattle.cg_script.specs.Spelled.{HasFewWords, IsSpelledCommand, IsSpelledItem, IsNoProfile, IsSpelled}
 use Rattle.cg_script.specs.Words.{are_digits, is_count, decimal_value}
 use Rattle.cg_script.specs.Forms.{row}
 use Rattle.cg_script.specs.Meanings.{all_fit}
@@ -24,6 +24,7 @@ use Rattle.cg_script.proofs.Ascii.{both}
 use Rattle.cg_script.proofs.Below.{Below, below_all}
 use Rattle.cg_script.proofs.Says.{says_fits}
 use Rattle.cg_script.proofs.Known.{said_texts, length-parts_from}
+use Rattle.cg_script.proofs.Profiles.{profile_count, profile_is_first}
 use Rattle.cg_script.proofs.Each.{EachSaid, Holds, texts_hold, said_so}
 
 -- a line has few words
@@ -44,8 +45,9 @@ has_few forms.MakeTuple ps most = omega (arith, few_values ps 3)
 has_few forms.MakeFunc ps most = few_cells ps most
 has_few form ps most = tt
 
--- a declaration of one line is a class, or a budget within the limit
+-- a declaration of one line is a class, a shutdown, or a profile or a budget within the limits
 IsDeclared : Said → Type 0
+IsDeclared (Declares (items.Profile n)) = (1 ≤ n) × (n ≤ 2)
 IsDeclared (Declares (items.Budget n)) = n ≤ 100000
 IsDeclared (Declares (items.Def p)) = ⊥
 IsDeclared (Declares (items.Run c)) = ⊥
@@ -56,6 +58,7 @@ within most word e = let last : nat_le (decimal_value word) most ≡ true = (bot
 
 is_declared : (known : Known) (form : Form) (words : List (List ℕ)) → all_fit form 0 words ≡ true → (row form).fewest ≤ length words → IsDeclared (said form (parts_of known form words))
 unfolding IsDeclared
+is_declared known forms.Profile words fit enough = profile_count known.procs known.classes known.texts words fit enough
 is_declared known forms.Budget [] fit enough = absurd (omega arith)
 is_declared known forms.Budget (word ∷ []) fit enough = absurd (omega arith)
 is_declared known forms.Budget (word ∷ count ∷ words) fit enough = within 100000 count (both _ _ fit).0
@@ -70,6 +73,8 @@ IsSpelledSaid n Ends = Unit {0}
 is_spelled : (n : ℕ) (s : Said) → Below n (said_texts s) → HasFew s → IsDeclared s → IsSpelledSaid n s
 unfolding HasFew IsDeclared IsSpelledSaid
 is_spelled n (Does command) below few declared = record { known = below_all n (command_texts command) below; few_words = few }
+is_spelled n (Declares (items.Profile m)) below few declared = declared
+is_spelled n (Declares items.Shutdown) below few declared = tt
 is_spelled n (Declares (items.Budget m)) below few declared = declared
 is_spelled n (Declares (items.Class c)) below few declared = tt
 is_spelled n (Declares (items.Def p)) below few declared = absurd declared
@@ -128,8 +133,10 @@ spelled_script bytes script e few_texts =
     let few = so.few in
     let lines : All (IsSpelledItem n) (items_of false so.saids) = items_spelled n false so.saids few so.each in
     let count = length-items_of false so.saids in
+    let first : All IsNoProfile (drop 1 (items_of false so.saids)) = profile_is_first false so.saids so.profile_first in
     record {
       lines = subst (λ is. All (IsSpelledItem n) is) so.items_so lines;
+      profile_first = subst (λ is. All IsNoProfile (drop 1 is)) so.items_so first;
       few_lines = omega (arith, ap length so.items_so);
       short = so.short;
       few_texts = few_texts;

@@ -91,10 +91,19 @@ command_words n (commands.Print value) = word_of forms.Print ∷ value_word n.te
 command_words n (commands.Refs value) = word_of forms.Refs ∷ value_word n.texts value ∷ []
 command_words n (commands.Tracked value) = word_of forms.Tracked ∷ value_word n.texts value ∷ []
 command_words n (commands.Finalized value) = word_of forms.Finalized ∷ value_word n.texts value ∷ []
+command_words n (commands.Referents value) = word_of forms.Referents ∷ value_word n.texts value ∷ []
+command_words n (commands.Referrers value) = word_of forms.Referrers ∷ value_word n.texts value ∷ []
+command_words n (commands.Why name) = word_of forms.Why ∷ text_of n.texts name ∷ []
 command_words n commands.Count = word_of forms.Count ∷ []
 command_words n commands.Gens = word_of forms.Gens ∷ []
 
 -- of the other lines
+abbrev pub profile_words : ℕ → List (List ℕ)
+profile_words profile = word_of forms.Profile ∷ decimal profile ∷ []
+
+abbrev pub shutdown_words : List (List ℕ)
+shutdown_words = word_of forms.Shutdown ∷ []
+
 abbrev pub budget_words : ℕ → List (List ℕ)
 budget_words count = word_of forms.Budget ∷ decimal count ∷ []
 
@@ -109,6 +118,8 @@ end_words = word_of forms.End ∷ []
 
 -- the lines of an item, each by its words
 abbrev pub item_lines : Naming → Item → List (List (List ℕ))
+item_lines n (items.Profile profile) = profile_words profile ∷ []
+item_lines n items.Shutdown = shutdown_words ∷ []
 item_lines n (items.Budget count) = budget_words count ∷ []
 item_lines n (items.Class c) = class_words n c ∷ []
 item_lines n (items.Def p) = def_words n p.name ∷ (map (command_words n) p.body ++ end_words ∷ [])

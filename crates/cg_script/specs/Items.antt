@@ -53,8 +53,11 @@ declares_shutdown (item ∷ items) = declares_shutdown items
 abbrev pub StandAt : {A : Type 0} → (A → Item) → List Item → List ℕ → List A → Type 0
 StandAt line items positions those = map (slice_get items) positions ≡ map (λ x. Some (line x)) those
 
--- These are the classes of some lines, and the positions of their procedures and of their commands outside procedures.
-pub record IsIndexOf (items : List Item) (defs : List ClassDef) (procs runs : List ℕ) : Type 0 where
+-- These are the classes of some lines, the positions of their procedures and of their commands outside procedures, their profile,
+-- and whether they declare a shutdown.
+pub record IsIndexOf (items : List Item) (defs : List ClassDef) (procs runs : List ℕ) (chosen : ℕ) (declared : Bool) : Type 0 where
   pub classes : defs ≡ classes items
   pub procedures : StandAt Def items procs (procedures items)
   pub commands : StandAt Run items runs (commands_of items)
+  pub profile : chosen ≡ profile_of items
+  pub shutdown : declared ≡ declares_shutdown items

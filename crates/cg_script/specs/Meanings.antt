@@ -7,11 +7,11 @@ use Rattle.std.specs.List.{list_all}
 use Rattle.cg_script.specs.declared.form.Form.{Form}
 use Rattle.cg_script.specs.declared.form.Form.TheVariants as forms
 use Rattle.cg_script.specs.declared.form.Sort.{Sort}
-use Rattle.cg_script.specs.declared.form.Sort.TheVariants.{Key, Variable, Name, Class, Proc, Finalizer, Value, Number, Budget, Count, Flag}
+use Rattle.cg_script.specs.declared.form.Sort.TheVariants.{Key, Variable, Name, Class, Proc, Finalizer, Value, Number, Profile, Budget, Count, Flag}
 use Rattle.cg_script.specs.declared.limits.TheConstants.{MOST_BUDGET, MOST_COUNT, MOST_LINE_BYTES, MOST_LINES, MOST_WORDS}
 use Rattle.cg_script.specs.Pieces.{words_of, word_at, word_is}
 use Rattle.cg_script.specs.Tables.{named}
-use Rattle.cg_script.specs.Words.{is_printable, is_identifier, is_variable, is_value, is_number, is_count, names_finalizer, names_legacy, flags}
+use Rattle.cg_script.specs.Words.{is_printable, is_identifier, is_variable, is_value, is_number, is_count, is_profile, names_finalizer, names_legacy, flags}
 use Rattle.cg_script.specs.Forms.{row, sort_at, bindings, openers}
 
 -- what a line means: nothing, since it is passed over; these words in a form; or nothing that is read, with a code
@@ -30,6 +30,7 @@ fits Proc word = is_identifier word
 fits Finalizer word = names_finalizer word || names_legacy word
 fits Value word = is_value word
 fits Number word = is_number word
+fits Profile word = is_profile word
 fits Budget word = is_count MOST_BUDGET word
 fits Count word = is_count MOST_COUNT word
 fits Flag word = is_some (named flags word)

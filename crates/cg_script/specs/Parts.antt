@@ -7,7 +7,7 @@ use Rattle.cg_script.specs.declared.command.Operand.{Operand}
 use Rattle.cg_script.specs.declared.command.Operand.TheVariants as operands
 use Rattle.cg_script.specs.declared.form.Form.{Form}
 use Rattle.cg_script.specs.declared.form.Sort.{Sort}
-use Rattle.cg_script.specs.declared.form.Sort.TheVariants.{Key, Variable, Name, Class, Proc, Finalizer, Value, Number, Budget, Count, Flag}
+use Rattle.cg_script.specs.declared.form.Sort.TheVariants.{Key, Variable, Name, Class, Proc, Finalizer, Value, Number, Profile, Budget, Count, Flag}
 use Rattle.cg_script.specs.declared.part.Part.{Part}
 use Rattle.cg_script.specs.declared.part.Part.TheVariants as parts
 use Rattle.cg_script.specs.Tables.{named}
@@ -15,12 +15,14 @@ use Rattle.cg_script.specs.Words.{begins_name, is_quoted, string_text, number_of
 use Rattle.cg_script.specs.Forms.{sort_at}
 
 -- What the lines before have brought: texts in the order in which they stand, names of procedures and of classes, whether a budget,
--- and whether a procedure is open.
+-- whether a shutdown, whether a line that is not passed over, and whether a procedure is open.
 pub record Known : Type 0 where
   pub texts : List (List ℕ)
   pub procs : List (List ℕ)
   pub classes : List (List ℕ)
   pub budget : Bool
+  pub shutdown : Bool
+  pub started : Bool
   pub inside : Bool
 
 -- the text of a value that has no word of its own
@@ -38,6 +40,7 @@ text_in Proc word = None
 text_in Finalizer word = None
 text_in Value word = value_text (named atoms word) word
 text_in Number word = None
+text_in Profile word = None
 text_in Budget word = None
 text_in Count word = None
 text_in Flag word = None
@@ -91,6 +94,7 @@ part_of procs classes texts Proc word = numbered (place_in procs word)
 part_of procs classes texts Finalizer word = finalizer_of procs (after_prefix (codes "del=") word) word
 part_of procs classes texts Value word = parts.Value (operand_or (named atoms word) texts word)
 part_of procs classes texts Number word = parts.Number (number_of word)
+part_of procs classes texts Profile word = parts.Count (decimal_value word)
 part_of procs classes texts Budget word = parts.Count (decimal_value word)
 part_of procs classes texts Count word = parts.Count (decimal_value word)
 part_of procs classes texts Flag word = parts.Count (unwrap_or (named flags word) 0)

@@ -2,7 +2,7 @@
 --
 -- Beside the codes of `Meanings`: 6 a procedure or class that no earlier line defines, 7 a declaration in the wrong place, 8 a second
 -- definition.
-use Rattle.std.specs.Prelude.{ℕ, ◌+◌, List, [], ◌∷◌, Bool, true, false, not, if◌then◌else◌, Option, None, Some}
+use Rattle.std.specs.Prelude.{ℕ, ◌+◌, List, [], ◌∷◌, Bool, true, false, not, ◌||◌, if◌then◌else◌, Option, None, Some}
 use Rattle.cg_value.specs.Texts.{has_text, with_text}
 use Rattle.cg_script.specs.declared.command.Command.{Command}
 use Rattle.cg_script.specs.declared.item.Item.{Item}
@@ -18,27 +18,30 @@ use Rattle.cg_script.specs.Commands.{said}
 
 -- before the first line
 abbrev pub nothing_known : Known
-nothing_known = record { texts = []; procs = []; classes = []; budget = false; inside = false }
+nothing_known = record { texts = []; procs = []; classes = []; budget = false; shutdown = false; started = false; inside = false }
 
--- an `end` outside a procedure, or a declaration inside one
-abbrev pub is_misplaced : Form → Bool → Bool
-is_misplaced forms.End inside = not inside
-is_misplaced forms.Def inside = inside
-is_misplaced forms.Class inside = inside
-is_misplaced forms.Budget inside = inside
-is_misplaced form inside = false
+-- an `end` outside a procedure, a declaration inside one, or a profile behind another line
+abbrev pub is_misplaced : Known → Form → Bool
+is_misplaced known forms.End = not known.inside
+is_misplaced known forms.Def = known.inside
+is_misplaced known forms.Class = known.inside
+is_misplaced known forms.Budget = known.inside
+is_misplaced known forms.Shutdown = known.inside
+is_misplaced known forms.Profile = known.inside || known.started
+is_misplaced known form = false
 
--- a procedure or class that is defined already, or a second budget
+-- a procedure or class that is defined already, or a second budget or shutdown
 abbrev pub is_repeated : Known → Form → List (List ℕ) → Bool
 is_repeated known forms.Def words = has_text known.procs (word_at words 1)
 is_repeated known forms.Class words = has_text known.classes (word_at words 1)
 is_repeated known forms.Budget words = known.budget
+is_repeated known forms.Shutdown words = known.shutdown
 is_repeated known form words = false
 
 -- what is wrong with a line of this form behind what is known
 abbrev pub fault_in : Known → Form → List (List ℕ) → Option ℕ
 fault_in known form words =
-    if is_misplaced form known.inside then Some 7
+    if is_misplaced known form then Some 7
     else if is_repeated known form words then Some 8
     else if has_unknown (parts_of known form words) then Some 6
     else None
@@ -69,6 +72,10 @@ abbrev pub budget_after : Bool → Form → Bool
 budget_after budget forms.Budget = true
 budget_after budget form = budget
 
+abbrev pub shutdown_after : Bool → Form → Bool
+shutdown_after shutdown forms.Shutdown = true
+shutdown_after shutdown form = shutdown
+
 abbrev pub inside_after : Bool → Form → Bool
 inside_after inside forms.Def = true
 inside_after inside forms.End = false
@@ -81,6 +88,8 @@ known_after known form words = record {
   procs = procs_after known.procs form words;
   classes = classes_after known.classes form words;
   budget = budget_after known.budget form;
+  shutdown = shutdown_after known.shutdown form;
+  started = true;
   inside = inside_after known.inside form;
 }
 

@@ -1,10 +1,10 @@
 -- What is true of the lines of a script that some bytes spell. (Ours.)
-use Rattle.std.specs.Prelude.{ℕ, ◌<◌, ◌≤◌, length}
+use Rattle.std.specs.Prelude.{ℕ, ◌<◌, ◌≤◌, drop, length}
 use Rattle.std.specs.List.{All}
 use Rattle.cg_script.specs.declared.command.Command.{Command}
 use Rattle.cg_script.specs.declared.command.Command.TheVariants.{MakeList, MakeTuple, MakeFunc, Collect, Enable, Disable, Threshold, Flags, Freeze, Unfreeze, Count, Gens}
 use Rattle.cg_script.specs.declared.item.Item.{Item}
-use Rattle.cg_script.specs.declared.item.Item.TheVariants.{Budget, Class, Def, Run}
+use Rattle.cg_script.specs.declared.item.Item.TheVariants.{Profile, Shutdown, Budget, Class, Def, Run}
 use Rattle.cg_script.specs.declared.item.Script.{Script}
 use Rattle.cg_script.specs.declared.limits.TheConstants.{MOST_BUDGET, MOST_LINE_BYTES, MOST_LINES, MOST_TEXTS, MOST_WORDS}
 use Rattle.cg_script.specs.Texts.{command_texts}
@@ -34,17 +34,25 @@ IsForObjects Count = ⊥
 IsForObjects Gens = ⊥
 IsForObjects command = Unit {0}
 
--- what is true of a line: of its command, of those of a procedure, and that a budget is at most 100,000
+-- what is true of a line: of its command, of those of a procedure, that a profile is 1 or 2, and that a budget is at most 100,000
 abbrev pub IsSpelledItem : ℕ → Item → Type 0
+IsSpelledItem names (Profile n) = (1 ≤ n) × (n ≤ 2)
+IsSpelledItem names Shutdown = Unit {0}
 IsSpelledItem names (Budget n) = n ≤ MOST_BUDGET
 IsSpelledItem names (Class c) = Unit {0}
 IsSpelledItem names (Def p) = (length p.body ≤ MOST_LINES) × All (IsSpelledCommand names) p.body
 IsSpelledItem names (Run c) = IsSpelledCommand names c
 
--- What is true of a script that some bytes spell: of its lines, and that a text, which stands in a line, has at most 1,024
--- bytes.
+-- a line that is no profile
+abbrev pub IsNoProfile : Item → Type 0
+IsNoProfile (Profile n) = ⊥
+IsNoProfile item = Unit {0}
+
+-- What is true of a script that some bytes spell: of its lines, that a profile is the first of them, and that a text, which
+-- stands in a line, has at most 1,024 bytes.
 pub record IsSpelled (script : Script) : Type 0 where
   pub lines : All (IsSpelledItem (length script.names)) script.items
+  pub profile_first : All IsNoProfile (drop 1 script.items)
   pub few_lines : length script.items ≤ MOST_LINES
   pub short : All (λ text. length text ≤ MOST_LINE_BYTES) script.names
   pub few_texts : length script.names ≤ MOST_TEXTS

@@ -4,9 +4,9 @@ use Rattle.std.specs.List.{All}
 use Rattle.cg_script.specs.declared.command.Operand.{Operand}
 use Rattle.cg_script.specs.declared.command.Operand.TheVariants.{None, Int, Str, Name, SelfLocal, WeakLocal, Cell, Garbage}
 use Rattle.cg_script.specs.declared.command.Command.{Command}
-use Rattle.cg_script.specs.declared.command.Command.TheVariants.{MakeList, MakeTuple, MakeDict, MakeInst, MakeFunc, MakeRef, Bind, Del, Append, SetItem, DelItem, Put, Remove, SetAttr, DelAttr, Item as ItemOf, Get, Attr, Deref, Call, Quit, Collect, Enable, Disable, Threshold, Flags, Freeze, Unfreeze, Print, Refs, Tracked, Finalized, Count, Gens}
+use Rattle.cg_script.specs.declared.command.Command.TheVariants.{MakeList, MakeTuple, MakeDict, MakeInst, MakeFunc, MakeRef, Bind, Del, Append, SetItem, DelItem, Put, Remove, SetAttr, DelAttr, Item as ItemOf, Get, Attr, Deref, Call, Quit, Collect, Enable, Disable, Threshold, Flags, Freeze, Unfreeze, Print, Refs, Tracked, Finalized, Referents, Referrers, Why, Count, Gens}
 use Rattle.cg_script.specs.declared.item.Item.{Item}
-use Rattle.cg_script.specs.declared.item.Item.TheVariants.{Budget, Class, Def, Run}
+use Rattle.cg_script.specs.declared.item.Item.TheVariants.{Profile, Shutdown, Budget, Class, Def, Run}
 use Rattle.cg_script.specs.declared.item.Script.{Script}
 
 -- the numbers of the texts of an operand: of a string, or of a variable's name
@@ -58,11 +58,16 @@ command_texts (Print value) = operand_texts value
 command_texts (Refs value) = operand_texts value
 command_texts (Tracked value) = operand_texts value
 command_texts (Finalized value) = operand_texts value
+command_texts (Referents value) = operand_texts value
+command_texts (Referrers value) = operand_texts value
+command_texts (Why name) = name ∷ []
 command_texts Count = []
 command_texts Gens = []
 
 -- the texts of a declaration or a command
 abbrev pub item_texts : Item → List ℕ
+item_texts (Profile n) = []
+item_texts Shutdown = []
 item_texts (Budget n) = []
 item_texts (Class c) = c.name ∷ []
 item_texts (Def p) = p.name ∷ flat_map command_texts p.body

@@ -23,7 +23,7 @@ meaning_of (lines.Bad code) words = bad code
 
 -- what a draft knows
 abbrev pub known_of : Draft → Known
-known_of draft = record { texts = draft.names; procs = draft.procs; classes = draft.classes; budget = draft.budget; inside = is_some draft.begun }
+known_of draft = record { texts = draft.names; procs = draft.procs; classes = draft.classes; budget = draft.budget; shutdown = draft.shutdown; started = draft.started; inside = is_some draft.begun }
 
 -- these items, and behind them those of what is said later; a procedure that is begun goes on
 abbrev pub grouped : List Item → Option Begun → List Said → List Item

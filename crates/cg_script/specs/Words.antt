@@ -5,7 +5,7 @@ use Rattle.std.specs.Str.{bytes_eq}
 use Rattle.cg_script.specs.declared.command.Operand.{Operand}
 use Rattle.cg_script.specs.declared.command.Operand.TheVariants as operands
 use Rattle.cg_script.specs.declared.form.Form.{Form}
-use Rattle.cg_script.specs.declared.limits.TheConstants.{MOST_NAME_BYTES}
+use Rattle.cg_script.specs.declared.limits.TheConstants.{MOST_NAME_BYTES, MOST_PROFILE}
 use Rattle.cg_script.specs.Tables.{named}
 use Rattle.cg_script.specs.Forms.{row, openers, bindings}
 
@@ -84,6 +84,10 @@ number_of word = if has_minus word then neg_ℤ (pos (decimal_value (drop 1 word
 -- 1 to 10 digits of a number up to a limit
 abbrev pub is_count : ℕ → List ℕ → Bool
 is_count most word = are_digits 10 word && nat_le (decimal_value word) most
+
+-- 1 or 2, as a count
+abbrev pub is_profile : List ℕ → Bool
+is_profile word = is_count MOST_PROFILE word && nat_le 1 (decimal_value word)
 
 -- a word that begins with `'`: a string, which is what follows
 abbrev pub is_quoted : List ℕ → Bool

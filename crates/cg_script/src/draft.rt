@@ -4,7 +4,7 @@ ghost use Rattle.cg_script.specs.declared.part.Said.{Said as AnySaid};
 ghost use Rattle.cg_script.specs.declared.part.Said.TheVariants.{Does, Ends};
 ghost use Rattle.cg_script.specs.Forms.{row};
 ghost use Rattle.cg_script.specs.Meanings.{all_fit};
-ghost use Rattle.cg_script.specs.Reading.{nothing_known, is_misplaced, is_repeated, fault_in, procs_after, classes_after, budget_after, inside_after};
+ghost use Rattle.cg_script.specs.Reading.{nothing_known, is_misplaced, is_repeated, fault_in, procs_after, classes_after, budget_after, shutdown_after, inside_after};
 ghost use Rattle.cg_script.specs.Views.{known_of, grouped, is_placed, inside_behind, Takes};
 
 use crate::command::Command;
@@ -34,6 +34,9 @@ pub(crate) struct Draft {
     pub procs: Table,
     pub classes: Table,
     pub budget: bool,
+    pub shutdown: bool,
+    /// Whether a line was not passed over.
+    pub started: bool,
     pub items: Vec<Item>,
     pub begun: Option<Begun>,
 }
@@ -50,23 +53,27 @@ pub(crate) fn empty(alloc: Global) -> Draft
         procs: Table::new(alloc),
         classes: Table::new(alloc),
         budget: false,
+        shutdown: false,
+        started: false,
         items: Vec::new(alloc),
         begun: None,
     }
 }
 
-/// Whether a declaration stands inside a procedure, or `end` outside one.
-fn stands_wrong(form: Form, inside: bool) -> bool
-    ensures { result ≡ is_misplaced form inside }
+/// Whether a declaration stands inside a procedure, `end` outside one, or a profile behind another line.
+fn stands_wrong(draft: &Draft, form: Form) -> bool
+    ensures { result ≡ is_misplaced (known_of draft.now) form }
 {
+    let inside = draft.begun.is_some();
     match form {
         Form::End => !inside,
-        Form::Def | Form::Class | Form::Budget => inside,
+        Form::Def | Form::Class | Form::Budget | Form::Shutdown => inside,
+        Form::Profile => inside || draft.started,
         _ => false,
     }
 }
 
-/// Whether a procedure or class is defined already, or a budget set.
+/// Whether a procedure or class is defined already, or a budget or a shutdown declared.
 fn defines_again(draft: &Draft, form: Form, words: &[&[u8]]) -> bool
     requires fit { all_fit form 0 (map (λ w. w.now) words.now) ≡ true }
     requires enough { (row form).fewest ≤ length words.now }
@@ -76,6 +83,7 @@ fn defines_again(draft: &Draft, form: Form, words: &[&[u8]]) -> bool
         Form::Def => draft.procs.has(text_of_identifier(words[1])),
         Form::Class => draft.classes.has(text_of_identifier(words[1])),
         Form::Budget => draft.budget,
+        Form::Shutdown => draft.shutdown,
         _ => false,
     }
 }
@@ -89,15 +97,22 @@ fn define(draft: &mut Draft, form: Form, words: &[&[u8]]) -> Result<(), AllocErr
     ensures procs { OnOk result (draft.new.procs ≡ procs_after draft.old.procs form (map (λ w. w.now) words.now)) }
     ensures classes { OnOk result (draft.new.classes ≡ classes_after draft.old.classes form (map (λ w. w.now) words.now)) }
     ensures budget { OnOk result (draft.new.budget ≡ budget_after draft.old.budget form) }
+    ensures shutdown { OnOk result (draft.new.shutdown ≡ shutdown_after draft.old.shutdown form) }
+    ensures started { OnOk result (draft.new.started ≡ true) }
     ensures names { OnOk result (draft.new.names ≡ draft.old.names) }
     ensures items { OnOk result (draft.new.items ≡ draft.old.items) }
     ensures begun { OnOk result (draft.new.begun ≡ draft.old.begun) }
 {
+    draft.started = true;
     match form {
         Form::Def => draft.procs.add(text_of_identifier(words[1])),
         Form::Class => draft.classes.add(text_of_identifier(words[1])),
         Form::Budget => {
             draft.budget = true;
+            Ok(())
+        }
+        Form::Shutdown => {
+            draft.shutdown = true;
             Ok(())
         }
         _ => Ok(()),
@@ -197,7 +212,7 @@ pub(crate) fn take_words(
     ensures few_names { result ≡ Ok None → length draft.new.names ≤ length draft.old.names + MOST_WORDS }
     ensures few_items { result ≡ Ok None → length draft.new.items.items ≤ length draft.old.items.items + 1 }
 {
-    if stands_wrong(form, draft.begun.is_some()) {
+    if stands_wrong(draft, form) {
         return Ok(Some(WRONG_PLACE));
     }
     if defines_again(draft, form, words) {

@@ -133,7 +133,9 @@ pub(crate) fn row_for(form: Form) -> Row
     ensures fewest { result.fewest ≡ (row_of form).fewest }
     ensures most { result.most ≡ (row_of form).most }
 {
-    use Sort::{Budget, Class, Count, Finalizer, Flag, Key, Name, Number, Proc, Profile, Value, Variable};
+    use Sort::{
+        Budget, Class, Count, Finalizer, Flag, Key, Name, Number, Proc, Profile, Value, Variable,
+    };
     match form {
         Form::MakeList => takes(b"list", &[Variable, Key, Key], 3, 64),
         Form::MakeTuple => takes(b"tuple", &[Variable, Key, Key], 4, 64),

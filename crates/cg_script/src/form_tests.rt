@@ -171,9 +171,98 @@ static BAD_LINES: [(&str, &str); 72] = [
     ("# \x7f", "bad 1 1"),
 ];
 
+/// A profile and a shutdown: their words, and where they stand.
+static DECLARATIONS: [(&str, &str); 40] = [
+    ("profile 1", "good"),
+    ("profile 2", "good"),
+    ("profile 0000000002", "good"),
+    ("\n # profile 2\n\nprofile 2\nshutdown\nbudget 1", "good"),
+    ("shutdown", "good"),
+    ("a = list\nclass C\nshutdown", "good"),
+    ("def p\nend\nshutdown\nbudget 1\nclass C", "good"),
+    // Neither word is reserved.
+    ("profile = list", "good"),
+    ("shutdown = list\nprofile = shutdown\ndel shutdown", "good"),
+    ("profile = list\nprofile 1", "bad 2 7"),
+    ("def shutdown\nend\nclass profile\nshutdown", "good"),
+    // 2 and 3.
+    ("Profile 1", "bad 1 2"),
+    ("profile", "bad 1 3"),
+    ("profile 1 2", "bad 1 3"),
+    ("profile =", "bad 1 3"),
+    ("shutdown 1", "bad 1 3"),
+    ("shutdown shutdown", "bad 1 3"),
+    // 4: no count from 1 to 2.
+    ("profile 0", "bad 1 4"),
+    ("profile 3", "bad 1 4"),
+    ("profile 00", "bad 1 4"),
+    ("profile 00000000001", "bad 1 4"),
+    ("profile -1", "bad 1 4"),
+    ("profile two", "bad 1 4"),
+    ("profile 258", "bad 1 4"),
+    // 3 and 4 before 7.
+    ("a = list\nprofile", "bad 2 3"),
+    ("a = list\nprofile 3", "bad 2 4"),
+    ("def p\nshutdown 1", "bad 2 3"),
+    // 7: a profile behind a line that is not passed over.
+    ("profile 1\nprofile 1", "bad 2 7"),
+    ("a = list\nprofile 1", "bad 2 7"),
+    ("class C\n\nprofile 2", "bad 3 7"),
+    ("def p\nend\nprofile 2", "bad 3 7"),
+    ("budget 1\nprofile 2", "bad 2 7"),
+    ("shutdown\nprofile 2", "bad 2 7"),
+    // 7: inside a procedure.
+    ("def p\nprofile 1", "bad 2 7"),
+    ("def p\nshutdown", "bad 2 7"),
+    ("shutdown\ndef p\nshutdown", "bad 3 7"),
+    // 8.
+    ("shutdown\nshutdown", "bad 2 8"),
+    ("profile 2\nshutdown\na = list\n#\nshutdown", "bad 5 8"),
+    ("shutdown\nbudget 1\nbudget 1", "bad 3 8"),
+    ("budget 1\nshutdown\nshutdown", "bad 3 8"),
+];
+
+/// The commands that ask where objects are held.
+static INSPECTIONS: [(&str, &str); 22] = [
+    ("referents x", "good"),
+    ("referents 'x", "good"),
+    ("referrers garbage", "good"),
+    ("why x", "good"),
+    ("def p\nreferents c0\nreferrers self\nwhy x\nend", "good"),
+    // None of the words is reserved.
+    ("why = list\nwhy why", "good"),
+    (
+        "referents = list\nreferrers = referents\nreferents referrers",
+        "good",
+    ),
+    ("def why\nend\nclass referents", "good"),
+    // 2 and 3.
+    ("referent x", "bad 1 2"),
+    ("Why x", "bad 1 2"),
+    ("referents", "bad 1 3"),
+    ("referents x y", "bad 1 3"),
+    ("referrers", "bad 1 3"),
+    ("referrers x y", "bad 1 3"),
+    ("why", "bad 1 3"),
+    ("why x y", "bad 1 3"),
+    ("why 1 2", "bad 1 3"),
+    // 4.
+    ("referents 9a", "bad 1 4"),
+    ("referrers list", "bad 1 4"),
+    ("why 1", "bad 1 4"),
+    ("why 'x", "bad 1 4"),
+    ("why self", "bad 1 4"),
+];
+
 #[test]
 fn lines_and_their_codes(rt: HostRuntime) -> Result<(), Fail> {
-    for table in [WORKED.as_slice(), WORDS.as_slice(), BAD_LINES.as_slice()] {
+    for table in [
+        WORKED.as_slice(),
+        WORDS.as_slice(),
+        BAD_LINES.as_slice(),
+        DECLARATIONS.as_slice(),
+        INSPECTIONS.as_slice(),
+    ] {
         for (script, want) in table {
             assert_eq!(rt;
                 told(rt.alloc(), script.as_bytes())?.as_str(),
@@ -330,6 +419,29 @@ fn finalizers_in_either_order(rt: HostRuntime) -> Result<(), Fail> {
             "at {line:?}"
         );
     }
+    Ok(())
+}
+
+#[test]
+fn declarations_and_inspections(rt: HostRuntime) -> Result<(), Fail> {
+    assert_last!(rt, "profile 1", Item::Profile(1));
+    assert_last!(rt, "#\nprofile 02", Item::Profile(2));
+    assert_last!(rt, "shutdown", Item::Shutdown);
+    assert_last!(
+        rt,
+        "del a\nreferents b",
+        Item::Run(Command::Referents {
+            value: Operand::Name(1)
+        })
+    );
+    assert_last!(
+        rt,
+        "referrers garbage",
+        Item::Run(Command::Referrers {
+            value: Operand::Garbage
+        })
+    );
+    assert_last!(rt, "del a\nwhy b", Item::Run(Command::Why { name: 1 }));
     Ok(())
 }
 

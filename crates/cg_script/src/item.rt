@@ -1,4 +1,7 @@
 //! Declarations, and a whole script.
+ghost use Rattle.std.specs.Prelude.{◌≡◌};
+ghost use Rattle.cg_script.specs.Items.{profile_of, declares_shutdown};
+
 use crate::command::Command;
 use crate::members::{Commands, Items};
 use cg_value::Names;
@@ -41,4 +44,22 @@ pub enum Item {
 pub struct Script {
     pub names: Names,
     pub items: Items,
+}
+
+impl Script {
+    /// Which rules weak references without a callback follow in a collection: 1, those of CPython, which hold where no line
+    /// says otherwise, or 2. It takes no memory, and constant time.
+    pub fn profile(&self) -> u8
+        ensures { result ≡ profile_of self.now.items }
+    {
+        self.items.profile()
+    }
+
+    /// Whether all names are given up at the end, and what is left is collected and counted. It takes no memory, and constant
+    /// time.
+    pub fn shutdown(&self) -> bool
+        ensures { result ≡ declares_shutdown self.now.items }
+    {
+        self.items.shutdown()
+    }
 }

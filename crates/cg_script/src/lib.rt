@@ -27,10 +27,11 @@ pub use command::{Command, Operand};
 pub use fault::ScriptFault;
 pub use item::{ClassDef, Item, Proc, Script};
 pub use laws::canonical_bytes_are_read_back;
-pub use limits::{MOST_BUDGET, MOST_LINE_BYTES, MOST_LINES, MOST_TEXTS, MOST_WORDS};
+pub use limits::{MOST_BUDGET, MOST_LINE_BYTES, MOST_LINES, MOST_PROFILE, MOST_TEXTS, MOST_WORDS};
 pub use members::{Commands, Items, Operands};
 pub use printer::print;
 pub use reader::parse;
+pub use word::{is_value, is_variable};
 
 #[cfg(test)]
 mod form_tests;

@@ -15,6 +15,9 @@ pub const MOST_TEXTS: u32 = 25_600_000;
 /// The most bytes of an identifier.
 pub const MOST_NAME_BYTES: usize = 32;
 
+/// The greatest profile.
+pub const MOST_PROFILE: u32 = 2;
+
 /// The most frames that a budget lets start.
 pub const MOST_BUDGET: u32 = 100_000;
 

@@ -8,8 +8,8 @@ use crate::form::{Form, Sort, binding_named, opener_named, row_for, sort_at};
 use crate::limits::{MOST_BUDGET, MOST_COUNT, MOST_LINE_BYTES, MOST_LINES};
 use crate::pieces::{Words, find_words};
 use crate::word::{
-    flag, is_count_word, is_identifier_word, is_number_word, is_printable_text, is_value_word,
-    is_variable_word, names_finalizer_word, names_legacy_word,
+    flag, is_count_word, is_identifier_word, is_number_word, is_printable_text, is_profile_word,
+    is_value, is_variable, names_finalizer_word, names_legacy_word,
 };
 
 /// What a line means, beside its words.
@@ -40,11 +40,12 @@ fn fits_place(sort: Sort, word: &[u8]) -> bool
 {
     match sort {
         Sort::Key => true,
-        Sort::Variable => is_variable_word(word),
+        Sort::Variable => is_variable(word),
         Sort::Name | Sort::Class | Sort::Proc => is_identifier_word(word),
         Sort::Finalizer => names_finalizer_word(word) || names_legacy_word(word),
-        Sort::Value => is_value_word(word),
+        Sort::Value => is_value(word),
         Sort::Number => is_number_word(word),
+        Sort::Profile => is_profile_word(word),
         Sort::Budget => is_count_word(word, MOST_BUDGET),
         Sort::Count => is_count_word(word, MOST_COUNT),
         Sort::Flag => flag(word).is_some(),

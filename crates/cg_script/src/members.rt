@@ -1,6 +1,6 @@
 //! Lists of operands, commands and items, which contracts see as lists.
 ghost use Rattle.std.specs.Prelude.{◌≡◌, ◌≤◌, ◌<◌, ◌+◌, ◌^◌, IfOk, OnSome, Some, length, slice_get, option_copied};
-ghost use Rattle.cg_script.specs.Items.{classes, procedures, commands_of};
+ghost use Rattle.cg_script.specs.Items.{classes, procedures, commands_of, profile_of, declares_shutdown};
 ghost use Rattle.cg_script.specs.declared.command.Command.{Command as AnyCommand};
 ghost use Rattle.cg_script.specs.declared.item.Proc.{Proc as AnyProc};
 ghost use Rattle.cg_script.specs.declared.item.Item.TheVariants.{Run, Def};
@@ -74,7 +74,7 @@ impl Commands {
 }
 
 /// The lines of a script, in order, with an index: classes, procedures and commands outside procedures are each found by their
-/// number.
+/// number, and what they declare of the whole script is at hand.
 #[derive(Drop)]
 pub struct Items {
     members: Vec<Item>,
@@ -91,7 +91,8 @@ impl Model for Items {
     ghost view = { λ m. m.members.items };
 
     ghost invariant = { λ m. IsIndexOf m.members.items
-        m.index.classes.items m.index.procedures.items m.index.commands.items };
+        m.index.classes.items m.index.procedures.items m.index.commands.items
+        m.index.profile m.index.shutdown };
 }
 
 /// The position at a number, if there is one.
@@ -136,6 +137,20 @@ impl Items {
         ensures { result.now ≡ self.now }
     {
         self.members.as_slice()
+    }
+
+    /// The profile that they declare, or 1 where none does. It takes constant time.
+    pub fn profile(&self) -> u8
+        ensures { result ≡ profile_of self.now }
+    {
+        self.index.profile
+    }
+
+    /// Whether they declare a shutdown. It takes constant time.
+    pub fn shutdown(&self) -> bool
+        ensures { result ≡ declares_shutdown self.now }
+    {
+        self.index.shutdown
     }
 
     /// The class with a number, if there is one. Classes are numbered from 0, in their order. It takes constant time.

@@ -142,7 +142,7 @@ fn read_part(
         Sort::Finalizer => Ok(read_finalizer(procs, word)),
         Sort::Value => Ok(Part::Value(read_value(word, names)?)),
         Sort::Number => Ok(Part::Number(number_of_word(word))),
-        Sort::Budget | Sort::Count => Ok(Part::Count(count_of_word(word))),
+        Sort::Profile | Sort::Budget | Sort::Count => Ok(Part::Count(count_of_word(word))),
         Sort::Flag => Ok(Part::Count(flag(word).unwrap_or(0))),
     }
 }

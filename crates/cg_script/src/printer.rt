@@ -2,6 +2,7 @@
 ghost use Rattle.std.specs.Prelude.{◌≡◌, ◌++◌, ◌∷◌, [], map, flat_map, codes, decimal, IfOk, OnOk};
 ghost use Rattle.std.specs.Fmt.{signed_decimal};
 ghost use Rattle.cg_script.specs.Canonical.{text_of, name_of, value_word, callback_words, count_words, finalizer_words, flag_words, command_words, class_words, def_words, end_words, item_lines, procs_in, classes_in, behind_space, line_of_words, canonical, Naming as AnyNaming};
+ghost use Rattle.cg_script.specs.Forms.{word_of as word_in};
 ghost use Rattle.cg_script.specs.Pieced.{piece_bytes, piece_words, names_by};
 
 use crate::command::{Command, Operand};
@@ -457,6 +458,31 @@ fn write_command(out: &mut Vec<u8>, naming: &Named<'_>, command: &Command) -> Re
                 &[],
             )
         }
+        Command::Referents { value } => {
+            write_line(
+                out,
+                naming,
+                Word(word_of(Form::Referents)),
+                &[Value(*value)],
+                &[],
+            )
+        }
+        Command::Referrers { value } => {
+            write_line(
+                out,
+                naming,
+                Word(word_of(Form::Referrers)),
+                &[Value(*value)],
+                &[],
+            )
+        }
+        Command::Why { name } => write_line(
+            out,
+            naming,
+            Word(word_of(Form::Why)),
+            &[Text(*name)],
+            &[],
+        ),
         Command::Count => write_line(out, naming, Word(word_of(Form::Count)), &[], &[]),
         Command::Gens => write_line(out, naming, Word(word_of(Form::Gens)), &[], &[]),
     }
@@ -547,18 +573,32 @@ fn write_proc(
     Ok(())
 }
 
+/// Writes a line of a form's word and a count.
+fn write_counted(
+    out: &mut Vec<u8>,
+    naming: &Named<'_>,
+    form: Form,
+    count: u32,
+) -> Result<(), AllocError>
+    ensures { OnOk result (out.new.items ≡ out.old.items ++ line_of_words (word_in form ∷ decimal count ∷ [])) }
+{
+    write_line(
+        out,
+        naming,
+        Piece::Word(word_of(form)),
+        &[Piece::Count(count)],
+        &[],
+    )
+}
+
 /// Writes the lines of an item.
 fn write_item(out: &mut Vec<u8>, naming: &Named<'_>, item: &Item) -> Result<(), AllocError>
     ensures { OnOk result (out.new.items ≡ out.old.items ++ flat_map line_of_words (item_lines (names_by naming.now) item.now)) }
 {
     match item {
-        Item::Budget(count) => write_line(
-            out,
-            naming,
-            Piece::Word(word_of(Form::Budget)),
-            &[Piece::Count(*count)],
-            &[],
-        ),
+        Item::Profile(profile) => write_counted(out, naming, Form::Profile, u32::from(*profile)),
+        Item::Shutdown => write_line(out, naming, Piece::Word(word_of(Form::Shutdown)), &[], &[]),
+        Item::Budget(count) => write_counted(out, naming, Form::Budget, *count),
         Item::Class(class) => write_class(out, naming, class),
         Item::Def(proc) => write_proc(out, naming, proc.name, proc.body.as_slice()),
         Item::Run(command) => write_command(out, naming, command),

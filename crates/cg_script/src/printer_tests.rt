@@ -71,11 +71,15 @@ static LINES: [(&str, &str); 52] = [
     ("class D del=p", "class D del=p"),
 ];
 
-static QUERIES: [(&str, &str); 7] = [
+static QUERIES: [(&str, &str); 11] = [
     ("print 007", "print 7"),
     ("refs x", "refs x"),
     ("tracked 'x", "tracked 'x"),
     ("finalized self", "finalized self"),
+    ("referents  x", "referents x"),
+    ("referrers 'x", "referrers 'x"),
+    ("why  why", "why why"),
+    (" shutdown", "shutdown"),
     ("count", "count"),
     ("gens", "gens"),
     ("# nothing", ""),
@@ -108,6 +112,11 @@ fn passed_lines_and_spaces_are_not_printed(rt: HostRuntime) -> Result<(), Fail> 
         (
             "def p\n\n  del  a\n # b\nprint c0\nend\nf = func p f\nclass end del=p",
             "def p\ndel a\nprint c0\nend\nf = func p f\nclass end del=p\n",
+        ),
+        ("# 2\nprofile 02", "profile 2\n"),
+        (
+            "profile  1\nshutdown\nshutdown = profile\nbudget 01",
+            "profile 1\nshutdown\nshutdown = profile\nbudget 1\n",
         ),
     ] {
         assert_eq!(rt;

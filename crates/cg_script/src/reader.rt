@@ -98,8 +98,8 @@ fn finish(draft: Draft, number: u32) -> Result<Script, ScriptFault>
 ///
 /// `Bad` has the first bad line and its code: 1 where the line has a byte that is not printable ASCII, 5 where it is longer
 /// than 1,024 bytes, has more than 64 words or the number 400,001, 2 where its form is unknown, 3 where the number of its
-/// words is wrong, 4 where a word has not the form that its place asks, 7 where a declaration stands in the wrong place or
-/// a procedure is open at the end, 8 where a procedure, a class or the budget is there already, 6 where no earlier line
+/// words is wrong, 4 where a word has not the form that its place asks, 7 where a declaration stands in the wrong place, a
+/// profile behind another line, or a procedure is open at the end, 8 where a procedure, a class, the budget or the shutdown is there already, 6 where no earlier line
 /// defines a procedure or class. `OutOfMemory` may come for any bytes. (Ours.)
 pub fn parse(alloc: Global, bytes: &[u8]) -> Result<Script, ScriptFault>
     // The script is exactly the one that the bytes spell, and the fault is that of their first bad line.

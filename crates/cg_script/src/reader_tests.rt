@@ -168,7 +168,7 @@ fn bad_controls(rt: HostRuntime) -> Result<(), Fail> {
 }
 
 /// Lines of each form, behind a procedure and a class.
-static FORMS: [&str; 44] = [
+static FORMS: [&str; 48] = [
     "x = list 1 x",
     "x = tuple x 'a",
     "x = dict",
@@ -208,9 +208,13 @@ static FORMS: [&str; 44] = [
     "refs x",
     "tracked x",
     "finalized self",
+    "referents x",
+    "referrers 'x",
+    "why x",
     "count",
     "gens",
     "budget 100000",
+    "shutdown",
     "class D del=p legacy=p",
     "def q\nend",
 ];

@@ -1,11 +1,12 @@
 //! How the parts of each form become a command or a declaration.
-ghost use Rattle.std.specs.Prelude.{◌≡◌, ◌++◌, map, drop, take, IfOk, Ok, Some};
+ghost use Rattle.std.specs.Prelude.{◌≡◌, ◌≤◌, ◌++◌, map, drop, take, IfOk, Ok, Some};
 ghost use Rattle.cg_script.specs.declared.part.Said.TheVariants.{Does as DoesIt};
 ghost use Rattle.cg_script.specs.Commands.{text_at as text_in, value_at as value_in, number_or, count_at as count_in, count_if, del_if, legacy_if, first_some, part_at, value_or, values_from as values_in, flags_in, said};
 
 use crate::command::{Command, Operand};
 use crate::form::Form;
 use crate::item::{ClassDef, Item};
+use crate::limits::MOST_PROFILE;
 use crate::members::Operands;
 use crate::part::{Part, Said};
 use std::alloc::{AllocError, Global};
@@ -65,6 +66,14 @@ fn count_at(parts: &[Part], place: usize) -> u32
     }
 }
 
+/// The profile that a line declares.
+fn profile_at(parts: &[Part]) -> u8
+    requires { count_in parts.now 1 ≤ MOST_PROFILE }
+    ensures { result ≡ count_in parts.now 1 }
+{
+    count_at(parts, 1) as u8
+}
+
 fn del_at(parts: &[Part], place: usize) -> Option<u32>
     ensures { result ≡ del_if (part_at parts.now place) }
 {
@@ -122,6 +131,7 @@ fn does(command: Command) -> Result<Said, AllocError>
 
 /// What a line of a form says.
 pub(crate) fn said_of(alloc: Global, form: Form, parts: &[Part]) -> Result<Said, AllocError>
+    requires { form ≡ Form.Profile → count_in parts.now 1 ≤ MOST_PROFILE }
     ensures { IfOk result (λ what. what ≡ said form parts.now) }
 {
     match form {
@@ -240,8 +250,19 @@ pub(crate) fn said_of(alloc: Global, form: Form, parts: &[Part]) -> Result<Said,
         Form::Finalized => does(Command::Finalized {
             value: value_at(parts, 1),
         }),
+        Form::Referents => does(Command::Referents {
+            value: value_at(parts, 1),
+        }),
+        Form::Referrers => does(Command::Referrers {
+            value: value_at(parts, 1),
+        }),
+        Form::Why => does(Command::Why {
+            name: text_at(parts, 1),
+        }),
         Form::Count => does(Command::Count),
         Form::Gens => does(Command::Gens),
+        Form::Profile => Ok(Said::Declares(Item::Profile(profile_at(parts)))),
+        Form::Shutdown => Ok(Said::Declares(Item::Shutdown)),
         Form::Budget => Ok(Said::Declares(Item::Budget(count_at(parts, 1)))),
         Form::Class => Ok(Said::Declares(Item::Class(class_of(parts)))),
         Form::Def => Ok(Said::Begins(text_at(parts, 1))),

@@ -1,5 +1,7 @@
-//! The lists of a script hand out what they were given, in order, and what has a number.
-use crate::{ClassDef, Command, Commands, Item, Items, Operand, Operands, parse};
+//! The lists of a script hand out what they were given, in order, and what has a number; what a script declares; words.
+use crate::{
+    ClassDef, Command, Commands, Item, Items, Operand, Operands, is_value, is_variable, parse,
+};
 use std::test::Fail;
 
 #[test]
@@ -51,5 +53,56 @@ fn what_has_a_number_is_found_by_it(rt: HostRuntime) -> Result<(), Fail> {
     assert!(rt; items.procedure(2).is_none());
     assert!(rt; matches!(items.class(1), Some(ClassDef { name: 3, .. })));
     assert!(rt; items.class(2).is_none());
+    Ok(())
+}
+
+#[test]
+fn what_a_script_declares(rt: HostRuntime) -> Result<(), Fail> {
+    for (script, profile, shutdown) in [
+        ("", 1, false),
+        ("a = list\nclass C\nprofile = a", 1, false),
+        ("profile 1\nbudget 2", 1, false),
+        ("profile 2\nbudget 1", 2, false),
+        ("shutdown", 1, true),
+        ("profile 2\ndef p\ndel a\nend\nshutdown\ndel a", 2, true),
+    ] {
+        let read = parse(rt.alloc(), script.as_bytes())?;
+        assert_eq!(rt;
+            (read.profile(), read.shutdown()),
+            (profile, shutdown),
+            "at {script:?}"
+        );
+    }
+    Ok(())
+}
+
+#[test]
+fn words_of_values_and_variables(rt: HostRuntime) -> Result<(), Fail> {
+    for (word, value, variable) in [
+        ("", false, false),
+        ("x", true, true),
+        ("_9", true, true),
+        ("c8", true, true),
+        ("why", true, true),
+        ("profile", true, true),
+        ("none", true, false),
+        ("c7", true, false),
+        ("garbage", true, false),
+        ("list", false, false),
+        ("budget", false, false),
+        ("'", true, false),
+        ("'x", true, false),
+        ("-007", true, false),
+        ("9a", false, false),
+        ("9223372036854775808", false, false),
+        ("a2345678901234567890123456789012x", false, false),
+    ] {
+        let bytes = word.as_bytes();
+        assert_eq!(rt;
+            (is_value(bytes), is_variable(bytes)),
+            (value, variable),
+            "at {word:?}"
+        );
+    }
     Ok(())
 }

@@ -2,11 +2,11 @@
 ghost use Rattle.std.specs.Prelude.{◌≡◌, ◌≤◌, true, map, length, slice_index, drop, codes, take, option_map, pos, neg_ℤ};
 ghost use Rattle.std.specs.List.{list_all};
 ghost use Rattle.cg_script.specs.Tables.{named as named_in};
-ghost use Rattle.cg_script.specs.Words.{is_printable, is_digit, is_letter, is_name_byte, begins_name, is_identifier, reserves, is_reserved, is_variable, is_quoted, has_minus, are_digits, decimal_value, is_number, number_of, is_count, is_value, atoms, after_prefix, is_identifier_after, names_finalizer, names_legacy, flags};
+ghost use Rattle.cg_script.specs.Words.{is_printable, is_digit, is_letter, is_name_byte, begins_name, is_identifier, reserves, is_reserved, is_variable, is_quoted, has_minus, are_digits, decimal_value, is_number, number_of, is_count, is_profile, is_value, atoms, after_prefix, is_identifier_after, names_finalizer, names_legacy, flags};
 
 use crate::command::Operand;
 use crate::form::{Form, binding_named, opener_named, row_for};
-use crate::limits::{MOST_COUNT, MOST_NAME_BYTES};
+use crate::limits::{MOST_COUNT, MOST_NAME_BYTES, MOST_PROFILE};
 use crate::table::named;
 
 fn may_begin_name(byte: u8) -> bool
@@ -55,7 +55,9 @@ fn is_reserved_word(word: &[u8]) -> bool
     atom(word).is_some() || reserves(opener_named(word)) || reserves(binding_named(word))
 }
 
-pub(crate) fn is_variable_word(word: &[u8]) -> bool
+/// Whether a word may name a variable: 1 to 32 letters, digits and `_`, of which the first is no digit, and no word of the
+/// language. (Ours.)
+pub fn is_variable(word: &[u8]) -> bool
     ensures { result ≡ is_variable word.now }
 {
     is_identifier_word(word) && !is_reserved_word(word)
@@ -197,6 +199,13 @@ pub(crate) fn count_of_word(word: &[u8]) -> u32
     decimal(word) as u32
 }
 
+/// Whether a word is 1 or 2, as a count.
+pub(crate) fn is_profile_word(word: &[u8]) -> bool
+    ensures { result ≡ is_profile word.now }
+{
+    is_count_word(word, MOST_PROFILE) && count_of_word(word) >= 1
+}
+
 /// The values with a word of their own.
 static ATOMS: [(&[u8], Operand); 12] = [
     (b"none", Operand::None),
@@ -220,7 +229,9 @@ pub(crate) fn atom(word: &[u8]) -> Option<Operand>
     named(&ATOMS, word)
 }
 
-pub(crate) fn is_value_word(word: &[u8]) -> bool
+/// Whether a word stands for a value: `none`, `self`, `ref`, `garbage`, `c0` to `c7`, a string, a variable, or a whole number of
+/// 64 bits. (Ours.)
+pub fn is_value(word: &[u8]) -> bool
     ensures { result ≡ is_value word.now }
 {
     if atom(word).is_some() {
@@ -230,7 +241,7 @@ pub(crate) fn is_value_word(word: &[u8]) -> bool
         return is_printable_text(word);
     }
     if begins_as_name(word) {
-        return is_variable_word(word);
+        return is_variable(word);
     }
     is_number_word(word)
 }
