@@ -1,12 +1,27 @@
 -- Weak references can always be cleared, the newest of all first.
 use Rattle.std.proofs.Common.{◌≡◌, refl, sym, ◌∙◌, ap, subst, ℕ, zero, suc, ◌+◌, ◌<◌, ◌≤◌, Bool, true, false, cond, inl, inr, List, [], ◌∷◌, map, Option, Some, None, arith}
-use Rattle.std.specs.Prelude.{◌==◌, nat_lt, count_by, if◌then◌else◌}
+use Rattle.std.specs.Prelude.{◌==◌, nat_lt, count_by, if◌then◌else◌, ◌||◌, option_map, unwrap_or, not, ◌&&◌, is_some}
 use Rattle.std.proofs.lemmas.Bool.{ltb-true, ltb-false, eq-eqb}
 use Rattle.std.proofs.lemmas.List.Sums.{sum_by-cons}
 use Rattle.cg_graph.specs.Member.{Includes}
 use Rattle.cg_graph.specs.Object.{Object, with_referent}
-use Rattle.cg_graph.proofs.Members.{either}
-use Rattle.cg_machine.specs.Weak.{MayLoseNext, NoneLeft, AllLose, loses_referent}
+use Rattle.cg_graph.proofs.Members.{either, true_and}
+use Rattle.cg_machine.specs.Weak.{MayLoseNext, NoneLeft, AllLose, loses_referent, callback_in}
+use Rattle.cg_machine.specs.Collect.{is_lost_early, loses_in_weak_phase, is_condemned, is_condemned_in}
+
+-- what a weak reference refers to that the weak phase may clear, in both profiles
+pub refers_early : (profile : ℕ) (objects : List Object) (x : Object) → loses_in_weak_phase profile objects x ≡ true → unwrap_or (option_map (λ o. is_condemned_in objects o || is_condemned x) x.referent) false ≡ true
+refers_early profile objects x e = (true_and (is_lost_early profile x) _ e).1
+
+-- what the weak phase leaves with its referent has no callback
+pub kept_late : (profile : ℕ) (objects : List Object) (x : Object) → unwrap_or (option_map (λ o. is_condemned_in objects o || is_condemned x) x.referent) false ≡ true → loses_in_weak_phase profile objects x ≡ false → callback_in x.entries ≡ None
+kept_late profile objects x refers kept = none_of (callback_in x.entries) (not (profile == 2)) _ refers kept
+  where
+    none_of : (m : Option ℕ) (first refers : Bool) → refers ≡ true → ((first || is_some m) && refers) ≡ false → m ≡ None
+    none_of None first refers e k = refl
+    none_of (Some f) true true e k = absurd (let no : true ≡ false = k in cc)
+    none_of (Some f) false true e k = absurd (let no : true ≡ false = k in cc)
+    none_of (Some f) first false e k = absurd (let no : false ≡ true = e in cc)
 
 abbrev pub newest_at : Bool → Object → Option Object → Option Object
 newest_at true x None = Some x

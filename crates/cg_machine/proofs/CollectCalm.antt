@@ -18,6 +18,7 @@ use Rattle.cg_machine.specs.declared.event.Event.{Event}
 use Rattle.cg_machine.specs.declared.event.Event.TheVariants.{GcSaved}
 use Rattle.cg_machine.specs.declared.event.FrameSort.TheVariants.{Del, Callback}
 use Rattle.cg_machine.specs.declared.event.FrameSpec.{FrameSpec}
+use Rattle.cg_machine.specs.Program.{profile_of}
 use Rattle.cg_machine.specs.World.{World, Activity, Releasing, Dying, Collecting, Death, Collection, CollectPhase, Start, WeakClearing, WeakCalling, AfterCallback, AfterRelease, Finalizing, AfterFinalizing, Split, Turns, Turn, AfterTurn, Ending, Numbers, push, with_stack, with_change, with_objects}
 use Rattle.cg_machine.specs.Frame.{Transition, start_frame, procedure_of}
 use Rattle.cg_machine.specs.Holdings.{holds, call_holds, collect_holds}
@@ -28,6 +29,7 @@ use Rattle.cg_machine.proofs.Forgotten.{IsQuiet, AreQuiet, Forgotten, Mortal, Al
 use Rattle.cg_machine.proofs.Unheld.{IsLocalHeld, AreResting, GivenUp, IsHeldWhereDying, Calm, resting_stack, resting_after, altered_keeps, popped_free, top_free, pushed_free, turned_free, held_where_dying}
 use Rattle.cg_machine.proofs.Lookups.{references-append, last_free, shorter_free}
 use Rattle.cg_machine.proofs.Releasing.{absent, no_times, starts_calm}
+use Rattle.cg_machine.proofs.Clearing.{refers_early}
 
 -- an object at a place of tracked ones is not a quiet one
 quiet_apart : (o : ℕ) (p : Place) (x : Object) → same_place Untracked p ≡ false → is_at p x ≡ true → IsQuiet o x → x.serial ≢ o
@@ -167,14 +169,14 @@ module _ (script : Script) (c : Collection) (below : List Activity) (v : World) 
   lost_one : (r : Option ℕ) (f : ℕ → Bool) → unwrap_or (option_map f r) false ≡ true → r ≢ None
   lost_one r f e none = let no : false ≡ true = sym (ap (λ m. unwrap_or (option_map f m) false) none) ∙ e in cc
 
-  clears_calm : (waiting : List ℕ) (events : List Event) (after : World) → ClearsOne c waiting below (at (WeakClearing waiting)) events after → Calm script (at (WeakClearing waiting)) → Calm script after
+  clears_calm : (waiting : List ℕ) (events : List Event) (after : World) → ClearsOne (profile_of script.items) c waiting below (at (WeakClearing waiting)) events after → Calm script (at (WeakClearing waiting)) → Calm script after
   clears_calm waiting events after step calm = moves_to after _ step.yields.1 (go (waits v.objects step.weak))
     where
       lost : List Object
       lost = loses_referent step.weak v.objects
 
       apart : (p : ℕ) → Mortal v.objects p → step.weak ≢ p
-      apart p l e = lost_one step.newest.object.referent _ step.newest.to_lose (l.refers_to_none step.newest.object step.newest.member (step.newest.is ∙ e))
+      apart p l e = lost_one step.newest.object.referent _ (refers_early (profile_of script.items) v.objects step.newest.object step.newest.to_lose) (l.refers_to_none step.newest.object step.newest.member (step.newest.is ∙ e))
 
       held : (p : ℕ) → Mortal v.objects p → ¬ Includes waiting p → ¬ Includes (waiting ++ step.weak ∷ []) p
       held p l free m = either (Includes-append_cases waiting (step.weak ∷ []) p m) free (λ k. either k (apart p l) (λ n. n))
@@ -185,7 +187,7 @@ module _ (script : Script) (c : Collection) (below : List Activity) (v : World) 
           (λ d m l f. (place_quiet d.object step.weak Pend (apart d.object l) lost (lost_quiet d.object step.weak v.objects f.unheld.quiet), held d.object l (turn_holds (WeakClearing waiting) d.object f))) tt
       go false = goes_to (WeakClearing waiting) (WeakClearing waiting) c lost v.numbers (lost_alters step.weak v.objects) calm (λ d m l f. (lost_quiet d.object step.weak v.objects f.unheld.quiet, turn_holds (WeakClearing waiting) d.object f)) tt
 
-  clearing_calm : (waiting : List ℕ) (events : List Event) (after : World) → WeakClearingStep c waiting below (at (WeakClearing waiting)) events after → Calm script (at (WeakClearing waiting)) → Calm script after
+  clearing_calm : (waiting : List ℕ) (events : List Event) (after : World) → WeakClearingStep (profile_of script.items) c waiting below (at (WeakClearing waiting)) events after → Calm script (at (WeakClearing waiting)) → Calm script after
   clearing_calm waiting events after (inl step) calm = clears_calm waiting events after step calm
   clearing_calm waiting events after (inr step) calm = moves_to after _ step.1.1 (turns_to (WeakClearing waiting) (WeakCalling waiting) (λ p h. h) tt calm)
 

@@ -18,7 +18,7 @@ use Rattle.cg_graph.specs.Holdings.{name_holdings}
 use Rattle.cg_graph.proofs.Members.{either, Includes-append_left, Includes-append_right, Includes-append_cases, Includes-map, Includes-map_cases}
 use Rattle.cg_machine.specs.World.{World, Numbers, with_change}
 use Rattle.cg_machine.specs.Weak.{has_weak_references, is_instance, is_function}
-use Rattle.cg_machine.specs.Effects.{Effect, Changes, Calls, Collects, Quits, bound, with_new, given_up_by, replaced, frozen, unfrozen, tracked_by, may_track}
+use Rattle.cg_machine.specs.Effects.{Effect, Changes, Calls, Collects, Explains, Quits, bound, with_new, given_up_by, replaced, frozen, unfrozen, tracked_by, may_track}
 use Rattle.cg_machine.specs.Operands.{is_dict}
 use Rattle.cg_machine.specs.Collect.{is_condemned}
 use Rattle.cg_machine.proofs.Serials.{Rises}
@@ -28,7 +28,7 @@ use Rattle.cg_machine.proofs.DyingOrderly.{false_true}
 use Rattle.cg_machine.proofs.Forgotten.{IsQuiet, AreQuiet, Forgotten, Mortal, HasFinalizers, AreReferred, IsLater, later_refl, Alters, mortal_after, finalizers_after, change_alters, map_alters, place_later, map_quiet, test_quiet, entries_quiet, entries_alter, referred_after, still_forgotten, lives_within}
 use Rattle.cg_machine.proofs.Unheld.{AreOver}
 use Rattle.cg_machine.proofs.CommandRefs.{all_free, HoldNone, option_free, entry_val, entry_key, entry_free, put_free, old_value_free, name_free, bound_free, IsKnown, operand_known}
-use Rattle.cg_machine.proofs.Shapes.{IsAtHand, Word, ValueIn, KeyIn, ReferentOf, HasObject, IsMutable, IsEdit, Shape, Binds, Makes, Edits, Puts, Shows, Tells, Stays, Sets, Freezes, Unfreezes, StartsFrame, StartsCollection, Ends}
+use Rattle.cg_machine.proofs.Shapes.{IsAtHand, Word, ValueIn, KeyIn, ReferentOf, HasObject, IsMutable, IsEdit, Shape, Binds, Makes, Edits, Puts, Shows, Tells, Stays, Sets, Freezes, Unfreezes, StartsFrame, StartsCollection, Ends, Inspects, AsksWhy}
 
 -- what is changed by a command is no weak reference
 mutable_code : (x : Object) → IsMutable x.code → x.code ≢ Weak
@@ -66,6 +66,7 @@ module _ (script : Script) (w : World) (rises : Rises 1 w.next_serial w.objects)
   IsMild (Changes wants_memory lines given_up after) = Mild after given_up
   IsMild (Calls f) = (o : ℕ) → Forgotten w o → f ≢ o
   IsMild (Collects g) = Unit {0}
+  IsMild (Explains o) = Unit {0}
   IsMild Quits = Unit {0}
 
   -- the objects stay, and the names may change
@@ -285,3 +286,5 @@ module _ (script : Script) (w : World) (rises : Rises 1 w.next_serial w.objects)
   shape_mild command e (StartsFrame f h) = object_apart command is_function f h
   shape_mild command e (StartsCollection g low) = tt
   shape_mild command e Ends = tt
+  shape_mild command e (Inspects lines calm there) = numbers_mild w.numbers
+  shape_mild command e (AsksWhy x h calm) = tt

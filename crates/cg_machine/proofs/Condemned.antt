@@ -90,6 +90,7 @@ saved_orderly s objects names stack lives h = objects_orderly objects (saved s o
       same = λ k. absurd (no_weak x m (eqb-true x.serial 1 e) (h.waiting x.serial k x m refl).code);
       live = λ f k. either (references-append x.entries (item (Ref s) ∷ []) f k) (h.entries_live x m f) (λ n. either n (λ i. subst (Includes (serials objects)) i lives) (λ i. absurd i));
       fewer = λ c. absurd (no_weak x m (eqb-true x.serial 1 e) c);
+      quiet = λ c. absurd (no_weak x m (eqb-true x.serial 1 e) c);
       condemned = λ k. inl k;
     }
     one false x e m = from_same objects stack names x x h m (later_refl x) refl (λ k. inl k)

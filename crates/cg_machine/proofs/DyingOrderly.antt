@@ -1,6 +1,6 @@
 -- Releases, frames and deaths keep that what is held lives, and that what waits has its callback.
-use Rattle.std.proofs.Common.{◌≡◌, ◌≢◌, refl, sym, ◌∙◌, ap, subst, ℕ, ◌-◌, ◌≤◌, Bool, true, false, cond, not, length, inl, inr, List, [], ◌∷◌, ◌++◌, Option, Some, None, arith}
-use Rattle.std.specs.Prelude.{◌==◌, ◌&&◌, if◌then◌else◌, flat_map, is_some, option_to_list, option_map, option_and_then, unwrap_or}
+use Rattle.std.proofs.Common.{◌≡◌, ◌≢◌, refl, sym, ◌∙◌, ap, subst, ℕ, ◌-◌, ◌≤◌, Bool, true, false, cond, not, length, inl, inr, List, [], ◌∷◌, ◌++◌, Option, Some, None, arith, suc}
+use Rattle.std.specs.Prelude.{◌==◌, ◌&&◌, if◌then◌else◌, flat_map, is_some, option_to_list, option_map, option_and_then, unwrap_or, take, ◌-◌}
 use Rattle.std.proofs.lemmas.Bool.{cases_Bool, eq-eqb}
 use Rattle.cg_value.specs.declared.Entry.{Entry}
 use Rattle.cg_value.specs.declared.Val.{Val}
@@ -76,7 +76,7 @@ frame_end_orderly f below v h = by_sort f.sort f.function (λ o k. h.stack_lives
     by_sort Del function live = popped
     by_sort Legacy function live = popped
     by_sort Callback function live = popped
-    by_sort Call function live = turns_fewer (Framed f) (Releasing (option_to_list function)) v.objects v.names below h live (λ d e. cc) (λ weak m. m) (λ weak. omega arith) (λ c o e. cc) (λ x m e k. absurd k)
+    by_sort Call function live = turns_fewer (Framed f) (Releasing (option_to_list function)) v.objects v.names below h live (λ d e. cc) (λ weak m. m) (λ weak. omega arith) (λ c o e. cc) (λ x m e k. inr k)
 
 -- a release
 pub released_orderly : (references : List ℕ) (below : List Activity) (v : World) → HasOrder (with_stack (Releasing references ∷ below) v) → HasOrder (released references below (with_stack (Releasing references ∷ below) v)).1
@@ -87,7 +87,7 @@ released_orderly (o ∷ references) below v h = go (not (is_dying now o) && (in_
     now = with_stack (Releasing references ∷ below) v
 
     rest : HasOrder now
-    rest = turns_fewer (Releasing (o ∷ references)) (Releasing references) v.objects v.names below h (λ s m. h.stack_lives s (inr (Includes-append_left references (flat_map holds below) s m))) (λ d e. cc) (λ weak m. m) (λ weak. omega arith) (λ c s e. cc) (λ x m e k. absurd k)
+    rest = turns_fewer (Releasing (o ∷ references)) (Releasing references) v.objects v.names below h (λ s m. h.stack_lives s (inr (Includes-append_left references (flat_map holds below) s m))) (λ d e. cc) (λ weak m. m) (λ weak. omega arith) (λ c s e. cc) (λ x m e k. inr k)
 
     dead : Object → Object
     dead x = with_referent None (with_place Untracked x)
@@ -116,6 +116,15 @@ found_entries_live objects names stack o f h = go (object_at objects o) refl
     go None e k = absurd k
     go (Some x) e k = h.entries_live x (found_at objects o x e).0 f k
 
+-- without its last entry one that calls nothing back calls nothing back
+pub callback_shorter : (entries : List Entry) → callback_in entries ≡ None → callback_in (without_last entries) ≡ None
+callback_shorter [] n = refl
+callback_shorter (e ∷ []) n = refl
+callback_shorter (e ∷ d ∷ entries) n = let short : length (e ∷ d ∷ entries) - 1 ≡ suc (length entries) = omega arith in ap (λ k. callback_in (take k (e ∷ d ∷ entries))) short ∙ n
+
+pub found_callback : (objects : List Object) (o : ℕ) (x : Object) → object_at objects o ≡ Some x → callback_in x.entries ≡ None → callback_in (entries_of objects o) ≡ None
+found_callback objects o x at n = ap (λ m. callback_in (unwrap_or (option_map (λ (q : Object). q.entries) m) [])) at ∙ n
+
 -- a death
 module _ (script : Script) (o : ℕ) (below : List Activity) (v : World) (rises : Rises 1 v.next_serial v.objects) where
   abbrev at : DyingPhase → World
@@ -131,7 +140,7 @@ module _ (script : Script) (o : ℕ) (below : List Activity) (v : World) (rises 
   goes_to : (phase next : DyingPhase) (objects : List Object) → ((s : ℕ) → Includes (dying_holds o next) s → Includes (serials objects) s) → ((weak : ℕ) → Includes (death_waits next) weak → Includes (death_waits phase) weak)
       → ((weak : ℕ) → occurrences weak (death_waits next) ≤ occurrences weak (death_waits phase)) → Orderly objects v.names (dying_now phase ∷ below) → Orderly objects v.names (dying_now next ∷ below)
   goes_to phase next objects held fewer count h = turns_fewer (dying_now phase) (dying_now next) objects v.names below h held (λ d e. subst (λ (x : Death). Includes (serials objects) x.object) (death_is next d e) (h.deaths_live (record { object = o; phase = phase }) (inl refl)))
-      fewer count (λ c s e. cc) (λ x m e k. absurd k)
+      fewer count (λ c s e. cc) (λ x m e k. inr k)
 
   own_held : (phase : DyingPhase) (objects : List Object) → Orderly objects v.names (dying_now phase ∷ below) → (s : ℕ) → Includes (dying_holds o phase) s → Includes (serials objects) s
   own_held phase objects h s m = h.stack_lives s (Includes-append_left (dying_holds o phase) (flat_map holds below) s m)
@@ -180,13 +189,18 @@ module _ (script : Script) (o : ℕ) (below : List Activity) (v : World) (rises 
       refers None k = absurd (let no : false ≡ true = k in cc)
       refers (Some r) k = (r, refl)
 
+      calls_back : is_some (callback_of v.objects weak) ≡ true → callback_in y.0.entries ≡ None → ⊥
+      calls_back calls n =
+          let at : callback_of v.objects weak ≡ callback_in y.0.entries = ap (callback_of v.objects) (sym y.2) ∙ callback_at 1 v.next_serial v.objects y.0 rises y.1 in
+          let no : false ≡ true = sym (ap (λ k. is_some k) (at ∙ n)) ∙ calls in cc
+
       is : is_some (callback_of v.objects weak) ≡ true → (x : Object) → Includes objects x → x.serial ≡ weak → IsWaiting x × (is_condemned x ≡ false)
       is calls x m same =
           let z = Includes-map_cases (λ x. if x.serial == weak then with_referent None x else x) v.objects x m in
           subst (λ (q : Object). q.serial ≡ weak → IsWaiting q × (is_condemned q ≡ false)) z.2 (one z.0 z.1 (z.0.serial == weak) refl) same
         where
           uncondemned : (x : Object) → Includes v.objects x → x ≡ y.0 → is_condemned x ≡ false
-          uncondemned x m i = either (cases_Bool (is_condemned x)) (λ yes'. absurd (either (h.condemned x m yes').1 (λ n. some (ap (λ (q : Object). q.referent) (sym i) ∙ n)) (λ n. n))) (λ k. k)
+          uncondemned x m i = either (cases_Bool (is_condemned x)) (λ yes'. absurd (either (h.condemned x m yes').1 (λ n. some (ap (λ (q : Object). q.referent) (sym i) ∙ n)) (λ r. either r (λ n. n) (λ t. calls_back calls (ap (λ (q : Object). callback_in q.entries) (sym i) ∙ t))))) (λ k. k)
 
           one : (x : Object) → Includes v.objects x → (b : Bool) → (x.serial == weak) ≡ b → (if b then with_referent None x else x).serial ≡ weak → IsWaiting (if b then with_referent None x else x) × (is_condemned (if b then with_referent None x else x) ≡ false)
           one x m true t i =
@@ -205,7 +219,7 @@ module _ (script : Script) (o : ℕ) (below : List Activity) (v : World) (rises 
       go true calls = turns_more (dying_now (Clearing waiting)) (dying_now (Clearing (waiting ++ weak ∷ []))) weak objects v.names below lost
           (λ s m. either (Includes-append_cases waiting (weak ∷ []) s m) (own_held (Clearing waiting) objects lost s) (λ k. either k (λ i. lives_after v.objects objects (lost_alters weak v.objects) s (subst (Includes (serials v.objects)) (y.2 ∙ i) (Includes-map (λ (z : Object). z.serial) v.objects y.0 y.1))) (λ n. absurd n)))
           (λ d i. subst (λ (x : Death). Includes (serials objects) x.object) (death_is (Clearing (waiting ++ weak ∷ [])) d i) (own_lives (Clearing waiting) objects lost))
-          refl (λ k. some (h.waiting weak k y.0 y.1 y.2).referent) (is calls) (λ c m s k i. some ((h.turns c (inr m) s k).1 y.0 y.1 (y.2 ∙ i))) (λ c s i. cc) (λ x m i k. absurd k)
+          refl (λ k. some (h.waiting weak k y.0 y.1 y.2).referent) (is calls) (λ c m s k i. either ((h.turns c (inr m) s k).1 y.0 y.1 (y.2 ∙ i)) some (λ n. calls_back calls n)) (λ c s i. cc) (λ x m i k. inr k)
       go false calls = goes_to (Clearing waiting) (Clearing (waiting ++ [])) objects (λ s m. own_held (Clearing waiting) objects lost s (back s m)) back (λ s. omega (arith, occurrences-append s waiting [])) lost
         where
           back : (s : ℕ) → Includes (waiting ++ []) s → Includes waiting s
@@ -215,7 +229,7 @@ module _ (script : Script) (o : ℕ) (below : List Activity) (v : World) (rises 
   calling_orderly [] h = goes_to (Calling []) LegacyFinalizer v.objects (λ s k. absurd k) (λ weak k. k) (λ weak. omega arith) h
   calling_orderly (weak ∷ waiting) h =
       starts_orderly script (record { sort = Callback; proc = procedure_of (at (Calling (weak ∷ waiting))) callback; subject = weak; func = Some callback }) (death_at o next below (with_change (with_entries []) weak (at (Calling (weak ∷ waiting))))) (λ k. k) (λ s k. absurd k)
-      (entries_orderly weak [] v.objects v.names (dying_now next ∷ below) done (λ f k. absurd k) (λ x m i c f k. absurd k) turned)
+      (entries_orderly weak [] v.objects v.names (dying_now next ∷ below) done (λ f k. absurd k) (λ x m i c f k. absurd k) (λ x m i c n. refl) turned)
     where
       callback : ℕ
       callback = unwrap_or (callback_of v.objects weak) 0
@@ -272,7 +286,7 @@ module _ (script : Script) (o : ℕ) (below : List Activity) (v : World) (rises 
       gives_up_orderly (entry_references entry) (death_at o Emptying below (with_change (with_entries shorter) o (at Emptying))) (λ k. k)
       (λ s m. lives_after v.objects (change (with_entries shorter) o v.objects) (entries_alter shorter o v.objects) s (own_entries_live s (references_of_member (entries_of v.objects o) entry s (slice_get_member (entries_of v.objects o) (length (entries_of v.objects o) - 1) entry e) m)))
       (entries_orderly o shorter v.objects v.names (at Emptying).stack (λ k. c.stack.0.unheld.stack (waits_held (at Emptying).stack o k)) (λ f k. own_entries_live f (taken f k))
-      (λ x m i w f k. subst (λ es. Includes (references es) f) (ap (λ z. unwrap_or (option_map (λ (q : Object). q.entries) z) []) (subst (λ s. object_at v.objects s ≡ Some x) i (at_member 1 v.next_serial v.objects x rises m))) (taken f k)) h)
+      (λ x m i w f k. subst (λ es. Includes (references es) f) (ap (λ z. unwrap_or (option_map (λ (q : Object). q.entries) z) []) (subst (λ s. object_at v.objects s ≡ Some x) i (at_member 1 v.next_serial v.objects x rises m))) (taken f k)) (λ x m i w n. callback_shorter (entries_of v.objects o) (found_callback v.objects o x (subst (λ s. object_at v.objects s ≡ Some x) i (at_member 1 v.next_serial v.objects x rises m)) n)) h)
     where
       shorter : List Entry
       shorter = without_last (entries_of v.objects o)

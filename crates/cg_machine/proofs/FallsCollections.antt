@@ -16,6 +16,7 @@ use Rattle.cg_graph.proofs.Members.{Includes-filter_cases}
 use Rattle.cg_machine.specs.declared.event.FrameSpec.{FrameSpec}
 use Rattle.cg_machine.specs.declared.event.Event.{Event}
 use Rattle.cg_machine.specs.declared.event.Event.TheVariants.{GcSaved}
+use Rattle.cg_machine.specs.Program.{profile_of}
 use Rattle.cg_machine.specs.World.{World, Activity, Releasing, Collecting, Collection, CollectPhase, Start, WeakClearing, WeakCalling, AfterCallback, AfterRelease, Finalizing, AfterFinalizing, Split, Turns, Turn, AfterTurn, Ending, Numbers, Running, with_change, with_objects}
 use Rattle.cg_machine.specs.Frame.{Transition, start_frame}
 use Rattle.cg_machine.specs.Weak.{loses_referent}
@@ -28,6 +29,7 @@ use Rattle.cg_machine.proofs.Measure.{commands_left, is_first, is_starting, due_
 use Rattle.cg_machine.proofs.Fading.{Faded, unchanged, change_fades, place_fades, referent_fades, shortened_fades, marked_fades, then_fades, loses_one, shorter, Stays, Same, faded_stays, faded_after, stays_after, map_stays, placed, placed_entries, map_fades, if_fades}
 use Rattle.cg_machine.proofs.Candidates.{leaves, others_fewer, only_others, saved_leaves, member_at, AllLose-fades}
 use Rattle.cg_machine.proofs.Sound.{collections_in, Sound, Moves, starts, IsPlain, CountsNothing, plain_counts}
+use Rattle.cg_machine.proofs.Clearing.{refers_early}
 
 -- no collection is underway below
 pub record NoneUnderway (stack : List Activity) : Type 0 where
@@ -144,7 +146,7 @@ module _ (script : Script) (c : Collection) (below : List Activity) (v : World) 
   has_referent None f e = e
   has_referent (Some r) f e = refl
 
-  clears_moves : (waiting : List ℕ) (events : List Event) (after : World) → ClearsOne c waiting below (collection_at c (WeakClearing waiting) below v) events after → Sound (collection_at c (WeakClearing waiting) below v) → Moves script (collection_at c (WeakClearing waiting) below v) after
+  clears_moves : (waiting : List ℕ) (events : List Event) (after : World) → ClearsOne (profile_of script.items) c waiting below (collection_at c (WeakClearing waiting) below v) events after → Sound (collection_at c (WeakClearing waiting) below v) → Moves script (collection_at c (WeakClearing waiting) below v) after
   clears_moves waiting events after step sound = moves_to (WeakClearing waiting) after _ step.yields.1 (go (waits v.objects step.weak))
     where
       lost : List Object
@@ -157,14 +159,14 @@ module _ (script : Script) (c : Collection) (below : List Activity) (v : World) 
       pend = change_fades (with_place Pend) (place_fades Pend refl) step.weak lost
 
       fewer : referents_in lost < referents_in v.objects
-      fewer = loses_one v.objects step.weak step.newest.object step.newest.member step.newest.is (has_referent step.newest.object.referent _ step.newest.to_lose)
+      fewer = loses_one v.objects step.weak step.newest.object step.newest.member step.newest.is (has_referent step.newest.object.referent _ (refers_early (profile_of script.items) v.objects step.newest.object step.newest.to_lose))
 
       go : (b : Bool) → Moves script (collection_at c (WeakClearing waiting) below v) (if b then collection_at c (WeakClearing (waiting ++ step.weak ∷ [])) below (with_objects (change (with_place Pend) step.weak lost) v) else collection_at c (WeakClearing waiting) below (with_objects lost v))
       go true = goes_to (WeakClearing waiting) (WeakClearing (waiting ++ step.weak ∷ [])) c [] (change (with_place Pend) step.weak lost) tt refl refl (faded_stays (change (with_place Pend) step.weak lost) v.objects (faded_after (change (with_place Pend) step.weak lost) lost v.objects pend fade))
           (fewer_referents (omega arith) (omega (arith, pend.condemned, fade.condemned)) (omega (arith, pend.entries, fade.entries)) (omega (arith, pend.referents, fewer)) (omega arith)) sound
       go false = changes (WeakClearing waiting) (WeakClearing waiting) lost fade refl refl (fewer_referents (omega arith) (omega (arith, fade.condemned)) fade.entries fewer (omega arith)) sound
 
-  clearing_moves : (waiting : List ℕ) (events : List Event) (after : World) → WeakClearingStep c waiting below (collection_at c (WeakClearing waiting) below v) events after → Sound (collection_at c (WeakClearing waiting) below v) → Moves script (collection_at c (WeakClearing waiting) below v) after
+  clearing_moves : (waiting : List ℕ) (events : List Event) (after : World) → WeakClearingStep (profile_of script.items) c waiting below (collection_at c (WeakClearing waiting) below v) events after → Sound (collection_at c (WeakClearing waiting) below v) → Moves script (collection_at c (WeakClearing waiting) below v) after
   clearing_moves waiting events after (inl step) sound = clears_moves waiting events after step sound
   clearing_moves waiting events after (inr step) sound = moves_to (WeakClearing waiting) after _ step.1.1 (turns_to (WeakClearing waiting) (WeakCalling waiting) [] tt refl refl (omega arith) (omega arith) sound)
 

@@ -1,16 +1,16 @@
 -- Steps of commands, and that each step of the machine keeps the invariant and makes the measure smaller.
-use Rattle.cg_machine.proofs.Growth.{Grows, shape_grows}
-use Rattle.std.proofs.Common.{◌≡◌, refl, sym, ap, subst, ℕ, suc, ◌*◌, ◌<◌, ◌≤◌, Bool, true, false, not, ◌&&◌, length, List, [], ◌∷◌, Some, None, arith}
-use Rattle.std.specs.Prelude.{if◌then◌else◌}
+use Rattle.cg_machine.proofs.Growth.{Grows, shape_grows, name_one}
+use Rattle.std.proofs.Common.{◌≡◌, refl, sym, ap, subst, ℕ, suc, ◌*◌, ◌<◌, ◌≤◌, Bool, true, false, not, ◌&&◌, length, List, [], ◌∷◌, Some, None, arith, zero, ◌+◌, Option}
+use Rattle.std.specs.Prelude.{if◌then◌else◌, slice_set}
 use Rattle.std.specs.List.{list_any}
 use Rattle.cg_script.specs.declared.Script.{Script}
 use Rattle.cg_script.specs.declared.Command.{Command}
 use Rattle.cg_machine.specs.declared.event.Event.{Event}
 use Rattle.cg_machine.specs.declared.event.FrameSort.TheVariants.{Call as CallFrame}
-use Rattle.cg_machine.specs.World.{World, Activity, TopLevel, Framed, Releasing, Collecting, Running, push, with_stack}
+use Rattle.cg_machine.specs.World.{World, Activity, TopLevel, Framed, Releasing, Collecting, Running, push, with_stack, ShuttingDown}
 use Rattle.cg_machine.specs.Holdings.{is_collection, is_collecting}
 use Rattle.cg_machine.specs.Frame.{procedure_of}
-use Rattle.cg_machine.specs.Effects.{Changes}
+use Rattle.cg_machine.specs.Effects.{Changes, given_up_by, bound}
 use Rattle.cg_machine.specs.Commands.{new_collection}
 use Rattle.cg_machine.specs.Due.{is_due, due, due_generation}
 use Rattle.cg_machine.specs.Run.{Step}
@@ -18,10 +18,12 @@ use Rattle.cg_machine.proofs.Tally.{tally}
 use Rattle.cg_machine.proofs.CommandLaws.{Leaves}
 use Rattle.cg_machine.proofs.ShapeLaws.{changes_leave}
 use Rattle.cg_machine.proofs.Invariants.{HasCommands, Takes, FromTop, FromFrame, emptied, on, CommandSteps, Steps, any_step}
-use Rattle.cg_machine.proofs.Measure.{alive, commands_in, all_bodies, commands_left, is_starting, due_rank, by_commands, by_due, weight_in}
+use Rattle.cg_machine.proofs.Measure.{alive, commands_in, all_bodies, commands_left, is_starting, due_rank, by_commands, by_due, weight_in, bound_names}
 use Rattle.cg_machine.proofs.Sound.{HasBottom, collections_in, Sound, Moves, starts, NoMore}
 use Rattle.cg_machine.proofs.FallsDeaths.{dying_moves, released_moves, frame_end_moves}
 use Rattle.cg_machine.proofs.FallsCollections.{none_underway, phase_moves}
+use Rattle.cg_machine.specs.Shutdown.{greatest_bound, greatest_from, greatest_of}
+use Rattle.cg_value.specs.declared.Val.{Val}
 
 -- no collection is on the stack
 none_collects : (stack : List Activity) → list_any is_collection stack ≡ false → tally collections_in stack ≡ 0
@@ -42,10 +44,11 @@ untouched stack = record { commands = omega arith; collections = refl; bottom = 
 emptied_shortened : (a : Activity) (below : List Activity) → HasCommands a → Shortened (a ∷ below) (emptied a ∷ below)
 emptied_shortened (TopLevel commands) below h = record { commands = omega arith; collections = refl; bottom = λ b. b; weight = omega arith }
 emptied_shortened (Framed f) below h = record { commands = omega arith; collections = refl; bottom = λ b. b; weight = omega arith }
+emptied_shortened (ShuttingDown started) below h = untouched (ShuttingDown started ∷ below)
 emptied_shortened a below h = absurd h
 
 -- A command is taken from w, which leaves u. Then its effect is done.
-module _ (script : Script) (w u : World) (sound : Sound u) (running : u.outcome ≡ Running) (taken : commands_left script u < commands_left script w) (less : NoMore script w u) where
+module _ (script : Script) (w u : World) (sound : Sound u) (running : u.outcome ≡ Running) (taken : commands_left script u + 1 < commands_left script w) (less : NoMore script w u) where
   shortened_moves : (stack : List Activity) → Shortened u.stack stack → Moves script w (with_stack stack u)
   shortened_moves stack s = record {
     sound = record { rises = sound.rises; bottom = s.bottom sound.bottom; single = omega (arith, s.collections, sound.single) };
@@ -74,7 +77,7 @@ module _ (script : Script) (w u : World) (sound : Sound u) (running : u.outcome 
       same_weight = ap (tally weight_in) l.stack
 
       fewer : commands_left script after < commands_left script w
-      fewer = omega (arith, taken, same_alive, same_budget, same_stack)
+      fewer = omega (arith, taken, same_alive, same_budget, same_stack, g.names)
 
   collects_moves : (g : ℕ) → is_collecting u ≡ false → Moves script w (push (new_collection g true u) u)
   collects_moves g e = record {
@@ -82,7 +85,7 @@ module _ (script : Script) (w u : World) (sound : Sound u) (running : u.outcome 
     lower = by_commands (omega (arith, taken)) (omega (arith, taken, less.size)) (omega (arith, less.entries)) (omega (arith, less.referents)) (omega (arith, less.weight));
   }
 
-command_moves : (script : Script) (w : World) (command : Command) (a : Activity) (below : List Activity) (v : World) → HasCommands a → Sound (on a below v) → v.outcome ≡ Running → commands_left script (on a below v) < commands_left script w → NoMore script w (on a below v) → CommandSteps script (λ w events after. Moves script w after) w command (on a below v) a below
+command_moves : (script : Script) (w : World) (command : Command) (a : Activity) (below : List Activity) (v : World) → HasCommands a → Sound (on a below v) → v.outcome ≡ Running → commands_left script (on a below v) + 1 < commands_left script w → NoMore script w (on a below v) → CommandSteps script (λ w events after. Moves script w after) w command (on a below v) a below
 command_moves script w command a below v ha sound running taken less = record {
   stays = λ lines answers. shortened_moves script w (on a below v) sound running taken less (a ∷ below) (untouched (a ∷ below));
   stops = λ lines answers. shortened_moves script w (on a below v) sound running taken less (emptied a ∷ below) (emptied_shortened a below ha);
@@ -115,10 +118,45 @@ taken_moves script command a b below v (FromFrame f commands left) hb sound runn
     let one : length f.commands ≡ length (command ∷ commands) = ap length left in
     command_moves script (on (Framed f) below v) command (Framed (record f { commands = commands })) below v tt (record { rises = sound.rises; bottom = sound.bottom; single = sound.single }) running (omega (arith, one)) (record { commands = omega (arith, one); size = omega (arith, one); entries = omega arith; referents = omega arith; weight = omega arith })
 
+-- the name that the shutdown gives up was bound
+greatest_at : (n : ℕ) (names : List (Option Val)) (name : ℕ) → greatest_from n names ≡ Some name → (k : ℕ) × (name ≡ n + k) × (bound_names (slice_set names k None) < bound_names names)
+greatest_at n [] name e = absurd (let no : None ≡ Some name = e in cc)
+greatest_at n (v ∷ names) name e = go (greatest_from (n + 1) names) refl v e (λ other found. greatest_at (n + 1) names other found)
+  where
+    go : (m : Option ℕ) → greatest_from (n + 1) names ≡ m → (u : Option Val) → greatest_of m n u ≡ Some name → ((other : ℕ) → greatest_from (n + 1) names ≡ Some other → (k : ℕ) × (other ≡ n + 1 + k) × (bound_names (slice_set names k None) < bound_names names)) → (k : ℕ) × (name ≡ n + k) × (bound_names (slice_set (u ∷ names) k None) < bound_names (u ∷ names))
+    go (Some other) found u is later =
+        let rest = later other found in
+        let same : other ≡ name = cc in (suc rest.0, omega (arith, same, rest.1), omega (arith, rest.2))
+    go None found (Some u) is later = let same : n ≡ name = cc in (zero, omega (arith, same), omega arith)
+    go None found None is later = absurd (let no : None ≡ Some name = is in cc)
+
+fewer_bound : (names : List (Option Val)) (name : ℕ) → greatest_from 0 names ≡ Some name → bound_names (slice_set names name None) < bound_names names
+fewer_bound names name e =
+    let at = greatest_at 0 names name e in
+    let same : at.0 ≡ name = omega (arith, at.1) in
+    subst (λ k. bound_names (slice_set names k None) < bound_names names) same at.2
+
+gives_name : (script : Script) (name : ℕ) (below : List Activity) (v : World) → greatest_bound (on (ShuttingDown false) below v) ≡ Some name → Sound (on (ShuttingDown false) below v) → (let w : World = on (ShuttingDown false) below v in Moves script w (push (Releasing (given_up_by w name)) (bound w name None)))
+gives_name script name below v e sound =
+    let fewer = fewer_bound v.names name e in record {
+      sound = record { rises = sound.rises; bottom = sound.bottom; single = omega (arith, sound.single) };
+      lower = by_commands (omega (arith, fewer)) (omega (arith, fewer)) (omega arith) (omega arith) (omega (arith, name_one (on (ShuttingDown false) below v) name));
+    }
+
+collects_at_end : (script : Script) (below : List Activity) (v : World) → Sound (on (ShuttingDown false) below v) → (let w : World = on (ShuttingDown false) below v in Moves script w (push (new_collection 2 false w) (on (ShuttingDown true) below v)))
+collects_at_end script below v sound =
+    let none : tally collections_in below ≡ 0 = ap (tally collections_in) sound.bottom in record {
+      sound = record { rises = sound.rises; bottom = sound.bottom; single = omega (arith, none) };
+      lower = by_commands (omega arith) (omega arith) (omega arith) (omega arith) (omega arith);
+    }
+
 steps_move : (script : Script) → Steps script (λ w. Sound w × (w.outcome ≡ Running)) (λ w events after. Moves script w after)
 steps_move script = record {
   starts_due = λ a below v ha g e k. due_moves script (on a below v) g e k.0;
-  ends = λ below v k. record { sound = record { rises = k.0.rises; bottom = k.0.bottom; single = k.0.single }; lower = by_commands (omega (arith, ap alive k.1)) (omega arith) (omega arith) (omega arith) (omega arith) };
+  ends = λ a lines below v last k. record { sound = record { rises = k.0.rises; bottom = k.0.bottom; single = k.0.single }; lower = by_commands (omega (arith, ap alive k.1)) (omega arith) (omega arith) (omega arith) (omega arith) };
+  shuts_down = λ below v k. record { sound = record { rises = k.0.rises; bottom = k.0.bottom; single = k.0.single }; lower = by_commands (omega arith) (omega arith) (omega arith) (omega arith) (omega arith) };
+  gives_up = λ name below v e k. gives_name script name below v e k.0;
+  collects_last = λ below v k. collects_at_end script below v k.0;
   commands = λ command a b below v takes hb k. taken_moves script command a b below v takes hb k.0 k.1;
   frame_ends = λ f below v left k. frame_end_moves script f below v k.0;
   releases = λ references below v k. released_moves script references below v k.0;

@@ -16,7 +16,7 @@ use Rattle.cg_machine.specs.declared.event.FrameSort.TheVariants.{Del, Legacy, C
 use Rattle.cg_machine.specs.declared.event.FrameSpec.{FrameSpec}
 use Rattle.cg_machine.specs.Program.{legacy_of}
 use Rattle.cg_machine.specs.declared.event.Event.TheVariants.{Alive}
-use Rattle.cg_machine.specs.World.{push, World, Activity, TopLevel, Framed, Releasing, Dying, Collecting, Frame, Numbers, DyingPhase, Finalizer, AfterFinalizer, Clearing, Calling, AfterCall, LegacyFinalizer, AfterLegacy, Detaching, Emptying, Running, with_stack, with_change}
+use Rattle.cg_machine.specs.World.{push, World, Activity, TopLevel, Framed, Releasing, Dying, Collecting, ShuttingDown, Frame, Numbers, DyingPhase, Finalizer, AfterFinalizer, Clearing, Calling, AfterCall, LegacyFinalizer, AfterLegacy, Detaching, Emptying, Running, with_stack, with_change}
 use Rattle.cg_machine.specs.Frame.{gives_up_function, Transition, start_frame, frame_end, begin_death, released}
 use Rattle.cg_machine.specs.Holdings.{in_degree, is_dying}
 use Rattle.cg_machine.specs.Weak.{has_weak_references, is_reference_to, weak_references_if, weak_references, loses_referent, callback_of}
@@ -31,6 +31,7 @@ use Rattle.cg_machine.proofs.Sound.{HasBottom, collections_in, Sound, Moves, sta
 -- a frame, a release or a death
 abbrev pub IsLow : Activity → Type 0
 IsLow (TopLevel commands) = ⊥
+IsLow (ShuttingDown started) = ⊥
 IsLow (Collecting c) = ⊥
 IsLow _ = Unit {0}
 
@@ -43,6 +44,7 @@ pub record Low (a : Activity) : Type 0 where
 
 pub low : (a : Activity) → IsLow a → Low a
 low (TopLevel commands) h = absurd h
+low (ShuttingDown started) h = absurd h
 low (Collecting c) h = absurd h
 low a h = record { collections = refl; starting = refl; rank = refl; left = λ objects. refl; bottom = λ below b. b }
 

@@ -1,6 +1,6 @@
 -- How far a command makes the world grow, and that what it calls is a function.
-use Rattle.std.proofs.Common.{◌≡◌, refl, ap, ℕ, suc, ◌+◌, ◌≤◌, Bool, true, false, not, ◌&&◌, inl, inr, List, [], ◌∷◌, length, Option, Some, None, arith, option_to_list}
-use Rattle.std.specs.Prelude.{◌==◌, ◌||◌, if◌then◌else◌, is_some, option_and_then, slice_get}
+use Rattle.std.proofs.Common.{◌≡◌, refl, ap, ℕ, suc, ◌+◌, ◌≤◌, Bool, true, false, not, ◌&&◌, inl, inr, List, [], ◌∷◌, length, Option, Some, None, arith, option_to_list, zero}
+use Rattle.std.specs.Prelude.{◌==◌, ◌||◌, if◌then◌else◌, is_some, option_and_then, slice_get, slice_set}
 use Rattle.std.proofs.lemmas.Bool.{eq-eqb, ne_eqb}
 use Rattle.cg_value.specs.declared.Val.{Val}
 use Rattle.cg_value.specs.declared.Entry.{Entry}
@@ -12,18 +12,20 @@ use Rattle.cg_graph.specs.Object.{Object, change, with_entries, with_place, is_t
 use Rattle.cg_graph.specs.Value.{reference_in, value_at, put, same_value, references_of_value}
 use Rattle.cg_script.specs.declared.Command.{Command}
 use Rattle.cg_machine.specs.World.{World, Numbers, with_change}
-use Rattle.cg_machine.specs.Effects.{Effect, Changes, Calls, Collects, Quits, replaced, frozen, unfrozen, tracked_by, may_track, given_up_by}
+use Rattle.cg_machine.specs.Effects.{Effect, Changes, Calls, Collects, Explains, Quits, replaced, frozen, unfrozen, tracked_by, may_track, given_up_by}
 use Rattle.cg_machine.specs.Operands.{is_dict}
 use Rattle.cg_machine.specs.Laws.{HasFunction}
 use Rattle.cg_machine.proofs.Tally.{bit, tally-append, tally-map_le}
 use Rattle.cg_machine.proofs.Serials.{Rises, change-below}
-use Rattle.cg_machine.proofs.Measure.{entries_in, referents_in, size_of}
+use Rattle.cg_machine.proofs.Measure.{entries_in, referents_in, size_of, bound_names}
 use Rattle.cg_machine.proofs.Fading.{Same, map_stays, if_same}
-use Rattle.cg_machine.proofs.Shapes.{Shape, Binds, Makes, Edits, Puts, Shows, Tells, Stays, Sets, Freezes, Unfreezes, StartsFrame, StartsCollection, Ends}
+use Rattle.cg_machine.proofs.Shapes.{Shape, Binds, Makes, Edits, Puts, Shows, Tells, Stays, Sets, Freezes, Unfreezes, StartsFrame, StartsCollection, Ends, Inspects, AsksWhy}
 use Rattle.cg_machine.proofs.ShapeLaws.{shape_gives_few}
 use Rattle.cg_machine.proofs.Lookups.{serial_from}
+use Rattle.cg_value.specs.declared.Val.TheVariants.{Ref}
 
 pub record Grows (w after : World) (given_up : List ℕ) : Type 0 where
+  pub names : bound_names after.names ≤ bound_names w.names + 1
   pub size : size_of after.objects ≤ size_of w.objects + 1
   pub entries : entries_in after.objects ≤ entries_in w.objects + 4000000
   pub referents : referents_in after.objects ≤ referents_in w.objects + 1
@@ -33,6 +35,7 @@ abbrev pub GrowsBy : World → Effect → Type 0
 GrowsBy w (Changes wants_memory lines given_up after) = Grows w after given_up
 GrowsBy w (Calls f) = HasFunction w.objects f
 GrowsBy w (Collects g) = Unit {0}
+GrowsBy w (Explains o) = Unit {0}
 GrowsBy w Quits = Unit {0}
 
 -- its entries change
@@ -51,6 +54,7 @@ changed_entries f low high (y ∷ objects) x r (inr m) =
 sets : (w : World) (f : Object → Object) → Same f → (x : Object) (given_up : List ℕ) → Rises 1 w.next_serial w.objects → Includes w.objects x → length (f x).entries ≤ length x.entries + 1 → length given_up ≤ 2 → Grows w (with_change f x.serial w) given_up
 sets w f k x given_up r m l g =
     let stays = map_stays (λ y. if y.serial == x.serial then f y else y) (if_same f k (λ y. y.serial == x.serial)) w.objects in record {
+      names = omega arith;
       size = omega (arith, stays.size);
       entries = omega (arith, changed_entries f 1 w.next_serial w.objects x r m, l);
       referents = omega (arith, stays.referents);
@@ -58,12 +62,13 @@ sets w f k x given_up r m l g =
     }
 
 -- the objects stay
-stays_so : (w : World) (names : List (Option Val)) (numbers : Numbers) (given_up : List ℕ) → length given_up ≤ 2 → Grows w (record w { names = names; numbers = numbers }) given_up
-stays_so w names numbers given_up g = record { size = omega arith; entries = omega arith; referents = omega arith; given = g }
+stays_so : (w : World) (names : List (Option Val)) (numbers : Numbers) (given_up : List ℕ) → bound_names names ≤ bound_names w.names + 1 → length given_up ≤ 2 → Grows w (record w { names = names; numbers = numbers }) given_up
+stays_so w names numbers given_up more g = record { names = more; size = omega arith; entries = omega arith; referents = omega arith; given = g }
 
 places : (w : World) (f : Place → Place) (numbers : Numbers) → Grows w (record w { objects = replaced f w; numbers = numbers }) []
 places w f numbers =
     let stays = map_stays (λ x. with_place (f x.place) x) (record { serial = λ x. refl; referent = λ x. refl }) w.objects in record {
+      names = omega arith;
       size = omega (arith, stays.size);
       entries = omega (arith, tally-map_le (λ x. length x.entries) (λ x. with_place (f x.place) x) (λ x. omega arith) w.objects);
       referents = omega (arith, stays.referents);
@@ -77,15 +82,21 @@ value_one v = go (option_and_then reference_in v)
     go None = omega arith
     go (Some o) = omega arith
 
-name_one : (w : World) (name : ℕ) → length (given_up_by w name) ≤ 2
+pub name_one : (w : World) (name : ℕ) → length (given_up_by w name) ≤ 2
 name_one w name = value_one (option_and_then (λ v. v) (slice_get w.names name))
-
-binding : (w : World) (name : ℕ) (names : List (Option Val)) → Grows w (record w { names = names }) (given_up_by w name)
-binding w name names = stays_so w names w.numbers (given_up_by w name) (name_one w name)
 
 bit_one : (b : Bool) → bit b ≤ 1
 bit_one true = omega arith
 bit_one false = omega arith
+
+-- one name is bound, or unbound
+bound_one : (names : List (Option Val)) (name : ℕ) (v : Option Val) → bound_names (slice_set names name v) ≤ bound_names names + 1
+bound_one [] name v = omega arith
+bound_one (u ∷ names) zero v = omega (arith, bit_one (is_some v))
+bound_one (u ∷ names) (suc name) v = omega (arith, bound_one names name v)
+
+binding : (w : World) (name : ℕ) (v : Option Val) → Grows w (record w { names = slice_set w.names name v }) (given_up_by w name)
+binding w name v = stays_so w (slice_set w.names name v) w.numbers (given_up_by w name) (bound_one w.names name v) (name_one w name)
 
 abbrev made : World → KindCode → Option ℕ → List Entry → Option ℕ → Object
 made w kind class entries referent = record { serial = w.next_serial; code = kind; class = class; entries = entries; place = first_place kind; finalized = false; referent = referent }
@@ -112,6 +123,7 @@ with_entries_same es = record { serial = λ x. refl; referent = λ x. refl }
 pub shape_grows : (w : World) → Rises 1 w.next_serial w.objects → (command : Command) (e : Effect) → Shape w command e → GrowsBy w e
 shape_grows w r command e (Binds name v own hand) = binding w name _
 shape_grows w r command e (Makes name kind class entries referent own parts) = record {
+  names = bound_one w.names name (Some (Ref w.next_serial));
   size = omega (arith, tally-append (λ (x : Object). 1) w.objects (made w kind class entries referent ∷ []));
   entries = omega (arith, parts.entry_room, tally-append (λ (x : Object). length x.entries) w.objects (made w kind class entries referent ∷ []));
   referents = omega (arith, bit_one (is_some referent), tally-append (λ (x : Object). bit (is_some x.referent)) w.objects (made w kind class entries referent ∷ []));
@@ -122,12 +134,14 @@ shape_grows w r command e (Puts x key v h mutable hand_key hand room) = sets w (
     (record { serial = λ y. (tracked_same w key v (with_entries (put x.entries key v) y)).0; referent = λ y. (tracked_same w key v (with_entries (put x.entries key v) y)).1 })
     x (references_of_value (value_at x.entries key)) r h.member
     (omega (arith, length-put x.entries key v, ap length (tracked_same w key v (with_entries (put x.entries key v) x)).2)) (value_one (value_at x.entries key))
-shape_grows w r command e (Shows v hand) = stays_so w w.names w.numbers [] (omega arith)
-shape_grows w r command e (Tells line tells) = stays_so w w.names w.numbers [] (omega arith)
-shape_grows w r command e Stays = stays_so w w.names w.numbers [] (omega arith)
-shape_grows w r command e (Sets numbers own keeps) = stays_so w w.names numbers [] (omega arith)
+shape_grows w r command e (Shows v hand) = stays_so w w.names w.numbers [] (omega arith) (omega arith)
+shape_grows w r command e (Tells line tells) = stays_so w w.names w.numbers [] (omega arith) (omega arith)
+shape_grows w r command e Stays = stays_so w w.names w.numbers [] (omega arith) (omega arith)
+shape_grows w r command e (Sets numbers own keeps) = stays_so w w.names numbers [] (omega arith) (omega arith)
 shape_grows w r command e (Freezes is) = places w frozen _
 shape_grows w r command e (Unfreezes is) = places w unfrozen _
 shape_grows w r command e (StartsFrame f h) = (f, h.member, refl, h.passes)
 shape_grows w r command e (StartsCollection g low) = tt
 shape_grows w r command e Ends = tt
+shape_grows w r command e (Inspects lines calm there) = stays_so w w.names w.numbers [] (omega arith) (omega arith)
+shape_grows w r command e (AsksWhy x h calm) = tt

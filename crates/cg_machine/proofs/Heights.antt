@@ -10,7 +10,7 @@ use Rattle.cg_graph.specs.Holdings.{name_holdings, occurrences, graph_of, entry_
 use Rattle.cg_graph.proofs.Members.{Includes-of, includes-of, Includes-append_right}
 use Rattle.cg_machine.specs.declared.event.FrameSort.{FrameSort}
 use Rattle.cg_machine.specs.declared.event.FrameSort.TheVariants.{Del, Legacy, Callback, Call}
-use Rattle.cg_machine.specs.World.{World, Activity, TopLevel, Framed, Releasing, Dying, Collecting, Death, DyingPhase, Clearing, Calling, AfterCall, CollectPhase, WeakClearing, WeakCalling, AfterCallback, AfterRelease, opening}
+use Rattle.cg_machine.specs.World.{World, Activity, TopLevel, Framed, Releasing, Dying, Collecting, Death, DyingPhase, Clearing, Calling, AfterCall, CollectPhase, WeakClearing, WeakCalling, AfterCallback, AfterRelease, opening, ShuttingDown}
 use Rattle.cg_machine.specs.Holdings.{holds, call_holds, dying_holds, collect_holds, is_collection}
 use Rattle.cg_machine.specs.Represents.{death_waits}
 use Rattle.cg_machine.specs.Run.{last_world}
@@ -89,14 +89,16 @@ releases_fit (_ ∷ below) h = let rest = (releases_fit below h.1).none_on_top h
 over_one : (a : Activity) (below : List Activity) → is_top_level a ≡ false → IsOverTopLevel below → IsOverTopLevel (a ∷ below)
 over_one a below other h = record {
   others = a ∷ h.others;
-  commands = h.commands;
+  lowest = h.lowest;
+  is = h.is;
   bottom = ap (λ (st : List Activity). a ∷ st) h.bottom;
   nowhere_else = let none : ◌≡◌ {A = ℕ} (cond (is_top_level a) 1 0) 0 = ap (λ t. cond t 1 0) other in omega (arith, none, h.nowhere_else, sum_by-cons (λ x. cond (is_top_level x) 1 0) a h.others);
 }
 
 is_over : (stack : List Activity) → HasBottom stack → IsOverTopLevel stack
 is_over [] h = absurd h
-is_over (TopLevel commands ∷ below) h = record { others = []; commands = commands; bottom = ap (λ (st : List Activity). TopLevel commands ∷ st) h; nowhere_else = refl }
+is_over (TopLevel commands ∷ below) h = record { others = []; lowest = TopLevel commands; is = refl; bottom = ap (λ (st : List Activity). TopLevel commands ∷ st) h; nowhere_else = refl }
+is_over (ShuttingDown started ∷ below) h = record { others = []; lowest = ShuttingDown started; is = refl; bottom = ap (λ (st : List Activity). ShuttingDown started ∷ st) h; nowhere_else = refl }
 is_over (Framed f ∷ below) h = over_one (Framed f) below refl (is_over below h)
 is_over (Releasing references ∷ below) h = over_one (Releasing references) below refl (is_over below h)
 is_over (Dying d ∷ below) h = over_one (Dying d) below refl (is_over below h)
@@ -106,6 +108,10 @@ is_over (Collecting c ∷ below) h = over_one (Collecting c) below refl (is_over
 height_of : (stack : List Activity) → HasBottom stack → length stack ≡ 1 + how_many is_frame stack + how_many is_release stack + how_many is_death stack + how_many is_collection stack
 height_of [] h = absurd h
 height_of (TopLevel commands ∷ below) h =
+    let none : (sort : Activity → Bool) → how_many sort below ≡ 0 = λ sort. ap (how_many sort) h in
+    let low : length below ≡ 0 = ap (λ (st : List Activity). length st) h in
+    omega (arith, low, none is_frame, none is_release, none is_death, none is_collection)
+height_of (ShuttingDown started ∷ below) h =
     let none : (sort : Activity → Bool) → how_many sort below ≡ 0 = λ sort. ap (how_many sort) h in
     let low : length below ≡ 0 = ap (λ (st : List Activity). length st) h in
     omega (arith, low, none is_frame, none is_release, none is_death, none is_collection)
@@ -141,6 +147,7 @@ held_by stack = how_many is_frame stack + 2 * how_many is_release stack + 2 * ho
 holds_at_most : (stack : List Activity) → AreReleasesApart stack → length (flat_map holds stack) ≤ held_by stack
 holds_at_most [] h = omega arith
 holds_at_most (TopLevel commands ∷ below) h = omega (arith, holds_at_most below h.1)
+holds_at_most (ShuttingDown started ∷ below) h = omega (arith, holds_at_most below h.1)
 holds_at_most (Framed f ∷ below) h = omega (arith, holds_at_most below h.1, frame_holds f.sort f.function, length-append (call_holds f.sort f.function) (flat_map holds below))
 holds_at_most (Releasing references ∷ below) h = omega (arith, holds_at_most below h.2, h.0, length-append references (flat_map holds below))
 holds_at_most (Dying d ∷ below) h = omega (arith, holds_at_most below h, death_holds d.object d.phase, length-append (dying_holds d.object d.phase) (flat_map holds below), length-append (death_waits d.phase) (all_waits below))

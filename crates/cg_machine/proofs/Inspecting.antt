@@ -1,5 +1,5 @@
 -- What the commands that inspect tell of: numbers, and objects that something holds or that are there.
-use Rattle.std.proofs.Common.{◌≡◌, sym, subst, ℕ, suc, ◌<◌, inl, inr, ◌⊎◌, List, [], ◌∷◌, ◌++◌, map, flat_map, arith}
+use Rattle.std.proofs.Common.{◌≡◌, refl, sym, ap, subst, ℕ, suc, ◌<◌, inl, inr, ◌⊎◌, List, [], ◌∷◌, ◌++◌, map, flat_map, arith}
 use Rattle.std.specs.Prelude.{filter}
 use Rattle.cg_graph.specs.declared.Edge.{Edge}
 use Rattle.cg_graph.specs.Member.{Includes}
@@ -54,7 +54,7 @@ edge_holder [] from to m = absurd m
 edge_holder (x ∷ objects) from to m =
     either (Includes-append_cases (map (λ (r : ℕ). record { from = x.serial; to = r }) (references x.entries)) (edges (graph_of objects)) (record { from = from; to = to }) m)
         (λ k. let e = Includes-map_cases (λ (r : ℕ). record { from = x.serial; to = r }) (references x.entries) (record { from = from; to = to }) k in
-            let same : e.0 ≡ to = cc in (x, inl refl, subst (Includes (references x.entries)) same e.1))
+            (x, inl refl, subst (Includes (references x.entries)) (ap (λ (edge : Edge). edge.to) e.2) e.1))
         (λ k. let f = edge_holder objects from to k in (f.0, inr f.1, f.2))
 
 -- the rest of a path

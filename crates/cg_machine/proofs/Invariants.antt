@@ -3,6 +3,7 @@ use Rattle.std.proofs.Common.{◌≡◌, refl, sym, subst, ℕ, ◌≤◌, Bool,
 use Rattle.std.specs.Prelude.{if◌then◌else◌}
 use Rattle.cg_script.specs.declared.Script.{Script}
 use Rattle.cg_script.specs.declared.Command.{Command}
+use Rattle.cg_script.specs.declared.Command.TheVariants.{Del}
 use Rattle.cg_graph.specs.Object.{Object}
 use Rattle.cg_machine.specs.declared.event.Event.{Event}
 use Rattle.cg_machine.specs.declared.event.Event.TheVariants.{Left, End, Refused, Collected}
@@ -21,13 +22,14 @@ use Rattle.cg_machine.specs.Effects.{Effect, Changes, Calls, Collects, Explains,
 use Rattle.cg_machine.specs.Commands.{effect, refused, without_commands, new_collection, Explanation, DoesEffect}
 use Rattle.cg_machine.specs.Run.{StepTaken, Step, StepOf, Run, IsRun, TopLevelStep, CommandInFrame, FrameStep, last_world, world_after}
 use Rattle.cg_machine.proofs.CommandLaws.{Each}
-use Rattle.cg_machine.proofs.Shapes.{Shape, StartsCollection, StartsFrame, Inspects, AsksWhy, HasObject, effect_shaped}
+use Rattle.cg_machine.proofs.Shapes.{Shape, Binds, StartsCollection, StartsFrame, Inspects, AsksWhy, HasObject, effect_shaped}
 use Rattle.cg_machine.proofs.Inspecting.{explained}
 
--- what has commands
+-- what has commands; the shutdown gives up names as `del` does
 abbrev pub HasCommands : Activity → Type 0
 HasCommands (TopLevel commands) = Unit {0}
 HasCommands (Framed f) = Unit {0}
+HasCommands (ShuttingDown started) = Unit {0}
 HasCommands a = ⊥
 
 -- an activity on others
@@ -44,6 +46,10 @@ abbrev pub emptied : Activity → Activity
 emptied (TopLevel commands) = TopLevel []
 emptied (Framed f) = Framed (record f { commands = [] })
 emptied a = a
+
+-- giving up a name is what `del` does
+pub del_shaped : (w : World) (name : ℕ) → Shape w (Del name) (Changes false [] (given_up_by w name) (bound w name None))
+del_shaped w name = Binds name None (inl refl) (λ u e. absurd (let no : None ≡ Some u = e in cc))
 
 -- what is printed where a command does nothing
 abbrev pub AreAnswers : List Event → Type 0
@@ -65,6 +71,12 @@ abbrev pub AreLast : World → Activity → List Event → Type 0
 AreLast w (TopLevel []) lines = lines ≡ End ∷ []
 AreLast w (ShuttingDown true) lines = lines ≡ Left (live w) ∷ End ∷ []
 AreLast w a lines = ⊥
+
+pub last_has : (w : World) (a : Activity) (lines : List Event) → AreLast w a lines → HasCommands a
+last_has w (TopLevel commands) lines h = tt
+last_has w (Framed f) lines h = tt
+last_has w (ShuttingDown started) lines h = tt
+last_has w a lines h = absurd h
 
 -- What each kind of step does: R tells of the world before it, what it prints and the world after it.
 pub record Steps (script : Script) (Known : World → Type 0) (R : World → List Event → World → Type 0) : Type 0 where
@@ -101,11 +113,13 @@ module _ (script : Script) (Known : World → Type 0) (R : World → List Event 
   refuses : (w u : World) (command : Command) (a : Activity) (below : List Activity) → HasCommands a → CommandSteps script R w command (on a below u) a below → (n : ℕ) → R w (refused n (on a below u)).0 (refused n (on a below u)).1
   refuses w u command (TopLevel commands) below ha k n = k.stays (Refused n ∷ []) tt
   refuses w u command (Framed f) below ha k n = k.stops (Refused n ∷ []) tt
+  refuses w u command (ShuttingDown started) below ha k n = k.stays (Refused n ∷ []) tt
   refuses w u command a below ha k n = absurd ha
 
   quits : (w u : World) (command : Command) (a : Activity) (below : List Activity) → HasCommands a → CommandSteps script R w command (on a below u) a below → R w [] (with_stack (without_commands (a ∷ below)) u)
   quits w u command (TopLevel commands) below ha k = k.stops [] tt
   quits w u command (Framed f) below ha k = k.stops [] tt
+  quits w u command (ShuttingDown started) below ha k = k.stays [] tt
   quits w u command a below ha k = absurd ha
 
   does : (w u : World) (command : Command) (a : Activity) (below : List Activity) → HasCommands a → CommandSteps script R w command (on a below u) a below

@@ -11,6 +11,7 @@ use Rattle.cg_graph.specs.Object.{Object, change, object_at, is_in_map, entries_
 use Rattle.cg_machine.specs.declared.event.Event.{Event}
 use Rattle.cg_machine.specs.declared.event.Event.TheVariants.{GcSaved}
 use Rattle.cg_machine.specs.declared.event.FrameSort.TheVariants.{Del, Callback}
+use Rattle.cg_machine.specs.Program.{profile_of}
 use Rattle.cg_machine.specs.World.{World, Activity, Releasing, Collecting, Collection, CollectPhase, Start, WeakClearing, WeakCalling, AfterCallback, AfterRelease, Finalizing, AfterFinalizing, Split, Turns, Turn, AfterTurn, Ending, push, with_stack, with_change, with_objects}
 use Rattle.cg_machine.specs.Frame.{Transition, procedure_of}
 use Rattle.cg_machine.specs.Weak.{loses_referent, callback_of}
@@ -48,7 +49,7 @@ module _ (script : Script) (c : Collection) (below : List Activity) (v : World) 
       now : World
       now = merged c.generation (at Start)
 
-  clears_leaves : (waiting : List ℕ) (events : List Event) (after : World) → ClearsOne c waiting below (at (WeakClearing waiting)) events after → LeavesIt (at (WeakClearing waiting)) below after
+  clears_leaves : (waiting : List ℕ) (events : List Event) (after : World) → ClearsOne (profile_of script.items) c waiting below (at (WeakClearing waiting)) events after → LeavesIt (at (WeakClearing waiting)) below after
   clears_leaves waiting events after step = to (WeakClearing waiting) after _ step.yields.1 (go (waits v.objects step.weak))
     where
       lost : List Object
@@ -62,7 +63,7 @@ module _ (script : Script) (c : Collection) (below : List Activity) (v : World) 
           (from_trans (at (WeakClearing waiting)) below v.objects lost (change (with_place Pend) step.weak lost) lost_from (placed (WeakClearing waiting) (λ x. Pend) (λ x. x.serial == step.weak) lost))
       go false = goes_to (WeakClearing waiting) (collection_at c (WeakClearing waiting) below (with_objects lost (at (WeakClearing waiting)))) c (WeakClearing waiting) refl lost_from
 
-  clearing_leaves : (waiting : List ℕ) (events : List Event) (after : World) → WeakClearingStep c waiting below (at (WeakClearing waiting)) events after → LeavesIt (at (WeakClearing waiting)) below after
+  clearing_leaves : (waiting : List ℕ) (events : List Event) (after : World) → WeakClearingStep (profile_of script.items) c waiting below (at (WeakClearing waiting)) events after → LeavesIt (at (WeakClearing waiting)) below after
   clearing_leaves waiting events after (inl step) = clears_leaves waiting events after step
   clearing_leaves waiting events after (inr step) = to (WeakClearing waiting) after _ step.1.1 (goes_to (WeakClearing waiting) (at (WeakCalling waiting)) c (WeakCalling waiting) refl (same (WeakClearing waiting)))
 

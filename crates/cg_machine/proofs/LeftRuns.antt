@@ -7,7 +7,7 @@ use Rattle.cg_graph.specs.Object.{Object, serials}
 use Rattle.cg_graph.proofs.Members.{either, Includes-append_right}
 use Rattle.cg_machine.specs.declared.event.Event.{Event}
 use Rattle.cg_machine.specs.declared.event.FrameSort.TheVariants.{Call as CallFrame}
-use Rattle.cg_machine.specs.World.{World, Activity, TopLevel, Framed, Releasing, Dying, Collecting, DyingPhase, Finalizer, AfterFinalizer, Clearing, Calling, AfterCall, LegacyFinalizer, AfterLegacy, Detaching, Emptying, Ended, opening, push, with_stack}
+use Rattle.cg_machine.specs.World.{World, Activity, TopLevel, Framed, Releasing, Dying, Collecting, DyingPhase, Finalizer, AfterFinalizer, Clearing, Calling, AfterCall, LegacyFinalizer, AfterLegacy, Detaching, Emptying, Ended, opening, push, with_stack, ShuttingDown}
 use Rattle.cg_machine.specs.Holdings.{holds, is_collection}
 use Rattle.cg_machine.specs.Frame.{procedure_of}
 use Rattle.cg_machine.specs.Effects.{Changes}
@@ -24,11 +24,12 @@ use Rattle.cg_machine.proofs.CommandCalm.{Comes, was_there, is_new, shape_mild}
 use Rattle.cg_machine.proofs.Orderly.{waits_held}
 use Rattle.cg_machine.proofs.DyingOrderly.{HasOrder}
 use Rattle.cg_machine.proofs.RunsCalm.{taken_calm, opening_calm}
-use Rattle.cg_machine.proofs.Invariants.{HasCommands, Takes, FromTop, FromFrame, emptied, on, CommandSteps, Steps, any_step}
+use Rattle.cg_machine.proofs.Invariants.{HasCommands, Takes, FromTop, FromFrame, emptied, on, CommandSteps, Steps, any_step, del_shaped}
 use Rattle.cg_machine.proofs.RunsOrderly.{taken_orderly, opening_orderly, orderly_after}
 use Rattle.cg_machine.proofs.Left.{MayChange, ComesFrom, IsCollectionOnTop, from_refl, LeavesIt, leaves_from}
 use Rattle.cg_machine.proofs.LeftDeaths.{starts_leaves, frame_end_leaves, released_leaves, dying_leaves}
 use Rattle.cg_machine.proofs.LeftCollections.{phase_leaves}
+use Rattle.cg_script.specs.declared.Command.TheVariants.{Del}
 
 -- what a step leaves, if there is an activity to take it
 abbrev pub LeavesUnder : World → List Activity → World → Type 0
@@ -64,6 +65,7 @@ module _ (script : Script) (b a : Activity) (below : List Activity) (v : World) 
   emptied_leaves : (top : Activity) → HasCommands top → LeavesIt w below (on (emptied top) below v)
   emptied_leaves (TopLevel commands) k = unchanged (TopLevel [])
   emptied_leaves (Framed f) k = unchanged (Framed (record f { commands = [] }))
+  emptied_leaves (ShuttingDown started) k = unchanged (ShuttingDown started)
   emptied_leaves top k = absurd k
 
   command_leaves : (command : Command) → CommandSteps script (λ x events after. LeavesUnder x x.stack after) w command u a below
@@ -87,7 +89,10 @@ taken_held command a b (FromFrame f commands left) o k = k
 steps_leave_it : (script : Script) → Steps script (λ w. (Sound w × Calm script w) × HasOrder w) (λ w events after. LeavesUnder w w.stack after)
 steps_leave_it script = record {
   starts_due = λ a below v ha g e k. leaves_from (on a below v) below (push (new_collection g false (on a below v)) (on a below v)) (new_collection g false (on a below v) ∷ a ∷ []) refl (from_refl (on a below v) below v.objects);
-  ends = λ below v k. leaves_from (on (TopLevel []) below v) below (record v { stack = TopLevel [] ∷ below; outcome = Ended }) (TopLevel [] ∷ []) refl (from_refl (on (TopLevel []) below v) below v.objects);
+  ends = λ a lines below v last k. leaves_from (on a below v) below (record v { stack = a ∷ below; outcome = Ended }) (a ∷ []) refl (from_refl (on a below v) below v.objects);
+  shuts_down = λ below v k. leaves_from (on (TopLevel []) below v) below (on (ShuttingDown false) below v) (ShuttingDown false ∷ []) refl (from_refl (on (TopLevel []) below v) below v.objects);
+  gives_up = λ name below v e k. (command_leaves script (ShuttingDown false) (ShuttingDown false) below v tt (λ o i. i) k.0.0.rises k.0.1 k.1 (Del name)).changes false [] _ _ (del_shaped (on (ShuttingDown false) below v) name);
+  collects_last = λ below v k. let w : World = on (ShuttingDown false) below v in leaves_from w below (push (new_collection 2 false w) (on (ShuttingDown true) below v)) (new_collection 2 false w ∷ ShuttingDown true ∷ []) refl (from_refl w below v.objects);
   commands = λ command a b below v takes hb k. command_leaves script a b below v hb (taken_held command a b takes) k.0.0.rises (taken_calm script below v command a b takes k.0.1) (taken_orderly command a b below v takes k.1) command;
   frame_ends = λ f below v left k. frame_end_leaves f below v;
   releases = λ references below v k. released_leaves references below v;

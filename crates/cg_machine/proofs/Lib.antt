@@ -40,6 +40,7 @@ pub mod Rooms
 pub mod RoomsOfRuns
 pub mod Heights
 pub mod Moves
+pub mod Inspecting
 pub mod Shapes
 pub mod ShapeLaws
 pub mod Invariants

@@ -14,7 +14,7 @@ use Rattle.cg_machine.specs.declared.event.FrameSort.{FrameSort}
 use Rattle.cg_machine.specs.declared.event.FrameSort.TheVariants.{Del, Legacy, Callback, Call}
 use Rattle.cg_machine.specs.declared.event.FrameSpec.{FrameSpec}
 use Rattle.cg_machine.specs.World.{World, Activity, Framed, Releasing, Dying, Collecting, Frame, DyingPhase, Finalizer, AfterFinalizer, Clearing, Calling, AfterCall, LegacyFinalizer, AfterLegacy, Detaching, Emptying, Collection, CollectPhase, Start, WeakClearing, WeakCalling, AfterCallback, AfterRelease, Finalizing, AfterFinalizing, Split, Turns, Turn, AfterTurn, Ending, BudgetIsSpent, with_stack, with_change, with_objects}
-use Rattle.cg_machine.specs.Program.{body_of, legacy_of}
+use Rattle.cg_machine.specs.Program.{body_of, legacy_of, profile_of}
 use Rattle.cg_machine.specs.Holdings.{in_degree, is_dying}
 use Rattle.cg_machine.specs.Frame.{Transition, start_frame, frame_end, gives_up_function, begin_death, released, procedure_of}
 use Rattle.cg_machine.specs.Weak.{has_weak_references, weak_references_if, loses_referent, callback_of}
@@ -150,7 +150,7 @@ module _ (most b : ℕ) (script : Script) (c : Collection) (below : List Activit
   start_makes : (events : List Event) (after : World) → StartStep script (with_phase Start) c below events after → IsFew most b after
   start_makes events after step = to after _ step.world (collects (record c { phase = WeakClearing [] }))
 
-  weak_clearing_makes : (waiting : List ℕ) (events : List Event) (after : World) → WeakClearingStep c waiting below (with_phase (WeakClearing waiting)) events after → IsFew most b after
+  weak_clearing_makes : (waiting : List ℕ) (events : List Event) (after : World) → WeakClearingStep (profile_of script.items) c waiting below (with_phase (WeakClearing waiting)) events after → IsFew most b after
   weak_clearing_makes waiting events after (inl step) = to after _ step.yields.1 (go (waits v.objects step.weak))
     where
       lost : List Object

@@ -3,7 +3,7 @@ use Rattle.std.proofs.Common.{◌≡◌, sym, ap, subst, ℕ, ◌+◌, ◌*◌, 
 use Rattle.cg_script.specs.declared.Script.{Script}
 use Rattle.cg_script.specs.declared.Command.{Command}
 use Rattle.cg_machine.specs.declared.event.FrameSort.TheVariants.{Call as CallFrame}
-use Rattle.cg_machine.specs.World.{World, Activity, TopLevel, Framed, Releasing}
+use Rattle.cg_machine.specs.World.{World, Activity, TopLevel, Framed, Releasing, ShuttingDown}
 use Rattle.cg_machine.specs.Program.{body_of, commands_of}
 use Rattle.cg_machine.specs.Frame.{procedure_of}
 use Rattle.cg_machine.specs.Made.{SerialsAreFew}
@@ -19,6 +19,7 @@ taken most b serial budget command a c below (FromFrame f commands left) h = let
 stopped : (most b serial budget : ℕ) (a : Activity) (below : List Activity) → HasCommands a → Few most b (serial + 1) budget (a ∷ below) → Few most b serial budget (emptied a ∷ below)
 stopped most b serial budget (TopLevel commands) below ha h = record { within = omega (arith, h.within) }
 stopped most b serial budget (Framed f) below ha h = record { within = omega (arith, h.within) }
+stopped most b serial budget (ShuttingDown started) below ha h = record { within = omega (arith, h.within) }
 stopped most b serial budget a below ha h = absurd ha
 
 gives_up : (most b serial budget next left : ℕ) (a : Activity) (below : List Activity) (given_up : List ℕ) (stack : List Activity) → next ≤ serial + 1 → stack ≡ a ∷ below → left ≡ budget → Few most b (serial + 1) budget (a ∷ below) → Few most b next left (Releasing given_up ∷ stack)
@@ -39,7 +40,10 @@ module _ (most b : ℕ) (script : Script) (short : (p : ℕ) → length (body_of
   keeps_few : Steps script (λ w. Unit {0} × IsFew most b w) (λ w events. IsFew most b)
   keeps_few = record {
     starts_due = λ a below v ha g e k. record { within = omega (arith, k.1.within) };
-    ends = λ below v k. k.1;
+    ends = λ a lines below v last k. k.1;
+    shuts_down = λ below v k. record { within = omega (arith, k.1.within) };
+    gives_up = λ name below v e k. record { within = omega (arith, k.1.within) };
+    collects_last = λ below v k. record { within = omega (arith, k.1.within) };
     commands = λ command a c below v takes hc k. command_makes (on a below v) command c below v hc (taken most b v.next_serial v.budget command a c below takes k.1);
     frame_ends = λ f below v left k. frame_end_makes most b f below v k.1;
     releases = λ references below v k. released_makes most b references below v k.1;

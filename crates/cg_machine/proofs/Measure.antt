@@ -1,31 +1,37 @@
 -- What falls with each step of the machine: seven numbers, the first ones first.
-use Rattle.std.proofs.Common.{ℕ, suc, ◌+◌, ◌*◌, ◌<◌, ◌≤◌, Bool, true, false, cond, List, length}
+use Rattle.std.proofs.Common.{ℕ, suc, ◌+◌, ◌*◌, ◌<◌, ◌≤◌, Bool, true, false, not, cond, List, length, Option}
 use Rattle.std.specs.Prelude.{◌==◌, if◌then◌else◌, is_some}
 use Rattle.std.specs.List.{list_any}
+use Rattle.cg_value.specs.declared.Val.{Val}
 use Rattle.cg_value.specs.declared.Place.TheVariants.{Cand}
 use Rattle.cg_script.specs.declared.Script.{Script}
 use Rattle.cg_graph.specs.Object.{Object, is_at}
 use Rattle.cg_machine.specs.Program.{procedures}
-use Rattle.cg_machine.specs.World.{World, Activity, TopLevel, Framed, Releasing, Dying, Collecting, DyingPhase, Finalizer, AfterFinalizer, Clearing, Calling, AfterCall, LegacyFinalizer, AfterLegacy, Detaching, Emptying, CollectPhase, Start, WeakClearing, WeakCalling, AfterCallback, AfterRelease, Finalizing, AfterFinalizing, Split, Turns, Turn, AfterTurn, Ending, Outcome, Running, Ended, BudgetIsSpent}
+use Rattle.cg_machine.specs.World.{World, Activity, TopLevel, Framed, Releasing, Dying, Collecting, ShuttingDown, DyingPhase, Finalizer, AfterFinalizer, Clearing, Calling, AfterCall, LegacyFinalizer, AfterLegacy, Detaching, Emptying, CollectPhase, Start, WeakClearing, WeakCalling, AfterCallback, AfterRelease, Finalizing, AfterFinalizing, Split, Turns, Turn, AfterTurn, Ending, Outcome, Running, Ended, BudgetIsSpent}
 use Rattle.cg_machine.specs.Due.{is_due}
 use Rattle.cg_machine.proofs.Tally.{tally, bit}
 
 -- 1. Commands that can still run: those on the stack, and for each frame left in the budget one for its start and the bodies of the script.
+-- Each weighs two, since it may bind a name, and a bound name weighs one, since the shutdown gives it up.
 abbrev pub alive : Outcome → ℕ
 alive Running = 1
 alive Ended = 0
 alive BudgetIsSpent = 0
 
 abbrev pub commands_in : Activity → ℕ
-commands_in (TopLevel commands) = length commands
-commands_in (Framed f) = length f.commands
+commands_in (TopLevel commands) = 2 * length commands + 2
+commands_in (Framed f) = 2 * length f.commands
+commands_in (ShuttingDown started) = bit (not started)
 commands_in _ = 0
 
 abbrev pub all_bodies : Script → ℕ
 all_bodies script = tally (λ p. length p.body) (procedures script.items)
 
+abbrev pub bound_names : List (Option Val) → ℕ
+bound_names names = tally (λ v. bit (is_some v)) names
+
 abbrev pub commands_left : Script → World → ℕ
-commands_left script w = alive w.outcome + w.budget * suc (all_bodies script) + tally commands_in w.stack
+commands_left script w = alive w.outcome + 2 * (w.budget * suc (all_bodies script)) + tally commands_in w.stack + bound_names w.names
 
 -- 2. Whether a collection is due by the numbers, and whether one that is on the stack will end that with its start.
 abbrev pub is_first : CollectPhase → Bool

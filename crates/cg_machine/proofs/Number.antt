@@ -91,7 +91,3 @@ pub step_falls : (script : Script) (w : World) (events : List Event) (after : Wo
 step_falls script w events after step sound =
     let moves = step_moves script w events after step sound in
     (moves.sound, falls (summary script after) (summary script w) (bounded script after moves.sound) moves.lower)
-
--- It reads neither the names nor the next serial: the outcome, the budget, the numbers, the objects and the stack are enough.
-pub number_reads : (script : Script) (w : World) → number_of script w ≡ number_of script (record w { names = []; next_serial = 0 })
-number_reads script w = refl

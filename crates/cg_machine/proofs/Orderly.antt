@@ -12,7 +12,7 @@ use Rattle.cg_graph.specs.Object.{Object, change, without, serials, with_entries
 use Rattle.cg_graph.specs.Holdings.{name_holdings, occurrences}
 use Rattle.cg_graph.proofs.Members.{either, Includes-append_left, Includes-append_right, Includes-append_cases, Includes-map, Includes-map_cases, Includes-filter, Includes-filter_cases}
 use Rattle.cg_graph.proofs.Objects.{occurrences-append}
-use Rattle.cg_machine.specs.World.{Activity, TopLevel, Framed, Releasing, Dying, Collecting, Death, DyingPhase, Finalizer, AfterFinalizer, Clearing, Calling, AfterCall, LegacyFinalizer, AfterLegacy, Detaching, Emptying, Collection, CollectPhase, Start, WeakClearing, WeakCalling, AfterCallback, AfterRelease, Finalizing, AfterFinalizing, Split, Turns, Turn, AfterTurn, Ending}
+use Rattle.cg_machine.specs.World.{Activity, TopLevel, Framed, Releasing, Dying, Collecting, ShuttingDown, Death, DyingPhase, Finalizer, AfterFinalizer, Clearing, Calling, AfterCall, LegacyFinalizer, AfterLegacy, Detaching, Emptying, Collection, CollectPhase, Start, WeakClearing, WeakCalling, AfterCallback, AfterRelease, Finalizing, AfterFinalizing, Split, Turns, Turn, AfterTurn, Ending}
 use Rattle.cg_machine.specs.Holdings.{holds, dying_holds, collect_holds}
 use Rattle.cg_machine.specs.Weak.{callback_in, is_function}
 use Rattle.cg_machine.specs.Collect.{is_condemned}
@@ -31,6 +31,14 @@ abbrev pub IsClearing : List Activity → Type 0
 IsClearing (Collecting c ∷ below) = IsClearingPhase c.phase
 IsClearing stack = ⊥
 
+-- A condemned object may have a referent while the collection clears weak references; later only where it has no callback.
+abbrev pub MayRefer : List Entry → List Activity → Type 0
+MayRefer entries stack = IsClearing stack ⊎ (callback_in entries ≡ None)
+
+-- no callback of an object is to come
+abbrev pub CallsNone : Object → Type 0
+CallsNone x = (x.referent ≡ None) ⊎ (callback_in x.entries ≡ None)
+
 pub record Orderly (objects : List Object) (names : List (Option Val)) (stack : List Activity) : Type 0 where
   pub names_live : (o : ℕ) → Includes (name_holdings names) o → Includes (serials objects) o
   pub root_lives : Includes (serials objects) 1
@@ -42,8 +50,8 @@ pub record Orderly (objects : List Object) (names : List (Option Val)) (stack : 
   pub garbage : (x : Object) → Includes objects x → x.serial ≡ 1 → x.code ≡ ListKind
   pub waiting : (weak : ℕ) → Includes (all_waits stack) weak → (x : Object) → Includes objects x → x.serial ≡ weak → IsWaiting x
   pub once : (weak : ℕ) → occurrences weak (all_waits stack) ≤ 1
-  pub condemned : (x : Object) → Includes objects x → is_condemned x ≡ true → (¬ Includes (all_waits stack) x.serial) × ((x.referent ≡ None) ⊎ IsClearing stack)
-  pub turns : (c : Collection) → Includes stack (Collecting c) → (o : ℕ) → c.phase ≡ Turn o → (¬ Includes (all_waits stack) o) × ((x : Object) → Includes objects x → x.serial ≡ o → x.referent ≡ None)
+  pub condemned : (x : Object) → Includes objects x → is_condemned x ≡ true → (¬ Includes (all_waits stack) x.serial) × ((x.referent ≡ None) ⊎ MayRefer x.entries stack)
+  pub turns : (c : Collection) → Includes stack (Collecting c) → (o : ℕ) → c.phase ≡ Turn o → (¬ Includes (all_waits stack) o) × ((x : Object) → Includes objects x → x.serial ≡ o → CallsNone x)
 
 -- where an object after a change comes from
 pub record From (before : List Object) (stack : List Activity) (y : Object) : Type 0 where
@@ -53,6 +61,7 @@ pub record From (before : List Object) (stack : List Activity) (y : Object) : Ty
   pub same : Includes (all_waits stack) y.serial → callback_in y.entries ≡ callback_in was.entries
   pub live : (f : ℕ) → Includes (references y.entries) f → Includes (serials before) f
   pub fewer : y.code ≡ Weak → (f : ℕ) → Includes (references y.entries) f → Includes (references was.entries) f
+  pub quiet : y.code ≡ Weak → callback_in was.entries ≡ None → callback_in y.entries ≡ None
   pub condemned : is_condemned y ≡ true → (is_condemned was ≡ true) ⊎ IsClearing stack × (¬ Includes (all_waits stack) y.serial)
 
 function_after : (before after : List Object) → Alters before after → (f : ℕ) → HasFunction before f → HasFunction after f
@@ -78,12 +87,23 @@ objects_orderly before after names stack alters from h = record {
       let was = h.waiting weak k x.was x.member (sym x.later.serial ∙ e) in
       record { code = x.later.code ∙ was.code; referent = none_later x.was y x.later was.referent; callback = λ n. was.callback (sym (x.same (subst (Includes (all_waits stack)) (sym e) k)) ∙ n) };
   once = h.once;
-  condemned = λ y m e. let x = from y m in either (x.condemned e) (λ k. let was = h.condemned x.was x.member k in (λ n. was.0 (subst (Includes (all_waits stack)) x.later.serial n), either was.1 (λ n. inl (none_later x.was y x.later n)) (λ n. inr n))) (λ k. (k.1, inr k.0));
-  turns = λ c m o e. let t = h.turns c m o e in (t.0, λ y k i. let x = from y k in none_later x.was y x.later (t.1 x.was x.member (sym x.later.serial ∙ i)));
+  condemned = λ y m e. let x = from y m in either (x.condemned e) (λ k. let was = h.condemned x.was x.member k in (λ n. was.0 (subst (Includes (all_waits stack)) x.later.serial n), either was.1 (λ n. inl (none_later x.was y x.later n)) (λ r. still_may y x r))) (λ k. (k.1, inr (inl k.0)));
+  turns = λ c m o e. let t = h.turns c m o e in (t.0, λ y k i. let x = from y k in either (t.1 x.was x.member (sym x.later.serial ∙ i)) (λ n. inl (none_later x.was y x.later n)) (λ n. calls_none y x n));
 }
   where
     lives : (o : ℕ) → Includes (serials before) o → Includes (serials after) o
     lives o m = lives_after before after alters o m
+
+    calls_none : (y : Object) (x : From before stack y) → callback_in x.was.entries ≡ None → CallsNone y
+    calls_none y x n = go y.referent refl
+      where
+        go : (r : Option ℕ) → y.referent ≡ r → CallsNone y
+        go None e = inl e
+        go (Some r) e = inr (x.quiet (x.later.code ∙ h.codes x.was x.member r (some_later x.was y x.later r e)) n)
+
+    still_may : (y : Object) (x : From before stack y) → MayRefer x.was.entries stack → (y.referent ≡ None) ⊎ MayRefer y.entries stack
+    still_may y x (inl clearing) = inr (inl clearing)
+    still_may y x (inr t) = either (calls_none y x t) (λ e. inl e) (λ e. inr (inr e))
 
 -- a change of places, referents or marks
 pub from_same : (objects : List Object) (stack : List Activity) (names : List (Option Val)) (x y : Object) → Orderly objects names stack → Includes objects x → IsLater x y → y.entries ≡ x.entries → (is_condemned y ≡ true → (is_condemned x ≡ true) ⊎ IsClearing stack × (¬ Includes (all_waits stack) y.serial)) → From objects stack y
@@ -94,6 +114,7 @@ from_same objects stack names x y h m later entries condemned = record {
   same = λ k. ap callback_in entries;
   live = λ f k. h.entries_live x m f (subst (λ es. Includes (references es) f) entries k);
   fewer = λ e f k. subst (λ es. Includes (references es) f) entries k;
+  quiet = λ e n. ap callback_in entries ∙ n;
   condemned = condemned;
 }
 
@@ -115,8 +136,9 @@ if_orderly f test objects names stack later entries condemned h = objects_orderl
 
 -- one gets other entries, which it had, or which live where it is no weak reference
 pub entries_orderly : (s : ℕ) (es : List Entry) (objects : List Object) (names : List (Option Val)) (stack : List Activity) → (¬ Includes (all_waits stack) s) → ((f : ℕ) → Includes (references es) f → Includes (serials objects) f)
-    → ((x : Object) → Includes objects x → x.serial ≡ s → x.code ≡ Weak → (f : ℕ) → Includes (references es) f → Includes (references x.entries) f) → Orderly objects names stack → Orderly (change (with_entries es) s objects) names stack
-entries_orderly s es objects names stack apart live fewer h = objects_orderly objects (map change_of objects) names stack (entries_alter es s objects) from h
+    → ((x : Object) → Includes objects x → x.serial ≡ s → x.code ≡ Weak → (f : ℕ) → Includes (references es) f → Includes (references x.entries) f) → ((x : Object) → Includes objects x → x.serial ≡ s → x.code ≡ Weak → callback_in x.entries ≡ None → callback_in es ≡ None)
+    → Orderly objects names stack → Orderly (change (with_entries es) s objects) names stack
+entries_orderly s es objects names stack apart live fewer quiet h = objects_orderly objects (map change_of objects) names stack (entries_alter es s objects) from h
   where
     change_of : Object → Object
     change_of x = if x.serial == s then with_entries es x else x
@@ -129,6 +151,7 @@ entries_orderly s es objects names stack apart live fewer h = objects_orderly ob
       same = λ k. absurd (apart (subst (Includes (all_waits stack)) (eqb-true x.serial s e) k));
       live = live;
       fewer = λ w. fewer x m (eqb-true x.serial s e) w;
+      quiet = λ w. quiet x m (eqb-true x.serial s e) w;
       condemned = λ k. inl k;
     }
     one false x e m = from_same objects stack names x x h m (later_refl x) refl (λ k. inl k)
@@ -150,7 +173,7 @@ push_orderly a objects names stack none still held death turn h = record {
   garbage = h.garbage;
   waiting = λ weak m. h.waiting weak (subst (λ ws. Includes ws weak) same m);
   once = λ weak. subst (λ ws. occurrences weak ws ≤ 1) (sym same) (h.once weak);
-  condemned = λ x m e. let k = h.condemned x m e in (λ n. k.0 (subst (λ ws. Includes ws x.serial) same n), either k.1 (λ n. inl n) (λ n. absurd (still n)));
+  condemned = λ x m e. let k = h.condemned x m e in (λ n. k.0 (subst (λ ws. Includes ws x.serial) same n), either k.1 (λ n. inl n) (λ r. either r (λ n. absurd (still n)) (λ t. inr (inr t))));
   turns = λ c m o e. either m (λ i. absurd (turn c o i e)) (λ k. let t = h.turns c k o e in (λ n. t.0 (subst (λ ws. Includes ws o) same n), t.1));
 }
   where
@@ -170,7 +193,7 @@ pop_orderly a objects names below still h = record {
   garbage = h.garbage;
   waiting = λ weak m. h.waiting weak (later weak m);
   once = λ weak. let all = h.once weak in omega (arith, all, occurrences-append weak (waits_of a) (all_waits below));
-  condemned = λ x m e. let k = h.condemned x m e in (λ n. k.0 (later x.serial n), either k.1 (λ n. inl n) (λ n. absurd (still n)));
+  condemned = λ x m e. let k = h.condemned x m e in (λ n. k.0 (later x.serial n), either k.1 (λ n. inl n) (λ r. either r (λ n. absurd (still n)) (λ t. inr (inr t))));
   turns = λ c m o e. let t = h.turns c (inr m) o e in (λ n. t.0 (later o n), t.1);
 }
   where
@@ -184,8 +207,8 @@ pub record TurnsTo (a b : Activity) (objects : List Object) (below : List Activi
   pub waits : (weak : ℕ) → Includes (waits_of b) weak → Includes (waits_of a) weak ⊎ (¬ Includes (all_waits (a ∷ below)) weak) × ((x : Object) → Includes objects x → x.serial ≡ weak → IsWaiting x × (is_condemned x ≡ false))
   pub apart : (c : Collection) → Includes below (Collecting c) → (o : ℕ) → c.phase ≡ Turn o → ¬ Includes (waits_of b) o
   pub once : (weak : ℕ) → occurrences weak (waits_of b) + occurrences weak (all_waits below) ≤ 1
-  pub turn : (c : Collection) (o : ℕ) → b ≡ Collecting c → c.phase ≡ Turn o → (¬ Includes (all_waits (b ∷ below)) o) × ((x : Object) → Includes objects x → x.serial ≡ o → x.referent ≡ None)
-  pub clearing : (x : Object) → Includes objects x → is_condemned x ≡ true → IsClearing (a ∷ below) → (x.referent ≡ None) ⊎ IsClearing (b ∷ below)
+  pub turn : (c : Collection) (o : ℕ) → b ≡ Collecting c → c.phase ≡ Turn o → (¬ Includes (all_waits (b ∷ below)) o) × ((x : Object) → Includes objects x → x.serial ≡ o → CallsNone x)
+  pub clearing : (x : Object) → Includes objects x → is_condemned x ≡ true → MayRefer x.entries (a ∷ below) → (x.referent ≡ None) ⊎ MayRefer x.entries (b ∷ below)
 
 pub turn_orderly : (a b : Activity) (objects : List Object) (names : List (Option Val)) (below : List Activity) → TurnsTo a b objects below → Orderly objects names (a ∷ below) → Orderly objects names (b ∷ below)
 turn_orderly a b objects names below t h = record {
@@ -215,8 +238,8 @@ turn_orderly a b objects names below t h = record {
 -- no more waits
 pub turns_fewer : (a b : Activity) (objects : List Object) (names : List (Option Val)) (below : List Activity) → Orderly objects names (a ∷ below) → ((o : ℕ) → Includes (holds b) o → Includes (serials objects) o) → ((d : Death) → b ≡ Dying d → Includes (serials objects) d.object)
     → ((weak : ℕ) → Includes (waits_of b) weak → Includes (waits_of a) weak) → ((weak : ℕ) → occurrences weak (waits_of b) ≤ occurrences weak (waits_of a))
-    → ((c : Collection) (o : ℕ) → b ≡ Collecting c → c.phase ≡ Turn o → (¬ Includes (all_waits (a ∷ below)) o) × ((x : Object) → Includes objects x → x.serial ≡ o → x.referent ≡ None))
-    → ((x : Object) → Includes objects x → is_condemned x ≡ true → IsClearing (a ∷ below) → (x.referent ≡ None) ⊎ IsClearing (b ∷ below)) → Orderly objects names (b ∷ below)
+    → ((c : Collection) (o : ℕ) → b ≡ Collecting c → c.phase ≡ Turn o → (¬ Includes (all_waits (a ∷ below)) o) × ((x : Object) → Includes objects x → x.serial ≡ o → CallsNone x))
+    → ((x : Object) → Includes objects x → is_condemned x ≡ true → MayRefer x.entries (a ∷ below) → (x.referent ≡ None) ⊎ MayRefer x.entries (b ∷ below)) → Orderly objects names (b ∷ below)
 turns_fewer a b objects names below h held death fewer count turn clearing = turn_orderly a b objects names below (record {
   held = held;
   death = death;
@@ -231,7 +254,7 @@ turns_fewer a b objects names below h held death fewer count turn clearing = tur
 pub turns_more : (a b : Activity) (s : ℕ) (objects : List Object) (names : List (Option Val)) (below : List Activity) → Orderly objects names (a ∷ below) → ((o : ℕ) → Includes (holds b) o → Includes (serials objects) o) → ((d : Death) → b ≡ Dying d → Includes (serials objects) d.object)
     → waits_of b ≡ waits_of a ++ s ∷ [] → (¬ Includes (all_waits (a ∷ below)) s) → ((x : Object) → Includes objects x → x.serial ≡ s → IsWaiting x × (is_condemned x ≡ false))
     → ((c : Collection) → Includes below (Collecting c) → (o : ℕ) → c.phase ≡ Turn o → s ≢ o) → ((c : Collection) (o : ℕ) → b ≡ Collecting c → c.phase ≢ Turn o)
-    → ((x : Object) → Includes objects x → is_condemned x ≡ true → IsClearing (a ∷ below) → (x.referent ≡ None) ⊎ IsClearing (b ∷ below)) → Orderly objects names (b ∷ below)
+    → ((x : Object) → Includes objects x → is_condemned x ≡ true → MayRefer x.entries (a ∷ below) → (x.referent ≡ None) ⊎ MayRefer x.entries (b ∷ below)) → Orderly objects names (b ∷ below)
 turns_more a b s objects names below h held death more new is apart turn clearing = turn_orderly a b objects names below (record {
   held = held;
   death = death;
@@ -275,6 +298,7 @@ waits_are_held (Dying d) weak m = death d.phase m
     death AfterLegacy k = absurd k
     death Detaching k = absurd k
     death Emptying k = absurd k
+waits_are_held (ShuttingDown started) weak m = absurd m
 waits_are_held (Collecting c) weak m = collection c.phase m
   where
     collection : (phase : CollectPhase) → Includes (collection_waits phase) weak → Includes (collect_holds phase) weak

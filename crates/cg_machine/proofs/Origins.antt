@@ -16,7 +16,7 @@ use Rattle.cg_machine.specs.declared.event.Event.TheVariants.{Alive, BudgetSpent
 use Rattle.cg_machine.specs.declared.event.FrameSort.{FrameSort}
 use Rattle.cg_machine.specs.declared.event.FrameSort.TheVariants.{Del, Legacy as LegacyFrame, Callback, Call}
 use Rattle.cg_machine.specs.declared.event.FrameSpec.{FrameSpec}
-use Rattle.cg_machine.specs.Program.{body_of, commands_of, legacy_of, procedures}
+use Rattle.cg_machine.specs.Program.{body_of, commands_of, legacy_of, procedures, profile_of}
 use Rattle.cg_machine.specs.World.{World, Activity, Framed, Releasing, Dying, Collecting, Frame, DyingPhase, Finalizer, AfterFinalizer, Clearing, Calling, AfterCall, LegacyFinalizer, AfterLegacy, Detaching, Emptying, Collection, CollectPhase, Start, WeakClearing, WeakCalling, AfterCallback, AfterRelease, Finalizing, AfterFinalizing, Split, Turns, Turn, AfterTurn, Ending, BudgetIsSpent, with_stack, with_change, with_objects}
 use Rattle.cg_machine.specs.Holdings.{in_degree, is_dying}
 use Rattle.cg_machine.specs.Frame.{Transition, start_frame, frame_end, gives_up_function, begin_death, released, procedure_of}
@@ -192,7 +192,7 @@ module _ (script : Script) (c : Collection) (below : List Activity) (v : World) 
       now : List Object
       now = (merged c.generation v).objects
 
-  weak_clearing_origin : (waiting : List ℕ) (events : List Event) (after : World) → WeakClearingStep c waiting below (with_phase (WeakClearing waiting)) events after → IsAllOfScript script after
+  weak_clearing_origin : (waiting : List ℕ) (events : List Event) (after : World) → WeakClearingStep (profile_of script.items) c waiting below (with_phase (WeakClearing waiting)) events after → IsAllOfScript script after
   weak_clearing_origin waiting events after (inl step) = to after _ step.yields.1 (go (waits v.objects step.weak))
     where
       lost : List Object

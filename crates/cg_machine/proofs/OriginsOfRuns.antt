@@ -11,7 +11,7 @@ use Rattle.cg_graph.proofs.Members.{either, Includes-append_left, Includes-appen
 use Rattle.cg_machine.specs.declared.event.Event.{Event}
 use Rattle.cg_machine.specs.declared.event.FrameSort.TheVariants.{Call as CallFrame}
 use Rattle.cg_machine.specs.Program.{commands_of, procedures}
-use Rattle.cg_machine.specs.World.{World, Activity, TopLevel, Framed, Dying, Collecting, opening}
+use Rattle.cg_machine.specs.World.{World, Activity, TopLevel, Framed, Dying, Collecting, opening, ShuttingDown}
 use Rattle.cg_machine.specs.Frame.{procedure_of}
 use Rattle.cg_machine.specs.Effects.{Changes}
 use Rattle.cg_machine.specs.Run.{Step}
@@ -40,6 +40,7 @@ module _ (script : Script) where
   stopped : (a : Activity) (below : List Activity) (objects : List Object) → HasCommands a → AreOfScript script objects (a ∷ below) → AreOfScript script objects (emptied a ∷ below)
   stopped (TopLevel commands) below objects ha h = let rest = popped_origin script objects (TopLevel commands) below h in record { commands = rest.commands; objects = rest.objects }
   stopped (Framed f) below objects ha h = let rest = popped_origin script objects (Framed f) below h in record { commands = rest.commands; objects = rest.objects }
+  stopped (ShuttingDown started) below objects ha h = h
   stopped a below objects ha h = absurd ha
 
   command_origin : (w : World) (command : Command) (b : Activity) (below : List Activity) (v : World) → HasCommands b → AreOfScript script v.objects (b ∷ below) × Includes (all_commands script) command → CommandSteps script (λ w events. IsAllOfScript script) w command (on b below v) b below
@@ -57,7 +58,10 @@ module _ (script : Script) where
   keeps_origin : Steps script (λ w. Unit {0} × IsAllOfScript script w) (λ w events. IsAllOfScript script)
   keeps_origin = record {
     starts_due = λ a below v ha g e k. record { commands = k.1.commands; objects = k.1.objects };
-    ends = λ below v k. k.1;
+    ends = λ a lines below v last k. k.1;
+    shuts_down = λ below v k. record { commands = k.1.commands; objects = k.1.objects };
+    gives_up = λ name below v e k. record { commands = k.1.commands; objects = k.1.objects };
+    collects_last = λ below v k. record { commands = k.1.commands; objects = k.1.objects };
     commands = λ command a b below v takes hb k. command_origin (on a below v) command b below v hb (taken command a b below v.objects takes k.1);
     frame_ends = λ f below v left k. frame_end_origin script f below v k.1;
     releases = λ references below v k. released_origin script references below v k.1;

@@ -1,19 +1,22 @@
 -- A plain executor of the machine, and that each of its steps is one. So no world that runs is stuck.
-use Rattle.std.proofs.Common.{◌≡◌, refl, ℕ, zero, suc, List, [], ◌∷◌, Option, Some, None, Result, Ok, Err, Bool, true, false, inl, if◌then◌else◌, T, ◌&&◌}
+use Rattle.std.proofs.Common.{◌≡◌, refl, ℕ, zero, suc, List, [], ◌∷◌, Option, Some, None, Result, Ok, Err, Bool, true, false, inl, if◌then◌else◌, T, ◌&&◌, inr}
 use Rattle.cg_script.specs.declared.Script.{Script}
 use Rattle.cg_script.specs.declared.Command.{Command}
 use Rattle.cg_machine.specs.declared.event.Event.{Event}
 use Rattle.cg_machine.specs.declared.event.Event.TheVariants.{End, Collected}
 use Rattle.cg_machine.specs.declared.event.FrameSort.TheVariants.{Call as CallFrame}
-use Rattle.cg_machine.specs.World.{World, Activity, TopLevel, Framed, Releasing, Dying, Collecting, Frame, Outcome, Running, Ended, BudgetIsSpent, push, with_stack}
+use Rattle.cg_machine.specs.World.{World, Activity, TopLevel, Framed, Releasing, Dying, Collecting, Frame, Outcome, Running, Ended, BudgetIsSpent, push, with_stack, ShuttingDown}
 use Rattle.cg_machine.specs.Holdings.{is_collecting}
 use Rattle.cg_machine.specs.Frame.{Transition, frame_end, released, start_frame, procedure_of}
 use Rattle.cg_machine.specs.Dying.{dying}
-use Rattle.cg_machine.specs.Effects.{Effect, Changes, Calls, Collects, Quits}
+use Rattle.cg_machine.specs.Effects.{Effect, Changes, Calls, Collects, Explains, Quits}
 use Rattle.cg_machine.specs.Commands.{effect, refused, DoesEffect, new_collection, without_commands}
 use Rattle.cg_machine.specs.Due.{due}
 use Rattle.cg_machine.proofs.PlainCollect.{plain_phase, plain_phase_steps}
 use Rattle.cg_machine.specs.Run.{StepTaken, Step, StepOf, Run, TopLevelStep, CommandInFrame, FrameStep}
+use Rattle.cg_machine.specs.Program.{declares_shutdown}
+use Rattle.cg_machine.specs.Shutdown.{greatest_bound, shut_down, after_commands}
+use Rattle.cg_machine.specs.Refusals.{no_memory}
 
 -- memory is never refused
 abbrev pub taken : Script → World → Result Effect ℕ → Transition
@@ -21,6 +24,7 @@ taken script w (Err refusal) = refused refusal w
 taken script w (Ok (Changes wants_memory lines given_up with_change)) = (lines, push (Releasing given_up) with_change)
 taken script w (Ok (Calls f)) = start_frame script (record { sort = CallFrame; proc = procedure_of w f; subject = f; func = Some f }) w
 taken script w (Ok (Collects g)) = if is_collecting w then (Collected 0 ∷ [], w) else ([], push (new_collection g true w) w)
+taken script w (Ok (Explains o)) = refused no_memory w
 taken script w (Ok Quits) = ([], with_stack (without_commands w.stack) w)
 
 pub taken_does : (script : Script) (w : World) (r : Result Effect ℕ) → DoesEffect script w r (taken script w r).0 (taken script w r).1
@@ -28,11 +32,12 @@ taken_does script w (Err refusal) = (refl, refl)
 taken_does script w (Ok (Changes wants_memory lines given_up with_change)) = inl (refl, refl)
 taken_does script w (Ok (Calls f)) = (refl, refl)
 taken_does script w (Ok (Collects g)) = (refl, refl)
+taken_does script w (Ok (Explains o)) = inr (refl, refl)
 taken_does script w (Ok Quits) = (refl, refl)
 
 abbrev pub top_level : Script → World → Option ℕ → List Command → List Activity → Transition
 top_level script w (Some g) commands below = ([], push (new_collection g false w) w)
-top_level script w None [] below = (End ∷ [], record w { outcome = Ended })
+top_level script w None [] below = after_commands (declares_shutdown script.items) below w
 top_level script w None (command ∷ commands) below = taken script (with_stack (TopLevel commands ∷ below) w) (effect (with_stack (TopLevel commands ∷ below) w) command)
 
 pub top_level_steps : (script : Script) (w : World) (d : Option ℕ) (commands : List Command) (below : List Activity) → TopLevelStep script w d commands below (top_level script w d commands below).0 (top_level script w d commands below).1
@@ -63,6 +68,7 @@ next_on script w (Framed f ∷ below) = framed script w f f.commands below
 next_on script w (Releasing references ∷ below) = released references below w
 next_on script w (Dying d ∷ below) = dying script d.object d.phase below w
 next_on script w (Collecting c ∷ below) = plain_phase script c c.phase below w
+next_on script w (ShuttingDown started ∷ below) = shut_down started (greatest_bound w) below w
 
 -- something runs
 abbrev pub HasTop : List Activity → Type 0
@@ -76,6 +82,7 @@ next_steps script w (Framed f ∷ below) h = framed_steps script w f f.commands 
 next_steps script w (Releasing references ∷ below) h = (refl, refl)
 next_steps script w (Dying d ∷ below) h = (refl, refl)
 next_steps script w (Collecting c ∷ below) h = plain_phase_steps script c c.phase below w
+next_steps script w (ShuttingDown started ∷ below) h = (refl, refl)
 
 -- Progress: a running world with an activity has a step.
 pub progress : (script : Script) (w : World) → w.outcome ≡ Running → HasTop w.stack → (events : List Event) × (after : World) × Step script w events after

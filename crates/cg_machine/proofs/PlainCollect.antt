@@ -19,6 +19,7 @@ use Rattle.cg_machine.specs.Collect.{merged, start_world, StartStep, WeakClearin
 use Rattle.cg_machine.proofs.Garbage.{survivors, survivors_survive, Survives-survivors}
 use Rattle.cg_machine.proofs.Sorting.{plain_chosen, plain_places, plain_sorts}
 use Rattle.cg_machine.proofs.Clearing.{newest, newest_spec, IsGreatest, greatest_is_newest, clears, plain_lose}
+use Rattle.cg_machine.specs.Program.{profile_of}
 
 -- each once
 abbrev pub distinct_at : Bool → ℕ → List ℕ → List ℕ
@@ -88,10 +89,10 @@ abbrev pub plain_weak_at : Collection → List ℕ → List Activity → World �
 plain_weak_at c waiting below w None = ([], collection_at c (WeakCalling waiting) below w)
 plain_weak_at c waiting below w (Some y) = clears_one c waiting below w y.serial
 
-plain_weak_steps_at : (c : Collection) (waiting : List ℕ) (below : List Activity) (w : World) (o : Option Object) → IsGreatest (loses_in_weak_phase w.objects) w.objects o
-    → WeakClearingStep c waiting below w (plain_weak_at c waiting below w o).0 (plain_weak_at c waiting below w o).1
-plain_weak_steps_at c waiting below w None none = inr (none, (refl, refl))
-plain_weak_steps_at c waiting below w (Some y) some = inl (record { weak = y.serial; newest = greatest_is_newest (loses_in_weak_phase w.objects) w.objects y some; yields = (refl, refl) })
+plain_weak_steps_at : (profile : ℕ) (c : Collection) (waiting : List ℕ) (below : List Activity) (w : World) (o : Option Object) → IsGreatest (loses_in_weak_phase profile w.objects) w.objects o
+    → WeakClearingStep profile c waiting below w (plain_weak_at c waiting below w o).0 (plain_weak_at c waiting below w o).1
+plain_weak_steps_at profile c waiting below w None none = inr (none, (refl, refl))
+plain_weak_steps_at profile c waiting below w (Some y) some = inl (record { weak = y.serial; newest = greatest_is_newest (loses_in_weak_phase profile w.objects) w.objects y some; yields = (refl, refl) })
 
 -- the finalizer phase
 abbrev pub plain_finalizing : Script → Collection → List Activity → World → List ℕ → Transition
@@ -160,7 +161,7 @@ plain_end_steps script c below w = record {
 
 abbrev pub plain_phase : Script → Collection → CollectPhase → List Activity → World → Transition
 plain_phase script c Start below w = plain_start script c below w
-plain_phase script c (WeakClearing waiting) below w = plain_weak_at c waiting below w (newest (loses_in_weak_phase w.objects) w.objects)
+plain_phase script c (WeakClearing waiting) below w = plain_weak_at c waiting below w (newest (loses_in_weak_phase (profile_of script.items) w.objects) w.objects)
 plain_phase script c (WeakCalling waiting) below w = calls_back script c waiting below w
 plain_phase script c (AfterCallback weak waiting) below w = ([], push (Releasing (weak ∷ [])) (collection_at c (AfterRelease weak waiting) below w))
 plain_phase script c (AfterRelease weak waiting) below w = after_release c weak waiting below w
@@ -174,7 +175,7 @@ plain_phase script c Ending below w = plain_end script c below w
 
 pub plain_phase_steps : (script : Script) (c : Collection) (phase : CollectPhase) (below : List Activity) (w : World) → PhaseStep script c phase below w (plain_phase script c phase below w).0 (plain_phase script c phase below w).1
 plain_phase_steps script c Start below w = plain_start_steps script c below w
-plain_phase_steps script c (WeakClearing waiting) below w = plain_weak_steps_at c waiting below w (newest (loses_in_weak_phase w.objects) w.objects) (newest_spec (loses_in_weak_phase w.objects) w.objects)
+plain_phase_steps script c (WeakClearing waiting) below w = plain_weak_steps_at (profile_of script.items) c waiting below w (newest (loses_in_weak_phase (profile_of script.items) w.objects) w.objects) (newest_spec (loses_in_weak_phase (profile_of script.items) w.objects) w.objects)
 plain_phase_steps script c (WeakCalling waiting) below w = (refl, refl)
 plain_phase_steps script c (AfterCallback weak waiting) below w = (refl, refl)
 plain_phase_steps script c (AfterRelease weak waiting) below w = (refl, refl)

@@ -21,12 +21,13 @@ use Rattle.cg_machine.specs.declared.event.Event.{Event}
 use Rattle.cg_machine.specs.declared.event.Event.TheVariants.{Made, Value}
 use Rattle.cg_machine.specs.World.{World, Frame, Numbers, with_change}
 use Rattle.cg_machine.specs.Operands.{frame_on, is_dict, self_in, value_of, weak_in}
-use Rattle.cg_machine.specs.Effects.{Effect, Changes, Calls, Collects, Quits, bound, with_new, frozen, may_track, replaced, tracked_by, unfrozen}
+use Rattle.cg_machine.specs.Effects.{Effect, Changes, Calls, Collects, Explains, Quits, bound, with_new, frozen, may_track, replaced, tracked_by, unfrozen}
 use Rattle.cg_machine.specs.Lines.{IsPrintable}
-use Rattle.cg_machine.proofs.Shapes.{IsAtHand, Word, ValueIn, KeyIn, ReferentOf, TellsNumbers, Shape, Binds, Makes, Edits, Puts, Shows, Tells, Stays, Sets, Freezes, Unfreezes, StartsFrame, StartsCollection, Ends}
+use Rattle.cg_machine.proofs.Shapes.{IsAtHand, Word, ValueIn, KeyIn, ReferentOf, TellsNumbers, Shape, Binds, Makes, Edits, Puts, Shows, Tells, Stays, Sets, Freezes, Unfreezes, StartsFrame, StartsCollection, Ends, Inspects, AsksWhy}
 use Rattle.cg_machine.proofs.Lookups.{slice_get_member}
 use Rattle.cg_machine.proofs.PrintableTexts.{HasText, EntryHasTexts, HaveTexts, WorldHasTexts, KeepsTexts, NamesTexts, set_member, text_printable, entries_put, entries_texts, mapped_texts, changed_texts}
 use Rattle.cg_machine.proofs.PrintableSteps.{Prints, silent, says}
+use Rattle.cg_machine.proofs.Inspecting.{TellsThere}
 
 module _ (texts : List (List ℕ)) (short : All (λ text. length text ≤ 1024) texts) (w : World) (known : WorldHasTexts (length texts) w) where
   -- what an effect prints and leaves
@@ -34,6 +35,7 @@ module _ (texts : List (List ℕ)) (short : All (λ text. length text ≤ 1024) 
   EffectPrints (Changes wants_memory lines given_up after) = Prints texts lines after
   EffectPrints (Calls f) = Unit {0}
   EffectPrints (Collects g) = Unit {0}
+  EffectPrints (Explains o) = Unit {0}
   EffectPrints Quits = Unit {0}
 
   -- a value with its text
@@ -141,6 +143,10 @@ module _ (texts : List (List ℕ)) (short : All (λ text. length text ≤ 1024) 
   numbers_printable (Value v) h = absurd h
   numbers_printable line h = tt
 
+  there_printable : (line : Event) → TellsThere w line → IsPrintable texts line
+  there_printable (Value v) h = absurd h
+  there_printable line h = tt
+
   pub shape_prints : (command : Command) → NamesTexts (length texts) command → (e : Effect) → Shape w command e → EffectPrints e
   shape_prints command named e (Binds name v own hand) = silent texts _ (record { names = bound_texts name v (λ u i. hand_known command named u (hand u i)); objects = known.objects })
   shape_prints command named e (Makes name kind class entries referent own parts) = makes_prints name kind class entries referent (λ e m. let i = parts.items e m in item_known command named e i.0 i.1)
@@ -155,3 +161,5 @@ module _ (texts : List (List ℕ)) (short : All (λ text. length text ≤ 1024) 
   shape_prints command named e (StartsFrame f h) = tt
   shape_prints command named e (StartsCollection g low) = tt
   shape_prints command named e Ends = tt
+  shape_prints command named e (Inspects lines calm there) = record { lines = λ line m. there_printable line (there line m); known = known }
+  shape_prints command named e (AsksWhy x h calm) = tt

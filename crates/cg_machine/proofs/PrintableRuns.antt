@@ -1,5 +1,5 @@
 -- Each line of a run of a script that names its own texts alone, each of them short, can be printed.
-use Rattle.std.proofs.Common.{◌≡◌, sym, refl, subst, ℕ, ◌≤◌, inl, List, [], ◌∷◌, length, Some, None}
+use Rattle.std.proofs.Common.{◌≡◌, sym, refl, subst, ℕ, ◌≤◌, inl, List, [], ◌∷◌, length, Some, None, true, false, Option}
 use Rattle.std.specs.Prelude.{flat_map}
 use Rattle.std.specs.List.{All}
 use Rattle.cg_script.specs.declared.Script.{Script}
@@ -9,9 +9,9 @@ use Rattle.cg_graph.specs.Member.{Includes}
 use Rattle.cg_graph.specs.Object.{Object}
 use Rattle.cg_graph.proofs.Members.{either, Includes-append_left, Includes-append_cases}
 use Rattle.cg_machine.specs.declared.event.Event.{Event}
-use Rattle.cg_machine.specs.declared.event.Event.TheVariants.{Collected, End, Refused}
+use Rattle.cg_machine.specs.declared.event.Event.TheVariants.{Collected, End, Refused, Left}
 use Rattle.cg_machine.specs.declared.event.FrameSort.TheVariants.{Call as CallFrame}
-use Rattle.cg_machine.specs.World.{World, Activity, Releasing, opening, with_stack}
+use Rattle.cg_machine.specs.World.{World, Activity, Releasing, opening, with_stack, TopLevel, ShuttingDown}
 use Rattle.cg_machine.specs.Frame.{procedure_of}
 use Rattle.cg_machine.specs.Effects.{Changes}
 use Rattle.cg_machine.specs.Run.{StepTaken, Run, events_of}
@@ -20,10 +20,10 @@ use Rattle.cg_machine.specs.Origins.{commands_on}
 use Rattle.cg_machine.specs.Printing.{LinesArePrintable}
 use Rattle.cg_machine.proofs.Origins.{IsAllOfScript}
 use Rattle.cg_machine.proofs.OriginsOfRuns.{step_origin, opening_origin}
-use Rattle.cg_machine.proofs.PrintableTexts.{HaveTexts, WorldHasTexts, NamesTexts, commands_name_texts, replicated_member}
+use Rattle.cg_machine.proofs.PrintableTexts.{HaveTexts, WorldHasTexts, NamesTexts, commands_name_texts, replicated_member, set_member}
 use Rattle.cg_machine.proofs.PrintableSteps.{Prints, silent, says, starts_prints, frame_end_prints, released_prints, dying_prints, phase_prints}
 use Rattle.cg_machine.proofs.PrintableCommands.{shape_prints}
-use Rattle.cg_machine.proofs.Invariants.{Takes, FromTop, FromFrame, emptied, on, AreAnswers, CommandSteps, Steps, any_step}
+use Rattle.cg_machine.proofs.Invariants.{Takes, FromTop, FromFrame, emptied, on, AreAnswers, CommandSteps, Steps, any_step, AreLast}
 
 module _ (script : Script) (known : TextsAreKnown script) (short : All (λ text. length text ≤ 1024) script.names) where
   answers_print : (lines : List Event) → AreAnswers lines → (after : World) → WorldHasTexts (length script.names) after → Prints script.names lines after
@@ -42,6 +42,16 @@ module _ (script : Script) (known : TextsAreKnown script) (short : All (λ text.
     asks = λ g low e. silent script.names _ h;
   }
 
+  last_prints : (w : World) (a : Activity) (lines : List Event) (after : World) → AreLast w a lines → WorldHasTexts (length script.names) after → Prints script.names lines after
+  last_prints w (TopLevel []) lines after e h = subst (λ (ls : List Event). Prints script.names ls after) (sym e) (says script.names End after tt h)
+  last_prints w (TopLevel (command ∷ commands)) lines after e h = absurd e
+  last_prints w (ShuttingDown true) lines after e h = subst (λ (ls : List Event). Prints script.names ls after) (sym e) (record {
+    lines = λ line m. either m (λ i. subst (IsPrintable script.names) i tt) (λ n. either n (λ i. subst (IsPrintable script.names) i tt) (λ no. absurd no));
+    known = h;
+  })
+  last_prints w (ShuttingDown false) lines after e h = absurd e
+  last_prints w a lines after e h = absurd e
+
   taken_names : (command : Command) (a b : Activity) (below : List Activity) → Takes command a b → ((c : Command) → Includes (flat_map commands_on (a ∷ below)) c → NamesTexts (length script.names) c) → NamesTexts (length script.names) command
   taken_names command a b below (FromTop commands) named = named command (inl refl)
   taken_names command a b below (FromFrame f commands left) named = named command (Includes-append_left f.commands (flat_map commands_on below) command (subst (λ (cs : List Command). Includes cs command) (sym left) (inl refl)))
@@ -53,7 +63,10 @@ module _ (script : Script) (known : TextsAreKnown script) (short : All (λ text.
   steps_print : Steps script Named (λ w. Prints script.names)
   steps_print = record {
     starts_due = λ a below v ha g e k. silent script.names _ k.1;
-    ends = λ below v k. says script.names End _ tt k.1;
+    ends = λ a lines below v last k. last_prints (on a below v) a lines _ last k.1;
+    shuts_down = λ below v k. silent script.names _ k.1;
+    gives_up = λ name below v e k. silent script.names _ (record { names = λ u m. either (set_member v.names name None (Some u) m) (λ i. k.1.names u i) (λ n. absurd (let no : None ≡ Some u = n in cc)); objects = k.1.objects });
+    collects_last = λ below v k. silent script.names _ k.1;
     commands = λ command a b below v takes hb k. command_prints (on a below v) command b below v k.1 (taken_names command a b below takes k.0);
     frame_ends = λ f below v left k. frame_end_prints script.names f (with_stack below v) k.1;
     releases = λ references below v k. released_prints script.names references below (on (Releasing references) below v) k.1;

@@ -15,7 +15,7 @@ use Rattle.cg_machine.specs.declared.event.Event.TheVariants.{Alive, BudgetSpent
 use Rattle.cg_machine.specs.declared.event.FrameSort.{FrameSort}
 use Rattle.cg_machine.specs.declared.event.FrameSort.TheVariants.{Del, Legacy as LegacyFrame, Callback, Call}
 use Rattle.cg_machine.specs.declared.event.FrameSpec.{FrameSpec}
-use Rattle.cg_machine.specs.Program.{body_of, legacy_of}
+use Rattle.cg_machine.specs.Program.{body_of, legacy_of, profile_of}
 use Rattle.cg_machine.specs.World.{World, Activity, Framed, Releasing, Frame, DyingPhase, Finalizer, AfterFinalizer, Clearing, Calling, AfterCall, LegacyFinalizer, AfterLegacy, Detaching, Emptying, Collection, CollectPhase, Start, WeakClearing, WeakCalling, AfterCallback, AfterRelease, Finalizing, AfterFinalizing, Split, Turns, Turn, AfterTurn, Ending, BudgetIsSpent, push, with_stack, with_change, with_objects}
 use Rattle.cg_machine.specs.Holdings.{in_degree, is_dying}
 use Rattle.cg_machine.specs.Frame.{Transition, Yields, start_frame, frame_end, gives_up_function, begin_death, released, procedure_of}
@@ -201,7 +201,7 @@ module _ (texts : List (List ℕ)) where
         now : List Object
         now = (merged c.generation v).objects
 
-    weak_clearing_prints : (waiting : List ℕ) (events : List Event) (after : World) → WeakClearingStep c waiting below (with_phase (WeakClearing waiting)) events after → Prints events after
+    weak_clearing_prints : (waiting : List ℕ) (events : List Event) (after : World) → WeakClearingStep (profile_of script.items) c waiting below (with_phase (WeakClearing waiting)) events after → Prints events after
     weak_clearing_prints waiting events after (inl step) = yielded _ events after step.yields (says (Cleared step.weak) _ tt (go (waits v.objects step.weak)))
       where
         fewer : List Object

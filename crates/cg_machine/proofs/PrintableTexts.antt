@@ -10,7 +10,7 @@ use Rattle.cg_value.specs.declared.Val.{Val}
 use Rattle.cg_value.specs.declared.Val.TheVariants.{None as Nothing, Int, Str, Ref}
 use Rattle.cg_script.specs.declared.Script.{Script}
 use Rattle.cg_script.specs.declared.Item.{Item}
-use Rattle.cg_script.specs.declared.Item.TheVariants.{Budget, Class, Def, Run}
+use Rattle.cg_script.specs.declared.Item.TheVariants.{Profile, Shutdown, Budget, Class, Def, Run}
 use Rattle.cg_script.specs.declared.Command.{Command}
 use Rattle.cg_script.specs.Texts.{command_texts, item_texts, TextsAreKnown}
 use Rattle.cg_graph.specs.Member.{Includes}
@@ -161,6 +161,8 @@ module _ (n : ℕ) where
 -- The texts of each command of a script stand among those of its items.
 outside_text : (items : List Item) (command : Command) (t : ℕ) → Includes (commands_of items) command → Includes (command_texts command) t → Includes (flat_map item_texts items) t
 outside_text [] command t m k = absurd m
+outside_text (Profile n ∷ items) command t m k = outside_text items command t m k
+outside_text (Shutdown ∷ items) command t m k = outside_text items command t m k
 outside_text (Budget b ∷ items) command t m k = outside_text items command t m k
 outside_text (Class c ∷ items) command t m k = inr (outside_text items command t m k)
 outside_text (Def p ∷ items) command t m k = Includes-append_right (item_texts (Def p)) (flat_map item_texts items) t (outside_text items command t m k)
@@ -169,6 +171,8 @@ outside_text (Run c ∷ items) command t (inr m) k = Includes-append_right (comm
 
 body_text : (items : List Item) (command : Command) (t : ℕ) → Includes (flat_map (λ p. p.body) (procedures items)) command → Includes (command_texts command) t → Includes (flat_map item_texts items) t
 body_text [] command t m k = absurd m
+body_text (Profile n ∷ items) command t m k = body_text items command t m k
+body_text (Shutdown ∷ items) command t m k = body_text items command t m k
 body_text (Budget b ∷ items) command t m k = body_text items command t m k
 body_text (Class c ∷ items) command t m k = inr (body_text items command t m k)
 body_text (Def p ∷ items) command t m k = either (Includes-append_cases p.body (flat_map (λ q. q.body) (procedures items)) command m)

@@ -1,20 +1,22 @@
 -- Every step of a run leaves room, commands among them: no command gives up more than an entry.
-use Rattle.std.proofs.Common.{◌≡◌, sym, subst, ℕ, ◌≤◌, List, ◌∷◌, length, Some, arith}
+use Rattle.std.proofs.Common.{◌≡◌, sym, subst, ℕ, ◌≤◌, List, ◌∷◌, length, Some, arith, [], false}
 use Rattle.cg_script.specs.declared.Script.{Script}
 use Rattle.cg_script.specs.declared.Command.{Command}
 use Rattle.cg_machine.specs.declared.event.FrameSort.TheVariants.{Call as CallFrame}
-use Rattle.cg_machine.specs.World.{World, Activity, TopLevel, Framed, Releasing}
+use Rattle.cg_machine.specs.World.{World, Activity, TopLevel, Framed, Releasing, ShuttingDown}
 use Rattle.cg_machine.specs.Frame.{procedure_of}
 use Rattle.cg_machine.specs.Effects.{Changes}
 use Rattle.cg_machine.specs.Bounds.{HasNoRelease}
 use Rattle.cg_machine.proofs.ShapeLaws.{changes_leave, shape_gives_few}
-use Rattle.cg_machine.proofs.Invariants.{HasCommands, Takes, FromTop, FromFrame, emptied, on, CommandSteps, Steps, InEachWorld, by_runs}
+use Rattle.cg_machine.proofs.Invariants.{HasCommands, Takes, FromTop, FromFrame, emptied, on, CommandSteps, Steps, InEachWorld, by_runs, del_shaped}
 use Rattle.cg_machine.proofs.Rooms.{Room, HasRoom, starts_room, frame_end_room, released_room, dying_room, phase_room}
+use Rattle.cg_script.specs.declared.Command.TheVariants.{Del}
 
 -- what has commands on top has no release there
 no_release : (a : Activity) (below : List Activity) → HasCommands a → HasNoRelease (a ∷ below)
 no_release (TopLevel commands) below h = tt
 no_release (Framed f) below h = tt
+no_release (ShuttingDown started) below h = tt
 no_release a below h = absurd h
 
 taken : (b budget : ℕ) (command : Command) (a c : Activity) (below : List Activity) → Takes command a c → Room b budget (a ∷ below) → Room b budget (c ∷ below)
@@ -24,6 +26,7 @@ taken b budget command a c below (FromFrame f commands left) h = record { frames
 stopped : (b budget : ℕ) (a : Activity) (below : List Activity) → HasCommands a → Room b budget (a ∷ below) → Room b budget (emptied a ∷ below)
 stopped b budget (TopLevel commands) below ha h = record { frames = omega (arith, h.frames); apart = h.apart }
 stopped b budget (Framed f) below ha h = record { frames = omega (arith, h.frames); apart = h.apart }
+stopped b budget (ShuttingDown started) below ha h = h
 stopped b budget a below ha h = absurd ha
 
 gives_up : (b budget : ℕ) (a : Activity) (below : List Activity) (given_up : List ℕ) (stack : List Activity) (left : ℕ) → HasCommands a → length given_up ≤ 2 → stack ≡ a ∷ below → left ≡ budget → Room b budget (a ∷ below) → Room b left (Releasing given_up ∷ stack)
@@ -44,7 +47,10 @@ module _ (b : ℕ) (script : Script) where
   keeps_room : Steps script (λ w. Unit {0} × HasRoom b w) (λ w events. HasRoom b)
   keeps_room = record {
     starts_due = λ a below v ha g e k. record { frames = omega (arith, k.1.frames); apart = (no_release a below ha, k.1.apart) };
-    ends = λ below v k. k.1;
+    ends = λ a lines below v last k. k.1;
+    shuts_down = λ below v k. record { frames = omega (arith, k.1.frames); apart = k.1.apart };
+    gives_up = λ name below v e k. (command_room (on (ShuttingDown false) below v) (Del name) (ShuttingDown false) below v tt k.1).changes false [] _ _ (del_shaped (on (ShuttingDown false) below v) name);
+    collects_last = λ below v k. record { frames = omega (arith, k.1.frames); apart = (tt, k.1.apart) };
     commands = λ command a c below v takes hc k. command_room (on a below v) command c below v hc (taken b v.budget command a c below takes k.1);
     frame_ends = λ f below v left k. frame_end_room b f below v k.1;
     releases = λ references below v k. released_room b references below v k.1;

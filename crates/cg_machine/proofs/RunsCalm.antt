@@ -7,7 +7,7 @@ use Rattle.cg_graph.specs.Object.{Object}
 use Rattle.cg_graph.proofs.Members.{either}
 use Rattle.cg_machine.specs.declared.event.Event.{Event}
 use Rattle.cg_machine.specs.declared.event.FrameSort.TheVariants.{Call as CallFrame}
-use Rattle.cg_machine.specs.World.{World, Activity, TopLevel, Framed, Releasing, Dying, Death, DyingPhase, Finalizer, AfterFinalizer, Clearing, Calling, AfterCall, LegacyFinalizer, AfterLegacy, Detaching, Emptying, Ended, opening, garbage_list, push, with_stack}
+use Rattle.cg_machine.specs.World.{World, Activity, TopLevel, Framed, Releasing, Dying, Death, DyingPhase, Finalizer, AfterFinalizer, Clearing, Calling, AfterCall, LegacyFinalizer, AfterLegacy, Detaching, Emptying, Ended, opening, garbage_list, push, with_stack, ShuttingDown}
 use Rattle.cg_machine.specs.Holdings.{holds, holdings}
 use Rattle.cg_machine.specs.Frame.{procedure_of}
 use Rattle.cg_machine.specs.Effects.{Changes, Calls}
@@ -25,13 +25,15 @@ use Rattle.cg_machine.proofs.Unheld.{IsOver, AreOver, AreResting, IsOnTop, IsSta
 use Rattle.cg_machine.proofs.Releasing.{none_holds, unheld_degree, starts_calm, released_calm, frame_end_calm}
 use Rattle.cg_machine.proofs.DyingCalm.{dying_calm}
 use Rattle.cg_machine.proofs.CollectCalm.{phase_calm}
-use Rattle.cg_machine.proofs.Invariants.{HasCommands, Takes, FromTop, FromFrame, emptied, on, CommandSteps, Steps, any_step}
+use Rattle.cg_machine.proofs.Invariants.{HasCommands, Takes, FromTop, FromFrame, emptied, on, del_shaped, last_has, CommandSteps, Steps, any_step}
 use Rattle.cg_machine.proofs.CommandCalm.{Mild, shape_mild}
+use Rattle.cg_script.specs.declared.Command.TheVariants.{Del}
 
 -- commands stand on top, and may get fewer
 pub no_death : (a : Activity) → HasCommands a → (d : Death) → a ≢ Dying d
 no_death (TopLevel commands) h d e = cc
 no_death (Framed f) h d e = cc
+no_death (ShuttingDown started) h d e = cc
 no_death a h d e = absurd h
 
 all_rest : (script : Script) (w : World) (a : Activity) (below : List Activity) → HasCommands a → AreResting script w below → AreResting script w (a ∷ below)
@@ -40,6 +42,7 @@ all_rest script w a below h resting d m = either m (λ e. absurd (no_death a h d
 on_top : (script : Script) (w : World) (a : Activity) → HasCommands a → IsOnTop script w a
 on_top script w (TopLevel commands) h = tt
 on_top script w (Framed f) h = tt
+on_top script w (ShuttingDown started) h = tt
 on_top script w a h = absurd h
 
 module _ (script : Script) (below : List Activity) (v : World) where
@@ -67,6 +70,7 @@ module _ (script : Script) (below : List Activity) (v : World) where
   emptied_calm : (a : Activity) → HasCommands a → Calm script (on a below v) → Calm script (on (emptied a) below v)
   emptied_calm (TopLevel commands) h c = turned (TopLevel commands) (TopLevel []) tt (λ k. k) (λ o k. k) c
   emptied_calm (Framed f) h c = turned (Framed f) (Framed (record f { commands = [] })) tt (λ k. k) (λ o k. k) c
+  emptied_calm (ShuttingDown started) h c = c
   emptied_calm a h c = absurd h
 
   pub taken_calm : (command : Command) (a b : Activity) → Takes command a b → Calm script (on a below v) → Calm script (on b below v)
@@ -108,11 +112,14 @@ module _ (script : Script) (a : Activity) (below : List Activity) (v : World) (h
 keeps_calm : (script : Script) → Steps script (λ w. Sound w × Calm script w) (λ w events. Calm script)
 keeps_calm script = record {
   starts_due = λ a below v ha g e k. collects script below v a g false ha k.1;
-  ends = λ below v k. record {
+  ends = λ a lines below v last k. record {
     referred = k.1.referred;
     over = k.1.over;
-    stack = (tt, resting_after script (on (TopLevel []) below v) (record (on (TopLevel []) below v) { outcome = Ended }) below (λ d m. same_objects script (on (TopLevel []) below v) (record (on (TopLevel []) below v) { outcome = Ended }) d.object refl refl (λ i. i)) k.1.stack.1);
+    stack = (on_top script _ a (last_has (on a below v) a lines last), resting_after script (on a below v) (record (on a below v) { outcome = Ended }) below (λ d m. same_objects script (on a below v) (record (on a below v) { outcome = Ended }) d.object refl refl (λ i. i)) k.1.stack.1);
   };
+  shuts_down = λ below v k. turned script below v (TopLevel []) (ShuttingDown false) tt (λ i. i) (λ o i. i) k.1;
+  gives_up = λ name below v e k. (command_calm script (ShuttingDown false) below v tt k.0.rises k.1 (on (ShuttingDown false) below v) (Del name)).changes false [] _ _ (del_shaped (on (ShuttingDown false) below v) name);
+  collects_last = λ below v k. collects script below v (ShuttingDown true) 2 false tt (turned script below v (ShuttingDown false) (ShuttingDown true) tt (λ i. i) (λ o i. i) k.1);
   commands = λ command a b below v takes hb k. command_calm script b below v hb k.0.rises (taken_calm script below v command a b takes k.1) (on a below v) command;
   frame_ends = λ f below v left k. frame_end_calm script f below v k.1;
   releases = λ references below v k. released_calm script references below v k.1;

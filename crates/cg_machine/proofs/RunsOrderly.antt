@@ -1,5 +1,5 @@
 -- In every world of a run what is held lives, and what waits has its callback.
-use Rattle.std.proofs.Common.{◌≡◌, ◌≢◌, refl, sym, ◌∙◌, ap, subst, ℕ, zero, suc, length, replicate, Bool, true, false, inl, inr, ◌⊎◌, List, [], ◌∷◌, ◌++◌, Some, None, arith}
+use Rattle.std.proofs.Common.{◌≡◌, ◌≢◌, refl, sym, ◌∙◌, ap, subst, ℕ, zero, suc, length, replicate, Bool, true, false, inl, inr, ◌⊎◌, List, [], ◌∷◌, ◌++◌, Some, None, arith, Option}
 use Rattle.std.specs.Prelude.{flat_map}
 use Rattle.cg_value.specs.declared.KindCode.TheVariants.{List as ListKind, Weak}
 use Rattle.cg_script.specs.declared.Script.{Script}
@@ -12,7 +12,7 @@ use Rattle.cg_graph.proofs.Members.{either, Includes-of, includes-of, Includes-a
 use Rattle.cg_machine.specs.declared.event.Event.{Event}
 use Rattle.cg_machine.specs.declared.event.FrameSort.{FrameSort}
 use Rattle.cg_machine.specs.declared.event.FrameSort.TheVariants.{Del, Legacy, Callback, Call as CallFrame}
-use Rattle.cg_machine.specs.World.{World, Activity, TopLevel, Framed, Collecting, Frame, Collection, Start, Turn, DyingPhase, Finalizer, AfterFinalizer, Clearing, Calling, AfterCall, LegacyFinalizer, AfterLegacy, Detaching, Emptying, opening, garbage_list, push, with_stack}
+use Rattle.cg_machine.specs.World.{World, Activity, TopLevel, Framed, Collecting, Frame, Collection, Start, Turn, DyingPhase, Finalizer, AfterFinalizer, Clearing, Calling, AfterCall, LegacyFinalizer, AfterLegacy, Detaching, Emptying, opening, garbage_list, push, with_stack, ShuttingDown}
 use Rattle.cg_machine.specs.Holdings.{holds, collect_holds, holdings}
 use Rattle.cg_machine.specs.Frame.{procedure_of}
 use Rattle.cg_machine.specs.Weak.{callback_in, is_function}
@@ -25,15 +25,16 @@ use Rattle.cg_machine.proofs.Serials.{Rises}
 use Rattle.cg_machine.proofs.Sound.{Sound, opening_sound}
 use Rattle.cg_machine.proofs.Number.{step_falls}
 use Rattle.cg_machine.proofs.ShapeLaws.{changes_leave}
-use Rattle.cg_machine.proofs.Forgotten.{Forgotten, AreReferred, some_later, none_later, lives_within}
+use Rattle.cg_machine.proofs.Forgotten.{Forgotten, AreReferred, some_later, none_later, lives_within, IsLater}
 use Rattle.cg_machine.proofs.Unheld.{IsLocalHeld, IsOver, AreOver, not_dying, Stands, Calm, held_by_member}
 use Rattle.cg_machine.proofs.Releasing.{entry_holder}
 use Rattle.cg_machine.proofs.CommandCalm.{Mild, Comes, was_there, is_new, shape_mild}
-use Rattle.cg_machine.proofs.Orderly.{IsClearing, Orderly, push_orderly, turns_fewer, waits_held}
+use Rattle.cg_machine.proofs.Orderly.{IsClearing, Orderly, push_orderly, turns_fewer, waits_held, MayRefer, CallsNone}
 use Rattle.cg_machine.proofs.DyingOrderly.{HasOrder, starts_orderly, gives_up_orderly, frame_end_orderly, released_orderly, dying_orderly}
 use Rattle.cg_machine.proofs.CollectOrderly.{phase_orderly}
 use Rattle.cg_machine.proofs.RunsCalm.{no_death, taken_calm, step_calm, opening_calm, death_stands}
-use Rattle.cg_machine.proofs.Invariants.{HasCommands, Takes, FromTop, FromFrame, emptied, on, CommandSteps, Steps, any_step}
+use Rattle.cg_machine.proofs.Invariants.{HasCommands, Takes, FromTop, FromFrame, emptied, on, CommandSteps, Steps, any_step, del_shaped}
+use Rattle.cg_script.specs.declared.Command.TheVariants.{Del}
 
 -- what does not live is forgotten
 pub gone_forgotten : (w : World) → HasOrder w → AreReferred w.objects → (o : ℕ) → ¬ Includes (serials w.objects) o → Forgotten w o
@@ -105,14 +106,22 @@ module _ (script : Script) (w : World) (rises : Rises 1 w.next_serial w.objects)
       record { code = later.code ∙ was.code; referent = none_later x y later was.referent; callback = λ n. was.callback (ap callback_in (sym (either same (λ k. k) (λ k. absurd (k.0 was.code)))) ∙ n) }
   waiting weak k y (is_new serial condemned apart weak_alone functions) e = absurd (within weak (waits_live weak k) (sym serial ∙ e))
 
-  marked : (y : Object) → Comes script w rises over y → is_condemned y ≡ true → (¬ Includes (all_waits w.stack) y.serial) × ((y.referent ≡ None) ⊎ IsClearing w.stack)
+  -- what calls nothing back calls nothing back after
+  quiet : (y x : Object) → Includes w.objects x → IsLater x y → (y.entries ≡ x.entries) ⊎ (x.code ≢ Weak) × ((o : ℕ) → Forgotten w o → x.serial ≢ o) → callback_in x.entries ≡ None → CallsNone y
+  quiet y x m later same n = go y.referent refl
+    where
+      go : (r : Option ℕ) → y.referent ≡ r → CallsNone y
+      go None e = inl e
+      go (Some r) e = inr (ap callback_in (either same (λ k. k) (λ k. absurd (k.0 (h.codes x m r (some_later x y later r e))))) ∙ n)
+
+  marked : (y : Object) → Comes script w rises over y → is_condemned y ≡ true → (¬ Includes (all_waits w.stack) y.serial) × ((y.referent ≡ None) ⊎ MayRefer y.entries w.stack)
   marked y (was_there x m later same condemned placed) e =
       let was = h.condemned x m (condemned e) in
-      (λ n. was.0 (subst (Includes (all_waits w.stack)) later.serial n), either was.1 (λ n. inl (none_later x y later n)) (λ n. inr n))
+      (λ n. was.0 (subst (Includes (all_waits w.stack)) later.serial n), either was.1 (λ n. inl (none_later x y later n)) (λ r. either r (λ c. inr (inl c)) (λ n. either (quiet y x m later same n) (λ k. inl k) (λ k. inr (inr k)))))
   marked y (is_new serial condemned apart weak_alone functions) e = absurd (let no : true ≡ false = sym e ∙ condemned in cc)
 
-  refers : (o : ℕ) → ((x : Object) → Includes w.objects x → x.serial ≡ o → x.referent ≡ None) → Includes (serials w.objects) o → (y : Object) → Comes script w rises over y → y.serial ≡ o → y.referent ≡ None
-  refers o none lives y (was_there x m later same condemned placed) e = none_later x y later (none x m (sym later.serial ∙ e))
+  refers : (o : ℕ) → ((x : Object) → Includes w.objects x → x.serial ≡ o → CallsNone x) → Includes (serials w.objects) o → (y : Object) → Comes script w rises over y → y.serial ≡ o → CallsNone y
+  refers o none lives y (was_there x m later same condemned placed) e = either (none x m (sym later.serial ∙ e)) (λ n. inl (none_later x y later n)) (λ n. quiet y x m later same n)
   refers o none lives y (is_new serial condemned apart weak_alone functions) e = absurd (within o lives (sym serial ∙ e))
 
   pub command_orderly : HasOrder after
@@ -135,20 +144,23 @@ module _ (script : Script) (w : World) (rises : Rises 1 w.next_serial w.objects)
 no_clearing : (a : Activity) (below : List Activity) → HasCommands a → IsClearing (a ∷ below) → ⊥
 no_clearing (TopLevel commands) below h k = k
 no_clearing (Framed f) below h k = k
+no_clearing (ShuttingDown started) below h k = k
 no_clearing a below h k = absurd h
 
 no_waits : (a : Activity) → HasCommands a → waits_of a ≡ []
 no_waits (TopLevel commands) h = refl
 no_waits (Framed f) h = refl
+no_waits (ShuttingDown started) h = refl
 no_waits a h = absurd h
 
 pub turned_orderly : (a b : Activity) (below : List Activity) (v : World) → HasCommands a → HasCommands b → ((o : ℕ) → Includes (holds b) o → Includes (holds a) o) → HasOrder (with_stack (a ∷ below) v) → HasOrder (with_stack (b ∷ below) v)
 turned_orderly a b below v ha hb fewer h = turns_fewer a b v.objects v.names below h (λ o m. h.stack_lives o (Includes-append_left (holds a) (flat_map holds below) o (fewer o m))) (λ d e. absurd (no_death b hb d e))
-    (λ weak m. absurd (subst (λ ws. Includes ws weak) (no_waits b hb) m)) (λ weak. let none : occurrences weak (waits_of b) ≡ 0 = ap (occurrences weak) (no_waits b hb) in omega (arith, none)) (λ c o e. absurd (no_collection b hb c e)) (λ x m e k. absurd (no_clearing a below ha k))
+    (λ weak m. absurd (subst (λ ws. Includes ws weak) (no_waits b hb) m)) (λ weak. let none : occurrences weak (waits_of b) ≡ 0 = ap (occurrences weak) (no_waits b hb) in omega (arith, none)) (λ c o e. absurd (no_collection b hb c e)) (λ x m e k. either k (λ n. absurd (no_clearing a below ha n)) (λ n. inr (inr n)))
   where
     no_collection : (a : Activity) → HasCommands a → (c : Collection) → a ≢ Collecting c
     no_collection (TopLevel commands) h c e = cc
     no_collection (Framed f) h c e = cc
+    no_collection (ShuttingDown started) h c e = cc
     no_collection a h c e = absurd h
 
 collects_orderly : (a : Activity) (g : ℕ) (asked : Bool) (below : List Activity) (v : World) → HasCommands a → HasOrder (with_stack (a ∷ below) v) → HasOrder (push (new_collection g asked (with_stack (a ∷ below) v)) (with_stack (a ∷ below) v))
@@ -162,6 +174,7 @@ collects_orderly a g asked below v ha h = push_orderly (new_collection g asked (
 emptied_orderly : (a : Activity) (below : List Activity) (v : World) → HasCommands a → HasOrder (on a below v) → HasOrder (on (emptied a) below v)
 emptied_orderly (TopLevel commands) below v ha h = turned_orderly (TopLevel commands) (TopLevel []) below v tt tt (λ o k. k) h
 emptied_orderly (Framed f) below v ha h = turned_orderly (Framed f) (Framed (record f { commands = [] })) below v tt tt (λ o k. k) h
+emptied_orderly (ShuttingDown started) below v ha h = h
 emptied_orderly a below v ha h = absurd ha
 
 pub taken_orderly : (command : Command) (a b : Activity) (below : List Activity) (v : World) → Takes command a b → HasOrder (on a below v) → HasOrder (on b below v)
@@ -185,7 +198,10 @@ command_does script w command a below v ha rises c h = record {
 keeps_order : (script : Script) → Steps script (λ w. (Sound w × Calm script w) × HasOrder w) (λ w events. HasOrder)
 keeps_order script = record {
   starts_due = λ a below v ha g e k. collects_orderly a g false below v ha k.1;
-  ends = λ below v k. k.1;
+  ends = λ a lines below v last k. k.1;
+  shuts_down = λ below v k. turned_orderly (TopLevel []) (ShuttingDown false) below v tt tt (λ o i. i) k.1;
+  gives_up = λ name below v e k. (command_does script (on (ShuttingDown false) below v) (Del name) (ShuttingDown false) below v tt k.0.0.rises k.0.1 k.1).changes false [] _ _ (del_shaped (on (ShuttingDown false) below v) name);
+  collects_last = λ below v k. collects_orderly (ShuttingDown true) 2 false below v tt (turned_orderly (ShuttingDown false) (ShuttingDown true) below v tt tt (λ o i. i) k.1);
   commands = λ command a b below v takes hb k. command_does script (on a below v) command b below v hb k.0.0.rises (taken_calm script below v command a b takes k.0.1) (taken_orderly command a b below v takes k.1);
   frame_ends = λ f below v left k. frame_end_orderly f below v k.1;
   releases = λ references below v k. released_orderly references below v k.1;

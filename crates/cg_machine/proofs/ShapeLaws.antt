@@ -13,18 +13,20 @@ use Rattle.cg_machine.specs.declared.event.Event.{Event}
 use Rattle.cg_value.specs.declared.Val.TheVariants.{None as Nothing, Int, Str, Ref}
 use Rattle.cg_script.specs.declared.Operand.TheVariants.{Name}
 use Rattle.cg_script.specs.Texts.{command_texts}
-use Rattle.cg_machine.specs.declared.event.Event.TheVariants.{Made, Value, RefCount, Tracked as TrackedLine, Finalized as FinalizedLine, Count as CountLine, Gens as GensLine}
+use Rattle.cg_machine.specs.declared.event.Event.TheVariants.{Made, Value, RefCount, Tracked as TrackedLine, Finalized as FinalizedLine, Referent, Referrer, Listed, Held, Via, Unreachable, Count as CountLine, Gens as GensLine}
 use Rattle.cg_machine.specs.Laws.{named}
+use Rattle.cg_machine.specs.Holdings.{is_collecting}
+use Rattle.cg_machine.proofs.Inspecting.{IsThere, TellsThere}
 use Rattle.cg_machine.proofs.PrintableTexts.{set_member}
 use Rattle.cg_machine.specs.World.{World}
-use Rattle.cg_machine.specs.Effects.{Effect, Changes, Calls, Collects, Quits, frozen, unfrozen, tracked_by, may_track, given_up_by}
+use Rattle.cg_machine.specs.Effects.{Effect, Changes, Calls, Collects, Explains, Quits, frozen, unfrozen, tracked_by, may_track, given_up_by}
 use Rattle.cg_machine.specs.Commands.{effect}
 use Rattle.cg_machine.specs.Operands.{is_dict, value_of}
 use Rattle.cg_machine.proofs.Serials.{Rises-map, Rises-change, Rises-new}
 use Rattle.cg_machine.proofs.CommandLaws.{Each, Leaves, LeavesStack}
 use Rattle.cg_machine.proofs.Forgotten.{IsLater, later_refl, change_alters, map_alters, place_later}
 use Rattle.cg_machine.proofs.Rooms.{few_option, few_entry}
-use Rattle.cg_machine.proofs.Shapes.{IsMadeBy, IsEdit, Shape, Binds, Makes, Edits, Puts, Shows, Tells, Stays, Sets, Freezes, Unfreezes, StartsFrame, StartsCollection, Ends, effect_shaped, Word, ValueIn, KeyIn, TellsNumbers, value_at_member, IsAtHand}
+use Rattle.cg_machine.proofs.Shapes.{IsMadeBy, IsEdit, Shape, Binds, Makes, Edits, Puts, Shows, Tells, Stays, Sets, Freezes, Unfreezes, StartsFrame, StartsCollection, Ends, Inspects, AsksWhy, effect_shaped, Word, ValueIn, KeyIn, TellsNumbers, value_at_member, IsAtHand}
 
 -- from the shapes of effects to a law on effects
 each_implies : {A : Type 0} (P Q : A → Type 0) → ((x : A) → P x → Q x) → (r : Result A ℕ) → Each P r → Each Q r
@@ -57,6 +59,8 @@ shape_leaves w command e (Unfreezes is) = record { stack = refl; budget = refl; 
 shape_leaves w command e (StartsFrame f h) = tt
 shape_leaves w command e (StartsCollection g low) = tt
 shape_leaves w command e Ends = tt
+shape_leaves w command e (Inspects lines calm there) = record { stack = refl; budget = refl; outcome = refl; rises = λ r. r; serial = omega arith }
+shape_leaves w command e (AsksWhy x h calm) = tt
 
 pub changes_leave : (w : World) (command : Command) (wants_memory : Bool) (lines : List Event) (given_up : List ℕ) (after : World) → Shape w command (Changes wants_memory lines given_up after) → Leaves w after
 changes_leave w command wants_memory lines given_up after s = shape_leaves w command (Changes wants_memory lines given_up after) s
@@ -69,6 +73,7 @@ abbrev pub GivesFew : Effect → Type 0
 GivesFew (Changes wants_memory lines given_up after) = length given_up ≤ 2
 GivesFew (Calls f) = Unit {0}
 GivesFew (Collects g) = Unit {0}
+GivesFew (Explains o) = Unit {0}
 GivesFew Quits = Unit {0}
 
 few_value : (m : Option Val) → length (references_of_value m) ≤ 2
@@ -85,6 +90,7 @@ shape_gives_few w command e (Puts x key v h mutable hand_key hand room) = few_va
 shape_gives_few w command e (StartsFrame f h) = tt
 shape_gives_few w command e (StartsCollection g low) = tt
 shape_gives_few w command e Ends = tt
+shape_gives_few w command e (AsksWhy x h calm) = tt
 shape_gives_few w command e s = omega arith
 
 -- Where an object comes from: it was there, or the command makes it.
@@ -95,6 +101,7 @@ abbrev pub ComeBy : World → Command → Effect → Type 0
 ComeBy w command (Changes wants_memory lines given_up after) = (y : Object) → Includes after.objects y → ComesBy command w.objects y
 ComeBy w command (Calls f) = Unit {0}
 ComeBy w command (Collects g) = Unit {0}
+ComeBy w command (Explains o) = Unit {0}
 ComeBy w command Quits = Unit {0}
 
 pub shape_comes : (w : World) (command : Command) (e : Effect) → Shape w command e → ComeBy w command e
@@ -111,17 +118,25 @@ shape_comes w command e (Unfreezes is) = λ y m. inl ((map_alters (λ x. with_pl
 shape_comes w command e (StartsFrame f h) = tt
 shape_comes w command e (StartsCollection g low) = tt
 shape_comes w command e Ends = tt
+shape_comes w command e (Inspects lines calm there) = λ y m. inl (y, m, later_refl y)
+shape_comes w command e (AsksWhy x h calm) = tt
 
--- Each reference that is given up, printed or bound to a name is at hand, or is the serial that the command makes.
+-- why a line may name an object
+abbrev pub IsPrinted : World → Command → ℕ → Type 0
+IsPrinted w command o = (o ≡ w.next_serial) ⊎ (IsAtHand w command (Ref o) ⊎ (is_collecting w ≡ false) × IsThere w o)
+
+-- Each reference that is given up, printed or bound to a name is at hand, or is the serial that the command makes. An
+-- inspection also prints objects that are there, while no collection is under way.
 pub record IsOfHand (w : World) (command : Command) (lines : List Event) (given_up : List ℕ) (after : World) : Type 0 where
   pub gives : (o : ℕ) → Includes given_up o → IsAtHand w command (Ref o)
-  pub prints : (line : Event) → Includes lines line → (o : ℕ) → Includes (named line) o → (o ≡ w.next_serial) ⊎ IsAtHand w command (Ref o)
+  pub prints : (line : Event) → Includes lines line → (o : ℕ) → Includes (named line) o → IsPrinted w command o
   pub names : (v : Val) → Includes after.names (Some v) → Includes w.names (Some v) ⊎ ((v ≡ Ref w.next_serial) ⊎ IsAtHand w command v)
 
 abbrev pub EffectIsOfHand : World → Command → Effect → Type 0
 EffectIsOfHand w command (Changes wants_memory lines given_up after) = IsOfHand w command lines given_up after
 EffectIsOfHand w command (Calls f) = IsAtHand w command (Ref f)
 EffectIsOfHand w command (Collects g) = Unit {0}
+EffectIsOfHand w command (Explains o) = Unit {0}
 EffectIsOfHand w command Quits = Unit {0}
 
 held_ref : (v : Val) (o : ℕ) → Includes (option_to_list (reference_in v)) o → v ≡ Ref o
@@ -163,11 +178,20 @@ module _ (w : World) (command : Command) where
   no_serials (GensLine first second third fourth) k o m = m
   no_serials line k o m = absurd k
 
+  names_there : (line : Event) → TellsThere w line → (o : ℕ) → Includes (named line) o → IsThere w o
+  names_there (Referent n) t o m = either m (λ e. subst (IsThere w) e t) (λ no. absurd no)
+  names_there (Referrer n) t o m = either m (λ e. subst (IsThere w) e t) (λ no. absurd no)
+  names_there (Held n) t o m = either m (λ e. subst (IsThere w) e t) (λ no. absurd no)
+  names_there (Via n) t o m = either m (λ e. subst (IsThere w) e t) (λ no. absurd no)
+  names_there (Listed n) t o m = absurd m
+  names_there Unreachable t o m = absurd m
+  names_there line t o m = absurd t
+
   shape_of_hand : (e : Effect) → Shape w command e → EffectIsOfHand w command e
   shape_of_hand e (Binds name v own hand) = record { gives = name_given name own; prints = λ line m. absurd m; names = λ u m. either (bound_names name v u m) (λ k. inl k) (λ k. inr (inr (hand u k))) }
   shape_of_hand e (Makes name kind class entries referent own parts) = record {
     gives = name_given name own;
-    prints = one_line (Made kind w.next_serial) (λ line. (o : ℕ) → Includes (named line) o → (o ≡ w.next_serial) ⊎ IsAtHand w command (Ref o)) (λ o m. either m (λ k. inl (sym k)) (λ n. absurd n));
+    prints = one_line (Made kind w.next_serial) (λ line. (o : ℕ) → Includes (named line) o → IsPrinted w command o) (λ o m. either m (λ k. inl (sym k)) (λ n. absurd n));
     names = λ u m. either (bound_names name (Some (Ref w.next_serial)) u m) (λ k. inl k) (λ k. let same : Ref w.next_serial ≡ u = cc in inr (inl (sym same)));
   }
   shape_of_hand e (Edits wants x entries given h mutable edit) = record {
@@ -176,8 +200,8 @@ module _ (w : World) (command : Command) where
     names = λ u m. inl m;
   }
   shape_of_hand e (Puts x key v h mutable hand_key hand room) = record { gives = value_given x key h.member h.hand; prints = λ line m. absurd m; names = λ u m. inl m }
-  shape_of_hand e (Shows v hand) = record { gives = λ o m. absurd m; prints = one_line (Value v) (λ line. (o : ℕ) → Includes (named line) o → (o ≡ w.next_serial) ⊎ IsAtHand w command (Ref o)) (λ o m. inr (subst (IsAtHand w command) (held_ref v o m) hand)); names = λ u m. inl m }
-  shape_of_hand e (Tells line tells) = record { gives = λ o m. absurd m; prints = one_line line (λ other. (o : ℕ) → Includes (named other) o → (o ≡ w.next_serial) ⊎ IsAtHand w command (Ref o)) (λ o m. absurd (no_serials line tells o m)); names = λ u m. inl m }
+  shape_of_hand e (Shows v hand) = record { gives = λ o m. absurd m; prints = one_line (Value v) (λ line. (o : ℕ) → Includes (named line) o → IsPrinted w command o) (λ o m. inr (inl (subst (IsAtHand w command) (held_ref v o m) hand))); names = λ u m. inl m }
+  shape_of_hand e (Tells line tells) = record { gives = λ o m. absurd m; prints = one_line line (λ other. (o : ℕ) → Includes (named other) o → IsPrinted w command o) (λ o m. absurd (no_serials line tells o m)); names = λ u m. inl m }
   shape_of_hand e Stays = record { gives = λ o m. absurd m; prints = λ line m. absurd m; names = λ u m. inl m }
   shape_of_hand e (Sets numbers own keeps) = record { gives = λ o m. absurd m; prints = λ line m. absurd m; names = λ u m. inl m }
   shape_of_hand e (Freezes is) = record { gives = λ o m. absurd m; prints = λ line m. absurd m; names = λ u m. inl m }
@@ -185,6 +209,8 @@ module _ (w : World) (command : Command) where
   shape_of_hand e (StartsFrame f h) = h.hand
   shape_of_hand e (StartsCollection g low) = tt
   shape_of_hand e Ends = tt
+  shape_of_hand e (Inspects lines calm there) = record { gives = λ o m. absurd m; prints = λ line m o k. inr (inr (calm, names_there line (there line m) o k)); names = λ u m. inl m }
+  shape_of_hand e (AsksWhy x h calm) = tt
 
 pub effect_of_hand : (w : World) (command : Command) → Each (EffectIsOfHand w command) (effect w command)
 effect_of_hand w command = by_shape (EffectIsOfHand w command) w command (shape_of_hand w command)

@@ -8,17 +8,18 @@ use Rattle.cg_script.specs.declared.Proc.{Proc}
 use Rattle.cg_graph.specs.Object.{Object}
 use Rattle.cg_machine.specs.declared.event.FrameSpec.{FrameSpec}
 use Rattle.cg_machine.specs.Program.{body_of, procedures}
-use Rattle.cg_machine.specs.World.{World, Activity, TopLevel, Framed, Releasing, Dying, Collecting, Running, BudgetIsSpent, opening}
+use Rattle.cg_machine.specs.World.{World, Activity, TopLevel, Framed, Releasing, Dying, Collecting, ShuttingDown, Running, BudgetIsSpent, opening}
 use Rattle.cg_machine.specs.declared.event.Event.TheVariants.{Enter, BudgetSpent}
 use Rattle.cg_machine.specs.Frame.{Transition, start_frame}
 use Rattle.cg_machine.proofs.Tally.{tally}
 use Rattle.cg_machine.proofs.Serials.{Rises}
-use Rattle.cg_machine.proofs.Measure.{alive, commands_in, all_bodies, commands_left, is_starting, due_rank, rank_in, left_in, summary, Lower, by_commands, size_of, entries_in, referents_in, weight_in}
+use Rattle.cg_machine.proofs.Measure.{alive, commands_in, all_bodies, commands_left, is_starting, due_rank, rank_in, left_in, summary, Lower, by_commands, size_of, entries_in, referents_in, weight_in, bound_names}
 
--- the commands outside procedures stand at the bottom, and nowhere else
+-- the commands outside procedures, or the shutdown, stand at the bottom, and nowhere else
 abbrev pub HasBottom : List Activity → Type 0
 HasBottom [] = ⊥
 HasBottom (TopLevel commands ∷ below) = below ≡ []
+HasBottom (ShuttingDown started ∷ below) = below ≡ []
 HasBottom (_ ∷ below) = HasBottom below
 
 abbrev pub collections_in : Activity → ℕ
@@ -73,7 +74,7 @@ starts script spec w u sound running less = go (u.budget == 0) refl
         }
     go false e =
         let paid = pays u.budget (all_bodies script) (length (body_of script spec.proc)) (body_below (procedures script.items) spec.proc) (eqb-false u.budget 0 e) in
-        let fewer : alive u.outcome + (u.budget - 1) * suc (all_bodies script) + (length (body_of script spec.proc) + tally commands_in u.stack) < commands_left script w = omega (arith, less.commands, paid) in record {
+        let fewer : alive u.outcome + 2 * ((u.budget - 1) * suc (all_bodies script)) + (2 * length (body_of script spec.proc) + tally commands_in u.stack) + bound_names u.names < commands_left script w = omega (arith, less.commands, paid) in record {
           sound = record { rises = sound.rises; bottom = sound.bottom; single = omega (arith, sound.single) };
           lower = by_commands fewer (omega (arith, fewer, less.size)) (omega (arith, less.entries)) (omega (arith, less.referents)) (omega (arith, less.weight));
         }

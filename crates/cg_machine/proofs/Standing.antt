@@ -9,7 +9,7 @@ use Rattle.cg_graph.specs.Object.{Object, serials}
 use Rattle.cg_graph.proofs.Members.{either, Includes-append_right, Includes-map_cases}
 use Rattle.cg_machine.specs.declared.event.FrameSort.{FrameSort}
 use Rattle.cg_machine.specs.declared.event.FrameSort.TheVariants.{Del, Legacy, Callback, Call}
-use Rattle.cg_machine.specs.World.{World, Activity, TopLevel, Framed, Releasing, Dying, Collecting, Death, DyingPhase, Finalizer, AfterFinalizer, Clearing, Calling, AfterCall, LegacyFinalizer, AfterLegacy, Detaching, Emptying}
+use Rattle.cg_machine.specs.World.{World, Activity, TopLevel, Framed, Releasing, Dying, Collecting, ShuttingDown, Death, DyingPhase, Finalizer, AfterFinalizer, Clearing, Calling, AfterCall, LegacyFinalizer, AfterLegacy, Detaching, Emptying}
 use Rattle.cg_machine.specs.Holdings.{holds, call_holds}
 use Rattle.cg_machine.specs.Weak.{is_function, weak_references}
 use Rattle.cg_machine.specs.Laws.{waits_of, all_waits, LeavesBelow}
@@ -129,6 +129,7 @@ module _ (script : Script) (w : World) (a : Activity) (below : List Activity) (a
   one_kept (Releasing references) under held waits resting k = tt
   one_kept (Dying d) under held waits resting k = rests_in_order script w after.objects d.object d.phase (resting d refl)
   one_kept (Collecting c) under held waits resting k = tt
+  one_kept (ShuttingDown started) under held waits resting k = tt
 
   all_kept : (under : List Activity) → ((s : ℕ) → Includes (flat_map holds under) s → Includes (flat_map holds w.stack) s) → ((s : ℕ) → Includes (all_waits under) s → Includes (all_waits below) s)
       → AreResting script w under → AreKnown w.objects under → AreKnown after.objects under

@@ -9,7 +9,7 @@ use Rattle.cg_graph.proofs.Members.{Includes-append_right, Includes-map_cases}
 use Rattle.cg_machine.specs.declared.event.Event.{Event}
 use Rattle.cg_machine.specs.declared.event.FrameSort.{FrameSort}
 use Rattle.cg_machine.specs.declared.event.FrameSort.TheVariants.{Del, Legacy, Callback, Call}
-use Rattle.cg_machine.specs.World.{World, Activity, TopLevel, Framed, Dying, Frame, Death, opening}
+use Rattle.cg_machine.specs.World.{World, Activity, TopLevel, Framed, Dying, Frame, Death, opening, ShuttingDown}
 use Rattle.cg_machine.specs.Holdings.{holds}
 use Rattle.cg_machine.specs.Frame.{procedure_of, start_frame}
 use Rattle.cg_machine.specs.Run.{StepTaken, Step, Run, last_world}
@@ -21,7 +21,7 @@ use Rattle.cg_machine.proofs.Serials.{Rises}
 use Rattle.cg_machine.proofs.Sound.{Sound, opening_sound}
 use Rattle.cg_machine.proofs.Ending.{sound_after}
 use Rattle.cg_machine.proofs.ShapeLaws.{changes_leave}
-use Rattle.cg_machine.proofs.Invariants.{HasCommands, Takes, FromTop, FromFrame, emptied, on, CommandSteps, Steps, InEachWorld, by_runs_and_steps}
+use Rattle.cg_machine.proofs.Invariants.{HasCommands, Takes, FromTop, FromFrame, emptied, on, CommandSteps, Steps, InEachWorld, by_runs_and_steps, last_has}
 use Rattle.cg_machine.proofs.Lookups.{same_object}
 use Rattle.cg_machine.proofs.Unheld.{IsStack, Calm}
 use Rattle.cg_machine.proofs.DyingOrderly.{HasOrder}
@@ -50,6 +50,7 @@ taken command a b below objects (FromFrame f commands left) k = (k.0 tt, k.1)
 stopped : (a : Activity) (below : List Activity) (objects : List Object) → HasCommands a → AreKnown objects (a ∷ below) → AreKnown objects (emptied a ∷ below)
 stopped (TopLevel commands) below objects ha k = k
 stopped (Framed f) below objects ha k = k
+stopped (ShuttingDown started) below objects ha k = k
 stopped a below objects ha k = absurd ha
 
 functions : (v : World) (f : Object) → Rises 1 v.next_serial v.objects → Includes v.objects f → is_function f ≡ true → AreFunctions v.objects f.serial
@@ -75,7 +76,10 @@ module _ (script : Script) where
   keeps_known : Steps script Holds Keeps
   keeps_known = record {
     starts_due = λ a below v ha g e k kept. (tt, (kept.0 ha, kept.1));
-    ends = λ below v k kept. (tt, kept.1);
+    ends = λ a lines below v last k kept. (kept.0 (last_has (on a below v) a lines last), kept.1);
+    shuts_down = λ below v k kept. (tt, kept.1);
+    gives_up = λ name below v e k kept. (tt, (tt, kept.1));
+    collects_last = λ below v k kept. (tt, (tt, kept.1));
     commands = λ command a b below v takes hb k. command_known command a b below v takes hb k.0.0.rises;
     frame_ends = λ f below v left k kept. frame_end_known f below v kept.1;
     releases = λ references below v k kept. released_known references below v kept.1;

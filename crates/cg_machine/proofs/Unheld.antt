@@ -8,7 +8,7 @@ use Rattle.cg_graph.specs.Member.{Includes}
 use Rattle.cg_graph.specs.Object.{serials}
 use Rattle.cg_machine.specs.declared.event.FrameSort.{FrameSort}
 use Rattle.cg_machine.specs.declared.event.FrameSort.TheVariants.{Del, Legacy, Callback, Call}
-use Rattle.cg_machine.specs.World.{World, Activity, TopLevel, Framed, Releasing, Dying, Collecting, Death, DyingPhase, Finalizer, AfterFinalizer, Clearing, Calling, AfterCall, LegacyFinalizer, AfterLegacy, Detaching, Emptying, CollectPhase, AfterRelease, AfterTurn}
+use Rattle.cg_machine.specs.World.{World, Activity, TopLevel, Framed, Releasing, Dying, Collecting, ShuttingDown, Death, DyingPhase, Finalizer, AfterFinalizer, Clearing, Calling, AfterCall, LegacyFinalizer, AfterLegacy, Detaching, Emptying, CollectPhase, AfterRelease, AfterTurn}
 use Rattle.cg_graph.proofs.Members.{either, or_left, Includes-append_left, Includes-append_right, Includes-append_cases}
 use Rattle.cg_machine.specs.Holdings.{holds, dying_holds, is_death_of}
 use Rattle.cg_machine.proofs.Forgotten.{AreQuiet, Unheld, Forgotten, Mortal, HasFinalizers, NoneRefers, AreReferred, Alters, alters_refl, mortal_after, finalizers_after, still_forgotten}
@@ -37,6 +37,7 @@ IsOver (Framed f) below = IsLocalHeld f.sort f.subject below
 IsOver (Releasing references) below = Unit {0}
 IsOver (Dying d) below = list_any (is_death_of d.object) below ≡ false
 IsOver (Collecting c) below = GivenUp c.phase below
+IsOver (ShuttingDown started) below = Unit {0}
 
 -- all of them
 abbrev pub AreOver : List Activity → Type 0
@@ -78,6 +79,7 @@ IsOnTop script w (Framed f) = Unit {0}
 IsOnTop script w (Releasing references) = Unit {0}
 IsOnTop script w (Dying d) = Stands script w d.object d.phase
 IsOnTop script w (Collecting c) = Unit {0}
+IsOnTop script w (ShuttingDown started) = Unit {0}
 
 -- a whole stack
 abbrev pub IsStack : Script → World → List Activity → Type 0
