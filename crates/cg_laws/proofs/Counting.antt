@@ -15,7 +15,7 @@ use Rattle.cg_machine.specs.declared.event.FrameSort.{FrameSort}
 use Rattle.cg_machine.specs.declared.event.FrameSort.TheVariants.{Del, Legacy, Callback, Call}
 use Rattle.cg_machine.specs.declared.event.FrameSpec.{FrameSpec}
 use Rattle.cg_machine.specs.World.{World, Activity, Framed, Releasing, Dying, Collecting, Frame, DyingPhase, Finalizer, AfterFinalizer, Clearing, Calling, AfterCall, LegacyFinalizer, AfterLegacy, Detaching, Emptying, Collection, CollectPhase, Start, WeakClearing, WeakCalling, AfterCallback, AfterRelease, Finalizing, AfterFinalizing, Split, Turns, Turn, AfterTurn, Ending, BudgetIsSpent, with_stack, with_change, with_objects}
-use Rattle.cg_machine.specs.Program.{body_of, legacy_of}
+use Rattle.cg_machine.specs.Program.{body_of, legacy_of, profile_of}
 use Rattle.cg_machine.specs.Holdings.{in_degree, is_dying}
 use Rattle.cg_machine.specs.Frame.{Transition, start_frame, frame_end, gives_up_function, begin_death, released, procedure_of}
 use Rattle.cg_machine.specs.Weak.{has_weak_references, weak_references_if, loses_referent, callback_of}
@@ -154,7 +154,7 @@ module _ (limits : Limits) (script : Script) (c : Collection) (below : List Acti
       few : survivors ≤ limits.objects
       few = omega (arith, fit, length-map v.objects (λ (x : Object). with_place (merged_place c.generation x.place) x), count_by-le-length (λ x. is_at (Gen c.generation) x && same_place (step.places x) (Gen (older c.generation))) now.objects)
 
-  weak_clearing_counts : (waiting : List ℕ) (events : List Event) (after : World) → WeakClearingStep c waiting below (with_phase (WeakClearing waiting)) events after → IsSettled limits after
+  weak_clearing_counts : (waiting : List ℕ) (events : List Event) (after : World) → WeakClearingStep (profile_of script.items) c waiting below (with_phase (WeakClearing waiting)) events after → IsSettled limits after
   weak_clearing_counts waiting events after (inl step) = to after _ step.yields.1 (go (waits v.objects step.weak))
     where
       lost : List Object

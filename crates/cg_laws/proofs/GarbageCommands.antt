@@ -10,11 +10,11 @@ use Rattle.cg_graph.specs.Value.{put}
 use Rattle.cg_graph.specs.Object.{Object, with_entries}
 use Rattle.cg_machine.specs.World.{World, with_change}
 use Rattle.cg_machine.specs.Weak.{is_instance}
-use Rattle.cg_machine.specs.Effects.{Effect, Changes, Calls, Collects, Quits, tracked_by, frozen, unfrozen}
+use Rattle.cg_machine.specs.Effects.{Effect, Changes, Calls, Collects, Explains, Quits, tracked_by, frozen, unfrozen}
 use Rattle.cg_machine.specs.Operands.{is_dict}
 use Rattle.cg_machine.proofs.Lookups.{references_of_member}
 use Rattle.cg_machine.proofs.DyingOrderly.{false_true}
-use Rattle.cg_machine.proofs.Shapes.{HasObject, IsEdit, Shape, Makes, Edits, Puts, Freezes, Unfreezes, StartsFrame, StartsCollection, Ends}
+use Rattle.cg_machine.proofs.Shapes.{HasObject, IsEdit, Shape, Makes, Edits, Puts, Freezes, Unfreezes, StartsFrame, StartsCollection, Ends, AsksWhy}
 use Rattle.cg_machine.proofs.CommandRefs.{all_free}
 use Rattle.cg_graph.proofs.Members.{either}
 use Rattle.cg_machine.proofs.ShapeLaws.{put_later}
@@ -26,6 +26,7 @@ module _ (w : World) (garbage : HasGarbageList w.objects) (made : 1 < w.next_ser
   IsKept (Changes wants_memory lines given_up after) = KeepsList w.objects after.objects
   IsKept (Calls f) = Unit {0}
   IsKept (Collects g) = Unit {0}
+  IsKept (Explains o) = Unit {0}
   IsKept Quits = Unit {0}
 
   -- what is not the garbage list
@@ -52,4 +53,5 @@ module _ (w : World) (garbage : HasGarbageList w.objects) (made : 1 < w.next_ser
   shape_kept command e (StartsFrame f h) = tt
   shape_kept command e (StartsCollection g low) = tt
   shape_kept command e Ends = tt
+  shape_kept command e (AsksWhy x h calm) = tt
   shape_kept command e s = same_list w.objects

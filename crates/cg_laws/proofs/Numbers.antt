@@ -6,10 +6,10 @@ use Rattle.std.specs.List.{list_any}
 use Rattle.std.proofs.lemmas.Bool.{and_parts, ltb-true, or_parts}
 use Rattle.cg_script.specs.declared.Command.{Command}
 use Rattle.cg_machine.specs.World.{World, Activity, Numbers}
-use Rattle.cg_machine.specs.Effects.{Effect, Changes, Calls, Collects, Quits}
+use Rattle.cg_machine.specs.Effects.{Effect, Changes, Calls, Collects, Explains, Quits}
 use Rattle.cg_machine.specs.Collect.{begun, survived}
 use Rattle.cg_machine.specs.Due.{due_generation, is_due}
-use Rattle.cg_machine.proofs.Shapes.{Shape, Makes, Sets, Freezes, StartsFrame, StartsCollection, Ends}
+use Rattle.cg_machine.proofs.Shapes.{Shape, Makes, Sets, Freezes, StartsFrame, StartsCollection, Ends, AsksWhy}
 use Rattle.cg_machine.proofs.Making.{left_on}
 use Rattle.cg_machine.proofs.Measure.{is_starting}
 
@@ -78,6 +78,10 @@ module _ (limits : Limits) (n : Numbers) (budget : ℕ) (stack : List Activity) 
       go false true above = record { spent = suc h.spent; within = omega (arith, h.within, zero_above, above refl); pending = omega (arith, h.pending, fit); total = h.total; still = h.still }
       go false false above = record { spent = h.spent; within = omega (arith, h.within, zero_above); pending = h.pending; total = h.total; still = h.still }
 
+-- a full collection makes the counts 0
+pub full_settles : (limits : Limits) (n : Numbers) (budget : ℕ) (stack : List Activity) → Settled limits n budget stack → StartsSettled limits n budget stack 2
+full_settles limits n budget stack h survivors fit = record { spent = h.spent; within = omega (arith, h.within); pending = omega arith; total = fit; still = h.still }
+
 -- activities without commands come and go
 module _ (limits : Limits) (n : Numbers) (budget : ℕ) (a : Activity) (below : List Activity) where
   pub on_top : left_on (a ∷ []) ≡ 0 → is_starting a ≡ false → Settled limits n budget below → Settled limits n budget (a ∷ below)
@@ -96,6 +100,7 @@ abbrev pub LeavesNumbers : World → Effect → Type 0
 LeavesNumbers w (Changes wants_memory lines given_up after) = CountsOne w.numbers after.numbers
 LeavesNumbers w (Calls f) = Unit {0}
 LeavesNumbers w (Collects g) = Unit {0}
+LeavesNumbers w (Explains o) = Unit {0}
 LeavesNumbers w Quits = Unit {0}
 
 kept : (n : Numbers) → CountsOne n n
@@ -109,4 +114,5 @@ shape_counts w command e (Freezes is) = record { counts_one = omega arith; pendi
 shape_counts w command e (StartsFrame f h) = tt
 shape_counts w command e (StartsCollection g low) = tt
 shape_counts w command e Ends = tt
+shape_counts w command e (AsksWhy x h calm) = tt
 shape_counts w command e s = kept w.numbers

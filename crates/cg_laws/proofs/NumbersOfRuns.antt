@@ -8,7 +8,7 @@ use Rattle.cg_script.specs.declared.Script.{Script}
 use Rattle.cg_script.specs.declared.Command.{Command}
 use Rattle.cg_graph.specs.Object.{Object}
 use Rattle.cg_machine.specs.declared.event.FrameSort.TheVariants.{Call as CallFrame}
-use Rattle.cg_machine.specs.World.{World, Numbers, Activity, TopLevel, Framed, Releasing, Dying, Collecting, Collection, Start, opening, push, with_stack}
+use Rattle.cg_machine.specs.World.{World, Numbers, Activity, TopLevel, Framed, Releasing, Dying, Collecting, Collection, Start, opening, push, with_stack, ShuttingDown}
 use Rattle.cg_machine.specs.Program.{body_of, commands_of}
 use Rattle.cg_machine.specs.Holdings.{is_collecting}
 use Rattle.cg_machine.specs.Frame.{procedure_of, start_frame, frame_end, released}
@@ -18,7 +18,7 @@ use Rattle.cg_machine.specs.Commands.{new_collection}
 use Rattle.cg_machine.specs.Due.{due, due_generation, is_due}
 use Rattle.cg_machine.specs.Run.{last_world}
 use Rattle.cg_machine.proofs.ShapeLaws.{changes_leave}
-use Rattle.cg_machine.proofs.Invariants.{HasCommands, Takes, FromTop, FromFrame, emptied, on, CommandSteps, Steps, InEachWorld, by_runs}
+use Rattle.cg_machine.proofs.Invariants.{HasCommands, Takes, FromTop, FromFrame, emptied, on, CommandSteps, Steps, InEachWorld, by_runs, last_has}
 use Rattle.cg_machine.proofs.Making.{left_on}
 use Rattle.cg_machine.proofs.MakingOfRuns.{few_serials}
 use Rattle.cg_machine.proofs.Measure.{is_first, is_starting}
@@ -26,7 +26,7 @@ use Rattle.cg_machine.proofs.Serials.{Rises}
 use Rattle.cg_machine.proofs.Ending.{sound_after}
 use Rattle.cg_machine.proofs.Sound.{opening_sound}
 use Rattle.cg_laws.specs.Few.{AreFew, NumbersAreFew}
-use Rattle.cg_laws.proofs.Numbers.{CountsOne, Limits, Settled, StartsSettled, asked_settles, due_settles, shape_counts, off_top, raised}
+use Rattle.cg_laws.proofs.Numbers.{CountsOne, Limits, Settled, StartsSettled, asked_settles, due_settles, shape_counts, off_top, raised, full_settles}
 use Rattle.cg_laws.proofs.Counting.{IsSettled, dying_counts, frame_end_counts, phase_counts, released_counts, starts_counts}
 
 -- What holds between steps. A collection on top that is about to start leaves the numbers settled too.
@@ -83,6 +83,7 @@ module _ (limits : Limits) (script : Script) (short : (p : ℕ) → length (body
   emptied_counts : (top : Activity) → top ≡ a → HasCommands top → Settled limits v.numbers v.budget (emptied top ∷ below)
   emptied_counts (TopLevel commands) same k = fewer (TopLevel []) (omega arith) (ap is_starting same)
   emptied_counts (Framed f) same k = fewer (Framed (record f { commands = [] })) (omega arith) (ap is_starting same)
+  emptied_counts (ShuttingDown started) same k = fewer (ShuttingDown started) (omega arith) (ap is_starting same)
   emptied_counts top same k = absurd k
 
   counted : (after : World) → IsSettled limits after → IsCounted limits after
@@ -112,6 +113,7 @@ due_counts limits w h g d = record { now = h; soon = λ first. due_pushed limits
 on_commands : (limits : Limits) (a : Activity) (below : List Activity) (v : World) → HasCommands a → IsCounted limits (on a below v) → IsSettled limits (on a below v)
 on_commands limits (TopLevel commands) below v ha h = h
 on_commands limits (Framed f) below v ha h = h
+on_commands limits (ShuttingDown started) below v ha h = h
 on_commands limits a below v ha h = absurd ha
 
 taken : (limits : Limits) (command : Command) (a b : Activity) (below : List Activity) (v : World) → Takes command a b → IsCounted limits (on a below v) → Settled limits (raised v.numbers) v.budget (b ∷ below)
@@ -125,7 +127,12 @@ module _ (limits : Limits) (script : Script) (short : (p : ℕ) → length (body
   keeps_counted : Steps script (λ w. (length w.objects ≤ limits.objects) × IsCounted limits w) (λ w events. IsCounted limits)
   keeps_counted = record {
     starts_due = λ a below v ha g e k. due_counts limits (on a below v) (on_commands limits a below v ha k.1) g e;
-    ends = λ below v k. k.1;
+    ends = λ a lines below v last k. settled_counted limits v.numbers v.budget (a ∷ below) (on_commands limits a below v (last_has (on a below v) a lines last) k.1);
+    shuts_down = λ below v k. record { spent = k.1.spent; within = omega (arith, k.1.within); pending = k.1.pending; total = k.1.total; still = k.1.still };
+    gives_up = λ name below v e k. record { spent = k.1.spent; within = omega (arith, k.1.within); pending = k.1.pending; total = k.1.total; still = k.1.still };
+    collects_last = λ below v k.
+        let now : Settled limits v.numbers v.budget (ShuttingDown true ∷ below) = record { spent = k.1.spent; within = omega (arith, k.1.within); pending = k.1.pending; total = k.1.total; still = k.1.still } in
+        record { now = now; soon = λ first. full_settles limits v.numbers v.budget (ShuttingDown true ∷ below) now };
     commands = λ command a b below v takes hb k. command_counts limits script short b below v hb (taken limits command a b below v takes k.1) (on a below v) command;
     frame_ends = λ f below v left k. settles limits (frame_end f (with_stack below v)).1 (frame_end f (with_stack below v)).1 refl (frame_end_counts limits f below v k.1);
     releases = λ references below v k. settles limits (released references below (on (Releasing references) below v)).1 (released references below (on (Releasing references) below v)).1 refl (released_counts limits references below v k.1);

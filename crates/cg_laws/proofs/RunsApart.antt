@@ -4,7 +4,7 @@ use Rattle.cg_script.specs.declared.Script.{Script}
 use Rattle.cg_graph.specs.Object.{Object}
 use Rattle.cg_graph.proofs.Members.{either}
 use Rattle.cg_machine.specs.declared.event.Event.{Event}
-use Rattle.cg_machine.specs.World.{World, Activity, TopLevel, Framed, Releasing, Dying, Collecting, opening}
+use Rattle.cg_machine.specs.World.{World, Activity, TopLevel, Framed, Releasing, Dying, Collecting, opening, ShuttingDown}
 use Rattle.cg_machine.specs.Holdings.{is_collection}
 use Rattle.cg_machine.specs.Run.{Step, StepTaken, StepOf, Run, last_world}
 use Rattle.cg_machine.specs.Laws.{IsOfCollection}
@@ -38,7 +38,7 @@ other_apart script w a below events after top none step sound calm order h =
     let stack : IsStack script w (a ∷ below) = subst (IsStack script w) top calm.stack in
     let left : LeavesUnder w (a ∷ below) after = subst (λ st. LeavesUnder w st after) top (step_leaves script w events after step sound calm order) in
     let made = lives_within 1 w.next_serial w.objects 1 sound.rises order.root_lives in
-    let plain : IsPlainUnder w.objects (a ∷ below) after = subst (λ st. IsPlainUnder w.objects st after) top (step_plain script w events after step h.garbage made.1 calm) in
+    let plain : IsPlainUnder w.objects (a ∷ below) after = subst (λ st. IsPlainUnder w.objects st after) top (step_plain script w events after step h.garbage made.1 calm sound.bottom) in
     step_apart w a below after top none sound.rises (leaves_below script w a below after top sound.rises stack.1 order left) (plain none) h
 
 -- a step, and a run
@@ -49,6 +49,7 @@ module _ (script : Script) (budget : ℕ) where
   step_keeps w (Framed f ∷ below) events after top step sound calm order lawful h = other_apart script w (Framed f) below events after top refl step sound calm order h
   step_keeps w (Releasing references ∷ below) events after top step sound calm order lawful h = other_apart script w (Releasing references) below events after top refl step sound calm order h
   step_keeps w (Dying d ∷ below) events after top step sound calm order lawful h = other_apart script w (Dying d) below events after top refl step sound calm order h
+  step_keeps w (ShuttingDown started ∷ below) events after top step sound calm order lawful h = other_apart script w (ShuttingDown started) below events after top refl step sound calm order h
   step_keeps w (Collecting c ∷ below) events after top step sound calm order lawful h = collect_apart script budget w c below events after top lawful h (subst (λ st. StepOf script w st events after) top step.step)
 
   apart_after : (w : World) (steps : List StepTaken) → Sound w → Calm script w → HasOrder w → StaysLawful script budget w → IsApart w → Run script w steps → IsApart (last_world w steps)

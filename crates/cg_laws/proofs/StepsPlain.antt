@@ -16,7 +16,7 @@ use Rattle.cg_machine.specs.declared.event.FrameSort.{FrameSort}
 use Rattle.cg_machine.specs.declared.event.FrameSort.TheVariants.{Del, Legacy, Callback, Call as CallFrame}
 use Rattle.cg_machine.specs.declared.event.FrameSpec.{FrameSpec}
 use Rattle.cg_machine.specs.Program.{body_of, legacy_of}
-use Rattle.cg_machine.specs.World.{World, Activity, TopLevel, Framed, Releasing, Dying, Collecting, Frame, DyingPhase, Finalizer, AfterFinalizer, Clearing, Calling, AfterCall, LegacyFinalizer, AfterLegacy, Detaching, Emptying, Collection, Start, BudgetIsSpent, with_stack, with_change}
+use Rattle.cg_machine.specs.World.{World, Activity, TopLevel, Framed, Releasing, Dying, Collecting, Frame, DyingPhase, Finalizer, AfterFinalizer, Clearing, Calling, AfterCall, LegacyFinalizer, AfterLegacy, Detaching, Emptying, Collection, Start, BudgetIsSpent, with_stack, with_change, ShuttingDown}
 use Rattle.cg_machine.specs.Holdings.{is_collection, is_collecting, in_degree, is_dying}
 use Rattle.cg_machine.specs.Frame.{Transition, start_frame, frame_end, gives_up_function, begin_death, released, procedure_of}
 use Rattle.cg_machine.specs.Weak.{has_weak_references, weak_references_if, loses_referent, callback_of}
@@ -27,9 +27,11 @@ use Rattle.cg_machine.specs.Due.{due, is_due, due_generation}
 use Rattle.cg_machine.specs.Run.{Step}
 use Rattle.cg_machine.proofs.ShapeLaws.{changes_leave}
 use Rattle.cg_machine.proofs.Unheld.{Calm}
-use Rattle.cg_machine.proofs.Invariants.{HasCommands, emptied, on, CommandSteps, Steps, any_step}
+use Rattle.cg_machine.proofs.Invariants.{HasCommands, emptied, on, CommandSteps, Steps, any_step, del_shaped, last_has}
 use Rattle.cg_laws.proofs.GarbageKept.{HasGarbageList, KeepsList, same_list, list_kept, other_kept, untracked_kept, dead_kept, lost_kept, without_kept}
 use Rattle.cg_laws.proofs.GarbageCommands.{shape_kept}
+use Rattle.cg_script.specs.declared.Command.TheVariants.{Del}
+use Rattle.cg_machine.proofs.Sound.{HasBottom}
 
 -- The collections of a stack are those below, or one that is to start where there is none.
 abbrev pub StartsAlone : List Activity → List Activity → Type 0
@@ -153,11 +155,13 @@ module _ (script : Script) (o : ℕ) (below : List Activity) (v : World) where
 no_collection : (a : Activity) → HasCommands a → is_collection a ≡ false
 no_collection (TopLevel commands) h = refl
 no_collection (Framed f) h = refl
+no_collection (ShuttingDown started) h = refl
 no_collection a h = absurd h
 
 free_below : (a : Activity) (below : List Activity) → HasCommands a → list_any is_collection (a ∷ below) ≡ false → list_any is_collection below ≡ false
 free_below (TopLevel commands) below h e = e
 free_below (Framed f) below h e = e
+free_below (ShuttingDown started) below h e = e
 free_below a below h e = absurd h
 
 -- a collection is to start where there is none
@@ -190,6 +194,7 @@ module _ (script : Script) (a : Activity) (below : List Activity) (v : World) (h
   emptied_plain : (top : Activity) → HasCommands top → IsPlain v.objects below (on (emptied top) below v)
   emptied_plain (TopLevel commands) k = unchanged (TopLevel []) tt
   emptied_plain (Framed f) k = unchanged (Framed (record f { commands = [] })) tt
+  emptied_plain (ShuttingDown started) k = unchanged (ShuttingDown started) tt
   emptied_plain top k = absurd k
 
 -- any step of an activity that is no collection
@@ -201,7 +206,7 @@ abbrev StepIsPlain : World → List Event → World → Type 0
 StepIsPlain w events after = IsPlainUnder w.objects w.stack after
 
 abbrev IsReady : Script → World → Type 0
-IsReady script w = HasGarbageList w.objects × (1 < w.next_serial) × Calm script w
+IsReady script w = HasGarbageList w.objects × (1 < w.next_serial) × Calm script w × HasBottom w.stack
 
 command_plain : (script : Script) (command : Command) (b a : Activity) (below : List Activity) (v : World) → HasCommands a → HasGarbageList v.objects → 1 < v.next_serial → CommandSteps script StepIsPlain (on b below v) command (on a below v) a below
 command_plain script command b a below v ha garbage made = record {
@@ -215,10 +220,17 @@ command_plain script command b a below v ha garbage made = record {
   asks = λ g low e none. record { stack = begins_alone a g true below (on a below v) ha (free_below a below ha e); list = same_list v.objects };
 }
 
+-- nothing stands below the shutdown
+none_below : (below : List Activity) → below ≡ [] → list_any is_collection below ≡ false
+none_below below e = ap (list_any is_collection) e
+
 steps_plain : (script : Script) → Steps script (IsReady script) StepIsPlain
 steps_plain script = record {
   starts_due = λ a below v ha g e k none. record { stack = begins_alone a g false below (on a below v) ha (free_below a below ha (due_alone (on a below v) g e)); list = same_list v.objects };
-  ends = λ below v k none. record { stack = with_alone (TopLevel []) below below refl (below_alone below); list = same_list v.objects };
+  ends = λ a lines below v last k none. record { stack = with_alone a below below (no_collection a (last_has (on a below v) a lines last)) (below_alone below); list = same_list v.objects };
+  shuts_down = λ below v k none. record { stack = with_alone (ShuttingDown false) below below refl (below_alone below); list = same_list v.objects };
+  gives_up = λ name below v e k. (command_plain script (Del name) (ShuttingDown false) (ShuttingDown false) below v tt k.0 k.1).changes false [] _ _ (del_shaped (on (ShuttingDown false) below v) name);
+  collects_last = λ below v k none. record { stack = begins_alone (ShuttingDown true) 2 false below (on (ShuttingDown false) below v) tt (none_below below k.3); list = same_list v.objects };
   commands = λ command a b below v takes hb k. command_plain script command a b below v hb k.0 k.1;
   frame_ends = λ f below v left k none. frame_end_plain f below v;
   releases = λ references below v k none. released_plain references below v;
@@ -226,5 +238,5 @@ steps_plain script = record {
   collects = λ c below v events after step k none. let no : true ≡ false = none in absurd (cc);
 }
 
-pub step_plain : (script : Script) (w : World) (events : List Event) (after : World) → Step script w events after → HasGarbageList w.objects → 1 < w.next_serial → Calm script w → IsPlainUnder w.objects w.stack after
-step_plain script w events after step garbage made c = any_step script (IsReady script) StepIsPlain (steps_plain script) w events after step (garbage, made, c)
+pub step_plain : (script : Script) (w : World) (events : List Event) (after : World) → Step script w events after → HasGarbageList w.objects → 1 < w.next_serial → Calm script w → HasBottom w.stack → IsPlainUnder w.objects w.stack after
+step_plain script w events after step garbage made c bottom = any_step script (IsReady script) StepIsPlain (steps_plain script) w events after step (garbage, made, c, bottom)

@@ -20,6 +20,8 @@ use Rattle.cg_machine.specs.Laws.{IsOrderly, all_waits}
 use Rattle.cg_machine.specs.Collect.{collection_at, older, waits, ClearsOne, WeakClearingStep, calls_back, after_release}
 use Rattle.cg_laws.specs.Apart.{IsInWeakPhase, IsGarbageList, IsApart}
 use Rattle.cg_laws.proofs.SetsApart.{NoneCollects, AreApart, goes_to, restands, starts_apart, gives_up_apart, places_kept, moved, lost_apart}
+use Rattle.cg_machine.specs.Program.{profile_of}
+use Rattle.cg_machine.proofs.Clearing.{refers_early}
 
 -- the garbage list is no weak reference
 no_weak : (x : Object) → IsGarbageList x → x.code ≢ Weak
@@ -66,7 +68,7 @@ module _ (script : Script) (c : Collection) (below : List Activity) (v : World) 
   to after next e h = subst IsApart (sym e) h
 
   -- a weak reference loses its referent, and may wait
-  clears_apart : (waiting : List ℕ) (events : List Event) (after : World) → ClearsOne c waiting below (at (WeakClearing waiting)) events after → IsOrderly (at (WeakClearing waiting)) → AreApart v.objects (WeakClearing waiting) → IsApart after
+  clears_apart : (waiting : List ℕ) (events : List Event) (after : World) → ClearsOne (profile_of script.items) c waiting below (at (WeakClearing waiting)) events after → IsOrderly (at (WeakClearing waiting)) → AreApart v.objects (WeakClearing waiting) → IsApart after
   clears_apart waiting events after step orderly h = to after _ step.yields.1 (go (waits v.objects step.weak))
     where
       weak : ℕ
@@ -80,7 +82,7 @@ module _ (script : Script) (c : Collection) (below : List Activity) (v : World) 
       code (Some r) e f k = (orderly.referents y step.newest.member r e).0
 
       no_root : weak ≢ 1
-      no_root e = no_weak y (h.garbage y step.newest.member (step.newest.is ∙ e)) (code y.referent refl _ step.newest.to_lose)
+      no_root e = no_weak y (h.garbage y step.newest.member (step.newest.is ∙ e)) (code y.referent refl _ (refers_early (profile_of script.items) v.objects y step.newest.to_lose))
 
       lost : List Object
       lost = loses_referent weak v.objects
@@ -101,7 +103,7 @@ module _ (script : Script) (c : Collection) (below : List Activity) (v : World) 
       go true = goes_to c (WeakClearing (waiting ++ weak ∷ [])) below (with_objects (change (with_place Pend) weak lost) (at (WeakClearing waiting))) alone pending_now
       go false = goes_to c (WeakClearing waiting) below (with_objects lost (at (WeakClearing waiting))) alone lost_now
 
-  pub clearing_apart : (waiting : List ℕ) (events : List Event) (after : World) → WeakClearingStep c waiting below (at (WeakClearing waiting)) events after → IsOrderly (at (WeakClearing waiting)) → AreApart v.objects (WeakClearing waiting) → IsApart after
+  pub clearing_apart : (waiting : List ℕ) (events : List Event) (after : World) → WeakClearingStep (profile_of script.items) c waiting below (at (WeakClearing waiting)) events after → IsOrderly (at (WeakClearing waiting)) → AreApart v.objects (WeakClearing waiting) → IsApart after
   clearing_apart waiting events after (inl step) orderly h = clears_apart waiting events after step orderly h
   clearing_apart waiting events after (inr step) orderly h = to after _ step.1.1 (goes_to c (WeakCalling waiting) below v alone (restands (WeakClearing waiting) (WeakCalling waiting) v.objects (λ k. k) (λ x m k. k) h))
 
