@@ -1,0 +1,23 @@
+//! A checker of records of collections: it says yes only where the recorded sets are right for the recorded graphs.
+//!
+//! The layer above rests on one contract: the verdict on bytes is a definition (`specs/Judged`), by the text of records
+//! and by what a path of members reaches. Whoever made a record need not be trusted.
+//!
+//! - `table`: the serials of a graph, turned into positions of its members.
+//! - `degrees`: in-degrees, less the references of members.
+//! - `search`: what paths by rows of positions lead to.
+//! - `graph`: the fault of one graph; `check`: the verdict on all graphs of records.
+//! - `laws`: no bytes have two verdicts.
+#![tactic(auto)]
+
+mod check;
+mod degrees;
+mod graph;
+mod laws;
+mod search;
+mod table;
+#[cfg(test)]
+mod tests;
+
+pub use check::{Verdict, check_records};
+pub use laws::one_verdict;
