@@ -3,7 +3,7 @@ ghost use Rattle.std.specs.Prelude.{◌≡◌, ◌<◌, ℕ, List, length, map, 
 ghost use Rattle.cg_cert.specs.Judged.{serials_of, references_of, IsOnceEach};
 ghost use Rattle.cg_cert.specs.Positions.{Locates, AreNames, IsSetOf, IsRowOf, MarksAll, AreRowsOf, rows_in, AreWithin};
 
-use cg_records::{Member, Serials};
+use cg_records::Member;
 use std::alloc::{AllocError, Global};
 use std::collections::BTreeMap;
 
@@ -28,13 +28,13 @@ pub(crate) fn positions_of(
 pub(crate) fn row_of(
     alloc: Global,
     table: &BTreeMap<u64, usize>,
-    serials: &Serials,
+    serials: &[u64],
 ) -> Result<Option<Vec<usize>>, AllocError>
     ensures found { (names : List ℕ) → Locates names table.now → IfOk result (λ named. IfSome named (λ row. IsRowOf names serials.now row.items)) }
     ensures none { (names : List ℕ) → Locates names table.now → IfOk result (λ named. IfNone named (AreNames names serials.now → ⊥)) }
 {
     let mut row = Vec::new(alloc);
-    'serials: for serial in serials.as_slice() {
+    'serials: for serial in serials {
         match table.get(serial) {
             Some(at) => row.push(*at)?,
             None => return Ok(None),
@@ -54,7 +54,7 @@ pub(crate) fn rows_of(
 {
     let mut rows = Vec::new(alloc);
     'members: for member in members {
-        match row_of(alloc, table, &member.refs)? {
+        match row_of(alloc, table, member.refs.as_slice())? {
             Some(row) => rows.push(row)?,
             None => return Ok(None),
         }
@@ -67,7 +67,7 @@ pub(crate) fn marks_of(
     alloc: Global,
     table: &BTreeMap<u64, usize>,
     members: usize,
-    serials: &Serials,
+    serials: &[u64],
 ) -> Result<Option<Vec<bool>>, AllocError>
     requires { AreWithin members table.now }
     ensures found { (names : List ℕ) → Locates names table.now → members ≡ length names → IfOk result (λ named. IfSome named (λ marks. MarksAll names serials.now marks.items)) }
@@ -75,7 +75,7 @@ pub(crate) fn marks_of(
     ensures none { (names : List ℕ) → Locates names table.now → members ≡ length names → IfOk result (λ named. IfNone named (IsSetOf names serials.now → ⊥)) }
 {
     let mut marks = Vec::from_elem(alloc, false, members)?;
-    'serials: for serial in serials.as_slice() {
+    'serials: for serial in serials {
         let Some(at) = table.get(serial) else {
             return Ok(None);
         };
