@@ -1,9 +1,8 @@
 //! The fault of one recorded graph.
-ghost use Rattle.std.specs.Prelude.{◌≡◌, ◌<◌, ℕ, List, length, map, replicate, not, true, IfOk, IfSome, IfNone, ◌↔◌, nat_lt};
+ghost use Rattle.std.specs.Prelude.{◌≡◌, map, not, true, IfOk, IfSome, IfNone, ◌↔◌, nat_lt};
 ghost use Rattle.std.specs.List.{concat};
-ghost use Rattle.cg_cert.specs.Judged.{IsWellNamed, CoversReferences, FindsLost, FindsSetAside, IsRight, HasFault, part};
+ghost use Rattle.cg_cert.specs.Judged.{IsWellNamed, FindsLost, FindsSetAside, IsRight, HasFault, part};
 ghost use Rattle.cg_cert.specs.Positions.{IsLocated, Leaves, degrees_of, rows_in};
-ghost use Rattle.cg_records.specs.declared.graph.Graph.{Graph as GraphModel};
 
 use crate::degrees::outside_degrees;
 use crate::search::search;
@@ -64,32 +63,44 @@ fn opposite(alloc: Global, marks: &[bool]) -> Result<Vec<bool>, AllocError>
     marks.iter().map(|mark| !*mark).collect(alloc)
 }
 
+/// Whether the same positions are marked.
+fn are_same(marks: &[bool], others: &[bool]) -> bool
+    ensures { (result ≡ true) ↔ (marks.now ≡ others.now) }
+{
+    marks == others
+}
+
 /// Whether just those were found unreachable that are.
 fn finds_lost(
     alloc: Global,
-    left: &[u64],
+    graph: &Graph,
     located: &Located,
+    left: &[u64],
 ) -> Result<bool, AllocError>
-    ensures { (g : GraphModel) → IsLocated g located.now → Leaves (degrees_of g.members) (concat (rows_in located.now.rows.items)) left.now → IfOk result (λ right. (right ≡ true) ↔ FindsLost g) }
+    requires located { IsLocated graph.now located.now }
+    requires left { Leaves (degrees_of graph.now.members) (concat (rows_in located.now.rows.items)) left.now }
+    ensures { IfOk result (λ right. (right ≡ true) ↔ FindsLost graph.now) }
 {
     let held = held_of(alloc, left)?;
-    let all = Vec::from_elem(alloc, true, left.len())?;
+    let all = Vec::from_elem(alloc, true, graph.members.as_slice().len())?;
     let found = search(alloc, &held, &all, &located.rows)?;
     let unreachable = opposite(alloc, &found)?;
-    Ok(unreachable.as_slice() == located.lost.as_slice())
+    Ok(are_same(&unreachable, &located.lost))
 }
 
 /// Whether just those were set aside that are to be, where just those were found unreachable that are.
 fn finds_set_aside(
     alloc: Global,
-    members: &[Member],
+    graph: &Graph,
     located: &Located,
 ) -> Result<bool, AllocError>
-    ensures { (g : GraphModel) → g.members ≡ members.now → IsLocated g located.now → FindsLost g → IfOk result (λ right. (right ≡ true) ↔ FindsSetAside g) }
+    requires located { IsLocated graph.now located.now }
+    requires lost { FindsLost graph.now }
+    ensures { IfOk result (λ right. (right ≡ true) ↔ FindsSetAside graph.now) }
 {
-    let marked = marked_of(alloc, members)?;
+    let marked = marked_of(alloc, graph.members.as_slice())?;
     let found = search(alloc, &marked, &located.lost, &located.rows)?;
-    Ok(found.as_slice() == located.legacy.as_slice())
+    Ok(are_same(&found, &located.legacy))
 }
 
 /// The least code of a fault of the graph, if it has one. Only a first graph has a set that was set aside.
@@ -104,14 +115,13 @@ pub(crate) fn fault_of(
     let Some(located) = locate(alloc, graph)? else {
         return Ok(Some(2));
     };
-    let members = graph.members.as_slice();
-    let Some(left) = outside_degrees(alloc, members, located.rows.as_slice())? else {
+    let Some(left) = outside_degrees(alloc, graph.members.as_slice(), &located.rows)? else {
         return Ok(Some(3));
     };
-    if !finds_lost(alloc, left.as_slice(), &located)? {
+    if !finds_lost(alloc, graph, &located, &left)? {
         return Ok(Some(4));
     }
-    if is_first && !finds_set_aside(alloc, members, &located)? {
+    if is_first && !finds_set_aside(alloc, graph, &located)? {
         return Ok(Some(5));
     }
     Ok(None)
