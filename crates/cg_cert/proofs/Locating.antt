@@ -16,6 +16,9 @@ use Rattle.cg_cert.proofs.Named.{placed_once}
 use Rattle.cg_cert.proofs.Places.{once_from_placed, includes_at}
 use Rattle.cg_cert.proofs.Judging.{targets_within, covers, covers_not, named_row, rows_joined}
 
+pub differs : ◌≡◌ {A = Bool} false true → ⊥
+differs e = absurd (cc)
+
 -- each position is below the number of members
 pub located_within : (g : Graph) (members : List Member) (table : BTreeMap ℕ ℕ) → members ≡ g.members → Locates (serials_of g.members) table → AreWithin (length members) table
 located_within g members table e locates o i found =
@@ -74,16 +77,10 @@ module _ (g : Graph) (l : Located) (located : IsLocated g l) where
       (subst (λ (ms : List Member). IsTooLow (degrees_of ms) (concat (rows_in l.rows.items))) e (subst (λ (vs : List (Vec ℕ)). IsTooLow (degrees_of members) (concat (rows_in vs))) f low)))
 
   pub fault_of_lost : (is_first : Bool) (left : List ℕ) (right : Bool) → Leaves (degrees_of g.members) (concat (rows_in l.rows.items)) left → (right ≡ true) ↔ FindsLost g → right ≡ false → HasFault (part is_first g) 4
-  fault_of_lost is_first left right h answer off = loses located.names (covers_of left h) (λ finds. clash (sym off ∙ answer.1 finds))
-    where
-      clash : ◌≡◌ {A = Bool} false true → ⊥
-      clash e = absurd (cc)
+  fault_of_lost is_first left right h answer off = loses located.names (covers_of left h) (λ finds. differs (sym off ∙ answer.1 finds))
 
   pub fault_of_legacy : (is_first : Bool) (left : List ℕ) (right : Bool) → is_first ≡ true → Leaves (degrees_of g.members) (concat (rows_in l.rows.items)) left → FindsLost g → (right ≡ true) ↔ FindsSetAside g → right ≡ false → HasFault (part is_first g) 5
-  fault_of_legacy is_first left right is h finds answer off = sets_aside located.names (covers_of left h) finds is (λ found. clash (sym off ∙ answer.1 found))
-    where
-      clash : ◌≡◌ {A = Bool} false true → ⊥
-      clash e = absurd (cc)
+  fault_of_legacy is_first left right is h finds answer off = sets_aside located.names (covers_of left h) finds is (λ found. differs (sym off ∙ answer.1 found))
 
   pub right_of : (is_first : Bool) (left : List ℕ) → Leaves (degrees_of g.members) (concat (rows_in l.rows.items)) left → FindsLost g → (is_first ≡ true → FindsSetAside g) → IsRight (part is_first g)
   right_of is_first left h finds aside = record { names = located.names; degrees = covers_of left h; lost = finds; set_aside = aside }
