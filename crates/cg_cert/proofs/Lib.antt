@@ -5,3 +5,4 @@ pub mod Left
 pub mod Judging
 pub mod Sets
 pub mod Locating
+pub mod Verdicts
