@@ -1,18 +1,17 @@
 -- A graph by positions is the graph: rows and edges, what is left of in-degrees, paths, and the sets that were found.
-use Rattle.std.proofs.Common.{◌≡◌, refl, sym, ◌∙◌, ap, subst, ℕ, zero, suc, ◌+◌, ◌<◌, ◌≤◌, Bool, true, false, not, nat_lt, ◌⊎◌, inl, inr, List, [], ◌∷◌, ◌++◌, length, Option, Some, None, arith, get_or, map, replicate}
-use Rattle.std.specs.Prelude.{◌↔◌, slice_get, option_map, flat_map}
+use Rattle.std.proofs.Common.{◌≡◌, refl, sym, ◌∙◌, ap, subst, ℕ, zero, suc, ◌<◌, Bool, true, false, nat_lt, inl, inr, List, [], ◌∷◌, ◌++◌, length, Option, Some, None, arith, get_or, map}
+use Rattle.std.specs.Prelude.{◌↔◌, slice_get, option_map}
 use Rattle.std.specs.List.{concat}
 use Rattle.std.proofs.lemmas.Bool.{cases_eq}
-use Rattle.std.proofs.lemmas.List.{map-append, length-map, length-replicate, get_or-replicate}
+use Rattle.std.proofs.lemmas.List.{map-append, length-map}
 use Rattle.std.proofs.lemmas.Option.{same_Some, none-some, slice_get-map, slice_get-get_or, slice_get_within, get_or_from_slice_get}
 use Rattle.cg_graph.specs.declared.Edge.{Edge}
 use Rattle.cg_graph.specs.Member.{Includes}
 use Rattle.cg_graph.specs.Holdings.{occurrences}
-use Rattle.cg_graph.specs.Reach.{Reach, first, next, Unreachable}
-use Rattle.cg_graph.proofs.Members.{either, cases_of, Includes-append_left, Includes-append_right, Includes-append_cases, Includes-map, Includes-map_cases}
+use Rattle.cg_graph.specs.Reach.{Reach, first, next}
+use Rattle.cg_graph.proofs.Members.{either, Includes-append_left, Includes-append_right, Includes-append_cases, Includes-map, Includes-map_cases}
 use Rattle.cg_records.specs.declared.graph.Member.{Member}
-use Rattle.cg_records.specs.declared.graph.Graph.{Graph}
-use Rattle.cg_cert.specs.Judged.{serials_of, references_of, edges_of, IsMember, IsHeld, IsMarked, IsLost, IsSetAside, IsWellNamed, CoversReferences, FindsLost, FindsSetAside, NamesMembers}
+use Rattle.cg_cert.specs.Judged.{serials_of, references_of, edges_of, IsHeld, IsMarked, CoversReferences}
 use Rattle.cg_cert.specs.Positions.{ArePlacedOnce, names_in, IsRowOf, AreRowsOf, Marks, MarksAll, Leads, begins, follows, Leaves, IsTooLow, degrees_of}
 use Rattle.cg_cert.proofs.Places.{includes_at, place_in, occurrences-same, occurrences-other}
 

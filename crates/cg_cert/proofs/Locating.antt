@@ -1,6 +1,6 @@
 -- A graph whose names are right, by positions, and the faults of a graph.
-use Rattle.std.proofs.Common.{◌≡◌, refl, sym, ◌∙◌, ap, subst, ℕ, ◌<◌, Bool, true, false, List, length, Option, Some, None, arith, map}
-use Rattle.std.specs.Prelude.{◌↔◌, slice_get}
+use Rattle.std.proofs.Common.{◌≡◌, sym, ◌∙◌, ap, subst, ℕ, ◌<◌, Bool, true, false, List, length, arith}
+use Rattle.std.specs.Prelude.{◌↔◌}
 use Rattle.std.specs.List.{concat}
 use Rattle.std.specs.Global.{Vec}
 use Rattle.std.specs.BTreeMap.{BTreeMap}
@@ -10,7 +10,7 @@ use Rattle.cg_graph.specs.Member.{Includes}
 use Rattle.cg_records.specs.declared.graph.Member.{Member}
 use Rattle.cg_records.specs.declared.graph.Graph.{Graph}
 use Rattle.cg_cert.specs.declared.graph.Located.{Located}
-use Rattle.cg_cert.specs.Judged.{serials_of, references_of, IsOnceEach, IsWellNamed, CoversReferences, FindsLost, FindsSetAside, IsRight, HasFault, misnamed, too_low, loses, sets_aside, part}
+use Rattle.cg_cert.specs.Judged.{serials_of, references_of, IsWellNamed, CoversReferences, FindsLost, FindsSetAside, IsRight, HasFault, too_low, loses, sets_aside, part}
 use Rattle.cg_cert.specs.Positions.{Locates, AreWithin, AreNames, IsSetOf, AreRowsOf, MarksAll, IsLocated, Leaves, IsTooLow, degrees_of, rows_in}
 use Rattle.cg_cert.proofs.Named.{placed_once}
 use Rattle.cg_cert.proofs.Places.{once_from_placed, includes_at}

@@ -1,6 +1,6 @@
 -- Names and their positions: the table, rows and marks.
-use Rattle.std.proofs.Common.{◌≡◌, refl, sym, ◌∙◌, ap, subst, ℕ, zero, suc, ◌+◌, ◌<◌, ◌≤◌, Bool, true, false, cond, ◌⊎◌, inl, inr, List, [], ◌∷◌, ◌++◌, length, take, drop, Option, Some, None, is_some, arith, get_or, map, set, replicate}
-use Rattle.std.specs.Prelude.{◌==◌, ◌↔◌, slice_get, IfSome, IfNone}
+use Rattle.std.proofs.Common.{◌≡◌, refl, sym, ◌∙◌, ap, subst, ℕ, zero, suc, ◌+◌, ◌<◌, Bool, true, false, cond, ◌⊎◌, inl, inr, List, [], ◌∷◌, ◌++◌, length, take, Option, Some, None, is_some, arith, get_or, map, set, replicate}
+use Rattle.std.specs.Prelude.{slice_get, IfSome, IfNone}
 use Rattle.std.specs.Global.{Vec}
 use Rattle.std.specs.Ordering.{nat_cmp}
 use Rattle.std.specs.Cmp.{unsigned_tied}
@@ -10,11 +10,11 @@ use Rattle.std.proofs.lemmas.List.{take_more, map-append, get_or-map, take-map, 
 use Rattle.std.proofs.lemmas.Option.{same_Some, slice_get_within, slice_get_read, none-some}
 use Rattle.cg_graph.specs.Member.{Includes}
 use Rattle.cg_graph.specs.Holdings.{occurrences}
-use Rattle.cg_graph.proofs.Members.{either, Includes-append_left, Includes-append_right, Includes-append_cases}
+use Rattle.cg_graph.proofs.Members.{either, Includes-append_left, Includes-append_right}
 use Rattle.cg_records.specs.declared.graph.Member.{Member}
 use Rattle.cg_cert.specs.Judged.{IsOnceEach, serials_of, references_of}
-use Rattle.cg_cert.specs.Positions.{Locates, ArePlacedOnce, AreNames, IsSetOf, names_in, IsRowOf, AreRowsOf, Marks, MarksAll, AreWithin, rows_in}
-use Rattle.cg_cert.proofs.Places.{snoc_cases, snoc_old, snoc_new, includes_at, place_in, includes_next, twice, includes_more, includes_first, includes_last, slice_get-set_same, slice_get-set_other, unmarked, occurs_in, occurrences-append, occurrences-same, occurrences-other}
+use Rattle.cg_cert.specs.Positions.{Locates, ArePlacedOnce, AreNames, IsSetOf, names_in, IsRowOf, AreRowsOf, MarksAll, rows_in}
+use Rattle.cg_cert.proofs.Places.{snoc_cases, snoc_old, snoc_new, includes_at, place_in, twice, includes_more, includes_first, includes_last, slice_get-set_same, slice_get-set_other, unmarked, occurs_in, occurrences-append, occurrences-same, occurrences-other}
 
 -- one more name
 locates_one : (names : List ℕ) (s : ℕ) (table now : BTreeMap ℕ ℕ) → Locates names table → get nat_cmp table s ≡ None → Updates nat_cmp table now s (Some (length names)) → Locates (names ++ s ∷ []) now
@@ -149,8 +149,8 @@ marks_more members table serials k d at marks within so found mark = record {
     back names locates long i o at_i h = either (cases_eq i at)
         (λ same. ap (slice_get (set marks at true)) same ∙ slice_get-set_same marks at true here)
         (λ differs. slice_get-set_other marks at i true differs ∙ either (includes_more serials k d o within h)
-            (λ before. ((so.marked names locates long).marked i o at_i).1 before)
-            (λ e. absurd (differs (same_Some i at (sym ((locates o i).1 at_i) ∙ ap (get nat_cmp table) (sym e) ∙ found)))))
+        (λ before. ((so.marked names locates long).marked i o at_i).1 before)
+        (λ e. absurd (differs (same_Some i at (sym ((locates o i).1 at_i) ∙ ap (get nat_cmp table) (sym e) ∙ found)))))
 
     fresh : (names : List ℕ) → Locates names table → members ≡ length names → Includes (take k serials) s → ⊥
     fresh names locates long h =

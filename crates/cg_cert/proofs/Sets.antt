@@ -1,5 +1,5 @@
 -- The sets that were found are right just where their marks are those that the searches made.
-use Rattle.std.proofs.Common.{◌≡◌, refl, sym, ◌∙◌, ap, subst, ℕ, ◌<◌, Bool, true, false, not, nat_lt, ◌⊎◌, inl, inr, List, length, Option, Some, None, arith, map, replicate}
+use Rattle.std.proofs.Common.{◌≡◌, sym, ◌∙◌, ap, subst, ℕ, ◌<◌, Bool, true, false, not, nat_lt, List, length, Some, arith, map, replicate}
 use Rattle.std.specs.Prelude.{◌↔◌, slice_get}
 use Rattle.std.specs.List.{concat}
 use Rattle.std.specs.Global.{Vec}
@@ -7,13 +7,13 @@ use Rattle.std.proofs.lemmas.List.{length-map, length-replicate, get_or-replicat
 use Rattle.std.proofs.lemmas.Option.{slice_get-get_or, slice_get_within}
 use Rattle.cg_graph.specs.declared.Edge.{Edge}
 use Rattle.cg_graph.specs.Member.{Includes}
-use Rattle.cg_graph.specs.Reach.{Reach, first, next, Unreachable}
+use Rattle.cg_graph.specs.Reach.{Reach, first, next}
 use Rattle.cg_records.specs.declared.graph.Member.{Member}
 use Rattle.cg_records.specs.declared.graph.Graph.{Graph}
 use Rattle.cg_cert.specs.declared.graph.Located.{Located}
 use Rattle.cg_cert.specs.Judged.{serials_of, edges_of, IsMember, IsHeld, IsMarked, IsLost, IsSetAside, FindsLost, FindsSetAside}
 use Rattle.cg_cert.specs.Positions.{IsLocated, Marks, Leads, Leaves, degrees_of, rows_in}
-use Rattle.cg_cert.proofs.Places.{includes_at, place_in}
+use Rattle.cg_cert.proofs.Places.{includes_at}
 use Rattle.cg_cert.proofs.Judging.{mapped_at, from_mapped, something_at, held_there, held_back, marked_there, marked_back, led_there, reach_back, finds_same, targets_within}
 
 all_marked : (n i : ℕ) → i < n → Marks (replicate n true) i
@@ -26,7 +26,7 @@ reach_inside (next r a m) = m
 module _ (g : Graph) (l : Located) (located : IsLocated g l) where
   -- what was found is what is reached from outside, and the other members are lost
   module _ (left : List ℕ) (leaves : Leaves (degrees_of g.members) (concat (rows_in l.rows.items)) left) (found : List Bool) (long : length found ≡ length g.members)
-        (led : (i : ℕ) → Marks found i ↔ Leads (map (λ n. nat_lt 0 n) left) (replicate (length g.members) true) (rows_in l.rows.items) i) where
+      (led : (i : ℕ) → Marks found i ↔ Leads (map (λ n. nat_lt 0 n) left) (replicate (length g.members) true) (rows_in l.rows.items) i) where
     reaches : (i o : ℕ) → slice_get (serials_of g.members) i ≡ Some o → Marks found i ↔ Reach (IsHeld g.members) (IsMember g.members) (edges_of g.members) o
     reaches i o at = (
       λ m. led_there g.members (rows_in l.rows.items) located.once located.rows (map (λ n. nat_lt 0 n) left) (replicate (length g.members) true) (IsHeld g.members) (IsMember g.members)

@@ -1,5 +1,5 @@
 -- The search: what was looked at, what waits, and that it marks just what paths lead to.
-use Rattle.std.proofs.Common.{◌≡◌, refl, sym, ◌∙◌, ap, subst, ℕ, zero, suc, ◌+◌, ◌<◌, ◌≤◌, Bool, true, false, cond, not, ◌⊎◌, inl, inr, List, [], ◌∷◌, ◌++◌, length, take, Option, Some, None, arith, get_or, map, set, replicate}
+use Rattle.std.proofs.Common.{◌≡◌, refl, sym, ◌∙◌, ap, subst, ℕ, zero, suc, ◌+◌, ◌<◌, ◌≤◌, Bool, true, false, cond, not, ◌⊎◌, inl, inr, List, [], ◌∷◌, ◌++◌, length, take, Option, Some, arith, get_or, set, replicate}
 use Rattle.std.specs.Prelude.{◌↔◌, slice_get, count_by, option_to_list, option_map}
 use Rattle.std.specs.List.{concat}
 use Rattle.std.specs.Global.{Vec}

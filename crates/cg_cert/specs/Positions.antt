@@ -1,7 +1,7 @@
 -- A recorded graph by the positions of its members: marks and rows of positions, what is left of in-degrees, and what
 -- paths by rows lead to. (Ours.)
-use Rattle.std.specs.Prelude.{◌≡◌, ℕ, ◌+◌, ◌<◌, Bool, true, false, not, List, [], ◌∷◌, length, map, count_by, Option, None, Some, ◌↔◌, ◌⊎◌, slice_get, slice_index_or}
-use Rattle.std.specs.List.{concat, All}
+use Rattle.std.specs.Prelude.{◌≡◌, ℕ, ◌+◌, ◌<◌, Bool, true, not, List, length, map, count_by, Option, Some, ◌↔◌, ◌⊎◌, slice_get, slice_index_or}
+use Rattle.std.specs.List.{All}
 use Rattle.std.specs.Ordering.{nat_cmp}
 use Rattle.std.specs.BTreeMap.{BTreeMap, get}
 use Rattle.std.specs.Global.{Vec}

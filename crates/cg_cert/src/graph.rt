@@ -89,11 +89,7 @@ fn finds_lost(
 }
 
 /// Whether just those were set aside that are to be, where just those were found unreachable that are.
-fn finds_set_aside(
-    alloc: Global,
-    graph: &Graph,
-    located: &Located,
-) -> Result<bool, AllocError>
+fn finds_set_aside(alloc: Global, graph: &Graph, located: &Located) -> Result<bool, AllocError>
     requires located { IsLocated graph.now located.now }
     requires lost { FindsLost graph.now }
     ensures { IfOk result (λ right. (right ≡ true) ↔ FindsSetAside graph.now) }

@@ -122,19 +122,49 @@ fn paths_go_on(rt: HostRuntime) -> Result<(), Fail> {
 fn faults_come_in_their_order(rt: HostRuntime) -> Result<(), Fail> {
     let texts: [(&[u8], Verdict); 10] = [
         // A member twice; a reference to none; `lost` and `legacy` twice, and of none.
-        (b"record 0\ngraph 1\nm 3 0 0\nm 3 0 0\nlost 3\ncut\nend\n", no(1, 2)),
-        (b"record 0\ngraph 1\nm 3 0 0\nr 4\nlost 3\ncut\nend\n", no(1, 2)),
-        (b"record 0\ngraph 1\nm 3 0 0\nlost 3\nlost 3\ncut\nend\n", no(1, 2)),
-        (b"record 0\ngraph 1\nm 3 0 0\nlost 3\nlost 4\ncut\nend\n", no(1, 2)),
-        (b"record 0\ngraph 1\nm 3 0 1\nlost 3\nlegacy 3\nlegacy 3\ncut\nend\n", no(1, 2)),
-        (b"record 0\ngraph 1\nm 3 0 0\nlost 3\nlegacy 4\ncut\nend\n", no(1, 2)),
+        (
+            b"record 0\ngraph 1\nm 3 0 0\nm 3 0 0\nlost 3\ncut\nend\n",
+            no(1, 2),
+        ),
+        (
+            b"record 0\ngraph 1\nm 3 0 0\nr 4\nlost 3\ncut\nend\n",
+            no(1, 2),
+        ),
+        (
+            b"record 0\ngraph 1\nm 3 0 0\nlost 3\nlost 3\ncut\nend\n",
+            no(1, 2),
+        ),
+        (
+            b"record 0\ngraph 1\nm 3 0 0\nlost 3\nlost 4\ncut\nend\n",
+            no(1, 2),
+        ),
+        (
+            b"record 0\ngraph 1\nm 3 0 1\nlost 3\nlegacy 3\nlegacy 3\ncut\nend\n",
+            no(1, 2),
+        ),
+        (
+            b"record 0\ngraph 1\nm 3 0 0\nlost 3\nlegacy 4\ncut\nend\n",
+            no(1, 2),
+        ),
         // An in-degree one too low, and one too high.
-        (b"record 0\ngraph 1\nm 3 1 0\nr 3\nr 3\ncut\nend\n", no(1, 3)),
-        (b"record 0\ngraph 1\nm 3 3 0\nr 3\nr 3\nlost 3\ncut\nend\n", no(1, 4)),
+        (
+            b"record 0\ngraph 1\nm 3 1 0\nr 3\nr 3\ncut\nend\n",
+            no(1, 3),
+        ),
+        (
+            b"record 0\ngraph 1\nm 3 3 0\nr 3\nr 3\nlost 3\ncut\nend\n",
+            no(1, 4),
+        ),
         // The first faulty graph counts, over all records.
-        (b"record 0\ngraph 1\ncut\nrecord 1\ngraph 1\ngraph 2\nm 3 0 0\nstop\nrecord 0\ngraph 1\nm 3 0 0\nr 4\ncut\nend\n", no(3, 4)),
+        (
+            b"record 0\ngraph 1\ncut\nrecord 1\ngraph 1\ngraph 2\nm 3 0 0\nstop\nrecord 0\ngraph 1\nm 3 0 0\nr 4\ncut\nend\n",
+            no(3, 4),
+        ),
         // The largest numbers.
-        (b"record 0\ngraph 1\nm 18446744073709551615 18446744073709551615 0\nr 18446744073709551615\ncut\nend\n", yes(1)),
+        (
+            b"record 0\ngraph 1\nm 18446744073709551615 18446744073709551615 0\nr 18446744073709551615\ncut\nend\n",
+            yes(1),
+        ),
     ];
     check_texts(&rt, rt.alloc(), &texts)?;
     Ok(())

@@ -1,4 +1,3 @@
-use Rattle.std.proofs.Common.{arith}
 use Rattle.cg_cert.proofs.Named.{if_none, if_some}
 use Rattle.cg_cert.proofs.Verdicts.{fault_more, right_so_far_more}
 use Rattle.cg_cert.proofs.check.judge.Goals as goal

@@ -1,4 +1,4 @@
-use Rattle.std.proofs.Common.{sym, ◌∙◌, true, false}
+use Rattle.std.proofs.Common.{sym, ◌∙◌}
 use Rattle.cg_cert.specs.Judged.{misnamed}
 use Rattle.cg_cert.proofs.Named.{if_none, if_some}
 use Rattle.cg_cert.proofs.Locating.{degrees_within, leaves_of, fault_of_degrees, fault_of_lost, fault_of_legacy, right_of, differs}

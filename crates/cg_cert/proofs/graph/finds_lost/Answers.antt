@@ -1,6 +1,5 @@
 use Rattle.std.proofs.Common.{◌∙◌, ap, length, replicate, true, not, map}
 use Rattle.std.proofs.lemmas.List.{length-replicate}
-use Rattle.cg_records.specs.declared.graph.Member.{Member}
 use Rattle.cg_cert.proofs.Sets.{lost_answer, search_within}
 use Rattle.cg_cert.proofs.graph.finds_lost.Goals as goal
 

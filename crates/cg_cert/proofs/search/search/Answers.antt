@@ -1,4 +1,4 @@
-use Rattle.std.proofs.Common.{sym, ◌∙◌, ap, subst, List, ℕ, length, ◌<◌, arith, ◌++◌, [], Some}
+use Rattle.std.proofs.Common.{sym, ◌∙◌, ap, subst, List, ℕ, length, ◌<◌, arith, ◌++◌, Some}
 use Rattle.std.specs.Prelude.{option_to_list}
 use Rattle.std.proofs.lemmas.Option.{MatchOption-at_none}
 use Rattle.cg_graph.specs.Member.{Includes}

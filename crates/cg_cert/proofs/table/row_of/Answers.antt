@@ -12,4 +12,4 @@ returns-in-None-clause-none c = λ names locates named.
 pub serials-preserved : goal.serials-preserved
 serials-preserved c = λ names locates.
     subst (λ (xs : List ℕ). IsRowOf names (take (c.serials.serial-index + 1) c.args.serials.now) xs) (sym c.in_ok-push-in-Some.ensures.items)
-        (row_more names c.args.serials.now c.serials.row.items c.serials.serial-index c.in-Some.at.now 0 c.serials-test.true ((locates _ _).0 (sym c.get.ensures.value ∙ ap option_copied c.in-Some.is)) (c.serials.invariant names locates))
+    (row_more names c.args.serials.now c.serials.row.items c.serials.serial-index c.in-Some.at.now 0 c.serials-test.true ((locates _ _).0 (sym c.get.ensures.value ∙ ap option_copied c.in-Some.is)) (c.serials.invariant names locates))

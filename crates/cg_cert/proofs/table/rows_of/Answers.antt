@@ -1,9 +1,7 @@
-use Rattle.std.proofs.Common.{sym, ◌∙◌, ap, subst, List, ℕ, take, ◌+◌, map, ◌++◌, ◌∷◌, [], get_or}
-use Rattle.std.specs.Global.{Vec}
-use Rattle.std.proofs.lemmas.List.{map-append}
+use Rattle.std.proofs.Common.{◌∙◌, ap, subst, List, ℕ}
 use Rattle.cg_records.specs.declared.graph.Member.{Member}
-use Rattle.cg_cert.specs.Positions.{AreRowsOf, IsRowOf, rows_in}
-use Rattle.cg_cert.proofs.Named.{named_by_more, rows_more, if_none, if_some, rows_pushed}
+use Rattle.cg_cert.specs.Positions.{IsRowOf}
+use Rattle.cg_cert.proofs.Named.{named_by_more, if_none, if_some, rows_pushed}
 use Rattle.cg_cert.proofs.Places.{includes_next}
 use Rattle.cg_cert.proofs.table.rows_of.Goals as goal
 
