@@ -6,3 +6,4 @@ pub mod Judging
 pub mod Sets
 pub mod Locating
 pub mod Verdicts
+pub mod Told

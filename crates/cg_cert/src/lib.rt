@@ -8,16 +8,23 @@
 //! - `search`: what paths by rows of positions lead to.
 //! - `graph`: the fault of one graph; `check`: the verdict on all graphs of records.
 //! - `laws`: no bytes have two verdicts.
+//! - `input`, `tell`, `status`, `run`: the checker as a top call, over a source and a sink.
 #![tactic(auto)]
 
 mod check;
 mod degrees;
 mod graph;
+mod input;
 mod laws;
+mod run;
 mod search;
+mod status;
 mod table;
+mod tell;
 #[cfg(test)]
 mod tests;
 
 pub use check::{Verdict, check_records};
 pub use laws::one_verdict;
+pub use run::check_run;
+pub use status::CheckStatus;
