@@ -11,6 +11,8 @@
 //! - `input`, `tell`, `status`, `run`: the checker as a top call, over a source and a sink.
 #![tactic(auto)]
 
+#[cfg(test)]
+mod calls;
 mod check;
 mod degrees;
 mod graph;
