@@ -1,0 +1,86 @@
+-- A graph whose names are right, by positions, and the faults of a graph.
+use Rattle.std.proofs.Common.{◌≡◌, sym, ◌∙◌, ap, subst, ℕ, ◌<◌, Bool, true, false, List, length, arith}
+use Rattle.std.specs.Prelude.{◌↔◌}
+use Rattle.std.specs.List.{concat}
+use Rattle.std.specs.Global.{Vec}
+use Rattle.std.specs.BTreeMap.{BTreeMap}
+use Rattle.std.proofs.lemmas.List.{length-map}
+use Rattle.std.proofs.lemmas.Option.{slice_get_within}
+use Rattle.cg_graph.specs.Member.{Includes}
+use Rattle.cg_records.specs.declared.graph.Member.{Member}
+use Rattle.cg_records.specs.declared.graph.Graph.{Graph}
+use Rattle.cg_cert.specs.declared.graph.Located.{Located}
+use Rattle.cg_cert.specs.Judged.{serials_of, references_of, IsWellNamed, CoversReferences, FindsLost, FindsSetAside, IsRight, HasFault, too_low, loses, sets_aside, part}
+use Rattle.cg_cert.specs.Positions.{Locates, AreWithin, AreNames, IsSetOf, AreRowsOf, MarksAll, IsLocated, Leaves, IsTooLow, degrees_of, rows_in}
+use Rattle.cg_cert.proofs.Named.{placed_once}
+use Rattle.cg_cert.proofs.Places.{once_from_placed, includes_at}
+use Rattle.cg_cert.proofs.Judging.{targets_within, covers, covers_not, named_row, rows_joined}
+
+pub differs : ◌≡◌ {A = Bool} false true → ⊥
+differs e = absurd (cc)
+
+-- each position is below the number of members
+pub located_within : (g : Graph) (members : List Member) (table : BTreeMap ℕ ℕ) → members ≡ g.members → Locates (serials_of g.members) table → AreWithin (length members) table
+located_within g members table e locates o i found =
+    omega (arith, slice_get_within (serials_of g.members) i o ((locates o i).0 found), length-map g.members (λ (m : Member). m.serial), ap length e)
+
+-- the sets of a graph whose names are right
+pub lost_set : (g : Graph) → IsWellNamed g → IsSetOf (serials_of g.members) g.lost
+lost_set g well = record { once = well.lost_once; named = well.lost }
+
+pub legacy_set : (g : Graph) → IsWellNamed g → IsSetOf (serials_of g.members) g.legacy
+legacy_set g well = record { once = well.legacy_once; named = well.legacy }
+
+-- each reference stands in a row
+names_of_rows : (g : Graph) (rows : List (List ℕ)) → AreRowsOf (serials_of g.members) g.members rows → AreNames (serials_of g.members) (references_of g.members)
+names_of_rows g rows are o h =
+    let (j, in_row, at) = named_row (serials_of g.members) (references_of g.members) (concat rows) (rows_joined (serials_of g.members) g.members rows are) o h in
+    includes_at (serials_of g.members) j o at
+
+-- the graph by positions
+pub located_all : (g : Graph) (table : BTreeMap ℕ ℕ) (l : Located) → Locates (serials_of g.members) table → AreRowsOf (serials_of g.members) g.members (rows_in l.rows.items) → MarksAll (serials_of g.members) g.lost l.lost.items
+    → IsSetOf (serials_of g.members) g.lost → MarksAll (serials_of g.members) g.legacy l.legacy.items → IsSetOf (serials_of g.members) g.legacy → IsLocated g l
+located_all g table l locates rows lost lost_is legacy legacy_is =
+    let once = placed_once (serials_of g.members) table locates in
+    record {
+      names = record {
+        members = once_from_placed (serials_of g.members) once;
+        references = names_of_rows g (rows_in l.rows.items) rows;
+        lost_once = lost_is.once;
+        lost = lost_is.named;
+        legacy_once = legacy_is.once;
+        legacy = legacy_is.named;
+      };
+      once = once;
+      rows = rows;
+      lost = lost;
+      legacy = legacy;
+    }
+
+module _ (g : Graph) (l : Located) (located : IsLocated g l) where
+  pub degrees_within : (members : List Member) (vecs : List (Vec ℕ)) → members ≡ g.members → vecs ≡ l.rows.items → (i : ℕ) → Includes (concat (rows_in vecs)) i → i < length members
+  degrees_within members vecs e f i h =
+      let below = targets_within g.members (rows_in l.rows.items) located.once located.rows i (subst (λ (vs : List (Vec ℕ)). Includes (concat (rows_in vs)) i) f h) in
+      omega (arith, below, ap length e)
+
+  -- what is left, and that a number is too low, of these members and rows
+  pub leaves_of : (members : List Member) (vecs : List (Vec ℕ)) (left : List ℕ) → members ≡ g.members → vecs ≡ l.rows.items → Leaves (degrees_of members) (concat (rows_in vecs)) left → Leaves (degrees_of g.members) (concat (rows_in l.rows.items)) left
+  leaves_of members vecs left e f h =
+      subst (λ (ms : List Member). Leaves (degrees_of ms) (concat (rows_in l.rows.items)) left) e (subst (λ (vs : List (Vec ℕ)). Leaves (degrees_of members) (concat (rows_in vs)) left) f h)
+
+  pub covers_of : (left : List ℕ) → Leaves (degrees_of g.members) (concat (rows_in l.rows.items)) left → CoversReferences g.members
+  covers_of left h = covers g.members (rows_in l.rows.items) located.once located.rows left h
+
+  pub fault_of_degrees : (is_first : Bool) (members : List Member) (vecs : List (Vec ℕ)) → members ≡ g.members → vecs ≡ l.rows.items → IsTooLow (degrees_of members) (concat (rows_in vecs)) → HasFault (part is_first g) 3
+  fault_of_degrees is_first members vecs e f low =
+      too_low located.names (covers_not g.members (rows_in l.rows.items) located.once located.rows
+      (subst (λ (ms : List Member). IsTooLow (degrees_of ms) (concat (rows_in l.rows.items))) e (subst (λ (vs : List (Vec ℕ)). IsTooLow (degrees_of members) (concat (rows_in vs))) f low)))
+
+  pub fault_of_lost : (is_first : Bool) (left : List ℕ) (right : Bool) → Leaves (degrees_of g.members) (concat (rows_in l.rows.items)) left → (right ≡ true) ↔ FindsLost g → right ≡ false → HasFault (part is_first g) 4
+  fault_of_lost is_first left right h answer off = loses located.names (covers_of left h) (λ finds. differs (sym off ∙ answer.1 finds))
+
+  pub fault_of_legacy : (is_first : Bool) (left : List ℕ) (right : Bool) → is_first ≡ true → Leaves (degrees_of g.members) (concat (rows_in l.rows.items)) left → FindsLost g → (right ≡ true) ↔ FindsSetAside g → right ≡ false → HasFault (part is_first g) 5
+  fault_of_legacy is_first left right is h finds answer off = sets_aside located.names (covers_of left h) finds is (λ found. differs (sym off ∙ answer.1 found))
+
+  pub right_of : (is_first : Bool) (left : List ℕ) → Leaves (degrees_of g.members) (concat (rows_in l.rows.items)) left → FindsLost g → (is_first ≡ true → FindsSetAside g) → IsRight (part is_first g)
+  right_of is_first left h finds aside = record { names = located.names; degrees = covers_of left h; lost = finds; set_aside = aside }

@@ -1,0 +1,6 @@
+use Rattle.std.proofs.Common.{take}
+use Rattle.cg_cert.proofs.Named.{MarksFirst}
+use Rattle.cg_cert.proofs.table.marks_of.Given as goal
+
+abbrev pub invariant-serials : goal.invariant-serials
+invariant-serials l = MarksFirst l.fn.members l.fn.table (take l.serial-index l.fn.serials) l.marks.items

@@ -1,0 +1,105 @@
+-- A recorded graph by the positions of its members: marks and rows of positions, what is left of in-degrees, and what
+-- paths by rows lead to. (Ours.)
+use Rattle.std.specs.Prelude.{◌≡◌, ℕ, ◌+◌, ◌<◌, Bool, true, not, List, length, map, count_by, Option, Some, ◌↔◌, ◌⊎◌, slice_get, slice_index_or}
+use Rattle.std.specs.List.{All}
+use Rattle.std.specs.Ordering.{nat_cmp}
+use Rattle.std.specs.BTreeMap.{BTreeMap, get}
+use Rattle.std.specs.Global.{Vec}
+use Rattle.cg_graph.specs.Member.{Includes}
+use Rattle.cg_graph.specs.Holdings.{occurrences}
+use Rattle.cg_records.specs.declared.graph.Member.{Member}
+use Rattle.cg_records.specs.declared.graph.Graph.{Graph}
+use Rattle.cg_records.specs.declared.graph.Rec.{Rec}
+use Rattle.cg_cert.specs.Judged.{serials_of, IsOnceEach, IsWellNamed, IsRight, IsFirstFault, all_parts}
+use Rattle.cg_cert.specs.declared.check.Verdict.{Verdict}
+use Rattle.cg_cert.specs.declared.check.Verdict.TheVariants.{Yes, No}
+use Rattle.cg_cert.specs.declared.graph.Located.{Located}
+
+-- the table has the position of each name, and nothing else
+abbrev pub Locates : List ℕ → BTreeMap ℕ ℕ → Type 0
+Locates names table = (o i : ℕ) → (get nat_cmp table o ≡ Some i) ↔ (slice_get names i ≡ Some o)
+
+-- each position of the table is below a number
+abbrev pub AreWithin : ℕ → BTreeMap ℕ ℕ → Type 0
+AreWithin n table = (o i : ℕ) → get nat_cmp table o ≡ Some i → i < n
+
+-- no name stands at two positions
+abbrev pub ArePlacedOnce : List ℕ → Type 0
+ArePlacedOnce names = (o i j : ℕ) → slice_get names i ≡ Some o → slice_get names j ≡ Some o → i ≡ j
+
+-- each of the serials is a name
+abbrev pub AreNames : List ℕ → List ℕ → Type 0
+AreNames names serials = (o : ℕ) → Includes serials o → Includes names o
+
+-- a set of names: each is one, and none stands twice
+pub record IsSetOf (names serials : List ℕ) : Type 0 where
+  pub once : IsOnceEach serials
+  pub named : AreNames names serials
+
+-- the name at each position of a row
+abbrev pub names_in : List ℕ → List ℕ → List (Option ℕ)
+names_in names row = map (slice_get names) row
+
+-- a row of positions stands for these serials
+abbrev pub IsRowOf : List ℕ → List ℕ → List ℕ → Type 0
+IsRowOf names serials row = names_in names row ≡ map Some serials
+
+-- each row of positions stands for the references of its member
+abbrev pub AreRowsOf : List ℕ → List Member → List (List ℕ) → Type 0
+AreRowsOf names members rows = map (names_in names) rows ≡ map (λ m. map Some m.refs) members
+
+-- vectors as lists
+abbrev pub rows_in : List (Vec ℕ) → List (List ℕ)
+rows_in rows = map (λ v. v.items) rows
+
+-- a position is marked
+abbrev pub Marks : List Bool → ℕ → Type 0
+Marks marks i = slice_get marks i ≡ Some true
+
+-- just the positions of these serials are marked
+pub record MarksAll (names serials : List ℕ) (marks : List Bool) : Type 0 where
+  pub len : length marks ≡ length names
+  pub marked : (i o : ℕ) → slice_get names i ≡ Some o → (Marks marks i ↔ Includes serials o)
+
+-- a graph whose names are right, by positions
+pub record IsLocated (g : Graph) (l : Located) : Type 0 where
+  pub names : IsWellNamed g
+  pub once : ArePlacedOnce (serials_of g.members)
+  pub rows : AreRowsOf (serials_of g.members) g.members (rows_in l.rows.items)
+  pub lost : MarksAll (serials_of g.members) g.lost l.lost.items
+  pub legacy : MarksAll (serials_of g.members) g.legacy l.legacy.items
+
+-- the in-degrees of members, in order
+abbrev pub degrees_of : List Member → List ℕ
+degrees_of members = map (λ m. m.degree) members
+
+-- at each position, what is left of a number once one is taken off for each time that it is a target
+pub record Leaves (numbers targets left : List ℕ) : Type 0 where
+  pub len : length left ≡ length numbers
+  pub leaves : (i : ℕ) → slice_index_or left i 0 + occurrences i targets ≡ slice_index_or numbers i 0
+
+-- at some position the number is too low for that
+pub record IsTooLow (numbers targets : List ℕ) : Type 0 where
+  pub at : ℕ
+  pub within : at < length numbers
+  pub below : slice_index_or numbers at 0 < occurrences at targets
+
+-- Paths by rows: from a start, along rows, by positions that are allowed.
+pub data Leads (starts allowed : List Bool) (rows : List (List ℕ)) : ℕ → Type 0 where
+  begins : (i : ℕ) → Marks starts i → Marks allowed i → Leads starts allowed rows i
+  follows : (i j : ℕ) (row : List ℕ) → Leads starts allowed rows i → slice_get rows i ≡ Some row → Includes row j → Marks allowed j → Leads starts allowed rows j
+
+-- Some targets were looked at: those that are allowed are marked now, and those that were not marked before wait.
+pub record Visits (Target : ℕ → Type 0) (allowed old : List Bool) (waits : List ℕ) (new : List Bool) (wait : List ℕ) : Type 0 where
+  pub len : length new ≡ length old
+  pub marked : (i : ℕ) → Target i → Marks allowed i → Marks new i
+  pub stay : (i : ℕ) → Marks old i → Marks new i
+  pub only : (i : ℕ) → Marks new i → Marks old i ⊎ (Target i × Marks allowed i × Includes wait i)
+  pub still_wait : (i : ℕ) → Includes waits i → Includes wait i
+  pub only_wait : (i : ℕ) → Includes wait i → Includes waits i ⊎ Marks new i
+  pub left : count_by not new + length wait ≡ count_by not old + length waits
+
+-- the verdict on records that were read
+abbrev pub JudgesRecords : List Rec → Verdict → Type 0
+JudgesRecords records (Yes n) = (n ≡ length records) × All IsRight (all_parts records)
+JudgesRecords records (No position code) = IsFirstFault (all_parts records) position code

@@ -1,0 +1,63 @@
+-- When each status of the checker comes, and what is written then. (Ours.)
+use Rattle.std.specs.Prelude.{◌≡◌, ◌<◌, ◌≤◌, ◌⊎◌, ℕ, List, ◌++◌, length, codes, decimal, Option}
+use Rattle.std.specs.Io.KnownBytes.{Appends, Consumes}
+use Rattle.cg_io.specs.Causes.{AppendsFront}
+use Rattle.cg_cert.specs.Judged.{Judges}
+use Rattle.cg_cert.specs.declared.check.Verdict.{Verdict}
+use Rattle.cg_cert.specs.declared.check.Verdict.TheVariants as verdicts
+use Rattle.cg_cert.specs.declared.status.CheckStatus.{CheckStatus}
+use Rattle.cg_cert.specs.declared.status.CheckStatus.TheVariants.{Yes, No, TooLarge, ReadFault, WriteFault, OutOfMemory}
+
+-- one more byte than records may have
+abbrev pub limit : ℕ
+limit = 67108865
+
+-- the line of a verdict
+abbrev pub verdict_text : Verdict → List ℕ
+verdict_text (verdicts.Yes records) = codes "yes " ++ decimal records ++ codes "\n"
+verdict_text (verdicts.No graph code) = codes "no " ++ decimal graph ++ codes " " ++ decimal code ++ codes "\n"
+
+-- the status of a verdict
+abbrev pub status_of : Verdict → CheckStatus
+status_of (verdicts.Yes records) = Yes
+status_of (verdicts.No graph code) = No
+
+-- The bytes have a verdict, with this status, and its line was written.
+pub record ToldVerdict (status : CheckStatus) (bytes : List ℕ) (before now : Option (List ℕ)) : Type 0 where
+  pub few : length bytes < limit
+  pub verdict : Verdict
+  pub judges : Judges bytes verdict
+  pub status_is : status ≡ status_of verdict
+  pub wrote : Appends before now (verdict_text verdict)
+
+-- As many bytes as show that there are too many were taken, and no more.
+pub record TookTooMany (left after : Option (List ℕ)) : Type 0 where
+  pub bytes : List ℕ
+  pub number : length bytes ≡ limit
+  pub taken : Consumes left after bytes
+
+-- what is written of these bytes: the line of their verdict, or that they are too many
+pub data RowText (bytes : List ℕ) : List ℕ → Type 0 where
+  verdict_row : (verdict : Verdict) → length bytes < limit → Judges bytes verdict → RowText bytes (verdict_text verdict)
+  large_row : limit ≤ length bytes → RowText bytes (codes "too large\n")
+
+-- A front of that was written.
+pub record ToldFront (bytes : List ℕ) (before now : Option (List ℕ)) : Type 0 where
+  pub text : List ℕ
+  pub row : RowText bytes text
+  pub wrote : AppendsFront before now text
+
+-- The status is that of the verdict on these bytes.
+pub record AnswersVerdict (bytes : List ℕ) (status : CheckStatus) : Type 0 where
+  pub verdict : Verdict
+  pub judges : Judges bytes verdict
+  pub status_is : status ≡ status_of verdict
+
+-- The answer to these bytes where neither source nor sink failed and memory was there: up to the limit that of their
+-- verdict, and beyond it that they are too many.
+abbrev pub Answers : List ℕ → CheckStatus → Type 0
+Answers bytes status = (length bytes < limit → AnswersVerdict bytes status) × (limit ≤ length bytes → status ≡ TooLarge)
+
+-- a fault of the source or of the sink, or want of memory
+abbrev pub IsCutShort : CheckStatus → Type 0
+IsCutShort status = (status ≡ ReadFault) ⊎ (status ≡ WriteFault) ⊎ (status ≡ OutOfMemory)

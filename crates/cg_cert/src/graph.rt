@@ -1,0 +1,124 @@
+//! The fault of one recorded graph.
+ghost use Rattle.std.specs.Prelude.{◌≡◌, map, not, true, IfOk, IfSome, IfNone, ◌↔◌, nat_lt};
+ghost use Rattle.std.specs.List.{concat};
+ghost use Rattle.cg_cert.specs.Judged.{IsWellNamed, FindsLost, FindsSetAside, IsRight, HasFault, part};
+ghost use Rattle.cg_cert.specs.Positions.{IsLocated, Leaves, degrees_of, rows_in};
+
+use crate::degrees::outside_degrees;
+use crate::search::search;
+use crate::table::{marks_of, positions_of, rows_of};
+use cg_records::{Graph, Member};
+use std::alloc::{AllocError, Global};
+
+/// A graph whose names are right, by the positions of its members.
+#[derive(Drop)]
+pub(crate) struct Located {
+    /// The references of each member.
+    pub(crate) rows: Vec<Vec<usize>>,
+    /// Which members were found unreachable.
+    pub(crate) lost: Vec<bool>,
+    /// Which of them were set aside.
+    pub(crate) legacy: Vec<bool>,
+}
+
+/// The graph by positions; `None` where a name is wrong.
+fn locate(alloc: Global, graph: &Graph) -> Result<Option<Located>, AllocError>
+    ensures found { IfOk result (λ named. IfSome named (λ located. IsLocated graph.now located)) }
+    ensures none { IfOk result (λ named. IfNone named (IsWellNamed graph.now → ⊥)) }
+{
+    let members = graph.members.as_slice();
+    let Some(table) = positions_of(alloc, members)? else {
+        return Ok(None);
+    };
+    let Some(rows) = rows_of(alloc, &table, members)? else {
+        return Ok(None);
+    };
+    let Some(lost) = marks_of(alloc, &table, members.len(), graph.lost.as_slice())? else {
+        return Ok(None);
+    };
+    let Some(legacy) = marks_of(alloc, &table, members.len(), graph.legacy.as_slice())? else {
+        return Ok(None);
+    };
+    Ok(Some(Located { rows, lost, legacy }))
+}
+
+/// Which members are held from outside, by what is left of their in-degrees.
+fn held_of(alloc: Global, left: &[u64]) -> Result<Vec<bool>, AllocError>
+    ensures { IfOk result (λ held. held.items ≡ map (λ n. nat_lt 0 n) left.now) }
+{
+    left.iter().map(|number| 0 < *number).collect(alloc)
+}
+
+/// Which members have a legacy finalizer.
+fn marked_of(alloc: Global, members: &[Member]) -> Result<Vec<bool>, AllocError>
+    ensures { IfOk result (λ marks. marks.items ≡ map (λ m. m.legacy) members.now) }
+{
+    members.iter().map(|member| member.legacy).collect(alloc)
+}
+
+/// The other marks.
+fn opposite(alloc: Global, marks: &[bool]) -> Result<Vec<bool>, AllocError>
+    ensures { IfOk result (λ others. others.items ≡ map not marks.now) }
+{
+    marks.iter().map(|mark| !*mark).collect(alloc)
+}
+
+/// Whether the same positions are marked.
+fn are_same(marks: &[bool], others: &[bool]) -> bool
+    ensures { (result ≡ true) ↔ (marks.now ≡ others.now) }
+{
+    marks == others
+}
+
+/// Whether just those were found unreachable that are.
+fn finds_lost(
+    alloc: Global,
+    graph: &Graph,
+    located: &Located,
+    left: &[u64],
+) -> Result<bool, AllocError>
+    requires located { IsLocated graph.now located.now }
+    requires left { Leaves (degrees_of graph.now.members) (concat (rows_in located.now.rows.items)) left.now }
+    ensures { IfOk result (λ right. (right ≡ true) ↔ FindsLost graph.now) }
+{
+    let held = held_of(alloc, left)?;
+    let all = Vec::from_elem(alloc, true, graph.members.as_slice().len())?;
+    let found = search(alloc, &held, &all, &located.rows)?;
+    let unreachable = opposite(alloc, &found)?;
+    Ok(are_same(&unreachable, &located.lost))
+}
+
+/// Whether just those were set aside that are to be, where just those were found unreachable that are.
+fn finds_set_aside(alloc: Global, graph: &Graph, located: &Located) -> Result<bool, AllocError>
+    requires located { IsLocated graph.now located.now }
+    requires lost { FindsLost graph.now }
+    ensures { IfOk result (λ right. (right ≡ true) ↔ FindsSetAside graph.now) }
+{
+    let marked = marked_of(alloc, graph.members.as_slice())?;
+    let found = search(alloc, &marked, &located.lost, &located.rows)?;
+    Ok(are_same(&found, &located.legacy))
+}
+
+/// The least code of a fault of the graph, if it has one. Only a first graph has a set that was set aside.
+pub(crate) fn fault_of(
+    alloc: Global,
+    graph: &Graph,
+    is_first: bool,
+) -> Result<Option<u8>, AllocError>
+    ensures right { IfOk result (λ fault. IfNone fault (IsRight (part is_first graph.now))) }
+    ensures fault { IfOk result (λ fault. IfSome fault (λ code. HasFault (part is_first graph.now) code)) }
+{
+    let Some(located) = locate(alloc, graph)? else {
+        return Ok(Some(2));
+    };
+    let Some(left) = outside_degrees(alloc, graph.members.as_slice(), &located.rows)? else {
+        return Ok(Some(3));
+    };
+    if !finds_lost(alloc, graph, &located, &left)? {
+        return Ok(Some(4));
+    }
+    if is_first && !finds_set_aside(alloc, graph, &located)? {
+        return Ok(Some(5));
+    }
+    Ok(None)
+}

@@ -1,0 +1,32 @@
+//! A checker of records of collections: it says yes only where the recorded sets are right for the recorded graphs.
+//!
+//! The layer above rests on one contract: the verdict on bytes is a definition (`specs/Judged`), by the text of records
+//! and by what a path of members reaches. Whoever made a record need not be trusted.
+//!
+//! - `table`: the serials of a graph, turned into positions of its members.
+//! - `degrees`: in-degrees, less the references of members.
+//! - `search`: what paths by rows of positions lead to.
+//! - `graph`: the fault of one graph; `check`: the verdict on all graphs of records.
+//! - `laws`: no bytes have two verdicts.
+//! - `input`, `tell`, `status`, `run`: the checker as a top call, over a source and a sink.
+#![tactic(auto)]
+
+#[cfg(test)]
+mod calls;
+mod check;
+mod degrees;
+mod graph;
+mod input;
+mod laws;
+mod run;
+mod search;
+mod status;
+mod table;
+mod tell;
+#[cfg(test)]
+mod tests;
+
+pub use check::{Verdict, check_records};
+pub use laws::one_verdict;
+pub use run::check_run;
+pub use status::CheckStatus;

@@ -1,0 +1,98 @@
+//! The checker's top call: what it does for its words, its source and its sink.
+ghost use Rattle.std.specs.Prelude.{◌≡◌, ◌≢◌, ◌≤◌, ◌⊎◌, [], length, codes, IfSome};
+ghost use Rattle.std.specs.Io.KnownBytes.{Appends, Keeps, IsAtEnd};
+ghost use Rattle.cg_io.specs.Causes.{AppendsFront, Rose};
+ghost use Rattle.cg_cert.specs.Statuses.{ToldVerdict, ToldFront, TookTooMany, Answers, IsCutShort};
+
+use crate::check::check_records;
+use crate::input::{InputFault, LIMIT, read_all};
+use crate::status::CheckStatus;
+use crate::tell::{tell_bad_words, tell_large, tell_verdict};
+use cg_io::{Sink, Source};
+use std::alloc::{AllocError, Global};
+
+/// Checks what was read, or says that it is too large.
+fn check_read<K: Sink>(alloc: Global, bytes: &[u8], sink: &mut K) -> CheckStatus
+    ensures told { (result ≡ CheckStatus.Yes) ⊎ (result ≡ CheckStatus.No) → ToldVerdict result bytes.now (K.written sink.old) (K.written sink.new) }
+    ensures large { result ≡ CheckStatus.TooLarge → Appends (K.written sink.old) (K.written sink.new) (codes "too large\n") }
+    ensures many { result ≡ CheckStatus.TooLarge → LIMIT ≤ length bytes.now }
+    ensures write { result ≡ CheckStatus.WriteFault → ToldFront bytes.now (K.written sink.old) (K.written sink.new) }
+    ensures cause { result ≡ CheckStatus.WriteFault → Rose (K.faults sink.old) (K.faults sink.new) }
+    ensures memory { result ≡ CheckStatus.OutOfMemory → Keeps (K.written sink.old) (K.written sink.new) }
+    ensures only { Answers bytes.now result ⊎ (result ≡ CheckStatus.WriteFault) ⊎ (result ≡ CheckStatus.OutOfMemory) }
+    ensures which { (result ≡ CheckStatus.Yes) ⊎ (result ≡ CheckStatus.No) ⊎ (result ≡ CheckStatus.TooLarge) ⊎ (result ≡ CheckStatus.WriteFault) ⊎ (result ≡ CheckStatus.OutOfMemory) }
+{
+    if bytes.len() >= LIMIT {
+        return tell_large(sink);
+    }
+    match check_records(alloc, bytes) {
+        Ok(verdict) => tell_verdict(verdict, sink),
+        Err(AllocError) => CheckStatus::OutOfMemory,
+    }
+}
+
+/// Reads a source to its end, and checks what it gave.
+fn check_source<S: Source, K: Sink>(alloc: Global, source: &mut S, sink: &mut K) -> CheckStatus
+    ensures told { (result ≡ CheckStatus.Yes) ⊎ (result ≡ CheckStatus.No) → IfSome (S.left source.old) (λ bytes. ToldVerdict result bytes (K.written sink.old) (K.written sink.new)) }
+    ensures read_to_end { (result ≡ CheckStatus.Yes) ⊎ (result ≡ CheckStatus.No) → IsAtEnd (S.left source.new) }
+    ensures too_large { result ≡ CheckStatus.TooLarge → Appends (K.written sink.old) (K.written sink.new) (codes "too large\n") }
+    ensures taken { result ≡ CheckStatus.TooLarge → TookTooMany (S.left source.old) (S.left source.new) }
+    ensures read_cause { result ≡ CheckStatus.ReadFault → Rose (S.faults source.old) (S.faults source.new) }
+    ensures read { result ≡ CheckStatus.ReadFault → Keeps (K.written sink.old) (K.written sink.new) }
+    ensures write_cause { result ≡ CheckStatus.WriteFault → Rose (K.faults sink.old) (K.faults sink.new) }
+    ensures write { result ≡ CheckStatus.WriteFault → IfSome (S.left source.old) (λ bytes. ToldFront bytes (K.written sink.old) (K.written sink.new)) }
+    ensures memory { result ≡ CheckStatus.OutOfMemory → Keeps (K.written sink.old) (K.written sink.new) }
+    ensures only { IsCutShort result ⊎ IfSome (S.left source.old) (λ bytes. Answers bytes result) }
+    ensures words { result ≢ CheckStatus.BadWords }
+{
+    match read_all(alloc, source) {
+        Ok(bytes) => check_read(alloc, bytes.as_slice(), sink),
+        Err(InputFault::ReadFault) => CheckStatus::ReadFault,
+        Err(InputFault::OutOfMemory) => CheckStatus::OutOfMemory,
+    }
+}
+
+/// Reads records from the source, and writes the line of their verdict to the sink: `yes N` with the number of records, or
+/// `no G C` with the graph and the code of the first fault.
+///
+/// It takes no words. It answers `Yes` and `No` as `check_records` does; `BadWords` or `TooLarge`, each with its line
+/// written, where there are words or too many bytes; `ReadFault` and `WriteFault` where the source or the sink failed; and
+/// `OutOfMemory` where memory was refused, with nothing written. (Ours.)
+pub fn check_run<S: Source, K: Sink>(
+    alloc: Global,
+    words: &[String],
+    source: &mut S,
+    sink: &mut K,
+) -> CheckStatus
+    // The source was read to its end, its bytes have this verdict, and that was written.
+    ensures told { (result ≡ CheckStatus.Yes) ⊎ (result ≡ CheckStatus.No) → IfSome (S.left source.old) (λ bytes. ToldVerdict result bytes (K.written sink.old) (K.written sink.new)) }
+    ensures read_to_end { (result ≡ CheckStatus.Yes) ⊎ (result ≡ CheckStatus.No) → IsAtEnd (S.left source.new) }
+
+    // There are words, or too many bytes, and that was told.
+    ensures bad_words { result ≡ CheckStatus.BadWords → Appends (K.written sink.old) (K.written sink.new) (codes "bad words\n") }
+    ensures too_large { result ≡ CheckStatus.TooLarge → Appends (K.written sink.old) (K.written sink.new) (codes "too large\n") }
+    ensures taken { result ≡ CheckStatus.TooLarge → TookTooMany (S.left source.old) (S.left source.new) }
+
+    // Faults, which come only where the count of faults rose, and want of memory.
+    ensures read_cause { result ≡ CheckStatus.ReadFault → Rose (S.faults source.old) (S.faults source.new) }
+    ensures read { result ≡ CheckStatus.ReadFault → Keeps (K.written sink.old) (K.written sink.new) }
+    ensures write_cause { result ≡ CheckStatus.WriteFault → Rose (K.faults sink.old) (K.faults sink.new) }
+    ensures write { words.now ≡ [] → result ≡ CheckStatus.WriteFault → IfSome (S.left source.old) (λ bytes. ToldFront bytes (K.written sink.old) (K.written sink.new)) }
+    ensures write_words { words.now ≢ [] → result ≡ CheckStatus.WriteFault → AppendsFront (K.written sink.old) (K.written sink.new) (codes "bad words\n") }
+    ensures memory { result ≡ CheckStatus.OutOfMemory → Keeps (K.written sink.old) (K.written sink.new) }
+
+    // Which answer comes: by the words and the bytes alone, but for faults and want of memory.
+    ensures answers { words.now ≡ [] → IsCutShort result ⊎ IfSome (S.left source.old) (λ bytes. Answers bytes result) }
+    ensures no_words { words.now ≡ [] → result ≢ CheckStatus.BadWords }
+    ensures words { words.now ≢ [] → (result ≡ CheckStatus.BadWords) ⊎ (result ≡ CheckStatus.WriteFault) }
+    ensures nothing_read { words.now ≢ [] → source.new ≡ source.old }
+
+    // Where nothing fails, the answer goes by the bytes, want of memory aside.
+    ensures complete { words.now ≡ [] → ¬ (Rose (S.faults source.old) (S.faults source.new)) → ¬ (Rose (K.faults sink.old) (K.faults sink.new))
+        → (result ≡ CheckStatus.OutOfMemory) ⊎ IfSome (S.left source.old) (λ bytes. Answers bytes result) }
+{
+    if !words.is_empty() {
+        return tell_bad_words(sink);
+    }
+    check_source(alloc, source, sink)
+}
