@@ -12,6 +12,7 @@ mod Puts
 mod Moves
 mod CountAll
 mod Makes
+mod NameLemmas
 mod Opens
 mod Calls
 mod SeatCalls

@@ -1,5 +1,5 @@
 -- What the calls of a heap ask for, and what they leave. (Ours.)
-use Rattle.std.specs.Prelude.{◌≡◌, ℕ, ◌-◌, ◌<◌, ◌≤◌, ◌==◌, if◌then◌else◌, Bool, true, false, not, ◌&&◌, ◌||◌, Option, Some, None, length, option_map}
+use Rattle.std.specs.Prelude.{◌≡◌, ℕ, ◌-◌, ◌<◌, ◌≤◌, ◌==◌, if◌then◌else◌, Bool, true, false, not, ◌&&◌, ◌||◌, Option, Some, None, List, length, option_map, slice_get}
 use Rattle.std.specs.FinMap as fin
 use Rattle.cg_value.specs.declared.Val.{Val}
 use Rattle.cg_value.specs.declared.Val.TheVariants.{None as Nothing, Int, Str, Ref}
@@ -62,6 +62,19 @@ CanPutIn store o key = IsLive store o × IsMutable (code_of store o) × CanPut (
 -- a reference in the value is live
 abbrev pub IsLiveValue : Store → Val → Type 0
 IsLiveValue store v = (s : ℕ) → v ≡ Ref s → IsLive store s
+
+-- the name with this number is bound
+abbrev pub IsBound : List (Option Val) → ℕ → Type 0
+IsBound names n = (v : Val) × (slice_get names n ≡ Some (Some v))
+
+-- every bound name has a number below this one
+abbrev pub AreBoundBelow : ℕ → List (Option Val) → Type 0
+AreBoundBelow upper names = (n : ℕ) → IsBound names n → n < upper
+
+-- the greatest number of a bound name, None where no name is bound
+abbrev pub IsGreatestBound : List (Option Val) → Option ℕ → Type 0
+IsGreatestBound names None = (n : ℕ) → ¬ IsBound names n
+IsGreatestBound names (Some greatest) = IsBound names greatest × ((n : ℕ) → IsBound names n → n ≤ greatest)
 
 -- the value that a put at the key replaces, if there is one
 abbrev pub value_in : Store → ℕ → Val → Option Val

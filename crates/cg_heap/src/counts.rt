@@ -1,5 +1,5 @@
 //! The counts of nodes, and what the entries and names of a heap add to them.
-ghost use Rattle.std.specs.Prelude.{◌≡◌, ◌≢◌, ◌<◌, ◌+◌, ℕ, IsSome, IsTrue, Some, None, slice_get, slice_set, length, replicate, IfOk, ◌^◌, ◌-◌, ◌∷◌, []};
+ghost use Rattle.std.specs.Prelude.{◌≡◌, ◌≢◌, ◌<◌, ◌+◌, ℕ, Some, None, ◌^◌, ◌-◌, ◌∷◌, []};
 ghost use Rattle.std.specs.FinMap as fin;
 ghost use Rattle.cg_value.specs.declared.Val.TheVariants as val_of;
 ghost use Rattle.cg_graph.specs.Value.{references, references_of_value};
@@ -12,7 +12,6 @@ ghost use Rattle.cg_heap.specs.Calls.{number_less};
 use crate::boxes::Seat;
 use cg_arena::{Arena, Near};
 use cg_value::{Entry, KindCode, Place, Val};
-use std::alloc::{AllocError, Global};
 
 /// Where the entries of an object are.
 pub fn seat_of(arena: &Arena, object: u64) -> Seat
@@ -74,29 +73,6 @@ pub fn fewer(entries: &mut u64, object: u64)
     if object != 1 {
         *entries -= 1;
     }
-}
-
-/// Another value for a name.
-pub fn replace(names: &mut Vec<Option<Val>>, name: usize, val: Option<Val>) -> Option<Val>
-    requires { name < length names.old.items }
-    ensures old { slice_get names.old.items name ≡ Some result }
-    ensures set { names.new.items ≡ slice_set names.old.items name val }
-{
-    let slot = &mut names[name];
-    let old = *slot;
-    *slot = val;
-    old
-}
-
-/// Names without a value.
-pub fn unbound(alloc: Global, n: u32) -> Result<Vec<Option<Val>>, AllocError>
-    ensures { IfOk result (λ names. names.items ≡ replicate n None) }
-{
-    let mut names = Vec::new(alloc);
-    for _name in 0..n {
-        names.push(None)?;
-    }
-    Ok(names)
 }
 
 /// Where an object stands when it is made. (`gc` manual, `gc.is_tracked`: a new dictionary is untracked.)

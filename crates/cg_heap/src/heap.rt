@@ -18,7 +18,8 @@ mod places;
 mod weak;
 
 use crate::boxes::Boxes;
-use crate::counts::{seat_of, unbound};
+use crate::counts::seat_of;
+use crate::names::Names;
 use cg_arena::{Arena, Head};
 use cg_kind::Kind;
 use cg_value::{Entry, KindCode, Place, Val};
@@ -41,7 +42,7 @@ pub struct Heap<B: Kind> {
     boxes: Boxes<B>,
     arena: Arena,
     weak: WeakTable,
-    names: Vec<Option<Val>>,
+    names: Names,
     last: u64,
     objects: u64,
     entries: u64,
@@ -56,11 +57,11 @@ impl<B: Kind> Model for Heap<B> {
 
     ghost coded = { store_code };
 
-    ghost view = { λ a. store_of a.boxes a.arena a.names.items a.last a.weak.rows };
+    ghost view = { λ a. store_of a.boxes a.arena a.names a.last a.weak.rows };
 
     ghost invariant = { λ a. Keeps a.boxes a.arena.nodes a.objects a.entries
-        (store_of a.boxes a.arena a.names.items a.last a.weak.rows)
-        × RowsAndHolds (store_of a.boxes a.arena a.names.items a.last a.weak.rows) };
+        (store_of a.boxes a.arena a.names a.last a.weak.rows)
+        × RowsAndHolds (store_of a.boxes a.arena a.names a.last a.weak.rows) };
 }
 
 impl<B: Kind> Heap<B> {
@@ -73,7 +74,7 @@ impl<B: Kind> Heap<B> {
         requires names { names < 1073741824 }
         ensures { IfOk result (λ h. h ≡ opening_store names) }
     {
-        let names = unbound(alloc, names)?;
+        let names = Names::new(alloc, names)?;
         let mut arena = Arena::new(alloc);
         let mut boxes = Boxes::new(kinds);
         let body = boxes.make(KindCode::List, &[])?;
@@ -213,7 +214,7 @@ impl<B: Kind> Heap<B> {
         requires { name < length self.now.names }
         ensures { slice_get self.now.names name ≡ Some result }
     {
-        self.names[name as usize]
+        self.names.get(name as usize)
     }
 
     /// The first of the list of a place, `None` where it is empty.

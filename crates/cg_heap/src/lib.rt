@@ -7,6 +7,7 @@
 //!
 //! - `boxes`: the six boxes as one.
 //! - `counts`: the counts of the nodes.
+//! - `names`: the values of the names, and which bound name is the greatest.
 //! - `heap`: the type, and what it answers; `heap/holds`, `heap/bindings`, `heap/entries`, `heap/places`,
 //!   `heap/objects`, `heap/weak`, `heap/look` and `heap/near`: its other calls.
 //! - `steps`: the counter of looks at entries.
@@ -16,6 +17,7 @@ mod boxes;
 mod counts;
 mod fault;
 mod heap;
+mod names;
 mod steps;
 #[cfg(test)]
 mod tests;

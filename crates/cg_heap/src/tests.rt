@@ -12,6 +12,7 @@ ghost use Rattle.cg_heap.specs.Keeps.{HasClass};
 ghost use Rattle.cg_heap.specs.Weak.{HasReferent, IsInNoRow};
 ghost use Rattle.cg_heap.specs.Calls.{CanPutIn, CanTake, IsLiveValue};
 
+use crate::names::Names;
 use crate::{Heap, HeapFault};
 use cg_any_kind::{AnyKind, six};
 use cg_kind::Kind;
@@ -525,4 +526,22 @@ fn weak_references_are_cleared_and_forgotten(rt: HostRuntime) -> Result<(), Fail
         (Step::GiveUp(2), Answer::Died(true)),
     ];
     drive(&rt, alloc, six(alloc)?, &rows)
+}
+
+#[test]
+fn the_greatest_bound_name_is_answered(rt: HostRuntime) -> Result<(), Fail> {
+    let mut names = Names::new(rt.alloc(), 4)?;
+    assert_eq!(rt; names.greatest(), None);
+    names.replace(1, Some(Val::Int(7)));
+    names.replace(3, Some(Val::None));
+    assert_eq!(rt; names.greatest(), Some(3));
+    names.replace(3, None);
+    assert_eq!(rt; names.greatest(), Some(1));
+    // One above it is bound before it is given up, as finalizers may do.
+    names.replace(2, Some(Val::Int(8)));
+    names.replace(1, None);
+    assert_eq!(rt; names.greatest(), Some(2));
+    names.replace(2, None);
+    assert_eq!(rt; names.greatest(), None);
+    Ok(())
 }

@@ -2,10 +2,10 @@
 ghost use Rattle.std.specs.Prelude.{◌≡◌, ◌<◌, Some, None, length, slice_get};
 ghost use Rattle.cg_graph.specs.Value.{references_of_value};
 ghost use Rattle.cg_graph.specs.Changes.{held, named};
-ghost use Rattle.cg_heap.specs.Calls.{HasFewHolds, IsLiveValue};
+ghost use Rattle.cg_heap.specs.Calls.{HasFewHolds, IsGreatestBound, IsLiveValue};
 
 use super::Heap;
-use crate::counts::{count_in, replace};
+use crate::counts::count_in;
 use cg_kind::Kind;
 use cg_value::Val;
 
@@ -21,7 +21,7 @@ impl<B: Kind> Heap<B> {
         ensures rest { self.new ≡ held (references_of_value result) (named name (Some val) self.old) }
     {
         count_in(&mut self.arena, val);
-        replace(&mut self.names, name as usize, Some(val))
+        self.names.replace(name as usize, Some(val))
     }
 
     /// Takes the value of a name, `None` where it was unbound. Its reference is now an outside hold.
@@ -31,6 +31,16 @@ impl<B: Kind> Heap<B> {
         ensures old { slice_get self.old.names name ≡ Some result }
         ensures rest { self.new ≡ held (references_of_value result) (named name None self.old) }
     {
-        replace(&mut self.names, name as usize, None)
+        self.names.replace(name as usize, None)
+    }
+
+    /// The bound name with the greatest number, `None` exactly where no name is bound. What this call passes over is passed
+    /// over once, unless a name above it is bound again.
+    pub fn greatest_name(&mut self) -> Option<u32>
+        ensures same { self.new ≡ self.old }
+        ensures greatest { IsGreatestBound self.old.names result }
+    {
+        let name = self.names.greatest()?;
+        Some(name as u32)
     }
 }
