@@ -1,9 +1,15 @@
 -- Why an object is alive: a path of holders that leads to it, from one that is held otherwise than by an entry. (Ours.
 -- `gc.get_referrers` answers one step of it.)
-use Rattle.std.specs.Prelude.{◌≡◌, ℕ, ◌<◌, ◌≤◌, List, [], ◌∷◌, length}
+use Rattle.std.specs.Prelude.{◌≡◌, ℕ, ◌<◌, ◌≤◌, Bool, List, [], ◌∷◌, length}
 use Rattle.cg_graph.specs.declared.Edge.{Edge}
-use Rattle.cg_graph.specs.Member.{Includes}
+use Rattle.cg_graph.specs.Member.{Includes, includes}
+use Rattle.cg_graph.specs.Value.{references}
+use Rattle.cg_graph.specs.Object.{Object}
 use Rattle.cg_graph.specs.Holdings.{occurrences}
+
+-- whether an entry of an object holds it, by its value or its key (`gc` manual, `gc.get_referrers`)
+abbrev pub refers_to : ℕ → Object → Bool
+refers_to o x = includes (references x.entries) o
 
 -- An object is held otherwise than by an entry and by the name that is asked about, which holds the object of the
 -- question once. The first argument says how often what is no entry holds an object: names, the garbage root, and what
