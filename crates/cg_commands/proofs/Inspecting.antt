@@ -88,7 +88,7 @@ module _ (store : Store) (running : Bool) (locals : Option Locals) (operand : Op
     in_parts w =
         then-then (value w operand) _ (k w)
         ∙ (λ i. value w operand >>= (λ v. (then-then (object w any_object wrong_kind v) (λ x. unless (not (is_collecting w)) in_collection >>= (λ _. Ok x)) (k w)
-            ∙ (λ j. object w any_object wrong_kind v >>= (λ x. then-known (unless (not (is_collecting w)) in_collection) x (k w) j))) i))
+        ∙ (λ j. object w any_object wrong_kind v >>= (λ x. then-known (unless (not (is_collecting w)) in_collection) x (k w) j))) i))
 
     -- it is refused where that is refused
     pub not_inspected : (refusal : Refusal) → IsNotInspected store running locals operand refusal → Inspects store running locals whole (Err refusal)

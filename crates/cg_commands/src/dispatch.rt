@@ -36,7 +36,7 @@ use std::alloc::Global;
 ///
 /// A refusal has changed nothing. `OutOfMemory` comes only where the effect may want memory and no other refusal holds.
 /// A command of the collector takes no memory, gives up nothing, and changes places and numbers alone, or nothing where it
-/// asks for a collection.
+/// asks for a collection. The memory of lines is taken from `alloc`.
 ///
 /// The command is one of a script that some bytes spell, the objects among the locals live, and fewer than 2^63 objects
 /// have been made. Where no collection is running, nothing stands in the places that collections use.

@@ -143,7 +143,7 @@ fn listing(alloc: Global, objects: &[u64], listed: Listed) -> Result<Lines, Allo
 }
 
 /// The lines of a path, or that there is none.
-fn explanation(alloc: Global, reason: &Why) -> Result<Lines, AllocError>
+pub(crate) fn explanation(alloc: Global, reason: &Why) -> Result<Lines, AllocError>
     ensures { IfOk result (λ lines. lines ≡ reason_lines reason.now) }
 {
     match reason {

@@ -24,6 +24,8 @@ mod makes;
 mod operands;
 mod parts;
 mod queries;
+#[cfg(test)]
+mod tests;
 
 pub use dispatch::{makes_object, perform};
 pub use done::{Done, Refusal};
