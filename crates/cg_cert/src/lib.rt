@@ -18,6 +18,8 @@ mod degrees;
 mod graph;
 mod input;
 mod laws;
+#[cfg(test)]
+mod lines;
 mod run;
 mod search;
 mod status;
