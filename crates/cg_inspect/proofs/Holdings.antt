@@ -110,7 +110,7 @@ module _ (store : Store) where
     held_lives object o h = go (cases_pos (outside_of store o))
       where
         cases_pos : (n : ℕ) → (n ≡ 0) ⊎ (0 < n)
-        cases_pos n = elim (cases_eq n 0) [ | inl e ↦ inl e | inr d ↦ inr (omega (arith, d)) ]
+        cases_pos n = elim (cases_eq n 0) [ inl e ↦ inl e | inr d ↦ inr (omega (arith, d)) ]
 
         go : (outside_of store o ≡ 0) ⊎ (0 < outside_of store o) → IsLive store o
         go (inr some) = outside_live store o some
