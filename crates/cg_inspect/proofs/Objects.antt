@@ -1,7 +1,7 @@
 -- The live objects, as the lists of the places have them, sorted, are the objects of the store; and what their serials tell
 -- of them.
-use Rattle.std.proofs.Common.{◌≡◌, ◌≢◌, refl, sym, ◌∙◌, ap, subst, ℕ, zero, suc, ◌+◌, ◌<◌, ◌≤◌, ◌⊎◌, inl, inr, Bool, true, false, cond, T, List, [], ◌∷◌, ◌++◌, length, map, take, get_or, Option, Some, None, IsSome, arith, append_assoc, take_all}
-use Rattle.std.specs.Prelude.{◌==◌, ◌↔◌, ◌&&◌, sum_by, filter, flat_map, slice_get, slice_index_or, option_map, if◌then◌else◌}
+use Rattle.std.proofs.Common.{◌≡◌, ◌≢◌, refl, sym, ◌∙◌, ap, subst, ℕ, zero, suc, ◌+◌, ◌<◌, ◌≤◌, inl, inr, Bool, true, false, cond, T, List, [], ◌∷◌, ◌++◌, length, map, take, get_or, Option, Some, None, IsSome, arith, append_assoc, take_all}
+use Rattle.std.specs.Prelude.{◌==◌, ◌&&◌, sum_by, filter, flat_map, option_map}
 use Rattle.std.specs.FinMap as fin
 use Rattle.std.specs.FinMap.Entries.{is_sorted, below_all}
 use Rattle.std.specs.Ordering.{nat_cmp, is_lt}

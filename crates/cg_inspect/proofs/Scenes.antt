@@ -1,17 +1,15 @@
 -- Scenes of tests: a heap with two names, whose outside holds are at least those that the test has.
-use Rattle.std.proofs.Common.{◌≡◌, ℕ, ◌+◌, ◌≤◌, Bool, true, false, List, [], ◌∷◌, length, Option, Some, None, IsSome, refl, sym, ◌∙◌, ap, subst, arith, length-set}
-use Rattle.std.specs.Prelude.{slice_set, Result, Ok, Err}
+use Rattle.std.proofs.Common.{◌≡◌, ℕ, ◌+◌, Bool, true, false, List, [], ◌∷◌, length, Option, IsSome, refl, sym, ◌∙◌, ap, subst, arith, length-set}
+use Rattle.std.specs.Prelude.{Result, Ok, Err}
 use Rattle.std.specs.Result.{OnOk, OnErr}
-use Rattle.std.specs.FinMap as fin
 use Rattle.cg_value.specs.declared.Val.{Val}
 use Rattle.cg_value.specs.declared.Entry.{Entry}
 use Rattle.cg_value.specs.declared.KindCode.{KindCode}
 use Rattle.cg_graph.specs.Value.{references, references_of_value}
 use Rattle.cg_graph.specs.Holdings.{occurrences}
-use Rattle.cg_graph.specs.Store.{Store, IsLive, HasCode, outside_of}
+use Rattle.cg_graph.specs.Store.{Store, IsLive, HasCode}
 use Rattle.cg_graph.specs.Changes.{rewritten, opening_store, held as holding, named}
 use Rattle.cg_heap.specs.Calls.{tracked_if, with_put}
-use Rattle.cg_heap.specs.Keeps.{outside_total}
 use Rattle.cg_heap.proofs.CallerLemmas.{opening_total, total-held}
 use Rattle.cg_heap.proofs.HoldLemmas.{outside_grows}
 use Rattle.cg_heap.proofs.ReferenceLemmas.{name-le}
