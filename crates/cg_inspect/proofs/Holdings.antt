@@ -1,7 +1,7 @@
 -- How often an object is held, as it is counted: its in-degree less the references of all entries.
-use Rattle.std.proofs.Common.{◌≡◌, refl, sym, ◌∙◌, ap, subst, ℕ, ◌≢◌, ◌+◌, ◌-◌, ◌<◌, ◌≤◌, ◌⊎◌, inl, inr, Bool, true, false, cond, List, [], ◌∷◌, ◌++◌, length, map, take, drop, Option, Some, None, IsSome, IsTrue, get_or, take_all, arith, append_assoc}
+use Rattle.std.proofs.Common.{◌≡◌, refl, sym, ◌∙◌, ap, subst, ℕ, ◌≢◌, ◌+◌, ◌-◌, ◌<◌, ◌≤◌, ◌⊎◌, inl, inr, Bool, true, false, List, [], ◌∷◌, ◌++◌, length, map, take, drop, Option, Some, None, IsTrue, get_or, take_all, arith, append_assoc}
 use Rattle.std.specs.Prelude.{◌==◌, ◌||◌, ◌↔◌, flat_map, slice_get, option_map, if◌then◌else◌}
-use Rattle.std.proofs.lemmas.Bool.{eq-eqb, ne_eqb, eqb-true, cases_eq, cases_lt}
+use Rattle.std.proofs.lemmas.Bool.{eq-eqb, ne_eqb, cases_eq, cases_lt}
 use Rattle.std.proofs.lemmas.List.{append-nil, take_more}
 use Rattle.std.proofs.lemmas.Option.{slice_get_within, get_or_from_slice_get}
 use Rattle.std.proofs.lemmas.List.Folds.{list_any-append}
@@ -13,16 +13,16 @@ use Rattle.cg_graph.specs.Object.{Object, serials}
 use Rattle.cg_graph.specs.Holdings.{occurrences, name_holdings, entry_holdings, graph_of}
 use Rattle.cg_graph.specs.Reach.{edges}
 use Rattle.cg_graph.specs.Store.{Store, objects_of, entries_of, inner, count_of, outside_of, IsLive}
-use Rattle.cg_graph.proofs.Members.{either, Includes-append_left, Includes-append_right, Includes-append_cases, Includes-map, Includes-map_cases, Includes-of, includes-of, cases_of}
+use Rattle.cg_graph.proofs.Members.{either, Includes-append_left, Includes-append_right, Includes-append_cases, Includes-map, Includes-map_cases, Includes-of, includes-of}
 use Rattle.cg_graph.proofs.Objects.{occurrences-append, inner-holdings}
 use Rattle.cg_heap.proofs.HoldLemmas.{outside_live, entries_hold}
 use Rattle.cg_trial.proofs.Entries.{references_more, references_split}
-use Rattle.cg_trial.proofs.Lists.{occurs, occurs_in, occurrences-cons}
+use Rattle.cg_trial.proofs.Lists.{occurs}
 use Rattle.cg_trial.proofs.Objects.{edges_of_objects}
 use Rattle.cg_inspect.specs.Inspection.{holdings_but_entries, HeldElse, arrows_of}
 use Rattle.cg_inspect.specs.Numbers.{AreNumbers, AreLowered, number_of}
 use Rattle.cg_inspect.specs.Search.{Findings, objects_in, Finds, IsStart, IsTrail, IsTrailOf, HasSpread, IsOver}
-use Rattle.cg_inspect.proofs.Objects.{entries_are, holdings-serials, live_serial, serial_lives, in_range}
+use Rattle.cg_inspect.proofs.Objects.{entries_are, holdings-serials, live_serial, in_range}
 use Rattle.cg_inspect.proofs.Trails.{next_taken, get_below, get_in, start_more, start_same, trail_of, few_found, spread_more}
 
 -- the references of one entry more
@@ -110,7 +110,7 @@ module _ (store : Store) where
     held_lives object o h = go (cases_pos (outside_of store o))
       where
         cases_pos : (n : ℕ) → (n ≡ 0) ⊎ (0 < n)
-        cases_pos n = elim (cases_eq n 0) [ | inl e ↦ inl e | inr d ↦ inr (omega (arith, d)) ]
+        cases_pos n = elim (cases_eq n 0) [ inl e ↦ inl e | inr d ↦ inr (omega (arith, d)) ]
 
         go : (outside_of store o ≡ 0) ⊎ (0 < outside_of store o) → IsLive store o
         go (inr some) = outside_live store o some

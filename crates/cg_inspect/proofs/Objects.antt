@@ -1,7 +1,7 @@
 -- The live objects, as the lists of the places have them, sorted, are the objects of the store; and what their serials tell
 -- of them.
-use Rattle.std.proofs.Common.{◌≡◌, ◌≢◌, refl, sym, ◌∙◌, ap, subst, ℕ, zero, suc, ◌+◌, ◌<◌, ◌≤◌, ◌⊎◌, inl, inr, Bool, true, false, cond, T, List, [], ◌∷◌, ◌++◌, length, map, take, get_or, Option, Some, None, IsSome, arith, append_assoc, take_all}
-use Rattle.std.specs.Prelude.{◌==◌, ◌↔◌, ◌&&◌, sum_by, filter, flat_map, slice_get, slice_index_or, option_map, if◌then◌else◌}
+use Rattle.std.proofs.Common.{◌≡◌, ◌≢◌, refl, sym, ◌∙◌, ap, subst, ℕ, zero, suc, ◌+◌, ◌<◌, ◌≤◌, inl, inr, Bool, true, false, cond, T, List, [], ◌∷◌, ◌++◌, length, map, take, get_or, Option, Some, None, IsSome, arith, append_assoc, take_all}
+use Rattle.std.specs.Prelude.{◌==◌, ◌&&◌, sum_by, filter, flat_map, option_map}
 use Rattle.std.specs.FinMap as fin
 use Rattle.std.specs.FinMap.Entries.{is_sorted, below_all}
 use Rattle.std.specs.Ordering.{nat_cmp, is_lt}
@@ -105,8 +105,7 @@ module _ (store : Store) where
   ascends_entries : (es : List (ℕ × Node)) → T (is_sorted nat_cmp es) → Ascends (serials (map object es))
   ascends_entries [] sorted = tt
   ascends_entries (e ∷ es) sorted =
-      let parts = both_parts (below_all nat_cmp e.0 es) (is_sorted nat_cmp es) sorted in
-      (
+      let parts = both_parts (below_all nat_cmp e.0 es) (is_sorted nat_cmp es) sorted in (
         λ y m.
             let x = Includes-map_cases (λ (z : Object). z.serial) (map object es) y m in
             let f = Includes-map_cases object es x.0 x.1 in
@@ -117,8 +116,7 @@ module _ (store : Store) where
   -- an object of the store has its entries there, and lives
   pub entry_of : (x : Object) → Includes (objects_of store) x → (n : Node) × (fin.get store.nodes x.serial ≡ Some n) × (n.entries ≡ x.entries)
   entry_of x m =
-      let e = Includes-map_cases object (fin.entries store.nodes) x m in
-      (
+      let e = Includes-map_cases object (fin.entries store.nodes) x m in (
         e.0.1,
         ap (fin.get store.nodes) (sym (ap (λ (z : Object). z.serial) e.2)) ∙ fin.get-entries store.nodes e.0.0 ∙ found (fin.entries store.nodes) e.0 (once_key store.nodes) e.1,
         ap (λ (z : Object). z.entries) e.2,

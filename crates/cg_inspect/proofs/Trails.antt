@@ -383,10 +383,10 @@ back_more found trails have last place o holder path new gone at is = record {
   where
     go : (ts : List (List ℕ)) (trail rest : List ℕ) → slice_get ts place ≡ Some rest → path ++ rest ≡ trail → (k : Option ℕ) (t : List ℕ) → slice_get ts place ≡ Some t → TrailBy ts place o k t
         → (left : List ℕ) × IsLeft ts k left × (new ++ left ≡ trail)
-    go ts trail rest got whole None t there by =
+    go ts all rest got whole None t there by =
         let same : rest ≡ o ∷ [] = same_some rest t (sym got ∙ there) ∙ by in
         ([], refl, ap (λ (l : List ℕ). l ++ []) is ∙ append_assoc path (o ∷ []) [] ∙ ap (λ (l : List ℕ). path ++ l) (sym same) ∙ whole)
-    go ts trail rest got whole (Some j) t there by =
+    go ts all rest got whole (Some j) t there by =
         let same : rest ≡ o ∷ by.1.0 = same_some rest t (sym got ∙ there) ∙ by.1.2 in
         (by.1.0, by.1.1, ap (λ (l : List ℕ). l ++ by.1.0) is ∙ append_assoc path (o ∷ []) by.1.0 ∙ ap (λ (l : List ℕ). path ++ l) (sym same) ∙ whole)
 

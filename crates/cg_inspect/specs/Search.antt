@@ -1,9 +1,8 @@
 -- How the search for a path stands: what was found, in which order, and by which trails. (Ours.)
-use Rattle.std.specs.Prelude.{◌≡◌, ℕ, ◌+◌, ◌<◌, ◌≤◌, suc, List, [], ◌∷◌, ◌++◌, Option, Some, None, map, length, take, slice_get, reverse}
+use Rattle.std.specs.Prelude.{◌≡◌, ℕ, ◌<◌, ◌≤◌, suc, List, [], ◌∷◌, ◌++◌, Option, Some, None, map, length, take, slice_get, reverse}
 use Rattle.cg_graph.specs.declared.Edge.{Edge}
 use Rattle.cg_graph.specs.Member.{Includes}
 use Rattle.cg_graph.specs.Holdings.{occurrences}
-use Rattle.cg_graph.specs.Path.{IsPath}
 
 -- the objects that were found, in order, each with the place of its holder among them
 abbrev pub Findings : Type 0

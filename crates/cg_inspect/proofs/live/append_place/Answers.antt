@@ -1,5 +1,3 @@
-use Rattle.std.proofs.Common.{[], sym, refl}
-use Rattle.std.proofs.lemmas.List.{append-nil}
 use Rattle.cg_trial.proofs.Scenes.{along_live}
 use Rattle.cg_inspect.proofs.Objects.{along_all, along_next}
 use Rattle.cg_inspect.proofs.live.append_place.Goals as goal

@@ -1,4 +1,4 @@
-use Rattle.std.proofs.Common.{◌∙◌, sym, Some, arith}
+use Rattle.std.proofs.Common.{◌∙◌, sym, arith}
 use Rattle.cg_inspect.specs.Inspection.{HeldElse, arrows_of}
 use Rattle.cg_inspect.proofs.Trails.{spread_first}
 use Rattle.cg_inspect.proofs.Objects.{few_objects}
