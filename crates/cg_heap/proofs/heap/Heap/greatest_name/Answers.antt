@@ -1,4 +1,4 @@
-use Rattle.std.proofs.Common.{◌<◌, Some, None, length, subst, sym, arith}
+use Rattle.std.proofs.Common.{◌<◌, Some, length, subst, sym, arith}
 use Rattle.std.proofs.lemmas.Option.{slice_get_within}
 use Rattle.cg_heap.specs.Calls.{IsGreatestBound}
 use Rattle.cg_heap.proofs.heap.Heap.greatest_name.Goals as goal

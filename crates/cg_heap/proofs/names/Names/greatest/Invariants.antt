@@ -1,5 +1,3 @@
-use Rattle.std.proofs.Common.{◌≡◌, ◌≤◌, length}
-use Rattle.cg_heap.specs.Calls.{AreBoundBelow}
 use Rattle.cg_heap.proofs.NameLemmas.{Lowers}
 use Rattle.cg_heap.proofs.names.Names.greatest.Given as goal
 

@@ -1,4 +1,4 @@
-use Rattle.std.proofs.Common.{◌≡◌, length, ap, sym, ◌∙◌, arith}
+use Rattle.std.proofs.Common.{length, ap, ◌∙◌, arith}
 use Rattle.std.specs.Prelude.{is_some}
 use Rattle.cg_heap.proofs.NameLemmas.{stored}
 use Rattle.cg_heap.proofs.names.Names.replace.Goals as goal
