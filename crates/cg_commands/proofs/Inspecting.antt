@@ -1,8 +1,8 @@
 -- Commands that inspect: what they ask for first, and the lines that they tell.
-use Rattle.std.proofs.Common.{◌≡◌, refl, sym, ◌∙◌, ap, subst, ℕ, Bool, true, false, not, List, [], ◌∷◌, ◌++◌, length, map, Option, Some, Result, Ok, Err, inl, inr}
+use Rattle.std.proofs.Common.{◌≡◌, refl, sym, ◌∙◌, ap, subst, ℕ, Bool, true, false, not, List, [], ◌∷◌, ◌++◌, length, map, Option, Result, Ok, Err, inl, inr}
 use Rattle.cg_value.specs.declared.Val.{Val}
 use Rattle.cg_graph.specs.Object.{Object}
-use Rattle.cg_graph.specs.Store.{Store, Node, object_from}
+use Rattle.cg_graph.specs.Store.{Store, object_from}
 use Rattle.cg_script.specs.declared.command.Operand.{Operand}
 use Rattle.cg_inspect.specs.declared.reason.Why.{Why}
 use Rattle.cg_inspect.specs.Inspection.{IsReason}

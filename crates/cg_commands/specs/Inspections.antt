@@ -1,6 +1,6 @@
 -- What the commands that inspect ask for before they look, and the lines of those that list. (Ours; `gc.get_referents`,
 -- `gc.get_referrers`.)
-use Rattle.std.specs.Prelude.{◌≡◌, ℕ, Bool, true, false, not, Option, Some, Result, Ok}
+use Rattle.std.specs.Prelude.{◌≡◌, ℕ, Bool, false, not, Option, Some, Result, Ok}
 use Rattle.std.specs.FinMap as fin
 use Rattle.cg_graph.specs.Object.{Object}
 use Rattle.cg_graph.specs.Store.{Store, Node, object_from}

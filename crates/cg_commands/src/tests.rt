@@ -1,11 +1,12 @@
 //! What the commands that inspect tell of two lists, one in the other, as `a = list; b = list a` leaves them.
-ghost use Rattle.std.specs.Prelude.{◌≡◌, map, replicate, slice_get, IfSome, None};
+ghost use Rattle.std.specs.Prelude.{◌≡◌, map, replicate, slice_get, IfSome, None, Some};
 ghost use Rattle.std.specs.FinMap as fin;
 ghost use Rattle.cg_graph.specs.Store.{IsLive};
 ghost use Rattle.cg_heap.specs.Boxes.{six_kinds};
 ghost use Rattle.cg_heap.specs.Keeps.{HasClass};
 ghost use Rattle.cg_heap.specs.Weak.{HasReferent};
 ghost use Rattle.cg_inspect.specs.Inspection.{IsIdle};
+ghost use Rattle.cg_machine.specs.declared.event.FrameSort.TheVariants as sort;
 
 use crate::done::{Done, Refusal};
 use crate::inspections::{explanation, referents, referrers};
@@ -67,7 +68,9 @@ fn assert_idle<B: Kind>(rt: &impl Abort, heap: &Heap<B>)
 }
 
 /// The locals of a finalizer's frame, whose operand `self` is the object.
-fn frame_of(object: u64) -> Option<Locals> {
+fn frame_of(object: u64) -> Option<Locals>
+    ensures { result ≡ Some (record { sort = sort.Del; subject = object; func = None }) }
+{
     Some(Locals {
         sort: FrameSort::Del,
         subject: object,

@@ -1,10 +1,8 @@
-use Rattle.std.proofs.Common.{◌∙◌, sym, ap}
+use Rattle.std.proofs.Common.{◌∙◌, ap}
 use Rattle.std.specs.Prelude.{filter}
 use Rattle.std.proofs.lemmas.Result.{err_from_is_err_and}
 use Rattle.cg_graph.specs.Object.{serials}
 use Rattle.cg_graph.specs.Path.{refers_to}
-use Rattle.cg_graph.specs.Store.{entries_in}
-use Rattle.cg_graph.specs.Value.{references}
 use Rattle.cg_machine.specs.declared.event.Event.TheVariants as event
 use Rattle.cg_machine.specs.Effects.{lists, referrers}
 use Rattle.cg_commands.proofs.Inspecting.{not_inspected, no_memory_for, lists_memory, lists_lines, lists_these}
