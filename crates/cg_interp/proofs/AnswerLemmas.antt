@@ -58,6 +58,7 @@ module _ (script : Script) (w : World) (r : Result Effect ℕ) where
   refusal_may refusal_of.OutOfMemory h = by_memory h.lines h.given_up h.after h.is
   refusal_may refusal_of.ObjectLimit h = by_refusal _ h
   refusal_may refusal_of.EntryLimit h = by_refusal _ h
+  refusal_may refusal_of.InCollection h = by_refusal _ h
 
   -- a change
   pub change_may : (wants : Bool) (lines : List Event) (given_up : List ℕ) (after : World) → r ≡ Ok (ChangesEffect wants lines given_up after) → DoesEffect script w r lines (push (Releasing given_up) after)

@@ -98,5 +98,7 @@ rests script may_rest w left told e goes = record {
 pub turns_freely : (script : Script) (may_rest : List Event → Type 0) (w : World) (left : List Event) (e : State) (answer : Turned) → TurnsWith script may_rest w left e answer → TurnsWith script (λ still. Unit {0}) w left e answer
 turns_freely script may_rest w left e turned.Quiet turns = rests script may_rest w left [] e turns
 turns_freely script may_rest w left e (turned.Line event) turns = rests script may_rest w left (event ∷ []) e turns
+turns_freely script may_rest w left e (turned.Lines events) turns = rests script may_rest w left events e turns
 turns_freely script may_rest w left e turned.Ended turns = turns
+turns_freely script may_rest w left e (turned.Left n) turns = turns
 turns_freely script may_rest w left e turned.Spent turns = turns

@@ -8,7 +8,7 @@ use Rattle.cg_io.specs.Causes.{AppendsFront}
 use Rattle.cg_script.specs.declared.Script.{Script}
 use Rattle.cg_graph.specs.Member.{Includes}
 use Rattle.cg_machine.specs.declared.event.Event.{Event}
-use Rattle.cg_machine.specs.declared.event.Event.TheVariants.{End, BudgetSpent}
+use Rattle.cg_machine.specs.declared.event.Event.TheVariants.{End, BudgetSpent, Left}
 use Rattle.cg_machine.specs.World.{World, Outcome, Running, Ended, BudgetIsSpent, opening}
 use Rattle.cg_machine.specs.Run.{StepTaken, IsRun, world_after, events_of}
 use Rattle.cg_machine.specs.Lines.{line, text_of, IsPrintable}
@@ -44,7 +44,9 @@ pub record Went (script : Script) (w : World) (left : List Event) (answer : Turn
 pub went : (script : Script) (may_rest : List Event → Type 0) (w : World) (left : List Event) (e : State) (answer : Turned) → TurnsWith script may_rest w left e answer → Went script w left answer
 went script may_rest w left e turned.Quiet t = record { events = t.events; after = t.after; still = t.still; goes = t.goes; lines = t.lines }
 went script may_rest w left e (turned.Line event) t = record { events = t.events; after = t.after; still = t.still; goes = t.goes; lines = t.lines }
+went script may_rest w left e (turned.Lines events) t = record { events = t.events; after = t.after; still = t.still; goes = t.goes; lines = t.lines }
 went script may_rest w left e turned.Ended (none, t) = record { events = End ∷ []; after = t.after; still = []; goes = t.goes; lines = ap (λ l. l ++ End ∷ []) none }
+went script may_rest w left e (turned.Left n) (none, t) = record { events = Left n ∷ End ∷ []; after = t.after; still = []; goes = t.goes; lines = ap (λ l. l ++ Left n ∷ End ∷ []) none }
 went script may_rest w left e turned.Spent (none, t) = record { events = BudgetSpent ∷ []; after = t.after; still = []; goes = t.goes; lines = ap (λ l. l ++ BudgetSpent ∷ []) none }
 
 -- so its line can be printed, where all lines can

@@ -5,7 +5,7 @@ use Rattle.cg_io.specs.Causes.{AppendsFront}
 use Rattle.cg_script.specs.declared.Script.{Script}
 use Rattle.cg_graph.specs.Member.{Includes}
 use Rattle.cg_machine.specs.declared.event.Event.{Event}
-use Rattle.cg_machine.specs.declared.event.Event.TheVariants.{End, BudgetSpent}
+use Rattle.cg_machine.specs.declared.event.Event.TheVariants.{End, BudgetSpent, Left}
 use Rattle.cg_machine.specs.World.{World}
 use Rattle.cg_machine.specs.Run.{StepTaken, Run, IsRun, world_after, events_of}
 use Rattle.cg_machine.specs.Lines.{line, IsPrintable}
@@ -20,7 +20,9 @@ use Rattle.cg_interp.specs.Telling.{TurnsWith, Advances}
 abbrev pub events_told : Turned → List Event
 events_told turned.Quiet = []
 events_told (turned.Line event) = event ∷ []
+events_told (turned.Lines events) = events
 events_told turned.Ended = End ∷ []
+events_told (turned.Left n) = Left n ∷ End ∷ []
 events_told turned.Spent = BudgetSpent ∷ []
 
 -- A turn of the engine, and its line was written.

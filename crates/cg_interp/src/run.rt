@@ -42,7 +42,7 @@ pub enum RunEnd {
     OutOfMemory,
 }
 
-/// One turn, and its line.
+/// One turn, and its lines.
 fn turn_and_write<B: Kind, K: Sink, L: Ledger>(
     engine: &mut Engine<B>,
     script: &Script,
@@ -68,13 +68,13 @@ fn turn_and_write<B: Kind, K: Sink, L: Ledger>(
     let answer = engine.turn(script, steps);
     // No heap is large, so a collection has few lines left after a turn, and little to do.
     engine.heap.sound();
-    match write_answer(answer, &script.names, text, sink) {
+    match write_answer(&answer, &script.names, text, sink) {
         Ok(()) => Ok(answer),
         Err(fault) => Err(fault),
     }
 }
 
-/// Turns, each with its line, until the run has ended or the sink has failed.
+/// Turns, each with its lines, until the run has ended or the sink has failed.
 fn run_turns<B: Kind, K: Sink, L: Ledger>(
     engine: &mut Engine<B>,
     script: &Script,
@@ -101,7 +101,9 @@ fn run_turns<B: Kind, K: Sink, L: Ledger>(
         match turn_and_write(engine, script, steps, &mut text, sink) {
             Ok(Turned::Quiet) => {}
             Ok(Turned::Line(_)) => {}
+            Ok(Turned::Lines(_)) => {}
             Ok(Turned::Ended) => return RunEnd::Done,
+            Ok(Turned::Left(_)) => return RunEnd::Done,
             Ok(Turned::Spent) => return RunEnd::Budget,
             Err(WriteFailed) => return RunEnd::WriteFault,
         }
