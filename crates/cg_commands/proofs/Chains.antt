@@ -6,7 +6,7 @@ use Rattle.cg_machine.specs.Effects.{Effect}
 use Rattle.cg_machine.specs.Refusals.{◌>>=◌}
 use Rattle.cg_commands.specs.declared.done.Done.{Done}
 use Rattle.cg_commands.specs.declared.done.Refusal.{Refusal}
-use Rattle.cg_commands.specs.declared.done.Refusal.TheVariants.{NoName, WrongKind, NoIndex, NoKey, NoAttribute, NotWeak, NotCallable, BadGeneration, Unhashable, OutOfMemory, ObjectLimit, EntryLimit}
+use Rattle.cg_commands.specs.declared.done.Refusal.TheVariants.{NoName, WrongKind, NoIndex, NoKey, NoAttribute, NotWeak, NotCallable, BadGeneration, Unhashable, OutOfMemory, ObjectLimit, EntryLimit, InCollection}
 use Rattle.cg_commands.specs.Refusals.{Declines}
 use Rattle.cg_commands.specs.declared.locals.Locals.{Locals}
 use Rattle.cg_commands.specs.Stands.{Reads, IsRefused}
@@ -32,6 +32,7 @@ declines_then Unhashable r f is = ap (λ q. q >>= f) is
 declines_then OutOfMemory r f is = absurd is
 declines_then ObjectLimit r f is = ap (λ q. q >>= f) is
 declines_then EntryLimit r f is = ap (λ q. q >>= f) is
+declines_then InCollection r f is = ap (λ q. q >>= f) is
 
 -- and is refused where it is not
 pub refused : {A : Type 0} (refusal : Refusal) (r : Result A ℕ) (f : A → Result Effect ℕ) (old : Store) → Declines refusal r → AnswersOnHeap (Err refusal) (r >>= f) old old
@@ -50,6 +51,7 @@ refused refusal r f old is = (told refusal (r >>= f) (declines_then refusal r f 
     told OutOfMemory effect is = absurd is
     told ObjectLimit effect is = is
     told EntryLimit effect is = is
+    told InCollection effect is = is
 
 -- In every world at once: what was read decides where it is refused,
 pub stops : {A : Type 0} (store : Store) (locals : Option Locals) (read : World → Result A ℕ) (k : World → A → Result Effect ℕ) (refusal : Refusal) → IsRefused store locals read refusal → PerformsOnHeap store locals (λ w. read w >>= k w) store (Err refusal)

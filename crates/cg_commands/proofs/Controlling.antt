@@ -19,9 +19,9 @@ use Rattle.cg_machine.specs.Represents.{Represents, CollectionWaits}
 use Rattle.cg_policy.specs.Policy.{Policy, with_numbers}
 use Rattle.cg_policy.specs.Laws.{policy_of}
 use Rattle.cg_commands.specs.declared.done.Done.{Done}
-use Rattle.cg_commands.specs.declared.done.Done.TheVariants.{Changed, Calls, Collects, Quits}
+use Rattle.cg_commands.specs.declared.done.Done.TheVariants.{Changed, Calls, Collects, Quits, Tells}
 use Rattle.cg_commands.specs.declared.done.Refusal.{Refusal}
-use Rattle.cg_commands.specs.declared.done.Refusal.TheVariants.{NoName, WrongKind, NoIndex, NoKey, NoAttribute, NotWeak, NotCallable, BadGeneration, Unhashable, OutOfMemory, ObjectLimit, EntryLimit}
+use Rattle.cg_commands.specs.declared.done.Refusal.TheVariants.{NoName, WrongKind, NoIndex, NoKey, NoAttribute, NotWeak, NotCallable, BadGeneration, Unhashable, OutOfMemory, ObjectLimit, EntryLimit, InCollection}
 use Rattle.cg_commands.specs.declared.locals.Locals.{Locals}
 use Rattle.cg_commands.specs.Answers.{Performs, policy_after}
 use Rattle.cg_commands.specs.Attempts.{Attempts}
@@ -90,6 +90,7 @@ module _ (store : Store) (was : Policy) (locals : Option Locals) (number : ℤ) 
   asks_leaves (Ok (Calls f)) asked = absurd asked
   asks_leaves (Ok (Collects g)) asked = record { number = number; is = refl; asked = asked; store = refl; policy = refl }
   asks_leaves (Ok Quits) asked = absurd asked
+  asks_leaves (Ok (Tells lines)) asked = absurd asked
   asks_leaves (Err refusal) asked = record { number = number; is = refl; asked = asked; store = refl; policy = refl }
 
   asks_performs : (answer : Result Done Refusal) → IsAsked number answer → Performs store was locals (λ w. effect w (Collect number)) store was answer
@@ -98,6 +99,7 @@ module _ (store : Store) (was : Policy) (locals : Option Locals) (number : ℤ) 
   asks_performs (Ok (Calls f)) asked w s same = absurd asked
   asks_performs (Ok (Collects g)) asked w s same = record { heap = (ap (λ x. ok_or x bad_generation >>= (λ g. Ok (CollectsEffect g))) asked.0, asked.1, refl); policy = refl }
   asks_performs (Ok Quits) asked w s same = absurd asked
+  asks_performs (Ok (Tells lines)) asked w s same = absurd asked
   asks_performs (Err NoName) asked w s same = absurd asked
   asks_performs (Err WrongKind) asked w s same = absurd asked
   asks_performs (Err NoIndex) asked w s same = absurd asked
@@ -110,6 +112,7 @@ module _ (store : Store) (was : Policy) (locals : Option Locals) (number : ℤ) 
   asks_performs (Err OutOfMemory) asked w s same = absurd asked
   asks_performs (Err ObjectLimit) asked w s same = absurd asked
   asks_performs (Err EntryLimit) asked w s same = absurd asked
+  asks_performs (Err InCollection) asked w s same = absurd asked
 
   pub asks : (room : Bool) (given : Command) → given ≡ Collect number → (answer : Result Done Refusal) → IsAsked number answer → Attempts store was locals room given store was answer
   asks room given is answer asked = subst (λ c. Attempts store was locals room c store was answer) (sym is) (record {

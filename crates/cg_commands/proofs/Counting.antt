@@ -1,6 +1,6 @@
 -- What a command that is not the collector's leaves of the policy: it stays, but for an object that is made, which is
 -- counted.
-use Rattle.std.proofs.Common.{◌≡◌, refl, sym, ◌∙◌, ap, subst, ℕ, Bool, true, false, List, [], Option, Some, None, Result, Ok, Err, OnOk}
+use Rattle.std.proofs.Common.{◌≡◌, refl, sym, ◌∙◌, ap, subst, ℕ, Bool, true, false, List, [], Option, Some, None, Result, Ok, Err, OnOk, inl, inr}
 use Rattle.cg_value.specs.declared.Entry.{Entry}
 use Rattle.cg_value.specs.declared.KindCode.{KindCode}
 use Rattle.cg_value.specs.declared.KindCode.TheVariants.{List as ListKind, Tuple, Dict, Inst, Func, Weak}
@@ -9,10 +9,10 @@ use Rattle.cg_script.specs.declared.Command.TheVariants.{MakeList, MakeTuple, Ma
 use Rattle.cg_script.specs.Spelled.{IsForObjects}
 use Rattle.cg_graph.specs.Store.{Store}
 use Rattle.cg_machine.specs.World.{World}
-use Rattle.cg_machine.specs.Effects.{Effect, Changes, Calls, Collects, Quits, makes}
+use Rattle.cg_machine.specs.Effects.{Effect, Changes, Calls, Collects, Quits, Explains, makes}
 use Rattle.cg_machine.specs.Commands.{effect}
 use Rattle.cg_machine.proofs.CommandLaws.{Each, checked}
-use Rattle.cg_machine.proofs.Shapes.{SetsNumbers, Shape, Makes, Sets, Freezes, Unfreezes, StartsFrame, StartsCollection, Ends}
+use Rattle.cg_machine.proofs.Shapes.{SetsNumbers, Shape, Makes, Sets, Freezes, Unfreezes, StartsFrame, StartsCollection, Ends, AsksWhy}
 use Rattle.cg_machine.proofs.ShapeLaws.{by_shape}
 use Rattle.cg_policy.specs.Policy.{Policy, with_numbers, with_one_made}
 use Rattle.cg_policy.specs.Laws.{policy_of}
@@ -23,6 +23,8 @@ use Rattle.cg_commands.specs.declared.locals.Locals.{Locals}
 use Rattle.cg_commands.specs.Answers.{AnswersOnHeap, PerformsOnHeap, policy_after}
 use Rattle.cg_commands.specs.Attempts.{Attempts, counted}
 use Rattle.cg_commands.specs.Growth.{makes_object}
+use Rattle.cg_commands.specs.Inspections.{Inspects}
+use Rattle.cg_commands.specs.Stands.{StandsFor}
 use Rattle.cg_commands.proofs.Growing.{of_effect, made_makes, nothing_made, made_in_room}
 
 -- the policy stays
@@ -31,6 +33,7 @@ StaysCounted w (Changes wants_memory lines given_up after) = policy_of after ≡
 StaysCounted w (Calls f) = Unit {0}
 StaysCounted w (Collects g) = Unit {0}
 StaysCounted w Quits = Unit {0}
+StaysCounted w (Explains o) = Unit {0}
 
 -- the commands for objects set no numbers
 sets_none : (command : Command) → IsForObjects command → SetsNumbers command → ⊥
@@ -48,6 +51,7 @@ shape_stays w command own none e (Unfreezes is) = absurd (subst IsForObjects is 
 shape_stays w command own none e (StartsFrame f h) = tt
 shape_stays w command own none e (StartsCollection g low) = tt
 shape_stays w command own none e Ends = tt
+shape_stays w command own none e (AsksWhy x h calm) = tt
 shape_stays w command own none e s = refl
 
 effect_stays : (w : World) (command : Command) → IsForObjects command → makes_object command ≡ false → Each (StaysCounted w) (effect w command)
@@ -59,6 +63,7 @@ CountsOne w (Changes wants_memory lines given_up after) = policy_of after ≡ wi
 CountsOne w (Calls f) = ⊥
 CountsOne w (Collects g) = ⊥
 CountsOne w Quits = ⊥
+CountsOne w (Explains o) = ⊥
 
 makes_counts : (w : World) (name : ℕ) (kind : KindCode) (class : Option ℕ) (entries : List Entry) (referent : Option ℕ) → Each (CountsOne w) (makes w name kind class entries referent)
 makes_counts w name kind class entries referent = checked (CountsOne w) _ _ (λ u. checked (CountsOne w) _ _ (λ v. refl))
@@ -82,6 +87,10 @@ module _ (w : World) (command : Command) (old new : Store) where
   stays_after own none (Ok (done.Calls f)) h = refl
   stays_after own none (Ok (done.Collects g)) h = refl
   stays_after own none (Ok done.Quits) h = refl
+  stays_after own none (Ok (done.Tells lines)) (inl h, same) =
+      let stays = of_effect (StaysCounted w) (effect w command) _ h.is (effect_stays w command own none) in
+      sym stays ∙ ap (λ r. policy_after (Ok (done.Tells lines)) r (policy_of w)) (sym h.is)
+  stays_after own none (Ok (done.Tells lines)) (inr h, same) = ap (λ r. policy_after (Ok (done.Tells lines)) r (policy_of w)) (sym h.is)
   stays_after own none (Err refusal) h = refl
 
   counted_after : makes_object command ≡ true → (answer : Result Done Refusal) → AnswersOnHeap answer (effect w command) old new → counted answer (policy_of w) ≡ policy_after answer (effect w command) (policy_of w)
@@ -91,19 +100,34 @@ module _ (w : World) (command : Command) (old new : Store) where
   counted_after made (Ok (done.Calls f)) h = absurd (of_effect (CountsOne w) (effect w command) _ h.0 (effect_counts w command made))
   counted_after made (Ok (done.Collects g)) h = absurd (of_effect (CountsOne w) (effect w command) _ h.0 (effect_counts w command made))
   counted_after made (Ok done.Quits) h = absurd (of_effect (CountsOne w) (effect w command) _ h.0 (effect_counts w command made))
+  counted_after made (Ok (done.Tells lines)) (inl h, same) =
+      let counts = of_effect (CountsOne w) (effect w command) _ h.is (effect_counts w command made) in
+      sym counts ∙ ap (λ r. policy_after (Ok (done.Tells lines)) r (policy_of w)) (sym h.is)
+  counted_after made (Ok (done.Tells lines)) (inr h, same) = absurd (of_effect (CountsOne w) (effect w command) _ h.is (effect_counts w command made))
   counted_after made (Err refusal) h = refl
+
+-- A command that makes no object leaves the policy, also where its answer rests on the policy.
+plain : (old : Store) (was : Policy) (locals : Option Locals) (room : Bool) (given command : Command) → given ≡ command → IsForObjects command → makes_object command ≡ false → (new : Store) (answer : Result Done Refusal)
+    → ((w : World) → StandsFor old locals w → was ≡ policy_of w → AnswersOnHeap answer (effect w command) old new) → Attempts old was locals room given new was answer
+plain old was locals room given command is own none new answer does = subst (λ c. Attempts old was locals room c new was answer) (sym is) (record {
+  performs = λ w stands policy. record {
+    heap = does w stands policy;
+    policy = policy ∙ stays_after w command old new own none answer (does w stands policy) ∙ ap (policy_after answer (effect w command)) (sym policy);
+  };
+  leaves = λ control. absurd (control own);
+  in_room = nothing_made answer (makes_object command) room none;
+})
+
+-- an inspection, which rests on whether a collection is running
+pub inspects : (store : Store) (was : Policy) (locals : Option Locals) (room : Bool) (given command : Command) → given ≡ command → IsForObjects command → makes_object command ≡ false → (answer : Result Done Refusal)
+    → Inspects store was.running locals (λ w. effect w command) answer → Attempts store was locals room given store was answer
+inspects store was locals room given command is own none answer does =
+    plain store was locals room given command is own none store answer (λ w stands policy. does w stands (ap (λ (p : Policy). p.running) (sym policy)))
 
 module _ (old : Store) (was : Policy) (locals : Option Locals) (room : Bool) (given command : Command) (is : given ≡ command) (own : IsForObjects command) (new : Store) (answer : Result Done Refusal) (does : PerformsOnHeap old locals (λ w. effect w command) new answer) where
   -- a command that makes no object and leaves the policy
   pub plainly : makes_object command ≡ false → Attempts old was locals room given new was answer
-  plainly none = subst (λ c. Attempts old was locals room c new was answer) (sym is) (record {
-    performs = λ w stands policy. record {
-      heap = does w stands;
-      policy = policy ∙ stays_after w command old new own none answer (does w stands) ∙ ap (policy_after answer (effect w command)) (sym policy);
-    };
-    leaves = λ control. absurd (control own);
-    in_room = nothing_made answer (makes_object command) room none;
-  })
+  plainly none = plain old was locals room given command is own none new answer (λ w stands policy. does w stands)
 
   -- one that makes an object, once it is counted
   pub made_and_counted : makes_object command ≡ true → OnOk answer (room ≡ true) → (now : Policy) → now ≡ counted answer was → Attempts old was locals room given new now answer

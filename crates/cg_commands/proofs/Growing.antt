@@ -11,11 +11,11 @@ use Rattle.cg_graph.specs.Store.{Store, objects_of}
 use Rattle.cg_graph.specs.Value.{put}
 use Rattle.cg_script.specs.declared.Command.{Command}
 use Rattle.cg_machine.specs.World.{World, Numbers, with_change}
-use Rattle.cg_machine.specs.Effects.{Effect, Changes, Calls, Collects, Quits, replaced, frozen, unfrozen, bound, with_new, tracked_by}
+use Rattle.cg_machine.specs.Effects.{Effect, Changes, Calls, Collects, Quits, Explains, replaced, frozen, unfrozen, bound, with_new, tracked_by}
 use Rattle.cg_machine.specs.Represents.{Represents}
 use Rattle.cg_machine.specs.Commands.{effect}
 use Rattle.cg_machine.proofs.CommandLaws.{Each}
-use Rattle.cg_machine.proofs.Shapes.{IsMadeBy, ByList, ByTuple, ByDict, ByInst, ByFunc, ByRef, Shape, Binds, Makes, Edits, Puts, Shows, Tells, Stays, Sets, Freezes, Unfreezes, StartsFrame, StartsCollection, Ends}
+use Rattle.cg_machine.proofs.Shapes.{IsMadeBy, ByList, ByTuple, ByDict, ByInst, ByFunc, ByRef, Shape, Binds, Makes, Edits, Puts, Shows, Tells, Stays, Sets, Freezes, Unfreezes, StartsFrame, StartsCollection, Ends, Inspects, AsksWhy}
 use Rattle.cg_machine.proofs.ShapeLaws.{by_shape}
 use Rattle.cg_commands.specs.declared.done.Done.{Done}
 use Rattle.cg_commands.specs.declared.done.Done.TheVariants as done
@@ -42,6 +42,7 @@ HasSize made w (Changes wants_memory lines given_up after) = Sized made w after
 HasSize made w (Calls f) = Unit {0}
 HasSize made w (Collects g) = Unit {0}
 HasSize made w Quits = Unit {0}
+HasSize made w (Explains o) = Unit {0}
 
 named : (w : World) (i : ℕ) (v : Option Val) → Sized false w (record w { names = slice_set w.names i v })
 named w i v = record { objects = omega arith; names = length-set w.names i v }
@@ -82,6 +83,8 @@ shape_sized w command e (Unfreezes is) = at_most (makes_object command) w _ (pla
 shape_sized w command e (StartsFrame f h) = tt
 shape_sized w command e (StartsCollection g low) = tt
 shape_sized w command e Ends = tt
+shape_sized w command e (Inspects lines calm there) = at_most (makes_object command) w _ (same w w.numbers)
+shape_sized w command e (AsksWhy x h calm) = tt
 
 effect_sized : (w : World) (command : Command) → Each (HasSize (makes_object command) w) (effect w command)
 effect_sized w command = by_shape (HasSize (makes_object command) w) w command (shape_sized w command)
@@ -110,4 +113,5 @@ grows command w room old new (Ok (done.Changed line e)) r h is =
 grows command w room old new (Ok (done.Calls f)) r h is = kept room old new h.1
 grows command w room old new (Ok (done.Collects g)) r h is = kept room old new h.2
 grows command w room old new (Ok done.Quits) r h is = kept room old new h.1
+grows command w room old new (Ok (done.Tells lines)) r h is = kept room old new h.1
 grows command w room old new (Err refusal) r h is = kept room old new h.1

@@ -5,6 +5,8 @@ mod BindingLemmas
 mod KeyLemmas
 mod Steps
 mod QueryLemmas
+mod Inspecting
+pub mod Explaining
 mod LookupLemmas
 mod Limits
 mod EntryLemmas

@@ -97,7 +97,7 @@ fault-refused store locals fault.EntryLimit lines given after r is limit objects
     (ap (λ q. q >>= (λ _. Ok (Changes true lines given (after w)))) (no_room store w s.represents 1 (omega (arith, full))), same)
 fault-refused store locals fault.OutOfMemory lines given after r is limit objects new same = λ w s.
     let fits : entry_number store + 1 ≤ 4000000 = known (leb_tells 4000000 (entry_number store)) in
-    (record { lines = lines; given_up = given; after = after w; is = ap (λ q. q >>= (λ _. Ok (Changes true lines given (after w)))) (room store w s.represents 1 fits) }, same)
+    (inl (record { lines = lines; given_up = given; after = after w; is = ap (λ q. q >>= (λ _. Ok (Changes true lines given (after w)))) (room store w s.represents 1 fits) }), same)
   where
     known : {b : Bool} → ((b ≡ true) × (4000000 ≤ entry_number store)) ⊎ ((b ≡ false) × (entry_number store < 4000000)) → entry_number store + 1 ≤ 4000000
     known (inl h) = let no' = sym is ∙ limit.1 h.1 in absurd (cc)

@@ -117,12 +117,12 @@ module _ (store : Store) (sound : IsSound store) (locals : Option Locals) (name 
       let both = entries.0 is in
       ((λ i. effect_with w (few store w s.represents sound both.0 i) (no_room store w s.represents (length parts) both.1 i)), same)
   makes-refused fault.OutOfMemory r is objects entries new same = λ w s. (
-    record {
+    inl (record {
       lines = Made code w.next_serial ∷ [];
       given_up = given_up_by w name;
       after = bound (with_new w code class parts referent) name (Some (val.Ref w.next_serial));
       is = fits few_objects few_entries w s.represents;
-    },
+    }),
     same,
   )
     where

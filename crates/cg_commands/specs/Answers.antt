@@ -1,28 +1,33 @@
 -- What a command may answer, in every world that the heap and the policy stand for. (Ours.)
 use Rattle.cg_value.specs.declared.Entry.{Entry}
-use Rattle.std.specs.Prelude.{◌≡◌, ℕ, ◌≤◌, Bool, true, List, Option, None, option_to_list, Result, Ok, Err}
+use Rattle.std.specs.Prelude.{◌≡◌, ℕ, ◌≤◌, ◌⊎◌, Bool, true, List, [], Option, None, option_to_list, Result, Ok, Err}
 use Rattle.cg_graph.specs.Store.{Store}
 use Rattle.cg_graph.specs.Value.{entry_references}
 use Rattle.cg_machine.specs.declared.event.Event.{Event}
 use Rattle.cg_machine.specs.World.{World, Releasing, push}
-use Rattle.cg_machine.specs.Effects.{Effect, Changes, Calls as CallsEffect, Collects as CollectsEffect, Quits as QuitsEffect}
+use Rattle.cg_machine.specs.Effects.{Effect, Changes, Calls as CallsEffect, Collects as CollectsEffect, Quits as QuitsEffect, Explains as ExplainsEffect}
 use Rattle.cg_machine.specs.Represents.{Represents}
 use Rattle.cg_policy.specs.Policy.{Policy}
 use Rattle.cg_policy.specs.Laws.{policy_of}
 use Rattle.cg_commands.specs.declared.done.Done.{Done}
-use Rattle.cg_commands.specs.declared.done.Done.TheVariants.{Changed, Calls, Collects, Quits}
+use Rattle.cg_commands.specs.declared.done.Done.TheVariants.{Changed, Calls, Collects, Quits, Tells}
 use Rattle.cg_commands.specs.declared.done.Refusal.{Refusal}
 use Rattle.cg_commands.specs.declared.done.Refusal.TheVariants.{OutOfMemory}
 use Rattle.cg_commands.specs.declared.locals.Locals.{Locals}
 use Rattle.cg_commands.specs.Refusals.{number_of}
 use Rattle.cg_commands.specs.Stands.{StandsFor}
+use Rattle.cg_commands.specs.Reasons.{Explained}
 
--- No refusal holds, and memory may be wanted.
-pub record WantsMemory (effect : Result Effect ℕ) : Type 0 where
+-- The effect is a change for which memory may be wanted.
+pub record ChangesByMemory (effect : Result Effect ℕ) : Type 0 where
   pub lines : List Event
   pub given_up : List ℕ
   pub after : World
   pub is : effect ≡ Ok (Changes true lines given_up after)
+
+-- No refusal holds, and memory may be wanted: for a change, or to find out why an object is alive.
+abbrev pub WantsMemory : Result Effect ℕ → Type 0
+WantsMemory effect = ChangesByMemory effect ⊎ ((object : ℕ) × (effect ≡ Ok (ExplainsEffect object)))
 
 -- The refusal is the one that the machine gives. Want of memory comes only where memory may be wanted.
 abbrev pub Refuses : Refusal → Result Effect ℕ → Type 0
@@ -37,12 +42,14 @@ pub record HasChanged (effect : Result Effect ℕ) (lines : List Event) (given_u
   pub is : effect ≡ Ok (Changes wants_memory lines given_up after)
   pub represents : Represents new (push (Releasing given_up) after)
 
--- What was done is the effect. All but a change leaves the heap.
+-- What was done is the effect. All but a change leaves the heap. Lines are those of a change that changes nothing, or tell why
+-- an object is alive.
 abbrev pub IsDone : Done → Result Effect ℕ → Store → Store → Type 0
 IsDone (Changed line given_up) effect old new = HasChanged effect (option_to_list line) (entry_references given_up) new
 IsDone (Calls f) effect old new = (effect ≡ Ok (CallsEffect f)) × (new ≡ old)
 IsDone (Collects generation) effect old new = (effect ≡ Ok (CollectsEffect generation)) × (generation ≤ 2) × (new ≡ old)
 IsDone Quits effect old new = (effect ≡ Ok QuitsEffect) × (new ≡ old)
+IsDone (Tells lines) effect old new = (HasChanged effect lines [] new ⊎ Explained effect old lines) × (new ≡ old)
 
 -- A refusal leaves the heap.
 abbrev pub AnswersOnHeap : Result Done Refusal → Result Effect ℕ → Store → Store → Type 0
@@ -52,6 +59,7 @@ AnswersOnHeap (Err refusal) effect old new = Refuses refusal effect × (new ≡ 
 -- the policy of the world that a change leaves; what else is answered leaves the policy
 abbrev pub policy_after : Result Done Refusal → Result Effect ℕ → Policy → Policy
 policy_after (Ok (Changed line given_up)) (Ok (Changes wants_memory lines references after)) was = policy_of after
+policy_after (Ok (Tells told)) (Ok (Changes wants_memory lines references after)) was = policy_of after
 policy_after answer effect was = was
 
 -- What was answered is the effect, and heap and policy are as it leaves them.

@@ -1,7 +1,9 @@
 pub mod Refusals
 pub mod Stands
 pub mod Objects
+pub mod Reasons
 pub mod Answers
+pub mod Inspections
 pub mod Parts
 pub mod Growth
 pub mod Places

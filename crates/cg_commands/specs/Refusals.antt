@@ -1,10 +1,10 @@
 -- Refusals by the numbers of the machine, and what a refusal says. (Ours.)
 use Rattle.std.specs.Prelude.{◌≡◌, ℕ, Result, Err}
-use Rattle.cg_machine.specs.Refusals.{no_name, wrong_kind, no_index, no_key, no_attribute, not_weak, not_callable, bad_generation, unhashable, no_memory, object_limit, entry_limit}
+use Rattle.cg_machine.specs.Refusals.{no_name, wrong_kind, no_index, no_key, no_attribute, not_weak, not_callable, bad_generation, unhashable, no_memory, object_limit, entry_limit, in_collection}
 use Rattle.cg_heap.specs.declared.fault.HeapFault.{HeapFault}
 use Rattle.cg_heap.specs.declared.fault.HeapFault.TheVariants as fault
 use Rattle.cg_commands.specs.declared.done.Refusal.{Refusal}
-use Rattle.cg_commands.specs.declared.done.Refusal.TheVariants.{NoName, WrongKind, NoIndex, NoKey, NoAttribute, NotWeak, NotCallable, BadGeneration, Unhashable, OutOfMemory, ObjectLimit, EntryLimit}
+use Rattle.cg_commands.specs.declared.done.Refusal.TheVariants.{NoName, WrongKind, NoIndex, NoKey, NoAttribute, NotWeak, NotCallable, BadGeneration, Unhashable, OutOfMemory, ObjectLimit, EntryLimit, InCollection}
 
 -- the number of each refusal
 abbrev pub number_of : Refusal → ℕ
@@ -20,6 +20,7 @@ number_of Unhashable = unhashable
 number_of OutOfMemory = no_memory
 number_of ObjectLimit = object_limit
 number_of EntryLimit = entry_limit
+number_of InCollection = in_collection
 
 -- the refusal that a fault of the heap is
 abbrev pub refusal_by : HeapFault → Refusal

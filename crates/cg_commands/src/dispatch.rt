@@ -1,6 +1,7 @@
 //! Any command.
-ghost use Rattle.std.specs.Prelude.{◌≡◌, ◌<◌, length};
+ghost use Rattle.std.specs.Prelude.{◌≡◌, ◌<◌, false, length};
 ghost use Rattle.cg_heap.specs.Calls.{HasFewHolds};
+ghost use Rattle.cg_inspect.specs.Inspection.{IsIdle};
 ghost use Rattle.cg_machine.specs.World.{World};
 ghost use Rattle.cg_machine.specs.Commands.{effect};
 ghost use Rattle.cg_script.specs.Spelled.{IsSpelledCommand};
@@ -17,6 +18,7 @@ use crate::done::{Done, Refusal, told};
 use crate::entries::{append, del_attr, del_item, put, remove, set_attr, set_item};
 use crate::frames::{call, quit};
 use crate::generations::{collect, counts, freeze, sizes, unfreeze};
+use crate::inspections::{referents, referrers, why};
 use crate::locals::Locals;
 use crate::lookups::{attr, deref, get, item};
 use crate::makes::{make_dict, make_function, make_instance, make_list, make_tuple, make_weak};
@@ -26,6 +28,7 @@ use cg_heap::Heap;
 use cg_kind::Kind;
 use cg_policy::{Flagset, Policy};
 use cg_script::Command;
+use std::alloc::Global;
 
 /// Does a command: what the machine's definition of effects says, in every world that the heap, the policy and the locals
 /// stand for. `locals` are those of the frame on top, if one is. The policy counts an object that is made. `room` says
@@ -36,8 +39,9 @@ use cg_script::Command;
 /// asks for a collection.
 ///
 /// The command is one of a script that some bytes spell, the objects among the locals live, and fewer than 2^63 objects
-/// have been made.
+/// have been made. Where no collection is running, nothing stands in the places that collections use.
 pub fn perform<B: Kind>(
+    alloc: Global,
     heap: &mut Heap<B>,
     policy: &mut Policy,
     locals: Option<Locals>,
@@ -49,15 +53,17 @@ pub fn perform<B: Kind>(
     requires few { HasFewHolds heap.old }
     requires last { heap.old.last < 9223372036854775808 }
     requires bounded { IsBounded (with_one_made policy.old.numbers) }
+    requires idle { policy.old.running ≡ false → IsIdle heap.old }
     ensures performs { Performs heap.old policy.old locals (λ w. effect w command.now) heap.new policy.new result }
     ensures leaves { IsControl command.now → Leaves heap.old policy.old command.now heap.new policy.new result }
     ensures grows { (w : World) → StandsFor heap.old locals w → policy.old ≡ policy_of w → GrowsBy room heap.old heap.new }
 {
-    attempt(heap, policy, locals, command, room)
+    attempt(alloc, heap, policy, locals, command, room)
 }
 
 /// The same. An object is made only where there is room for it.
 fn attempt<B: Kind>(
+    alloc: Global,
     heap: &mut Heap<B>,
     policy: &mut Policy,
     locals: Option<Locals>,
@@ -69,6 +75,7 @@ fn attempt<B: Kind>(
     requires few { HasFewHolds heap.old }
     requires last { heap.old.last < 9223372036854775808 }
     requires bounded { IsBounded (with_one_made policy.old.numbers) }
+    requires idle { policy.old.running ≡ false → IsIdle heap.old }
     ensures { Attempts heap.old policy.old locals room command.now heap.new policy.new result }
 {
     match command {
@@ -133,6 +140,9 @@ fn attempt<B: Kind>(
         Command::Refs { value } => refs(heap, locals, *value),
         Command::Tracked { value } => tracked(heap, locals, *value),
         Command::Finalized { value } => finalized(heap, locals, *value),
+        Command::Referents { value } => referents(alloc, heap, policy.running(), locals, *value),
+        Command::Referrers { value } => referrers(alloc, heap, policy.running(), locals, *value),
+        Command::Why { name } => why(alloc, heap, policy.running(), locals, *name),
         Command::Collect { generation } => collect(number(generation)),
         Command::Enable => {
             policy.set_enabled(true);

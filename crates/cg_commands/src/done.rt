@@ -5,12 +5,13 @@ ghost use Rattle.cg_graph.specs.Value.{item};
 ghost use Rattle.cg_commands.specs.declared.done.Done.TheVariants as done;
 ghost use Rattle.cg_commands.specs.Refusals.{number_of, refusal_by};
 
+use crate::lines::Lines;
 use cg_heap::HeapFault;
 use cg_machine::Event;
 use cg_value::{Entry, Val};
 
 /// What a command did.
-#[derive(Clone, Copy, Debug, PartialEq, Eq, Drop)]
+#[derive(Debug, Drop)]
 pub enum Done {
     /// It changed what it had to, and perhaps a line is due. The references of the entry are outside holds, which are now
     /// to be given up: the one in the value, and then the one in the key.
@@ -25,6 +26,8 @@ pub enum Done {
     Collects(u8),
     /// The frame on top is to end, or the script.
     Quits,
+    /// It tells these lines, one after the other. Nothing has changed, and nothing is to be given up.
+    Tells(Lines),
 }
 
 /// Why a command is refused. It has changed nothing then.
@@ -54,6 +57,8 @@ pub enum Refusal {
     ObjectLimit,
     /// The entries would pass 4,000,000.
     EntryLimit,
+    /// A collection is running, and the command tells of objects that it may be about to free.
+    InCollection,
 }
 
 impl Refusal {
@@ -74,6 +79,7 @@ impl Refusal {
             Refusal::OutOfMemory => 10,
             Refusal::ObjectLimit => 11,
             Refusal::EntryLimit => 12,
+            Refusal::InCollection => 13,
         }
     }
 }

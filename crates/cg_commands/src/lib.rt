@@ -3,10 +3,10 @@
 //! The layer above rests on one contract: in every world of the machine that the heap and the policy stand for, `perform`
 //! does what the machine's own definition of effects says of the command, or refuses it for the machine's own reason.
 //!
-//! - `done`: what a command did, and why one is refused.
+//! - `done`, `lines`: what a command did, which lines it tells, and why one is refused.
 //! - `locals`: the locals of a frame.
 //! - `operands`: the values of operands, and the objects that they refer to.
-//! - `bindings`, `queries`, `lookups`, `entries`, `makes`, `frames`, `generations`: the commands, by family.
+//! - `bindings`, `queries`, `inspections`, `lookups`, `entries`, `makes`, `frames`, `generations`: the commands, by family.
 //! - `dispatch`: any of them.
 #![tactic(auto)]
 
@@ -16,6 +16,8 @@ mod done;
 mod entries;
 mod frames;
 mod generations;
+mod inspections;
+mod lines;
 mod locals;
 mod lookups;
 mod makes;
@@ -25,4 +27,5 @@ mod queries;
 
 pub use dispatch::{makes_object, perform};
 pub use done::{Done, Refusal};
+pub use lines::Lines;
 pub use locals::Locals;

@@ -17,7 +17,8 @@ use Rattle.cg_policy.specs.Policy.{Policy, with_numbers, with_enabled, with_flag
 use Rattle.cg_commands.specs.Answers.{PerformsOnHeap}
 use Rattle.cg_commands.specs.Attempts.{Attempts}
 use Rattle.cg_commands.specs.Controls.{IsAsked}
-use Rattle.cg_commands.proofs.Counting.{plainly, made_and_counted}
+use Rattle.cg_commands.specs.Inspections.{Inspects}
+use Rattle.cg_commands.proofs.Counting.{plainly, inspects, made_and_counted}
 use Rattle.cg_commands.proofs.Controlling.{asks, sets, tells, replaces}
 use Rattle.cg_commands.proofs.dispatch.attempt.Goals as goal
 
@@ -272,3 +273,18 @@ pub returns-in-Gens : goal.returns-in-Gens
 returns-in-Gens g c =
     tells c.args.heap.now c.args.policy.now c.args.locals c.args.room c.args.command.now _ c.in-Gens.is (λ own. own) refl (λ w. gens_line w.objects) (λ w. refl) c.sizes.result
     (λ w r same. ap gens_line (sym r.objects) ∙ sym c.sizes.ensures) c.told-in-Gens.result c.told-in-Gens.ensures
+
+pub returns-in-Referents : goal.returns-in-Referents
+returns-in-Referents g c =
+    inspects c.args.heap.now c.args.policy.now c.args.locals c.args.room c.args.command.now _ c.in-Referents.is tt refl c.referents.result
+    (subst (λ b. Inspects c.args.heap.now b c.args.locals (λ w. effect w (command.Referents c.in-Referents.value)) c.referents.result) c.running.ensures c.referents.ensures)
+
+pub returns-in-Referrers : goal.returns-in-Referrers
+returns-in-Referrers g c =
+    inspects c.args.heap.now c.args.policy.now c.args.locals c.args.room c.args.command.now _ c.in-Referrers.is tt refl c.referrers.result
+    (subst (λ b. Inspects c.args.heap.now b c.args.locals (λ w. effect w (command.Referrers c.in-Referrers.value)) c.referrers.result) c.running-in-Referrers.ensures c.referrers.ensures)
+
+pub returns-in-Why : goal.returns-in-Why
+returns-in-Why g c =
+    inspects c.args.heap.now c.args.policy.now c.args.locals c.args.room c.args.command.now _ c.in-Why.is tt refl c.why.result
+    (subst (λ b. Inspects c.args.heap.now b c.args.locals (λ w. effect w (command.Why c.in-Why.name)) c.why.result) c.running-in-Why.ensures c.why.ensures)

@@ -1,0 +1,176 @@
+//! What tells of objects, in several lines, and changes nothing: what an object refers to, what refers to it, and why it is
+//! alive. Each is refused while a collection is running.
+ghost use Rattle.std.specs.Prelude.{◌≡◌, ◌<◌, ◌++◌, ◌∷◌, [], false, IfOk, IfErr, length, map};
+ghost use Rattle.std.specs.List.{All};
+ghost use Rattle.cg_script.specs.Texts.{operand_texts};
+ghost use Rattle.cg_script.specs.declared.command.Command.TheVariants as command;
+ghost use Rattle.cg_inspect.specs.Inspection.{IsIdle};
+ghost use Rattle.cg_machine.specs.declared.event.Event.TheVariants as event;
+ghost use Rattle.cg_machine.specs.Commands.{effect, path_lines};
+ghost use Rattle.cg_commands.specs.Inspections.{Inspects, IsInspected, IsNotInspected, line_of};
+ghost use Rattle.cg_commands.specs.Reasons.{reason_lines};
+ghost use Rattle.cg_commands.specs.Stands.{LocalsLive};
+
+use crate::done::{Done, Refusal};
+use crate::lines::Lines;
+use crate::locals::Locals;
+use crate::operands::{Wanted, object, value};
+use cg_heap::Heap;
+use cg_inspect::Why;
+use cg_kind::Kind;
+use cg_machine::Event;
+use cg_script::Operand;
+use std::alloc::{AllocError, Global};
+
+/// `referents v`: the objects to which the entries of an object refer.
+pub(crate) fn referents<B: Kind>(
+    alloc: Global,
+    heap: &Heap<B>,
+    running: bool,
+    locals: Option<Locals>,
+    operand: Operand,
+) -> Result<Done, Refusal>
+    requires known { All (λ n. n < length heap.now.names) (operand_texts operand) }
+    requires locals { LocalsLive heap.now locals }
+    requires idle { running ≡ false → IsIdle heap.now }
+    ensures { Inspects heap.now running locals (λ w. effect w (command.Referents operand)) result }
+{
+    let target = inspected(heap, running, locals, operand)?;
+    let Ok(objects) = cg_inspect::referents(alloc, heap, target) else {
+        return Err(Refusal::OutOfMemory);
+    };
+    let Ok(lines) = listing(alloc, &objects, Listed::Referents) else {
+        return Err(Refusal::OutOfMemory);
+    };
+    Ok(Done::Tells(lines))
+}
+
+/// `referrers v`: the objects whose entries refer to an object.
+pub(crate) fn referrers<B: Kind>(
+    alloc: Global,
+    heap: &Heap<B>,
+    running: bool,
+    locals: Option<Locals>,
+    operand: Operand,
+) -> Result<Done, Refusal>
+    requires known { All (λ n. n < length heap.now.names) (operand_texts operand) }
+    requires locals { LocalsLive heap.now locals }
+    requires idle { running ≡ false → IsIdle heap.now }
+    ensures { Inspects heap.now running locals (λ w. effect w (command.Referrers operand)) result }
+{
+    let target = inspected(heap, running, locals, operand)?;
+    let Ok(objects) = cg_inspect::referrers(alloc, heap, target) else {
+        return Err(Refusal::OutOfMemory);
+    };
+    let Ok(lines) = listing(alloc, &objects, Listed::Referrers) else {
+        return Err(Refusal::OutOfMemory);
+    };
+    Ok(Done::Tells(lines))
+}
+
+/// `why x`: a shortest path of holders to an object, but for one name that holds it.
+pub(crate) fn why<B: Kind>(
+    alloc: Global,
+    heap: &Heap<B>,
+    running: bool,
+    locals: Option<Locals>,
+    name: u32,
+) -> Result<Done, Refusal>
+    requires known { name < length heap.now.names }
+    requires locals { LocalsLive heap.now locals }
+    requires idle { running ≡ false → IsIdle heap.now }
+    ensures { Inspects heap.now running locals (λ w. effect w (command.Why name)) result }
+{
+    let target = inspected(heap, running, locals, Operand::Name(name))?;
+    let Ok(reason) = cg_inspect::why(alloc, heap, target) else {
+        return Err(Refusal::OutOfMemory);
+    };
+    let Ok(lines) = explanation(alloc, &reason) else {
+        return Err(Refusal::OutOfMemory);
+    };
+    Ok(Done::Tells(lines))
+}
+
+/// The object that the operand refers to. Any is refused while a collection is running.
+fn inspected<B: Kind>(
+    heap: &Heap<B>,
+    running: bool,
+    locals: Option<Locals>,
+    operand: Operand,
+) -> Result<u64, Refusal>
+    requires known { All (λ n. n < length heap.now.names) (operand_texts operand) }
+    requires locals { LocalsLive heap.now locals }
+    ensures ok { IfOk result (λ o. IsInspected heap.now running locals operand o) }
+    ensures err { IfErr result (λ r. IsNotInspected heap.now running locals operand r) }
+{
+    let val = value(heap, locals, operand)?;
+    let target = object(heap, val, Wanted::Any)?;
+    if running {
+        return Err(Refusal::InCollection);
+    }
+    Ok(target)
+}
+
+/// Which objects a list tells.
+#[derive(Clone, Copy, Debug, PartialEq, Eq, Drop)]
+enum Listed {
+    Referents,
+    Referrers,
+}
+
+impl Listed {
+    /// The line of one of them.
+    fn line(self, object: u64) -> Event
+        ensures { result ≡ line_of self object }
+    {
+        match self {
+            Listed::Referents => Event::Referent(object),
+            Listed::Referrers => Event::Referrer(object),
+        }
+    }
+}
+
+/// A line for each object, and then how many they are.
+fn listing(alloc: Global, objects: &[u64], listed: Listed) -> Result<Lines, AllocError>
+    ensures { IfOk result (λ lines. lines ≡ map (line_of listed) objects.now ++ event.Listed (length objects.now) ∷ []) }
+{
+    let mut events = Vec::with_capacity(alloc, objects.len() + 1)?;
+    'objects: for object in objects.iter() {
+        events.push(listed.line(*object))?;
+    }
+    events.push(Event::Listed(objects.len() as u64))?;
+    Ok(Lines::new(events))
+}
+
+/// The lines of a path, or that there is none.
+fn explanation(alloc: Global, reason: &Why) -> Result<Lines, AllocError>
+    ensures { IfOk result (λ lines. lines ≡ reason_lines reason.now) }
+{
+    match reason {
+        Why::Path(path) => path_lines(alloc, path.as_slice()),
+        Why::Unreachable => unreachable_line(alloc),
+    }
+}
+
+/// That no path leads to the object.
+fn unreachable_line(alloc: Global) -> Result<Lines, AllocError>
+    ensures { IfOk result (λ lines. lines ≡ event.Unreachable ∷ []) }
+{
+    let mut events = Vec::new(alloc);
+    events.push(Event::Unreachable)?;
+    Ok(Lines::new(events))
+}
+
+/// The objects of a path: the first is held otherwise than by an entry, and each next by the one before.
+fn path_lines(alloc: Global, path: &[u64]) -> Result<Lines, AllocError>
+    ensures { IfOk result (λ lines. lines ≡ path_lines path.now) }
+{
+    let mut events = Vec::with_capacity(alloc, path.len())?;
+    if let Some((first, rest)) = path.split_first() {
+        events.push(Event::Held(*first))?;
+        'holders: for object in rest.iter() {
+            events.push(Event::Via(*object))?;
+        }
+    }
+    Ok(Lines::new(events))
+}

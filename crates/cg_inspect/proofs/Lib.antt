@@ -1,0 +1,3 @@
+mod Trails
+mod Objects
+mod Holdings

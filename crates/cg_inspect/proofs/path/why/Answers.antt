@@ -1,0 +1,15 @@
+use Rattle.std.proofs.Common.{sym, ◌∙◌}
+use Rattle.cg_inspect.specs.Inspection.{HeldElse, arrows_of}
+use Rattle.cg_inspect.proofs.Trails.{no_path, not_looked_up, shortest_path, placed}
+use Rattle.cg_inspect.specs.Search.{objects_in}
+use Rattle.cg_inspect.proofs.path.why.Goals as goal
+
+pub returns-in-Some : goal.returns-in-Some
+returns-in-Some g c =
+    shortest_path (HeldElse c.args.heap.now c.args.object) (arrows_of c.args.heap.now) c.in_ok-found.found.entries c.in_ok-found.ensures c.args.object c.in-Some.last c.in_ok-path_back-in-Some.field-0.items
+    (placed c.args.object (objects_in c.in_ok-found.found.entries) c.in-Some.last (sym c.get_index_of.ensures.index ∙ c.in-Some.is)) c.in_ok-path_back-in-Some.ensures
+
+pub returns : goal.returns
+returns g c =
+    no_path (HeldElse c.args.heap.now c.args.object) (arrows_of c.args.heap.now) c.in_ok-found.found.entries c.in_ok-found.ensures c.args.object
+    (not_looked_up c.in_ok-found.found.entries c.args.object (sym c.in-None.ensures.found))

@@ -1,0 +1,3 @@
+pub mod Inspection
+pub mod Numbers
+pub mod Search

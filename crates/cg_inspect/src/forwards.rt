@@ -1,0 +1,40 @@
+//! What an object refers to.
+ghost use Rattle.std.specs.Prelude.{◌≡◌, ◌++◌, IfOk, OnOk, Some};
+ghost use Rattle.cg_graph.specs.Value.{references, references_of_value};
+ghost use Rattle.cg_graph.specs.Store.{IsLive, entries_of};
+
+use cg_heap::Heap;
+use cg_kind::Kind;
+use cg_value::Val;
+use std::alloc::{AllocError, Global};
+
+/// Appends the object that a value refers to, if it does.
+fn push_reference(listed: &mut Vec<u64>, value: Val) -> Result<(), AllocError>
+    ensures { OnOk result (listed.new.items ≡ listed.old.items ++ references_of_value (Some value)) }
+{
+    if let Val::Ref(object) = value {
+        listed.push(object)?;
+    }
+    Ok(())
+}
+
+/// The objects that a live object refers to, in the order of its entries and by the value before the key in each; one
+/// that stands there twice is told twice. (`gc` manual, `gc.get_referents`.)
+///
+/// It answers `AllocError` for want of memory alone.
+pub fn referents<B: Kind>(
+    alloc: Global,
+    heap: &Heap<B>,
+    object: u64,
+) -> Result<Vec<u64>, AllocError>
+    requires { IsLive heap.now object }
+    ensures { IfOk result (λ listed. listed.items ≡ references (entries_of heap.now object)) }
+{
+    let mut listed = Vec::new(alloc);
+    'entries: for i in 0..heap.len(object) {
+        let entry = heap.entry_at(object, i);
+        push_reference(&mut listed, entry.val)?;
+        push_reference(&mut listed, entry.key)?;
+    }
+    Ok(listed)
+}

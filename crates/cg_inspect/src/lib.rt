@@ -1,0 +1,26 @@
+//! What an object refers to, what refers to it, and why it is alive: three questions about a heap, which change nothing.
+//!
+//! They are for one who looks for a leak. (`gc` manual, `gc.get_referents` and `gc.get_referrers`; `why` is ours.) They may
+//! be asked where no collection is on.
+//!
+//! - `live`: all live objects, by rising serial.
+//! - `forwards`, `backwards`: what an object refers to, and what refers to it.
+//! - `holders`: which objects are held otherwise than by an entry.
+//! - `search`: what they lead to, the nearest first.
+//! - `path`: the path that was found; `reason`: the answer.
+#![tactic(auto)]
+
+mod backwards;
+mod forwards;
+mod holders;
+mod live;
+mod path;
+mod reason;
+mod search;
+#[cfg(test)]
+mod tests;
+
+pub use backwards::referrers;
+pub use forwards::referents;
+pub use path::why;
+pub use reason::Why;

@@ -1,0 +1,49 @@
+//! The search for a path of holders.
+ghost use Rattle.std.specs.Prelude.{◌≡◌, ◌<◌, ℕ, List, IfOk, length};
+ghost use Rattle.cg_inspect.specs.Inspection.{IsIdle, IsReason, HeldElse, arrows_of};
+ghost use Rattle.cg_inspect.specs.Search.{HaveTrails, IsPathBack, IsOver};
+
+use crate::live::live_objects;
+use crate::reason::Why;
+use crate::search::{Found, found_at, search};
+use cg_heap::Heap;
+use cg_kind::Kind;
+use std::alloc::{AllocError, Global};
+
+/// The path by which the object at a place was found.
+fn path_back(alloc: Global, found: &Found, last: usize) -> Result<Vec<u64>, AllocError>
+    requires trails { (trails : List (List ℕ)) × HaveTrails found.now.entries trails }
+    requires within { last < length found.now.entries }
+    ensures { IfOk result (λ path. IsPathBack found.now.entries last path.items) }
+{
+    let mut path = Vec::new(alloc);
+    let mut cursor = Some(last);
+    'holders: while let Some(at) = cursor {
+        let Some((object, holder)) = found_at(found, at) else {
+            unreachable!();
+        };
+        path.push(object)?;
+        cursor = holder;
+    }
+    path.reverse();
+    Ok(path)
+}
+
+/// Why the object is alive, but for one name that holds it: a path than which none is shorter, from an object that is held
+/// by a name, by the garbage root or from outside the heap. `Unreachable` comes exactly where there is none. (Ours.)
+///
+/// Where something else than an entry and one name holds the object, the path is the object alone. Which of several
+/// shortest paths is answered is free.
+///
+/// No collection is on. It answers `AllocError` for want of memory alone.
+pub fn why<B: Kind>(alloc: Global, heap: &Heap<B>, object: u64) -> Result<Why, AllocError>
+    requires { IsIdle heap.now }
+    ensures { IfOk result (IsReason heap.now object) }
+{
+    let objects = live_objects(alloc, heap)?;
+    let found = search(alloc, heap, &objects, object)?;
+    match found.get_index_of(&object) {
+        Some(last) => Ok(Why::Path(path_back(alloc, &found, last)?)),
+        None => Ok(Why::Unreachable),
+    }
+}

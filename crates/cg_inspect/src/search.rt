@@ -1,0 +1,70 @@
+//! A search by breadth: what is held otherwise comes first, and then what it leads to, the nearest first.
+ghost use Rattle.std.specs.Prelude.{◌≡◌, ◌∷◌, [], Some, IfOk, OnOk, slice_get};
+ghost use Rattle.cg_graph.specs.Object.{serials};
+ghost use Rattle.cg_graph.specs.Store.{objects_of};
+ghost use Rattle.cg_inspect.specs.Inspection.{HeldElse, arrows_of};
+ghost use Rattle.cg_inspect.specs.Search.{Finds, IsOver};
+
+use crate::forwards::referents;
+use crate::holders::held_else;
+use cg_heap::Heap;
+use cg_kind::Kind;
+use cg_serial::SerialHashing;
+use indexmap::IndexMap;
+use std::alloc::{AllocError, Global};
+
+/// The objects that were found, in the order in which they were, each with the place of its holder among them; one that is
+/// held otherwise than by an entry has none.
+pub type Found = IndexMap<u64, Option<usize>, SerialHashing>;
+
+/// Adds the object, where it was not found before.
+pub fn find(found: &mut Found, object: u64, holder: Option<usize>) -> Result<(), AllocError>
+    ensures { OnOk result (Finds found.old.entries (object ∷ []) holder found.new.entries) }
+{
+    if !found.contains_key(&object) {
+        found.insert(object, holder)?;
+    }
+    Ok(())
+}
+
+/// Adds those of the references that were not found before.
+fn find_all(found: &mut Found, references: &[u64], holder: usize) -> Result<(), AllocError>
+    ensures { OnOk result (Finds found.old.entries references.now (Some holder) found.new.entries) }
+{
+    'references: for object in references.iter() {
+        find(found, *object, Some(holder))?;
+    }
+    Ok(())
+}
+
+/// The object that was found at a place, and the place of its holder.
+pub fn found_at(found: &Found, at: usize) -> Option<(u64, Option<usize>)>
+    ensures { result ≡ slice_get found.now.entries at }
+{
+    match found.get_index(at) {
+        Some((object, holder)) => Some((*object, *holder)),
+        None => None,
+    }
+}
+
+/// Finds what is held otherwise than by an entry, and than by the name that is asked about, which holds the object; and
+/// all that it leads to. The objects are all live ones.
+pub fn search<B: Kind>(
+    alloc: Global,
+    heap: &Heap<B>,
+    objects: &[u64],
+    object: u64,
+) -> Result<Found, AllocError>
+    requires { objects.now ≡ serials (objects_of heap.now) }
+    ensures { IfOk result (λ found. IsOver (HeldElse heap.now object) (arrows_of heap.now) found.entries) }
+{
+    heap.sound();
+    let mut found = held_else(alloc, heap, objects, object)?;
+    let mut at = 0;
+    'turns: while let Some((holder, _)) = found_at(&found, at) {
+        let references = referents(alloc, heap, holder)?;
+        find_all(&mut found, &references, at)?;
+        at += 1;
+    }
+    Ok(found)
+}
