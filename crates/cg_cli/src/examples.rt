@@ -251,6 +251,48 @@ const FINALIZER_SETS: Example = Example {
     text: "made instance #2; gc start 2; enter del #2; leave; free #2; gc stop 2 1 0; collected 1; made list #3; made list #4; gc start 0; gc stop 0 0 0; count 0 1 0; made instance #5; gc start 2; enter del #5; leave; gc saved #5; gc stop 2 1 0; collected 1; end",
 };
 
+/// `examples/late-clearing.script`.
+const LATE_CLEARING: Example = Example {
+    status: Status::Done,
+    script: "profile 2; def d; x = deref w; end; class C del=d; class D; a = new C; b = new D; w = ref b; setattr a me a; setattr a other b; del b; del a; collect 2",
+    text: "made instance #2; made instance #3; made weakref #4; gc start 2; enter del #2; leave; alive #3; free #2; gc stop 2 1 0; collected 1; end",
+};
+
+/// `examples/shutdown.script`.
+const SHUTDOWN: Example = Example {
+    status: Status::Done,
+    script: "shutdown; a = list; b = list a; c = list; append c c; del c",
+    text: "made list #2; made list #3; made list #4; free #3; free #2; gc start 2; free #4; gc stop 2 1 0; left 0; end",
+};
+
+/// `examples/shutdown-binds.script`.
+const SHUTDOWN_BINDS: Example = Example {
+    status: Status::Done,
+    script: "shutdown; def d; x = self; end; class C del=d; a = new C",
+    text: "made instance #2; enter del #2; leave; alive #2; free #2; gc start 2; gc stop 2 0 0; left 0; end",
+};
+
+/// `examples/shutdown-left.script`.
+const SHUTDOWN_LEFT: Example = Example {
+    status: Status::Done,
+    script: "shutdown; def d; x = self; end; class C del=d; a = new C; setattr a me a",
+    text: "made instance #2; gc start 2; enter del #2; leave; alive #2; gc stop 2 0 0; left 1; end",
+};
+
+/// `examples/why.script`.
+const WHY: Example = Example {
+    status: Status::Done,
+    script: "a = list; b = list a; referrers a; referents b; why a; del b; why a",
+    text: "made list #2; made list #3; referrer #3; listed 1; referent #2; listed 1; held #3; via #2; free #3; unreachable; end",
+};
+
+/// `examples/why-in-a-collection.script`.
+const WHY_IN_A_COLLECTION: Example = Example {
+    status: Status::Done,
+    script: "def cb; why q; end; class C; f = func cb; q = list; a = new C; setattr a me a; w = ref a f; del a; collect 2",
+    text: "made function #2; made list #3; made instance #4; made weakref #5; gc start 2; cleared #5; enter callback #5; refused 13; leave; free #4; gc stop 2 1 0; collected 1; end",
+};
+
 /// Runs an example.
 fn run(rt: &impl Abort, alloc: Global, example: Example) -> Result<(), AllocError> {
     check(
@@ -312,5 +354,19 @@ fn every_example_of_frames_in_a_collection_has_its_text(rt: HostRuntime) -> Resu
     run(&rt, alloc, FINALIZER_FREEZES)?;
     run(&rt, alloc, FINALIZER_MAKES)?;
     run(&rt, alloc, FINALIZER_SETS)?;
+    Ok(())
+}
+
+#[test]
+fn every_example_of_profile_2_shutdown_and_inspection_has_its_text(
+    rt: HostRuntime,
+) -> Result<(), Fail> {
+    let alloc = rt.alloc();
+    run(&rt, alloc, LATE_CLEARING)?;
+    run(&rt, alloc, SHUTDOWN)?;
+    run(&rt, alloc, SHUTDOWN_BINDS)?;
+    run(&rt, alloc, SHUTDOWN_LEFT)?;
+    run(&rt, alloc, WHY)?;
+    run(&rt, alloc, WHY_IN_A_COLLECTION)?;
     Ok(())
 }

@@ -71,3 +71,22 @@ fn lines_with_numbers(rt: HostRuntime) -> Result<(), Fail> {
     assert_eq!(rt; line_of(&Event::End, &names).as_str(), "end\n");
     Ok(())
 }
+
+#[test]
+fn lines_of_inspections_and_of_shutdown(rt: HostRuntime) -> Result<(), Fail> {
+    let names = Names::new(rt.alloc());
+    let lines = [
+        (Event::Referent(2), "referent #2\n"),
+        (Event::Referrer(18446744073709551615), "referrer #18446744073709551615\n"),
+        (Event::Listed(0), "listed 0\n"),
+        (Event::Held(3), "held #3\n"),
+        (Event::Via(4), "via #4\n"),
+        (Event::Unreachable, "unreachable\n"),
+        (Event::Left(12), "left 12\n"),
+        (Event::Refused(13), "refused 13\n"),
+    ];
+    for (event, line) in lines.iter() {
+        assert_eq!(rt; line_of(event, &names).as_str(), *line, "{line}");
+    }
+    Ok(())
+}

@@ -11,7 +11,7 @@ use Rattle.cg_graph.specs.Value.{references}
 use Rattle.cg_graph.specs.Object.{Object, serials}
 use Rattle.cg_graph.proofs.Members.{either, true_or, Includes-append_cases, Includes-append_left, Includes-append_right, Includes-map, Includes-map_cases}
 use Rattle.cg_machine.specs.declared.event.Event.TheVariants.{Free}
-use Rattle.cg_machine.specs.World.{World, Activity, TopLevel, Framed, Releasing, Dying, Death, Collecting, Collection, Ending, opening}
+use Rattle.cg_machine.specs.World.{World, Activity, TopLevel, Framed, Releasing, Dying, Death, Collecting, Collection, Ending, opening, ShuttingDown}
 use Rattle.cg_machine.specs.Holdings.{collect_holds, holds, is_death_of}
 use Rattle.cg_machine.specs.Run.{Run, StepTaken, events_of, last_world}
 use Rattle.cg_machine.specs.Laws.{FinalSetIsFreed, final_set}
@@ -40,6 +40,7 @@ death_on n (a ∷ stack) e = either (true_or (is_death_of n a) (list_any (is_dea
     here (Framed f) i t = absurd (let no : false ≡ true = t in cc)
     here (Releasing refs) i t = absurd (let no : false ≡ true = t in cc)
     here (Collecting c) i t = absurd (let no : false ≡ true = t in cc)
+    here (ShuttingDown started) i t = absurd (let no : false ≡ true = t in cc)
 
 -- what several activities hold, one of them holds
 held_in : (n : ℕ) (stack : List Activity) → Includes (flat_map holds stack) n → (a : Activity) × Includes stack a × Includes (holds a) n

@@ -8,7 +8,7 @@ use Rattle.cg_graph.specs.Value.{references}
 use Rattle.cg_graph.specs.Object.{Object}
 use Rattle.cg_graph.proofs.Members.{either, Includes-map}
 use Rattle.cg_machine.specs.Program.{legacy_of}
-use Rattle.cg_machine.specs.World.{Activity, TopLevel, Framed, Releasing, Dying, Death, Collecting, DyingPhase, Finalizer, Clearing, Calling, LegacyFinalizer}
+use Rattle.cg_machine.specs.World.{Activity, TopLevel, Framed, Releasing, Dying, Death, Collecting, DyingPhase, Finalizer, Clearing, Calling, LegacyFinalizer, ShuttingDown}
 
 -- one of the activities is its death
 abbrev pub Dies : List Activity → ℕ → Type 0
@@ -50,6 +50,7 @@ module _ (script : Script) (aside : ℕ → Type 0) (start : List Object) where
   IsLight (Releasing refs) = Unit {0}
   IsLight (Dying d) = aside d.object → IsCalm d.phase × IsLegacy d.object
   IsLight (Collecting c) = ⊥
+  IsLight (ShuttingDown started) = ⊥
 
   -- an object that was set aside, since the start
   pub record Waits (tops : List Activity) (x y : Object) : Type 0 where

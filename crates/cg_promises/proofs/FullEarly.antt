@@ -26,6 +26,7 @@ use Rattle.cg_promises.proofs.FullStop.{phase_quiet}
 use Rattle.cg_promises.proofs.KeptRuns.{starts_none}
 use Rattle.cg_promises.proofs.SealedRuns.{none_stops}
 use Rattle.cg_promises.proofs.ToldRuns.{Fit, step_fit}
+use Rattle.cg_machine.specs.Program.{profile_of}
 
 -- the phases of that time in which no frame is underway
 abbrev pub IsEarly : CollectPhase → Type 0
@@ -80,7 +81,7 @@ module _ (script : Script) (kept garbage aside : ℕ → Type 0) (start : List O
     lost_stands : (weak : ℕ) → StandAll (loses_referent weak v.objects)
     lost_stands weak = test_all (StandsSo kept garbage aside) (with_referent None) (λ x. x.serial == weak) v.objects (λ x m t p. stands_same kept garbage aside x (with_referent None x) refl refl p) stands
 
-    weak_clearing_early : (waiting : List ℕ) → WeakClearingStep c waiting below (standing (WeakClearing waiting)) events after → Early after
+    weak_clearing_early : (waiting : List ℕ) → WeakClearingStep (profile_of script.items) c waiting below (standing (WeakClearing waiting)) events after → Early after
     weak_clearing_early waiting (inl step) = to _ step.yields.1 (go (waits v.objects step.weak))
       where
         lost : List Object

@@ -14,7 +14,7 @@ use Rattle.cg_graph.proofs.Members.{either, cases_of, true_and, Includes-filter,
 use Rattle.cg_machine.specs.declared.event.Event.{Event}
 use Rattle.cg_machine.specs.declared.event.Event.TheVariants.{Alive, Collected, GcSaved, GcUncollectable}
 use Rattle.cg_machine.specs.Program.{legacy_of}
-use Rattle.cg_machine.specs.World.{World, Activity, TopLevel, Framed, Releasing, Dying, Death, Collecting, Collection, DyingPhase, Finalizer, AfterFinalizer, Clearing, Calling, AfterCall, LegacyFinalizer, AfterLegacy, Detaching, Emptying, CollectPhase, Turns, Turn, AfterTurn, Ending, Running, with_change, with_objects, with_stack}
+use Rattle.cg_machine.specs.World.{World, Activity, TopLevel, Framed, Releasing, Dying, Death, Collecting, Collection, DyingPhase, Finalizer, AfterFinalizer, Clearing, Calling, AfterCall, LegacyFinalizer, AfterLegacy, Detaching, Emptying, CollectPhase, Turns, Turn, AfterTurn, Ending, Running, with_change, with_objects, with_stack, ShuttingDown}
 use Rattle.cg_machine.specs.Holdings.{in_degree, is_dying}
 use Rattle.cg_machine.specs.Frame.{Transition, Yields, begin_death, released}
 use Rattle.cg_machine.specs.Weak.{callback_of, has_weak_references, loses_referent, weak_references_if}
@@ -260,6 +260,7 @@ module _ (script : Script) (kept aside : ℕ → Type 0) (members : List ℕ) (s
     step_late events after quiet on running [] c late light turn wait step = phase_late c turn wait events after quiet on c.phase late turn step
     step_late events after quiet on running (TopLevel commands ∷ tops) c late light turn wait step = absurd (light (TopLevel commands) (inl refl))
     step_late events after quiet on running (Framed f ∷ tops) c late light turn wait step = absurd (light (Framed f) (inl refl))
+    step_late events after quiet on running (ShuttingDown started ∷ tops) c late light turn wait step = absurd (light (ShuttingDown started) (inl refl))
     step_late events after quiet on running (Releasing refs ∷ tops) c late light turn wait step = to after _ step.1 (released_late tops c late (λ a m. light a (inr m)) turn refs wait)
     step_late events after quiet on running (Dying d ∷ tops) c late light turn wait step = dying_late tops c late (λ a m. light a (inr m)) turn d.object d.phase (light (Dying d) (inl refl)) wait events after quiet running step
     step_late events after quiet on running (Collecting e ∷ tops) c late light turn wait step = absurd (light (Collecting e) (inl refl))

@@ -13,7 +13,7 @@ use Rattle.cg_machine.specs.declared.event.Event.{Event}
 use Rattle.cg_machine.specs.declared.event.Event.TheVariants.{Alive, BudgetSpent, Cleared, Enter, Free, GcSaved}
 use Rattle.cg_machine.specs.declared.event.FrameSpec.{FrameSpec}
 use Rattle.cg_machine.specs.Program.{body_of, legacy_of}
-use Rattle.cg_machine.specs.World.{World, Activity, TopLevel, Framed, Releasing, Dying, Collecting, Collection, DyingPhase, Finalizer, AfterFinalizer, Clearing, Calling, AfterCall, LegacyFinalizer, AfterLegacy, Detaching, Emptying, CollectPhase, Start, WeakClearing, WeakCalling, AfterCallback, AfterRelease, Finalizing, AfterFinalizing, Split, Turns, Turn, AfterTurn, Ending, BudgetIsSpent, with_change, with_stack}
+use Rattle.cg_machine.specs.World.{World, Activity, TopLevel, Framed, Releasing, Dying, Collecting, Collection, DyingPhase, Finalizer, AfterFinalizer, Clearing, Calling, AfterCall, LegacyFinalizer, AfterLegacy, Detaching, Emptying, CollectPhase, Start, WeakClearing, WeakCalling, AfterCallback, AfterRelease, Finalizing, AfterFinalizing, Split, Turns, Turn, AfterTurn, Ending, BudgetIsSpent, with_change, with_stack, ShuttingDown}
 use Rattle.cg_machine.specs.Holdings.{collect_holds, in_degree, is_dying}
 use Rattle.cg_machine.specs.Frame.{Transition, begin_death, released, start_frame}
 use Rattle.cg_machine.specs.Weak.{has_weak_references, weak_references_if}
@@ -130,6 +130,7 @@ pub stop_ends : (script : Script) (kept : ℕ → Type 0) (v : World) (below : L
 stop_ends script kept v below events after [] c bare begun more step = either (phase_quiet script c c.phase below (with_stack (Collecting c ∷ below) v) events after begun step) (λ e. (refl, e)) (λ q. absurd (let none = none_stops events q in omega (arith, none, more)))
 stop_ends script kept v below events after (TopLevel commands ∷ tops) c bare begun more step = absurd (bare (TopLevel commands) (inl refl))
 stop_ends script kept v below events after (Framed f ∷ tops) c bare begun more step = absurd (bare (Framed f) (inl refl))
+stop_ends script kept v below events after (ShuttingDown started ∷ tops) c bare begun more step = absurd (bare (ShuttingDown started) (inl refl))
 stop_ends script kept v below events after (Releasing refs ∷ tops) c bare begun more step = absurd (let none = none_stops events (subst NoStop (sym step.0) (released_quiet refs (tops ++ Collecting c ∷ below) (with_stack (Releasing refs ∷ tops ++ Collecting c ∷ below) v))) in omega (arith, none, more))
 stop_ends script kept v below events after (Dying d ∷ tops) c bare begun more step = absurd (let none = none_stops events (subst NoStop (sym step.0) (dying_quiet script d.object d.phase (tops ++ Collecting c ∷ below) (with_stack (Dying d ∷ tops ++ Collecting c ∷ below) v))) in omega (arith, none, more))
 stop_ends script kept v below events after (Collecting e ∷ tops) c bare begun more step = absurd (bare (Collecting e) (inl refl))

@@ -1,13 +1,13 @@
 -- An object that never was in a final set without SAVEALL loses entries only by a command, by its own death, or, a weak reference,
 -- by the death of what it referred to.
-use Rattle.std.proofs.Common.{◌≡◌, ◌≢◌, refl, sym, ◌∙◌, ap, subst, ℕ, ◌≤◌, true, false, inl, inr, List, [], ◌∷◌, ◌++◌, Option, Some, None}
+use Rattle.std.proofs.Common.{◌≡◌, ◌≢◌, refl, sym, ◌∙◌, ap, subst, ℕ, ◌≤◌, true, false, inl, inr, List, [], ◌∷◌, ◌++◌, Option, Some, None, Bool}
 use Rattle.std.proofs.lemmas.List.{append_assoc, append-nil}
 use Rattle.cg_script.specs.declared.Script.{Script}
 use Rattle.cg_script.specs.declared.Command.{Command}
 use Rattle.cg_graph.specs.Member.{Includes}
 use Rattle.cg_graph.specs.Object.{Object}
 use Rattle.cg_graph.proofs.Members.{either, Includes-append_left}
-use Rattle.cg_machine.specs.World.{World, Activity, TopLevel, Framed, Frame, Releasing, Dying, DyingPhase, Calling, Collecting, Collection, CollectPhase, Turns, Turn, AfterTurn, opening, with_stack}
+use Rattle.cg_machine.specs.World.{World, Activity, TopLevel, Framed, Frame, Releasing, Dying, DyingPhase, Calling, Collecting, Collection, CollectPhase, Turns, Turn, AfterTurn, opening, with_stack, ShuttingDown}
 use Rattle.cg_machine.specs.Holdings.{is_collection}
 use Rattle.cg_machine.specs.Due.{due}
 use Rattle.cg_machine.specs.Frame.{frame_end, gives_up_function}
@@ -33,6 +33,8 @@ use Rattle.cg_promises.proofs.Sealing.{alone_below}
 use Rattle.cg_promises.proofs.ToldRuns.{Fit, opening_fit, run_back, run_front, run_fit, step_fit}
 use Rattle.cg_promises.proofs.Turned.{AreFinal, FinalAt, IsEarly, final_stays, late_final, phase_stack}
 use Rattle.cg_promises.proofs.Waited.{Waited, step_waited}
+use Rattle.cg_machine.specs.Program.{declares_shutdown}
+use Rattle.cg_machine.specs.Shutdown.{greatest_bound, shut_down, after_commands}
 
 -- the end of a frame leaves the objects
 ended_objects : (f : Frame) (w : World) → (frame_end f w).1.objects ≡ w.objects
@@ -43,6 +45,16 @@ ended_objects f w = go f.sort
     go Legacy = refl
     go Callback = refl
     go Call = refl
+
+-- the steps of a script's end change no object
+after_objects : (b : Bool) (below : List Activity) (w : World) → (after_commands b below w).1.objects ≡ w.objects
+after_objects true below w = refl
+after_objects false below w = refl
+
+shut_objects : (started : Bool) (name : Option ℕ) (below : List Activity) (w : World) → (shut_down started name below w).1.objects ≡ w.objects
+shut_objects false (Some name) below w = refl
+shut_objects false None below w = refl
+shut_objects true name below w = refl
 
 module _ (script : Script) (budget : ℕ) where
   abbrev world : List StepTaken → World
@@ -78,7 +90,7 @@ module _ (script : Script) (budget : ℕ) where
         let stack : IsStack script w (a ∷ below) = subst (IsStack script w) top fit.calm.stack in
         let left : LeavesUnder w (a ∷ below) step.world = subst (λ st. LeavesUnder w st step.world) top (step_leaves script w step.events step.world goes fit.sound fit.calm fit.order) in
         let made = lives_within 1 w.next_serial w.objects 1 fit.sound.rises fit.order.root_lives in
-        let plain : IsPlainUnder w.objects (a ∷ below) step.world = subst (λ st. IsPlainUnder w.objects st step.world) top (step_plain script w step.events step.world goes apart.garbage made.1 fit.calm) in
+        let plain : IsPlainUnder w.objects (a ∷ below) step.world = subst (λ st. IsPlainUnder w.objects st step.world) top (step_plain script w step.events step.world goes apart.garbage made.1 fit.calm fit.sound.bottom) in
         let leaves = leaves_below script w a below step.world top fit.sound.rises stack.1 fit.order left in
         either ((plain none).stack c m)
         (λ k. final_stays (WasFinal script budget longer) w.objects step.world.objects (λ y i e. let had = leaves.places none y i (subst (λ p. IsOfCollection p) (sym e) tt) in (had.0, had.1, had.2, sym had.3 ∙ e)) c c.phase
@@ -100,6 +112,7 @@ module _ (script : Script) (budget : ℕ) where
     step_final [] top h = absurd (subst (λ st. StepOf script (world done) st step.events step.world) top goes.step)
     step_final (TopLevel commands ∷ below) top h = other_final (TopLevel commands) below top refl h
     step_final (Framed f ∷ below) top h = other_final (Framed f) below top refl h
+    step_final (ShuttingDown started ∷ below) top h = other_final (ShuttingDown started) below top refl h
     step_final (Releasing refs ∷ below) top h = other_final (Releasing refs) below top refl h
     step_final (Dying d ∷ below) top h = other_final (Dying d) below top refl h
     step_final (Collecting c ∷ below) top h = collect_final c below top h
@@ -144,7 +157,7 @@ module _ (script : Script) (budget : ℕ) where
 
     by_top_level : (commands : List Command) (below : List Activity) → (let w : World = on (TopLevel commands) below (world before) in (d : Option ℕ) → due w ≡ d → TopLevelStep script w d commands below step.events step.world → (commands ≢ []) × (due w ≡ None))
     by_top_level commands below (Some g) e taken = absurd (unchanged _ taken.1 refl)
-    by_top_level [] below None e taken = absurd (unchanged _ taken.1 refl)
+    by_top_level [] below None e taken = absurd (unchanged _ taken.1 (after_objects (declares_shutdown script.items) below (on (TopLevel []) below (world before))))
     by_top_level (command ∷ commands) below None e taken = (λ i. cc, e)
 
     by_frame : (f : Frame) (commands : List Command) → f.commands ≡ commands → (below : List Activity) → (let w : World = on (Framed f) below (world before) in (d : Option ℕ) → due w ≡ d → FrameStep script w f commands below step.events step.world → (f.commands ≢ []) × (due w ≡ None))
@@ -162,6 +175,7 @@ module _ (script : Script) (budget : ℕ) where
     may [] top taken = taken
     may (TopLevel commands ∷ below) top taken = let k = by_top_level commands below (due (on (TopLevel commands) below (world before))) refl taken in (k.0, none_due (TopLevel commands ∷ below) top k.1)
     may (Framed f ∷ below) top taken = let k = by_frame f f.commands refl below (due (on (Framed f) below (world before))) refl taken in (k.0, none_due (Framed f ∷ below) top k.1)
+    may (ShuttingDown started ∷ below) top taken = unchanged _ taken.1 (shut_objects started (greatest_bound (on (ShuttingDown started) below (world before))) below (on (ShuttingDown started) below (world before)))
     may (Releasing refs ∷ below) top taken = let z = released_lengthens refs below (world before) y (subst (λ (w : World). Includes w.objects y) taken.1 my) in
         either z.3 (λ l. shorter (subst (λ q. IsLengthened q y) (is_x z.0 z.1 z.2) l)) (λ no. no)
     may (Dying d ∷ below) top taken =

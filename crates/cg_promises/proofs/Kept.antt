@@ -13,7 +13,7 @@ use Rattle.cg_graph.specs.Value.{entry_references, item, references}
 use Rattle.cg_graph.specs.Object.{Object, change, with_entries, with_place, with_referent, without}
 use Rattle.cg_graph.specs.Holdings.{name_holdings}
 use Rattle.cg_graph.proofs.Members.{either, cases_of, Includes-append_left, Includes-append_right, Includes-append_cases, Includes-filter, Includes-map}
-use Rattle.cg_machine.specs.World.{World, Activity, TopLevel, Framed, Releasing, Dying, Collecting, Collection, CollectPhase, Turn, AfterTurn, Start}
+use Rattle.cg_machine.specs.World.{World, Activity, TopLevel, Framed, Releasing, Dying, Collecting, Collection, CollectPhase, Turn, AfterTurn, Start, ShuttingDown}
 use Rattle.cg_machine.specs.Holdings.{holds, in_degree, is_death_of, is_dying}
 use Rattle.cg_machine.specs.Weak.{AllLose, loses_referent}
 use Rattle.cg_machine.specs.Collect.{all_saved, is_condemned, saved}
@@ -91,6 +91,7 @@ IsBare kept (Framed f) = ⊥
 IsBare kept (Releasing references) = Unit {0}
 IsBare kept (Dying d) = ¬ kept d.object
 IsBare kept (Collecting c) = ⊥
+IsBare kept (ShuttingDown started) = ⊥
 
 -- the invariant
 pub record Full (kept : ℕ → Type 0) (start : List Object) (below : List Activity) (objects : List Object) (stack : List Activity) : Type 0 where

@@ -14,8 +14,8 @@ use Rattle.cg_graph.proofs.Members.{either, or_left, or_right, true_and, Include
 use Rattle.cg_machine.specs.declared.event.Event.{Event}
 use Rattle.cg_machine.specs.declared.event.Event.TheVariants.{Alive, BudgetSpent, Enter, GcSaved, GcUncollectable, Collected}
 use Rattle.cg_machine.specs.declared.event.FrameSpec.{FrameSpec}
-use Rattle.cg_machine.specs.Program.{body_of, legacy_of}
-use Rattle.cg_machine.specs.World.{World, Activity, TopLevel, Framed, Releasing, Dying, Collecting, Collection, DyingPhase, Finalizer, AfterFinalizer, Clearing, Calling, AfterCall, LegacyFinalizer, AfterLegacy, Detaching, Emptying, CollectPhase, Start, WeakClearing, WeakCalling, AfterCallback, AfterRelease, Finalizing, AfterFinalizing, Split, Turns, Turn, AfterTurn, Ending, Running, BudgetIsSpent, with_change, with_objects, with_stack}
+use Rattle.cg_machine.specs.Program.{body_of, legacy_of, profile_of}
+use Rattle.cg_machine.specs.World.{World, Activity, TopLevel, Framed, Releasing, Dying, Collecting, Collection, DyingPhase, Finalizer, AfterFinalizer, Clearing, Calling, AfterCall, LegacyFinalizer, AfterLegacy, Detaching, Emptying, CollectPhase, Start, WeakClearing, WeakCalling, AfterCallback, AfterRelease, Finalizing, AfterFinalizing, Split, Turns, Turn, AfterTurn, Ending, Running, BudgetIsSpent, with_change, with_objects, with_stack, ShuttingDown}
 use Rattle.cg_machine.specs.Holdings.{in_degree, is_dying}
 use Rattle.cg_machine.specs.Frame.{Transition, Yields, begin_death, released, start_frame}
 use Rattle.cg_machine.specs.Weak.{callback_of, has_weak_references, loses_referent, weak_references_if}
@@ -164,7 +164,7 @@ module _ (script : Script) (kept : ℕ → Type 0) (start : List Object) (below 
     aged : (o : ℕ) → Leaves kept v.objects (change (with_place (Gen (older c.generation))) o v.objects)
     aged o = placed_leaves kept (Gen (older c.generation)) (λ x. x.serial == o) v.objects (λ x. refl)
 
-    weak_clearing_full : (waiting : List ℕ) → WeakClearingStep c waiting below (standing (WeakClearing waiting)) events after → IsFull after
+    weak_clearing_full : (waiting : List ℕ) → WeakClearingStep (profile_of script.items) c waiting below (standing (WeakClearing waiting)) events after → IsFull after
     weak_clearing_full waiting (inl step) = to after _ step.yields.1 (go (waits v.objects step.weak))
       where
         lost : List Object
@@ -249,6 +249,7 @@ module _ (script : Script) (kept : ℕ → Type 0) (start : List Object) (below 
   step_full events after quiet on running [] c bare turn begun step = phase_full c events after quiet on running c.phase turn begun step
   step_full events after quiet on running (TopLevel commands ∷ tops) c bare turn begun step = absurd (bare (TopLevel commands) (inl refl))
   step_full events after quiet on running (Framed f ∷ tops) c bare turn begun step = absurd (bare (Framed f) (inl refl))
+  step_full events after quiet on running (ShuttingDown started ∷ tops) c bare turn begun step = absurd (bare (ShuttingDown started) (inl refl))
   step_full events after quiet on running (Releasing references ∷ tops) c bare turn begun step = to after _ step.1 (released_full tops c (λ a m. bare a (inr m)) turn begun references)
   step_full events after quiet on running (Dying d ∷ tops) c bare turn begun step = dying_full tops c (λ a m. bare a (inr m)) turn begun d.object (bare (Dying d) (inl refl)) events after quiet running d.phase step
   step_full events after quiet on running (Collecting e ∷ tops) c bare turn begun step = absurd (bare (Collecting e) (inl refl))

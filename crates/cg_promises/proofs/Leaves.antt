@@ -17,7 +17,7 @@ use Rattle.cg_machine.specs.declared.event.Event.{Event}
 use Rattle.cg_machine.specs.declared.event.Event.TheVariants.{Alive, BudgetSpent, Enter, GcSaved}
 use Rattle.cg_machine.specs.declared.event.FrameSort.TheVariants.{Del, Legacy as LegacyFrame, Callback}
 use Rattle.cg_machine.specs.declared.event.FrameSpec.{FrameSpec}
-use Rattle.cg_machine.specs.Program.{body_of, legacy_of}
+use Rattle.cg_machine.specs.Program.{body_of, legacy_of, profile_of}
 use Rattle.cg_machine.specs.World.{World, Activity, Framed, Releasing, DyingPhase, Finalizer, AfterFinalizer, Clearing, Calling, AfterCall, LegacyFinalizer, AfterLegacy, Detaching, Emptying, Collection, CollectPhase, Start, WeakClearing, WeakCalling, AfterCallback, AfterRelease, Finalizing, AfterFinalizing, Split, Turns, Turn, AfterTurn, Ending, BudgetIsSpent, with_stack, with_change, with_objects}
 use Rattle.cg_machine.specs.Holdings.{in_degree, is_dying}
 use Rattle.cg_machine.specs.Frame.{Transition, begin_death, procedure_of, released, start_frame}
@@ -175,7 +175,7 @@ module _ (script : Script) (c : Collection) (below : List Activity) (v : World) 
       merges y m = let x = Includes-map_cases (λ x. with_place (merged_place c.generation x.place) x) v.objects y m in
           (x.0, x.1, ap (λ (z : Object). z.serial) x.2, inl (same_entries x.0 y (sym (ap (λ (z : Object). z.entries) x.2))))
 
-  weak_clearing_takes : (waiting : List ℕ) (events : List Event) (after : World) → WeakClearingStep c waiting below (standing (WeakClearing waiting)) events after → Lengthens (TakesOf (WeakClearing waiting)) v.objects after.objects
+  weak_clearing_takes : (waiting : List ℕ) (events : List Event) (after : World) → WeakClearingStep (profile_of script.items) c waiting below (standing (WeakClearing waiting)) events after → Lengthens (TakesOf (WeakClearing waiting)) v.objects after.objects
   weak_clearing_takes waiting events after (inl step) = to (WeakClearing waiting) after _ step.yields.1 (go (waits v.objects step.weak))
     where
       lost : List Object

@@ -26,6 +26,7 @@ use Rattle.cg_promises.proofs.Told.{map_old}
 use Rattle.cg_promises.proofs.Minded.{IsMinded, IsSingle, Keeps, Minded, change_keeps, either_minded, end_minded, give_minded, keeps_same, keeps_trans, lost_keeps, placed, plain_keeps, starts_minded, test_keeps, turn_minded}
 use Rattle.cg_machine.proofs.Moves.{appended_goes}
 use Rattle.cg_promises.proofs.Moved.{shortened_keeps}
+use Rattle.cg_machine.specs.Program.{profile_of}
 
 -- places that depend on the object
 spread_keeps : (places : Object → Place) (test : Object → Bool) (objects : List Object) → Keeps objects (map (λ x. if test x then with_place (places x) x else x) objects) []
@@ -90,7 +91,7 @@ module _ (script : Script) (k : ℕ) (c : Collection) (below : List Activity) (v
         single = λ s y m. let x = Includes-map_cases (λ x. with_place (merged_place c.generation x.place) x) v.objects y m in subst IsSingle x.2 (s x.0 x.1);
       }
 
-  weak_clearing_minded : (waiting : List ℕ) (events : List Event) (after : World) → WeakClearingStep c waiting below (at (WeakClearing waiting)) events after → IsMinded k (at (WeakClearing waiting)) → IsMinded k after
+  weak_clearing_minded : (waiting : List ℕ) (events : List Event) (after : World) → WeakClearingStep (profile_of script.items) c waiting below (at (WeakClearing waiting)) events after → IsMinded k (at (WeakClearing waiting)) → IsMinded k after
   weak_clearing_minded waiting events after (inl step) h = to after _ step.yields.1 (go (waits v.objects step.weak))
     where
       lost : List Object

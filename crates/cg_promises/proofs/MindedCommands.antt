@@ -18,11 +18,11 @@ use Rattle.cg_graph.specs.Holdings.{name_holdings}
 use Rattle.cg_graph.proofs.Members.{either, Includes-append_left, Includes-append_right, Includes-append_cases, Includes-map, Includes-map_cases}
 use Rattle.cg_machine.specs.World.{World, Numbers, with_change}
 use Rattle.cg_machine.specs.Operands.{is_dict}
-use Rattle.cg_machine.specs.Effects.{Calls, Changes, Collects, Effect, Quits, bound, frozen, given_up_by, may_track, replaced, tracked_by, unfrozen, with_new}
+use Rattle.cg_machine.specs.Effects.{Calls, Changes, Collects, Effect, Quits, bound, frozen, given_up_by, may_track, replaced, tracked_by, unfrozen, with_new, Explains}
 use Rattle.cg_machine.proofs.Lookups.{same_object}
 use Rattle.cg_machine.proofs.Serials.{Rises}
 use Rattle.cg_machine.proofs.Moves.{AtMostOne, Goes, put_goes}
-use Rattle.cg_machine.proofs.Shapes.{IsAtHand, IsMutable, Shape, Binds, Makes, Edits, Puts, Shows, Tells, Stays, Sets, Freezes, Unfreezes, StartsFrame, StartsCollection, Ends}
+use Rattle.cg_machine.proofs.Shapes.{IsAtHand, IsMutable, Shape, Binds, Makes, Edits, Puts, Shows, Tells, Stays, Sets, Freezes, Unfreezes, StartsFrame, StartsCollection, Ends, Inspects, AsksWhy}
 use Rattle.cg_promises.proofs.Told.{Marks, map_old, old_lives}
 use Rattle.cg_promises.proofs.Minded.{AreSingle, IsSingle, Keeps, keeps_same, test_keeps}
 
@@ -55,6 +55,7 @@ abbrev pub Shifting : World → Effect → Type 0
 Shifting w (Changes wants_memory lines given_up after) = Shifts w given_up after
 Shifting w (Calls f) = Unit {0}
 Shifting w (Collects g) = Unit {0}
+Shifting w (Explains o) = Unit {0}
 Shifting w Quits = Unit {0}
 
 -- what changes is no weak reference and no tuple
@@ -81,7 +82,7 @@ module _ (w : World) (rises : Rises 1 w.next_serial w.objects) where
   unchanged : (numbers : Numbers) → Shifts w [] (record w { numbers = numbers })
   unchanged numbers = shifted (record w { numbers = numbers }) [] (keeps_same w.objects) refl
 
-  binds_shift : (name : ℕ) (v : Option Val) → Shifts w (given_up_by w name) (bound w name v)
+  pub binds_shift : (name : ℕ) (v : Option Val) → Shifts w (given_up_by w name) (bound w name v)
   binds_shift name v = record {
     names = λ n m. bound_keeps w.names name v n m;
     entries = λ x m n k. inl (x, m, k);
@@ -163,3 +164,5 @@ module _ (w : World) (rises : Rises 1 w.next_serial w.objects) where
   shape_shifts command made fits e (StartsFrame f h) = tt
   shape_shifts command made fits e (StartsCollection g low) = tt
   shape_shifts command made fits e Ends = tt
+  shape_shifts command made fits e (Inspects lines calm there) = unchanged _
+  shape_shifts command made fits e (AsksWhy x h calm) = tt

@@ -11,10 +11,10 @@ use Rattle.cg_graph.specs.Object.{Object}
 use Rattle.cg_graph.specs.Value.{reference_in}
 use Rattle.cg_graph.proofs.Members.{either, Includes-append_left, Includes-append_right, Includes-map}
 use Rattle.cg_machine.specs.declared.event.FrameSort.TheVariants.{Call as CallFrame}
-use Rattle.cg_machine.specs.World.{World, Activity, TopLevel, Framed, Releasing, Dying, DyingPhase, Calling, opening, push, with_stack}
+use Rattle.cg_machine.specs.World.{World, Activity, TopLevel, Framed, Releasing, Dying, DyingPhase, Calling, opening, push, with_stack, ShuttingDown}
 use Rattle.cg_machine.specs.Holdings.{holds}
 use Rattle.cg_machine.specs.Frame.{procedure_of}
-use Rattle.cg_machine.specs.Effects.{Changes}
+use Rattle.cg_machine.specs.Effects.{Changes, bound, given_up_by}
 use Rattle.cg_machine.specs.Commands.{new_collection}
 use Rattle.cg_machine.specs.Origins.{commands_on}
 use Rattle.cg_machine.specs.Run.{Run, StepTaken, last_world}
@@ -35,7 +35,7 @@ use Rattle.cg_machine.proofs.Unheld.{Calm}
 use Rattle.cg_promises.proofs.Minded.{IsMinded, IsSingle, Minded, degree_free, keeps_same, push_minded, starts_minded, turn_minded}
 use Rattle.cg_promises.proofs.MindedDeaths.{dying_minded, frame_end_minded, released_minded}
 use Rattle.cg_promises.proofs.MindedCollections.{phase_minded}
-use Rattle.cg_promises.proofs.MindedCommands.{IsHandMade, Shifts, shape_shifts}
+use Rattle.cg_promises.proofs.MindedCommands.{IsHandMade, Shifts, shape_shifts, binds_shift}
 use Rattle.cg_promises.proofs.ToldCommands.{lives_or_not}
 use Rattle.cg_promises.proofs.ToldRuns.{Fit, opening_fit, step_fit}
 
@@ -51,6 +51,7 @@ module _ (script : Script) (count : ℕ) (below : List Activity) (v : World) whe
   emptied_minded : (a : Activity) → HasCommands a → MindedOn a → MindedOn (emptied a)
   emptied_minded (TopLevel commands) ha h = turn_minded count (TopLevel commands) (TopLevel []) below v.objects v.objects v.names [] (keeps_same v.objects) (λ n i. i, λ n i. absurd i, λ n. refl) h
   emptied_minded (Framed f) ha h = turn_minded count (Framed f) (Framed (record f { commands = [] })) below v.objects v.objects v.names [] (keeps_same v.objects) (λ n i. i, λ n i. absurd i, λ n. refl) h
+  emptied_minded (ShuttingDown started) ha h = h
   emptied_minded a ha h = absurd ha
 
   taken_minded : (command : Command) (a b : Activity) → Takes command a b → MindedOn a → MindedOn b
@@ -105,7 +106,12 @@ module _ (script : Script) (known : TextsAreKnown script) where
   minds_steps : Steps script Holds (λ w events. IsMinded count)
   minds_steps = record {
     starts_due = λ a below v ha g e k. push_minded count (new_collection g false (on a below v)) v.objects v.names (a ∷ below) (λ n. refl) k.2;
-    ends = λ below v k. record { minds = k.2.minds; single = k.2.single; count = k.2.count };
+    ends = λ a lines below v last k. record { minds = k.2.minds; single = k.2.single; count = k.2.count };
+    shuts_down = λ below v k. turn_minded count (TopLevel []) (ShuttingDown false) below v.objects v.objects v.names [] (keeps_same v.objects) (λ n i. i, λ n i. absurd i, λ n. refl) k.2;
+    gives_up = λ name below v e k. let w : World = on (ShuttingDown false) below v in
+        shifts_minded script count below v (ShuttingDown false) tt k.0.sound.rises k.0.calm k.0.order k.2 (bound w name None) (given_up_by w name) refl (binds_shift w k.0.sound.rises name None);
+    collects_last = λ below v k. push_minded count (new_collection 2 false (on (ShuttingDown false) below v)) v.objects v.names (ShuttingDown true ∷ below) (λ n. refl)
+        (turn_minded count (ShuttingDown false) (ShuttingDown true) below v.objects v.objects v.names [] (keeps_same v.objects) (λ n i. i, λ n i. absurd i, λ n. refl) k.2);
     commands = λ command a b below v takes hb k. command_minded script count below v b hb k.0.sound.rises (taken_calm script below v command a b takes k.0.calm) (taken_orderly command a b below v takes k.0.order) (taken_minded script count below v command a b takes k.2)
         (on a below v) command (commands_name_texts script known command (k.1.commands command (taken_member command a b below takes)));
     frame_ends = λ f below v left k. frame_end_minded count f below v k.2;

@@ -17,7 +17,7 @@ use Rattle.cg_machine.specs.declared.event.Event.{Event}
 use Rattle.cg_machine.specs.declared.event.Event.TheVariants.{BudgetSpent, Enter, GcSaved}
 use Rattle.cg_machine.specs.declared.event.FrameSort.TheVariants.{Del, Callback}
 use Rattle.cg_machine.specs.declared.event.FrameSpec.{FrameSpec}
-use Rattle.cg_machine.specs.Program.{body_of, finalizer_of, legacy_of}
+use Rattle.cg_machine.specs.Program.{body_of, finalizer_of, legacy_of, profile_of}
 use Rattle.cg_machine.specs.World.{World, Activity, Framed, Releasing, Collecting, Collection, CollectPhase, Start, WeakClearing, WeakCalling, AfterCallback, AfterRelease, Finalizing, AfterFinalizing, Split, Turns, Turn, AfterTurn, Ending, BudgetIsSpent, with_change, with_objects}
 use Rattle.cg_machine.specs.Frame.{Transition, procedure_of, start_frame}
 use Rattle.cg_machine.specs.Weak.{AllLose, callback_of, loses_referent}
@@ -233,7 +233,7 @@ module _ (script : Script) (c : Collection) (below : List Activity) (v : World) 
       legacy y m w = let x = Includes-map_cases (λ x. if is_at (Gen c.generation) x then with_place (step.places x) x else x) now y m in
           subst (λ z. legacy_of script z ≡ None) x.2 (one (is_at (Gen c.generation) x.0) x.0 refl x.1 (subst (λ (z : Object). IsWanted z.place) (sym x.2) w))
 
-  weak_clearing_primed : (waiting : List ℕ) (events : List Event) (after : World) → WeakClearingStep c waiting below (at (WeakClearing waiting)) events after → PrimedIn (WeakClearing waiting) → IsPrimed after
+  weak_clearing_primed : (waiting : List ℕ) (events : List Event) (after : World) → WeakClearingStep (profile_of script.items) c waiting below (at (WeakClearing waiting)) events after → PrimedIn (WeakClearing waiting) → IsPrimed after
   weak_clearing_primed waiting events after (inl step) h = to after _ step.yields.1 (go (waits v.objects step.weak))
     where
       lost : List Object

@@ -18,7 +18,7 @@ use Rattle.cg_machine.specs.declared.event.Event.{Event}
 use Rattle.cg_machine.specs.declared.event.Event.TheVariants.{BudgetSpent, Enter, Free}
 use Rattle.cg_machine.specs.declared.event.FrameSpec.{FrameSpec}
 use Rattle.cg_machine.specs.Program.{body_of, finalizer_of, legacy_of}
-use Rattle.cg_machine.specs.World.{World, Activity, TopLevel, Framed, Releasing, Dying, Death, Collecting, Collection, CollectPhase, Turns, Turn, AfterTurn, Ending, BudgetIsSpent}
+use Rattle.cg_machine.specs.World.{World, Activity, TopLevel, Framed, Releasing, Dying, Death, Collecting, Collection, CollectPhase, Turns, Turn, AfterTurn, Ending, BudgetIsSpent, ShuttingDown}
 use Rattle.cg_machine.specs.Holdings.{dying_holds, holds, is_collection, is_death_of}
 use Rattle.cg_machine.specs.Frame.{Transition, Yields, start_frame}
 use Rattle.cg_machine.specs.Weak.{loses_referent}
@@ -40,6 +40,7 @@ Fits members (TopLevel commands) = Unit {0}
 Fits members (Framed f) = (¬ Includes members f.subject) × ((g : ℕ) → f.function ≡ Some g → ¬ Includes members g)
 Fits members (Releasing references) = Unit {0}
 Fits members (Dying d) = (n : ℕ) → Includes (dying_holds d.object d.phase) n → ¬ Includes members n
+Fits members (ShuttingDown started) = Unit {0}
 Fits members (Collecting c) = IsLate c.phase × (has_flag c.flags save_all ≡ false)
 
 -- an activity below the collection holds no member, and is the death of none

@@ -24,13 +24,13 @@ use Rattle.cg_machine.specs.declared.event.FrameSort.{FrameSort}
 use Rattle.cg_machine.specs.declared.event.FrameSort.TheVariants.{Del as DelFrame, Legacy as LegacyFrame, Callback, Call as CallFrame}
 use Rattle.cg_machine.specs.World.{World, Activity, Framed, Frame, Numbers, with_change}
 use Rattle.cg_machine.specs.Operands.{frame_on, is_dict, self_in, value_of, weak_in}
-use Rattle.cg_machine.specs.Effects.{Calls, Changes, Collects, Effect, Quits, bound, frozen, may_track, replaced, tracked_by, unfrozen, with_new}
+use Rattle.cg_machine.specs.Effects.{Calls, Changes, Collects, Effect, Quits, bound, frozen, may_track, replaced, tracked_by, unfrozen, with_new, Explains}
 use Rattle.cg_machine.specs.Weak.{has_weak_references, is_function, is_instance}
 use Rattle.cg_machine.specs.Laws.{is_stop, named}
 use Rattle.cg_machine.proofs.CommandRefs.{HoldNone, IsNotTo, all_free, bound_free, entry_free, entry_key, entry_val, got_free, name_free, option_free, option_held, put_free}
 use Rattle.cg_machine.proofs.Forgotten.{later_refl}
 use Rattle.cg_machine.proofs.Lookups.{found_at, references_of_member}
-use Rattle.cg_machine.proofs.Shapes.{IsAtHand, Word, ValueIn, KeyIn, ReferentOf, HasObject, IsEdit, Shape, Binds, Makes, Edits, Puts, Shows, Tells, Stays, Sets, Freezes, Unfreezes, StartsFrame, StartsCollection, Ends, TellsNumbers}
+use Rattle.cg_machine.proofs.Shapes.{IsAtHand, Word, ValueIn, KeyIn, ReferentOf, HasObject, IsEdit, Shape, Binds, Makes, Edits, Puts, Shows, Tells, Stays, Sets, Freezes, Unfreezes, StartsFrame, StartsCollection, Ends, Inspects, AsksWhy, TellsNumbers}
 use Rattle.cg_promises.proofs.Sealed.{Comes, IsClean, IsLesser, Sealed, TellsStill, none_out, one_still}
 
 -- places of a collection stay
@@ -160,6 +160,7 @@ module _ (script : Script) (members : List ℕ) (w : World) (h : Sealed script m
   DoesOpen (Changes wants_memory lines given_up after) = Opens lines after
   DoesOpen (Calls f) = ¬ Includes members f
   DoesOpen (Collects g) = Unit {0}
+  DoesOpen (Explains o) = Unit {0}
   DoesOpen Quits = Unit {0}
 
   stays : (y : Object) → Includes w.objects y → Comes members w.objects w.next_serial y
@@ -254,3 +255,5 @@ module _ (script : Script) (members : List ℕ) (w : World) (h : Sealed script m
   shape_opens command e (StartsFrame f found) = object_out command is_function f found
   shape_opens command e (StartsCollection g low) = tt
   shape_opens command e Ends = tt
+  shape_opens command e (Inspects lines calm there) = absurd (let no : true ≡ false = sym h.collecting ∙ calm in cc)
+  shape_opens command e (AsksWhy x found calm) = tt

@@ -14,7 +14,7 @@ use Rattle.cg_machine.specs.declared.event.Event.{Event}
 use Rattle.cg_machine.specs.declared.event.Event.TheVariants.{Collected, End, GcSaved, GcStop, GcUncollectable, Refused}
 use Rattle.cg_machine.specs.declared.event.FrameSort.{FrameSort}
 use Rattle.cg_machine.specs.declared.event.FrameSort.TheVariants.{Del, Legacy as LegacyFrame, Callback, Call as CallFrame}
-use Rattle.cg_machine.specs.World.{World, Activity, TopLevel, Framed, Releasing, Dying, Collecting, Collection, CollectPhase, Turns, Turn, AfterTurn, Ending, Ended, push}
+use Rattle.cg_machine.specs.World.{World, Activity, TopLevel, Framed, Releasing, Dying, Collecting, Collection, CollectPhase, Turns, Turn, AfterTurn, Ending, Ended, push, ShuttingDown}
 use Rattle.cg_machine.specs.Holdings.{call_holds, is_collecting, is_collection, is_death_of}
 use Rattle.cg_machine.specs.Frame.{procedure_of}
 use Rattle.cg_machine.specs.Effects.{Calls, Changes}
@@ -26,7 +26,7 @@ use Rattle.cg_machine.proofs.CommandRefs.{option_free}
 use Rattle.cg_machine.proofs.Lookups.{found_at}
 use Rattle.cg_machine.proofs.Shapes.{StartsFrame}
 use Rattle.cg_machine.proofs.ShapeLaws.{changes_leave}
-use Rattle.cg_machine.proofs.Invariants.{AreAnswers, CommandSteps, FromFrame, FromTop, HasCommands, Steps, Takes, any_step, emptied, on}
+use Rattle.cg_machine.proofs.Invariants.{AreAnswers, CommandSteps, FromFrame, FromTop, HasCommands, Steps, Takes, any_step, emptied, on, del_shaped, AreLast}
 use Rattle.cg_machine.proofs.Serials.{Rises}
 use Rattle.cg_machine.proofs.Places.{place_is}
 use Rattle.cg_promises.proofs.Sealed.{Clears, Fits, IsLate, NotAfter, Passes, Sealed, TellsOut, comes_excused, goes_sealed, loosen, none_out, one_out, one_still, push_sealed, same_shrinks, shrunk, starts_sealed, turn_sealed, TellsStill}
@@ -34,6 +34,8 @@ use Rattle.cg_promises.proofs.SealedDeaths.{dying_sealed, frame_end_sealed, late
 use Rattle.cg_promises.proofs.SealedCommands.{Opens, shape_opens}
 use Rattle.cg_promises.proofs.ToldCollections.{same_lives}
 use Rattle.cg_promises.proofs.ToldRuns.{Fit, step_fit}
+use Rattle.cg_script.specs.declared.Command.TheVariants.{Del}
+use Rattle.cg_machine.proofs.Sound.{HasBottom}
 
 -- no collection is due while one is under way
 due_none : (w : World) → is_collecting w ≡ true → due w ≡ None
@@ -138,6 +140,7 @@ module _ (script : Script) (members : List ℕ) where
     emptied_sealed : (a : Activity) → HasCommands a → SealedOn a → SealedOn (emptied a)
     emptied_sealed (TopLevel commands) ha h = turned (TopLevel commands) (TopLevel []) tt refl refl (λ n. refl) h
     emptied_sealed (Framed f) ha h = turned (Framed f) (Framed (record f { commands = [] })) (h.stack_fits (Framed f) (inl refl)) refl refl (λ n. refl) h
+    emptied_sealed (ShuttingDown started) ha h = h
     emptied_sealed a ha h = absurd ha
 
     taken_sealed : (command : Command) (a b : Activity) → Takes command a b → SealedOn a → SealedOn b
@@ -172,15 +175,29 @@ module _ (script : Script) (members : List ℕ) where
         asks = λ g low e. absurd (let no : true ≡ false = sym h.collecting ∙ e in cc);
       }
 
-  keeps_sealed : Steps script (λ w. Rises 1 w.next_serial w.objects × IsSealedWorld script members w) StepKeeps
+  -- the lines of the last step
+  last_out : (w : World) (a : Activity) (lines : List Event) → AreLast w a lines → TellsStill members lines
+  last_out w (TopLevel []) lines e = subst (TellsStill members) (sym e) (one_still members End refl (λ n m. absurd m))
+  last_out w (TopLevel (command ∷ commands)) lines e = absurd e
+  last_out w (ShuttingDown true) lines e = subst (TellsStill members) (sym e) (
+    λ event m n k. either m (λ i. absurd (subst (λ (x : Event). Includes (named x) n) (sym i) k)) (λ i. (one_still members End refl (λ o p. absurd p)).0 event i n k),
+    λ event m. either m (λ i. ap is_stop (sym i)) (λ i. (one_still members End refl (λ o p. absurd p)).1 event i),
+  )
+  last_out w (ShuttingDown false) lines e = absurd e
+  last_out w a lines e = absurd e
+
+  keeps_sealed : Steps script (λ w. (Rises 1 w.next_serial w.objects × HasBottom w.stack) × IsSealedWorld script members w) StepKeeps
   keeps_sealed = record {
     starts_due = λ a below v ha g e k. absurd (let no : Some g ≡ None = sym e ∙ due_none (on a below v) k.1.collecting in cc);
-    ends = λ below v k. passes script members (TopLevel [] ∷ below) (End ∷ []) (record (on (TopLevel []) below v) { outcome = Ended }) (record { sealed = k.1; lines = one_still members End refl (λ n m. absurd m) });
+    ends = λ a lines below v last k. passes script members (a ∷ below) lines (record (on a below v) { outcome = Ended }) (record { sealed = k.1; lines = last_out (on a below v) a lines last });
+    shuts_down = λ below v k. passes script members (TopLevel [] ∷ below) [] (on (ShuttingDown false) below v) (record { sealed = turned below v (TopLevel []) (ShuttingDown false) tt refl refl (λ n. refl) k.1; lines = none_out members });
+    gives_up = λ name below v e k. (command_keeps below v (ShuttingDown false) (ShuttingDown false) tt k.1 (Del name)).changes false [] _ _ (del_shaped (on (ShuttingDown false) below v) name);
+    collects_last = λ below v k. absurd (let no : true ≡ false = sym k.1.collecting ∙ ap (list_any is_collection) k.0.1 in cc);
     commands = λ command a b below v takes hb k. command_keeps below v a b hb (taken_sealed below v command a b takes k.1) command;
     frame_ends = λ f below v left k. passes script members (Framed f ∷ below) _ _ (frame_end_sealed script members f below v k.1);
     releases = λ references below v k. passes script members (Releasing references ∷ below) _ _ (released_sealed script members references below v k.1);
-    dies = λ d below v k. passes script members (Dying d ∷ below) _ _ (dying_sealed script members d.object below v k.0 d.phase k.1);
-    collects = λ c below v events after step k. let fits = k.1.stack_fits (Collecting c) (inl refl) in collect_keeps script members c below v k.0 fits.1 c.phase events after fits.0 step k.1;
+    dies = λ d below v k. passes script members (Dying d ∷ below) _ _ (dying_sealed script members d.object below v k.0.0 d.phase k.1);
+    collects = λ c below v events after step k. let fits = k.1.stack_fits (Collecting c) (inl refl) in collect_keeps script members c below v k.0.0 fits.1 c.phase events after fits.0 step k.1;
   }
 
 -- none of a run's first steps stops, and none of the others
@@ -189,7 +206,7 @@ none_first xs ys e = let all : count_by is_stop (xs ++ ys) ≡ count_by is_stop 
 
 module _ (script : Script) (members : List ℕ) where
   pub step_keeps_on : (w : World) (events : List Event) (after : World) → Step script w events after → Fit script w → IsSealedWorld script members w → Keeping script members w.stack events after
-  step_keeps_on w events after step fit h = any_step script (λ u. Rises 1 u.next_serial u.objects × IsSealedWorld script members u) (StepKeeps script members) (keeps_sealed script members) w events after step (fit.sound.rises, h)
+  step_keeps_on w events after step fit h = any_step script (λ u. (Rises 1 u.next_serial u.objects × HasBottom u.stack) × IsSealedWorld script members u) (StepKeeps script members) (keeps_sealed script members) w events after step ((fit.sound.rises, fit.sound.bottom), h)
 
   pub sealed_after : (w : World) (steps : List StepTaken) → Run script w steps → Fit script w → count_by is_stop (events_of steps) ≡ 0 → IsSealedWorld script members w → IsSealedWorld script members (last_world w steps) × TellsOut members (events_of steps)
   sealed_after w [] run fit none h = (h, (none_out members).0)
@@ -211,6 +228,7 @@ module _ (script : Script) (members : List ℕ) where
         by_sort Callback = λ n. n
         by_sort CallFrame = option_free frame.function x.serial (λ e. f.1 x.serial e k)
     holds_not (Releasing refs) f = tt
+    holds_not (ShuttingDown started) f = tt
     holds_not (Dying d) f = λ i. f x.serial i k
     holds_not (Collecting c) f = tt
 
@@ -232,6 +250,7 @@ module _ (script : Script) (members : List ℕ) where
         not_there i = either i (λ e. f.0 (subst (Includes members) (sym e) k)) (cells frame.function f.1)
     no_local (TopLevel commands) f = tt
     no_local (Releasing refs) f = tt
+    no_local (ShuttingDown started) f = tt
     no_local (Dying d) f = tt
     no_local (Collecting c) f = tt
 

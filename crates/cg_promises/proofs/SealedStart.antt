@@ -1,7 +1,7 @@
 -- The second detection leaves a final set that is sealed: what names, activities, survivors and objects that are not condemned
 -- hold survives.
 use Rattle.std.proofs.Common.{◌≡◌, ◌≢◌, refl, sym, ◌∙◌, ap, subst, ℕ, zero, suc, ◌+◌, ◌<◌, ◌≤◌, Bool, true, false, cond, inl, inr, ◌⊎◌, List, [], ◌∷◌, ◌++◌, map, length, Option, Some, None, arith}
-use Rattle.std.specs.Prelude.{◌==◌, if◌then◌else◌, filter, flat_map, option_map, option_to_list, unwrap_or}
+use Rattle.std.specs.Prelude.{◌==◌, if◌then◌else◌, filter, flat_map, option_map, option_to_list, unwrap_or, ◌||◌}
 use Rattle.cg_value.specs.declared.Place.TheVariants.{Cand, Gen, Legacy, Untracked}
 use Rattle.cg_script.specs.declared.Script.{Script}
 use Rattle.cg_graph.specs.declared.Edge.{Edge}
@@ -11,14 +11,14 @@ use Rattle.cg_graph.specs.Value.{references}
 use Rattle.cg_graph.specs.Object.{Object, object_at, objects_at, is_at, same_place, serials, serials_at, with_place, with_referent}
 use Rattle.cg_graph.specs.Holdings.{entry_holdings, graph_of, name_holdings, occurrences}
 use Rattle.cg_graph.proofs.Objects.{occurrences-append}
-use Rattle.cg_graph.proofs.Members.{either, or_left, Includes-of, includes-of, Includes-append_left, Includes-append_right, Includes-filter, Includes-map, Includes-map_cases}
+use Rattle.cg_graph.proofs.Members.{either, or_left, Includes-of, includes-of, Includes-append_left, Includes-append_right, Includes-filter, Includes-map, Includes-map_cases, or_right}
 use Rattle.cg_machine.specs.declared.event.Event.{Event}
 use Rattle.cg_machine.specs.declared.event.FrameSort.{FrameSort}
 use Rattle.cg_machine.specs.declared.event.FrameSort.TheVariants.{Del, Legacy as LegacyFrame, Callback, Call}
-use Rattle.cg_machine.specs.World.{World, Activity, TopLevel, Framed, Releasing, Dying, Collecting, Collection, Frame, Death, Split, Turns, AfterTurn}
+use Rattle.cg_machine.specs.World.{World, Activity, TopLevel, Framed, Releasing, Dying, Collecting, Collection, Frame, Death, Split, Turns, AfterTurn, ShuttingDown}
 use Rattle.cg_machine.specs.Holdings.{call_holds, holdings, holds}
 use Rattle.cg_machine.specs.Weak.{AllLose, NoneLeft, loses_referent}
-use Rattle.cg_machine.specs.Collect.{SplitStep, Survives, collection_at, get_older, has_flag, loses_at_split, older, save_all}
+use Rattle.cg_machine.specs.Collect.{SplitStep, Survives, collection_at, get_older, has_flag, loses_at_split, older, save_all, is_final_in}
 use Rattle.cg_machine.specs.Laws.{all_waits, waits_of}
 use Rattle.cg_machine.proofs.Condemned.{held_survives, present}
 use Rattle.cg_machine.proofs.DyingOrderly.{HasOrder}
@@ -202,7 +202,7 @@ module _ (script : Script) (c : Collection) (below : List Activity) (v : World) 
         let stays : includes step.alive d.object.serial ≡ false = not_includes d.object.serial d.dead in
         let member : Includes aged d.object = subst (Includes aged) (ap (λ b. if b then with_place (Gen (older c.generation)) d.object else d.object) stays) (Includes-map (λ x. if includes step.alive x.serial then with_place (Gen (older c.generation)) x else x) v.objects d.object d.member) in
         let found : object_at aged o ≡ Some d.object = subst (λ n. object_at aged n ≡ Some d.object) d.serial (at_member 1 v.next_serial aged d.object rises_aged member) in
-        let loses : loses_at_split aged y ≡ true = ap (λ r. unwrap_or (option_map (λ n. unwrap_or (option_map (is_at Cand) (object_at aged n)) false) r) false) e ∙ ap (λ r. unwrap_or (option_map (is_at Cand) r) false) found ∙ at_cand d.object d.place in
+        let loses : loses_at_split aged y ≡ true = ap (λ r. unwrap_or (option_map (λ n. is_final_in aged n || is_at Cand y) r) false) e ∙ or_left (is_final_in aged o) (is_at Cand y) (ap (λ r. unwrap_or (option_map (is_at Cand) r) false) found ∙ at_cand d.object d.place) in
         let no : true ≡ false = sym loses ∙ lose_none (loses_at_split aged) step.cleared aged step.objects step.lose y m in cc
       where
         rises_aged : Rises 1 v.next_serial aged
@@ -219,6 +219,21 @@ module _ (script : Script) (c : Collection) (below : List Activity) (v : World) 
             go true t = absurd (dead ((step.survivors n).0 (Includes-of step.alive n t)))
             go false t = refl
 
+    at_place : (y : Object) → Includes step.objects y → Includes members y.serial → y.place ≡ Cand
+    at_place y m k =
+        let d = dead_of y.serial k in
+        let x = back y m in
+        let one : d.object ≡ x.0 = same_object 1 v.next_serial v.objects d.object x.0 rises d.member x.1 (d.serial ∙ x.2.0.serial) in
+        either x.2.3 (λ old. absurd (d.dead (subst (λ (z : Object). Survives now Cand z.serial) (sym one) ((step.survivors x.0.serial).0 (Includes-of step.alive x.0.serial old.0)))))
+        (λ same. same.1 ∙ subst (λ (z : Object). z.place ≡ Cand) one d.place)
+
+    -- a member has lost its own referent
+    lost_own : (y : Object) → Includes step.objects y → y.place ≡ Cand → (r : Option ℕ) → y.referent ≡ r → y.referent ≡ None
+    lost_own y m place None e = e
+    lost_own y m place (Some r) e =
+        let loses : loses_at_split aged y ≡ true = ap (λ q. unwrap_or (option_map (λ n. is_final_in aged n || is_at Cand y) q) false) e ∙ or_right (is_final_in aged r) (is_at Cand y) (at_cand y place) in
+        absurd (let no : true ≡ false = sym loses ∙ lose_none (loses_at_split aged) step.cleared aged step.objects step.lose y m in cc)
+
     done_of : (y : Object) → Includes step.objects y → Includes members y.serial → IsDone script y
     done_of y m k =
         let d = dead_of y.serial k in
@@ -227,7 +242,7 @@ module _ (script : Script) (c : Collection) (below : List Activity) (v : World) 
         let place : x.0.place ≡ Cand = subst (λ (z : Object). z.place ≡ Cand) one d.place in
         let marks : Marks x.0 y = record { serial = x.2.0.serial; code = x.2.0.code; class = x.2.0.class; finalized = λ e. x.2.2 ∙ e } in
         record {
-          refers_to_none = none_later x.0 y x.2.0 (either (order.condemned x.0 x.1 (or_left (is_at Cand x.0) _ (at_cand x.0 place))).1 (λ e. e) (λ clearing. absurd clearing));
+          refers_to_none = lost_own y m (at_place y m k) y.referent refl;
           ran = ran_later script x.0 y marks (primed.ran (record c { phase = Split }) (inl refl) x.0 x.1 place);
           no_legacy = legacy_later script x.0 y marks (primed.no_legacy x.0 x.1 (subst IsWanted (sym place) tt));
           not_aside = λ e. either x.2.3 (λ old. let no : Gen (older c.generation) ≡ Legacy = sym old.1 ∙ e in cc) (λ same. let no : Cand ≡ Legacy = sym (same.1 ∙ place) ∙ e in cc);
@@ -272,6 +287,7 @@ module _ (script : Script) (c : Collection) (below : List Activity) (v : World) 
     below_fits (TopLevel commands) m = tt
     below_fits (Framed f) m = frames_fit now.stack over known (λ n i. i) (λ n i. i) f (inr m)
     below_fits (Releasing refs) m = tt
+    below_fits (ShuttingDown started) m = tt
     below_fits (Dying d) m = λ n i. held_out n (held_by_member now.stack (Dying d) n (inr m) i)
     below_fits (Collecting d) m = absurd (alone d m)
 
@@ -279,14 +295,6 @@ module _ (script : Script) (c : Collection) (below : List Activity) (v : World) 
     no_death : (d : Death) → Includes below (Dying d) → ¬ Includes members d.object
     no_death d m k = either (rests_cases script now d.object d.phase (resting d m)) (λ own. held_out d.object (held_by_member now.stack (Dying d) d.object (inr m) own) k)
         (λ gone. let q = dead_of d.object k in let no : Untracked ≡ Cand = sym ((gone.unheld.quiet q.object q.member).untracked q.serial) ∙ q.place in cc)
-
-    at_place : (y : Object) → Includes step.objects y → Includes members y.serial → y.place ≡ Cand
-    at_place y m k =
-        let d = dead_of y.serial k in
-        let x = back y m in
-        let one : d.object ≡ x.0 = same_object 1 v.next_serial v.objects d.object x.0 rises d.member x.1 (d.serial ∙ x.2.0.serial) in
-        either x.2.3 (λ old. absurd (d.dead (subst (λ (z : Object). Survives now Cand z.serial) (sym one) ((step.survivors x.0.serial).0 (Includes-of step.alive x.0.serial old.0)))))
-        (λ same. same.1 ∙ subst (λ (z : Object). z.place ≡ Cand) one d.place)
 
     turns : (n : ℕ) → NotAfter (Collecting (record c { collected = c.collected + length (serials_at step.objects Cand); phase = Turns }) ∷ below) n
     turns n b m = either m (λ e. let same_one : record c { collected = c.collected + length (serials_at step.objects Cand); phase = Turns } ≡ b = cc in subst (λ (z : Collection). z.phase ≢ AfterTurn n) same_one (λ p. cc)) (λ i. absurd (alone b i))

@@ -6,7 +6,7 @@ use Rattle.cg_graph.specs.Member.{Includes}
 use Rattle.cg_graph.specs.Object.{Object, serials_at}
 use Rattle.cg_graph.proofs.Members.{either, Includes-append_left, Includes-append_right, Includes-append_cases}
 use Rattle.cg_machine.specs.declared.event.Event.{Event}
-use Rattle.cg_machine.specs.World.{World, Activity, TopLevel, Framed, Releasing, Dying, Collecting, Collection, Split, opening, with_stack}
+use Rattle.cg_machine.specs.World.{World, Activity, TopLevel, Framed, Releasing, Dying, Collecting, Collection, Split, opening, with_stack, ShuttingDown}
 use Rattle.cg_machine.specs.Holdings.{is_collection}
 use Rattle.cg_machine.specs.Collect.{SplitStep}
 use Rattle.cg_machine.specs.Run.{Run, Step, StepOf, StepTaken, events_of, last_world}
@@ -39,7 +39,7 @@ other_step script w a below events after top none step fit apart h =
     let stack : IsStack script w (a ∷ below) = subst (IsStack script w) top fit.calm.stack in
     let left : LeavesUnder w (a ∷ below) after = subst (λ st. LeavesUnder w st after) top (step_leaves script w events after step fit.sound fit.calm fit.order) in
     let made = lives_within 1 w.next_serial w.objects 1 fit.sound.rises fit.order.root_lives in
-    let plain : IsPlainUnder w.objects (a ∷ below) after = subst (λ st. IsPlainUnder w.objects st after) top (step_plain script w events after step apart.garbage made.1 fit.calm) in
+    let plain : IsPlainUnder w.objects (a ∷ below) after = subst (λ st. IsPlainUnder w.objects st after) top (step_plain script w events after step apart.garbage made.1 fit.calm fit.sound.bottom) in
     let leaves = leaves_below script w a below after top fit.sound.rises stack.1 fit.order left in
     other_primed script w after fit.sound.rises (step_goes script w events after step fit).follows (leaves.places none)
     (λ c m. either ((plain none).stack c m) (λ k. inl (subst (λ st. Includes st (Collecting c)) (sym top) (inr k))) (λ k. inr k.1)) h
@@ -55,6 +55,7 @@ step_primed : (script : Script) (w : World) (stack : List Activity) (events : Li
 step_primed script w [] events after top step fit apart h = absurd (subst (λ st. StepOf script w st events after) top step.step)
 step_primed script w (TopLevel commands ∷ below) events after top step fit apart h = other_step script w (TopLevel commands) below events after top refl step fit apart h
 step_primed script w (Framed f ∷ below) events after top step fit apart h = other_step script w (Framed f) below events after top refl step fit apart h
+step_primed script w (ShuttingDown started ∷ below) events after top step fit apart h = other_step script w (ShuttingDown started) below events after top refl step fit apart h
 step_primed script w (Releasing refs ∷ below) events after top step fit apart h = other_step script w (Releasing refs) below events after top refl step fit apart h
 step_primed script w (Dying d ∷ below) events after top step fit apart h = other_step script w (Dying d) below events after top refl step fit apart h
 step_primed script w (Collecting c ∷ below) events after top step fit apart h = collect_step script w c below events after top step fit apart h

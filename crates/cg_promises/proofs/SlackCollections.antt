@@ -31,6 +31,8 @@ use Rattle.cg_laws.proofs.SetsApart.{is_tracked_at}
 use Rattle.cg_promises.proofs.Slack.{AreNoTuples, Fine, IsNoTuple, IsSlackWorld, Never, Slack, Still, either_slack, excused_on, lost_still, moves_slack, placed_goes, push_slack, starts_slack, still_same, still_trans, test_still, turn_slack}
 use Rattle.cg_promises.proofs.SlackDeaths.{shortened_still}
 use Rattle.cg_promises.proofs.SlackStart.{Anew, merge_still, sort_still}
+use Rattle.cg_machine.specs.Program.{profile_of}
+use Rattle.cg_machine.proofs.Clearing.{refers_early}
 
 false_true : true ≡ false → ⊥
 false_true e = cc
@@ -84,8 +86,8 @@ survivor_inside w p o (first held inside) = inside
 survivor_inside w p o (further path arrow inside) = inside
 
 -- what loses its referent in the weak phase is a weak reference
-loses_weak : (objects : List Object) (x : Object) → ((r : ℕ) → x.referent ≡ Some r → x.code ≡ Weak) → loses_in_weak_phase objects x ≡ true → x.code ≡ Weak
-loses_weak objects x codes e = go x.referent refl e
+loses_weak : (profile : ℕ) (objects : List Object) (x : Object) → ((r : ℕ) → x.referent ≡ Some r → x.code ≡ Weak) → loses_in_weak_phase profile objects x ≡ true → x.code ≡ Weak
+loses_weak profile objects x codes e = go x.referent refl (refers_early profile objects x e)
   where
     go : (m : Option ℕ) → x.referent ≡ m → unwrap_or (option_map (λ o. is_condemned_in objects o || is_condemned x) m) false ≡ true → x.code ≡ Weak
     go None r k = absurd (let no : false ≡ true = k in cc)
@@ -137,14 +139,14 @@ module _ (script : Script) (c : Collection) (below : List Activity) (v : World) 
       hard : ℕ → Type 0
       hard = Anew script c.generation (merged c.generation (at Start)) step.chosen step.places v.next_serial rises_now step.sorts
 
-  weak_clearing_slack : (waiting : List ℕ) (events : List Event) (after : World) → HasOrder (at (WeakClearing waiting)) → WeakClearingStep c waiting below (at (WeakClearing waiting)) events after → IsSlackWorld (at (WeakClearing waiting)) → IsSlackWorld after
+  weak_clearing_slack : (waiting : List ℕ) (events : List Event) (after : World) → HasOrder (at (WeakClearing waiting)) → WeakClearingStep (profile_of script.items) c waiting below (at (WeakClearing waiting)) events after → IsSlackWorld (at (WeakClearing waiting)) → IsSlackWorld after
   weak_clearing_slack waiting events after order (inl step) h = to after _ step.yields.1 (go (waits v.objects step.weak))
     where
       lost : List Object
       lost = loses_referent step.weak v.objects
 
       code : step.newest.object.code ≡ Weak
-      code = loses_weak v.objects step.newest.object (order.codes step.newest.object step.newest.member) step.newest.to_lose
+      code = loses_weak (profile_of script.items) v.objects step.newest.object (order.codes step.newest.object step.newest.member) step.newest.to_lose
 
       apart : (x : Object) → Includes lost x → x.serial ≡ step.weak → is_tuple x ≡ true → x.place ≢ Untracked
       apart x m s t =

@@ -15,12 +15,12 @@ use Rattle.cg_graph.specs.Object.{Object, change, first_place, is_tracked, is_tu
 use Rattle.cg_graph.proofs.Members.{either, cases_of, Includes-append_left, Includes-append_right, Includes-append_cases, Includes-map_cases, Includes-of, includes-of, or_left, or_right}
 use Rattle.cg_machine.specs.World.{World}
 use Rattle.cg_machine.specs.Operands.{is_dict, object_of}
-use Rattle.cg_machine.specs.Effects.{Calls, Changes, Collects, Effect, Quits, frozen, may_track, replaced, tracked_by, unfrozen, with_new}
+use Rattle.cg_machine.specs.Effects.{Calls, Changes, Collects, Effect, Quits, frozen, may_track, replaced, tracked_by, unfrozen, with_new, Explains}
 use Rattle.cg_machine.proofs.CommandRefs.{option_held, put_free}
 use Rattle.cg_machine.proofs.Forgotten.{lives_within}
 use Rattle.cg_machine.proofs.Lookups.{at_member, references_of_member, same_object}
 use Rattle.cg_machine.proofs.Serials.{Rises}
-use Rattle.cg_machine.proofs.Shapes.{IsMutable, Shape, Binds, Makes, Edits, Puts, Shows, Tells, Stays, Sets, Freezes, Unfreezes, StartsFrame, StartsCollection, Ends}
+use Rattle.cg_machine.proofs.Shapes.{IsMutable, Shape, Binds, Makes, Edits, Puts, Shows, Tells, Stays, Sets, Freezes, Unfreezes, StartsFrame, StartsCollection, Ends, Inspects, AsksWhy}
 use Rattle.cg_machine.proofs.Places.{place_is}
 use Rattle.cg_promises.proofs.Slack.{Excused, Fine, Goes, IsLoose, IsSlackOne, IsSlackWorld, Slack, Still, loose_later, map_still, moves_slack, test_still}
 use Rattle.cg_promises.proofs.SlackStart.{may_not, not_true}
@@ -108,6 +108,7 @@ module _ (w : World) (rises : Rises 1 w.next_serial w.objects) (live : (x : Obje
   Slacks (Changes wants_memory lines given_up after) = Slack after.next_serial after.objects w.stack
   Slacks (Calls f) = Unit {0}
   Slacks (Collects g) = Unit {0}
+  Slacks (Explains o) = Unit {0}
   Slacks Quits = Unit {0}
 
   moved : (after : List Object) → Still (Fine w.stack after) w.objects after → Slack w.next_serial after w.stack
@@ -263,3 +264,5 @@ module _ (w : World) (rises : Rises 1 w.next_serial w.objects) (live : (x : Obje
   shape_slack command e (StartsFrame f k) = tt
   shape_slack command e (StartsCollection g low) = tt
   shape_slack command e Ends = tt
+  shape_slack command e (Inspects lines calm there) = h
+  shape_slack command e (AsksWhy x k calm) = tt

@@ -8,14 +8,14 @@ use Rattle.cg_graph.specs.Member.{Includes}
 use Rattle.cg_graph.specs.Object.{Object, serials}
 use Rattle.cg_graph.proofs.Members.{either, or_left, or_right, Includes-map_cases}
 use Rattle.cg_machine.specs.declared.event.FrameSort.TheVariants.{Call as CallFrame}
-use Rattle.cg_machine.specs.World.{World, Activity, TopLevel, Framed, Releasing, Dying, Death, Collecting, Collection, Start, opening, push}
+use Rattle.cg_machine.specs.World.{World, Activity, TopLevel, Framed, Releasing, Dying, Death, Collecting, Collection, Start, opening, push, ShuttingDown}
 use Rattle.cg_machine.specs.Holdings.{is_death_of, is_dying}
 use Rattle.cg_machine.specs.Frame.{procedure_of}
 use Rattle.cg_machine.specs.Effects.{Changes}
 use Rattle.cg_machine.specs.Commands.{new_collection}
 use Rattle.cg_machine.specs.Run.{Run, StepTaken, last_world}
 use Rattle.cg_machine.proofs.DyingOrderly.{HasOrder}
-use Rattle.cg_machine.proofs.Invariants.{CommandSteps, FromFrame, FromTop, HasCommands, Steps, Takes, any_step, emptied, on}
+use Rattle.cg_machine.proofs.Invariants.{CommandSteps, FromFrame, FromTop, HasCommands, Steps, Takes, any_step, emptied, on, del_shaped}
 use Rattle.cg_machine.proofs.RunsOrderly.{taken_orderly}
 use Rattle.cg_machine.proofs.Serials.{Rises}
 use Rattle.cg_machine.proofs.ShapeLaws.{changes_leave}
@@ -26,6 +26,7 @@ use Rattle.cg_promises.proofs.SlackDeaths.{dying_slack, frame_end_slack, release
 use Rattle.cg_promises.proofs.SlackCollections.{phase_slack}
 use Rattle.cg_promises.proofs.SlackCommands.{shape_slack}
 use Rattle.cg_promises.proofs.ToldRuns.{Fit, opening_fit, run_fit, step_fit}
+use Rattle.cg_script.specs.declared.Command.TheVariants.{Del}
 
 module _ (script : Script) (below : List Activity) (v : World) where
   abbrev SlackOn : Activity → Type 0
@@ -34,6 +35,7 @@ module _ (script : Script) (below : List Activity) (v : World) where
   emptied_slack : (a : Activity) → HasCommands a → SlackOn a → SlackOn (emptied a)
   emptied_slack (TopLevel commands) ha h = turn_slack Never v.next_serial (TopLevel commands) (TopLevel []) below v.objects v.objects (still_same Never v.objects) (λ n no. absurd no) (λ d e. cc) (λ c e. cc) h
   emptied_slack (Framed f) ha h = turn_slack Never v.next_serial (Framed f) (Framed (record f { commands = [] })) below v.objects v.objects (still_same Never v.objects) (λ n no. absurd no) (λ d e. cc) (λ c e. cc) h
+  emptied_slack (ShuttingDown started) ha h = h
   emptied_slack a ha h = absurd ha
 
   taken_slack : (command : Command) (a b : Activity) → Takes command a b → SlackOn a → SlackOn b
@@ -63,7 +65,10 @@ Holds script w = Fit script w × IsSlackWorld w
 slack_steps : (script : Script) → Steps script (Holds script) (λ w events. IsSlackWorld)
 slack_steps script = record {
   starts_due = λ a below v ha g e k. begun_slack script below v a g false k.1;
-  ends = λ below v k. record { slack = k.1.slack; handled = k.1.handled };
+  ends = λ a lines below v last k. record { slack = k.1.slack; handled = k.1.handled };
+  shuts_down = λ below v k. turn_slack Never v.next_serial (TopLevel []) (ShuttingDown false) below v.objects v.objects (still_same Never v.objects) (λ n no. absurd no) (λ d e. cc) (λ c e. cc) k.1;
+  gives_up = λ name below v e k. (command_slack script below v (on (ShuttingDown false) below v) (Del name) (ShuttingDown false) tt k.0.sound.rises k.0.order k.1).changes false [] _ _ (del_shaped (on (ShuttingDown false) below v) name);
+  collects_last = λ below v k. begun_slack script below v (ShuttingDown true) 2 false (turn_slack Never v.next_serial (ShuttingDown false) (ShuttingDown true) below v.objects v.objects (still_same Never v.objects) (λ n no. absurd no) (λ d e. cc) (λ c e. cc) k.1);
   commands = λ command a b below v takes hb k. command_slack script below v (on a below v) command b hb k.0.sound.rises (taken_orderly command a b below v takes k.0.order) (taken_slack script below v command a b takes k.1);
   frame_ends = λ f below v left k. frame_end_slack f below v k.1;
   releases = λ references below v k. released_slack references below v k.1;

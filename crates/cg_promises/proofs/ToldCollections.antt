@@ -25,6 +25,7 @@ use Rattle.cg_machine.proofs.Condemned.{present, Includes-of_count}
 use Rattle.cg_machine.proofs.Sorting.{Reach-inside}
 use Rattle.cg_promises.proofs.Told.{Marks, Old, IsPlain, IsTold, Goes, same_old, old_trans, map_old, if_old, change_old, place_old, place_marks, entries_old, lost_old, old_lives, quiet, one_told, tells, starts_told, yields_told, either_told}
 use Rattle.cg_promises.proofs.ToldDeaths.{begins}
+use Rattle.cg_machine.specs.Program.{profile_of}
 
 -- a list with the same members as often
 pub same_lives : (xs ys : List ℕ) → SameMembers xs ys → (n : ℕ) → Includes xs n → Includes ys n
@@ -133,7 +134,7 @@ module _ (script : Script) (c : Collection) (below : List Activity) (v : World) 
       live n m = old_lives v.objects (sorted c.generation step.places now) old n
           (filter_lives (is_at Cand) (sorted c.generation step.places now) n (subst (λ (w : World). Includes (serials_at w.objects Cand) n) step.world (same_lives step.collectables (serials_at after.objects Cand) step.any_order n m)))
 
-  weak_clearing_told : (waiting : List ℕ) (events : List Event) (after : World) → WeakClearingStep c waiting below (at (WeakClearing waiting)) events after → Tells events after
+  weak_clearing_told : (waiting : List ℕ) (events : List Event) (after : World) → WeakClearingStep (profile_of script.items) c waiting below (at (WeakClearing waiting)) events after → Tells events after
   weak_clearing_told waiting events after (inl step) = yields _ events after step.yields (go (waits v.objects step.weak))
     where
       lost : List Object

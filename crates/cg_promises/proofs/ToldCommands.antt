@@ -14,17 +14,20 @@ use Rattle.cg_graph.specs.Value.{put, reference_in}
 use Rattle.cg_graph.specs.Object.{Object, first_place, is_tracked, serials, with_entries, with_place}
 use Rattle.cg_graph.proofs.Members.{either, Includes-of, includes-of, Includes-append_left, Includes-append_cases, Includes-map, Includes-map_cases}
 use Rattle.cg_machine.specs.declared.event.Event.{Event}
-use Rattle.cg_machine.specs.declared.event.Event.TheVariants.{Made, Value, RefCount, Tracked as TrackedLine, Finalized as FinalizedLine, Count as CountLine, Gens as GensLine}
+use Rattle.cg_machine.specs.declared.event.Event.TheVariants.{Made, Value, RefCount, Tracked as TrackedLine, Finalized as FinalizedLine, Count as CountLine, Gens as GensLine, Referent, Referrer, Held, Via, Listed, Unreachable}
 use Rattle.cg_machine.specs.World.{World, Numbers, with_change}
 use Rattle.cg_machine.specs.Operands.{is_dict}
-use Rattle.cg_machine.specs.Effects.{Effect, Changes, Calls, Collects, Quits, bound, frozen, may_track, replaced, tracked_by, unfrozen, with_new}
+use Rattle.cg_machine.specs.Effects.{Effect, Changes, Calls, Collects, Quits, bound, frozen, may_track, replaced, tracked_by, unfrozen, with_new, Explains}
 use Rattle.cg_machine.proofs.Serials.{Rises}
 use Rattle.cg_machine.proofs.CommandRefs.{IsKnown, option_free}
 use Rattle.cg_machine.proofs.CommandCalm.{hand_known}
-use Rattle.cg_machine.proofs.Shapes.{Shape, Binds, Makes, Edits, Puts, Shows, Tells, Stays, Sets, Freezes, Unfreezes, StartsFrame, StartsCollection, Ends, TellsNumbers}
+use Rattle.cg_machine.proofs.Shapes.{Shape, Binds, Makes, Edits, Puts, Shows, Tells, Stays, Sets, Freezes, Unfreezes, StartsFrame, StartsCollection, Ends, Inspects, AsksWhy, TellsNumbers}
 use Rattle.cg_machine.proofs.Forgotten.{Forgotten}
 use Rattle.cg_machine.proofs.Unheld.{AreOver}
 use Rattle.cg_promises.proofs.Told.{Marks, Old, IsTold, Goes, same_old, map_old, change_old, place_marks, one_told, tells, quiet}
+use Rattle.cg_machine.proofs.Releasing.{absent, unheld_degree}
+use Rattle.cg_machine.specs.Holdings.{holdings}
+use Rattle.cg_machine.proofs.Inspecting.{IsThere as HeldOrThere, TellsThere}
 
 pub lives_or_not : (objects : List Object) (o : ℕ) → Includes (serials objects) o ⊎ (¬ Includes (serials objects) o)
 lives_or_not objects o = go (includes (serials objects) o) refl
@@ -37,6 +40,7 @@ abbrev pub DoesTell : World → Effect → Type 0
 DoesTell w (Changes wants_memory lines given_up after) = Goes w.objects w.next_serial lines after
 DoesTell w (Calls f) = Includes (serials w.objects) f
 DoesTell w (Collects g) = Unit {0}
+DoesTell w (Explains o) = Unit {0}
 DoesTell w Quits = Unit {0}
 
 module _ (w : World) where
@@ -92,6 +96,23 @@ module _ (script : Script) (w : World) (rises : Rises 1 w.next_serial w.objects)
   known_lives : (v : Val) → IsKnown w over v → (n : ℕ) → Includes (option_to_list (reference_in v)) n → Includes (serials w.objects) n
   known_lives v known n m = either (lives_or_not w.objects n) (λ k. k) (λ g. absurd (option_free (reference_in v) n (known n (gone n g)) m))
 
+  -- what an inspection tells of lives
+  there_lives : (n : ℕ) → HeldOrThere w n → Includes (serials w.objects) n
+  there_lives n (inl held) = either (lives_or_not w.objects n) (λ k. k) (λ g. absurd (absent n (holdings w) (unheld_degree w n (gone n g).unheld) held))
+  there_lives n (inr lives) = lives
+
+  one_there : (n : ℕ) → HeldOrThere w n → (o : ℕ) → Includes (n ∷ []) o → Includes (serials w.objects) o
+  one_there n t o m = either m (λ e. subst (Includes (serials w.objects)) e (there_lives n t)) (λ no. absurd no)
+
+  inspected : (line : Event) → TellsThere w line → IsTold w.objects w.next_serial line
+  inspected (Referent n) t = (tt, λ o m. inl (one_there n t o m))
+  inspected (Referrer n) t = (tt, λ o m. inl (one_there n t o m))
+  inspected (Held n) t = (tt, λ o m. inl (one_there n t o m))
+  inspected (Via n) t = (tt, λ o m. inl (one_there n t o m))
+  inspected (Listed n) t = (tt, λ o m. absurd m)
+  inspected Unreachable t = (tt, λ o m. absurd m)
+  inspected line t = absurd t
+
   pub shape_tells : (command : Command) (e : Effect) → Shape w command e → DoesTell w e
   shape_tells command e (Binds name v own hand) = same w _ _
   shape_tells command e (Makes name kind class entries referent own parts) = made_tells w name kind class entries referent
@@ -106,3 +127,5 @@ module _ (script : Script) (w : World) (rises : Rises 1 w.next_serial w.objects)
   shape_tells command e (StartsFrame f h) = Includes-map (λ (z : Object). z.serial) w.objects f h.member
   shape_tells command e (StartsCollection g low) = tt
   shape_tells command e Ends = tt
+  shape_tells command e (Inspects lines calm there) = tells w.objects w.next_serial lines w (λ line m. inspected line (there line m)) (same_old w.objects) (omega arith)
+  shape_tells command e (AsksWhy x h calm) = tt

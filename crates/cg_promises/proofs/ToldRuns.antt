@@ -1,17 +1,17 @@
 -- Every step of a run tells of objects so, and what holds of the worlds of a run is kept beside.
-use Rattle.std.proofs.Common.{refl, ℕ, true, false, inl, List, [], ◌∷◌, ◌++◌, Some, arith}
+use Rattle.std.proofs.Common.{refl, ℕ, true, false, inl, List, [], ◌∷◌, ◌++◌, Some, arith, None, Option, subst, sym}
 use Rattle.std.specs.Prelude.{flat_map}
 use Rattle.cg_script.specs.declared.Script.{Script}
 use Rattle.cg_script.specs.declared.Command.{Command}
 use Rattle.cg_graph.specs.Member.{Includes}
-use Rattle.cg_graph.proofs.Members.{Includes-append_left}
+use Rattle.cg_graph.proofs.Members.{Includes-append_left, either}
 use Rattle.cg_machine.specs.declared.event.Event.{Event}
 use Rattle.cg_machine.specs.declared.event.Event.TheVariants.{Collected, End, Refused}
 use Rattle.cg_machine.specs.declared.event.FrameSort.TheVariants.{Call as CallFrame}
-use Rattle.cg_machine.specs.World.{World, Activity, TopLevel, Ended, opening, push, with_stack}
+use Rattle.cg_machine.specs.World.{World, Activity, TopLevel, Ended, opening, push, with_stack, ShuttingDown, Releasing}
 use Rattle.cg_machine.specs.Holdings.{collect_holds, dying_holds, holds}
 use Rattle.cg_machine.specs.Frame.{procedure_of}
-use Rattle.cg_machine.specs.Effects.{Changes, Calls, Effect}
+use Rattle.cg_machine.specs.Effects.{Changes, Calls, Effect, bound, given_up_by}
 use Rattle.cg_machine.specs.Commands.{new_collection}
 use Rattle.cg_machine.specs.Run.{Run, Step, StepTaken, last_world}
 use Rattle.cg_machine.proofs.Serials.{Rises}
@@ -22,11 +22,12 @@ use Rattle.cg_machine.proofs.Number.{step_falls}
 use Rattle.cg_machine.proofs.RunsCalm.{step_calm, opening_calm, taken_calm}
 use Rattle.cg_machine.proofs.RunsOrderly.{gone_forgotten, step_orderly, opening_orderly, taken_orderly}
 use Rattle.cg_machine.proofs.Shapes.{Shape, StartsFrame}
-use Rattle.cg_machine.proofs.Invariants.{AreAnswers, CommandSteps, Steps, any_step, emptied, on}
+use Rattle.cg_machine.proofs.Invariants.{AreAnswers, CommandSteps, Steps, any_step, emptied, on, AreLast}
 use Rattle.cg_promises.proofs.Told.{Goes, IsTold, same_old, quiet, one_told, tells, starts_told}
 use Rattle.cg_promises.proofs.ToldDeaths.{dying_told, frame_end_told, released_told}
 use Rattle.cg_promises.proofs.ToldCollections.{phase_told}
 use Rattle.cg_promises.proofs.ToldCommands.{DoesTell, shape_tells}
+use Rattle.cg_graph.specs.Object.{Object}
 
 -- what holds of each world of a run
 pub record Fit (script : Script) (w : World) : Type 0 where
@@ -63,10 +64,22 @@ module _ (script : Script) (below : List Activity) (v : World) where
 pub opening_fit : (script : Script) (budget : ℕ) → Fit script (opening script budget)
 opening_fit script budget = record { sound = opening_sound script budget; calm = opening_calm script budget; order = opening_orderly script budget }
 
+-- the last lines name nothing
+last_told : (objects : List Object) (next : ℕ) (w : World) (a : Activity) (lines : List Event) → AreLast w a lines → (event : Event) → Includes lines event → IsTold objects next event
+last_told objects next w (TopLevel []) lines e event m = one_told objects next End (tt, λ n i. absurd i) event (subst (λ (ls : List Event). Includes ls event) e m)
+last_told objects next w (TopLevel (command ∷ commands)) lines e event m = absurd e
+last_told objects next w (ShuttingDown true) lines e event m =
+    either (subst (λ (ls : List Event). Includes ls event) e m) (λ i. subst (IsTold objects next) i (tt, λ n k. absurd k)) (λ k. one_told objects next End (tt, λ n i. absurd i) event k)
+last_told objects next w (ShuttingDown false) lines e event m = absurd e
+last_told objects next w a lines e event m = absurd e
+
 tells_steps : (script : Script) → Steps script (Fit script) StepTells
 tells_steps script = record {
   starts_due = λ a below v ha g e k. quiet v.objects v.next_serial (push (new_collection g false (on a below v)) (on a below v)) (same_old v.objects) (omega arith);
-  ends = λ below v k. tells v.objects v.next_serial (End ∷ []) (record (on (TopLevel []) below v) { outcome = Ended }) (one_told v.objects v.next_serial End (tt, λ n m. absurd m)) (same_old v.objects) (omega arith);
+  ends = λ a lines below v last k. tells v.objects v.next_serial lines (record (on a below v) { outcome = Ended }) (last_told v.objects v.next_serial (on a below v) a lines last) (same_old v.objects) (omega arith);
+  shuts_down = λ below v k. quiet v.objects v.next_serial (on (ShuttingDown false) below v) (same_old v.objects) (omega arith);
+  gives_up = λ name below v e k. let w : World = on (ShuttingDown false) below v in quiet v.objects v.next_serial (push (Releasing (given_up_by w name)) (bound w name None)) (same_old v.objects) (omega arith);
+  collects_last = λ below v k. quiet v.objects v.next_serial (push (new_collection 2 false (on (ShuttingDown false) below v)) (on (ShuttingDown true) below v)) (same_old v.objects) (omega arith);
   commands = λ command a b below v takes hb k. command_told script below v a command b k.sound.rises (taken_calm script below v command a b takes k.calm) (taken_orderly command a b below v takes k.order);
   frame_ends = λ f below v left k. frame_end_told f (with_stack below v);
   releases = λ references below v k. released_told references below v;

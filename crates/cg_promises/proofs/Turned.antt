@@ -13,7 +13,7 @@ use Rattle.cg_machine.specs.declared.event.Event.{Event}
 use Rattle.cg_machine.specs.declared.event.Event.TheVariants.{BudgetSpent, Enter, GcSaved}
 use Rattle.cg_machine.specs.declared.event.FrameSort.TheVariants.{Del, Callback}
 use Rattle.cg_machine.specs.declared.event.FrameSpec.{FrameSpec}
-use Rattle.cg_machine.specs.Program.{body_of}
+use Rattle.cg_machine.specs.Program.{body_of, profile_of}
 use Rattle.cg_machine.specs.World.{World, Activity, Framed, Releasing, Dying, Death, Collecting, Collection, CollectPhase, Start, WeakClearing, WeakCalling, AfterCallback, AfterRelease, Finalizing, AfterFinalizing, Split, Turns, Turn, AfterTurn, Ending, BudgetIsSpent, with_change, with_objects}
 use Rattle.cg_machine.specs.Holdings.{is_collection}
 use Rattle.cg_machine.specs.Frame.{Transition, procedure_of, start_frame}
@@ -59,7 +59,7 @@ module _ (Q : List Activity → Type 0) (pushes : (a : Activity) (stack : List A
   either_stack true x y k l = k
   either_stack false x y k l = l
 
-  weak_clearing_stack : (waiting : List ℕ) → Tops (WeakClearing waiting) → (events : List Event) (after : World) → WeakClearingStep c waiting below (at (WeakClearing waiting)) events after → Q after.stack
+  weak_clearing_stack : (waiting : List ℕ) → Tops (WeakClearing waiting) → (events : List Event) (after : World) → WeakClearingStep (profile_of script.items) c waiting below (at (WeakClearing waiting)) events after → Q after.stack
   weak_clearing_stack waiting top events after (inl step) = to after _ step.yields.1 (go (waits v.objects step.weak))
     where
       lost : List Object

@@ -16,7 +16,7 @@ use Rattle.cg_machine.specs.declared.event.FrameSort.{FrameSort}
 use Rattle.cg_machine.specs.declared.event.FrameSort.TheVariants.{Del, Legacy as LegacyFrame, Callback, Call as CallFrame}
 use Rattle.cg_machine.specs.declared.event.FrameSpec.{FrameSpec}
 use Rattle.cg_machine.specs.Program.{body_of, legacy_of}
-use Rattle.cg_machine.specs.World.{World, Activity, TopLevel, Framed, Releasing, Dying, Death, Collecting, Frame, DyingPhase, Finalizer, AfterFinalizer, Clearing, Calling, AfterCall, LegacyFinalizer, AfterLegacy, Detaching, Emptying, BudgetIsSpent, with_stack, with_change}
+use Rattle.cg_machine.specs.World.{World, Activity, TopLevel, Framed, Releasing, Dying, Death, Collecting, Frame, DyingPhase, Finalizer, AfterFinalizer, Clearing, Calling, AfterCall, LegacyFinalizer, AfterLegacy, Detaching, Emptying, BudgetIsSpent, with_stack, with_change, ShuttingDown}
 use Rattle.cg_machine.specs.Holdings.{in_degree, is_dying}
 use Rattle.cg_machine.specs.Frame.{Transition, begin_death, frame_end, gives_up_function, procedure_of, released, start_frame}
 use Rattle.cg_machine.specs.Weak.{callback_of, has_weak_references, is_reference_to, weak_references, weak_references_if}
@@ -153,6 +153,7 @@ module _ (P : ℕ → ℕ → Type 0) where
   emptied_waited : (a : Activity) (below : List Activity) → HasCommands a → Waited below → Waited (emptied a ∷ below)
   emptied_waited (TopLevel commands) below ha rest = push_other (TopLevel []) below (λ d e. cc) rest
   emptied_waited (Framed f) below ha rest = push_other (Framed (record f { commands = [] })) below (λ d e. cc) rest
+  emptied_waited (ShuttingDown started) below ha rest = push_other (ShuttingDown started) below (λ d e. cc) rest
   emptied_waited a below ha rest = absurd ha
 
   module _ (script : Script) where
@@ -175,7 +176,10 @@ module _ (P : ℕ → ℕ → Type 0) where
     waits_in_steps : Steps script (λ w. ((weak o : ℕ) → RefersNow w.objects weak o → P weak o) × Waited w.stack) StepWaits
     waits_in_steps = record {
       starts_due = λ a below v ha g e k. push_other (new_collection g false (on a below v)) (a ∷ below) (λ d e. cc) k.1;
-      ends = λ below v k. k.1;
+      ends = λ a lines below v last k. k.1;
+      shuts_down = λ below v k. push_other (ShuttingDown false) below (λ d e. cc) (pop (TopLevel []) below k.1);
+      gives_up = λ name below v e k. push_other (Releasing _) (ShuttingDown false ∷ below) (λ d e. cc) k.1;
+      collects_last = λ below v k. push_other (new_collection 2 false (on (ShuttingDown false) below v)) (ShuttingDown true ∷ below) (λ d e. cc) (push_other (ShuttingDown true) below (λ d e. cc) (pop (ShuttingDown false) below k.1));
       commands = λ command a b below v takes hb k. command_waited (on a below v) command b below v hb (pop a below k.1);
       frame_ends = λ f below v left k. frame_end_waited f (with_stack below v) (pop (Framed f) below k.1);
       releases = λ references below v k. released_waited references below v (pop (Releasing references) below k.1);

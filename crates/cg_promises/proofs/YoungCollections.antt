@@ -20,6 +20,7 @@ use Rattle.cg_machine.specs.Dying.{finalizer_to_run}
 use Rattle.cg_machine.specs.Collect.{all_saved, calls_back, after_release, collection_at, empties, get_older, has_flag, has_none_tracked, looks_at, loses_at_split, merged, merged_place, older, save_all, saved, sorted, survivor_place, takes_turn, untrack, untracked_if, waits, EndStep, FinalizingStep, IsGarbage, IsSetAside, PhaseStep, SplitStep, StartStep, Survives, TurnsStep, WeakClearingStep}
 use Rattle.cg_machine.specs.Operands.{is_dict}
 use Rattle.cg_promises.proofs.Young.{AreYoung, IsYoung, IsYoungWorld, Young, all_lose_young, all_saved_young, either_young, entries_young, lost_young, map_young, older_young, placed_young, push_young, saved_young, starts_young, test_young, turn_young}
+use Rattle.cg_machine.specs.Program.{profile_of}
 
 -- a place is young or not
 stable_young : (p : Place) → ¬ ¬ IsYoung p → IsYoung p
@@ -105,7 +106,7 @@ module _ (script : Script) (c : Collection) (below : List Activity) (v : World) 
       one_young : (x : Object) → Includes now x → is_at (Gen g) x ≡ true → IsYoung x.place → IsYoung (step.places x)
       one_young x m t k = stable_young (step.places x) (not_old x (member x m t))
 
-  weak_clearing_young : (waiting : List ℕ) (events : List Event) (after : World) → WeakClearingStep c waiting below (standing (WeakClearing waiting)) events after → IsYoungWorld (standing (WeakClearing waiting)) → IsYoungWorld after
+  weak_clearing_young : (waiting : List ℕ) (events : List Event) (after : World) → WeakClearingStep (profile_of script.items) c waiting below (standing (WeakClearing waiting)) events after → IsYoungWorld (standing (WeakClearing waiting)) → IsYoungWorld after
   weak_clearing_young waiting events after (inl step) h = to after _ step.yields.1 (go (waits v.objects step.weak))
     where
       lost : List Object

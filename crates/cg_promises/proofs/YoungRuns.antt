@@ -12,19 +12,20 @@ use Rattle.cg_graph.specs.Value.{put}
 use Rattle.cg_graph.specs.Object.{Object, first_place, is_tracked, with_entries, with_place}
 use Rattle.cg_graph.proofs.Members.{either, Includes-append_cases}
 use Rattle.cg_machine.specs.declared.event.FrameSort.TheVariants.{Call}
-use Rattle.cg_machine.specs.World.{World, Numbers, Activity, TopLevel, Framed, Releasing, opening, push, with_change}
+use Rattle.cg_machine.specs.World.{World, Numbers, Activity, TopLevel, Framed, Releasing, opening, push, with_change, ShuttingDown}
 use Rattle.cg_machine.specs.Holdings.{is_collecting}
 use Rattle.cg_machine.specs.Frame.{procedure_of}
-use Rattle.cg_machine.specs.Effects.{Calls, Changes, Collects, Effect, Quits, frozen, may_track, tracked_by, unfrozen}
+use Rattle.cg_machine.specs.Effects.{Calls, Changes, Collects, Effect, Quits, frozen, may_track, tracked_by, unfrozen, Explains}
 use Rattle.cg_machine.specs.Operands.{is_dict}
 use Rattle.cg_machine.specs.Commands.{new_collection}
 use Rattle.cg_machine.specs.Due.{due, due_generation, is_due}
 use Rattle.cg_machine.specs.Run.{Run, StepTaken, last_world}
-use Rattle.cg_machine.proofs.Invariants.{CommandSteps, FromFrame, FromTop, HasCommands, Steps, Takes, any_step, emptied, on}
+use Rattle.cg_machine.proofs.Invariants.{CommandSteps, FromFrame, FromTop, HasCommands, Steps, Takes, any_step, emptied, on, del_shaped}
 use Rattle.cg_machine.proofs.ShapeLaws.{changes_leave}
-use Rattle.cg_machine.proofs.Shapes.{Shape, Binds, Makes, Edits, Puts, Shows, Tells, Stays, Sets, Freezes, Unfreezes, StartsFrame, StartsCollection, Ends}
+use Rattle.cg_machine.proofs.Shapes.{Shape, Binds, Makes, Edits, Puts, Shows, Tells, Stays, Sets, Freezes, Unfreezes, StartsFrame, StartsCollection, Ends, Inspects, AsksWhy}
 use Rattle.cg_promises.proofs.Young.{AreYoung, IsYoung, IsYoungWorld, Young, entries_young, frame_end_young, map_young, push_young, dying_young, released_young, starts_young, test_young, turn_young}
 use Rattle.cg_promises.proofs.YoungCollections.{phase_young}
+use Rattle.cg_script.specs.declared.Command.TheVariants.{Del}
 
 -- a collection that is due
 due_young : (n : Numbers) → due_generation n ≤ 2
@@ -75,6 +76,7 @@ module _ (w : World) (h : AreYoung w.objects) where
   Ages (Changes wants_memory lines given_up after) = AreYoung after.objects
   Ages (Calls f) = Unit {0}
   Ages (Collects g) = g ≤ 2
+  Ages (Explains o) = Unit {0}
   Ages Quits = Unit {0}
 
   put_young : (x : Object) (key v : Val) → AreYoung (with_change (λ y. tracked_by w key v (with_entries (put x.entries key v) y)) x.serial w).objects
@@ -98,6 +100,8 @@ module _ (w : World) (h : AreYoung w.objects) where
   shape_young command e (StartsFrame f k) = tt
   shape_young command e (StartsCollection g low) = low
   shape_young command e Ends = tt
+  shape_young command e (Inspects lines calm there) = h
+  shape_young command e (AsksWhy x k calm) = tt
 
 module _ (script : Script) (below : List Activity) (v : World) where
   abbrev YoungOn : Activity → Type 0
@@ -106,6 +110,7 @@ module _ (script : Script) (below : List Activity) (v : World) where
   emptied_young : (a : Activity) → HasCommands a → YoungOn a → YoungOn (emptied a)
   emptied_young (TopLevel commands) ha h = turn_young (TopLevel commands) (TopLevel []) below v.objects v.objects h.places (λ c e. cc) h
   emptied_young (Framed f) ha h = turn_young (Framed f) (Framed (record f { commands = [] })) below v.objects v.objects h.places (λ c e. cc) h
+  emptied_young (ShuttingDown started) ha h = h
   emptied_young a ha h = absurd ha
 
   taken_young : (command : Command) (a b : Activity) → Takes command a b → YoungOn a → YoungOn b
@@ -129,7 +134,10 @@ module _ (script : Script) (below : List Activity) (v : World) where
 young_steps : (script : Script) → Steps script IsYoungWorld (λ w events. IsYoungWorld)
 young_steps script = record {
   starts_due = λ a below v ha g e k. begun_young script below v a g false (due_is_young (on a below v) g e) k;
-  ends = λ below v k. record { places = k.places; ages = k.ages };
+  ends = λ a lines below v last k. record { places = k.places; ages = k.ages };
+  shuts_down = λ below v k. turn_young (TopLevel []) (ShuttingDown false) below v.objects v.objects k.places (λ c e. cc) k;
+  gives_up = λ name below v e k. (command_young script below v (on (ShuttingDown false) below v) (Del name) (ShuttingDown false) tt k).changes false [] _ _ (del_shaped (on (ShuttingDown false) below v) name);
+  collects_last = λ below v k. begun_young script below v (ShuttingDown true) 2 false (omega arith) (turn_young (ShuttingDown false) (ShuttingDown true) below v.objects v.objects k.places (λ c e. cc) k);
   commands = λ command a b below v takes hb k. command_young script below v (on a below v) command b hb (taken_young script below v command a b takes k);
   frame_ends = λ f below v left k. frame_end_young f below v k;
   releases = λ references below v k. released_young references below v k;

@@ -5,7 +5,7 @@ use Rattle.cg_machine.specs.World.{opening}
 use Rattle.cg_machine.specs.Run.{StepTaken}
 use Rattle.cg_machine.specs.Refusals.{◌>>=◌}
 use Rattle.cg_machine.proofs.Plain.{first_steps, first_steps_run}
-use Rattle.cg_rows.specs.Worked.{WorkedScript, Prints, EachPrints, worked_scripts, an_empty_script, made_and_freed, a_list_that_holds_itself, brought_back_by_its_finalizer, a_name_bound_twice, deaths_in_depth, refused_kinds, key_and_value_of_a_dying_dictionary, printed_values, brought_back_from_a_death_by_count, callbacks_newest_first, condemned_weak_references_call_nothing_back, a_cycle_through_a_tuple, a_cycle_that_survived, a_legacy_cycle, saved_cycles, an_automatic_collection, the_quarter_rule, tracking, a_weak_reference_made_by_a_finalizer, dereferenced_before_it_is_made, brought_back_by_a_weak_reference, a_collection_inside_a_death, re_entrance_and_refusal_in_a_callback, counted_twice, a_tree_with_weak_parents, a_tree_with_strong_parents, refusals, a_weak_reference_that_dies_after_its_callback, cells, held_twice_by_itself, a_call_inside_a_finalizer, a_weak_reference_that_dies_first, a_weak_reference_that_the_finalizer_makes, debug_lines_of_legacy_garbage, freezing, switched_off_and_on, a_referent_that_the_weak_phase_cleared, a_spent_budget, replaced_items_and_attributes, keys_of_a_dictionary, a_legacy_finalizer_by_count, brought_back_by_a_legacy_finalizer, late_weak_references, debug_lines_of_collectable_garbage, stopped_at_the_top, locals_of_frames, a_refusal_ends_a_frame}
+use Rattle.cg_rows.specs.Worked.{WorkedScript, Prints, EachPrints, worked_scripts, an_empty_script, made_and_freed, a_list_that_holds_itself, brought_back_by_its_finalizer, a_name_bound_twice, deaths_in_depth, refused_kinds, key_and_value_of_a_dying_dictionary, printed_values, brought_back_from_a_death_by_count, callbacks_newest_first, condemned_weak_references_call_nothing_back, a_cycle_through_a_tuple, a_cycle_that_survived, a_legacy_cycle, saved_cycles, an_automatic_collection, the_quarter_rule, tracking, a_weak_reference_made_by_a_finalizer, dereferenced_before_it_is_made, brought_back_by_a_weak_reference, a_collection_inside_a_death, re_entrance_and_refusal_in_a_callback, counted_twice, a_tree_with_weak_parents, a_tree_with_strong_parents, refusals, a_weak_reference_that_dies_after_its_callback, cells, held_twice_by_itself, a_call_inside_a_finalizer, a_weak_reference_that_dies_first, a_weak_reference_that_the_finalizer_makes, debug_lines_of_legacy_garbage, freezing, switched_off_and_on, a_referent_that_the_weak_phase_cleared, a_spent_budget, replaced_items_and_attributes, keys_of_a_dictionary, a_legacy_finalizer_by_count, brought_back_by_a_legacy_finalizer, late_weak_references, debug_lines_of_collectable_garbage, stopped_at_the_top, locals_of_frames, a_refusal_ends_a_frame, kept_by_a_late_weak_reference, lost_by_an_early_weak_reference, a_condemned_weak_reference_is_cleared_late, shut_down, a_name_is_bound_while_it_shuts_down, what_the_last_collection_binds_is_left, referrers_and_referents, no_inspection_in_a_collection}
 
 -- the steps that the executor takes, 200 at most
 abbrev steps_of : WorkedScript → List StepTaken
@@ -395,5 +395,69 @@ a_refusal_ends_a_frame_prints = record {
   text = refl;
 }
 
+kept_by_a_late_weak_reference_prints : Prints kept_by_a_late_weak_reference
+unfolding digits ◌>>=◌
+kept_by_a_late_weak_reference_prints = record {
+  steps = steps_of kept_by_a_late_weak_reference;
+  run = record { run = first_steps_run kept_by_a_late_weak_reference.script 200 (opening kept_by_a_late_weak_reference.script kept_by_a_late_weak_reference.budget) tt; whole = λ e. cc; ends = refl };
+  text = refl;
+}
+
+lost_by_an_early_weak_reference_prints : Prints lost_by_an_early_weak_reference
+unfolding digits ◌>>=◌
+lost_by_an_early_weak_reference_prints = record {
+  steps = steps_of lost_by_an_early_weak_reference;
+  run = record { run = first_steps_run lost_by_an_early_weak_reference.script 200 (opening lost_by_an_early_weak_reference.script lost_by_an_early_weak_reference.budget) tt; whole = λ e. cc; ends = refl };
+  text = refl;
+}
+
+a_condemned_weak_reference_is_cleared_late_prints : Prints a_condemned_weak_reference_is_cleared_late
+unfolding digits ◌>>=◌
+a_condemned_weak_reference_is_cleared_late_prints = record {
+  steps = steps_of a_condemned_weak_reference_is_cleared_late;
+  run = record { run = first_steps_run a_condemned_weak_reference_is_cleared_late.script 200 (opening a_condemned_weak_reference_is_cleared_late.script a_condemned_weak_reference_is_cleared_late.budget) tt; whole = λ e. cc; ends = refl };
+  text = refl;
+}
+
+shut_down_prints : Prints shut_down
+unfolding digits ◌>>=◌
+shut_down_prints = record {
+  steps = steps_of shut_down;
+  run = record { run = first_steps_run shut_down.script 200 (opening shut_down.script shut_down.budget) tt; whole = λ e. cc; ends = refl };
+  text = refl;
+}
+
+a_name_is_bound_while_it_shuts_down_prints : Prints a_name_is_bound_while_it_shuts_down
+unfolding digits ◌>>=◌
+a_name_is_bound_while_it_shuts_down_prints = record {
+  steps = steps_of a_name_is_bound_while_it_shuts_down;
+  run = record { run = first_steps_run a_name_is_bound_while_it_shuts_down.script 200 (opening a_name_is_bound_while_it_shuts_down.script a_name_is_bound_while_it_shuts_down.budget) tt; whole = λ e. cc; ends = refl };
+  text = refl;
+}
+
+what_the_last_collection_binds_is_left_prints : Prints what_the_last_collection_binds_is_left
+unfolding digits ◌>>=◌
+what_the_last_collection_binds_is_left_prints = record {
+  steps = steps_of what_the_last_collection_binds_is_left;
+  run = record { run = first_steps_run what_the_last_collection_binds_is_left.script 200 (opening what_the_last_collection_binds_is_left.script what_the_last_collection_binds_is_left.budget) tt; whole = λ e. cc; ends = refl };
+  text = refl;
+}
+
+referrers_and_referents_prints : Prints referrers_and_referents
+unfolding digits ◌>>=◌
+referrers_and_referents_prints = record {
+  steps = steps_of referrers_and_referents;
+  run = record { run = first_steps_run referrers_and_referents.script 200 (opening referrers_and_referents.script referrers_and_referents.budget) tt; whole = λ e. cc; ends = refl };
+  text = refl;
+}
+
+no_inspection_in_a_collection_prints : Prints no_inspection_in_a_collection
+unfolding digits ◌>>=◌
+no_inspection_in_a_collection_prints = record {
+  steps = steps_of no_inspection_in_a_collection;
+  run = record { run = first_steps_run no_inspection_in_a_collection.script 200 (opening no_inspection_in_a_collection.script no_inspection_in_a_collection.budget) tt; whole = λ e. cc; ends = refl };
+  text = refl;
+}
+
 pub all_print : EachPrints worked_scripts
-all_print = (an_empty_script_prints, (made_and_freed_prints, (a_list_that_holds_itself_prints, (brought_back_by_its_finalizer_prints, (a_name_bound_twice_prints, (deaths_in_depth_prints, (refused_kinds_prints, (key_and_value_of_a_dying_dictionary_prints, (printed_values_prints, (brought_back_from_a_death_by_count_prints, (callbacks_newest_first_prints, (condemned_weak_references_call_nothing_back_prints, (a_cycle_through_a_tuple_prints, (a_cycle_that_survived_prints, (a_legacy_cycle_prints, (saved_cycles_prints, (an_automatic_collection_prints, (the_quarter_rule_prints, (tracking_prints, (a_weak_reference_made_by_a_finalizer_prints, (dereferenced_before_it_is_made_prints, (brought_back_by_a_weak_reference_prints, (a_collection_inside_a_death_prints, (re_entrance_and_refusal_in_a_callback_prints, (counted_twice_prints, (a_tree_with_weak_parents_prints, (a_tree_with_strong_parents_prints, (refusals_prints, (a_weak_reference_that_dies_after_its_callback_prints, (cells_prints, (held_twice_by_itself_prints, (a_call_inside_a_finalizer_prints, (a_weak_reference_that_dies_first_prints, (a_weak_reference_that_the_finalizer_makes_prints, (debug_lines_of_legacy_garbage_prints, (freezing_prints, (switched_off_and_on_prints, (a_referent_that_the_weak_phase_cleared_prints, (a_spent_budget_prints, (replaced_items_and_attributes_prints, (keys_of_a_dictionary_prints, (a_legacy_finalizer_by_count_prints, (brought_back_by_a_legacy_finalizer_prints, (late_weak_references_prints, (debug_lines_of_collectable_garbage_prints, (stopped_at_the_top_prints, (locals_of_frames_prints, (a_refusal_ends_a_frame_prints, tt))))))))))))))))))))))))))))))))))))))))))))))))
+all_print = (an_empty_script_prints, (made_and_freed_prints, (a_list_that_holds_itself_prints, (brought_back_by_its_finalizer_prints, (a_name_bound_twice_prints, (deaths_in_depth_prints, (refused_kinds_prints, (key_and_value_of_a_dying_dictionary_prints, (printed_values_prints, (brought_back_from_a_death_by_count_prints, (callbacks_newest_first_prints, (condemned_weak_references_call_nothing_back_prints, (a_cycle_through_a_tuple_prints, (a_cycle_that_survived_prints, (a_legacy_cycle_prints, (saved_cycles_prints, (an_automatic_collection_prints, (the_quarter_rule_prints, (tracking_prints, (a_weak_reference_made_by_a_finalizer_prints, (dereferenced_before_it_is_made_prints, (brought_back_by_a_weak_reference_prints, (a_collection_inside_a_death_prints, (re_entrance_and_refusal_in_a_callback_prints, (counted_twice_prints, (a_tree_with_weak_parents_prints, (a_tree_with_strong_parents_prints, (refusals_prints, (a_weak_reference_that_dies_after_its_callback_prints, (cells_prints, (held_twice_by_itself_prints, (a_call_inside_a_finalizer_prints, (a_weak_reference_that_dies_first_prints, (a_weak_reference_that_the_finalizer_makes_prints, (debug_lines_of_legacy_garbage_prints, (freezing_prints, (switched_off_and_on_prints, (a_referent_that_the_weak_phase_cleared_prints, (a_spent_budget_prints, (replaced_items_and_attributes_prints, (keys_of_a_dictionary_prints, (a_legacy_finalizer_by_count_prints, (brought_back_by_a_legacy_finalizer_prints, (late_weak_references_prints, (debug_lines_of_collectable_garbage_prints, (stopped_at_the_top_prints, (locals_of_frames_prints, (a_refusal_ends_a_frame_prints, (kept_by_a_late_weak_reference_prints, (lost_by_an_early_weak_reference_prints, (a_condemned_weak_reference_is_cleared_late_prints, (shut_down_prints, (a_name_is_bound_while_it_shuts_down_prints, (what_the_last_collection_binds_is_left_prints, (referrers_and_referents_prints, (no_inspection_in_a_collection_prints, tt))))))))))))))))))))))))))))))))))))))))))))))))))))))))

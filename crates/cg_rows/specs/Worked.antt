@@ -3,8 +3,8 @@
 use Rattle.std.specs.Prelude.{◌≡◌, ℕ, List, [], ◌∷◌, pos, negsuc, codes, None, Some}
 use Rattle.cg_script.specs.declared.Script.{Script}
 use Rattle.cg_script.specs.declared.Operand.TheVariants.{None as NoneWord, Int as IntWord, Str as StrWord, Name, SelfLocal, WeakLocal, Cell, Garbage}
-use Rattle.cg_script.specs.declared.Item.TheVariants.{Run as Line, Def, Class, Budget}
-use Rattle.cg_script.specs.declared.Command.TheVariants.{MakeList, MakeTuple, MakeDict, MakeInst, MakeFunc, MakeRef, Bind, Del, Append, SetItem, DelItem, Put, Remove, SetAttr, DelAttr, Item as ItemOf, Get, Attr, Deref, Call, Quit, Collect, Enable, Disable, Threshold, Flags, Freeze, Unfreeze, Print, Refs, Tracked, Finalized, Count, Gens}
+use Rattle.cg_script.specs.declared.Item.TheVariants.{Run as Line, Def, Class, Budget, Profile, Shutdown}
+use Rattle.cg_script.specs.declared.Command.TheVariants.{MakeList, MakeTuple, MakeDict, MakeInst, MakeFunc, MakeRef, Bind, Del, Append, SetItem, DelItem, Put, Remove, SetAttr, DelAttr, Item as ItemOf, Get, Attr, Deref, Call, Quit, Collect, Enable, Disable, Threshold, Flags, Freeze, Unfreeze, Print, Refs, Tracked, Finalized, Referents, Referrers, Why, Count, Gens}
 use Rattle.cg_machine.specs.World.{Outcome, Ended, BudgetIsSpent}
 use Rattle.cg_machine.specs.Run.{StepTaken, IsWholeRun}
 use Rattle.cg_machine.specs.Lines.{text_of}
@@ -458,6 +458,78 @@ a_refusal_ends_a_frame = record {
   text = codes "made function #2\nenter call #2\nrefused 1\nleave\nvalue 3\nend\n";
 }
 
+-- profile 2; def d; x = deref w; end; class C del=d; class D; a = new C; b = new D; w = ref b; setattr a me a; setattr a other b; del b; del a; collect 2
+abbrev pub kept_by_a_late_weak_reference : WorkedScript
+kept_by_a_late_weak_reference = record {
+  script = record { names = codes "d" ∷ codes "x" ∷ codes "w" ∷ codes "C" ∷ codes "D" ∷ codes "a" ∷ codes "b" ∷ codes "me" ∷ codes "other" ∷ []; items = Profile 2 ∷ Def (record { name = 0; body = Deref 1 (Name 2) ∷ [] }) ∷ Class (record { name = 3; del = (Some 0); legacy = None }) ∷ Class (record { name = 4; del = None; legacy = None }) ∷ Line (MakeInst 5 0) ∷ Line (MakeInst 6 1) ∷ Line (MakeRef 2 (Name 6) NoneWord) ∷ Line (SetAttr (Name 5) 7 (Name 5)) ∷ Line (SetAttr (Name 5) 8 (Name 6)) ∷ Line (Del 6) ∷ Line (Del 5) ∷ Line (Collect (pos 2)) ∷ [] };
+  budget = 10000;
+  outcome = Ended;
+  text = codes "made instance #2\nmade instance #3\nmade weakref #4\ngc start 2\nenter del #2\nleave\nalive #3\nfree #2\ngc stop 2 1 0\ncollected 1\nend\n";
+}
+
+-- def d; x = deref w; end; class C del=d; class D; a = new C; b = new D; w = ref b; setattr a me a; setattr a other b; del b; del a; collect 2
+abbrev pub lost_by_an_early_weak_reference : WorkedScript
+lost_by_an_early_weak_reference = record {
+  script = record { names = codes "d" ∷ codes "x" ∷ codes "w" ∷ codes "C" ∷ codes "D" ∷ codes "a" ∷ codes "b" ∷ codes "me" ∷ codes "other" ∷ []; items = Def (record { name = 0; body = Deref 1 (Name 2) ∷ [] }) ∷ Class (record { name = 3; del = (Some 0); legacy = None }) ∷ Class (record { name = 4; del = None; legacy = None }) ∷ Line (MakeInst 5 0) ∷ Line (MakeInst 6 1) ∷ Line (MakeRef 2 (Name 6) NoneWord) ∷ Line (SetAttr (Name 5) 7 (Name 5)) ∷ Line (SetAttr (Name 5) 8 (Name 6)) ∷ Line (Del 6) ∷ Line (Del 5) ∷ Line (Collect (pos 2)) ∷ [] };
+  budget = 10000;
+  outcome = Ended;
+  text = codes "made instance #2\nmade instance #3\nmade weakref #4\ngc start 2\ncleared #4\nenter del #2\nleave\nfree #3\nfree #2\ngc stop 2 2 0\ncollected 2\nend\n";
+}
+
+-- profile 2; class C; a = new C; w = ref a; setattr a me a; setattr a w w; del w; del a; collect 2
+abbrev pub a_condemned_weak_reference_is_cleared_late : WorkedScript
+a_condemned_weak_reference_is_cleared_late = record {
+  script = record { names = codes "C" ∷ codes "a" ∷ codes "w" ∷ codes "me" ∷ []; items = Profile 2 ∷ Class (record { name = 0; del = None; legacy = None }) ∷ Line (MakeInst 1 0) ∷ Line (MakeRef 2 (Name 1) NoneWord) ∷ Line (SetAttr (Name 1) 3 (Name 1)) ∷ Line (SetAttr (Name 1) 2 (Name 2)) ∷ Line (Del 2) ∷ Line (Del 1) ∷ Line (Collect (pos 2)) ∷ [] };
+  budget = 10000;
+  outcome = Ended;
+  text = codes "made instance #2\nmade weakref #3\ngc start 2\ncleared #3\nfree #3\nfree #2\ngc stop 2 2 0\ncollected 2\nend\n";
+}
+
+-- shutdown; a = list; b = list a; c = list; append c c; del c
+abbrev pub shut_down : WorkedScript
+shut_down = record {
+  script = record { names = codes "a" ∷ codes "b" ∷ codes "c" ∷ []; items = Shutdown ∷ Line (MakeList 0 ([])) ∷ Line (MakeList 1 ((Name 0) ∷ [])) ∷ Line (MakeList 2 ([])) ∷ Line (Append (Name 2) (Name 2)) ∷ Line (Del 2) ∷ [] };
+  budget = 10000;
+  outcome = Ended;
+  text = codes "made list #2\nmade list #3\nmade list #4\nfree #3\nfree #2\ngc start 2\nfree #4\ngc stop 2 1 0\nleft 0\nend\n";
+}
+
+-- shutdown; def d; x = self; end; class C del=d; a = new C
+abbrev pub a_name_is_bound_while_it_shuts_down : WorkedScript
+a_name_is_bound_while_it_shuts_down = record {
+  script = record { names = codes "d" ∷ codes "x" ∷ codes "C" ∷ codes "a" ∷ []; items = Shutdown ∷ Def (record { name = 0; body = Bind 1 SelfLocal ∷ [] }) ∷ Class (record { name = 2; del = (Some 0); legacy = None }) ∷ Line (MakeInst 3 0) ∷ [] };
+  budget = 10000;
+  outcome = Ended;
+  text = codes "made instance #2\nenter del #2\nleave\nalive #2\nfree #2\ngc start 2\ngc stop 2 0 0\nleft 0\nend\n";
+}
+
+-- shutdown; def d; x = self; end; class C del=d; a = new C; setattr a me a
+abbrev pub what_the_last_collection_binds_is_left : WorkedScript
+what_the_last_collection_binds_is_left = record {
+  script = record { names = codes "d" ∷ codes "x" ∷ codes "C" ∷ codes "a" ∷ codes "me" ∷ []; items = Shutdown ∷ Def (record { name = 0; body = Bind 1 SelfLocal ∷ [] }) ∷ Class (record { name = 2; del = (Some 0); legacy = None }) ∷ Line (MakeInst 3 0) ∷ Line (SetAttr (Name 3) 4 (Name 3)) ∷ [] };
+  budget = 10000;
+  outcome = Ended;
+  text = codes "made instance #2\ngc start 2\nenter del #2\nleave\nalive #2\ngc stop 2 0 0\nleft 1\nend\n";
+}
+
+-- a = list; b = list a; referrers a; referents b
+abbrev pub referrers_and_referents : WorkedScript
+referrers_and_referents = record {
+  script = record { names = codes "a" ∷ codes "b" ∷ []; items = Line (MakeList 0 ([])) ∷ Line (MakeList 1 ((Name 0) ∷ [])) ∷ Line (Referrers (Name 0)) ∷ Line (Referents (Name 1)) ∷ [] };
+  budget = 10000;
+  outcome = Ended;
+  text = codes "made list #2\nmade list #3\nreferrer #3\nlisted 1\nreferent #2\nlisted 1\nend\n";
+}
+
+-- def cb; why q; end; class C; f = func cb; q = list; a = new C; setattr a me a; w = ref a f; del a; collect 2
+abbrev pub no_inspection_in_a_collection : WorkedScript
+no_inspection_in_a_collection = record {
+  script = record { names = codes "cb" ∷ codes "q" ∷ codes "C" ∷ codes "f" ∷ codes "a" ∷ codes "me" ∷ codes "w" ∷ []; items = Def (record { name = 0; body = Why 1 ∷ [] }) ∷ Class (record { name = 2; del = None; legacy = None }) ∷ Line (MakeFunc 3 0 ([])) ∷ Line (MakeList 1 ([])) ∷ Line (MakeInst 4 0) ∷ Line (SetAttr (Name 4) 5 (Name 4)) ∷ Line (MakeRef 6 (Name 4) (Name 3)) ∷ Line (Del 4) ∷ Line (Collect (pos 2)) ∷ [] };
+  budget = 10000;
+  outcome = Ended;
+  text = codes "made function #2\nmade list #3\nmade instance #4\nmade weakref #5\ngc start 2\ncleared #5\nenter callback #5\nrefused 13\nleave\nfree #4\ngc stop 2 1 0\ncollected 1\nend\n";
+}
+
 -- all of them
 abbrev pub worked_scripts : List WorkedScript
-worked_scripts = an_empty_script ∷ made_and_freed ∷ a_list_that_holds_itself ∷ brought_back_by_its_finalizer ∷ a_name_bound_twice ∷ deaths_in_depth ∷ refused_kinds ∷ key_and_value_of_a_dying_dictionary ∷ printed_values ∷ brought_back_from_a_death_by_count ∷ callbacks_newest_first ∷ condemned_weak_references_call_nothing_back ∷ a_cycle_through_a_tuple ∷ a_cycle_that_survived ∷ a_legacy_cycle ∷ saved_cycles ∷ an_automatic_collection ∷ the_quarter_rule ∷ tracking ∷ a_weak_reference_made_by_a_finalizer ∷ dereferenced_before_it_is_made ∷ brought_back_by_a_weak_reference ∷ a_collection_inside_a_death ∷ re_entrance_and_refusal_in_a_callback ∷ counted_twice ∷ a_tree_with_weak_parents ∷ a_tree_with_strong_parents ∷ refusals ∷ a_weak_reference_that_dies_after_its_callback ∷ cells ∷ held_twice_by_itself ∷ a_call_inside_a_finalizer ∷ a_weak_reference_that_dies_first ∷ a_weak_reference_that_the_finalizer_makes ∷ debug_lines_of_legacy_garbage ∷ freezing ∷ switched_off_and_on ∷ a_referent_that_the_weak_phase_cleared ∷ a_spent_budget ∷ replaced_items_and_attributes ∷ keys_of_a_dictionary ∷ a_legacy_finalizer_by_count ∷ brought_back_by_a_legacy_finalizer ∷ late_weak_references ∷ debug_lines_of_collectable_garbage ∷ stopped_at_the_top ∷ locals_of_frames ∷ a_refusal_ends_a_frame ∷ []
+worked_scripts = an_empty_script ∷ made_and_freed ∷ a_list_that_holds_itself ∷ brought_back_by_its_finalizer ∷ a_name_bound_twice ∷ deaths_in_depth ∷ refused_kinds ∷ key_and_value_of_a_dying_dictionary ∷ printed_values ∷ brought_back_from_a_death_by_count ∷ callbacks_newest_first ∷ condemned_weak_references_call_nothing_back ∷ a_cycle_through_a_tuple ∷ a_cycle_that_survived ∷ a_legacy_cycle ∷ saved_cycles ∷ an_automatic_collection ∷ the_quarter_rule ∷ tracking ∷ a_weak_reference_made_by_a_finalizer ∷ dereferenced_before_it_is_made ∷ brought_back_by_a_weak_reference ∷ a_collection_inside_a_death ∷ re_entrance_and_refusal_in_a_callback ∷ counted_twice ∷ a_tree_with_weak_parents ∷ a_tree_with_strong_parents ∷ refusals ∷ a_weak_reference_that_dies_after_its_callback ∷ cells ∷ held_twice_by_itself ∷ a_call_inside_a_finalizer ∷ a_weak_reference_that_dies_first ∷ a_weak_reference_that_the_finalizer_makes ∷ debug_lines_of_legacy_garbage ∷ freezing ∷ switched_off_and_on ∷ a_referent_that_the_weak_phase_cleared ∷ a_spent_budget ∷ replaced_items_and_attributes ∷ keys_of_a_dictionary ∷ a_legacy_finalizer_by_count ∷ brought_back_by_a_legacy_finalizer ∷ late_weak_references ∷ debug_lines_of_collectable_garbage ∷ stopped_at_the_top ∷ locals_of_frames ∷ a_refusal_ends_a_frame ∷ kept_by_a_late_weak_reference ∷ lost_by_an_early_weak_reference ∷ a_condemned_weak_reference_is_cleared_late ∷ shut_down ∷ a_name_is_bound_while_it_shuts_down ∷ what_the_last_collection_binds_is_left ∷ referrers_and_referents ∷ no_inspection_in_a_collection ∷ []
