@@ -1,6 +1,6 @@
 mod Chains
 mod Reading
-mod Bridges
+pub mod Bridges
 mod BindingLemmas
 mod KeyLemmas
 mod Steps
@@ -8,7 +8,7 @@ mod QueryLemmas
 mod Inspecting
 pub mod Explaining
 mod LookupLemmas
-mod Limits
+pub mod Limits
 mod EntryLemmas
 mod PutLemmas
 mod TextLemmas
