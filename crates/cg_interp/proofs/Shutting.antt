@@ -1,12 +1,13 @@
 -- A turn of the shutdown: the greatest bound name is given up, the last collection starts, or what is left is told.
 use Rattle.std.proofs.Common.{◌≡◌, ◌≢◌, refl, sym, ◌∙◌, ap, subst, ℕ, zero, suc, ◌+◌, ◌<◌, ◌≤◌, Bool, true, false, ◌||◌, cond, List, [], ◌∷◌, ◌++◌, length, drop, Option, None, Some, arith, length-append, sum_by}
 use Rattle.std.specs.Prelude.{slice_get, option_and_then, count_by}
+use Rattle.std.proofs.lemmas.List.{length-set}
 use Rattle.std.proofs.lemmas.List.Sums.{sum_by-cons}
 use Rattle.cg_value.specs.declared.Val.{Val}
 use Rattle.cg_script.specs.declared.Script.{Script}
 use Rattle.cg_graph.specs.Value.{references_of_value}
 use Rattle.cg_graph.specs.Holdings.{occurrences}
-use Rattle.cg_graph.specs.Store.{Store, IsLive}
+use Rattle.cg_graph.specs.Store.{Store, IsLive, objects_of}
 use Rattle.cg_graph.specs.Changes.{held, named}
 use Rattle.cg_heap.specs.Calls.{IsSound, object_number}
 use Rattle.cg_heap.proofs.HoldLemmas.{name_holds}
@@ -30,10 +31,11 @@ use Rattle.cg_interp.specs.declared.activity.Activity.{Activity as Own}
 use Rattle.cg_interp.specs.declared.activity.Activity.TheVariants as activity
 use Rattle.cg_interp.specs.declared.turned.Turned.TheVariants as turned
 use Rattle.cg_interp.specs.Engines.{State, StandsFor, ShowsAll, under, any_collecting}
-use Rattle.cg_interp.specs.Turns.{Turns}
+use Rattle.cg_interp.specs.Turns.{Turns, Keeps}
 use Rattle.cg_interp.proofs.Lawfully.{at_least}
 use Rattle.cg_interp.proofs.Standing.{plain_shutdown, replaced, spelled}
 use Rattle.cg_interp.proofs.StepLemmas.{turns}
+use Rattle.cg_death.proofs.ObjectNumbers.{none-held}
 
 -- Where the names from one on are unbound, and it is bound, it is the greatest that is.
 greatest_at : (n k : ℕ) (names : List (Option Val)) (v : Val) → slice_get names k ≡ Some (Some v) → greatest_from (n + suc k) (drop (suc k) names) ≡ None → greatest_from n names ≡ Some (n + k)
@@ -49,10 +51,16 @@ greatest_at n (suc k) (x ∷ names) v at none =
     let back : (n + 1) + k ≡ n + suc k = omega arith in
     ap (λ m. greatest_of m n x) found ∙ ap Some back
 
-pub greatest_here : (names : List (Option Val)) (k : ℕ) (v : Val) → slice_get names k ≡ Some (Some v) → greatest_from (k + 1) (drop (k + 1) names) ≡ None → Some k ≡ greatest_from 0 names
-greatest_here names k v at none =
-    let next : k + 1 ≡ suc k = omega arith in
-    sym (greatest_at 0 k names v at (subst (λ m. greatest_from m (drop m names) ≡ None) next none))
+from_next : (above k : ℕ) (names : List (Option Val)) → above ≡ k + 1 → greatest_from above (drop above names) ≡ None → greatest_from (0 + suc k) (drop (suc k) names) ≡ None
+from_next above k names is none =
+    let after : 0 + suc k ≡ above = omega (arith, is) in
+    let next : suc k ≡ above = omega (arith, is) in
+    ap (λ m. greatest_from m (drop (suc k) names)) after ∙ ap (λ m. greatest_from above (drop m names)) next ∙ none
+
+pub greatest_here : (names : List (Option Val)) (above k : ℕ) (v : Val) → above ≡ k + 1 → slice_get names k ≡ Some (Some v) → greatest_from above (drop above names) ≡ None → Some k ≡ greatest_from 0 names
+greatest_here names above k v is at none =
+    let here : k ≡ 0 + k = omega arith in
+    ap Some here ∙ sym (greatest_at 0 k names v at (from_next above k names is none))
 
 -- where it is unbound too, none is bound from it on
 pub none_from : (n k : ℕ) (names : List (Option Val)) → slice_get names k ≡ Some None → greatest_from (n + suc k) (drop (suc k) names) ≡ None → greatest_from (n + k) (drop k names) ≡ None
@@ -66,10 +74,23 @@ none_from n (suc k) (x ∷ names) at none =
     let back : n + suc k ≡ (n + 1) + k = omega arith in
     ap (λ m. greatest_from m (drop k names)) back ∙ none_from (n + 1) k names at (ap (λ m. greatest_from m (drop (suc k) names)) (sym shifted) ∙ none)
 
-pub none_here : (names : List (Option Val)) (k : ℕ) → slice_get names k ≡ Some None → greatest_from (k + 1) (drop (k + 1) names) ≡ None → greatest_from k (drop k names) ≡ None
-none_here names k at none =
-    let next : k + 1 ≡ suc k = omega arith in
-    none_from 0 k names at (subst (λ m. greatest_from m (drop m names) ≡ None) next none)
+pub none_here : (names : List (Option Val)) (above k : ℕ) → above ≡ k + 1 → slice_get names k ≡ Some None → greatest_from above (drop above names) ≡ None → greatest_from k (drop k names) ≡ None
+none_here names above k is at none =
+    let here : k ≡ 0 + k = omega arith in
+    ap (λ m. greatest_from m (drop k names)) here ∙ none_from 0 k names at (from_next above k names is none)
+
+-- the greatest is one of the names
+greatest_from-below : (n : ℕ) (names : List (Option Val)) (name : ℕ) → greatest_from n names ≡ Some name → name < n + length names
+greatest_from-below n [] name is = absurd (cc)
+greatest_from-below n (x ∷ names) name is = go (greatest_from (n + 1) names) refl x is (greatest_from-below (n + 1) names name)
+  where
+    go : (m : Option ℕ) → greatest_from (n + 1) names ≡ m → (u : Option Val) → greatest_of m n u ≡ Some name → (greatest_from (n + 1) names ≡ Some name → name < n + 1 + length names) → name < n + suc (length names)
+    go (Some k) found u is rest = let same : k ≡ name = cc in let below = rest (found ∙ ap Some same) in omega (arith, below)
+    go None found (Some v) is rest = let same : n ≡ name = cc in omega (arith, same)
+    go None found None is rest = absurd (cc)
+
+pub greatest_below : (names : List (Option Val)) (name : ℕ) → greatest_from 0 names ≡ Some name → name < length names
+greatest_below names name is = let below = greatest_from-below 0 names name is in omega (arith, below)
 
 -- past the last name none is bound
 pub none_past : (names : List (Option Val)) (k : ℕ) → k ≡ length names → greatest_from k (drop k names) ≡ None
@@ -175,3 +196,12 @@ tells_left script e w number stands sound is =
     let same : live w ≡ number = live-number e.store w stands.represents sound ∙ sym is in
     turns script w e (Left (live w) ∷ End ∷ [], record w { outcome = Ended }) (turned.Left number) stands.running (shuts script e true w stands (greatest_from 0 e.store.names) refl)
     (ap (λ n. Left n ∷ End ∷ []) same, refl)
+
+-- A turn that gives up a name keeps what an engine has room for.
+pub keeps_unbound : (inside old new : State) → inside ≡ old → (refs : List ℕ) (name : ℕ) → new.store ≡ held refs (named name None inside.store) → length new.activities ≡ length inside.activities + 2 → inside.room ≤ new.room + 2 → new.frames ≡ inside.frames → Keeps old new
+keeps_unbound inside old new same refs name store two room frames = subst (λ e. Keeps e new) same (record {
+  objects = omega (arith, ap (λ st. length (objects_of st)) store, (none-held refs (named name None inside.store)).objects);
+  room = omega (arith, two, room);
+  names = ap (λ st. length st.names) store ∙ length-set inside.store.names name None;
+  frames = frames;
+})

@@ -13,8 +13,9 @@ pub fn greatest_bound<B: Kind>(heap: &Heap<B>, names: u32) -> Option<u32>
     let mut above = names;
     'names: while 0 < above {
         above -= 1;
-        if heap.name(above).is_some() {
-            return Some(above);
+        match heap.name(above) {
+            Some(_) => return Some(above),
+            None => {}
         }
     }
     None

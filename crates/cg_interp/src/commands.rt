@@ -1,12 +1,14 @@
 //! What the engine does once a command has been performed.
 ghost use Rattle.std.specs.Prelude.{◌≡◌, ◌<◌, ◌≤◌, [], Ok, option_to_list};
+ghost use Rattle.cg_value.specs.declared.Val.TheVariants as val_of;
+ghost use Rattle.cg_graph.specs.Value.{item};
 ghost use Rattle.cg_graph.specs.Store.{IsLive, Store};
 ghost use Rattle.cg_heap.specs.Calls.{HasFewHolds};
 ghost use Rattle.cg_script.specs.declared.Script.{Script as AnyScript};
 ghost use Rattle.cg_script.specs.declared.Command.{Command as AnyCommand};
 ghost use Rattle.cg_script.specs.Spelled.{IsSpelled};
 ghost use Rattle.cg_death.specs.Activities.{references_left};
-ghost use Rattle.cg_machine.specs.World.{World, Releasing, push, with_stack};
+ghost use Rattle.cg_machine.specs.World.{World, with_stack};
 ghost use Rattle.cg_machine.specs.Frame.{start_frame, procedure_of};
 ghost use Rattle.cg_machine.specs.Represents.{Represents};
 ghost use Rattle.cg_machine.specs.Commands.{refused, without_commands, effect};
@@ -114,8 +116,8 @@ impl<B: Kind> Engine<B> {
     #[inline(always)]
     fn tell(&mut self, top: Activity, lines: Lines) -> Turned
         requires room { 1 < self.old.room }
-        ensures tells { (script : AnyScript) (w : World) → StandsFor script (under top self.old) w
-            → Makes script (lines, push (Releasing []) w) self.new result }
+        ensures tells { (script : AnyScript) (after : World) → Changes script top self.old (item val_of.None) after
+            → Makes script (transition_of_change lines (item val_of.None) after) self.new result }
         ensures keeps { Keeps self.old self.new }
     {
         self.stack.push(top);

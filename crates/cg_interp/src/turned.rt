@@ -1,4 +1,7 @@
 //! What a turn answers.
+ghost use Rattle.std.specs.Prelude.{◌≡◌};
+ghost use Rattle.cg_interp.specs.Running.{standing_after};
+
 use cg_commands::Lines;
 use cg_machine::Event;
 
@@ -17,6 +20,30 @@ pub enum Turned {
     Left(u64),
     /// The run has ended for want of budget, and the line `budget spent` is due.
     Spent,
+}
+
+/// How a run stands after a turn.
+#[derive(Clone, Copy, Debug, PartialEq, Eq, Drop)]
+pub enum Standing {
+    /// It goes on.
+    Running,
+    /// It has ended by `end`.
+    Ended,
+    /// It has ended for want of budget.
+    Spent,
+}
+
+impl Turned {
+    /// How the run stands after it.
+    pub fn standing(&self) -> Standing
+        ensures { result ≡ standing_after self.now }
+    {
+        match self {
+            Turned::Quiet | Turned::Line(_) | Turned::Lines(_) => Standing::Running,
+            Turned::Ended | Turned::Left(_) => Standing::Ended,
+            Turned::Spent => Standing::Spent,
+        }
+    }
 }
 
 /// What the turn of a death answers.
