@@ -14,9 +14,9 @@ use Rattle.cg_machine.specs.declared.event.Event.TheVariants.{Collected}
 use Rattle.cg_machine.specs.World.{World, Releasing, push, with_stack}
 use Rattle.cg_machine.specs.Holdings.{is_collecting}
 use Rattle.cg_machine.specs.Frame.{Yields, start_frame}
-use Rattle.cg_machine.specs.Effects.{Effect, Changes as ChangesEffect, Calls as CallsEffect, Collects as CollectsEffect, Quits as QuitsEffect}
+use Rattle.cg_machine.specs.Effects.{Effect, Changes as ChangesEffect, Calls as CallsEffect, Collects as CollectsEffect, Quits as QuitsEffect, Explains as ExplainsEffect}
 use Rattle.cg_machine.specs.Refusals.{no_memory}
-use Rattle.cg_machine.specs.Commands.{effect, refused, without_commands, new_collection, DoesEffect}
+use Rattle.cg_machine.specs.Commands.{effect, refused, without_commands, new_collection, Explanation, DoesEffect, CommandStep}
 use Rattle.cg_machine.proofs.CommandLaws.{Each, Leaves, LeavesStack}
 use Rattle.cg_machine.proofs.Shapes.{Shape, StartsFrame, StartsCollection, Ends}
 use Rattle.cg_machine.proofs.ShapeLaws.{by_shape, effect_leaves}
@@ -26,12 +26,18 @@ use Rattle.cg_commands.specs.declared.done.Done.TheVariants as done_of
 use Rattle.cg_commands.specs.declared.done.Refusal.{Refusal}
 use Rattle.cg_commands.specs.declared.done.Refusal.TheVariants as refusal_of
 use Rattle.cg_commands.specs.Refusals.{number_of}
-use Rattle.cg_commands.specs.Answers.{Refuses, policy_after}
+use Rattle.cg_commands.specs.Answers.{Refuses, policy_after, ChangesByMemory, HasChanged}
 use Rattle.cg_interp.specs.declared.activity.Activity.{Activity as Own}
 use Rattle.cg_interp.specs.Engines.{State, StandsFor, ShowsAll, under}
 use Rattle.cg_interp.specs.Callers.{Changes, call_of, IsPerformed}
 use Rattle.cg_interp.proofs.CallerLemmas.{same_engine}
 use Rattle.cg_interp.proofs.UnderWay.{under_way}
+use Rattle.cg_commands.specs.Reasons.{Explained}
+use Rattle.cg_commands.proofs.Explaining.{explanation}
+use Rattle.cg_commands.proofs.Bridges.{released-none}
+use Rattle.cg_graph.specs.Value.{item}
+use Rattle.cg_value.specs.declared.Val.TheVariants as val_of
+use Rattle.cg_graph.proofs.Members.{either}
 
 -- what holds of each effect holds of this one
 of_effect : (P : Effect → Type 0) (r : Result Effect ℕ) (e : Effect) → r ≡ Ok e → Each P r → P e
@@ -55,13 +61,20 @@ module _ (script : Script) (w : World) (r : Result Effect ℕ) where
   refusal_may refusal_of.NotCallable h = by_refusal _ h
   refusal_may refusal_of.BadGeneration h = by_refusal _ h
   refusal_may refusal_of.Unhashable h = by_refusal _ h
-  refusal_may refusal_of.OutOfMemory h = by_memory h.lines h.given_up h.after h.is
+  refusal_may refusal_of.OutOfMemory h = either h
+      (λ (changes : ChangesByMemory r). by_memory changes.lines changes.given_up changes.after changes.is)
+      (λ (o, is). subst (λ q. DoesEffect script w q (refused no_memory w).0 (refused no_memory w).1) (sym is) (inr (refl, refl)))
   refusal_may refusal_of.ObjectLimit h = by_refusal _ h
   refusal_may refusal_of.EntryLimit h = by_refusal _ h
+  refusal_may refusal_of.InCollection h = by_refusal _ h
 
   -- a change
   pub change_may : (wants : Bool) (lines : List Event) (given_up : List ℕ) (after : World) → r ≡ Ok (ChangesEffect wants lines given_up after) → DoesEffect script w r lines (push (Releasing given_up) after)
   change_may wants lines given_up after is = subst (λ q. DoesEffect script w q lines (push (Releasing given_up) after)) (sym is) (inl (refl, refl))
+
+  -- an explanation
+  pub explain_may : (o : ℕ) (lines : List Event) → r ≡ Ok (ExplainsEffect o) → Explanation w o lines → DoesEffect script w r lines (push (Releasing []) w)
+  explain_may o lines is because = subst (λ q. DoesEffect script w q lines (push (Releasing []) w)) (sym is) (inl (because, refl))
 
   -- a call
   pub call_may : (f : ℕ) → r ≡ Ok (CallsEffect f) → DoesEffect script w r (start_frame script (call_of f w) w).0 (start_frame script (call_of f w) w).1
@@ -100,6 +113,7 @@ abbrev IsThere : World → Effect → Type 0
 IsThere w (ChangesEffect wants_memory lines given_up after) = Unit {0}
 IsThere w (CallsEffect f) = is_in_map w.objects f ≡ true
 IsThere w (CollectsEffect g) = Unit {0}
+IsThere w (ExplainsEffect o) = Unit {0}
 IsThere w QuitsEffect = Unit {0}
 
 shape_there : (w : World) (command : Command) (e : Effect) → Shape w command e → IsThere w e
@@ -107,6 +121,12 @@ shape_there w command e (StartsFrame f h) = member_at w.objects f h.member
 shape_there w command e (StartsCollection g low) = tt
 shape_there w command e Ends = tt
 shape_there w command e s = tt
+
+-- A command tells lines, and the machine may tell them: its world is as before, with nothing to be given up on top.
+pub record Told (script : Script) (top : Own) (e : State) (w : World) (command : Command) (lines : List Event) : Type 0 where
+  pub after : World
+  pub may : CommandStep script w command lines (push (Releasing []) after)
+  pub changes : Changes script top e (item val_of.None) after
 
 -- a command was performed
 module _ (script : Script) (e : State) (top : Own) (w : World) (command : Command) (before : Store) (was : Policy) where
@@ -129,6 +149,48 @@ module _ (script : Script) (e : State) (top : Own) (w : World) (command : Comman
   -- where heap and policy are as before the engine stands for the same world
   pub as_before : StandsFor script (under top (record e { store = before; policy = was })) w → e.store ≡ before → e.policy ≡ was → StandsFor script (under top e) w
   as_before stood store policy = same_engine script (under top (record e { store = before; policy = was })) (under top e) w stood store policy refl refl
+
+  -- and tells lines: it leaves the world as it was
+  pub told : (lines : List Event) → IsPerformed script top e w command before was (Ok (done_of.Tells lines)) → Told script top e w command lines
+  told lines p = either p.answers.heap.0 lists explains
+    where
+      nothing : Entry
+      nothing = item val_of.None
+
+      lists : HasChanged (effect w command) lines [] e.store → Told script top e w command lines
+      lists h =
+          let left : Leaves w h.after = of_effect (LeavesStack w) (effect w command) _ h.is (effect_leaves w command) in
+          let shows : ShowsAll script (top ∷ e.activities) h.after.stack = subst (λ st. ShowsAll script (top ∷ e.activities) st) (sym left.stack) p.stood.shows in
+          let policy : e.policy ≡ policy_of h.after = p.answers.policy ∙ ap (λ r. policy_after (Ok (done_of.Tells lines)) r was) h.is in
+          record {
+            after = h.after;
+            may = change_may script w (effect w command) h.wants_memory lines [] h.after h.is;
+            changes = record {
+              represents = h.represents;
+              shows = shows;
+              budget = left.budget ∙ p.stood.budget;
+              running = left.outcome ∙ p.stood.running;
+              numbers = ap (λ (q : Policy). q.numbers) policy;
+              collecting = ap (λ (q : Policy). q.running) policy ∙ under_way script (top ∷ e.activities) h.after.stack shows;
+            };
+          }
+
+      explains : Explained (effect w command) before lines → Told script top e w command lines
+      explains h =
+          let policy : e.policy ≡ was = p.answers.policy ∙ ap (λ r. policy_after (Ok (done_of.Tells lines)) r was) h.is in
+          let stands = as_before p.stood p.answers.heap.1 policy in
+          record {
+            after = w;
+            may = explain_may script w (effect w command) h.object lines h.is (explanation before w p.stood.represents (effect w command) lines h);
+            changes = record {
+              represents = released-none e.store w stands.represents;
+              shows = stands.shows;
+              budget = stands.budget;
+              running = stands.running;
+              numbers = stands.numbers;
+              collecting = stands.collecting;
+            };
+          }
 
   -- a function that it calls lives
   pub called_lives : (f : ℕ) → IsPerformed script top e w command before was (Ok (done_of.Calls f)) → IsLive e.store f

@@ -4,7 +4,7 @@ use Rattle.std.specs.FinMap as fin
 use Rattle.cg_script.specs.declared.Script.{Script}
 use Rattle.cg_heap.specs.Keeps.{IsWellMadeAt}
 use Rattle.cg_heap.specs.Weak.{AreRows}
-use Rattle.cg_machine.specs.World.{World, TopLevel, Releasing}
+use Rattle.cg_machine.specs.World.{World, Releasing}
 use Rattle.cg_machine.specs.Frame.{begin_death}
 use Rattle.cg_machine.specs.Lawful.{IsLawful}
 use Rattle.cg_laws.specs.Kept.{StaysKept}
@@ -37,10 +37,10 @@ death_may_step script e death w budget stands lawful rows well = death_ready scr
 pub given_sound : (script : Script) (w : World) (o budget : ℕ) (given : State) → StaysKept script budget w → (gives : GivesDeath script w o given) → DyingIsSound (begin_death o gives.before)
 given_sound script w o budget given stays gives = subst DyingIsSound gives.goes.ends (dying_sound script budget _ (stays gives.goes.steps gives.goes.run).lawful)
 
--- Something is always under way: the script's own commands stand at the bottom.
+-- Something is always under way: the script's own commands, or its shutdown, stand at the bottom.
 pub something_under_way : (script : Script) (e : State) (w : World) (budget : ℕ) → StandsFor script e w → IsLawful script budget w → e.activities ≢ []
 something_under_way script e w budget stands lawful none =
     let empty : w.stack ≡ [] = subst (λ l. ShowsAll script l w.stack) none stands.shows in
     let top = lawful.bounded.top_level in
-    let both : length (top.others ++ TopLevel top.commands ∷ []) ≡ 0 = ap length (sym top.bottom ∙ empty) in
-    absurd (omega (arith, both, length-append top.others (TopLevel top.commands ∷ [])))
+    let both : length (top.others ++ top.lowest ∷ []) ≡ 0 = ap length (sym top.bottom ∙ empty) in
+    absurd (omega (arith, both, length-append top.others (top.lowest ∷ [])))

@@ -65,6 +65,7 @@ module _ (script : Script) (old new : State) (w : World) where
         (plain_frame _) (plain_frame _) refl (λ below. refl) (λ tops e. e) refl refl stands store policy is budget,
   )
   refuses (activity.Releasing release) number caller stands store policy is budget = absurd caller
+  refuses (activity.Shutdown started) number caller stands store policy is budget = absurd caller
   refuses (activity.Dying death) number caller stands store policy is budget = absurd caller
   refuses (activity.Collecting asked collection) number caller stands store policy is budget = absurd caller
 
@@ -82,6 +83,7 @@ module _ (script : Script) (old new : State) (w : World) where
         (plain_frame _) (plain_frame _) refl (λ below. refl) (λ tops e. e) refl refl stands store policy is budget,
   )
   quits (activity.Releasing release) caller stands store policy is budget = absurd caller
+  quits (activity.Shutdown started) caller stands store policy is budget = absurd caller
   quits (activity.Dying death) caller stands store policy is budget = absurd caller
   quits (activity.Collecting asked collection) caller stands store policy is budget = absurd caller
 

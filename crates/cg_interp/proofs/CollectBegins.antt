@@ -27,7 +27,9 @@ use Rattle.cg_interp.specs.Engines.{State, StandsFor, ShowsAll, under, any_colle
 use Rattle.cg_interp.specs.Collecting.{Collects}
 use Rattle.cg_interp.specs.Telling.{TurnsWith, GoesOnTo}
 use Rattle.cg_interp.proofs.SmallNumbers.{small_numbers}
-use Rattle.cg_interp.proofs.CollectReady.{clear_at_start}
+use Rattle.cg_interp.proofs.CollectReady.{clear_at_start, idle_without}
+use Rattle.cg_interp.proofs.UnderWay.{runs_in}
+use Rattle.cg_inspect.specs.Inspection.{IsIdle}
 
 -- the collection of the machine that begins, which a collection with nothing given up stands for
 starts_there : (asked : Bool) (d : Collection) (first : machine.Collection) (below : List Activity) (release : Option Release) (q : Option machine.CollectPhase) → Collecting first ∷ below ≡ released_over release (collecting asked d q) ++ below → q ≡ Some first.phase
@@ -72,6 +74,10 @@ module _ (script : Script) (asked : Bool) (g : ℕ) (top : Own) (e : State) (w :
     lines = sym (none_at_start script asked d d.phase (list_at mid.store Pend) mid.store (starts_there asked d begins_as w.stack d.release (machine_phase d.phase (list_at mid.store Pend)) shows.top));
   }
 
+-- Where no collection runs nothing stands in the places of collections.
+pub idle_in : (script : Script) (budget : ℕ) (top : Own) (e : State) (w : World) → StandsFor script (under top e) w → IsSound e.store → IsKept script budget w → e.policy.running ≡ false → IsIdle e.store
+idle_in script budget top e w stands sound kept none = idle_without e.store w sound stands.represents.objects kept.apart (sym (runs_in script (under top e) w stands) ∙ none)
+
 -- An engine at which a collection is to begin above its top.
 abbrev pub IsAtStart : Script → Bool → ℕ → Own → State → Type 0
 IsAtStart script asked g top e = (w : World) × StandsFor script (under top e) w × StaysKept script e.frames (push (new_collection g asked w) w)
@@ -98,5 +104,7 @@ rests script may_rest w left told e goes = record {
 pub turns_freely : (script : Script) (may_rest : List Event → Type 0) (w : World) (left : List Event) (e : State) (answer : Turned) → TurnsWith script may_rest w left e answer → TurnsWith script (λ still. Unit {0}) w left e answer
 turns_freely script may_rest w left e turned.Quiet turns = rests script may_rest w left [] e turns
 turns_freely script may_rest w left e (turned.Line event) turns = rests script may_rest w left (event ∷ []) e turns
+turns_freely script may_rest w left e (turned.Lines events) turns = rests script may_rest w left events e turns
 turns_freely script may_rest w left e turned.Ended turns = turns
+turns_freely script may_rest w left e (turned.Left n) turns = turns
 turns_freely script may_rest w left e turned.Spent turns = turns

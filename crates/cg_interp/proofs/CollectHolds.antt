@@ -14,7 +14,7 @@ use Rattle.cg_heap.specs.Keeps.{one}
 use Rattle.cg_heap.specs.Calls.{IsSound, HasFewHolds, object_number}
 use Rattle.cg_trial.proofs.Lists.{occurrences-cons}
 use Rattle.cg_machine.specs.World as machine
-use Rattle.cg_machine.specs.World.{World, Activity, Releasing, Collecting, TopLevel, Framed}
+use Rattle.cg_machine.specs.World.{World, Activity, Releasing, Collecting, TopLevel, Framed, ShuttingDown}
 use Rattle.cg_machine.specs.Holdings.{holds, is_collection}
 use Rattle.cg_machine.specs.Lawful.{IsLawful}
 use Rattle.cg_machine.specs.Represents.{Represents}
@@ -138,6 +138,7 @@ counts_alike : (script : Script) (a : Own) (tops : List Activity) → Shows scri
 counts_alike script (activity.Script next) tops is = ap (count_by is_collection) is ∙ count_more (TopLevel (commands_from next (commands_of script.items))) []
 counts_alike script (activity.Frame locals procedure next) tops is = ap (count_by is_collection) is ∙ count_more (Framed (frame_of script locals procedure next)) []
 counts_alike script (activity.Releasing release) tops is = ap (count_by is_collection) is ∙ count_more (Releasing (references_left release)) []
+counts_alike script (activity.Shutdown started) tops is = ap (count_by is_collection) is ∙ count_more (ShuttingDown started) []
 counts_alike script (activity.Dying death) tops (waiting, is, settled) = ap (count_by is_collection) is ∙ release_is_none death.release (death_activities death.object death.phase waiting) ∙ death_is_none death.object death.phase waiting
 counts_alike script (activity.Collecting asked c) tops out = counts_one asked c tops out
 
@@ -153,6 +154,7 @@ none_counted [] none = omega arith
 none_counted (activity.Script next ∷ activities) none = omega (arith, count_own (activity.Script next) activities, none_counted activities none)
 none_counted (activity.Frame locals procedure next ∷ activities) none = omega (arith, count_own (activity.Frame locals procedure next) activities, none_counted activities none)
 none_counted (activity.Releasing release ∷ activities) none = omega (arith, count_own (activity.Releasing release) activities, none_counted activities none)
+none_counted (activity.Shutdown started ∷ activities) none = omega (arith, count_own (activity.Shutdown started) activities, none_counted activities none)
 none_counted (activity.Dying death ∷ activities) none = omega (arith, count_own (activity.Dying death) activities, none_counted activities none)
 none_counted (activity.Collecting asked c ∷ activities) none = absurd (let clash : true ≡ false = none in cc)
 
@@ -161,5 +163,6 @@ none_found [] none = refl
 none_found (activity.Script next ∷ activities) none = none_found activities (omega (arith, none, count_own (activity.Script next) activities))
 none_found (activity.Frame locals procedure next ∷ activities) none = none_found activities (omega (arith, none, count_own (activity.Frame locals procedure next) activities))
 none_found (activity.Releasing release ∷ activities) none = none_found activities (omega (arith, none, count_own (activity.Releasing release) activities))
+none_found (activity.Shutdown started ∷ activities) none = none_found activities (omega (arith, none, count_own (activity.Shutdown started) activities))
 none_found (activity.Dying death ∷ activities) none = none_found activities (omega (arith, none, count_own (activity.Dying death) activities))
 none_found (activity.Collecting asked c ∷ activities) none = absurd (omega (arith, none, count_own (activity.Collecting asked c) activities))

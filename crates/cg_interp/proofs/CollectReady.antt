@@ -31,6 +31,8 @@ use Rattle.cg_collect.specs.Ready.{IsClear, IsApart as IsSetApart, IsApartUnseen
 use Rattle.cg_collect.specs.Collections.{IsReady}
 use Rattle.cg_collect.proofs.Standing.{object_there, node_of_live, empty_at}
 use Rattle.cg_interp.specs.Engines.{HasHandedOut}
+use Rattle.cg_inspect.specs.Inspection.{IsIdle}
+use Rattle.cg_machine.specs.Holdings.{is_collecting}
 
 -- what a collection of the stack waits with is among all that waits
 waits_among : (stack : List Activity) (c : machine.Collection) (q : ℕ) → Includes stack (Collecting c) → Includes (collection_waits c.phase) q → Includes (all_waits stack) q
@@ -80,6 +82,13 @@ module _ (store : Store) (w : World) (sound : IsSound store) (same : objects_of 
     where
       none : (p : Place) → IsOfCollection p → IsEmptyAt store p
       none p own = empty_where p (λ x m at. (subst (λ q. StandsRightly q x) start (apart.phases c on x m)) (subst IsOfCollection (sym at) own))
+
+  -- Where none is on the stack nothing stands in the places of collections.
+  pub idle_without : is_collecting w ≡ false → IsIdle store
+  idle_without none = record { candidates = nobody Cand tt; seen = nobody Seen tt; back = nobody Back tt; legacy = nobody Legacy tt; pending = nobody Pend tt }
+    where
+      nobody : (p : Place) → IsOfCollection p → IsEmptyAt store p
+      nobody p own = empty_where p (λ x m at. apart.clear none x m (subst IsOfCollection (sym at) own))
 
   module _ (orderly : IsOrderly w) where
     -- what waits for its callback has one

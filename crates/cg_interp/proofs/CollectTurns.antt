@@ -204,6 +204,7 @@ module _ (script : Script) (asked : Bool) (c : Collection) (e : State) (left : L
       none_on_top (activity.Script next ∷ own) none = tt
       none_on_top (activity.Frame locals procedure next ∷ own) none = tt
       none_on_top (activity.Releasing release ∷ own) none = tt
+      none_on_top (activity.Shutdown started ∷ own) none = tt
       none_on_top (activity.Dying death ∷ own) none = tt
       none_on_top (activity.Collecting also d ∷ own) none = absurd (let clash : true ≡ false = none in cc)
 
@@ -250,20 +251,27 @@ starts_telling script spec w = go (w.budget == 0)
     go true e = cc
     go false e = cc
 
--- A transition that tells a line was made, where no line was left.
+-- A transition that tells these lines, one at least, was made where no line was left.
+tells_with : (script : Script) (may_rest : List Event → Type 0) (w : World) (left : List Event) (transition : Transition) (e : State) (told : List Event) → left ≡ [] → Goes script w transition.0 transition.1 → (transition.0 ≡ [] → ⊥) → transition.0 ≡ told → StandsFor script e transition.1
+    → GoesOnTo script may_rest w left told e
+tells_with script may_rest w left transition e told none goes tells is stands = record {
+  events = told;
+  after = transition.1;
+  still = [];
+  goes = record { steps = goes.steps; run = goes.run; prints = goes.prints ∙ is; ends = goes.ends };
+  lines = ap (λ l. l ++ told) none ∙ sym (append-nil told);
+  moves = inl (λ no_step. tells (sym goes.prints ∙ ap events_of no_step));
+  stands = inl (stands, refl);
+}
+
+-- the same by what is answered
 pub makes_with : (script : Script) (may_rest : List Event → Type 0) (w : World) (left : List Event) (transition : Transition) (e : State) (answer : Turned) → left ≡ [] → Goes script w transition.0 transition.1 → (transition.0 ≡ [] → ⊥) → Makes script transition e answer
     → TurnsWith script may_rest w left e answer
 makes_with script may_rest w left transition e turned.Quiet none goes tells makes = absurd (tells makes.0)
-makes_with script may_rest w left transition e (turned.Line event) none goes tells makes = record {
-  events = event ∷ [];
-  after = transition.1;
-  still = [];
-  goes = record { steps = goes.steps; run = goes.run; prints = goes.prints ∙ makes.0; ends = goes.ends };
-  lines = ap (λ l. l ++ event ∷ []) none;
-  moves = inl (λ no_step. tells (sym goes.prints ∙ ap events_of no_step));
-  stands = inl (makes.1, refl);
-}
+makes_with script may_rest w left transition e (turned.Line event) none goes tells makes = tells_with script may_rest w left transition e (event ∷ []) none goes tells makes.0 makes.1
+makes_with script may_rest w left transition e (turned.Lines events) none goes tells makes = tells_with script may_rest w left transition e events none goes tells makes.0 makes.1
 makes_with script may_rest w left transition e turned.Ended none goes tells makes = (none, record { after = transition.1; goes = record { steps = goes.steps; run = goes.run; prints = goes.prints ∙ makes.0; ends = goes.ends }; ended = makes.1 })
+makes_with script may_rest w left transition e (turned.Left n) none goes tells makes = (none, record { after = transition.1; goes = record { steps = goes.steps; run = goes.run; prints = goes.prints ∙ makes.0; ends = goes.ends }; ended = makes.1 })
 makes_with script may_rest w left transition e turned.Spent none goes tells makes = (none, record { after = transition.1; goes = record { steps = goes.steps; run = goes.run; prints = goes.prints ∙ makes.0; ends = goes.ends }; ended = makes.1 })
 
 pub starts_with : (script : Script) (may_rest : List Event → Type 0) (w : World) (left : List Event) (spec : FrameSpec) (before : World) (e : State) (answer : Turned) → left ≡ [] → Goes script w (start_frame script spec before).0 (start_frame script spec before).1 → Makes script (start_frame script spec before) e answer

@@ -11,10 +11,10 @@ use Rattle.cg_value.specs.declared.Place.TheVariants.{Pend}
 use Rattle.cg_machine.specs.declared.event.Event.{Event}
 use Rattle.cg_machine.specs.Program.{commands_of}
 use Rattle.cg_machine.specs.World as machine
-use Rattle.cg_machine.specs.World.{World, Numbers, TopLevel, Framed, Releasing, Running}
+use Rattle.cg_machine.specs.World.{World, Numbers, TopLevel, Framed, Releasing, Running, ShuttingDown}
 use Rattle.cg_machine.specs.Due.{is_due}
 use Rattle.cg_machine.proofs.Tally.{tally, tally-append, bit}
-use Rattle.cg_machine.proofs.Measure.{alive, commands_in, all_bodies, is_starting, due_rank, rank_in, left_in, entries_in, referents_in, weight_in, size_of, number, summary}
+use Rattle.cg_machine.proofs.Measure.{alive, commands_in, all_bodies, bound_names, is_starting, due_rank, rank_in, left_in, entries_in, referents_in, weight_in, size_of, number, summary}
 use Rattle.cg_machine.proofs.Number.{number_of}
 use Rattle.cg_death.specs.Activities.{references_left, death_activities}
 use Rattle.cg_death.specs.declared.release.Release.{Release}
@@ -36,6 +36,7 @@ abbrev pub shown : Script → Activity → List machine.Activity
 shown script (activity.Script next) = TopLevel (commands_from next (commands_of script.items)) ∷ []
 shown script (activity.Frame locals procedure next) = Framed (frame_of script locals procedure next) ∷ []
 shown script (activity.Releasing release) = Releasing (references_left release) ∷ []
+shown script (activity.Shutdown started) = ShuttingDown started ∷ []
 shown script (activity.Dying death) = death_shown death []
 shown script (activity.Collecting asked c) = shown_with asked c []
 
@@ -45,6 +46,7 @@ store_told [] store = store
 store_told (activity.Script next ∷ below) store = store
 store_told (activity.Frame locals procedure next ∷ below) store = store
 store_told (activity.Releasing release ∷ below) store = store
+store_told (activity.Shutdown started ∷ below) store = store
 store_told (activity.Dying death ∷ below) store = store
 store_told (activity.Collecting asked c ∷ below) store = store_after c.phase store
 
@@ -54,6 +56,7 @@ lines_of script [] store = []
 lines_of script (activity.Script next ∷ below) store = []
 lines_of script (activity.Frame locals procedure next ∷ below) store = []
 lines_of script (activity.Releasing release ∷ below) store = []
+lines_of script (activity.Shutdown started ∷ below) store = []
 lines_of script (activity.Dying death ∷ below) store = []
 lines_of script (activity.Collecting asked c ∷ below) store = lines_left script asked c c.phase store
 
@@ -62,7 +65,7 @@ abbrev pub world_from : Script → State → World
 world_from script e = record {
   objects = objects_of (store_told e.activities e.store);
   next_serial = 0;
-  names = [];
+  names = e.store.names;
   numbers = e.policy.numbers;
   budget = e.budget;
   stack = flat_map (shown script) e.activities;
@@ -94,6 +97,7 @@ no_lines script [] stack store s = refl
 no_lines script (activity.Script next ∷ below) stack store s = refl
 no_lines script (activity.Frame locals procedure next ∷ below) stack store s = refl
 no_lines script (activity.Releasing release ∷ below) stack store s = refl
+no_lines script (activity.Shutdown started ∷ below) stack store s = refl
 no_lines script (activity.Dying death ∷ below) stack store s = refl
 no_lines script (activity.Collecting asked c ∷ below) stack store s = nothing_left script asked c c.phase store s.shows.handing.runs
 
@@ -102,6 +106,7 @@ same_store script [] stack store s = refl
 same_store script (activity.Script next ∷ below) stack store s = refl
 same_store script (activity.Frame locals procedure next ∷ below) stack store s = refl
 same_store script (activity.Releasing release ∷ below) stack store s = refl
+same_store script (activity.Shutdown started ∷ below) stack store s = refl
 same_store script (activity.Dying death ∷ below) stack store s = refl
 same_store script (activity.Collecting asked c ∷ below) stack store s = told_already c.phase store s.shows.handing.runs
 
@@ -175,6 +180,7 @@ module _ (f : machine.Activity → ℕ) (blind : IsBlind f) (script : Script) wh
   one (activity.Script next) tops e = ap (tally f) e
   one (activity.Frame locals procedure next) tops e = ap (tally f) e
   one (activity.Releasing release) tops e = ap (tally f) e
+  one (activity.Shutdown started) tops e = ap (tally f) e
   one (activity.Dying death) tops (waiting, e, settled) = ap (tally f) e ∙ under_release death.release (death_activities death.object death.phase waiting) (death_activities death.object death.phase []) (blind.deaths death.object death.phase waiting)
   one (activity.Collecting asked c) tops s = ap (tally f) s.shown ∙ collection_alike asked c (list_at s.then Pend)
 
@@ -215,7 +221,7 @@ any_starting (x ∷ xs) = go (is_starting x) (any_starting xs)
     go false e = let same : tally starting xs ≡ 0 + tally starting xs = omega arith in e ∙ ap (nat_lt 0) same
 
 -- A world that has what the engine tells of it, and a stack with the same sums, has its number.
-module _ (script : Script) (e : State) (w : World) (objects : w.objects ≡ objects_of (store_told e.activities e.store)) (numbers : w.numbers ≡ e.policy.numbers) (budget : w.budget ≡ e.budget) (running : w.outcome ≡ Running)
+module _ (script : Script) (e : State) (w : World) (objects : w.objects ≡ objects_of (store_told e.activities e.store)) (names : w.names ≡ e.store.names) (numbers : w.numbers ≡ e.policy.numbers) (budget : w.budget ≡ e.budget) (running : w.outcome ≡ Running)
     (alike : (f : machine.Activity → ℕ) → IsBlind f → tally f w.stack ≡ tally f (flat_map (shown script) e.activities)) where
   same_summary : summary script w ≡ summary script (world_from script e)
   same_summary =
@@ -228,7 +234,7 @@ module _ (script : Script) (e : State) (w : World) (objects : w.objects ≡ obje
       let starts : list_any is_starting w.stack ≡ list_any is_starting (flat_map (shown script) e.activities) =
       any_starting w.stack ∙ ap (nat_lt 0) (alike starting (record { deaths = starts_of_deaths; collections = starts_of_collections })) ∙ sym (any_starting (flat_map (shown script) e.activities)) in
       λ i. record {
-        commands = alive (running i) + budget i * suc (all_bodies script) + commands i;
+        commands = alive (running i) + 2 * (budget i * suc (all_bodies script)) + commands i + bound_names (names i);
         due = due_rank (is_due (numbers i)) (starts i);
         rank = rank i;
         left = left i;
@@ -245,15 +251,21 @@ begun_numbers : (phase : Phase) (generation : ℕ) (numbers : Numbers) → IsBeg
 begun_numbers phase_of.Start generation numbers begun = absurd begun
 begun_numbers _ generation numbers begun = refl
 
+-- the heap once the lines that are left are told has the same names
+names_after : (phase : Phase) (store : Store) → (store_after phase store).names ≡ store.names
+names_after (phase_of.Living next) store = refl
+names_after (phase_of.Detaching next) store = refl
+names_after phase store = refl
+
 -- the number of a world for which an engine stands once its lines are told
 pub same_number : (script : Script) (e : State) (left : List Event) (w : World) → StandsWith script e left w → number_of script w ≡ number_of script (world_from script e)
 same_number script e left w (inl (stands, none)) =
-    same script e w (sym stands.represents.objects ∙ ap objects_of (sym (same_store script e.activities w.stack e.store stands.shows))) (sym stands.numbers) stands.budget stands.running
+    same script e w (sym stands.represents.objects ∙ ap objects_of (sym (same_store script e.activities w.stack e.store stands.shows))) (sym stands.represents.names) (sym stands.numbers) stands.budget stands.running
     (λ f blind. same_tally f blind script e.activities w.stack stands.shows)
 same_number script e left w (inr top) =
     let c : Collection = top.collection in
     let h = top.collects in
     let here : State = record e { activities = activity.Collecting top.asked c ∷ top.rest } in
-    same script here w (sym h.shows.represents.objects) (sym (h.shows.numbers ∙ begun_numbers c.phase c.generation w.numbers top.begun)) h.budget h.running
+    same script here w (sym h.shows.represents.objects) (sym h.shows.represents.names ∙ names_after c.phase e.store) (sym (h.shows.numbers ∙ begun_numbers c.phase c.generation w.numbers top.begun)) h.budget h.running
     (λ f blind. same_on_top f blind script top.asked c (list_at e.store Pend) top.rest w.stack h.below h.shows.top h.over)
     ∙ ap (λ list. number_of script (world_from script (record e { activities = list }))) (sym top.top)

@@ -11,7 +11,7 @@ use Rattle.cg_graph.proofs.Objects.{object-at}
 use Rattle.cg_graph.proofs.Members.{true_and}
 use Rattle.cg_heap.specs.Weak.{AreRows}
 use Rattle.cg_machine.specs.World as machine
-use Rattle.cg_machine.specs.World.{World, Activity, TopLevel, Framed, Releasing, Dying, Collecting, Finalizer}
+use Rattle.cg_machine.specs.World.{World, Activity, TopLevel, Framed, Releasing, Dying, Collecting, Finalizer, ShuttingDown}
 use Rattle.cg_machine.specs.Represents.{Represents}
 use Rattle.cg_death.specs.declared.release.Release.{Release}
 use Rattle.cg_death.specs.declared.phase.Phase.{Phase}
@@ -69,6 +69,7 @@ pass_shown (TopLevel commands ∷ below) = 0
 pass_shown (Framed f ∷ below) = 0
 pass_shown (Releasing references ∷ below) = 0
 pass_shown (Collecting c ∷ below) = 0
+pass_shown (ShuttingDown started ∷ below) = 0
 pass_shown (Dying d ∷ below) = by d.phase
   where
     by : machine.DyingPhase → ℕ
@@ -88,6 +89,7 @@ holds_shown (TopLevel commands ∷ below) = 0
 holds_shown (Framed f ∷ below) = 0
 holds_shown (Releasing references ∷ below) = 0
 holds_shown (Collecting c ∷ below) = 0
+holds_shown (ShuttingDown started ∷ below) = 0
 holds_shown (Dying d ∷ below) = by d.phase
   where
     by : machine.DyingPhase → ℕ

@@ -59,6 +59,7 @@ way_left [] store = 0
 way_left (activity.Script next ∷ below) store = 0
 way_left (activity.Frame locals procedure next ∷ below) store = 0
 way_left (activity.Releasing release ∷ below) store = 0
+way_left (activity.Shutdown started ∷ below) store = 0
 way_left (activity.Dying death ∷ below) store = 0
 way_left (activity.Collecting asked c ∷ below) store = (15 - pass_of c.phase) * pass_limit + (left_in_pass c.phase store + still_released c.release)
 
@@ -210,6 +211,7 @@ module _ (store : Store) (small : IsSmall store) where
   way_few (activity.Script next ∷ below) = some_way
   way_few (activity.Frame locals procedure next ∷ below) = some_way
   way_few (activity.Releasing release ∷ below) = some_way
+  way_few (activity.Shutdown started ∷ below) = some_way
   way_few (activity.Dying death ∷ below) = some_way
   way_few (activity.Collecting asked c ∷ below) =
       let passes : (15 - pass_of c.phase) * pass_limit ≤ 15 * pass_limit = product (15 - pass_of c.phase) 15 pass_limit pass_limit (omega arith) (omega arith) in
@@ -220,6 +222,7 @@ module _ (store : Store) (small : IsSmall store) where
   few_lines script (activity.Script next ∷ below) = some_lines
   few_lines script (activity.Frame locals procedure next ∷ below) = some_lines
   few_lines script (activity.Releasing release ∷ below) = some_lines
+  few_lines script (activity.Shutdown started ∷ below) = some_lines
   few_lines script (activity.Dying death ∷ below) = some_lines
   few_lines script (activity.Collecting asked c ∷ below) = lines_few script asked c c.phase
 
@@ -236,6 +239,7 @@ shorter [] below old new small near = absurd near
 shorter (activity.Script next ∷ rest) below old new small near = absurd near
 shorter (activity.Frame locals procedure next ∷ rest) below old new small near = absurd near
 shorter (activity.Releasing release ∷ rest) below old new small near = absurd near
+shorter (activity.Shutdown started ∷ rest) below old new small near = absurd near
 shorter (activity.Dying death ∷ rest) below old new small near = absurd near
 shorter (activity.Collecting asked c ∷ rest) below old new small near = go below near
   where
@@ -247,6 +251,7 @@ shorter (activity.Collecting asked c ∷ rest) below old new small near = go bel
     go (activity.Script next ∷ below) near = over
     go (activity.Frame locals procedure next ∷ below) near = over
     go (activity.Releasing release ∷ below) near = over
+    go (activity.Shutdown started ∷ below) near = over
     go (activity.Dying death ∷ below) near = over
     go (activity.Collecting also d ∷ below) (inl later) =
         further (15 - pass_of d.phase) (15 - pass_of c.phase) (left_in_pass d.phase new + still_released d.release) (left_in_pass c.phase old + still_released c.release) pass_limit (omega (arith, later, passes_few d.phase)) (in_pass_few new small d)

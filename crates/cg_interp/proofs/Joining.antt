@@ -2,7 +2,7 @@
 use Rattle.std.proofs.Common.{◌≢◌, refl, sym, ◌∙◌, ap, subst, ℕ, List, [], ◌∷◌, ◌++◌}
 use Rattle.cg_script.specs.declared.Script.{Script}
 use Rattle.cg_machine.specs.declared.event.Event.{Event}
-use Rattle.cg_machine.specs.declared.event.Event.TheVariants.{End, BudgetSpent}
+use Rattle.cg_machine.specs.declared.event.Event.TheVariants.{End, BudgetSpent, Left}
 use Rattle.cg_machine.specs.World.{World}
 use Rattle.cg_machine.specs.Frame.{begin_death}
 use Rattle.cg_machine.specs.Run.{StepTaken, Run, last_world, events_of}
@@ -47,7 +47,9 @@ module _ (script : Script) (w : World) (e new : State) where
   pub joined_turns : (answer : Turned) (first : GoesTo script w [] e) → Turns script first.after new answer → Turns script w new answer
   joined_turns turned.Quiet first next = joined [] [] first next
   joined_turns (turned.Line event) first next = joined [] (event ∷ []) first next
+  joined_turns (turned.Lines events) first next = joined [] events first next
   joined_turns turned.Ended first next = record { after = next.after; goes = goes_then script w first.after next.after [] (End ∷ []) first.goes next.goes; ended = next.ended }
+  joined_turns (turned.Left n) first next = record { after = next.after; goes = goes_then script w first.after next.after [] (Left n ∷ End ∷ []) first.goes next.goes; ended = next.ended }
   joined_turns turned.Spent first next = record { after = next.after; goes = goes_then script w first.after next.after [] (BudgetSpent ∷ []) first.goes next.goes; ended = next.ended }
 
   -- a death that is to begin after it

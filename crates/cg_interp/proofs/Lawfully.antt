@@ -16,7 +16,7 @@ use Rattle.cg_heap.specs.Keeps.{outside_total, one}
 use Rattle.cg_heap.specs.Calls.{HasFewHolds, object_number}
 use Rattle.cg_heap.proofs.HoldLemmas.{outside-unheld}
 use Rattle.cg_heap.proofs.CallerLemmas.{total-unheld_one}
-use Rattle.cg_machine.specs.World.{World, Activity, TopLevel, Framed, Releasing, Dying, Collecting, Death}
+use Rattle.cg_machine.specs.World.{World, Activity, TopLevel, Framed, Releasing, Dying, Collecting, Death, ShuttingDown}
 use Rattle.cg_machine.specs.Holdings.{holds, is_death_of}
 use Rattle.cg_machine.specs.Laws.{AreDeathsOfOthers}
 use Rattle.cg_machine.specs.Lawful.{IsLawful}
@@ -39,6 +39,7 @@ no_deaths o (TopLevel commands ∷ below) none = omega (arith, count_more o (Top
 no_deaths o (Framed f ∷ below) none = omega (arith, count_more o (Framed f) below, no_deaths o below (λ e m. none e (inr m)))
 no_deaths o (Releasing references ∷ below) none = omega (arith, count_more o (Releasing references) below, no_deaths o below (λ e m. none e (inr m)))
 no_deaths o (Collecting c ∷ below) none = omega (arith, count_more o (Collecting c) below, no_deaths o below (λ e m. none e (inr m)))
+no_deaths o (ShuttingDown started ∷ below) none = omega (arith, count_more o (ShuttingDown started) below, no_deaths o below (λ e m. none e (inr m)))
 no_deaths o (Dying d ∷ below) none =
     let zero : cond {A = ℕ} (d.object == o) 1 0 ≡ 0 = ap (λ b. cond {A = ℕ} b 1 0) (ne_eqb d.object o (none d (inl refl))) in
     omega (arith, count_more o (Dying d) below, zero, no_deaths o below (λ e m. none e (inr m)))
@@ -50,6 +51,7 @@ dying_once o (TopLevel commands ∷ below) others = omega (arith, count_more o (
 dying_once o (Framed f ∷ below) others = omega (arith, count_more o (Framed f) below, dying_once o below others.1)
 dying_once o (Releasing references ∷ below) others = omega (arith, count_more o (Releasing references) below, dying_once o below others.1)
 dying_once o (Collecting c ∷ below) others = omega (arith, count_more o (Collecting c) below, dying_once o below others.1)
+dying_once o (ShuttingDown started ∷ below) others = omega (arith, count_more o (ShuttingDown started) below, dying_once o below others.1)
 dying_once o (Dying d ∷ below) others = go (d.object == o) refl (dying_once o below others.1)
   where
     go : (b : Bool) → (d.object == o) ≡ b → count_by (is_death_of o) below ≤ 1 → count_by (is_death_of o) (Dying d ∷ below) ≤ 1

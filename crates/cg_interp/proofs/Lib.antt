@@ -12,6 +12,8 @@ mod Joining
 mod ReleaseLemmas
 mod AnswerLemmas
 mod StepLemmas
+mod Shutting
+mod LineByLine
 mod DeathLemmas
 mod DeathMoves
 mod Keeping

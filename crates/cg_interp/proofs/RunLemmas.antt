@@ -8,7 +8,7 @@ use Rattle.cg_io.specs.Causes.{AppendsFront}
 use Rattle.cg_script.specs.declared.Script.{Script}
 use Rattle.cg_graph.specs.Member.{Includes}
 use Rattle.cg_machine.specs.declared.event.Event.{Event}
-use Rattle.cg_machine.specs.declared.event.Event.TheVariants.{End, BudgetSpent}
+use Rattle.cg_machine.specs.declared.event.Event.TheVariants.{End, BudgetSpent, Left}
 use Rattle.cg_machine.specs.World.{World, Outcome, Running, Ended, BudgetIsSpent, opening}
 use Rattle.cg_machine.specs.Run.{StepTaken, IsRun, world_after, events_of}
 use Rattle.cg_machine.specs.Lines.{line, text_of, IsPrintable}
@@ -24,13 +24,17 @@ use Rattle.cg_machine.proofs.Fronts.{events_of-append}
 use Rattle.cg_laws.specs.Kept.{StaysKept, WorldsStayKept}
 use Rattle.cg_interp.specs.declared.turned.Turned.{Turned}
 use Rattle.cg_interp.specs.declared.turned.Turned.TheVariants as turned
+use Rattle.cg_interp.specs.declared.turned.Standing.{Standing}
+use Rattle.cg_interp.specs.declared.turned.Standing.TheVariants as standing
 use Rattle.cg_interp.specs.Engines.{State, StandsFor}
 use Rattle.cg_interp.specs.Collecting.{StandsWith}
 use Rattle.cg_interp.specs.Telling.{TurnsWith, Advances, GoesOnTo}
 use Rattle.cg_interp.specs.Written.{WroteRun, WrotePart}
-use Rattle.cg_interp.specs.Running.{Ran, HasLaws, StaysPrintable, WritesTurn, CutsTurn, events_told}
+use Rattle.cg_interp.specs.Running.{Ran, HasLaws, StaysPrintable, WritesTurn, CutsTurn, events_told, standing_after}
 use Rattle.cg_interp.proofs.Sizes.{IsSmall}
 use Rattle.cg_interp.proofs.Falling.{falling, turn_falls}
+use Rattle.cg_interp.specs.Turns.{EndsWith}
+use Rattle.cg_interp.proofs.LineByLine.{after_front, longer_front}
 
 -- A turn goes somewhere: what it prints besides the lines that were left is the event that is due, and the lines that are
 -- left now.
@@ -44,7 +48,9 @@ pub record Went (script : Script) (w : World) (left : List Event) (answer : Turn
 pub went : (script : Script) (may_rest : List Event → Type 0) (w : World) (left : List Event) (e : State) (answer : Turned) → TurnsWith script may_rest w left e answer → Went script w left answer
 went script may_rest w left e turned.Quiet t = record { events = t.events; after = t.after; still = t.still; goes = t.goes; lines = t.lines }
 went script may_rest w left e (turned.Line event) t = record { events = t.events; after = t.after; still = t.still; goes = t.goes; lines = t.lines }
+went script may_rest w left e (turned.Lines events) t = record { events = t.events; after = t.after; still = t.still; goes = t.goes; lines = t.lines }
 went script may_rest w left e turned.Ended (none, t) = record { events = End ∷ []; after = t.after; still = []; goes = t.goes; lines = ap (λ l. l ++ End ∷ []) none }
+went script may_rest w left e (turned.Left n) (none, t) = record { events = Left n ∷ End ∷ []; after = t.after; still = []; goes = t.goes; lines = ap (λ l. l ++ Left n ∷ End ∷ []) none }
 went script may_rest w left e turned.Spent (none, t) = record { events = BudgetSpent ∷ []; after = t.after; still = []; goes = t.goes; lines = ap (λ l. l ++ BudgetSpent ∷ []) none }
 
 -- so its line can be printed, where all lines can
@@ -54,24 +60,6 @@ told_printable script may_rest w left e answer turns all event m =
     let g = went script may_rest w left e answer turns in
     all g.goes.steps g.goes.run event
     (subst (λ es. Includes (left ++ es) event) (sym g.goes.prints) (subst (λ es. Includes es event) (sym g.lines) (Includes-append_left (events_told answer) g.still event m)))
-
--- bytes that were written, and then a front of some more
-after_front : (a b c : Option (List ℕ)) (bs cs : List ℕ) → Appends a b bs → AppendsFront b c cs → AppendsFront a c (bs ++ cs)
-after_front a b c bs cs p q = record {
-  front = bs ++ q.front;
-  rest = q.rest;
-  whole = ap (λ l. bs ++ l) q.whole ∙ sym (append_assoc bs q.front q.rest);
-  appended = Appends-trans a b c bs q.front p q.appended;
-}
-
--- a front of some bytes is a front of these and more
-longer_front : (a b : Option (List ℕ)) (bs cs : List ℕ) → AppendsFront a b bs → AppendsFront a b (bs ++ cs)
-longer_front a b bs cs p = record {
-  front = p.front;
-  rest = p.rest ++ cs;
-  whole = ap (λ l. l ++ cs) p.whole ∙ append_assoc p.front p.rest cs;
-  appended = p.appended;
-}
 
 -- a front of what a run has printed is a front of the text of a whole run
 part_of_whole : FrontsBeginWholeTexts → (script : Script) (budget : ℕ) (steps : List StepTaken) (before now : Option (List ℕ)) → IsRun script budget steps → AppendsFront before now (text_of script steps)
@@ -118,6 +106,9 @@ module _ (script : Script) (budget : ℕ) (before : Option (List ℕ)) (e : Stat
   pub turn_may_be_taken : (w : World) × (left : List Event) × StandsWith script e left w × StaysKept script e.frames w × StaysPrintable script left w
   turn_may_be_taken = (so_far, ran.left, ran.stands, kept_so_far, printable_so_far)
 
+  abbrev text : List Event → List ℕ
+  text es = flat_map (line script.names) es
+
   -- the machine goes on, and tells some lines
   module _ (events tell still : List Event) (after : World) (goes : Goes script so_far events after) (lines : ran.left ++ events ≡ tell ++ still) where
     abbrev longer : List StepTaken
@@ -131,9 +122,6 @@ module _ (script : Script) (budget : ℕ) (before : Option (List ℕ)) (e : Stat
 
     lines_longer : events_of longer ≡ (ran.told ++ tell) ++ still
     lines_longer = lines_on goes.steps ∙ ap (λ es. ran.told ++ (ran.left ++ es)) goes.prints ∙ ap (λ es. ran.told ++ es) lines ∙ sym (append_assoc ran.told tell still)
-
-    abbrev text : List Event → List ℕ
-    text es = flat_map (line script.names) es
 
     told_longer : text (ran.told ++ tell) ≡ text ran.told ++ text tell
     told_longer = flat_map-append (line script.names) ran.told tell
@@ -165,33 +153,57 @@ module _ (script : Script) (budget : ℕ) (before : Option (List ℕ)) (e : Stat
         let front : AppendsFront before now' (text (ran.told ++ tell)) = subst (AppendsFront before now') (sym told_longer) (after_front before now now' _ _ ran.written wrote) in
         part_of_whole law script budget longer before now' run_longer (subst (AppendsFront before now') (sym all) (longer_front before now' (text (ran.told ++ tell)) (text still) front))
 
-  -- A turn with its line makes what ran longer, or ends it.
+  -- A turn with its lines makes what ran longer, or ends it.
   module _ (e' : State) (now' : Option (List ℕ)) where
-    abbrev pub Wrote : Turned → Type 0
-    Wrote answer = (w : World) (left : List Event) → StandsWith script e left w → StaysKept script e.frames w → WritesTurn script e w left e' answer now now'
+    abbrev pub Wrote : Standing → Type 0
+    Wrote stands = (w : World) (left : List Event) → StandsWith script e left w → StaysKept script e.frames w → WritesTurn script e w left e' stands now now'
 
-    here : (answer expected : Turned) → answer ≡ expected → Wrote answer → WritesTurn script e so_far ran.left e' expected now now'
-    here answer expected is t = subst (λ a. WritesTurn script e so_far ran.left e' a now now') is (t so_far ran.left ran.stands kept_so_far)
+    abbrev Turned_so : Turned → Type 0
+    Turned_so answer = TurnsWith script (Advances e ran.left e') so_far ran.left e' answer
 
-    pub ran_quietly : (answer : Turned) → answer ≡ turned.Quiet → Wrote answer → Ran script budget before e' now'
-    ran_quietly answer is t = let h = here answer turned.Quiet is t in ran_longer h.turns.events [] h.turns.still h.turns.after h.turns.goes h.turns.lines e' now' h.turns.stands h.written
+    abbrev Wrote_so : Turned → Type 0
+    Wrote_so answer = Appends now now' (text (events_told answer))
 
-    pub ran_line : (answer : Turned) (event : Event) → answer ≡ turned.Line event → Wrote answer → Ran script budget before e' now'
-    ran_line answer event is t = let h = here answer (turned.Line event) is t in ran_longer h.turns.events (event ∷ []) h.turns.still h.turns.after h.turns.goes h.turns.lines e' now' h.turns.stands h.written
+    pub ran_on : (stands : Standing) → stands ≡ standing.Running → Wrote stands → Ran script budget before e' now'
+    ran_on stands runs t = let h = t so_far ran.left ran.stands kept_so_far in go h.answer (h.is ∙ runs) h.turns h.written
+      where
+        on : (told : List Event) → GoesOnTo script (Advances e ran.left e') so_far ran.left told e' → Appends now now' (text told) → Ran script budget before e' now'
+        on told g wrote = ran_longer g.events told g.still g.after g.goes g.lines e' now' g.stands wrote
 
-    pub ran_to_end : (answer : Turned) → answer ≡ turned.Ended → Wrote answer → WroteRun script budget Ended before now'
-    ran_to_end answer is t =
-        let h = here answer turned.Ended is t in
-        let (none, ends) = h.turns in
-        ran_whole (End ∷ []) (End ∷ []) [] ends.after ends.goes (ap (λ l. l ++ End ∷ []) none) Ended now' refl ends.ended (λ n. cc) h.written
+        go : (answer : Turned) → standing_after answer ≡ standing.Running → Turned_so answer → Wrote_so answer → Ran script budget before e' now'
+        go turned.Quiet is g wrote = on [] g wrote
+        go (turned.Line event) is g wrote = on (event ∷ []) g wrote
+        go (turned.Lines events) is g wrote = on events g wrote
+        go turned.Ended is g wrote = absurd (cc)
+        go (turned.Left n) is g wrote = absurd (cc)
+        go turned.Spent is g wrote = absurd (cc)
 
-    pub ran_out : (answer : Turned) → answer ≡ turned.Spent → Wrote answer → WroteRun script budget BudgetIsSpent before now'
-    ran_out answer is t =
-        let h = here answer turned.Spent is t in
-        let (none, ends) = h.turns in
-        ran_whole (BudgetSpent ∷ []) (BudgetSpent ∷ []) [] ends.after ends.goes (ap (λ l. l ++ BudgetSpent ∷ []) none) BudgetIsSpent now' refl ends.ended (λ n. cc) h.written
+    pub ran_to_end : (stands : Standing) → stands ≡ standing.Ended → Wrote stands → WroteRun script budget Ended before now'
+    ran_to_end stands over t = let h = t so_far ran.left ran.stands kept_so_far in go h.answer (h.is ∙ over) h.turns h.written
+      where
+        ends : (lines : List Event) → ran.left ≡ [] → EndsWith script so_far lines Ended → Appends now now' (text lines) → WroteRun script budget Ended before now'
+        ends lines none k wrote = ran_whole lines lines [] k.after k.goes (ap (λ l. l ++ lines) none ∙ sym (append-nil lines)) Ended now' refl k.ended (λ n. cc) wrote
 
-    -- where the line was cut short
+        go : (answer : Turned) → standing_after answer ≡ standing.Ended → Turned_so answer → Wrote_so answer → WroteRun script budget Ended before now'
+        go turned.Quiet is g wrote = absurd (cc)
+        go (turned.Line event) is g wrote = absurd (cc)
+        go (turned.Lines events) is g wrote = absurd (cc)
+        go turned.Ended is g wrote = ends (End ∷ []) g.0 g.1 wrote
+        go (turned.Left n) is g wrote = ends (Left n ∷ End ∷ []) g.0 g.1 wrote
+        go turned.Spent is g wrote = absurd (cc)
+
+    pub ran_out : (stands : Standing) → stands ≡ standing.Spent → Wrote stands → WroteRun script budget BudgetIsSpent before now'
+    ran_out stands spent t = let h = t so_far ran.left ran.stands kept_so_far in go h.answer (h.is ∙ spent) h.turns h.written
+      where
+        go : (answer : Turned) → standing_after answer ≡ standing.Spent → Turned_so answer → Wrote_so answer → WroteRun script budget BudgetIsSpent before now'
+        go turned.Quiet is g wrote = absurd (cc)
+        go (turned.Line event) is g wrote = absurd (cc)
+        go (turned.Lines events) is g wrote = absurd (cc)
+        go turned.Ended is g wrote = absurd (cc)
+        go (turned.Left n) is g wrote = absurd (cc)
+        go turned.Spent is (none, ends) wrote = ran_whole (BudgetSpent ∷ []) (BudgetSpent ∷ []) [] ends.after ends.goes (ap (λ l. l ++ BudgetSpent ∷ []) none) BudgetIsSpent now' refl ends.ended (λ n. cc) wrote
+
+    -- where a line was cut short
     pub ran_cut : FrontsBeginWholeTexts → ((w : World) (left : List Event) → StandsWith script e left w → StaysKept script e.frames w → CutsTurn script e w left e' now now') → WrotePart script budget before now'
     ran_cut law cut =
         let t = cut so_far ran.left ran.stands kept_so_far in
@@ -199,11 +211,16 @@ module _ (script : Script) (budget : ℕ) (before : Option (List ℕ)) (e : Stat
         ran_part g.events (events_told t.answer) g.still g.after g.goes g.lines law now' t.written
 
     -- Each turn that goes on makes the number smaller.
-    falls : (told : List Event) → IsSmall e'.store → GoesOnTo script (Advances e ran.left e') so_far ran.left told e' → falling script e' < falling script e
-    falls told small turn = turn_falls script e e' so_far ran.left told ran.stands (sound_after script (opening script budget) ran.steps (opening_sound script budget) ran.run) small turn
+    pub falls_on : (stands : Standing) → IsSmall e'.store → stands ≡ standing.Running → Wrote stands → falling script e' < falling script e
+    falls_on stands small runs t = let h = t so_far ran.left ran.stands kept_so_far in go h.answer (h.is ∙ runs) h.turns
+      where
+        falls : (told : List Event) → GoesOnTo script (Advances e ran.left e') so_far ran.left told e' → falling script e' < falling script e
+        falls told turn = turn_falls script e e' so_far ran.left told ran.stands (sound_after script (opening script budget) ran.steps (opening_sound script budget) ran.run) small turn
 
-    pub falls_quietly : (answer : Turned) → IsSmall e'.store → answer ≡ turned.Quiet → Wrote answer → falling script e' < falling script e
-    falls_quietly answer small is t = falls [] small (here answer turned.Quiet is t).turns
-
-    pub falls_with_line : (answer : Turned) (event : Event) → IsSmall e'.store → answer ≡ turned.Line event → Wrote answer → falling script e' < falling script e
-    falls_with_line answer event small is t = falls (event ∷ []) small (here answer (turned.Line event) is t).turns
+        go : (answer : Turned) → standing_after answer ≡ standing.Running → Turned_so answer → falling script e' < falling script e
+        go turned.Quiet is g = falls [] g
+        go (turned.Line event) is g = falls (event ∷ []) g
+        go (turned.Lines events) is g = falls events g
+        go turned.Ended is g = absurd (cc)
+        go (turned.Left n) is g = absurd (cc)
+        go turned.Spent is g = absurd (cc)

@@ -1,5 +1,5 @@
 -- What a heap stands for, where an activity is put on top of the stack, taken from it, or replaced.
-use Rattle.std.proofs.Common.{◌≡◌, refl, sym, ◌∙◌, ap, subst, ℕ, ◌+◌, ◌<◌, inr, List, [], ◌∷◌, ◌++◌, Option, None, Some, arith, append-nil}
+use Rattle.std.proofs.Common.{◌≡◌, refl, sym, ◌∙◌, ap, subst, ℕ, ◌+◌, ◌<◌, inr, List, [], ◌∷◌, ◌++◌, Option, None, Some, arith, append-nil, Bool}
 use Rattle.std.specs.Prelude.{flat_map, option_map}
 use Rattle.std.specs.FinMap as fin
 use Rattle.cg_script.specs.declared.Command.{Command}
@@ -10,7 +10,7 @@ use Rattle.cg_graph.proofs.Maps.{same_map, get-mapped}
 use Rattle.cg_graph.proofs.Objects.{objects-same, occurrences-append}
 use Rattle.cg_graph.proofs.Members.{either}
 use Rattle.cg_heap.proofs.HoldLemmas.{outside-held}
-use Rattle.cg_machine.specs.World.{World, Activity, TopLevel, Framed, Releasing, Dying, Collecting, Frame, Death, Collection, Running, push, with_stack}
+use Rattle.cg_machine.specs.World.{World, Activity, TopLevel, Framed, Releasing, Dying, Collecting, Frame, Death, Collection, Running, push, with_stack, ShuttingDown}
 use Rattle.cg_machine.specs.Holdings.{holds}
 use Rattle.cg_script.specs.declared.Script.{Script}
 use Rattle.cg_machine.specs.declared.event.Event.{Event}
@@ -36,6 +36,9 @@ plain_script commands = record { no_death = λ d e. cc; no_collection = λ c e. 
 
 pub plain_frame : (f : Frame) → IsPlain (Framed f)
 plain_frame f = record { no_death = λ d e. cc; no_collection = λ c e. cc }
+
+pub plain_shutdown : (started : Bool) → IsPlain (ShuttingDown started)
+plain_shutdown started = record { no_death = λ d e. cc; no_collection = λ c e. cc }
 
 pub plain_release : (references : List ℕ) → IsPlain (Releasing references)
 plain_release references = record { no_death = λ d e. cc; no_collection = λ c e. cc }

@@ -1,33 +1,34 @@
 -- A step of the script or of a frame: the next command, or a collection that is due before it.
-use Rattle.std.proofs.Common.{◌≡◌, refl, sym, ◌∙◌, ap, subst, ℕ, true, false, List, [], ◌∷◌, ◌++◌, Option, None, Some, inl, take, drop}
+use Rattle.std.proofs.Common.{◌≡◌, refl, sym, ◌∙◌, ap, subst, ℕ, true, false, List, [], ◌∷◌, ◌++◌, Option, None, Some, inl, take, drop, Bool}
 use Rattle.std.proofs.lemmas.List.{take-append-drop}
 use Rattle.cg_script.specs.declared.Script.{Script}
 use Rattle.cg_script.specs.declared.Command.{Command}
 use Rattle.cg_graph.specs.Member.{Includes}
 use Rattle.cg_graph.proofs.Members.{Includes-append_right, either}
 use Rattle.cg_machine.specs.declared.event.Event.{Event}
-use Rattle.cg_machine.specs.declared.event.Event.TheVariants.{End, BudgetSpent}
-use Rattle.cg_machine.specs.Program.{commands_of, body_of}
-use Rattle.cg_machine.specs.World.{World, TopLevel, Framed, Frame, Running, Ended, push, with_stack}
-use Rattle.cg_machine.specs.Frame.{Transition}
+use Rattle.cg_machine.specs.declared.event.Event.TheVariants.{End, BudgetSpent, Left}
+use Rattle.cg_machine.specs.Program.{commands_of, body_of, declares_shutdown}
+use Rattle.cg_machine.specs.World.{World, TopLevel, Framed, Frame, Running, Ended, push, with_stack, ShuttingDown}
+use Rattle.cg_machine.specs.Frame.{Transition, Yields}
 use Rattle.cg_machine.specs.Commands.{CommandStep, new_collection}
 use Rattle.cg_machine.specs.Due.{due}
 use Rattle.cg_machine.specs.Run.{StepOf, TopLevelStep, FrameStep, CommandInFrame}
 use Rattle.cg_machine.specs.Represents.{Represents, Goes}
-use Rattle.cg_policy.specs.Policy.{due_of}
+use Rattle.cg_policy.specs.Policy.{due_of, Policy}
 use Rattle.cg_laws.specs.Kept.{StaysKept}
 use Rattle.cg_commands.specs.declared.locals.Locals.{Locals}
 use Rattle.cg_commands.specs.Stands.{HasLocals}
 use Rattle.cg_interp.specs.declared.activity.Activity.TheVariants as activity
 use Rattle.cg_interp.specs.declared.turned.Turned.{Turned}
 use Rattle.cg_interp.specs.declared.turned.Turned.TheVariants as turned
-use Rattle.cg_interp.specs.Engines.{State, StandsFor, commands_from, frame_of, under}
+use Rattle.cg_interp.specs.Engines.{State, StandsFor, commands_from, frame_of, under, ShowsAll, any_collecting}
 use Rattle.cg_interp.specs.Callers.{Does, StartsCollection, DoesAny, StaysKeptAfter}
 use Rattle.cg_interp.specs.Telling.{GoesOnTo, TurnsWith}
 use Rattle.cg_interp.specs.Turns.{Makes, Turns}
-use Rattle.cg_interp.proofs.Standing.{plain_frame, plain_script, replaced, spelled, one_step}
+use Rattle.cg_interp.proofs.Standing.{plain_frame, plain_script, replaced, spelled, one_step, plain_shutdown}
 use Rattle.cg_interp.proofs.Telling.{turns_plainly}
 use Rattle.cg_interp.proofs.UnderWay.{policy_is}
+use Rattle.cg_machine.specs.Shutdown.{after_commands}
 
 -- What the policy finds due is what the machine finds due.
 pub due_in : (script : Script) (e : State) (w : World) (answer : Option ℕ) → StandsFor script e w → answer ≡ due_of e.policy → due w ≡ answer
@@ -41,7 +42,9 @@ none_due_in script e w (Some g) stands is never = absurd (never g refl)
 pub turns : (script : Script) (w : World) (e : State) (t : Transition) (answer : Turned) → w.outcome ≡ Running → StepOf script w w.stack t.0 t.1 → Makes script t e answer → Turns script w e answer
 turns script w e t turned.Quiet running step makes = record { after = t.1; goes = one_step script w [] t.1 running (subst (λ es. StepOf script w w.stack es t.1) makes.0 step); moves = λ n. absurd (cc); stands = makes.1 }
 turns script w e t (turned.Line event) running step makes = record { after = t.1; goes = one_step script w (event ∷ []) t.1 running (subst (λ es. StepOf script w w.stack es t.1) makes.0 step); moves = λ n. absurd (cc); stands = makes.1 }
+turns script w e t (turned.Lines events) running step makes = record { after = t.1; goes = one_step script w events t.1 running (subst (λ es. StepOf script w w.stack es t.1) makes.0 step); moves = λ n. absurd (cc); stands = makes.1 }
 turns script w e t turned.Ended running step makes = record { after = t.1; goes = one_step script w (End ∷ []) t.1 running (subst (λ es. StepOf script w w.stack es t.1) makes.0 step); ended = makes.1 }
+turns script w e t (turned.Left n) running step makes = record { after = t.1; goes = one_step script w (Left n ∷ End ∷ []) t.1 running (subst (λ es. StepOf script w w.stack es t.1) makes.0 step); ended = makes.1 }
 turns script w e t turned.Spent running step makes = record { after = t.1; goes = one_step script w (BudgetSpent ∷ []) t.1 running (subst (λ es. StepOf script w w.stack es t.1) makes.0 step); ended = makes.1 }
 
 -- A step of the machine comes first.
@@ -75,7 +78,9 @@ module _ (script : Script) (w mid : World) (running : w.outcome ≡ Running) whe
     pub turns_after : (may_rest : List Event → Type 0) (e : State) (answer : Turned) → TurnsWith script may_rest mid [] e answer → TurnsWith script (λ still. ⊥) w [] e answer
     turns_after may_rest e turned.Quiet goes = goes_on_after may_rest [] e goes
     turns_after may_rest e (turned.Line event) goes = goes_on_after may_rest (event ∷ []) e goes
+    turns_after may_rest e (turned.Lines events) goes = goes_on_after may_rest events e goes
     turns_after may_rest e turned.Ended ends = (refl, record { after = ends.1.after; goes = goes_after (End ∷ []) ends.1.after ends.1.goes; ended = ends.1.ended })
+    turns_after may_rest e (turned.Left n) ends = (refl, record { after = ends.1.after; goes = goes_after (Left n ∷ End ∷ []) ends.1.after ends.1.goes; ended = ends.1.ended })
     turns_after may_rest e turned.Spent ends = (refl, record { after = ends.1.after; goes = goes_after (BudgetSpent ∷ []) ends.1.after ends.1.goes; ended = ends.1.ended })
 
 -- A command is done from the world without it: what the machine may do for the command is its step.
@@ -109,11 +114,32 @@ module _ (script : Script) (e : State) (next : Option ℕ) (w : World) (stands :
       (subst (λ d. TopLevelStep script w d (commands_from next (commands_of script.items)) stands.shows.below [] (push (new_collection g false w) w)) (sym is) (refl, refl))
 
   -- no command is left
-  pub script_ends : (new : State) → due w ≡ None → commands_from next (commands_of script.items) ≡ [] → Turns script w new turned.Ended
-  script_ends new none is =
-      turns script w new (End ∷ [], record w { outcome = Ended }) turned.Ended stands.running
-      (subst (λ st. StepOf script w st (End ∷ []) (record w { outcome = Ended })) (sym (script_at [] is))
-      (subst (λ d. TopLevelStep script w d [] stands.shows.below (End ∷ []) (record w { outcome = Ended })) (sym none) (refl, refl))) (refl, refl)
+  module _ (none : due w ≡ None) (is : commands_from next (commands_of script.items) ≡ []) (declared : Bool) (same : declares_shutdown script.items ≡ declared) where
+    abbrev next_world : Transition
+    next_world = after_commands declared stands.shows.below w
+
+    steps_on : StepOf script w w.stack next_world.0 next_world.1
+    steps_on =
+        subst (λ st. StepOf script w st next_world.0 next_world.1) (sym (script_at [] is))
+        (subst (λ d. TopLevelStep script w d [] stands.shows.below next_world.0 next_world.1) (sym none)
+        (subst (λ b. Yields (after_commands b stands.shows.below w) next_world.0 next_world.1) (sym same) (refl, refl)))
+
+    -- the run ends, or the shutdown comes in the place of the script
+    pub commands_end : (new : State) (answer : Turned) → Makes script next_world new answer → Turns script w new answer
+    commands_end new answer makes = turns script w new next_world answer stands.running steps_on makes
+
+  -- the engine with the shutdown on top
+  pub shutdown_stands : (new : State) → commands_from next (commands_of script.items) ≡ [] → new.store ≡ e.store → new.policy ≡ e.policy → new.activities ≡ activity.Shutdown false ∷ e.activities → new.budget ≡ e.budget
+      → StandsFor script new (with_stack (ShuttingDown false ∷ stands.shows.below) w)
+  shutdown_stands new is store policy activities budget = record {
+    represents = subst (λ st. Represents st (with_stack (ShuttingDown false ∷ stands.shows.below) w)) (sym store)
+        (replaced e.store w (TopLevel []) (ShuttingDown false) stands.shows.below (plain_script _) (plain_shutdown false) refl (spelled (Represents e.store) w (TopLevel [] ∷ stands.shows.below) (script_at [] is) stands.represents));
+    shows = subst (λ l. ShowsAll script l (ShuttingDown false ∷ stands.shows.below)) (sym activities) (record { tops = ShuttingDown false ∷ []; below = stands.shows.below; shows = refl; some = λ e. absurd (cc); over = stands.shows.over; is = refl });
+    budget = stands.budget ∙ sym budget;
+    running = stands.running;
+    numbers = ap (λ (p : Policy). p.numbers) policy ∙ stands.numbers;
+    collecting = ap (λ (p : Policy). p.running) policy ∙ stands.collecting ∙ sym (ap any_collecting activities);
+  }
 
   -- the next command is known
   module _ (after : Option ℕ) (c : Command) (is : commands_from next (commands_of script.items) ≡ c ∷ commands_from after (commands_of script.items)) where

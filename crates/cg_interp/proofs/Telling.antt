@@ -1,5 +1,5 @@
 -- What a turn answers where no collection has a line left.
-use Rattle.std.proofs.Common.{◌≡◌, refl, inl, List, [], ◌∷◌, ◌++◌}
+use Rattle.std.proofs.Common.{◌≡◌, refl, sym, inl, append-nil, List, [], ◌∷◌, ◌++◌}
 use Rattle.cg_graph.proofs.Members.{either}
 use Rattle.cg_script.specs.declared.Script.{Script}
 use Rattle.cg_machine.specs.declared.event.Event.{Event}
@@ -26,7 +26,9 @@ goes_on script may_rest w e events goes same = record {
 pub turns_told : (script : Script) (may_rest : List Event → Type 0) (w : World) (e : State) (answer : Turned) → Turns script w e answer → TurnsWith script may_rest w [] e answer
 turns_told script may_rest w e turned.Quiet goes = goes_on script may_rest w e [] goes refl
 turns_told script may_rest w e (turned.Line event) goes = goes_on script may_rest w e (event ∷ []) goes refl
+turns_told script may_rest w e (turned.Lines events) goes = goes_on script may_rest w e events goes (sym (append-nil events))
 turns_told script may_rest w e turned.Ended ends = (refl, ends)
+turns_told script may_rest w e (turned.Left n) ends = (refl, ends)
 turns_told script may_rest w e turned.Spent ends = (refl, ends)
 
 pub turns_plainly : (script : Script) (w : World) (e : State) (answer : Turned) → Turns script w e answer → TurnsWith script (λ still. ⊥) w [] e answer
@@ -47,5 +49,7 @@ moving script may_rest w left told e goes = record {
 pub turns_moving : (script : Script) (may_rest : List Event → Type 0) (w : World) (left : List Event) (e : State) (answer : Turned) → TurnsWith script (λ still. ⊥) w left e answer → TurnsWith script may_rest w left e answer
 turns_moving script may_rest w left e turned.Quiet turns = moving script may_rest w left [] e turns
 turns_moving script may_rest w left e (turned.Line event) turns = moving script may_rest w left (event ∷ []) e turns
+turns_moving script may_rest w left e (turned.Lines events) turns = moving script may_rest w left events e turns
 turns_moving script may_rest w left e turned.Ended turns = turns
+turns_moving script may_rest w left e (turned.Left n) turns = turns
 turns_moving script may_rest w left e turned.Spent turns = turns

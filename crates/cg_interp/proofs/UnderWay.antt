@@ -71,6 +71,7 @@ shown : (script : Script) (a : Own) (tops : List Activity) → Shows script a to
 shown script (activity.Script next) tops shows = ap (list_any is_collection) shows
 shown script (activity.Frame locals procedure next) tops shows = ap (list_any is_collection) shows
 shown script (activity.Releasing release) tops shows = ap (list_any is_collection) shows
+shown script (activity.Shutdown started) tops shows = ap (list_any is_collection) shows
 shown script (activity.Dying death) tops shows =
     ap (list_any is_collection) shows.1 ∙ release_is_none death.release (death_activities death.object death.phase shows.0) ∙ death_is_none death.object death.phase shows.0
 shown script (activity.Collecting asked c) tops shows =

@@ -32,6 +32,7 @@ abbrev pub IsCaller : Activity → Type 0
 IsCaller (activity.Script next) = Unit {0}
 IsCaller (activity.Frame locals procedure next) = Unit {0}
 IsCaller (activity.Releasing release) = ⊥
+IsCaller (activity.Shutdown started) = ⊥
 IsCaller (activity.Dying death) = ⊥
 IsCaller (activity.Collecting asked collection) = ⊥
 
@@ -40,6 +41,7 @@ abbrev pub without_rest_in_frame : Activity → Activity
 without_rest_in_frame (activity.Script next) = activity.Script next
 without_rest_in_frame (activity.Frame locals procedure next) = activity.Frame locals procedure None
 without_rest_in_frame (activity.Releasing release) = activity.Releasing release
+without_rest_in_frame (activity.Shutdown started) = activity.Shutdown started
 without_rest_in_frame (activity.Dying death) = activity.Dying death
 without_rest_in_frame (activity.Collecting asked collection) = activity.Collecting asked collection
 
@@ -48,6 +50,7 @@ abbrev pub without_rest : Activity → Activity
 without_rest (activity.Script next) = activity.Script None
 without_rest (activity.Frame locals procedure next) = activity.Frame locals procedure None
 without_rest (activity.Releasing release) = activity.Releasing release
+without_rest (activity.Shutdown started) = activity.Shutdown started
 without_rest (activity.Dying death) = activity.Dying death
 without_rest (activity.Collecting asked collection) = activity.Collecting asked collection
 

@@ -7,7 +7,7 @@ use Rattle.cg_value.specs.declared.Place.TheVariants.{Pend}
 use Rattle.cg_graph.specs.Store.{Store, list_at}
 use Rattle.cg_machine.specs.Program.{commands_of, body_of}
 use Rattle.cg_machine.specs.World as machine
-use Rattle.cg_machine.specs.World.{World, TopLevel, Framed, Releasing, Running}
+use Rattle.cg_machine.specs.World.{World, TopLevel, Framed, Releasing, Running, ShuttingDown}
 use Rattle.cg_machine.specs.Represents.{Represents, CollectionWaits}
 use Rattle.cg_commands.specs.declared.locals.Locals.{Locals}
 use Rattle.cg_death.specs.Activities.{references_left, death_activities}
@@ -71,6 +71,7 @@ abbrev pub Shows : Script → Activity → List machine.Activity → Type 0
 Shows script (activity.Script next) tops = tops ≡ TopLevel (commands_from next (commands_of script.items)) ∷ []
 Shows script (activity.Frame locals procedure next) tops = tops ≡ Framed (frame_of script locals procedure next) ∷ []
 Shows script (activity.Releasing release) tops = tops ≡ Releasing (references_left release) ∷ []
+Shows script (activity.Shutdown started) tops = tops ≡ ShuttingDown started ∷ []
 Shows script (activity.Dying death) tops = (waiting : List ℕ) × (tops ≡ death_shown death waiting) × IsSettled death
 Shows script (activity.Collecting asked collection) tops = HasHandedOut asked collection tops
 
@@ -93,6 +94,7 @@ abbrev pub is_collecting : Activity → Bool
 is_collecting (activity.Script next) = false
 is_collecting (activity.Frame locals procedure next) = false
 is_collecting (activity.Releasing release) = false
+is_collecting (activity.Shutdown started) = false
 is_collecting (activity.Dying death) = false
 is_collecting (activity.Collecting asked collection) = true
 

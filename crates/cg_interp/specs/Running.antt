@@ -1,34 +1,49 @@
--- A run of an engine: its turns, each with its line, and what they wrote so far. (Ours.)
+-- A run of an engine: its turns, each with its lines, and what they wrote so far. (Ours.)
 use Rattle.std.specs.Prelude.{◌≡◌, ℕ, List, [], ◌∷◌, ◌++◌, Option, flat_map}
 use Rattle.std.specs.Io.KnownBytes.{Appends}
 use Rattle.cg_io.specs.Causes.{AppendsFront}
 use Rattle.cg_script.specs.declared.Script.{Script}
 use Rattle.cg_graph.specs.Member.{Includes}
 use Rattle.cg_machine.specs.declared.event.Event.{Event}
-use Rattle.cg_machine.specs.declared.event.Event.TheVariants.{End, BudgetSpent}
+use Rattle.cg_machine.specs.declared.event.Event.TheVariants.{End, BudgetSpent, Left}
 use Rattle.cg_machine.specs.World.{World}
 use Rattle.cg_machine.specs.Run.{StepTaken, Run, IsRun, world_after, events_of}
 use Rattle.cg_machine.specs.Lines.{line, IsPrintable}
 use Rattle.cg_laws.specs.Kept.{StaysKept}
 use Rattle.cg_interp.specs.declared.turned.Turned.{Turned}
 use Rattle.cg_interp.specs.declared.turned.Turned.TheVariants as turned
+use Rattle.cg_interp.specs.declared.turned.Standing.{Standing}
+use Rattle.cg_interp.specs.declared.turned.Standing.TheVariants as standing
 use Rattle.cg_interp.specs.Engines.{State}
 use Rattle.cg_interp.specs.Collecting.{StandsWith}
 use Rattle.cg_interp.specs.Telling.{TurnsWith, Advances}
 
--- the event whose line is due after a turn, if one is
+-- the events whose lines are due after a turn
 abbrev pub events_told : Turned → List Event
 events_told turned.Quiet = []
 events_told (turned.Line event) = event ∷ []
+events_told (turned.Lines events) = events
 events_told turned.Ended = End ∷ []
+events_told (turned.Left n) = Left n ∷ End ∷ []
 events_told turned.Spent = BudgetSpent ∷ []
 
--- A turn of the engine, and its line was written.
-pub record WritesTurn (script : Script) (old : State) (w : World) (left : List Event) (e : State) (answer : Turned) (before now : Option (List ℕ)) : Type 0 where
+-- how the run stands after it
+abbrev pub standing_after : Turned → Standing
+standing_after turned.Quiet = standing.Running
+standing_after (turned.Line event) = standing.Running
+standing_after (turned.Lines events) = standing.Running
+standing_after turned.Ended = standing.Ended
+standing_after (turned.Left n) = standing.Ended
+standing_after turned.Spent = standing.Spent
+
+-- A turn of the engine, after which the run stands so, and its lines were written.
+pub record WritesTurn (script : Script) (old : State) (w : World) (left : List Event) (e : State) (stands : Standing) (before now : Option (List ℕ)) : Type 0 where
+  pub answer : Turned
+  pub is : standing_after answer ≡ stands
   pub turns : TurnsWith script (Advances old left e) w left e answer
   pub written : Appends before now (flat_map (line script.names) (events_told answer))
 
--- A turn of the engine, and a front of its line was written.
+-- A turn of the engine, and a front of its lines was written.
 pub record CutsTurn (script : Script) (old : State) (w : World) (left : List Event) (e : State) (before now : Option (List ℕ)) : Type 0 where
   pub answer : Turned
   pub turns : TurnsWith script (Advances old left e) w left e answer

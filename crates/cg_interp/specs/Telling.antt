@@ -3,7 +3,7 @@ use Rattle.std.specs.Prelude.{◌≡◌, ◌≢◌, ◌<◌, ◌⊎◌, Bool, Li
 use Rattle.cg_script.specs.declared.Script.{Script}
 use Rattle.cg_graph.specs.Store.{Store}
 use Rattle.cg_machine.specs.declared.event.Event.{Event}
-use Rattle.cg_machine.specs.declared.event.Event.TheVariants.{End, BudgetSpent}
+use Rattle.cg_machine.specs.declared.event.Event.TheVariants.{End, BudgetSpent, Left}
 use Rattle.cg_machine.specs.World.{World, Ended, BudgetIsSpent}
 use Rattle.cg_machine.specs.Represents.{Goes}
 use Rattle.cg_laws.specs.Kept.{StaysKept}
@@ -32,8 +32,10 @@ pub record GoesOnTo (script : Script) (may_rest : List Event → Type 0) (w : Wo
 abbrev pub TurnsWith : Script → (List Event → Type 0) → World → List Event → State → Turned → Type 0
 TurnsWith script may_rest w left e turned.Quiet = GoesOnTo script may_rest w left [] e
 TurnsWith script may_rest w left e (turned.Line event) = GoesOnTo script may_rest w left (event ∷ []) e
-TurnsWith script may_rest w left e turned.Ended = (left ≡ []) × EndsWith script w End Ended
-TurnsWith script may_rest w left e turned.Spent = (left ≡ []) × EndsWith script w BudgetSpent BudgetIsSpent
+TurnsWith script may_rest w left e (turned.Lines events) = GoesOnTo script may_rest w left events e
+TurnsWith script may_rest w left e turned.Ended = (left ≡ []) × EndsWith script w (End ∷ []) Ended
+TurnsWith script may_rest w left e (turned.Left n) = (left ≡ []) × EndsWith script w (Left n ∷ End ∷ []) Ended
+TurnsWith script may_rest w left e turned.Spent = (left ≡ []) × EndsWith script w (BudgetSpent ∷ []) BudgetIsSpent
 
 -- The collection on top has come nearer to its end, or is over.
 abbrev pub IsNearer : List Activity → Store → List Activity → Store → Type 0

@@ -2,7 +2,7 @@
 use Rattle.std.specs.Prelude.{◌≡◌, ◌≢◌, ℕ, ◌+◌, ◌*◌, ◌≤◌, length, List, [], ◌∷◌, ◌⊎◌, Option, None, Some, count_by}
 use Rattle.cg_script.specs.declared.Script.{Script}
 use Rattle.cg_machine.specs.declared.event.Event.{Event}
-use Rattle.cg_machine.specs.declared.event.Event.TheVariants.{End, BudgetSpent}
+use Rattle.cg_machine.specs.declared.event.Event.TheVariants.{End, BudgetSpent, Left}
 use Rattle.cg_machine.specs.World as machine
 use Rattle.cg_machine.specs.World.{World, Outcome, Ended, BudgetIsSpent, Dying}
 use Rattle.cg_graph.specs.Member.{Includes}
@@ -27,7 +27,9 @@ use Rattle.cg_interp.specs.Engines.{State, StandsFor}
 abbrev pub Makes : Script → Transition → State → Turned → Type 0
 Makes script transition e turned.Quiet = (transition.0 ≡ []) × StandsFor script e transition.1
 Makes script transition e (turned.Line event) = (transition.0 ≡ event ∷ []) × StandsFor script e transition.1
+Makes script transition e (turned.Lines events) = (transition.0 ≡ events) × StandsFor script e transition.1
 Makes script transition e turned.Ended = (transition.0 ≡ End ∷ []) × (transition.1.outcome ≡ Ended)
+Makes script transition e (turned.Left n) = (transition.0 ≡ Left n ∷ End ∷ []) × (transition.1.outcome ≡ Ended)
 Makes script transition e turned.Spent = (transition.0 ≡ BudgetSpent ∷ []) × (transition.1.outcome ≡ BudgetIsSpent)
 
 -- The machine goes on, with these lines, to a world for which the engine stands.
@@ -37,18 +39,20 @@ pub record GoesTo (script : Script) (w : World) (events : List Event) (e : State
   pub moves : goes.steps ≢ []
   pub stands : StandsFor script e after
 
--- The run ends so, with this line.
-pub record EndsWith (script : Script) (w : World) (event : Event) (outcome : Outcome) : Type 0 where
+-- The run ends so, with these lines.
+pub record EndsWith (script : Script) (w : World) (lines : List Event) (outcome : Outcome) : Type 0 where
   pub after : World
-  pub goes : Goes script w (event ∷ []) after
+  pub goes : Goes script w lines after
   pub ended : after.outcome ≡ outcome
 
 -- what a turn answers
 abbrev pub Turns : Script → World → State → Turned → Type 0
 Turns script w e turned.Quiet = GoesTo script w [] e
 Turns script w e (turned.Line event) = GoesTo script w (event ∷ []) e
-Turns script w e turned.Ended = EndsWith script w End Ended
-Turns script w e turned.Spent = EndsWith script w BudgetSpent BudgetIsSpent
+Turns script w e (turned.Lines events) = GoesTo script w events e
+Turns script w e turned.Ended = EndsWith script w (End ∷ []) Ended
+Turns script w e (turned.Left n) = EndsWith script w (Left n ∷ End ∷ []) Ended
+Turns script w e turned.Spent = EndsWith script w (BudgetSpent ∷ []) BudgetIsSpent
 
 -- The machine goes on, without a line, to a world in which the death of an object has begun: the engine stands for the
 -- world just before that.

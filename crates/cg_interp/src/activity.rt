@@ -18,6 +18,10 @@ pub enum Activity {
     },
     /// References that are given up one after the other.
     Releasing(Release),
+    /// The shutdown at the end of the script, and whether its collection was started.
+    Shutdown {
+        started: bool,
+    },
     /// The death of an object.
     Dying(Death),
     /// A collection, and whether a command asked for it.

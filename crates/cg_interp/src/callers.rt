@@ -1,9 +1,10 @@
 //! The script, or a frame, on top.
-ghost use Rattle.std.specs.Prelude.{◌≡◌, ◌<◌, ◌≤◌, ◌∷◌, true, length, Some};
+ghost use Rattle.std.specs.Prelude.{◌≡◌, ◌<◌, ◌≤◌, ◌∷◌, true, false, length, Some};
 ghost use Rattle.cg_heap.specs.Calls.{HasFewHolds};
 ghost use Rattle.cg_machine.specs.Program.{body_of};
 ghost use Rattle.cg_machine.specs.World.{World};
 ghost use Rattle.cg_script.specs.Spelled.{IsSpelled, IsSpelledCommand};
+ghost use Rattle.cg_inspect.specs.Inspection.{IsIdle};
 ghost use Rattle.cg_collect.specs.Numbers.{AreSmall};
 ghost use Rattle.cg_commands.specs.Stands.{LocalsLive, HasLocals};
 ghost use Rattle.cg_interp.specs.declared.activity.Activity.TheVariants as activity_of;
@@ -39,6 +40,7 @@ impl<B: Kind> Engine<B> {
         requires few { HasFewHolds self.old.store }
         requires last { self.old.store.last < 9223372036854775808 }
         requires small { AreSmall self.old.policy.numbers }
+        requires idle { self.old.policy.running ≡ false → IsIdle self.old.store }
         requires fit { IsFit script.now self.old }
         requires room { 2 < self.old.room }
         requires stands { (w : World) × StandsFor script.now (under top self.old) w × HasLocals locals w
@@ -69,6 +71,7 @@ impl<B: Kind> Engine<B> {
         requires few { HasFewHolds self.old.store }
         requires last { self.old.store.last < 9223372036854775808 }
         requires small { AreSmall self.old.policy.numbers }
+        requires idle { self.old.policy.running ≡ false → IsIdle self.old.store }
         requires fit { IsFit script.now self.old }
         requires room { 2 < self.old.room }
         requires stands { (w : World) × StandsFor script.now (under top self.old) w × HasLocals locals w
@@ -79,7 +82,14 @@ impl<B: Kind> Engine<B> {
         ensures fit { IsFit script.now self.new }
         ensures frames { self.new.frames ≡ self.old.frames }
     {
-        let done = perform(&mut self.heap, &mut self.policy, locals, command, room);
+        let done = perform(
+            self.alloc,
+            &mut self.heap,
+            &mut self.policy,
+            locals,
+            command,
+            room,
+        );
         self.answer(top, done, script, steps)
     }
 
@@ -118,7 +128,7 @@ impl<B: Kind> Engine<B> {
         self.stack.reserve_up_to(height).is_ok()
     }
 
-    /// Goes on with the script, which was on top. A collection that is due comes first.
+    /// Goes on with the script, which was on top. A collection that is due comes first, also before the end or the shutdown.
     pub fn go_on<L: Ledger>(
         &mut self,
         script: &Script,
@@ -129,6 +139,7 @@ impl<B: Kind> Engine<B> {
         requires few { HasFewHolds self.old.store }
         requires last { self.old.store.last < 9223372036854775808 }
         requires small { AreSmall self.old.policy.numbers }
+        requires idle { self.old.policy.running ≡ false → IsIdle self.old.store }
         requires fit { IsFit script.now self.old }
         requires room { 2 < self.old.room }
         requires stands { IsAtTurn script.now (activity_of.Script next) self.old }
@@ -147,7 +158,7 @@ impl<B: Kind> Engine<B> {
                 script,
                 steps,
             ),
-            None => Turned::Ended,
+            None => self.end_commands(script),
         }
     }
 
@@ -167,6 +178,7 @@ impl<B: Kind> Engine<B> {
         requires few { HasFewHolds self.old.store }
         requires last { self.old.store.last < 9223372036854775808 }
         requires small { AreSmall self.old.policy.numbers }
+        requires idle { self.old.policy.running ≡ false → IsIdle self.old.store }
         requires fit { IsFit script.now self.old }
         requires room { 2 < self.old.room }
         requires stands { IsAtTurn script.now (activity_of.Frame locals procedure next) self.old }
@@ -199,6 +211,7 @@ impl<B: Kind> Engine<B> {
         requires few { HasFewHolds self.old.store }
         requires last { self.old.store.last < 9223372036854775808 }
         requires small { AreSmall self.old.policy.numbers }
+        requires idle { self.old.policy.running ≡ false → IsIdle self.old.store }
         requires fit { IsFit script.now self.old }
         requires room { 2 < self.old.room }
         requires stands { IsAtTurn script.now (activity_of.Frame locals procedure next) self.old }

@@ -1,10 +1,13 @@
 //! What the engine does once a command has been performed.
 ghost use Rattle.std.specs.Prelude.{◌≡◌, ◌<◌, ◌≤◌, [], Ok, option_to_list};
+ghost use Rattle.cg_value.specs.declared.Val.TheVariants as val_of;
+ghost use Rattle.cg_graph.specs.Value.{item};
 ghost use Rattle.cg_graph.specs.Store.{IsLive, Store};
 ghost use Rattle.cg_heap.specs.Calls.{HasFewHolds};
 ghost use Rattle.cg_script.specs.declared.Script.{Script as AnyScript};
 ghost use Rattle.cg_script.specs.declared.Command.{Command as AnyCommand};
 ghost use Rattle.cg_script.specs.Spelled.{IsSpelled};
+ghost use Rattle.cg_death.specs.Activities.{references_left};
 ghost use Rattle.cg_machine.specs.World.{World, with_stack};
 ghost use Rattle.cg_machine.specs.Frame.{start_frame, procedure_of};
 ghost use Rattle.cg_machine.specs.Represents.{Represents};
@@ -18,13 +21,13 @@ ghost use Rattle.cg_interp.specs.Turns.{Makes, Keeps, IsFit};
 use crate::activity::Activity;
 use crate::engine::Engine;
 use crate::turned::Turned;
-use cg_commands::{Done, Refusal};
+use cg_commands::{Done, Lines, Refusal};
 use cg_death::Release;
 use cg_heap::{Heap, Steps};
 use cg_kind::Kind;
 use cg_machine::{Event, FrameSort, FrameSpec};
 use cg_script::Script;
-use cg_value::Entry;
+use cg_value::{Entry, Val};
 use std::sync::ledger::Ledger;
 
 impl<B: Kind> Engine<B> {
@@ -77,6 +80,7 @@ impl<B: Kind> Engine<B> {
             Done::Calls(function) => self.call(top, function),
             Done::Collects(generation) => self.collect_if_idle(top, generation, script, steps),
             Done::Quits => self.quit(top),
+            Done::Tells(lines) => self.tell(top, lines),
         }
     }
 
@@ -106,6 +110,19 @@ impl<B: Kind> Engine<B> {
             Some(event) => Turned::Line(event),
             None => Turned::Quiet,
         }
+    }
+
+    /// A command tells lines. Nothing is to be given up.
+    #[inline(always)]
+    fn tell(&mut self, top: Activity, lines: Lines) -> Turned
+        requires room { 1 < self.old.room }
+        ensures tells { (script : AnyScript) (after : World) → Changes script top self.old (item val_of.None) after
+            → Makes script (transition_of_change lines (item val_of.None) after) self.new result }
+        ensures keeps { Keeps self.old self.new }
+    {
+        self.stack.push(top);
+        self.stack.push(Activity::Releasing(nothing()));
+        Turned::Lines(lines)
     }
 
     /// A command ends the frame that it stands in, or the script.
@@ -166,6 +183,16 @@ impl<B: Kind> Engine<B> {
             self.collect(top, true, generation, script, steps)
         }
     }
+}
+
+/// A release that gives up nothing.
+fn nothing() -> Release
+    ensures { references_left result ≡ [] }
+{
+    Release::new(Entry {
+        key: Val::None,
+        val: Val::None,
+    })
 }
 
 /// The procedure of a function.

@@ -3,11 +3,14 @@ use crate::stack::Stack;
 use cg_heap::Heap;
 use cg_kind::Kind;
 use cg_policy::Policy;
+use std::alloc::Global;
 use std::marker::Model;
 
 /// A heap, the numbers of the collector, and what is under way over them.
 #[derive(Drop)]
 pub struct Engine<B: Kind> {
+    // Where the lists of inspections are made.
+    pub alloc: Global,
     pub heap: Heap<B>,
     pub policy: Policy,
     pub stack: Stack,

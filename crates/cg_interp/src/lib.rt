@@ -2,6 +2,7 @@
 #![tactic(auto)]
 
 mod activity;
+mod bound;
 mod callers;
 mod collecting;
 mod commands;
@@ -12,6 +13,7 @@ mod next;
 mod opening;
 mod releases;
 mod run;
+mod shutdown;
 mod stack;
 mod turned;
 mod turns;

@@ -33,6 +33,7 @@ impl<B: Kind> Engine<B> {
         let mut stack = Stack::new(alloc, budget as usize + 10)?;
         stack.push(Activity::Script { next: Some(0) });
         Ok(Engine {
+            alloc,
             heap,
             policy: Policy::new(),
             stack,

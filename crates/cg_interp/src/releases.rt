@@ -57,9 +57,11 @@ impl<B: Kind> Engine<B> {
         ensures keeps { Keeps self.old self.new }
     {
         match self.release(release) {
-            Some(object) => self.die(object),
-            None => {}
+            Some(object) => {
+                self.die(object);
+                Turned::Quiet
+            }
+            None => Turned::Quiet,
         }
-        Turned::Quiet
     }
 }

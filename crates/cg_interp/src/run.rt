@@ -16,7 +16,7 @@ ghost use Rattle.cg_interp.specs.Written.{WroteRun, WrotePart, WroteKept};
 ghost use Rattle.cg_interp.specs.Running.{HasLaws, StaysPrintable, WritesTurn, CutsTurn};
 
 use crate::engine::Engine;
-use crate::turned::Turned;
+use crate::turned::Standing;
 use crate::writing::write_answer;
 use cg_heap::{Heap, Steps};
 use cg_io::{Sink, WriteFailed};
@@ -42,21 +42,21 @@ pub enum RunEnd {
     OutOfMemory,
 }
 
-/// One turn, and its line.
+/// One turn, and its lines.
 fn turn_and_write<B: Kind, K: Sink, L: Ledger>(
     engine: &mut Engine<B>,
     script: &Script,
     steps: &mut Steps<L>,
     text: &mut LineText,
     sink: &mut K,
-) -> Result<Turned, WriteFailed>
+) -> Result<Standing, WriteFailed>
     requires spelled { IsSpelled script.now }
     requires fit { IsFit script.now engine.old }
     requires stands { (w : World) × (left : List AnyEvent) × StandsWith script.now engine.old left w
         × StaysKept script.now engine.old.frames w × StaysPrintable script.now left w }
-    ensures ok { IfOk result (λ answer. (w : World) (left : List AnyEvent) → StandsWith script.now engine.old left w
+    ensures ok { IfOk result (λ stands. (w : World) (left : List AnyEvent) → StandsWith script.now engine.old left w
         → StaysKept script.now engine.old.frames w
-        → WritesTurn script.now engine.old w left engine.new answer (K.written sink.old) (K.written sink.new)) }
+        → WritesTurn script.now engine.old w left engine.new stands (K.written sink.old) (K.written sink.new)) }
     ensures err { OnErr result ((w : World) (left : List AnyEvent) → StandsWith script.now engine.old left w
         → StaysKept script.now engine.old.frames w
         → CutsTurn script.now engine.old w left engine.new (K.written sink.old) (K.written sink.new)) }
@@ -68,13 +68,13 @@ fn turn_and_write<B: Kind, K: Sink, L: Ledger>(
     let answer = engine.turn(script, steps);
     // No heap is large, so a collection has few lines left after a turn, and little to do.
     engine.heap.sound();
-    match write_answer(answer, &script.names, text, sink) {
-        Ok(()) => Ok(answer),
+    match write_answer(&answer, &script.names, text, sink) {
+        Ok(()) => Ok(answer.standing()),
         Err(fault) => Err(fault),
     }
 }
 
-/// Turns, each with its line, until the run has ended or the sink has failed.
+/// Turns, each with its lines, until the run has ended or the sink has failed.
 fn run_turns<B: Kind, K: Sink, L: Ledger>(
     engine: &mut Engine<B>,
     script: &Script,
@@ -99,10 +99,9 @@ fn run_turns<B: Kind, K: Sink, L: Ledger>(
     let mut text = LineText::new();
     'turns: loop {
         match turn_and_write(engine, script, steps, &mut text, sink) {
-            Ok(Turned::Quiet) => {}
-            Ok(Turned::Line(_)) => {}
-            Ok(Turned::Ended) => return RunEnd::Done,
-            Ok(Turned::Spent) => return RunEnd::Budget,
+            Ok(Standing::Running) => {}
+            Ok(Standing::Ended) => return RunEnd::Done,
+            Ok(Standing::Spent) => return RunEnd::Budget,
             Err(WriteFailed) => return RunEnd::WriteFault,
         }
     }

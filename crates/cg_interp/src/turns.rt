@@ -52,6 +52,7 @@ impl<B: Kind> Engine<B> {
                 next,
             } => self.turn_of_frame(script, locals, procedure, next, steps),
             Activity::Releasing(release) => self.turn_of_release(release),
+            Activity::Shutdown { started } => self.turn_of_shutdown(script, started, steps),
             Activity::Dying(death) => self.turn_of_death(script, death),
             Activity::Collecting { asked, collection } => {
                 self.turn_of_collection(asked, collection, script, steps)
@@ -118,6 +119,29 @@ impl<B: Kind> Engine<B> {
         ensures frames { self.new.frames ≡ self.old.frames }
     {
         self.go_on_releasing(release)
+    }
+
+    /// A turn of the shutdown, which was on top.
+    #[inline(always)]
+    fn turn_of_shutdown<L: Ledger>(
+        &mut self,
+        script: &Script,
+        started: bool,
+        steps: &mut Steps<L>,
+    ) -> Turned
+        requires spelled { IsSpelled script.now }
+        requires fit { IsFit script.now self.old }
+        requires stands { IsAtTurn script.now (activity_of.Shutdown started) self.old }
+        ensures turns { TurnsFrom script.now (activity_of.Shutdown started) self.old self.new result }
+        ensures fit { IsFit script.now self.new }
+        ensures frames { self.new.frames ≡ self.old.frames }
+    {
+        self.heap.sound();
+        if started {
+            self.tell_left()
+        } else {
+            self.shut_down(script, steps)
+        }
     }
 
     /// A turn of a death, which was on top.

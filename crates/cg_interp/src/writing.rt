@@ -5,6 +5,7 @@ ghost use Rattle.cg_io.specs.Causes.{HasCause, AppendsFront};
 ghost use Rattle.cg_graph.specs.Member.{Includes};
 ghost use Rattle.cg_machine.specs.declared.event.Event.{Event as AnyEvent};
 ghost use Rattle.cg_machine.specs.Lines.{line, IsPrintable};
+ghost use Rattle.cg_interp.specs.declared.turned.Turned.TheVariants as turned_of;
 ghost use Rattle.cg_interp.specs.Running.{events_told};
 
 use crate::turned::Turned;
@@ -29,24 +30,61 @@ fn write_event<K: Sink>(
     sink.write(text.as_str().as_bytes())
 }
 
-/// Writes the line that is due after a turn, if one is.
-pub fn write_answer<K: Sink>(
-    answer: Turned,
+/// Writes lines, one `write` a line, until one fails.
+fn write_events<K: Sink>(
+    events: &[Event],
     names: &Names,
     text: &mut LineText,
     sink: &mut K,
 ) -> Result<(), WriteFailed>
-    requires { (event : AnyEvent) → Includes (events_told answer) event → IsPrintable names.now event }
+    requires { (event : AnyEvent) → Includes events.now event → IsPrintable names.now event }
+    ensures ok { OnOk result (Appends (K.written sink.old) (K.written sink.new) (flat_map (line names.now) events.now)) }
+    ensures err { OnErr result (AppendsFront (K.written sink.old) (K.written sink.new) (flat_map (line names.now) events.now)) }
+    ensures cause { HasCause (K.faults sink.old) (K.faults sink.new) result }
+{
+    'events: for event in events.iter() {
+        write_event(event, names, text, sink)?;
+    }
+    Ok(())
+}
+
+/// Writes the lines of the last step of a run that ends with a count of what is left.
+fn write_left<K: Sink>(
+    number: u64,
+    names: &Names,
+    text: &mut LineText,
+    sink: &mut K,
+) -> Result<(), WriteFailed>
+    requires { (event : AnyEvent) → Includes (events_told (turned_of.Left number)) event → IsPrintable names.now event }
     ensures ok { OnOk result (Appends (K.written sink.old) (K.written sink.new)
-        (flat_map (line names.now) (events_told answer))) }
+        (flat_map (line names.now) (events_told (turned_of.Left number)))) }
     ensures err { OnErr result (AppendsFront (K.written sink.old) (K.written sink.new)
-        (flat_map (line names.now) (events_told answer))) }
+        (flat_map (line names.now) (events_told (turned_of.Left number)))) }
+    ensures cause { HasCause (K.faults sink.old) (K.faults sink.new) result }
+{
+    write_events(&[Event::Left(number), Event::End], names, text, sink)
+}
+
+/// Writes the lines that are due after a turn, if there are any.
+pub fn write_answer<K: Sink>(
+    answer: &Turned,
+    names: &Names,
+    text: &mut LineText,
+    sink: &mut K,
+) -> Result<(), WriteFailed>
+    requires { (event : AnyEvent) → Includes (events_told answer.now) event → IsPrintable names.now event }
+    ensures ok { OnOk result (Appends (K.written sink.old) (K.written sink.new)
+        (flat_map (line names.now) (events_told answer.now))) }
+    ensures err { OnErr result (AppendsFront (K.written sink.old) (K.written sink.new)
+        (flat_map (line names.now) (events_told answer.now))) }
     ensures cause { HasCause (K.faults sink.old) (K.faults sink.new) result }
 {
     match answer {
         Turned::Quiet => Ok(()),
-        Turned::Line(event) => write_event(&event, names, text, sink),
+        Turned::Line(event) => write_event(event, names, text, sink),
+        Turned::Lines(lines) => write_events(lines.as_slice(), names, text, sink),
         Turned::Ended => write_event(&Event::End, names, text, sink),
+        Turned::Left(number) => write_left(*number, names, text, sink),
         Turned::Spent => write_event(&Event::BudgetSpent, names, text, sink),
     }
 }

@@ -1,6 +1,6 @@
 use Rattle.std.proofs.Common.{◌∙◌, refl, arith}
 use Rattle.cg_interp.proofs.Sizes.{small}
-use Rattle.cg_interp.proofs.RunLemmas.{turn_may_be_taken, ran_quietly, ran_line, ran_to_end, ran_out, ran_cut, falls_quietly, falls_with_line, ran_start}
+use Rattle.cg_interp.proofs.RunLemmas.{turn_may_be_taken, ran_on, ran_to_end, ran_out, ran_cut, falls_on, ran_start}
 use Rattle.cg_interp.proofs.run.run_turns.Goals as goal
 
 pub turns-init : goal.turns-init
@@ -9,23 +9,12 @@ turns-init g c = record { ran = ran_start c.args.script.now _ _ _ c.requires.ope
 pub turn_and_write-requires-clause-stands : goal.turn_and_write-requires-clause-stands
 turn_and_write-requires-clause-stands g c = turn_may_be_taken _ _ _ _ _ c.turns.invariant.ran c.requires.laws c.turns.invariant.frames
 
-pub turns-smaller-in-Ok-Quiet : goal.turns-smaller-in-Ok-Quiet
-turns-smaller-in-Ok-Quiet g c = falls_quietly _ _ _ _ _ c.turns.invariant.ran c.requires.laws c.turns.invariant.frames _ _ _ (small _ c.turn_and_write.ensures.sound) c.in-Ok-Quiet.field-0-is c.in-Ok-Quiet.ensures.ok
-
-pub turns-preserved-in-Ok-Quiet : goal.turns-preserved-in-Ok-Quiet
-turns-preserved-in-Ok-Quiet g c = record {
-  ran = ran_quietly _ _ _ _ _ c.turns.invariant.ran c.requires.laws c.turns.invariant.frames _ _ _ c.in-Ok-Quiet.field-0-is c.in-Ok-Quiet.ensures.ok;
-  fit = c.turn_and_write.ensures.fit;
-  frames = c.turn_and_write.ensures.frames ∙ c.turns.invariant.frames;
-  later = omega (arith, c.turns.invariant.later, c.turn_and_write.ensures.cause.later);
-}
-
 pub turns-smaller : goal.turns-smaller
-turns-smaller g c = falls_with_line _ _ _ _ _ c.turns.invariant.ran c.requires.laws c.turns.invariant.frames _ _ _ _ (small _ c.turn_and_write.ensures.sound) c.in-Ok-Line.field-0-is c.in-Ok-Line.ensures.ok
+turns-smaller g c = falls_on _ _ _ _ _ c.turns.invariant.ran c.requires.laws c.turns.invariant.frames _ _ _ (small _ c.turn_and_write.ensures.sound) c.in-Ok-Running.field-0-is c.in-Ok-Running.ensures.ok
 
 pub turns-preserved : goal.turns-preserved
 turns-preserved g c = record {
-  ran = ran_line _ _ _ _ _ c.turns.invariant.ran c.requires.laws c.turns.invariant.frames _ _ _ _ c.in-Ok-Line.field-0-is c.in-Ok-Line.ensures.ok;
+  ran = ran_on _ _ _ _ _ c.turns.invariant.ran c.requires.laws c.turns.invariant.frames _ _ _ c.in-Ok-Running.field-0-is c.in-Ok-Running.ensures.ok;
   fit = c.turn_and_write.ensures.fit;
   frames = c.turn_and_write.ensures.frames ∙ c.turns.invariant.frames;
   later = omega (arith, c.turns.invariant.later, c.turn_and_write.ensures.cause.later);

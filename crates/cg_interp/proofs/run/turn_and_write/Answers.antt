@@ -1,3 +1,4 @@
+use Rattle.std.proofs.Common.{sym}
 use Rattle.cg_interp.proofs.RunLemmas.{told_printable}
 use Rattle.cg_interp.proofs.run.turn_and_write.Goals as goal
 
@@ -5,3 +6,9 @@ pub write_answer-requires : goal.write_answer-requires
 write_answer-requires g c =
     let s = c.requires.stands in
     told_printable c.args.script.now _ s.0 s.1 _ c.turn-answer.result (c.turn-answer.ensures.turns s.0 s.1 s.2 s.3) s.4
+
+pub returns-in-Ok-clause-ok : goal.returns-in-Ok-clause-ok
+returns-in-Ok-clause-ok g c = λ w left stands kept. record { answer = c.turn-answer.result; is = sym c.standing.ensures; turns = c.turn-answer.ensures.turns w left stands kept; written = c.in-Ok.ensures.ok }
+
+pub returns-clause-err : goal.returns-clause-err
+returns-clause-err g c = λ w left stands kept. record { answer = c.turn-answer.result; turns = c.turn-answer.ensures.turns w left stands kept; written = c.in-Err.ensures.err }

@@ -6,7 +6,8 @@ use Rattle.cg_policy.specs.Policy.{due_of}
 use Rattle.cg_interp.specs.declared.activity.Activity.TheVariants as activity_of
 use Rattle.cg_interp.specs.Engines.{State, under}
 use Rattle.cg_interp.proofs.SpelledLemmas.{script_doable}
-use Rattle.cg_interp.proofs.StepLemmas.{due_in, none_due_in, kept_after, turns_after, command_turns, command_keeps, is_there, script_collects, script_ends, script_goes_on, script_stands, script_locals, script_does}
+use Rattle.cg_interp.proofs.StepLemmas.{due_in, none_due_in, kept_after, turns_after, command_turns, command_keeps, is_there, script_collects, script_goes_on, script_stands, script_locals, script_does}
+use Rattle.cg_interp.proofs.Telling.{turns_plainly}
 use Rattle.cg_interp.proofs.engine.Engine.go_on.Goals as goal
 
 pub collect-requires-clause-stands : goal.collect-requires-clause-stands
@@ -53,4 +54,4 @@ returns-in-Some-next_in-clause-turns g c = λ w stands kept.
 pub returns-in-None-clause-turns : goal.returns-in-None-clause-turns
 returns-in-None-clause-turns g c = λ w stands kept.
     let none = none_due_in c.args.script.now (under (activity_of.Script c.args.next) c.args.self.now) w c.due.result stands (c.due.ensures ∙ ap (λ (e : State). due_of e.policy) c.self.view_is) c.in_default.not-Some in
-    (refl, script_ends c.args.script.now c.args.self.now c.args.next w stands c.args.self.now none c.in-None.ensures.none)
+    turns_plainly c.args.script.now w c.end_commands.new.self c.end_commands.result (c.end_commands.ensures.ends c.args.next w c.in-None.ensures.none none stands)

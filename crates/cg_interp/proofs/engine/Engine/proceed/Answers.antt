@@ -1,10 +1,12 @@
 use Rattle.std.proofs.Common.{sym, subst, inl, Ok}
 use Rattle.std.specs.Prelude.{option_to_list}
+use Rattle.cg_value.specs.declared.Val.TheVariants as val_of
+use Rattle.cg_graph.specs.Value.{item}
 use Rattle.cg_heap.specs.Calls.{HasFewHolds}
 use Rattle.cg_machine.specs.Commands.{effect}
 use Rattle.cg_machine.specs.Frame.{start_frame}
 use Rattle.cg_interp.specs.Callers.{IsPerformed, HasPerformed, transition_of_change, call_of}
-use Rattle.cg_interp.proofs.AnswerLemmas.{change_may, call_may, quit_may, changed, as_before, called_lives}
+use Rattle.cg_interp.proofs.AnswerLemmas.{change_may, call_may, quit_may, changed, told, as_before, called_lives}
 use Rattle.cg_interp.proofs.Keeping.{still_fit}
 use Rattle.cg_interp.proofs.engine.Engine.proceed.Goals as goal
 
@@ -57,6 +59,15 @@ pub returns-in-Collects-clause-does : goal.returns-in-Collects-clause-does
 returns-in-Collects-clause-does g c = λ w command before was performed.
     let p = subst (λ d. IsPerformed c.args.script.now c.args.top c.args.self.now w command before was (Ok d)) c.in-Collects.is performed in
     c.collect_if_idle.ensures.does command w (as_before c.args.script.now c.args.self.now c.args.top w command before was p.stood p.answers.heap.2 p.answers.policy) p.answers.heap.0 p.kept
+
+pub returns-in-Tells-clause-does : goal.returns-in-Tells-clause-does
+returns-in-Tells-clause-does g c = λ w command before was performed.
+    let p = subst (λ d. IsPerformed c.args.script.now c.args.top c.args.self.now w command before was (Ok d)) c.in-Tells.is performed in
+    let t = told c.args.script.now c.args.self.now c.args.top w command before was c.in-Tells.lines p in
+    inl (record { transition = transition_of_change c.in-Tells.lines (item val_of.None) t.after; may = t.may; makes = c.tell.ensures.tells c.args.script.now t.after t.changes })
+
+pub returns-in-Tells-clause-fit : goal.returns-in-Tells-clause-fit
+returns-in-Tells-clause-fit g c = still_fit c.args.script.now c.args.self.now c.tell.new.self c.tell.ensures.keeps c.requires.fit
 
 pub returns-in-Quits-clause-does : goal.returns-in-Quits-clause-does
 returns-in-Quits-clause-does g c = λ w command before was performed.

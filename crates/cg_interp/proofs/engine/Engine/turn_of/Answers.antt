@@ -20,7 +20,16 @@ returns-in-Releasing-clause-turns g c =
     subst (λ top. TurnsAny c.args.script.now (under top c.args.self.now) c.turn_of_release.new.self c.turn_of_release.result) (sym c.in-Releasing.is)
     (turns_any c.args.script.now (activity_of.Releasing c.in-Releasing.release) c.args.self.now c.turn_of_release.new.self c.turn_of_release.result refl (c.turn_of_release.ensures.turns c.args.script.now))
 
+pub returns-in-Shutdown-clause-turns : goal.returns-in-Shutdown-clause-turns
+returns-in-Shutdown-clause-turns g c =
+    subst (λ top. TurnsAny c.args.script.now (under top c.args.self.now) c.turn_of_shutdown.new.self c.turn_of_shutdown.result) (sym c.in-Shutdown.is)
+    (turns_any c.args.script.now (activity_of.Shutdown c.in-Shutdown.started) c.args.self.now c.turn_of_shutdown.new.self c.turn_of_shutdown.result refl c.turn_of_shutdown.ensures.turns)
+
 pub returns-in-Dying-clause-turns : goal.returns-in-Dying-clause-turns
 returns-in-Dying-clause-turns g c =
     subst (λ top. TurnsAny c.args.script.now (under top c.args.self.now) c.turn_of_death.new.self c.turn_of_death.result) (sym c.in-Dying.is)
     (turns_any c.args.script.now (activity_of.Dying c.in-Dying.death) c.args.self.now c.turn_of_death.new.self c.turn_of_death.result refl c.turn_of_death.ensures.turns)
+
+pub returns-in-Collecting-clause-turns : goal.returns-in-Collecting-clause-turns
+returns-in-Collecting-clause-turns g c =
+    subst (λ top. TurnsAny c.args.script.now (under top c.args.self.now) c.turn_of_collection.new.self c.turn_of_collection.result) (sym c.in-Collecting.is) c.turn_of_collection.ensures.turns

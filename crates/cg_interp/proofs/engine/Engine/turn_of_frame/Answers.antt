@@ -3,6 +3,7 @@ use Rattle.cg_heap.specs.Calls.{IsSound}
 use Rattle.cg_collect.specs.Numbers.{AreSmall}
 use Rattle.cg_interp.specs.declared.activity.Activity.TheVariants as activity_of
 use Rattle.cg_interp.proofs.Lawfully.{has_room, few_holds, few_objects}
+use Rattle.cg_interp.proofs.CollectBegins.{idle_in}
 use Rattle.cg_interp.proofs.SmallNumbers.{small_numbers}
 use Rattle.cg_interp.proofs.SpelledLemmas.{low_serials, locals_are_live}
 use Rattle.cg_interp.proofs.engine.Engine.turn_of_frame.Goals as goal
@@ -27,6 +28,11 @@ pub go_on_in-requires-clause-small : goal.go_on_in-requires-clause-small
 go_on_in-requires-clause-small g c =
     let s = c.requires.stands in
     subst AreSmall (sym s.1.numbers) (small_numbers c.args.script.now c.args.self.now.frames s.0 c.requires.spelled (s.2 [] tt).few c.requires.fit.frames)
+
+pub go_on_in-requires-clause-idle : goal.go_on_in-requires-clause-idle
+go_on_in-requires-clause-idle g c = λ none.
+    let s = c.requires.stands in
+    idle_in c.args.script.now c.args.self.now.frames (activity_of.Frame c.args.locals c.args.procedure c.args.next) c.args.self.now s.0 s.1 (subst (λ e. IsSound e.store) c.self.view_is c.sound.ensures) (s.2 [] tt) none
 
 pub go_on_in-requires-clause-room : goal.go_on_in-requires-clause-room
 go_on_in-requires-clause-room g c =

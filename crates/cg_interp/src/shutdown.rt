@@ -1,0 +1,97 @@
+//! The shutdown at the end of a script that declares one: all names are given up, a full collection runs, and what is left
+//! is counted.
+ghost use Rattle.std.specs.Prelude.{◌≡◌, ◌<◌, ℕ, Option, [], None, Some, false, true, length};
+ghost use Rattle.cg_script.specs.declared.Script.{Script as AnyScript};
+ghost use Rattle.cg_script.specs.Spelled.{IsSpelled};
+ghost use Rattle.cg_heap.specs.Calls.{HasFewHolds, IsSound};
+ghost use Rattle.cg_graph.specs.Value.{references_of_value};
+ghost use Rattle.cg_death.specs.Activities.{references_left};
+ghost use Rattle.cg_machine.specs.Program.{commands_of};
+ghost use Rattle.cg_machine.specs.World.{World};
+ghost use Rattle.cg_machine.specs.Due.{due};
+ghost use Rattle.cg_machine.specs.Shutdown.{greatest_from};
+ghost use Rattle.cg_interp.specs.declared.activity.Activity.TheVariants as activity_of;
+ghost use Rattle.cg_interp.specs.Engines.{StandsFor, under, commands_from};
+ghost use Rattle.cg_interp.specs.Turns.{Turns, Keeps, IsFit};
+ghost use Rattle.cg_interp.specs.Telling.{IsAtTurn, TurnsFrom};
+
+use crate::activity::Activity;
+use crate::bound::greatest_bound;
+use crate::engine::Engine;
+use crate::turned::Turned;
+use cg_death::Release;
+use cg_heap::Steps;
+use cg_kind::Kind;
+use cg_script::Script;
+use cg_value::{Entry, Val};
+use std::sync::ledger::Ledger;
+
+impl<B: Kind> Engine<B> {
+    /// The script, which was on top, has no command left: the run ends, or the shutdown comes in its place.
+    pub fn end_commands(&mut self, script: &Script) -> Turned
+        requires room { 0 < self.old.room }
+        ensures ends { (next : Option ℕ) (w : World) → commands_from next (commands_of script.now.items) ≡ [] → due w ≡ None
+            → StandsFor script.now (under (activity_of.Script next) self.old) w → Turns script.now w self.new result }
+        ensures keeps { Keeps self.old self.new }
+    {
+        if script.shutdown() {
+            self.stack.push(Activity::Shutdown { started: false });
+            Turned::Quiet
+        } else {
+            Turned::Ended
+        }
+    }
+
+    /// Gives up the bound name with the greatest number, or, where none is bound, starts the last collection. The shutdown was
+    /// on top.
+    pub fn shut_down<L: Ledger>(&mut self, script: &Script, steps: &mut Steps<L>) -> Turned
+        requires spelled { IsSpelled script.now }
+        requires few { HasFewHolds self.old.store }
+        requires fit { IsFit script.now self.old }
+        requires room { 2 < self.old.room }
+        requires stands { IsAtTurn script.now (activity_of.Shutdown false) self.old }
+        ensures turns { TurnsFrom script.now (activity_of.Shutdown false) self.old self.new result }
+        ensures fit { IsFit script.now self.new }
+        ensures frames { self.new.frames ≡ self.old.frames }
+    {
+        match greatest_bound(&self.heap, script.names.len()) {
+            Some(name) => self.give_up(name),
+            None => self.collect(Activity::Shutdown { started: true }, false, 2, script, steps),
+        }
+    }
+
+    /// Gives up what stands under a name, the greatest that is bound. The shutdown was on top.
+    fn give_up(&mut self, name: u32) -> Turned
+        requires name { name < length self.old.store.names }
+        requires few { HasFewHolds self.old.store }
+        requires room { 1 < self.old.room }
+        ensures gives { greatest_from 0 self.old.store.names ≡ Some name → (script : AnyScript) (w : World)
+            → StandsFor script (under (activity_of.Shutdown false) self.old) w → Turns script w self.new result }
+        ensures keeps { Keeps self.old self.new }
+    {
+        self.heap.sound();
+        let val = self.heap.unbind(name);
+        self.stack.push(Activity::Shutdown { started: false });
+        self.stack.push(Activity::Releasing(release_of(val)));
+        Turned::Quiet
+    }
+
+    /// Tells how many objects are left, which is the end. The shutdown was on top, and its collection is over.
+    pub fn tell_left(&self) -> Turned
+        requires sound { IsSound self.now.store }
+        ensures left { (script : AnyScript) (w : World) → StandsFor script (under (activity_of.Shutdown true) self.now) w
+            → Turns script w self.now result }
+    {
+        Turned::Left(self.heap.live())
+    }
+}
+
+/// Gives up what a name had.
+fn release_of(val: Option<Val>) -> Release
+    ensures { references_left result ≡ references_of_value val }
+{
+    Release::new(Entry {
+        key: Val::None,
+        val: val.unwrap_or(Val::None),
+    })
+}
