@@ -145,23 +145,26 @@ module _ (script : Script) (e new : State) (name : ℕ) (was : Option Val) (rele
   pub gives_up : IsSound e.store → slice_get e.store.names name ≡ Some was → greatest_from 0 e.store.names ≡ Some name → new.store ≡ held (references_of_value was) (named name None e.store) → references_left release ≡ references_of_value was → new.policy ≡ e.policy
       → new.activities ≡ activity.Releasing release ∷ activity.Shutdown false ∷ e.activities → new.budget ≡ e.budget → Turns script w new turned.Quiet
   gives_up sound at found store left policy activities budget =
-      turns script w new ([], gave_up) turned.Quiet stands.running (shuts script e false w stands (Some name) found) (refl, record {
-        represents = subst (λ st. Represents st gave_up) (sym store)
-            (subst (λ rs. Represents (held (references_of_value was) (named name None e.store)) (push (Releasing rs) (bound w name None))) (sym given)
-            (released (named name None e.store) (bound w name None) (renamed e.store w stands.represents name None) (references_of_value was) was_live));
-        shows = subst (λ l. ShowsAll script l (Releasing (given_up_by w name) ∷ w.stack)) (sym activities) (record {
-          tops = Releasing (given_up_by w name) ∷ [];
-          below = w.stack;
-          shows = ap (λ rs. Releasing rs ∷ []) (given ∙ sym left);
-          some = λ e. absurd (cc);
-          over = stands.shows;
-          is = refl;
-        });
-        budget = stands.budget ∙ sym budget;
-        running = stands.running;
-        numbers = ap (λ (p : Policy). p.numbers) policy ∙ stands.numbers;
-        collecting = ap (λ (p : Policy). p.running) policy ∙ stands.collecting ∙ sym (ap any_collecting activities);
-      })
+      turns script w new ([], gave_up) turned.Quiet stands.running (shuts script e false w stands (Some name) found) (
+        refl,
+        record {
+          represents = subst (λ st. Represents st gave_up) (sym store)
+              (subst (λ rs. Represents (held (references_of_value was) (named name None e.store)) (push (Releasing rs) (bound w name None))) (sym given)
+              (released (named name None e.store) (bound w name None) (renamed e.store w stands.represents name None) (references_of_value was) was_live));
+          shows = subst (λ l. ShowsAll script l (Releasing (given_up_by w name) ∷ w.stack)) (sym activities) (record {
+            tops = Releasing (given_up_by w name) ∷ [];
+            below = w.stack;
+            shows = ap (λ rs. Releasing rs ∷ []) (given ∙ sym left);
+            some = λ e. absurd (cc);
+            over = stands.shows;
+            is = refl;
+          });
+          budget = stands.budget ∙ sym budget;
+          running = stands.running;
+          numbers = ap (λ (p : Policy). p.numbers) policy ∙ stands.numbers;
+          collecting = ap (λ (p : Policy). p.running) policy ∙ stands.collecting ∙ sym (ap any_collecting activities);
+        },
+      )
     where
       given : given_up_by w name ≡ references_of_value was
       given = ap (λ x. references_of_value (option_and_then (λ v. v) x)) (ap (λ ns. slice_get ns name) (sym stands.represents.names) ∙ at)

@@ -56,7 +56,13 @@ impl<B: Kind> Engine<B> {
     {
         match greatest_bound(&self.heap, script.names.len()) {
             Some(name) => self.give_up(name),
-            None => self.collect(Activity::Shutdown { started: true }, false, 2, script, steps),
+            None => self.collect(
+                Activity::Shutdown { started: true },
+                false,
+                2,
+                script,
+                steps,
+            ),
         }
     }
 

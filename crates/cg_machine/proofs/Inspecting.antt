@@ -44,18 +44,18 @@ held_in_entry w x n m h = Includes-append_left (name_holdings w.names ++ (1 ∷ 
 held_else : (w : World) (o n : ℕ) → IsHeldElse (other_holdings w) o n → Includes (holdings w) n
 held_else w o n held =
     either (Includes-append_cases (name_holdings w.names ++ (1 ∷ [])) (flat_map holds w.stack) n (Includes-of_count n (name_holdings w.names ++ (1 ∷ []) ++ flat_map holds w.stack) (omega (arith, held))))
-        (λ m. Includes-append_left (name_holdings w.names ++ (1 ∷ []) ++ entry_holdings (graph_of w.objects)) (flat_map holds w.stack) n
-            (Includes-append_left (name_holdings w.names ++ (1 ∷ [])) (entry_holdings (graph_of w.objects)) n m))
-        (λ m. Includes-append_right (name_holdings w.names ++ (1 ∷ []) ++ entry_holdings (graph_of w.objects)) (flat_map holds w.stack) n m)
+    (λ m. Includes-append_left (name_holdings w.names ++ (1 ∷ []) ++ entry_holdings (graph_of w.objects)) (flat_map holds w.stack) n
+    (Includes-append_left (name_holdings w.names ++ (1 ∷ [])) (entry_holdings (graph_of w.objects)) n m))
+    (λ m. Includes-append_right (name_holdings w.names ++ (1 ∷ []) ++ entry_holdings (graph_of w.objects)) (flat_map holds w.stack) n m)
 
 -- what an edge leads to
 edge_holder : (objects : List Object) (from to : ℕ) → Includes (edges (graph_of objects)) (record { from = from; to = to }) → (x : Object) × Includes objects x × Includes (references x.entries) to
 edge_holder [] from to m = absurd m
 edge_holder (x ∷ objects) from to m =
     either (Includes-append_cases (map (λ (r : ℕ). record { from = x.serial; to = r }) (references x.entries)) (edges (graph_of objects)) (record { from = from; to = to }) m)
-        (λ k. let e = Includes-map_cases (λ (r : ℕ). record { from = x.serial; to = r }) (references x.entries) (record { from = from; to = to }) k in
-            (x, inl refl, subst (Includes (references x.entries)) (ap (λ (edge : Edge). edge.to) e.2) e.1))
-        (λ k. let f = edge_holder objects from to k in (f.0, inr f.1, f.2))
+    (λ k. let e = Includes-map_cases (λ (r : ℕ). record { from = x.serial; to = r }) (references x.entries) (record { from = from; to = to }) k in
+    (x, inl refl, subst (Includes (references x.entries)) (ap (λ (edge : Edge). edge.to) e.2) e.1))
+    (λ k. let f = edge_holder objects from to k in (f.0, inr f.1, f.2))
 
 -- the rest of a path
 led_there : (w : World) (from : ℕ) (path : List ℕ) (o : ℕ) → LeadsTo (edges (graph_of w.objects)) from path o → AllTellThere w (map Via path)
@@ -75,8 +75,8 @@ explained w o lines (HasNone none) line m = either m (λ e. subst (TellsThere w)
 listed : (w : World) (tells : ℕ → Event) (objects : List ℕ) (count : ℕ) → ((n : ℕ) → Includes objects n → TellsThere w (tells n)) → AllTellThere w (map tells objects ++ Listed count ∷ [])
 listed w tells objects count there line m =
     either (Includes-append_cases (map tells objects) (Listed count ∷ []) line m)
-        (λ k. let e = Includes-map_cases tells objects line k in subst (TellsThere w) e.2 (there e.0 e.1))
-        (λ k. either k (λ e. subst (TellsThere w) e tt) (λ no. absurd no))
+    (λ k. let e = Includes-map_cases tells objects line k in subst (TellsThere w) e.2 (there e.0 e.1))
+    (λ k. either k (λ e. subst (TellsThere w) e tt) (λ no. absurd no))
 
 pub referents_there : (w : World) (x : Object) (count : ℕ) → Includes w.objects x → AllTellThere w (map Referent (references x.entries) ++ Listed count ∷ [])
 referents_there w x count m = listed w (λ n. Referent n) (references x.entries) count (λ n h. inl (held_in_entry w x n m h))

@@ -77,7 +77,10 @@ fn lines_of_inspections_and_of_shutdown(rt: HostRuntime) -> Result<(), Fail> {
     let names = Names::new(rt.alloc());
     let lines = [
         (Event::Referent(2), "referent #2\n"),
-        (Event::Referrer(18446744073709551615), "referrer #18446744073709551615\n"),
+        (
+            Event::Referrer(18446744073709551615),
+            "referrer #18446744073709551615\n",
+        ),
         (Event::Listed(0), "listed 0\n"),
         (Event::Held(3), "held #3\n"),
         (Event::Via(4), "via #4\n"),
