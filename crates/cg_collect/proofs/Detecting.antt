@@ -51,7 +51,8 @@ use Rattle.cg_machine.proofs.Places.{place_at_is, place_is}
 use Rattle.cg_collect.proofs.Standing.{stands_at, place_there, live_there, stood_at, same_more, entries_on, outside_on, objects_on, list_length, map_alike}
 use Rattle.cg_collect.proofs.Telling.{from_ahead, from_first, at_first, split_at}
 use Rattle.cg_collect.proofs.Stopping.{at_right, tells_line, tells_none}
-use Rattle.cg_collect.proofs.FinalRows.{rising-filter, filter_twice, newest_left, references_other, refers, flat_map_alike, filter-without, without_rows-nil, AreAlive, lose_first, lose_members, waiting-rest, none_to_lose, same_without}
+use Rattle.cg_collect.proofs.RowFilters.{rising-filter, filter_twice, newest_left, references_other, refers, flat_map_alike, filter-without, without_rows-nil}
+use Rattle.cg_collect.proofs.FinalRows.{AreAlive, lose_first, lose_members, waiting-rest, none_to_lose, same_without}
 use Rattle.cg_collect.proofs.Looking.{still_unsaved}
 use Rattle.cg_collect.proofs.Worlds.{steps_at, only_tells, LeavesRest, pending_is, represents_on}
 

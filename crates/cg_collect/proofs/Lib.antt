@@ -12,6 +12,7 @@ pub mod Saved
 pub mod Merging
 pub mod Looks
 pub mod Telling
+pub mod RowFilters
 pub mod FinalRows
 pub mod Stopping
 pub mod Detecting

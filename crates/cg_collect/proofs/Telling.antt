@@ -1,25 +1,24 @@
 -- What is told after the start: the sizes, each condemned object, and then the weak phase follows.
-use Rattle.std.proofs.Common.{◌≡◌, ◌≢◌, refl, sym, ◌∙◌, ap, subst, ℕ, ◌+◌, ◌*◌, ◌<◌, ◌≤◌, ◌⊎◌, inl, inr, Bool, true, false, cond, not, ◌||◌, List, [], ◌∷◌, ◌++◌, map, Option, Some, None, arith}
-use Rattle.std.specs.Prelude.{◌==◌, if◌then◌else◌, bit_and, slice_get, option_map, unwrap_or}
+use Rattle.std.proofs.Common.{◌≡◌, ◌≢◌, refl, sym, ◌∙◌, ap, subst, ℕ, ◌+◌, ◌*◌, ◌<◌, ◌≤◌, inl, inr, Bool, true, false, not, List, [], ◌∷◌, ◌++◌, map, Option, Some, None, arith}
+use Rattle.std.specs.Prelude.{◌==◌, if◌then◌else◌, bit_and, slice_get}
 use Rattle.std.proofs.lemmas.Bool.{cases_eq, eq-eqb, ne_eqb}
 use Rattle.std.proofs.lemmas.Nat.Bits.{and_pow, bit_at-lt}
 use Rattle.std.specs.Int.{bit_at}
-use Rattle.cg_value.specs.declared.Place.TheVariants.{Cand, Seen, Pend}
+use Rattle.cg_value.specs.declared.Place.TheVariants.{Cand, Pend}
 use Rattle.cg_script.specs.declared.Script.{Script}
 use Rattle.cg_graph.specs.Member.{Includes}
-use Rattle.cg_graph.specs.Object.{Object, object_at, is_at}
-use Rattle.cg_graph.specs.Store.{Store, list_at, objects_of, place_of}
-use Rattle.cg_graph.proofs.Members.{either, true_or, Includes-append_right}
+use Rattle.cg_graph.specs.Store.{Store, list_at, place_of}
+use Rattle.cg_graph.proofs.Members.{either, Includes-append_right}
 use Rattle.cg_machine.specs.declared.event.Event.{Event}
 use Rattle.cg_machine.specs.declared.event.Event.TheVariants.{Gens, GcCollectable}
 use Rattle.cg_machine.specs.World.{World, Activity}
-use Rattle.cg_machine.specs.Collect.{has_flag, lines_if, stats, collectable, is_condemned, is_condemned_in}
+use Rattle.cg_machine.specs.Collect.{has_flag, lines_if, stats, collectable}
 use Rattle.cg_arena.specs.Nodes.{following}
 use Rattle.cg_heap.specs.Calls.{IsListed}
 use Rattle.cg_policy.specs.Policy.{Policy}
 use Rattle.cg_policy.specs.Flagset.{bits_of}
 use Rattle.cg_trial.proofs.Lists.{IsAt as Walked, ahead, ahead_is}
-use Rattle.cg_trial.proofs.Placed.{once_at, is_there}
+use Rattle.cg_trial.proofs.Placed.{once_at}
 use Rattle.cg_collect.specs.declared.answer.CollectStep.{CollectStep}
 use Rattle.cg_collect.specs.declared.answer.CollectStep.TheVariants as answer_of
 use Rattle.cg_collect.specs.declared.collection.Facts.{Facts}
@@ -31,8 +30,6 @@ use Rattle.cg_collect.specs.Ready.{IsReadyAt, IsApartUnseen, IsEmptyAt, IsAt, Ha
 use Rattle.cg_collect.specs.Answers.{Shows, CollectSteps}
 use Rattle.cg_collect.specs.Turns.{pass_of, passes_on, collection_at, TurnLeaves}
 use Rattle.cg_collect.specs.Starting.{told_weak, told_if}
-use Rattle.cg_machine.proofs.Places.{place_is}
-use Rattle.cg_collect.proofs.Standing.{place_there, live_there, nobody_at}
 use Rattle.cg_collect.proofs.Moving.{walk_passes, comes_next}
 use Rattle.cg_collect.proofs.Walking.{walk_begins}
 use Rattle.cg_collect.proofs.Worlds.{only_tells}

@@ -1,5 +1,5 @@
 -- Members of the final set lose their own referents, once no weak reference has a member.
-use Rattle.std.proofs.Common.{◌≡◌, refl, sym, ◌∙◌, ap, subst, ℕ, ◌+◌, ◌*◌, ◌<◌, Bool, true, false, cond, not, inl, inr, List, [], ◌∷◌, ◌++◌, length, map, Option, Some, None, IsSome, arith}
+use Rattle.std.proofs.Common.{◌≡◌, refl, sym, ◌∙◌, ap, subst, ℕ, ◌+◌, ◌*◌, ◌<◌, Bool, true, false, cond, not, inl, inr, List, [], ◌∷◌, ◌++◌, length, map, Option, Some, None, arith}
 use Rattle.std.specs.Prelude.{◌⊎◌, ◌==◌, ◌&&◌, ◌||◌, if◌then◌else◌, filter, option_and_then, slice_get}
 use Rattle.std.proofs.lemmas.Bool.{ne_eqb, not-true}
 use Rattle.cg_value.specs.declared.KindCode.TheVariants.{Weak}
@@ -7,8 +7,8 @@ use Rattle.cg_value.specs.declared.Place.TheVariants.{Cand}
 use Rattle.cg_script.specs.declared.Script.{Script}
 use Rattle.cg_graph.specs.Member.{Includes, includes}
 use Rattle.cg_graph.specs.Object.{same_place}
-use Rattle.cg_graph.specs.Rows.{Row, IsRising, referent_in, refers_to, weak_references_in, next_older_in, without_row}
-use Rattle.cg_graph.specs.Store.{Store, IsLive, HasCode, list_at, place_of}
+use Rattle.cg_graph.specs.Rows.{Row, IsRising, referent_in, weak_references_in, next_older_in, without_row}
+use Rattle.cg_graph.specs.Store.{Store, IsLive, list_at, place_of}
 use Rattle.cg_graph.proofs.Members.{either, cases_of, true_and, includes-of, Includes-of}
 use Rattle.cg_arena.specs.Nodes.{following}
 use Rattle.cg_heap.specs.Calls.{IsListed}
@@ -20,7 +20,6 @@ use Rattle.cg_machine.specs.Represents.{Represents}
 use Rattle.cg_machine.proofs.Places.{place_is, place_at_is}
 use Rattle.cg_policy.specs.Policy.{Policy}
 use Rattle.cg_trial.proofs.Placed.{where_is, is_there}
-use Rattle.cg_death.proofs.Clearing.{none_first}
 use Rattle.cg_death.proofs.RowSplits.{head_in, split_at, referent-without}
 use Rattle.cg_death.proofs.WeakObjects.{row_there}
 use Rattle.cg_collect.specs.declared.answer.CollectStep.TheVariants as answer_of
@@ -30,12 +29,13 @@ use Rattle.cg_collect.specs.Phases.{from_on, references_in, to_look_at, without_
 use Rattle.cg_collect.specs.Ready.{IsAt, IsApartUnseen, IsMemberWalk}
 use Rattle.cg_collect.specs.Answers.{CollectSteps}
 use Rattle.cg_collect.specs.Turns.{collection_at, left_to_walk}
-use Rattle.cg_collect.proofs.RowWalks.{refers, older_ones, older_below, looks_here, looks_on, looks_on_without, next_older, older_refers, referent-listed, listed-referent, references-le}
+use Rattle.cg_collect.proofs.RowWalks.{older_ones, older_below, looks_here, looks_on, looks_on_without, next_older, older_refers, referent-listed, listed-referent, references-le}
 use Rattle.cg_collect.proofs.WalkTurns.{looks_all, less}
 use Rattle.cg_collect.proofs.Telling.{from_first, at_first}
-use Rattle.cg_collect.proofs.Stopping.{tells_line, tells_none, next_from, next_at}
+use Rattle.cg_collect.proofs.Stopping.{tells_none, next_from, next_at}
 use Rattle.cg_collect.proofs.Worlds.{only_tells}
-use Rattle.cg_collect.proofs.FinalRows.{without_rows-cons, without_rows-nil, referent_left, referent_gone, unreferred_left, none_lost, none_referring, same_without}
+use Rattle.cg_collect.proofs.RowFilters.{without_rows-cons, without_rows-nil, referent_left, referent_gone, unreferred_left}
+use Rattle.cg_collect.proofs.FinalRows.{none_lost, none_referring, same_without}
 
 -- what is set apart stays so, whatever the rows are
 pub apart_rows : (store : Store) (rows : List Row) → IsApartUnseen store → IsApartUnseen (record store { rows = rows })

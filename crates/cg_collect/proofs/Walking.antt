@@ -62,9 +62,6 @@ module _ (profile : ℕ) (store : Store) (weak : ℕ) (live : IsLive store weak)
   pub loses-some : (o : ℕ) → referent_in store.rows weak ≡ Some o → is_lost_early_at profile store weak ≡ true → loses_at profile store weak ≡ touches o
   loses-some o refers soon = loses-at profile store weak live ∙ (λ i. soon i && unwrap_or (option_map touches (refers i)) false)
 
-  pub loses-late : is_lost_early_at profile store weak ≡ false → loses_at profile store weak ≡ false
-  loses-late late = loses-at profile store weak live ∙ ap (λ b. b && unwrap_or (option_map touches (referent_in store.rows weak)) false) late
-
   pub loses-none : referent_in store.rows weak ≡ None → loses_at profile store weak ≡ false
   loses-none none = loses-at profile store weak live ∙ ap (λ k. early && unwrap_or (option_map touches k) false) none ∙ nothing early
     where

@@ -1,14 +1,13 @@
-use Rattle.std.proofs.Common.{◌≡◌, ◌∙◌, ℕ, Option, Some, None, IsSome, false, refl, sym, subst, inr}
-use Rattle.cg_value.specs.declared.Place.TheVariants.{Cand}
+use Rattle.std.proofs.Common.{◌∙◌, Some, None, IsSome, false, refl, sym, subst, inr}
 use Rattle.cg_graph.specs.Rows.{IsRising, next_older_in, without_row}
-use Rattle.cg_graph.specs.Store.{Store, list_at}
+use Rattle.cg_graph.specs.Store.{Store}
 use Rattle.cg_machine.specs.declared.event.Event.TheVariants.{Cleared}
 use Rattle.cg_collect.specs.declared.answer.CollectStep.TheVariants as answer_of
 use Rattle.cg_collect.specs.declared.phase.Phase.TheVariants as phase_of
 use Rattle.cg_collect.specs.declared.phase.Turn.{Turn}
 use Rattle.cg_collect.specs.Ready.{IsReadyAt, IsMemberWalk}
 use Rattle.cg_collect.specs.Answers.{CollectSteps}
-use Rattle.cg_collect.specs.Turns.{collection_at, TurnSteps, TurnFalls, StaysReady, KeepsObjects}
+use Rattle.cg_collect.specs.Turns.{collection_at, TurnFalls, StaysReady, KeepsObjects}
 use Rattle.cg_collect.proofs.Keeping.{keeps_all, keeps-cleared}
 use Rattle.cg_collect.proofs.Worlds.{turn_steps}
 use Rattle.cg_collect.proofs.Unlinking.{looked_lives, is_final, apart_rows, skips, unlinks, Skips, Unlinks}

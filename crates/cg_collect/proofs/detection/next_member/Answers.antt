@@ -1,6 +1,5 @@
-use Rattle.std.proofs.Common.{ℕ, Option, Some, None, refl, sym, subst, inr}
+use Rattle.std.proofs.Common.{Some, None, refl, sym, subst, inr}
 use Rattle.cg_value.specs.declared.Place.TheVariants.{Cand}
-use Rattle.cg_graph.specs.Store.{Store}
 use Rattle.cg_trial.proofs.Placed.{where_is}
 use Rattle.cg_collect.specs.declared.answer.CollectStep.TheVariants as answer_of
 use Rattle.cg_collect.specs.declared.phase.Phase.TheVariants as phase_of
