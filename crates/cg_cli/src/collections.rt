@@ -136,6 +136,55 @@ fn weak_references_in_collections(rt: HostRuntime) -> Result<(), Fail> {
     Ok(())
 }
 
+/// In profile 2 a weak reference without a callback keeps its referent until the second detection.
+#[test]
+fn weak_references_in_profile_2(rt: HostRuntime) -> Result<(), Fail> {
+    let alloc = rt.alloc();
+    for (script, text) in [
+        // A finalizer reaches the other object by a weak reference, and what it holds survives.
+        (
+            "profile 2; def d; x = deref w; end; class C del=d; class D; a = new C; b = new D; w = ref b; setattr a me a; setattr a other b; del b; del a; collect 2",
+            "made instance #2; made instance #3; made weakref #4; gc start 2; enter del #2; leave; alive #3; free #2; gc stop 2 1 0; collected 1; end",
+        ),
+        (
+            "def d; x = deref w; end; class C del=d; class D; a = new C; b = new D; w = ref b; setattr a me a; setattr a other b; del b; del a; collect 2",
+            "made instance #2; made instance #3; made weakref #4; gc start 2; cleared #4; enter del #2; leave; free #3; free #2; gc stop 2 2 0; collected 2; end",
+        ),
+        // One that is condemned itself is a member with a weak reference to a member.
+        (
+            "profile 2; class C; a = new C; w = ref a; setattr a me a; setattr a w w; del w; del a; collect 2",
+            "made instance #2; made weakref #3; gc start 2; cleared #3; free #3; free #2; gc stop 2 2 0; collected 2; end",
+        ),
+        // A callback reaches the condemned object by a weak reference that has none, and keeps it.
+        (
+            "profile 2; def cb; x = deref u; end; class C; f = func cb; a = new C; setattr a me a; u = ref a; w = ref a f; del a; collect 2; y = deref u; print y",
+            "made function #2; made instance #3; made weakref #4; made weakref #5; gc start 2; cleared #5; enter callback #5; leave; alive #3; gc stop 2 0 0; collected 0; value #3; end",
+        ),
+        (
+            "def cb; x = deref u; end; class C; f = func cb; a = new C; setattr a me a; u = ref a; w = ref a f; del a; collect 2; y = deref u; print y",
+            "made function #2; made instance #3; made weakref #4; made weakref #5; gc start 2; cleared #5; cleared #4; enter callback #5; leave; free #3; gc stop 2 1 0; collected 1; value none; end",
+        ),
+        // A late one: nothing reached its referent.
+        (
+            "profile 2; class C; a = new C; w = ref a; setattr a me a; del a; collect 2; y = deref w; print y",
+            "made instance #2; made weakref #3; gc start 2; cleared #3; free #2; gc stop 2 1 0; collected 1; value none; end",
+        ),
+        // Members that refer outside lose it, the newest first; one that is no member keeps it.
+        (
+            "profile 2; class C; b = new C; a = list; u = ref b; v = ref b; w = ref b; append a u; append a v; append a a; del u; del v; del a; collect 2; y = deref w; print y",
+            "made instance #2; made list #3; made weakref #4; made weakref #5; made weakref #6; gc start 2; cleared #5; cleared #4; free #5; free #4; free #3; gc stop 2 3 0; collected 3; value #2; end",
+        ),
+        // A finalizer brings a weak reference back that is condemned and refers outside: it still has its referent.
+        (
+            "profile 2; def d; x = attr self w; end; class C del=d; b = new C; a = new C; w = ref b; setattr a w w; setattr a me a; del w; del a; collect 2; y = deref x; print y",
+            "made instance #2; made instance #3; made weakref #4; gc start 2; enter del #3; leave; alive #4; free #3; gc stop 2 1 0; collected 1; value #2; end",
+        ),
+    ] {
+        check_done(&rt, alloc, script, text)?;
+    }
+    Ok(())
+}
+
 #[test]
 fn legacy_finalizers_and_flags(rt: HostRuntime) -> Result<(), Fail> {
     let alloc = rt.alloc();

@@ -26,12 +26,12 @@ use Rattle.cg_collect.specs.declared.phase.Phase.TheVariants as phase_of
 use Rattle.cg_collect.specs.declared.phase.Turn.{Turn}
 use Rattle.cg_collect.specs.Numbers.{AreSmall}
 use Rattle.cg_collect.specs.Phases.{collection_of, lines_left}
-use Rattle.cg_collect.specs.Ready.{IsClear, IsReadyAt, IsApartUnseen, IsEmptyAt, HasFewCollected, IsBegun}
+use Rattle.cg_collect.specs.Ready.{IsClear, IsReadyAt, HasItsWalk, IsApartUnseen, IsEmptyAt, HasFewCollected, IsBegun}
 use Rattle.cg_collect.specs.Answers.{Shows, Stands, WentOn, CollectSteps}
 use Rattle.cg_collect.specs.Turns.{pass_of, collection_at, TurnSteps, StaysReady, TurnLeaves, KeepsObjects}
 use Rattle.cg_collect.specs.Starting.{told_sizes, told_if, told_after_sizes, told_start}
 use Rattle.cg_collect.proofs.Standing.{same_more, map_alike, place_there, objects_on, outside_on, list_has, list_length}
-use Rattle.cg_collect.proofs.Telling.{ready_told, few_told, begun_told, late_told, told_lines, turn_to}
+use Rattle.cg_collect.proofs.Telling.{ready_told, walk_told, few_told, begun_told, late_told, told_lines, turn_to}
 use Rattle.cg_collect.proofs.Apart.{nobody_waits, apart_unseen}
 use Rattle.cg_collect.proofs.Traces.{Trace, same16}
 use Rattle.cg_collect.proofs.Sorts.{chosen, places, sorts, objects_sorted, survivors_counted}
@@ -57,6 +57,10 @@ lines_start script asked facts false b old store sizes is flag = sym (told_lines
 ready_start : (g : ℕ) (s b : Bool) (old store : Store) → IsListed store → IsApartUnseen store → IsEmptyAt store Pend → IsReadyAt store g (told_start s b old store)
 ready_start g true b old store listed apart pending = (apart, pending)
 ready_start g false b old store listed apart pending = ready_told store listed apart pending g b
+
+walk_start : (profile : ℕ) (s b : Bool) (old store : Store) → IsListed store → IsApartUnseen store → IsEmptyAt store Pend → HasItsWalk profile store (told_start s b old store)
+walk_start profile true b old store listed apart pending = tt
+walk_start profile false b old store listed apart pending = walk_told store listed apart pending profile b
 
 few_start : (n : ℕ) (s b : Bool) (old store : Store) → n ≡ 0 → HasFewCollected n (told_start s b old store) store
 few_start n true b old store e = e
@@ -225,6 +229,11 @@ module _ (script : Script) (facts : Facts) (s0 s1 s2 s4 s5 s6 : Store) (t : Trac
   ready_after =
       subst (λ (x : Turn). StaysReady s6 facts.generation x.phase x.answer) (sym turn_is)
       (ready_start facts.generation with_sizes with_members s0 s6 listed6 (apart_unseen script facts.generation s0 s1 s2 s4 s5 s6 t listed0 listed6 clear) waits_none)
+
+  pub walk_after : (profile : ℕ) → HasItsWalk profile s6 turn.phase
+  walk_after profile =
+      subst (λ (x : Turn). HasItsWalk profile s6 x.phase) (sym turn_is)
+      (walk_start profile with_sizes with_members s0 s6 listed6 (apart_unseen script facts.generation s0 s1 s2 s4 s5 s6 t listed0 listed6 clear) waits_none)
 
   pub leaves_after : TurnLeaves s0 phase_of.Start s6 turn
   leaves_after = subst (λ (x : Turn). TurnLeaves s0 phase_of.Start s6 x) (sym turn_is) (leaves_start with_sizes with_members s0 s6 (GcStart facts.generation))

@@ -1,8 +1,9 @@
 -- The second detection: what a heap does there is the step of the machine; its lines are told by the calls that follow,
 -- while weak references to the final set lose it.
 use Rattle.std.proofs.Common.{◌≡◌, ◌≢◌, refl, sym, ◌∙◌, ap, subst, ℕ, ◌+◌, ◌≤◌, Bool, true, false, cond, not, inl, inr, List, [], ◌∷◌, ◌++◌, length, map, Option, Some, None, IsSome, arith}
-use Rattle.std.specs.Prelude.{◌⊎◌, ◌↔◌, if◌then◌else◌, filter, flat_map, sum_by, option_map, unwrap_or, slice_get}
+use Rattle.std.specs.Prelude.{◌⊎◌, ◌↔◌, ◌==◌, ◌&&◌, ◌||◌, if◌then◌else◌, filter, flat_map, sum_by, option_map, unwrap_or, slice_get}
 use Rattle.std.specs.FinMap as fin
+use Rattle.std.proofs.lemmas.Bool.{eqb-true}
 use Rattle.std.proofs.lemmas.List.{map-append}
 use Rattle.std.proofs.lemmas.List.Sums.{sum_by-cons}
 use Rattle.cg_value.specs.declared.KindCode.TheVariants.{Weak}
@@ -15,7 +16,7 @@ use Rattle.cg_graph.specs.Object.{Object, object_at, with_place as object_placed
 use Rattle.cg_graph.specs.Reachable.{IsReachable, IsUnreachable, StandsAt}
 use Rattle.cg_graph.specs.Rows.{Row, IsRising, referent_in, refers_to, weak_references_in, waiting_in, without_row}
 use Rattle.cg_graph.specs.Store.{Store, Node, IsLive, HasCode, list_at, objects_of, object_from, place_of, place_in}
-use Rattle.cg_graph.proofs.Members.{either, cases_of, includes-of, Includes-of, Includes-append_left, Includes-append_right, Includes-filter_cases}
+use Rattle.cg_graph.proofs.Members.{either, cases_of, true_and, true_or, includes-of, Includes-of, Includes-append_left, Includes-append_right, Includes-filter_cases}
 use Rattle.cg_graph.proofs.Objects.{object-at}
 use Rattle.cg_graph.proofs.Reachable.{reachable_alike}
 use Rattle.cg_arena.specs.Nodes.{IsPlace}
@@ -42,7 +43,7 @@ use Rattle.cg_death.proofs.Clearing.{some_first}
 use Rattle.cg_collect.specs.declared.answer.CollectStep.TheVariants as answer_of
 use Rattle.cg_collect.specs.declared.collection.Facts.{Facts}
 use Rattle.cg_collect.specs.declared.phase.Phase.TheVariants as phase_of
-use Rattle.cg_collect.specs.Phases.{collection_of, from_on, cleared_lines, refers_to_any, without_rows_to}
+use Rattle.cg_collect.specs.Phases.{collection_of, from_on, cleared_lines, member_lines, members_losing, refers_to_any, without_referents, is_lost_with, without_rows_of}
 use Rattle.cg_collect.specs.Ready.{IsAt, IsApartUnseen, HasNoneBehind}
 use Rattle.cg_collect.specs.Answers.{CollectSteps}
 use Rattle.cg_collect.specs.Turns.{collection_at}
@@ -50,7 +51,7 @@ use Rattle.cg_machine.proofs.Places.{place_at_is, place_is}
 use Rattle.cg_collect.proofs.Standing.{stands_at, place_there, live_there, stood_at, same_more, entries_on, outside_on, objects_on, list_length, map_alike}
 use Rattle.cg_collect.proofs.Telling.{from_ahead, from_first, at_first, split_at}
 use Rattle.cg_collect.proofs.Stopping.{at_right, tells_line, tells_none}
-use Rattle.cg_collect.proofs.FinalRows.{references_left, references_other, refers, flat_map_alike, lose_all, waiting-rest, none_to_lose, same_without}
+use Rattle.cg_collect.proofs.FinalRows.{rising-filter, filter_twice, newest_left, references_other, refers, flat_map_alike, filter-without, without_rows-nil, AreAlive, lose_first, lose_members, waiting-rest, none_to_lose, same_without}
 use Rattle.cg_collect.proofs.Looking.{still_unsaved}
 use Rattle.cg_collect.proofs.Worlds.{steps_at, only_tells, LeavesRest, pending_is, represents_on}
 
@@ -68,14 +69,14 @@ module _ (script : Script) (facts : Facts) (store : Store) (policy : Policy) whe
       tells_line script facts (phase_of.Living (Some o)) (phase_of.Living after) store policy
       (λ asked w below s. record { represents = s.represents; numbers = s.numbers; running = s.running; top = s.top })
       (Alive o)
-      (λ asked. ap (λ l. map Alive l ++ cleared_lines store.rows candidates) left)
+      (λ asked. ap (λ l. map Alive l ++ (cleared_lines store.rows candidates ++ member_lines store)) left)
 
   pub turn-all_living : (first : Option ℕ) → first ≡ slice_get candidates 0
       → CollectSteps script (collection_at facts (phase_of.Living None) None) store policy (collection_at facts (phase_of.Detaching first) None) store policy answer_of.Continue
   turn-all_living first is =
       tells_none script facts (phase_of.Living None) (phase_of.Detaching first) store policy
       (λ asked w below s. record { represents = s.represents; numbers = s.numbers; running = s.running; top = s.top })
-      (λ asked. ap (cleared_lines store.rows) (sym (ap (λ c. from_on c candidates) is ∙ from_first candidates)))
+      (λ asked. ap (λ l. cleared_lines store.rows l ++ member_lines store) (sym (ap (λ c. from_on c candidates) is ∙ from_first candidates)))
 
   -- a member that no weak reference has is passed
   pub turn-passed : (o : ℕ) (after : Option ℕ) → from_on (Some o) candidates ≡ o ∷ from_on after candidates → weak_references_in store.rows o ≡ []
@@ -83,15 +84,15 @@ module _ (script : Script) (facts : Facts) (store : Store) (policy : Policy) whe
   turn-passed o after left none =
       tells_none script facts (phase_of.Detaching (Some o)) (phase_of.Detaching after) store policy
       (λ asked w below s. record { represents = s.represents; numbers = s.numbers; running = s.running; top = s.top })
-      (λ asked. ap (cleared_lines store.rows) left ∙ ap (λ ws. map Cleared ws ++ cleared_lines store.rows (from_on after candidates)) none)
+      (λ asked. ap (λ l. cleared_lines store.rows l ++ member_lines store) left ∙ ap (λ ws. (map Cleared ws ++ cleared_lines store.rows (from_on after candidates)) ++ member_lines store) none)
 
-  -- all have lost the final set
-  pub turn-detached : ((o : ℕ) → Includes candidates o → weak_references_in store.rows o ≡ [])
-      → CollectSteps script (collection_at facts (phase_of.Detaching None) None) store policy (collection_at facts phase_of.Turns None) store policy answer_of.Continue
-  turn-detached none =
-      tells_none script facts (phase_of.Detaching None) phase_of.Turns store policy
-      (λ asked w below s. record { represents = subst (λ (st : Store). Represents st w) (none_to_lose candidates store none) s.represents; numbers = s.numbers; running = s.running; top = s.top })
-      (λ asked. refl)
+  -- all have lost the final set, and members lose their own referents
+  pub turn-detached : ((o : ℕ) → Includes candidates o → weak_references_in store.rows o ≡ []) → (first : Option ℕ) → first ≡ slice_get candidates 0
+      → CollectSteps script (collection_at facts (phase_of.Detaching None) None) store policy (collection_at facts (phase_of.Unlinking first None) None) store policy answer_of.Continue
+  turn-detached none first is =
+      tells_none script facts (phase_of.Detaching None) (phase_of.Unlinking first None) store policy
+      (λ asked w below s. record { represents = s.represents; numbers = s.numbers; running = s.running; top = s.top })
+      (λ asked. λ i. map Cleared (members_losing candidates (sym (ap (λ c. from_on c candidates) is ∙ from_first candidates) i) ((none_to_lose candidates store.rows none ∙ sym (without_rows-nil store.rows)) i)))
 
 -- The newest weak reference to a member loses it.
 module _ (store : Store) (rise : IsRising store.rows) (o : ℕ) (ws : List ℕ) (r : Row) (inside : Includes store.rows r) (passes : refers_to o r ≡ true) (is : weak_references_in store.rows o ≡ r.weak ∷ ws) where
@@ -101,13 +102,13 @@ module _ (store : Store) (rise : IsRising store.rows) (o : ℕ) (ws : List ℕ) 
   pub turn-lost : (script : Script) (facts : Facts) (policy : Policy) (rest : List ℕ) → Includes (list_at store Cand) o → from_on (Some o) (list_at store Cand) ≡ o ∷ rest → ((q : ℕ) → Includes rest q → q ≢ o)
       → CollectSteps script (collection_at facts (phase_of.Detaching (Some o)) None) store policy (collection_at facts (phase_of.Detaching (Some o)) None) lost policy (answer_of.Emit (Cleared r.weak))
   turn-lost script facts policy rest member left others asked w below s =
-      only_tells script asked w below (cleared_lines store.rows (from_on (Some o) (list_at store Cand))) (Cleared r.weak ∷ []) (collection_at facts (phase_of.Detaching (Some o)) None) lost policy
-      (ap (cleared_lines store.rows) left
-      ∙ ap (λ l. map Cleared l ++ cleared_lines store.rows rest) is
-      ∙ (λ i. Cleared r.weak ∷ (map Cleared (sym (references_left store.rows rise o ws r inside passes is) i) ++ rest_same i))
-      ∙ ap (λ l. Cleared r.weak ∷ cleared_lines lost.rows l) (sym left))
+      only_tells script asked w below (cleared_lines store.rows (from_on (Some o) (list_at store Cand)) ++ member_lines store) (Cleared r.weak ∷ []) (collection_at facts (phase_of.Detaching (Some o)) None) lost policy
+      (ap (λ l. cleared_lines store.rows l ++ member_lines store) left
+      ∙ ap (λ l. (map Cleared l ++ cleared_lines store.rows rest) ++ member_lines store) is
+      ∙ (λ i. Cleared r.weak ∷ ((map Cleared (sym (newest_left (refers_to o) store.rows rise ws r inside passes is) i) ++ rest_same i) ++ members_same i))
+      ∙ ap (λ l. Cleared r.weak ∷ (cleared_lines lost.rows l ++ member_lines lost)) (sym left))
       (record {
-        represents = subst (λ (st : Store). Represents st w) (sym (same_without (list_at store Cand) store rise o ws r inside passes is member)) s.shows.represents;
+        represents = subst (λ (st : Store). Represents st w) (sym (same_without (list_at store Cand) store rise r inside lost_too)) s.shows.represents;
         numbers = s.shows.numbers;
         running = s.shows.running;
         top = s.shows.top;
@@ -115,17 +116,30 @@ module _ (store : Store) (rise : IsRising store.rows) (o : ℕ) (ws : List ℕ) 
     where
       rest_same : cleared_lines store.rows rest ≡ cleared_lines lost.rows rest
       rest_same = flat_map_alike (λ q. map Cleared (weak_references_in store.rows q)) (λ q. map Cleared (weak_references_in lost.rows q)) rest
-          (λ q m. ap (map Cleared) (sym (references_other store.rows rise o ws r inside passes is q (others q m))))
+          (λ q m. ap (map Cleared) (sym (references_other store.rows rise o r inside passes q (others q m))))
+
+      -- the row refers to a member
+      there : includes (list_at store Cand) r.referent ≡ true
+      there = ap (includes (list_at store Cand)) (eqb-true r.referent o (true_and (r.referent == o) (not r.waits) passes).0) ∙ includes-of (list_at store Cand) o member
+
+      gone : refers_to_any (list_at store Cand) r ≡ true
+      gone = λ i. there i && (true_and (r.referent == o) (not r.waits) passes).1 i
+
+      lost_too : is_lost_with (list_at store Cand) r ≡ true
+      lost_too = λ i. (there i || includes (list_at store Cand) r.weak) && (true_and (r.referent == o) (not r.waits) passes).1 i
+
+      members_same : member_lines store ≡ member_lines lost
+      members_same = ap (λ rows. map Cleared (members_losing (list_at store Cand) (list_at store Cand) rows)) (sym (filter-without store.rows rise r inside (λ x. not (refers_to_any (list_at store Cand) x)) (ap not gone)))
 
   pub apart_lost : IsApartUnseen store → IsApartUnseen lost
   apart_lost (apart, unseen) = (record { garbage = apart.garbage; back = apart.back; candidates = apart.candidates; seen = apart.seen; legacy = apart.legacy }, unseen)
 
   pub behind_lost : HasNoneBehind store (Some o) → HasNoneBehind lost (Some o)
   behind_lost behind q m = either (behind q m) (λ k. inl k)
-      (λ none. inr (references_other store.rows rise o ws r inside passes is q (λ e. let nothing : r.weak ∷ ws ≡ [] = sym is ∙ ap (weak_references_in store.rows) (sym e) ∙ none in absurd (cc)) ∙ none))
+      (λ none. inr (references_other store.rows rise o r inside passes q (λ e. let nothing : r.weak ∷ ws ≡ [] = sym is ∙ ap (weak_references_in store.rows) (sym e) ∙ none in absurd (cc)) ∙ none))
 
   pub lost_refers : referent_in store.rows r.weak ≡ Some o
-  lost_refers = refers store.rows rise o ws r inside passes is
+  lost_refers = refers store.rows rise o r inside passes
 
 -- what is left of a walk that stands at a member
 pub from_here : (store : Store) → IsListed store → (p : Place) (o : ℕ) → Includes (list_at store p) o → (rest : List ℕ) × (from_on (Some o) (list_at store p) ≡ o ∷ rest) × ((q : ℕ) → Includes rest q → q ≢ o)
@@ -188,15 +202,30 @@ module _ (store : Store) (listed : IsListed store) where
       known None e h = absurd (let f : false ≡ true = h in cc)
       known (Some n) e h = is_there store listed Cand o (subst IsSome (sym e) refl) (ap place_in e ∙ place_is n.place Cand h)
 
-  pub loses_it : (x : Object) (o : ℕ) → x.referent ≡ Some o → Includes (list_at store Cand) o → loses_at_split (objects_of store) x ≡ true
-  loses_it x o refers m = ap (λ (r : Option ℕ). unwrap_or (option_map (λ p. test (object_at (objects_of store) p)) r) false) refers ∙ tested o m
-
-  pub loses_one : (x : Object) → loses_at_split (objects_of store) x ≡ true → (o : ℕ) × (x.referent ≡ Some o) × Includes (list_at store Cand) o
-  loses_one x h = known x.referent refl h
+  -- a weak reference to a candidate, or one that is a candidate, loses its referent
+  pub loses_it : (rows : List Row) (weak : ℕ) (n : Node) (o : ℕ) → fin.get store.nodes weak ≡ Some n → referent_in rows weak ≡ Some o → Includes (list_at store Cand) o ⊎ Includes (list_at store Cand) weak
+      → loses_at_split (objects_of store) (object_from rows weak n) ≡ true
+  loses_it rows weak n o got refers which =
+      ap (λ (r : Option ℕ). unwrap_or (option_map (λ p. test (object_at (objects_of store) p) || is_at Cand (object_from rows weak n)) r) false) refers
+      ∙ either which
+      (λ m. ap (λ b. b || is_at Cand (object_from rows weak n)) (tested o m))
+      (λ m. ap (λ b. test (object_at (objects_of store) o) || b) (place_at_is n.place Cand (ap place_in (sym got) ∙ (where_is store listed Cand weak m).1)) ∙ or_true (test (object_at (objects_of store) o)))
     where
-      known : (r : Option ℕ) → x.referent ≡ r → unwrap_or (option_map (λ p. test (object_at (objects_of store) p)) r) false ≡ true → (o : ℕ) × (x.referent ≡ Some o) × Includes (list_at store Cand) o
-      known None e h = absurd (let f : false ≡ true = h in cc)
-      known (Some o) e h = (o, e, passes_test o h)
+      or_true : (b : Bool) → (b || true) ≡ true
+      or_true true = refl
+      or_true false = refl
+
+  pub loses_one : (rows : List Row) (x : Object) → Includes (objects_of (record store { rows = rows })) x → loses_at_split (objects_of store) x ≡ true
+      → (o : ℕ) × (x.referent ≡ Some o) × (Includes (list_at store Cand) o ⊎ Includes (list_at store Cand) x.serial)
+  loses_one rows x m h = known x.referent refl h
+    where
+      candidate : is_at Cand x ≡ true → Includes (list_at store Cand) x.serial
+      candidate at = is_there store listed Cand x.serial (live_there (record store { rows = rows }) x m) (place_there (record store { rows = rows }) x m ∙ place_is x.place Cand at)
+
+      known : (r : Option ℕ) → x.referent ≡ r → unwrap_or (option_map (λ p. test (object_at (objects_of store) p) || is_at Cand x) r) false ≡ true
+          → (o : ℕ) × (x.referent ≡ Some o) × (Includes (list_at store Cand) o ⊎ Includes (list_at store Cand) x.serial)
+      known None e k = absurd (let f : false ≡ true = k in cc)
+      known (Some o) e k = (o, e, either (true_or (test (object_at (objects_of store) o)) (is_at Cand x) k) (λ a. inl (passes_test o a)) (λ b. inr (candidate b)))
 
 -- The candidates are split, and survivors get older.
 module _ (g : ℕ) (store half : Store) (listed : IsListed store) (root : IsLive store 1) (apart : IsApartUnseen store) (half_listed : IsListed half) (same : IsSameButPlaces store half)
@@ -300,35 +329,60 @@ module _ (g : ℕ) (store half : Store) (listed : IsListed store) (root : IsLive
         abbrev final : List ℕ
         final = list_at parted Cand
 
+        -- the rows that are left once no weak reference has a member
+        abbrev unreferred : List Row
+        unreferred = without_referents final parted.rows
+
         abbrev cleared : List ℕ
-        cleared = flat_map (weak_references_in parted.rows) final
+        cleared = flat_map (weak_references_in parted.rows) final ++ members_losing final final unreferred
 
         -- the heap once the lines are told
         abbrev told : Store
-        told = without_rows_to final parted
+        told = without_rows_of final parted
 
         told_listed : IsListed told
         told_listed = record { ten = parted_listed.ten; placed = parted_listed.placed; once = parted_listed.once }
 
+        alive_rows : AreAlive parted parted.rows
+        alive_rows = record { rise = sound.rows.rise; live = λ r m. live_of_kind parted r.weak Weak (all_in (λ (x : Row). HasCode parted x.weak Weak) parted.rows r sound.rows.weak m) }
+
+        same_end : filter (λ r. not (is_lost_with final r)) unreferred ≡ told.rows
+        same_end = filter_twice (λ r. not (is_lost_with final r)) (λ r. not (refers_to_any final r)) parted.rows (λ r h. fewer (includes final r.referent) (includes final r.weak) (not r.waits) h)
+          where
+            fewer : (a b c : Bool) → not ((a || b) && c) ≡ true → not (a && c) ≡ true
+            fewer true b c h = h
+            fewer false b c h = refl
+
+        members_lose : AllLose (loses_at_split (objects_of parted)) (objects_of (record parted { rows = unreferred })) (members_losing final final unreferred) (objects_of told)
+        members_lose =
+            subst (λ (rows : List Row). AllLose (loses_at_split (objects_of parted)) (objects_of (record parted { rows = unreferred })) (members_losing final final unreferred) (objects_of (record parted { rows = rows }))) same_end
+            (lose_members parted final (loses_at_split (objects_of parted)) (loses_it parted parted_listed) (loses_one parted parted_listed) final unreferred
+            (record { rise = rising-filter (λ r. not (refers_to_any final r)) parted.rows sound.rows.rise; live = λ r m. alive_rows.live r (Includes-filter_cases (λ x. not (refers_to_any final x)) parted.rows r m).0 })
+            (λ r m stays there.
+            let kept = (Includes-filter_cases (λ x. not (refers_to_any final x)) parted.rows r m).1 in
+            let gone : refers_to_any final r ≡ true = λ i. includes-of final r.referent there i && not (stays i) in
+            let f : false ≡ true = sym (ap not gone) ∙ kept in
+            cc)
+            (λ o m. inl m))
+
         lose : AllLose (loses_at_split (objects_of parted)) (objects_of parted) cleared (objects_of told)
         lose =
-            lose_all parted final (loses_at_split (objects_of parted)) (loses_it parted parted_listed) (loses_one parted parted_listed) final (λ o m. m) (once_at parted parted_listed Cand) parted.rows
-            (record {
-              rise = sound.rows.rise;
-              live = λ r m. live_of_kind parted r.weak Weak (all_in (λ (x : Row). HasCode parted x.weak Weak) parted.rows r sound.rows.weak m);
-              left = λ r m stays h. h;
-            })
+            lose_first parted final (loses_at_split (objects_of parted)) (loses_it parted parted_listed) (loses_one parted parted_listed) final (λ o m. m) (once_at parted parted_listed Cand) parted.rows alive_rows
+            (members_losing final final unreferred) told.rows members_lose
 
         lines_are : (members : List ℕ) → cleared_lines parted.rows members ≡ map Cleared (flat_map (weak_references_in parted.rows) members)
         lines_are [] = refl
         lines_are (o ∷ members) = ap (λ l. map Cleared (weak_references_in parted.rows o) ++ l) (lines_are members) ∙ sym (map-append Cleared (weak_references_in parted.rows o) (flat_map (weak_references_in parted.rows) members))
+
+        all_lines : cleared_lines parted.rows final ++ member_lines parted ≡ map Cleared cleared
+        all_lines = ap (λ l. l ++ member_lines parted) (lines_are final) ∙ sym (map-append Cleared (flat_map (weak_references_in parted.rows) final) (members_losing final final unreferred))
 
         rest_told : LeavesRest store told
         rest_told = record {
           last = same_parted.last;
           names = same_parted.names;
           waiting = λ o. waiting-rest final parted.rows o ∙ ap (λ rows. waiting_in rows o) same_parted.rows;
-          no_more = λ r m waits. subst (λ (rows : List Row). Includes rows r) same_parted.rows (Includes-filter_cases (λ x. not (refers_to_any final x)) parted.rows r m).0;
+          no_more = λ r m waits. subst (λ (rows : List Row). Includes rows r) same_parted.rows (Includes-filter_cases (λ x. not (is_lost_with final x)) parted.rows r m).0;
         }
 
         final_size : length (serials_at (objects_of told) Cand) ≡ number
@@ -359,7 +413,7 @@ module _ (g : ℕ) (store half : Store) (listed : IsListed store) (root : IsLive
                 lines = refl;
                 world = λ i. with_stack (Collecting (record b { collected = facts.collected + sym final_size i }) ∷ below) (with_objects (objects_of told) v);
               });
-              lines = (λ i. map Alive (sym (ap (λ k. from_on first (list_at parted (Gen (older k)))) young ∙ living_from) i) ++ sym (lines_are final) i);
+              lines = (λ i. map Alive (sym (ap (λ k. from_on first (list_at parted (Gen (older k)))) young ∙ living_from) i) ++ sym all_lines i);
               shows = record {
                 represents = represents_on store told v below a b s.shows.represents s.alone (objects_of told) refl rest_told
                     (elsewhere Pend (λ e. cc) (λ e. cc) (λ e. cc) ∙ pending_is store store v below a b s.shows.represents s.alone)

@@ -1,21 +1,25 @@
--- The rows of weak references to the members of the final set go one by one: each is the newest to its referent.
-use Rattle.std.proofs.Common.{◌≡◌, ◌≢◌, refl, sym, ◌∙◌, ap, subst, ℕ, ◌<◌, ◌≤◌, Bool, true, false, cond, not, ◌&&◌, ◌||◌, inl, inr, List, [], ◌∷◌, ◌++◌, drop, map, reverse, Some, arith}
-use Rattle.std.specs.Prelude.{◌==◌, filter, flat_map, slice_get}
+-- The rows of weak references to the members of the final set, and then those of members, go one by one: each is the newest
+-- to its referent.
+use Rattle.std.proofs.Common.{◌≡◌, ◌≢◌, refl, sym, ◌∙◌, ap, subst, ℕ, ◌<◌, ◌≤◌, Bool, true, false, cond, not, ◌&&◌, ◌||◌, inl, inr, List, [], ◌∷◌, ◌++◌, append_assoc, drop, map, reverse, Option, Some, None, arith}
+use Rattle.std.specs.Prelude.{◌==◌, ◌⊎◌, if◌then◌else◌, filter, flat_map, slice_get}
 use Rattle.std.specs.List.{All}
-use Rattle.std.proofs.lemmas.Bool.{not-true, eq-eqb, eqb-true, ne_eqb}
+use Rattle.std.specs.FinMap as fin
+use Rattle.std.proofs.lemmas.Bool.{not-true, cases_eq, eq-eqb, eqb-true, ne_eqb}
 use Rattle.std.proofs.lemmas.List.Elements.{All-nil, All-cons, filter-append}
 use Rattle.cg_graph.specs.Member.{Includes, includes}
 use Rattle.cg_graph.specs.Holdings.{occurrences}
 use Rattle.cg_graph.specs.Object.{Object}
 use Rattle.cg_graph.specs.Rows.{Row, IsRising, referent_in, refers_to, waits_with, newest_first, weak_references_in, waiting_in, without_row}
-use Rattle.cg_graph.specs.Store.{Store, IsLive, objects_of, object_from}
-use Rattle.cg_graph.proofs.Members.{either, cases_of, true_and, includes-of, Includes-of, Includes-filter_cases}
+use Rattle.cg_graph.specs.Store.{Store, Node, IsLive, objects_of, object_from}
+use Rattle.cg_graph.proofs.Members.{either, cases_of, true_and, true_or, includes-of, Includes-of, Includes-filter, Includes-filter_cases, Includes-append_cases}
 use Rattle.cg_machine.specs.Weak.{loses_referent, MayLoseNext, NoneLeft, AllLose}
 use Rattle.cg_trial.proofs.Lists.{occurrences-cons, occurs}
-use Rattle.cg_death.proofs.RowSplits.{all_in, row_of_one, one_of_row, Split, split_at, newest_first-append, newest_first-skip, newest_first-pass, without-is, referent-is, referent-without}
+use Rattle.cg_death.proofs.RowSplits.{all_in, row_of_one, one_of_row, Split, split_at, newest_first-append, newest_first-skip, newest_first-pass, without-is, referent-is, referent-without, left-in}
 use Rattle.cg_death.proofs.WeakObjects.{row_there, objects-cleared}
-use Rattle.cg_collect.specs.Phases.{refers_to_any, without_rows_to}
+use Rattle.cg_death.proofs.Worlds.{append_none}
+use Rattle.cg_collect.specs.Phases.{references_in, refers_to_any, without_referents, without_rows, members_losing, is_lost_with, without_rows_of}
 use Rattle.cg_collect.proofs.Standing.{node_of_live, node_there, object_there}
+use Rattle.cg_collect.proofs.RowWalks.{head_highest}
 
 -- lists that are filtered
 all_of : {X : Type 0} (P : X → Type 0) (xs : List X) → ((x : X) → Includes xs x → P x) → All P xs
@@ -34,7 +38,7 @@ pub filter_all : (test : Row → Bool) (rows : List Row) → ((r : Row) → Incl
 filter_all test [] each = refl
 filter_all test (r ∷ rows) each = ap (λ b. cond b (r ∷ filter test rows) (filter test rows)) (each r (inl refl)) ∙ ap (λ l. r ∷ l) (filter_all test rows (λ x m. each x (inr m)))
 
-filter_same : (f g : Row → Bool) (rows : List Row) → ((r : Row) → Includes rows r → f r ≡ g r) → filter f rows ≡ filter g rows
+pub filter_same : (f g : Row → Bool) (rows : List Row) → ((r : Row) → Includes rows r → f r ≡ g r) → filter f rows ≡ filter g rows
 filter_same f g [] each = refl
 filter_same f g (r ∷ rows) each = λ i. cond (each r (inl refl) i) (r ∷ filter_same f g rows (λ x m. each x (inr m)) i) (filter_same f g rows (λ x m. each x (inr m)) i)
 
@@ -51,210 +55,428 @@ pub flat_map_alike : {X : Type 0} (f g : ℕ → List X) (xs : List ℕ) → ((o
 flat_map_alike f g [] same = refl
 flat_map_alike f g (x ∷ xs) same = λ i. same x (inl refl) i ++ flat_map_alike f g xs (λ o m. same o (inr m)) i
 
--- The newest weak reference to an object.
-module _ (rows : List Row) (rise : IsRising rows) (o : ℕ) (ws : List ℕ) (r : Row) (inside : Includes rows r) (passes : refers_to o r ≡ true) (is : weak_references_in rows o ≡ r.weak ∷ ws) where
+-- a filter after another
+pub filter_filter : (f g : Row → Bool) (rows : List Row) → filter f (filter g rows) ≡ filter (λ r. g r && f r) rows
+filter_filter f g [] = refl
+filter_filter f g (r ∷ rows) = go (g r) (filter_filter f g rows)
+  where
+    go : (b : Bool) → filter f (filter g rows) ≡ filter (λ x. g x && f x) rows → filter f (cond b (r ∷ filter g rows) (filter g rows)) ≡ cond (b && f r) (r ∷ filter (λ x. g x && f x) rows) (filter (λ x. g x && f x) rows)
+    go true e = λ i. cond (f r) (r ∷ e i) (e i)
+    go false e = e
+
+both_ways : (a b : Bool) → (a ≡ true → b ≡ true) → (b ≡ true → a ≡ true) → a ≡ b
+both_ways true b there back = sym (there refl)
+both_ways false true there back = back refl
+both_ways false false there back = refl
+
+-- numbers are the same either way round
+eqb-sym : (m n : ℕ) → (m == n) ≡ (n == m)
+eqb-sym m n = both_ways (m == n) (n == m) (λ e. eq-eqb n m (sym (eqb-true m n e))) (λ e. eq-eqb m n (sym (eqb-true n m e)))
+
+-- rows of one weak reference are one
+pub same_row : (rows : List Row) → IsRising rows → (r q : Row) → Includes rows r → Includes rows q → q.weak ≡ r.weak → q ≡ r
+same_row rows rise r q inside here e =
+    let s = split_at rows r rise inside in
+    either (Includes-append_cases s.front (r ∷ s.back) q (subst (λ l. Includes l q) s.is here))
+    (λ k. let low = s.lower q k in absurd (omega (arith, low, e)))
+    (λ k. either k (λ same. sym same) (λ n. let high = s.higher q n in absurd (omega (arith, high, e))))
+
+-- whether one of the newest is that of a row
+pub includes-newest : (test : Row → Bool) (rows : List Row) → IsRising rows → (r : Row) → Includes rows r → includes (newest_first test rows) r.weak ≡ test r
+includes-newest test rows rise r inside = both_ways (includes (newest_first test rows) r.weak) (test r)
+    (λ e. let (q, here, passes, same) = row_of_one test rows r.weak (Includes-of (newest_first test rows) r.weak e) in ap test (sym (same_row rows rise r q inside here same)) ∙ passes)
+    (λ e. includes-of (newest_first test rows) r.weak (one_of_row test rows r inside e))
+
+-- those of the newest that are among others
+pub filter-newest : (test : Row → Bool) (among : List ℕ) (rows : List Row) → filter (includes among) (newest_first test rows) ≡ newest_first (λ r. test r && includes among r.weak) rows
+filter-newest test among [] = refl
+filter-newest test among (r ∷ rows) = go (test r) refl (includes among r.weak) refl (filter-newest test among rows)
+  where
+    both : Row → Bool
+    both x = test x && includes among x.weak
+
+    go : (b : Bool) → test r ≡ b → (c : Bool) → includes among r.weak ≡ c → filter (includes among) (newest_first test rows) ≡ newest_first (λ x. test x && includes among x.weak) rows
+        → filter (includes among) (newest_first test (r ∷ rows)) ≡ newest_first (λ x. test x && includes among x.weak) (r ∷ rows)
+    go true passes c is rest =
+        ap (filter (includes among)) (newest_first-pass test [] r rows passes)
+        ∙ filter-append (includes among) (newest_first test rows) (r.weak ∷ [])
+        ∙ (λ i. rest i ++ cond (is i) (r.weak ∷ []) [])
+        ∙ last c is
+      where
+        last : (d : Bool) → includes among r.weak ≡ d → newest_first (λ x. test x && includes among x.weak) rows ++ cond d (r.weak ∷ []) [] ≡ newest_first (λ x. test x && includes among x.weak) (r ∷ rows)
+        last true e = sym (newest_first-pass (λ x. test x && includes among x.weak) [] r rows (λ i. passes i && e i))
+        last false e = append_none (newest_first (λ x. test x && includes among x.weak) rows) ∙ sym (newest_first-skip (λ x. test x && includes among x.weak) [] r rows (λ i. passes i && e i))
+    go false fails c is rest =
+        ap (filter (includes among)) (newest_first-skip test [] r rows fails)
+        ∙ rest
+        ∙ sym (newest_first-skip (λ x. test x && includes among x.weak) [] r rows (ap (λ b. b && includes among r.weak) fails))
+
+-- without those of the newest
+pub without_rows-newest : (test : Row → Bool) (rows : List Row) → IsRising rows → without_rows (newest_first test rows) rows ≡ filter (λ r. not (test r)) rows
+without_rows-newest test rows rise = filter_same (λ r. not (includes (newest_first test rows) r.weak)) (λ r. not (test r)) rows (λ r inside. ap not (includes-newest test rows rise r inside))
+
+-- without one and without others
+pub without_rows-cons : (weak : ℕ) (weaks : List ℕ) (rows : List Row) → without_rows weaks (without_row weak rows) ≡ without_rows (weak ∷ weaks) rows
+without_rows-cons weak weaks rows =
+    filter_filter (λ r. not (includes weaks r.weak)) (λ r. not (r.weak == weak)) rows
+    ∙ filter_same (λ r. not (r.weak == weak) && not (includes weaks r.weak)) (λ r. not (includes (weak ∷ weaks) r.weak)) rows
+    (λ r inside. ap (λ b. not b && not (includes weaks r.weak)) (eqb-sym r.weak weak) ∙ neither (weak == r.weak) (includes weaks r.weak))
+  where
+    neither : (a b : Bool) → (not a && not b) ≡ not (a || b)
+    neither true b = refl
+    neither false b = refl
+
+pub without_rows-nil : (rows : List Row) → without_rows [] rows ≡ rows
+without_rows-nil rows = filter_all (λ r. not (includes [] r.weak)) rows (λ r m. refl)
+
+-- The row of one is gone.
+module _ (rows : List Row) (rise : IsRising rows) (r : Row) (inside : Includes rows r) where
+  abbrev at_row : Split rows r
+  at_row = split_at rows r rise inside
+
+  pub filter-without : (test : Row → Bool) → test r ≡ false → filter test (without_row r.weak rows) ≡ filter test rows
+  filter-without test fails =
+      ap (filter test) (without-is rows r at_row)
+      ∙ filter-append test at_row.front at_row.back
+      ∙ ap (λ b. filter test at_row.front ++ cond b (r ∷ filter test at_row.back) (filter test at_row.back)) (sym fails)
+      ∙ sym (filter-append test at_row.front (r ∷ at_row.back))
+      ∙ ap (filter test) (sym at_row.is)
+
+  pub objects_without : (store : Store) → objects_of (record store { rows = without_row r.weak rows }) ≡ loses_referent r.weak (objects_of (record store { rows = rows }))
+  objects_without store = objects-cleared (record store { rows = rows }) (without_row r.weak rows) r.weak (referent-without rows r at_row)
+
+  pub referent_left : (q : ℕ) → referent_in rows q ≡ None → referent_in (without_row r.weak rows) q ≡ None
+  referent_left q none = referent-without rows r at_row q ∙ by_test (q == r.weak)
+    where
+      by_test : (b : Bool) → (if b then None else referent_in rows q) ≡ None
+      by_test true = refl
+      by_test false = none
+
+  pub referent_gone : referent_in (without_row r.weak rows) r.weak ≡ None
+  referent_gone = referent-without rows r at_row r.weak ∙ ap (λ b. if b then None else referent_in rows r.weak) (eq-eqb r.weak r.weak refl)
+
+  -- what no row referred to, none does
+  pub unreferred_left : (o : ℕ) → weak_references_in rows o ≡ [] → weak_references_in (without_row r.weak rows) o ≡ []
+  unreferred_left o none = nothing (weak_references_in (without_row r.weak rows) o) (λ x m. m)
+    where
+      nothing : (xs : List ℕ) → ((x : ℕ) → Includes xs x → Includes (weak_references_in (without_row r.weak rows) o) x) → xs ≡ []
+      nothing [] within = refl
+      nothing (x ∷ xs) within =
+          let (q, here, passes, same) = row_of_one (refers_to o) (without_row r.weak rows) x (within x (inl refl)) in
+          absurd (subst (λ l. Includes l q.weak) none (one_of_row (refers_to o) rows q (left-in r.weak rows q here) passes))
+
+-- The newest of the rows that pass a test.
+module _ (test : Row → Bool) (rows : List Row) (rise : IsRising rows) (ws : List ℕ) (r : Row) (inside : Includes rows r) (passes : test r ≡ true) (is : newest_first test rows ≡ r.weak ∷ ws) where
   abbrev s : Split rows r
   s = split_at rows r rise inside
 
   abbrev newer : List ℕ
-  newer = newest_first (refers_to o) s.back
+  newer = newest_first test s.back
 
   abbrev older : List ℕ
-  older = newest_first (refers_to o) s.front
+  older = newest_first test s.front
 
-  spelled : weak_references_in rows o ≡ newer ++ r.weak ∷ older
-  spelled = ap (newest_first (refers_to o)) s.is ∙ newest_first-pass (refers_to o) s.front r s.back passes
+  spelled : newest_first test rows ≡ newer ++ r.weak ∷ older
+  spelled = ap (newest_first test) s.is ∙ newest_first-pass test s.front r s.back passes
 
   nothing : (xs : List ℕ) → ((x : ℕ) → Includes xs x → r.weak < x) → xs ++ r.weak ∷ older ≡ r.weak ∷ ws → xs ≡ []
   nothing [] above same = refl
   nothing (x ∷ xs) above same = let first : Some x ≡ Some r.weak = ap (λ l. slice_get l 0) same in let e : x ≡ r.weak = cc in let high = above x (inl refl) in absurd (omega (arith, high, e))
 
   none_newer : newer ≡ []
-  none_newer = nothing newer (λ x m. let named = row_of_one (refers_to o) s.back x m in let high = s.higher named.0 named.1 in omega (arith, high, named.3)) (sym spelled ∙ is)
+  none_newer = nothing newer (λ x m. let named = row_of_one test s.back x m in let high = s.higher named.0 named.1 in omega (arith, high, named.3)) (sym spelled ∙ is)
 
   older_is : older ≡ ws
   older_is = ap (drop 1) (sym (ap (λ l. l ++ r.weak ∷ older) none_newer) ∙ sym spelled ∙ is)
 
+  -- none is newer
+  pub highest : (x : ℕ) → Includes (newest_first test rows) x → x ≤ r.weak
+  highest x m = head_highest test rows rise r.weak (ap (λ l. slice_get l 0) is) x m
+
+  -- the others, once it is gone
+  pub newest_left : newest_first test (without_row r.weak rows) ≡ ws
+  newest_left = ap (newest_first test) (without-is rows r s) ∙ newest_first-append test s.front s.back ∙ ap (λ l. l ++ older) none_newer ∙ older_is
+
+-- The row of a weak reference to an object.
+module _ (rows : List Row) (rise : IsRising rows) (o : ℕ) (r : Row) (inside : Includes rows r) (passes : refers_to o r ≡ true) where
   referent_is : r.referent ≡ o
   referent_is = eqb-true r.referent o (true_and (r.referent == o) (not r.waits) passes).0
 
-  stays : r.waits ≡ false
+  pub stays : r.waits ≡ false
   stays = not-true r.waits (true_and (r.referent == o) (not r.waits) passes).1
 
   pub refers : referent_in rows r.weak ≡ Some o
-  refers = referent-is rows r s stays ∙ ap Some referent_is
-
-  -- none is newer
-  pub highest : (x : ℕ) → Includes (weak_references_in rows o) x → x ≤ r.weak
-  highest x m =
-      either (subst (λ l. Includes l x) (spelled ∙ ap (λ l. l ++ r.weak ∷ older) none_newer) m)
-      (λ e. omega (arith, e))
-      (λ k. let named = row_of_one (refers_to o) s.front x k in let low = s.lower named.0 named.1 in omega (arith, low, named.3))
-
-  -- once it has lost the object
-  pub references_left : weak_references_in (without_row r.weak rows) o ≡ ws
-  references_left =
-      ap (newest_first (refers_to o)) (without-is rows r s)
-      ∙ newest_first-append (refers_to o) s.front s.back
-      ∙ ap (λ l. l ++ older) none_newer
-      ∙ older_is
+  refers = referent-is rows r (split_at rows r rise inside) stays ∙ ap Some referent_is
 
   pub references_other : (q : ℕ) → q ≢ o → weak_references_in (without_row r.weak rows) q ≡ weak_references_in rows q
   references_other q differs =
+      let s = split_at rows r rise inside in
       ap (newest_first (refers_to q)) (without-is rows r s)
       ∙ sym (newest_first-skip (refers_to q) s.front r s.back (ap (λ b. b && not r.waits) (ne_eqb r.referent q (λ e. differs (sym e ∙ referent_is)))))
       ∙ ap (newest_first (refers_to q)) (sym s.is)
-
-  pub filter-without : (test : Row → Bool) → test r ≡ false → filter test (without_row r.weak rows) ≡ filter test rows
-  filter-without test fails =
-      ap (filter test) (without-is rows r s)
-      ∙ filter-append test s.front s.back
-      ∙ ap (λ b. filter test s.front ++ cond b (r ∷ filter test s.back) (filter test s.back)) (sym fails)
-      ∙ sym (filter-append test s.front (r ∷ s.back))
-      ∙ ap (filter test) (sym s.is)
-
-  pub objects_without : (store : Store) → objects_of (record store { rows = without_row r.weak rows }) ≡ loses_referent r.weak (objects_of (record store { rows = rows }))
-  objects_without store = objects-cleared (record store { rows = rows }) (without_row r.weak rows) r.weak (referent-without rows r s)
 
 -- a row that does not wait is that of a weak reference to its referent
 pub row_listed : (rows : List Row) (r : Row) → Includes rows r → r.waits ≡ false → Includes (weak_references_in rows r.referent) r.weak
 row_listed rows r inside stays = one_of_row (refers_to r.referent) rows r inside (λ i. eq-eqb r.referent r.referent refl i && not (stays i))
 
--- a member of the final set that no row refers to
-pub any-cons : (members : List ℕ) (o : ℕ) (rows : List Row) → weak_references_in rows o ≡ [] → filter (λ r. not (refers_to_any (o ∷ members) r)) rows ≡ filter (λ r. not (refers_to_any members r)) rows
-any-cons members o rows none = filter_same (λ r. not (refers_to_any (o ∷ members) r)) (λ r. not (refers_to_any members r)) rows each
+-- Where no row refers to a member, and no member has one, none is lost.
+pub none_lost : (final : List ℕ) (rows : List Row) → IsRising rows → ((r : Row) → Includes rows r → r.waits ≡ false → ¬ Includes final r.referent) → ((o : ℕ) → Includes final o → referent_in rows o ≡ None)
+    → filter (λ r. not (is_lost_with final r)) rows ≡ rows
+none_lost final rows rise unreferred none = filter_all (λ r. not (is_lost_with final r)) rows each
   where
-    each : (r : Row) → Includes rows r → not (refers_to_any (o ∷ members) r) ≡ not (refers_to_any members r)
-    each r inside = either (cases_of r.waits)
-        (λ waits. (λ i. not (((o == r.referent) || includes members r.referent) && not (waits i))) ∙ both_false ((o == r.referent) || includes members r.referent) (includes members r.referent) ∙ (λ i. not (includes members r.referent && not (sym waits i))))
-        (λ stays. ap (λ b. not ((b || includes members r.referent) && not r.waits)) (ne_eqb o r.referent (λ e. subst (λ l. Includes l r.weak) (ap (weak_references_in rows) (sym e) ∙ none) (row_listed rows r inside stays))))
+    each : (r : Row) → Includes rows r → not (is_lost_with final r) ≡ true
+    each r inside = either (cases_of (is_lost_with final r)) (λ lost. absurd (not_lost lost)) (λ e. ap not e)
       where
-        both_false : (b c : Bool) → not (b && false) ≡ not (c && false)
-        both_false true true = refl
-        both_false true false = refl
-        both_false false true = refl
-        both_false false false = refl
+        not_lost : is_lost_with final r ≡ true → ⊥
+        not_lost lost =
+            let parts = true_and (includes final r.referent || includes final r.weak) (not r.waits) lost in
+            let there : r.waits ≡ false = not-true r.waits parts.1 in
+            either (true_or (includes final r.referent) (includes final r.weak) parts.0)
+            (λ e. unreferred r inside there (Includes-of final r.referent e))
+            (λ e. let f : None ≡ Some r.referent = sym (none r.weak (Includes-of final r.weak e)) ∙ referent-is rows r (split_at rows r rise inside) there in cc)
 
--- The rows that are left refer to members that are left.
-pub record AreLeft (store : Store) (final members : List ℕ) (rows : List Row) : Type 0 where
+-- the rows stand by rising weak reference, and each of these lives
+pub record AreAlive (store : Store) (rows : List Row) : Type 0 where
   pub rise : IsRising rows
   pub live : (r : Row) → Includes rows r → IsLive store r.weak
-  pub left : (r : Row) → Includes rows r → r.waits ≡ false → Includes final r.referent → Includes members r.referent
+
+alive-filter : (store : Store) (test : Row → Bool) (rows : List Row) → AreAlive store rows → AreAlive store (filter test rows)
+alive-filter store test rows are = record { rise = rising-filter test rows are.rise; live = λ r m. are.live r (Includes-filter_cases test rows r m).0 }
+
+-- The rows that pass a test are all that are to lose an object.
+record IsGroup (final : List ℕ) (q : ℕ) (test : Row → Bool) (rows : List Row) : Type 0 where
+  to : (r : Row) → test r ≡ true → refers_to q r ≡ true
+  lost : (r : Row) → test r ≡ true → Includes final q ⊎ Includes final r.weak
+  all : (r : Row) → Includes rows r → refers_to q r ≡ true → Includes final q ⊎ Includes final r.weak → test r ≡ true
 
 module _ (store : Store) (final : List ℕ) (wanted : Object → Bool)
-    (wants : (x : Object) (o : ℕ) → x.referent ≡ Some o → Includes final o → wanted x ≡ true)
-    (wanted_is : (x : Object) → wanted x ≡ true → (o : ℕ) × (x.referent ≡ Some o) × Includes final o) where
+    (wants : (rows : List Row) (weak : ℕ) (n : Node) (o : ℕ) → fin.get store.nodes weak ≡ Some n → referent_in rows weak ≡ Some o → Includes final o ⊎ Includes final weak → wanted (object_from rows weak n) ≡ true)
+    (wanted_is : (rows : List Row) (x : Object) → Includes (objects_of (record store { rows = rows })) x → wanted x ≡ true → (o : ℕ) × (x.referent ≡ Some o) × (Includes final o ⊎ Includes final x.serial)) where
   abbrev pub at : List Row → Store
   at rows = record store { rows = rows }
 
-  abbrev rest : List ℕ → List Row → List Row
-  rest members rows = filter (λ r. not (refers_to_any members r)) rows
+  abbrev lost_rows : List Row → List Row
+  lost_rows rows = filter (λ r. not (is_lost_with final r)) rows
 
   abbrev Lose : List Row → List ℕ → List Row → Type 0
   Lose rows weaks after = AllLose wanted (objects_of (at rows)) weaks (objects_of (at after))
 
-  none_left : (rows : List Row) → AreLeft store final [] rows → NoneLeft wanted (objects_of (at rows))
-  none_left rows are x m = either (cases_of (wanted x)) (λ yes'. absurd (no yes')) (λ e. e)
+  -- The newest of a group may lose its referent next.
+  may_lose : (q : ℕ) (test : Row → Bool) (rows : List Row) → IsGroup final q test rows → AreAlive store rows → (ws : List ℕ) (r : Row) → Includes rows r → test r ≡ true → newest_first test rows ≡ r.weak ∷ ws
+      → MayLoseNext wanted (objects_of (at rows)) r.weak
+  may_lose q test rows group are ws r inside passes is =
+      let (n, got) = node_of_live store r.weak (are.live r inside) in
+      let refers_q : referent_in rows r.weak ≡ Some q = refers rows are.rise q r inside (group.to r passes) in
+      record {
+        object = object_from rows r.weak n;
+        is = refl;
+        member = object_there (at rows) r.weak n got;
+        to_lose = wants rows r.weak n q got refers_q (group.lost r passes);
+        newest = λ y m h same.
+            let (k, found, made) = node_there (at rows) y m in
+            let refers_too : y.referent ≡ Some q = same ∙ refers_q in
+            let (p, inside_p, passes_p, weak_p) = row_there rows y.serial q (ap (λ (z : Object). z.referent) made ∙ refers_too) in
+            let (o, is_o, which) = wanted_is rows y m h in
+            let same_o : o ≡ q = (let both : Some o ≡ Some q = sym is_o ∙ refers_too in cc) in
+            let which_p : Includes final q ⊎ Includes final p.weak = either which (λ a. inl (subst (Includes final) same_o a)) (λ b. inr (subst (Includes final) (sym weak_p) b)) in
+            highest test rows are.rise ws r inside passes is y.serial (subst (Includes (newest_first test rows)) weak_p (one_of_row test rows p inside_p (group.all p inside_p passes_p which_p)));
+      }
+
+  -- All of a group lose theirs, the newest first, and then others.
+  lose_group : (q : ℕ) (test : Row → Bool) (ws : List ℕ) (rows : List Row) (more : List ℕ) (after : List Row) → newest_first test rows ≡ ws → IsGroup final q test rows → AreAlive store rows
+      → Lose (filter (λ r. not (test r)) rows) more after → Lose rows (ws ++ more) after
+  lose_group q test [] rows more after is group are others = subst (λ (l : List Row). Lose l more after) (filter_all (λ r. not (test r)) rows none) others
     where
-      no : wanted x ≡ true → ⊥
-      no h =
-          let (o, refers, member) = wanted_is x h in
-          let (n, got, made) = node_there (at rows) x m in
-          let (r, inside, passes, same) = row_there rows x.serial o (ap (λ (y : Object). y.referent) made ∙ refers) in
-          let parts = true_and (r.referent == o) (not r.waits) passes in
-          are.left r inside (not-true r.waits parts.1) (subst (Includes final) (sym (eqb-true r.referent o parts.0)) member)
+      none : (r : Row) → Includes rows r → not (test r) ≡ true
+      none r inside = either (cases_of (test r)) (λ e. absurd (subst (λ l. Includes l r.weak) is (one_of_row test rows r inside e))) (λ e. ap not e)
+  lose_group q test (w ∷ ws) rows more after is group are others =
+      let (r, inside, passes, same) = row_of_one test rows w (subst (λ l. Includes l w) (sym is) (inl refl)) in
+      let here : newest_first test rows ≡ r.weak ∷ ws = is ∙ ap (λ v. v ∷ ws) (sym same) in
+      let left : List Row = without_row r.weak rows in
+      let rest : Lose left (ws ++ more) after =
+      lose_group q test ws left more after (newest_left test rows are.rise ws r inside passes here)
+      (record { to = group.to; lost = group.lost; all = λ x m. group.all x (left-in r.weak rows x m) })
+      (alive-filter store (λ x. not (x.weak == r.weak)) rows are)
+      (subst (λ (l : List Row). Lose l more after) (sym (filter-without rows are.rise r inside (λ x. not (test x)) (ap not passes))) others) in
+      subst (λ v. Lose rows (v ∷ (ws ++ more)) after) same
+      (may_lose q test rows group are ws r inside passes here, subst (λ (os : List Object). AllLose wanted os (ws ++ more) (objects_of (at after))) (objects_without rows are.rise r inside store) rest)
 
-  -- The weak references to one member, and then those to the others.
-  module _ (o : ℕ) (members : List ℕ) (member : Includes final o) (apart : occurrences o members ≡ 0) (others : (rows : List Row) → AreLeft store final members rows → Lose rows (flat_map (weak_references_in rows) members) (rest members rows)) where
-    not_among : (q : ℕ) → Includes members q → q ≢ o
-    not_among q m e = let some = occurs members o (subst (Includes members) e m) in absurd (omega (arith, some, apart))
+  -- The weak references to members lose them, member by member, and then others.
+  pub lose_first : (members : List ℕ) → ((o : ℕ) → Includes members o → Includes final o) → ((o : ℕ) → occurrences o members ≤ 1) → (rows : List Row) → AreAlive store rows → (more : List ℕ) (after : List Row)
+      → Lose (without_referents members rows) more after → Lose rows (flat_map (weak_references_in rows) members ++ more) after
+  lose_first [] within once rows are more after others = subst (λ (l : List Row). Lose l more after) (filter_all (λ r. not (refers_to_any [] r)) rows (λ r m. refl)) others
+  lose_first (o ∷ members) within once rows are more after others =
+      subst (λ (l : List ℕ). Lose rows l after) (sym (append_assoc (weak_references_in rows o) (flat_map (weak_references_in rows) members) more))
+      (lose_group o (refers_to o) (weak_references_in rows o) rows (flat_map (weak_references_in rows) members ++ more) after refl
+      (record { to = λ r e. e; lost = λ r e. inl (within o (inl refl)); all = λ r m e which. e }) are
+      (subst (λ (l : List ℕ). Lose left (l ++ more) after) (flat_map_alike (weak_references_in left) (weak_references_in rows) members (λ q m. others_left q (not_among q m)))
+      (lose_first members (λ q m. within q (inr m)) (λ q. omega (arith, once q, occurrences-cons q o members)) left (alive-filter store (λ r. not (refers_to o r)) rows are) more after
+      (subst (λ (l : List Row). Lose l more after) (sym both_left) others))))
+    where
+      left : List Row
+      left = filter (λ r. not (refers_to o r)) rows
 
-    may_lose : (rows : List Row) (rise : IsRising rows) (ws : List ℕ) (r : Row) (inside : Includes rows r) (passes : refers_to o r ≡ true) (is : weak_references_in rows o ≡ r.weak ∷ ws) → IsLive store r.weak → MayLoseNext wanted (objects_of (at rows)) r.weak
-    may_lose rows rise ws r inside passes is live =
-        let (n, got) = node_of_live store r.weak live in
-        let refers_o : referent_in rows r.weak ≡ Some o = refers rows rise o ws r inside passes is in
-        record {
-          object = object_from rows r.weak n;
-          is = refl;
-          member = object_there (at rows) r.weak n got;
-          to_lose = wants (object_from rows r.weak n) o refers_o member;
-          newest = λ y m h same.
-              let (k, found, made) = node_there (at rows) y m in
-              let (q, inside_q, passes_q, weak_q) = row_there rows y.serial o (ap (λ (z : Object). z.referent) made ∙ same ∙ refers_o) in
-              highest rows rise o ws r inside passes is y.serial (subst (Includes (weak_references_in rows o)) weak_q (one_of_row (refers_to o) rows q inside_q passes_q));
-        }
+      not_among : (q : ℕ) → Includes members q → q ≢ o
+      not_among q m e =
+          let some = occurs members o (subst (Includes members) e m) in
+          let one : cond {A = ℕ} (o == o) 1 0 ≡ 1 = ap (λ b. cond {A = ℕ} b 1 0) (eq-eqb o o refl) in
+          absurd (omega (arith, some, once o, occurrences-cons o o members, one))
 
-    pub lose_one : (ws : List ℕ) (rows : List Row) → weak_references_in rows o ≡ ws → AreLeft store final (o ∷ members) rows → Lose rows (ws ++ flat_map (weak_references_in rows) members) (rest (o ∷ members) rows)
-    lose_one [] rows is are =
-        subst (λ (after : List Row). Lose rows (flat_map (weak_references_in rows) members) after) (sym (any-cons members o rows is))
-        (others rows (record {
-          rise = are.rise;
-          live = are.live;
-          left = λ r inside stays h. either (are.left r inside stays h) (λ e. absurd (subst (λ l. Includes l r.weak) (ap (weak_references_in rows) (sym e) ∙ is) (row_listed rows r inside stays))) (λ k. k);
-        }))
-    lose_one (w ∷ ws) rows is are =
-        let (r, inside, passes, same) = row_of_one (refers_to o) rows w (subst (λ l. Includes l w) (sym is) (inl refl)) in
-        let here : weak_references_in rows o ≡ r.weak ∷ ws = is ∙ ap (λ v. v ∷ ws) (sym same) in
-        let lost : List Row = without_row r.weak rows in
-        let gone : refers_to_any (o ∷ members) r ≡ true = any_here r passes in
-        let more : Lose lost (ws ++ flat_map (weak_references_in lost) members) (rest (o ∷ members) lost) =
-        lose_one ws lost (references_left rows are.rise o ws r inside passes here) (record {
-          rise = rising-filter (λ x. not (x.weak == r.weak)) rows are.rise;
-          live = λ x m. are.live x (Includes-filter_cases (λ y. not (y.weak == r.weak)) rows x m).0;
-          left = λ x m. are.left x (Includes-filter_cases (λ y. not (y.weak == r.weak)) rows x m).0;
-        }) in
-        subst (λ v. Lose rows (v ∷ (ws ++ flat_map (weak_references_in rows) members)) (rest (o ∷ members) rows)) same (
-          may_lose rows are.rise ws r inside passes here (are.live r inside),
-          subst (λ (os : List Object). AllLose wanted os (ws ++ flat_map (weak_references_in rows) members) (objects_of (at (rest (o ∷ members) rows)))) (objects_without rows are.rise o ws r inside passes here store)
-              (subst (λ (after : List Row). Lose lost (ws ++ flat_map (weak_references_in rows) members) after) (filter-without rows are.rise o ws r inside passes here (λ x. not (refers_to_any (o ∷ members) x)) (ap not gone))
-              (subst (λ (l : List ℕ). Lose lost (ws ++ l) (rest (o ∷ members) lost))
-              (flat_map_alike (weak_references_in lost) (weak_references_in rows) members (λ q m. references_other rows are.rise o ws r inside passes here q (not_among q m))) more)),
+      others_left : (q : ℕ) → q ≢ o → weak_references_in left q ≡ weak_references_in rows q
+      others_left q differs = ap (λ l. reverse (map (λ (r : Row). r.weak) l)) (filter_twice (refers_to q) (λ r. not (refers_to o r)) rows (λ r e. ap not (apart_from r e)))
+        where
+          apart_from : (r : Row) → refers_to q r ≡ true → refers_to o r ≡ false
+          apart_from r e = let parts = true_and (r.referent == q) (not r.waits) e in ap (λ b. b && not r.waits) (ne_eqb r.referent o (λ k. differs (sym (eqb-true r.referent q parts.0) ∙ k)))
+
+      both_left : without_referents members left ≡ without_referents (o ∷ members) rows
+      both_left =
+          filter_filter (λ r. not (refers_to_any members r)) (λ r. not (refers_to o r)) rows
+          ∙ filter_same (λ r. not (refers_to o r) && not (refers_to_any members r)) (λ r. not (refers_to_any (o ∷ members) r)) rows
+          (λ r m. ap (λ b. not (b && not r.waits) && not (refers_to_any members r)) (eqb-sym r.referent o) ∙ neither (o == r.referent) (includes members r.referent) (not r.waits))
+        where
+          neither : (a b c : Bool) → (not (a && c) && not (b && c)) ≡ not ((a || b) && c)
+          neither true true true = refl
+          neither true true false = refl
+          neither true false true = refl
+          neither true false false = refl
+          neither false b c = refl
+
+  -- the members that have an object as referent, the newest first
+  abbrev among : List Row → Option ℕ → List ℕ
+  among rows k = filter (includes final) (references_in rows k)
+
+  -- Where a member has a referent, and no row refers to a member.
+  module _ (rows : List Row) (are : AreAlive store rows) (unreferred : (r : Row) → Includes rows r → r.waits ≡ false → ¬ Includes final r.referent) (o t : ℕ) (has : referent_in rows o ≡ Some t) where
+    -- whether a row is that of a member with this referent
+    abbrev goes_with : Row → Bool
+    goes_with r = refers_to t r && includes final r.weak
+
+    abbrev left : List Row
+    left = filter (λ r. not (goes_with r)) rows
+
+    weaks_are : among rows (Some t) ≡ newest_first goes_with rows
+    weaks_are = filter-newest (refers_to t) final rows
+
+    left_is : without_rows (among rows (Some t)) rows ≡ left
+    left_is = ap (λ ws. without_rows ws rows) weaks_are ∙ without_rows-newest goes_with rows are.rise
+
+    -- those that are left had their referents, and are not of these
+    left_has : (q p : ℕ) → referent_in left q ≡ Some p → (referent_in rows q ≡ Some p) × ((t ≡ p) × Includes final q → ⊥)
+    left_has q p has_p =
+        let (r, inside, passes, same) = row_there left q p has_p in
+        let (there, kept) = Includes-filter_cases (λ x. not (goes_with x)) rows r inside in (
+          ap (referent_in rows) (sym same) ∙ refers rows are.rise p r there passes,
+          λ both.
+              let lost : goes_with r ≡ true = λ i. (ap (λ k. refers_to k r) both.0 ∙ passes) i && (ap (includes final) same ∙ includes-of final q both.1) i in
+              let f : false ≡ true = sym (ap not lost) ∙ kept in
+              cc,
         )
-      where
-        any_here : (x : Row) → refers_to o x ≡ true → refers_to_any (o ∷ members) x ≡ true
-        any_here x passes =
-            let parts = true_and (x.referent == o) (not x.waits) passes in
-            λ i. (eq-eqb o x.referent (sym (eqb-true x.referent o parts.0)) i || includes members x.referent) && parts.1 i
 
-  -- All of them lose theirs, in this order.
-  pub lose_all : (members : List ℕ) → ((o : ℕ) → Includes members o → Includes final o) → ((o : ℕ) → occurrences o members ≤ 1) → (rows : List Row) → AreLeft store final members rows
-      → Lose rows (flat_map (weak_references_in rows) members) (rest members rows)
-  lose_all [] within once rows are = (none_left rows are, ap (λ (l : List Row). objects_of (at l)) (filter_all (λ r. not (refers_to_any [] r)) rows (λ r m. refl)))
-  lose_all (o ∷ members) within once rows are =
-      let one : cond {A = ℕ} (o == o) 1 0 ≡ 1 = ap (λ b. cond {A = ℕ} b 1 0) (eq-eqb o o refl) in
-      lose_one o members (within o (inl refl)) (omega (arith, once o, occurrences-cons o o members, one))
-      (λ later left. lose_all members (λ q m. within q (inr m)) (λ q. omega (arith, once q, occurrences-cons q o members)) later left)
-      (weak_references_in rows o) rows refl are
+    left_none : (q : ℕ) → Includes final q → (o ≡ q) ⊎ (referent_in rows q ≡ None) → referent_in left q ≡ None
+    left_none q m which = go (referent_in left q) refl
+      where
+        go : (k : Option ℕ) → referent_in left q ≡ k → referent_in left q ≡ None
+        go None e = e
+        go (Some p) e =
+            let (had, not_both) = left_has q p e in
+            absurd (either which
+            (λ same. let is : Some t ≡ Some p = sym has ∙ ap (referent_in rows) same ∙ had in let tp : t ≡ p = cc in not_both (tp, m))
+            (λ none. let f : None ≡ Some p = sym none ∙ had in cc))
+
+    same_end : lost_rows left ≡ lost_rows rows
+    same_end = filter_twice (λ r. not (is_lost_with final r)) (λ r. not (goes_with r)) rows (λ r h. bools (r.referent == t) (not r.waits) (includes final r.weak) (includes final r.referent) h)
+      where
+        bools : (a b c d : Bool) → not ((d || c) && b) ≡ true → not ((a && b) && c) ≡ true
+        bools true true true true h = h
+        bools true true true false h = h
+        bools true true false d h = refl
+        bools true false c d h = refl
+        bools false b c d h = refl
+
+    lose_same : (more : List Row → List ℕ) → Lose left (more left) (lost_rows left) → Lose rows (among rows (Some t) ++ more (without_rows (among rows (Some t)) rows)) (lost_rows rows)
+    lose_same more others =
+        lose_group t goes_with (among rows (Some t)) rows (more (without_rows (among rows (Some t)) rows)) (lost_rows rows) (sym weaks_are)
+        (record {
+          to = λ r e. (true_and (refers_to t r) (includes final r.weak) e).0;
+          lost = λ r e. inr (Includes-of final r.weak (true_and (refers_to t r) (includes final r.weak) e).1);
+          all = λ r inside e which.
+              let parts = true_and (r.referent == t) (not r.waits) e in
+              either which
+              (λ a. absurd (unreferred r inside (not-true r.waits parts.1) (subst (Includes final) (sym (eqb-true r.referent t parts.0)) a)))
+              (λ b. λ i. e i && includes-of final r.weak b i);
+        }) are
+        (subst (λ (l : List Row). Lose left (more l) (lost_rows rows)) (sym left_is) (subst (λ (l : List Row). Lose left (more left) l) same_end others))
+
+  -- When none has a referent, none is left.
+  lose_none : (rows : List Row) → AreAlive store rows → ((r : Row) → Includes rows r → r.waits ≡ false → ¬ Includes final r.referent) → ((o : ℕ) → Includes final o → referent_in rows o ≡ None) → Lose rows [] (lost_rows rows)
+  lose_none rows are unreferred none = (none_left, ap (λ (l : List Row). objects_of (at l)) (none_lost final rows are.rise unreferred none))
+    where
+      no : (x : Object) → Includes (objects_of (at rows)) x → wanted x ≡ true → ⊥
+      no x m h =
+          let (o, refers_o, which) = wanted_is rows x m h in
+          let (n, got, made) = node_there (at rows) x m in
+          let found : referent_in rows x.serial ≡ Some o = ap (λ (y : Object). y.referent) made ∙ refers_o in
+          let (r, inside, passes, same) = row_there rows x.serial o found in
+          let parts = true_and (r.referent == o) (not r.waits) passes in
+          either which
+          (λ a. unreferred r inside (not-true r.waits parts.1) (subst (Includes final) (sym (eqb-true r.referent o parts.0)) a))
+          (λ b. let f : None ≡ Some o = sym (none x.serial b) ∙ found in cc)
+
+      none_left : NoneLeft wanted (objects_of (at rows))
+      none_left x m = either (cases_of (wanted x)) (λ h. absurd (no x m h)) (λ e. e)
+
+  -- members, of those that are left, lose their referents in order
+  abbrev LoseInOrder : List ℕ → Type 0
+  LoseInOrder members = (rows : List Row) → AreAlive store rows → ((r : Row) → Includes rows r → r.waits ≡ false → ¬ Includes final r.referent) → ((o : ℕ) → Includes final o → Includes members o ⊎ (referent_in rows o ≡ None))
+      → Lose rows (members_losing final members rows) (lost_rows rows)
+
+  lose_next : (o : ℕ) (members : List ℕ) → LoseInOrder members → LoseInOrder (o ∷ members)
+  lose_next o members others rows are unreferred behind = known (referent_in rows o) refl
+    where
+      behind_o : (q : ℕ) → Includes final q → (o ≡ q) ⊎ Includes members q ⊎ (referent_in rows q ≡ None)
+      behind_o q m = either (behind q m) (λ k. either k (λ e. inl e) (λ l. inr (inl l))) (λ none. inr (inr none))
+
+      known : (k : Option ℕ) → referent_in rows o ≡ k → Lose rows (among rows (referent_in rows o) ++ members_losing final members (without_rows (among rows (referent_in rows o)) rows)) (lost_rows rows)
+      known None e =
+          subst (λ k. Lose rows (among rows k ++ members_losing final members (without_rows (among rows k) rows)) (lost_rows rows)) (sym e)
+          (subst (λ (l : List Row). Lose rows (members_losing final members l) (lost_rows rows)) (sym (without_rows-nil rows))
+          (others rows are unreferred (λ q m. either (behind_o q m) (λ same. inr (ap (referent_in rows) (sym same) ∙ e)) (λ k. k))))
+      known (Some t) e =
+          subst (λ k. Lose rows (among rows k ++ members_losing final members (without_rows (among rows k) rows)) (lost_rows rows)) (sym e)
+          (lose_same rows are unreferred o t e (members_losing final members)
+          (others (left rows are unreferred o t e) (alive-filter store (λ r. not (refers_to t r && includes final r.weak)) rows are)
+          (λ r inside. unreferred r (Includes-filter_cases (λ x. not (refers_to t x && includes final x.weak)) rows r inside).0)
+          (λ q m. either (behind_o q m) (λ same. inr (left_none rows are unreferred o t e q m (inl same))) (λ k. either k (λ l. inl l) (λ none. inr (left_none rows are unreferred o t e q m (inr none)))))))
+
+  -- Then members lose their own referents, with each all that have the same.
+  pub lose_members : (members : List ℕ) → LoseInOrder members
+  lose_members [] = λ rows are unreferred behind. lose_none rows are unreferred (λ o m. either (behind o m) (λ k. absurd k) (λ e. e))
+  lose_members (o ∷ members) = lose_next o members (lose_members members)
 
 -- What waits, waits on.
-pub waiting-rest : (members : List ℕ) (rows : List Row) (o : ℕ) → waiting_in (filter (λ r. not (refers_to_any members r)) rows) o ≡ waiting_in rows o
+pub waiting-rest : (members : List ℕ) (rows : List Row) (o : ℕ) → waiting_in (filter (λ r. not (is_lost_with members r)) rows) o ≡ waiting_in rows o
 waiting-rest members rows o =
     ap (λ (l : List Row). reverse (map (λ (r : Row). r.weak) l))
-    (filter_twice (waits_with o) (λ r. not (refers_to_any members r)) rows
-    (λ r waits. let parts = true_and (r.referent == o) r.waits waits in ap not ((λ i. includes members r.referent && not (parts.1 i)) ∙ nothing (includes members r.referent))))
+    (filter_twice (waits_with o) (λ r. not (is_lost_with members r)) rows
+    (λ r waits. let parts = true_and (r.referent == o) r.waits waits in ap not ((λ i. (includes members r.referent || includes members r.weak) && not (parts.1 i)) ∙ nothing (includes members r.referent || includes members r.weak))))
   where
     nothing : (b : Bool) → (b && false) ≡ false
     nothing true = refl
     nothing false = refl
 
 -- no row refers to a member where none has a weak reference
-pub none_to_lose : (members : List ℕ) (store : Store) → ((o : ℕ) → Includes members o → weak_references_in store.rows o ≡ []) → without_rows_to members store ≡ store
-none_to_lose members store none = λ i. record store { rows = filter_all (λ r. not (refers_to_any members r)) store.rows each i }
+pub none_referring : (members : List ℕ) (rows : List Row) → ((o : ℕ) → Includes members o → weak_references_in rows o ≡ []) → (r : Row) → Includes rows r → r.waits ≡ false → ¬ Includes members r.referent
+none_referring members rows none r inside there m = absurd (subst (λ l. Includes l r.weak) (none r.referent m) (row_listed rows r inside there))
+
+pub none_to_lose : (members : List ℕ) (rows : List Row) → ((o : ℕ) → Includes members o → weak_references_in rows o ≡ []) → without_referents members rows ≡ rows
+none_to_lose members rows none = filter_all (λ r. not (refers_to_any members r)) rows each
   where
-    each : (r : Row) → Includes store.rows r → not (refers_to_any members r) ≡ true
+    each : (r : Row) → Includes rows r → not (refers_to_any members r) ≡ true
     each r inside = either (cases_of (refers_to_any members r))
-        (λ yes'.
-        let parts = true_and (includes members r.referent) (not r.waits) yes' in
-        absurd (subst (λ l. Includes l r.weak) (none r.referent (Includes-of members r.referent parts.0)) (row_listed store.rows r inside (not-true r.waits parts.1))))
+        (λ yes'. let parts = true_and (includes members r.referent) (not r.waits) yes' in absurd (none_referring members rows none r inside (not-true r.waits parts.1) (Includes-of members r.referent parts.0)))
         (λ no. ap not no)
 
--- one that has lost a member leaves the others to lose theirs
-pub same_without : (members : List ℕ) (store : Store) (rise : IsRising store.rows) (o : ℕ) (ws : List ℕ) (r : Row) (inside : Includes store.rows r) (passes : refers_to o r ≡ true) (is : weak_references_in store.rows o ≡ r.weak ∷ ws) → Includes members o
-    → without_rows_to members (record store { rows = without_row r.weak store.rows }) ≡ without_rows_to members store
-same_without members store rise o ws r inside passes is member =
-    λ i. record store { rows = filter-without store.rows rise o ws r inside passes is (λ x. not (refers_to_any members x)) (ap not gone) i }
-  where
-    gone : refers_to_any members r ≡ true
-    gone =
-        let parts = true_and (r.referent == o) (not r.waits) passes in
-        λ i. (ap (includes members) (eqb-true r.referent o parts.0) ∙ includes-of members o member) i && parts.1 i
+-- one that is lost leaves the others to be lost
+pub same_without : (members : List ℕ) (store : Store) (rise : IsRising store.rows) (r : Row) (inside : Includes store.rows r) → is_lost_with members r ≡ true
+    → without_rows_of members (record store { rows = without_row r.weak store.rows }) ≡ without_rows_of members store
+same_without members store rise r inside lost = λ i. record store { rows = filter-without store.rows rise r inside (λ x. not (is_lost_with members x)) (ap not lost) i }

@@ -12,6 +12,7 @@ use Rattle.cg_graph.specs.Store.{Store, Node, list_at, entries_of, entries_in, p
 use Rattle.cg_graph.specs.Changes.{unheld, less}
 use Rattle.cg_graph.proofs.Maps.{get-mapped}
 use Rattle.cg_heap.proofs.CallerLemmas.{kinds-unheld}
+use Rattle.cg_machine.specs.Program.{profile_of}
 use Rattle.cg_machine.specs.World as machine
 use Rattle.cg_machine.specs.World.{World, Activity, Releasing, Collecting, Numbers}
 use Rattle.cg_machine.specs.Weak.{callback_in}
@@ -32,7 +33,7 @@ use Rattle.cg_collect.specs.declared.phase.Turn.{Turn}
 use Rattle.cg_collect.specs.declared.phase.Phase.{Phase}
 use Rattle.cg_collect.specs.declared.phase.Phase.TheVariants as phase_of
 use Rattle.cg_collect.specs.Phases.{machine_phase, collecting, released_over, lines_left, store_after}
-use Rattle.cg_collect.specs.Ready.{IsApart, OthersHaveCallbacks, IsReadyAt, HasFewCollected, MayGiveUp, GivesUpIn, MayRun, IsBegun, SparesGarbageList}
+use Rattle.cg_collect.specs.Ready.{IsApart, OthersHaveCallbacks, IsReadyAt, HasItsWalk, HasFewCollected, MayGiveUp, GivesUpIn, MayRun, IsBegun, SparesGarbageList}
 use Rattle.cg_collect.specs.Answers.{Shows, CollectAnswer, CollectSteps, numbers_at}
 use Rattle.cg_collect.specs.Turns.{pass_of, passes_on, TurnSteps, ComesNearer, KeepsObjects, left_in_pass, to_clear, others_cleared}
 use Rattle.cg_collect.specs.Collections.{IsReady, KeepsReady, CollectFalls, GivesUpNext, once_given_up, give_up_answer}
@@ -72,6 +73,7 @@ gives_up_at (phase_of.AfterFinalizing o) may = absurd may
 gives_up_at phase_of.Split may = absurd may
 gives_up_at (phase_of.Living next) may = absurd may
 gives_up_at (phase_of.Detaching next) may = absurd may
+gives_up_at (phase_of.Unlinking member weak) may = absurd may
 gives_up_at phase_of.Turns may = absurd may
 gives_up_at phase_of.Ending may = absurd may
 gives_up_at (phase_of.Uncollectable first next number) may = absurd may
@@ -206,6 +208,7 @@ module _ (refs : List ℕ) (store : Store) where
   ready-unheld g phase_of.Split may r = absurd may
   ready-unheld g (phase_of.Living next) may r = absurd may
   ready-unheld g (phase_of.Detaching next) may r = absurd may
+  ready-unheld g (phase_of.Unlinking member weak) may r = absurd may
   ready-unheld g phase_of.Turns may r = absurd may
   ready-unheld g phase_of.Ending may r = absurd may
   ready-unheld g (phase_of.Uncollectable first next number) may r = absurd may
@@ -229,6 +232,7 @@ module _ (refs : List ℕ) (store : Store) where
   few-unheld n phase_of.Split may few = absurd may
   few-unheld n (phase_of.Living next) may few = absurd may
   few-unheld n (phase_of.Detaching next) may few = absurd may
+  few-unheld n (phase_of.Unlinking member weak) may few = absurd may
   few-unheld n phase_of.Turns may few = absurd may
   few-unheld n phase_of.Ending may few = absurd may
   few-unheld n (phase_of.Uncollectable first next number) may few = absurd may
@@ -258,6 +262,7 @@ module _ (refs : List ℕ) (store : Store) where
   left-unheld phase_of.Split may = absurd may
   left-unheld (phase_of.Living next) may = absurd may
   left-unheld (phase_of.Detaching next) may = absurd may
+  left-unheld (phase_of.Unlinking member weak) may = absurd may
   left-unheld phase_of.Turns may = absurd may
   left-unheld phase_of.Ending may = absurd may
   left-unheld (phase_of.Uncollectable first next number) may = absurd may
@@ -271,12 +276,13 @@ record Lasts (p : Phase) : Type 0 where
   begun : IsBegun p
   onward : passes_on p ≡ 0
   spares : (store : Store) (g : ℕ) → IsReadyAt store g p → SparesGarbageList p
+  walk : (profile : ℕ) (store : Store) → HasItsWalk profile store p
 
 lasts_at : (p : Phase) → MayGiveUp p → Lasts p
-lasts_at (phase_of.AfterRelease weak) may = record { runs = tt; begun = tt; onward = refl; spares = λ store g r. r.2 }
-lasts_at phase_of.Finalizing may = record { runs = tt; begun = tt; onward = refl; spares = λ store g r. tt }
-lasts_at (phase_of.Turn o) may = record { runs = tt; begun = tt; onward = refl; spares = λ store g r. r.1 }
-lasts_at (phase_of.AfterTurn o) may = record { runs = tt; begun = tt; onward = refl; spares = λ store g r. r.1 }
+lasts_at (phase_of.AfterRelease weak) may = record { runs = tt; begun = tt; onward = refl; spares = λ store g r. r.2; walk = λ profile store. tt }
+lasts_at phase_of.Finalizing may = record { runs = tt; begun = tt; onward = refl; spares = λ store g r. tt; walk = λ profile store. tt }
+lasts_at (phase_of.Turn o) may = record { runs = tt; begun = tt; onward = refl; spares = λ store g r. r.1; walk = λ profile store. tt }
+lasts_at (phase_of.AfterTurn o) may = record { runs = tt; begun = tt; onward = refl; spares = λ store g r. r.1; walk = λ profile store. tt }
 lasts_at phase_of.Start may = absurd may
 lasts_at (phase_of.Sizes zero one two frozen) may = absurd may
 lasts_at (phase_of.Telling next) may = absurd may
@@ -287,6 +293,7 @@ lasts_at (phase_of.AfterFinalizing o) may = absurd may
 lasts_at phase_of.Split may = absurd may
 lasts_at (phase_of.Living next) may = absurd may
 lasts_at (phase_of.Detaching next) may = absurd may
+lasts_at (phase_of.Unlinking member weak) may = absurd may
 lasts_at phase_of.Turns may = absurd may
 lasts_at phase_of.Ending may = absurd may
 lasts_at (phase_of.Uncollectable first next number) may = absurd may
@@ -317,13 +324,13 @@ module _ (c : Collection) (store : Store) (new : Collection) (now : Store) (answ
   same = unchanged (references_left g.before) store now c.phase may g.heap
 
   -- the heap is ready for the next step
-  pub gives_up-ready : IsReady c store → KeepsReady new now answer
-  gives_up-ready ready = subst (λ (n : Collection). KeepsReady n now answer) (sym g.collection) (subst (KeepsReady (once_given_up c g.after (release_answer (references_left g.before) now)) now) (sym g.told) (known (release_answer (references_left g.before) now)))
+  pub gives_up-ready : (script : Script) → IsReady script c store → KeepsReady script new now answer
+  gives_up-ready script ready = subst (λ (n : Collection). KeepsReady script n now answer) (sym g.collection) (subst (KeepsReady script (once_given_up c g.after (release_answer (references_left g.before) now)) now) (sym g.told) (known (release_answer (references_left g.before) now)))
     where
-      known : (a : DeathStep) → KeepsReady (once_given_up c g.after a) now (give_up_answer a)
-      known death_answer.Continue = record { generation = ready.generation; phase = same.ready c.generation ready.phase; collected = same.few c.collected ready.collected; gives_up = may }
-      known (death_answer.Emit event) = record { generation = ready.generation; phase = same.ready c.generation ready.phase; collected = same.few c.collected ready.collected; gives_up = may }
-      known (death_answer.Frame spec) = record { generation = ready.generation; phase = same.ready c.generation ready.phase; collected = same.few c.collected ready.collected; gives_up = may }
+      known : (a : DeathStep) → KeepsReady script (once_given_up c g.after a) now (give_up_answer a)
+      known death_answer.Continue = record { generation = ready.generation; phase = same.ready c.generation ready.phase; walk = (lasts_at c.phase may).walk (profile_of script.items) now; collected = same.few c.collected ready.collected; gives_up = may }
+      known (death_answer.Emit event) = record { generation = ready.generation; phase = same.ready c.generation ready.phase; walk = (lasts_at c.phase may).walk (profile_of script.items) now; collected = same.few c.collected ready.collected; gives_up = may }
+      known (death_answer.Frame spec) = record { generation = ready.generation; phase = same.ready c.generation ready.phase; walk = (lasts_at c.phase may).walk (profile_of script.items) now; collected = same.few c.collected ready.collected; gives_up = may }
       known (death_answer.Died o) = (
         record {
           runs = (lasts_at c.phase may).runs;
@@ -334,7 +341,7 @@ module _ (c : Collection) (store : Store) (new : Collection) (now : Store) (answ
         },
         refl,
       )
-      known death_answer.Gone = record { generation = ready.generation; phase = same.ready c.generation ready.phase; collected = same.few c.collected ready.collected; gives_up = tt }
+      known death_answer.Gone = record { generation = ready.generation; phase = same.ready c.generation ready.phase; walk = (lasts_at c.phase may).walk (profile_of script.items) now; collected = same.few c.collected ready.collected; gives_up = tt }
 
   -- generation and phase stay
   gives_up-stays : (new.generation ≡ c.generation) × (new.phase ≡ c.phase)
@@ -404,6 +411,7 @@ few_at_most n (phase_of.AfterFinalizing o) store few = omega (arith, few)
 few_at_most n phase_of.Split store few = omega (arith, few)
 few_at_most n (phase_of.Living next) store few = few
 few_at_most n (phase_of.Detaching next) store few = few
+few_at_most n (phase_of.Unlinking member weak) store few = few
 few_at_most n phase_of.Turns store few = few
 few_at_most n (phase_of.Turn o) store few = few
 few_at_most n (phase_of.AfterTurn o) store few = few

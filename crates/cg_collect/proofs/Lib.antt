@@ -15,6 +15,7 @@ pub mod Telling
 pub mod FinalRows
 pub mod Stopping
 pub mod Detecting
+pub mod Unlinking
 pub mod Traces
 pub mod Sorts
 pub mod Pending

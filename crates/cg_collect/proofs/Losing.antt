@@ -27,6 +27,7 @@ use Rattle.cg_machine.specs.declared.event.Event.TheVariants.{Cleared}
 use Rattle.cg_machine.specs.World as machine
 use Rattle.cg_machine.specs.World.{World, Activity, Collecting, with_stack, with_objects}
 use Rattle.cg_machine.specs.Weak.{loses_referent, callback_of, callback_in, MayLoseNext}
+use Rattle.cg_machine.specs.Program.{profile_of}
 use Rattle.cg_machine.specs.Collect.{waits, is_condemned_in, loses_in_weak_phase}
 use Rattle.cg_machine.specs.Collect as collect
 use Rattle.cg_machine.proofs.Representing.{in_one}
@@ -41,7 +42,7 @@ use Rattle.cg_collect.specs.declared.answer.CollectStep.TheVariants as answer_of
 use Rattle.cg_collect.specs.declared.collection.Facts.{Facts}
 use Rattle.cg_collect.specs.declared.phase.Phase.TheVariants as phase_of
 use Rattle.cg_collect.specs.Phases.{collection_of}
-use Rattle.cg_collect.specs.Ready.{IsApartUnseen, HaveCallbacks, IsWalk, to_look_at}
+use Rattle.cg_collect.specs.Ready.{IsApartUnseen, HaveCallbacks, IsWalk, loses_at, to_look_at}
 use Rattle.cg_collect.specs.Answers.{CollectSteps}
 use Rattle.cg_collect.specs.Turns.{collection_at}
 use Rattle.cg_collect.proofs.Moving.{moved_not, moved_last, moved_from}
@@ -49,7 +50,7 @@ use Rattle.cg_collect.proofs.Worlds.{LeavesRest, steps_at, represents_on}
 use Rattle.cg_collect.proofs.Looking.{still_unsaved}
 use Rattle.cg_collect.proofs.Pending.{apart_away}
 use Rattle.cg_collect.proofs.RowWalks.{refers, older_ones, looks_here, looks_on}
-use Rattle.cg_collect.proofs.Walking.{condemned-at, loses_at, may_lose, IsLost, changed_objects, walk_loses, walk_passes}
+use Rattle.cg_collect.proofs.Walking.{condemned-at, may_lose, IsLost, changed_objects, walk_loses, walk_passes}
 
 -- the place of an object that is held, and its entries
 pub place_of-held : (refs : List ℕ) (store : Store) (s : ℕ) → place_of (held refs store) s ≡ place_of store s
@@ -95,7 +96,7 @@ is_there_some None e = absurd (let f : false ≡ true = e in cc)
 is_there_some (Some f) e = refl
 
 -- The weak reference of a row.
-module _ (store : Store) (sound : IsSound store) (r : Row) (inside : Includes store.rows r) (stays : r.waits ≡ false) (member : Option ℕ) (walk : IsWalk store member (Some r.weak)) (loses : loses_at store r.weak ≡ true) where
+module _ (profile : ℕ) (store : Store) (sound : IsSound store) (r : Row) (inside : Includes store.rows r) (stays : r.waits ≡ false) (member : Option ℕ) (walk : IsWalk profile store member (Some r.weak)) (loses : loses_at profile store r.weak ≡ true) where
   weak_lives : HasCode store r.weak Weak × IsLive store r.referent
   weak_lives = refers_live store sound.rows r.weak r.referent (refers store sound.rows r inside stays)
 
@@ -152,10 +153,13 @@ module _ (store : Store) (sound : IsSound store) (r : Row) (inside : Includes st
   next : Option ℕ
   next = next_older_in store.rows r.weak
 
-  newest_in : (w : World) → objects_of store ≡ w.objects → MayLoseNext (loses_in_weak_phase w.objects) w.objects r.weak
-  newest_in w same = subst (λ (os : List Object). MayLoseNext (loses_in_weak_phase os) os r.weak) same (may_lose store r.weak member walk live loses)
+  newest_in : (w : World) → objects_of store ≡ w.objects → MayLoseNext (loses_in_weak_phase profile w.objects) w.objects r.weak
+  newest_in w same = subst (λ (os : List Object). MayLoseNext (loses_in_weak_phase profile os) os r.weak) same (may_lose profile store r.weak member walk live loses)
 
-  module _ (script : Script) (facts : Facts) (policy : Policy) where
+  module _ (script : Script) (in_profile : profile_of script.items ≡ profile) (facts : Facts) (policy : Policy) where
+    newest_there : (w : World) → objects_of store ≡ w.objects → MayLoseNext (loses_in_weak_phase (profile_of script.items) w.objects) w.objects r.weak
+    newest_there w same = subst (λ p. MayLoseNext (loses_in_weak_phase p w.objects) w.objects r.weak) (sym in_profile) (newest_in w same)
+
     -- it does not wait
     pub turn-lost : waits (objects_of store) r.weak ≡ false
         → CollectSteps script (collection_at facts (phase_of.WeakClearing member (Some r.weak)) None) store policy (collection_at facts (phase_of.WeakClearing member (next_older_in store.rows r.weak)) None) lost policy (answer_of.Emit (Cleared r.weak))
@@ -174,7 +178,7 @@ module _ (store : Store) (sound : IsSound store) (r : Row) (inside : Includes st
           after = after;
           goes = in_one script w (Cleared r.weak ∷ []) after s.running (inl (record {
             weak = r.weak;
-            newest = newest_in w same;
+            newest = newest_there w same;
             yields = (refl, ap (λ b. if b then collect.collection_at c (machine.WeakClearing (pending ++ r.weak ∷ [])) below (with_objects (change (object_placed Pend) r.weak objects) w) else after) (sym keeps));
           }));
           lines = refl;
@@ -205,7 +209,7 @@ module _ (store : Store) (sound : IsSound store) (r : Row) (inside : Includes st
           after = after;
           goes = in_one script w (Cleared r.weak ∷ []) after s.running (inl (record {
             weak = r.weak;
-            newest = newest_in w same;
+            newest = newest_there w same;
             yields = (refl, ap (λ b. if b then after else collect.collection_at (c (machine.WeakClearing pending)) (machine.WeakClearing pending) below (with_objects (loses_referent r.weak v.objects) w)) (sym begins));
           }));
           lines = refl;
@@ -322,52 +326,52 @@ module _ (store : Store) (sound : IsSound store) (r : Row) (inside : Includes st
   callbacks_lost have u m = let has = have u m in (has.0, subst IsSome (sym (callback-at lost u ∙ sym (callback-at store u))) has.1)
 
 -- What follows when a weak reference loses its referent.
-pub record LosesThen (store new : Store) (weak : ℕ) (member : Option ℕ) : Type 0 where
-  pub steps : (script : Script) (facts : Facts) (policy : Policy)
+pub record LosesThen (profile : ℕ) (store new : Store) (weak : ℕ) (member : Option ℕ) : Type 0 where
+  pub steps : (script : Script) → profile_of script.items ≡ profile → (facts : Facts) (policy : Policy)
       → CollectSteps script (collection_at facts (phase_of.WeakClearing member (Some weak)) None) store policy (collection_at facts (phase_of.WeakClearing member (next_older_in store.rows weak)) None) new policy (answer_of.Emit (Cleared weak))
   pub apart : IsApartUnseen store → IsApartUnseen new
   pub callbacks : HaveCallbacks store → HaveCallbacks new
-  pub goes_on : IsRising new.rows → IsWalk new member (next_older_in store.rows weak)
+  pub goes_on : IsRising new.rows → IsWalk profile new member (next_older_in store.rows weak)
 
 -- the heap once it has
 abbrev pub lost_by : Bool → ℕ → Store → Store
 lost_by b weak store = if b then moved weak Pend (held (weak ∷ []) (cleared_weak weak false store)) else cleared_weak weak false store
 
-at_row : (store : Store) (sound : IsSound store) (r : Row) (inside : Includes store.rows r) (stays : r.waits ≡ false) (member : Option ℕ) (walk : IsWalk store member (Some r.weak)) (loses : loses_at store r.weak ≡ true)
-    → (new : Store) → new ≡ lost_by (waits (objects_of store) r.weak) r.weak store → LosesThen store new r.weak member
-at_row store sound r inside stays member walk loses new is = elim (cases_of (waits (objects_of store) r.weak)) [
-  | inl always ↦ subst (λ (n : Store). LosesThen store n r.weak member) (sym (is ∙ ap (λ b. lost_by b r.weak store) always)) (record {
-    steps = λ script facts policy. turn-waits store sound r inside stays member walk loses script facts policy always;
-    apart = apart_put store sound r inside stays member walk loses always;
-    callbacks = callbacks_put store sound r inside stays member walk loses always;
-    goes_on = walk_loses store sound.rows r inside stays member walk (put_by store sound r inside stays member walk loses) (is_put_by store sound r inside stays member walk loses always);
+at_row : (profile : ℕ) (store : Store) (sound : IsSound store) (r : Row) (inside : Includes store.rows r) (stays : r.waits ≡ false) (member : Option ℕ) (walk : IsWalk profile store member (Some r.weak)) (loses : loses_at profile store r.weak ≡ true)
+    → (new : Store) → new ≡ lost_by (waits (objects_of store) r.weak) r.weak store → LosesThen profile store new r.weak member
+at_row profile store sound r inside stays member walk loses new is = elim (cases_of (waits (objects_of store) r.weak)) [
+  | inl always ↦ subst (λ (n : Store). LosesThen profile store n r.weak member) (sym (is ∙ ap (λ b. lost_by b r.weak store) always)) (record {
+    steps = λ script in_profile facts policy. turn-waits profile store sound r inside stays member walk loses script in_profile facts policy always;
+    apart = apart_put profile store sound r inside stays member walk loses always;
+    callbacks = callbacks_put profile store sound r inside stays member walk loses always;
+    goes_on = walk_loses profile store sound.rows r inside stays member walk (put_by profile store sound r inside stays member walk loses) (is_put_by profile store sound r inside stays member walk loses always);
   })
-  | inr never ↦ subst (λ (n : Store). LosesThen store n r.weak member) (sym (is ∙ ap (λ b. lost_by b r.weak store) never)) (record {
-    steps = λ script facts policy. turn-lost store sound r inside stays member walk loses script facts policy never;
-    apart = apart_lost store sound r inside stays member walk loses;
-    callbacks = callbacks_lost store sound r inside stays member walk loses;
-    goes_on = walk_loses store sound.rows r inside stays member walk (lost store sound r inside stays member walk loses) (is_lost store sound r inside stays member walk loses);
+  | inr never ↦ subst (λ (n : Store). LosesThen profile store n r.weak member) (sym (is ∙ ap (λ b. lost_by b r.weak store) never)) (record {
+    steps = λ script in_profile facts policy. turn-lost profile store sound r inside stays member walk loses script in_profile facts policy never;
+    apart = apart_lost profile store sound r inside stays member walk loses;
+    callbacks = callbacks_lost profile store sound r inside stays member walk loses;
+    goes_on = walk_loses profile store sound.rows r inside stays member walk (lost profile store sound r inside stays member walk loses) (is_lost profile store sound r inside stays member walk loses);
   })
 ]
 
 -- the same by its number
-pub loses_then : (store new : Store) (sound : IsSound store) (weak : ℕ) (member : Option ℕ) → IsWalk store member (Some weak) → loses_at store weak ≡ true → new ≡ lost_by (waits (objects_of store) weak) weak store → LosesThen store new weak member
-loses_then store new sound weak member walk loses is =
+pub loses_then : (profile : ℕ) (store new : Store) (sound : IsSound store) (weak : ℕ) (member : Option ℕ) → IsWalk profile store member (Some weak) → loses_at profile store weak ≡ true → new ≡ lost_by (waits (objects_of store) weak) weak store → LosesThen profile store new weak member
+loses_then profile store new sound weak member walk loses is =
     let (o, refers) = walk.weak_live weak refl in
     let (r, inside, passes, same) = row_there store.rows weak o refers in
     let stays : r.waits ≡ false = not-true r.waits (true_and (r.referent == o) (not r.waits) passes).1 in
-    let P : ℕ → Type 0 = λ w. IsWalk store member (Some w) → loses_at store w ≡ true → new ≡ lost_by (waits (objects_of store) w) w store → LosesThen store new w member in
-    subst P same (λ walk_at loses_now is_now. at_row store sound r inside stays member walk_at loses_now new is_now) walk loses is
+    let P : ℕ → Type 0 = λ w. IsWalk profile store member (Some w) → loses_at profile store w ≡ true → new ≡ lost_by (waits (objects_of store) w) w store → LosesThen profile store new w member in
+    subst P same (λ walk_at loses_now is_now. at_row profile store sound r inside stays member walk_at loses_now new is_now) walk loses is
 
 -- One that does not lose it is passed by: less is to be looked at.
-pub passes_then : (store : Store) → AreRows store → (weak : ℕ) (member : Option ℕ) → IsWalk store member (Some weak) → loses_at store weak ≡ false
-    → IsWalk store member (next_older_in store.rows weak) × (length (to_look_at store (next_older_in store.rows weak)) < length (to_look_at store (Some weak)))
-passes_then store ok weak member walk keeps =
+pub passes_then : (profile : ℕ) (store : Store) → AreRows store → (weak : ℕ) (member : Option ℕ) → IsWalk profile store member (Some weak) → loses_at profile store weak ≡ false
+    → IsWalk profile store member (next_older_in store.rows weak) × (length (to_look_at store (next_older_in store.rows weak)) < length (to_look_at store (Some weak)))
+passes_then profile store ok weak member walk keeps =
     let (o, refers) = walk.weak_live weak refl in
     let (r, inside, passes, same) = row_there store.rows weak o refers in
     let stays : r.waits ≡ false = not-true r.waits (true_and (r.referent == o) (not r.waits) passes).1 in
-    let P : ℕ → Type 0 = λ w. IsWalk store member (Some w) → loses_at store w ≡ false → IsWalk store member (next_older_in store.rows w) × (length (to_look_at store (next_older_in store.rows w)) < length (to_look_at store (Some w))) in
-    subst P same (λ walk_at keeps_now. (walk_passes store ok r inside stays member walk_at keeps_now, shorter r inside stays)) walk keeps
+    let P : ℕ → Type 0 = λ w. IsWalk profile store member (Some w) → loses_at profile store w ≡ false → IsWalk profile store member (next_older_in store.rows w) × (length (to_look_at store (next_older_in store.rows w)) < length (to_look_at store (Some w))) in
+    subst P same (λ walk_at keeps_now. (walk_passes profile store ok r inside stays member walk_at keeps_now, shorter r inside stays)) walk keeps
   where
     shorter : (r : Row) (inside : Includes store.rows r) (stays : r.waits ≡ false) → length (to_look_at store (next_older_in store.rows r.weak)) < length (to_look_at store (Some r.weak))
     shorter r inside stays =

@@ -14,8 +14,7 @@ use Rattle.cg_heap.specs.Weak.{AreRows}
 use Rattle.cg_death.proofs.RowSplits.{head_in, row_of_one, one_of_row, Split, split_at, newest_first-append, newest_first-pass, without-is, referent-is}
 use Rattle.cg_death.proofs.WeakObjects.{row_there}
 use Rattle.cg_death.proofs.Clearing.{none_first}
-use Rattle.cg_collect.specs.Phases.{from_on}
-use Rattle.cg_collect.specs.Ready.{references_to, to_look_at}
+use Rattle.cg_collect.specs.Phases.{from_on, references_in, to_look_at}
 
 -- what a list has from one on that stands behind others
 pub from_on-past : (front back : List ℕ) (o : ℕ) → ((x : ℕ) → Includes front x → x ≢ o) → from_on (Some o) (front ++ o ∷ back) ≡ o ∷ back
@@ -110,7 +109,7 @@ module _ (store : Store) (ok : AreRows store) (r : Row) (inside : Includes store
   -- it and the older ones are to be looked at
   pub looks_here : to_look_at store (Some r.weak) ≡ r.weak ∷ older_ones
   looks_here =
-      ap (λ k. from_on (Some r.weak) (references_to store k)) refers
+      ap (λ k. from_on (Some r.weak) (references_in store.rows k)) refers
       ∙ ap (from_on (Some r.weak)) all_are
       ∙ from_on-past newer older_ones r.weak (λ x m e. let high = newer_above x m in absurd (omega (arith, high, e)))
 
@@ -131,7 +130,7 @@ module _ (store : Store) (ok : AreRows store) (r : Row) (inside : Includes store
       known (w ∷ ws) e =
           let here : Includes older_ones w = subst (λ l. Includes l w) (sym e) (inl refl) in
           let low = older_below w here in
-          ap (λ k. from_on (Some w) (references_to new k)) (referent-listed new.rows rise r.referent w (subst (λ l. Includes l w) (sym are) (Includes-append_right others older_ones w here)))
+          ap (λ k. from_on (Some w) (references_in new.rows k)) (referent-listed new.rows rise r.referent w (subst (λ l. Includes l w) (sym are) (Includes-append_right others older_ones w here)))
           ∙ ap (from_on (Some w)) (are ∙ ap (λ l. others ++ l) e)
           ∙ from_on-past others ws w (λ x m same. let high = above x m in absurd (omega (arith, high, same, low)))
 

@@ -1,6 +1,7 @@
 -- A step of a collection that gives nothing up is a turn of its phase.
 use Rattle.std.proofs.Common.{◌≡◌, sym, ◌∙◌, ap, subst, ◌+◌, ◌<◌, ◌≤◌, ◌^◌, ◌⊎◌, inl, inr, Option, None, ℕ, arith}
 use Rattle.cg_script.specs.declared.Script.{Script}
+use Rattle.cg_machine.specs.Program.{profile_of}
 use Rattle.cg_graph.specs.Store.{Store}
 use Rattle.cg_graph.proofs.Objects.{occurrences-append}
 use Rattle.cg_policy.specs.Policy.{Policy}
@@ -12,7 +13,7 @@ use Rattle.cg_collect.specs.declared.collection.Collection.{Collection}
 use Rattle.cg_collect.specs.declared.phase.Phase.{Phase}
 use Rattle.cg_collect.specs.declared.phase.Phase.TheVariants as phase_of
 use Rattle.cg_collect.specs.declared.phase.Turn.{Turn}
-use Rattle.cg_collect.specs.Ready.{HasFewCollected, RunsFrame, MayRun, IsBegun}
+use Rattle.cg_collect.specs.Ready.{HasItsWalk, HasFewCollected, RunsFrame, MayRun, IsBegun}
 use Rattle.cg_collect.specs.Answers.{CollectSteps}
 use Rattle.cg_collect.specs.Turns.{pass_of, passes_on, TurnSteps, TurnFalls, TurnLeaves, TurnEnds, StaysReady, HandsOutIn, KeepsObjects}
 use Rattle.cg_collect.specs.Looks.{most_looks}
@@ -40,6 +41,7 @@ runs_in (phase_of.AfterFinalizing o) release runs = tt
 runs_in phase_of.Split release runs = absurd runs
 runs_in (phase_of.Living next) release runs = absurd runs
 runs_in (phase_of.Detaching next) release runs = absurd runs
+runs_in (phase_of.Unlinking member weak) release runs = absurd runs
 runs_in phase_of.Turns release runs = absurd runs
 runs_in (phase_of.Turn o) release runs = absurd runs
 runs_in (phase_of.AfterTurn o) release runs = absurd runs
@@ -49,14 +51,38 @@ runs_in (phase_of.Saved next number) release runs = absurd runs
 runs_in (phase_of.Stopping number) release runs = absurd runs
 runs_in (phase_of.Over number) release runs = absurd runs
 
+-- past the weak phase there is no walk of it
+pub walk_past : (profile : ℕ) (store : Store) (p : Phase) → 4 ≤ pass_of p → HasItsWalk profile store p
+walk_past profile store phase_of.Start late = tt
+walk_past profile store (phase_of.Sizes zero one two frozen) late = tt
+walk_past profile store (phase_of.Telling next) late = tt
+walk_past profile store (phase_of.WeakClearing member weak) late = absurd (omega (arith, late))
+walk_past profile store phase_of.WeakCalling late = tt
+walk_past profile store (phase_of.AfterCallback weak) late = tt
+walk_past profile store (phase_of.AfterRelease weak) late = tt
+walk_past profile store phase_of.Finalizing late = tt
+walk_past profile store (phase_of.AfterFinalizing o) late = tt
+walk_past profile store phase_of.Split late = tt
+walk_past profile store (phase_of.Living next) late = tt
+walk_past profile store (phase_of.Detaching next) late = tt
+walk_past profile store (phase_of.Unlinking member weak) late = tt
+walk_past profile store phase_of.Turns late = tt
+walk_past profile store (phase_of.Turn o) late = tt
+walk_past profile store (phase_of.AfterTurn o) late = tt
+walk_past profile store phase_of.Ending late = tt
+walk_past profile store (phase_of.Uncollectable first next number) late = tt
+walk_past profile store (phase_of.Saved next number) late = tt
+walk_past profile store (phase_of.Stopping number) late = tt
+walk_past profile store (phase_of.Over number) late = tt
+
 -- Nothing was given up, and all is as before.
 module _ (old mid : Collection) (store between : Store) (same : mid ≡ old) (heap : between ≡ store) (none : old.release ≡ None) where
   -- a fact on collection and heap stays one
   stays : (P : Collection → Store → Type 0) → P old store → P mid between
   stays P p = subst (λ (c : Collection). P c between) (sym same) (subst (P old) (sym heap) p)
 
-  pub still_ready : IsReady old store → IsReady mid between
-  still_ready ready = stays IsReady ready
+  pub still_ready : (script : Script) → IsReady script old store → IsReady script mid between
+  still_ready script ready = stays (IsReady script) ready
 
   pub still_held : HasHolds store (held_by old) → HasHolds between (own_holds_at mid.phase)
   still_held held = stays (λ c st. HasHolds st (own_holds_at c.phase)) (phase_held old store held)
@@ -77,17 +103,17 @@ module _ (old mid : Collection) (store between : Store) (same : mid ≡ old) (he
     Left = TurnLeaves between mid.phase now turn ⊎ TurnEnds mid turn
 
     -- the numbers of a collection that is over
-    over_few : IsReady old store → (e : TurnEnds mid turn) → (mid.collected ≤ 2000002) × (e.number ≤ 1000001)
-    over_few ready e = subst (λ (p : Phase). HasFewCollected mid.collected p between) e.over (still_ready ready).collected
+    over_few : (script : Script) → IsReady script old store → (e : TurnEnds mid turn) → (mid.collected ≤ 2000002) × (e.number ≤ 1000001)
+    over_few script ready e = subst (λ (p : Phase). HasFewCollected mid.collected p between) e.over (still_ready script ready).collected
 
-    pub turned-few : IsReady old store → Left → HasFewCollected (mid.collected + turn.collected) turn.phase now
-    turned-few ready (inl leaves) = leaves.few mid.collected (still_ready ready).collected
-    turned-few ready (inr e) =
+    pub turned-few : (script : Script) → IsReady script old store → Left → HasFewCollected (mid.collected + turn.collected) turn.phase now
+    turned-few script ready (inl leaves) = leaves.few mid.collected (still_ready script ready).collected
+    turned-few script ready (inr e) =
         subst (λ (t : Turn). HasFewCollected (mid.collected + t.collected) t.phase now) (sym e.is)
-        (let few = over_few ready e in (omega (arith, few.0), few.1))
+        (let few = over_few script ready e in (omega (arith, few.0), few.1))
 
-    pub turned-fits : IsReady old store → Left → mid.collected + turn.collected < 2 ^ 64
-    turned-fits ready left = let few = few_at_most (mid.collected + turn.collected) turn.phase now (turned-few ready left) in omega (arith, few)
+    pub turned-fits : (script : Script) → IsReady script old store → Left → mid.collected + turn.collected < 2 ^ 64
+    turned-fits script ready left = let few = few_at_most (mid.collected + turn.collected) turn.phase now (turned-few script ready left) in omega (arith, few)
 
     pub turned-begun : Left → IsBegun turn.phase
     turned-begun (inl leaves) = leaves.begun
@@ -98,21 +124,21 @@ module _ (old mid : Collection) (store between : Store) (same : mid ≡ old) (he
       where
         from_mid : Left → pass_of mid.phase + passes_on mid.phase ≤ pass_of turn.phase
         from_mid (inl leaves) = leaves.onward
-        from_mid (inr e) = subst (λ (p : Phase). pass_of p + passes_on p ≤ pass_of turn.phase) (sym e.over) (subst (λ (t : Turn). 14 ≤ pass_of t.phase) (sym e.is) (omega arith))
+        from_mid (inr e) = subst (λ (p : Phase). pass_of p + passes_on p ≤ pass_of turn.phase) (sym e.over) (subst (λ (t : Turn). 15 ≤ pass_of t.phase) (sym e.is) (omega arith))
 
-    pub turned-ready : IsReady old store → StaysReady now mid.generation turn.phase turn.answer → Left → KeepsReady (turned turn) now turn.answer
-    turned-ready ready stays_ready (inl leaves) = known turn.answer stays_ready leaves.hands_out
+    pub turned-ready : (script : Script) → IsReady script old store → StaysReady now mid.generation turn.phase turn.answer → HasItsWalk (profile_of script.items) now turn.phase → Left → KeepsReady script (turned turn) now turn.answer
+    turned-ready script ready stays_ready walks (inl leaves) = known turn.answer stays_ready leaves.hands_out
       where
         few : HasFewCollected (mid.collected + turn.collected) turn.phase now
-        few = turned-few ready (inl leaves)
+        few = turned-few script ready (inl leaves)
 
-        known : (answer : CollectStep) → StaysReady now mid.generation turn.phase answer → HandsOutIn answer turn.phase turn.release → KeepsReady (turned turn) now answer
-        known answer_of.Continue r out = record { generation = (still_ready ready).generation; phase = r; collected = few; gives_up = leaves.gives_up }
-        known (answer_of.Emit event) r out = record { generation = (still_ready ready).generation; phase = r; collected = few; gives_up = leaves.gives_up }
+        known : (answer : CollectStep) → StaysReady now mid.generation turn.phase answer → HandsOutIn answer turn.phase turn.release → KeepsReady script (turned turn) now answer
+        known answer_of.Continue r out = record { generation = (still_ready script ready).generation; phase = r; walk = walks; collected = few; gives_up = leaves.gives_up }
+        known (answer_of.Emit event) r out = record { generation = (still_ready script ready).generation; phase = r; walk = walks; collected = few; gives_up = leaves.gives_up }
         known (answer_of.Frame spec) r out = (
           record {
             runs = runs_in turn.phase turn.release out.0;
-            generation = (still_ready ready).generation;
+            generation = (still_ready script ready).generation;
             collected = few;
             gives_up = leaves.gives_up;
             spares = out.1;
@@ -121,9 +147,9 @@ module _ (old mid : Collection) (store between : Store) (same : mid ≡ old) (he
         )
         known (answer_of.Died o) r out = absurd out
         known (answer_of.Finished collected set_aside) r out = absurd out
-    turned-ready ready stays_ready (inr e) =
-        subst (λ (t : Turn). KeepsReady (turned turn) now t.answer) (sym e.is)
-        (let few = over_few ready e in ((still_ready ready).generation, omega (arith, few.0, few.1)))
+    turned-ready script ready stays_ready walks (inr e) =
+        subst (λ (t : Turn). KeepsReady script (turned turn) now t.answer) (sym e.is)
+        (let few = over_few script ready e in ((still_ready script ready).generation, omega (arith, few.0, few.1)))
 
     pub turned-died : Left → DiesUnheld turn.answer now
     turned-died (inl leaves) = known turn.answer leaves.hands_out

@@ -27,13 +27,14 @@ use Rattle.cg_collect.specs.declared.phase.Phase.{Phase}
 use Rattle.cg_collect.specs.declared.phase.Phase.TheVariants as phase_of
 use Rattle.cg_collect.specs.declared.phase.Turn.{Turn}
 use Rattle.cg_collect.specs.Phases.{from_on, lines_left}
-use Rattle.cg_collect.specs.Ready.{IsReadyAt, IsApartUnseen, IsEmptyAt, IsAt, HasMissedNone, HasFewCollected, IsBegun}
+use Rattle.cg_collect.specs.Ready.{IsReadyAt, IsApartUnseen, IsEmptyAt, IsAt, HasItsWalk, HasFewCollected, IsBegun}
 use Rattle.cg_collect.specs.Answers.{Shows, CollectSteps}
 use Rattle.cg_collect.specs.Turns.{pass_of, passes_on, collection_at, TurnLeaves}
 use Rattle.cg_collect.specs.Starting.{told_weak, told_if}
 use Rattle.cg_machine.proofs.Places.{place_is}
 use Rattle.cg_collect.proofs.Standing.{place_there, live_there, nobody_at}
 use Rattle.cg_collect.proofs.Moving.{walk_passes, comes_next}
+use Rattle.cg_collect.proofs.Walking.{walk_begins}
 use Rattle.cg_collect.proofs.Worlds.{only_tells}
 
 -- a flag is set where its bit is
@@ -110,67 +111,19 @@ module _ (store : Store) (listed : IsListed store) (o : ℕ) (here : Includes (l
 
 -- what the heap is ready for
 module _ (store : Store) (listed : IsListed store) (apart : IsApartUnseen store) (pending : IsEmptyAt store Pend) where
-  abbrev objects : List Object
-  objects = objects_of store
-
-  -- a condemned object is a candidate
-  condemned_at : (x : Object) → Includes objects x → is_condemned x ≡ true → Includes (list_at store Cand) x.serial
-  condemned_at x m h =
-      let place = place_there store x m in
-      either (true_or (is_at Cand x) (is_at Seen x) h)
-      (λ e. is_there store listed Cand x.serial (live_there store x m) (place ∙ place_is x.place Cand e))
-      (λ e. absurd (nobody_at store listed Seen apart.1 x.serial (live_there store x m) (place ∙ place_is x.place Seen e)))
-
-  found_object : (os : List Object) (o : ℕ) (x : Object) → object_at os o ≡ Some x → Includes os x × (x.serial ≡ o)
-  found_object [] o x e = absurd (cc)
-  found_object (y ∷ os) o x e = go (cases_eq y.serial o) (found_object os o x) e
-    where
-      go : (y.serial ≡ o) ⊎ (y.serial ≢ o) → (object_at os o ≡ Some x → Includes os x × (x.serial ≡ o)) → object_at (y ∷ os) o ≡ Some x → Includes (y ∷ os) x × (x.serial ≡ o)
-      go (inl same) rec e =
-          let first : Some y ≡ Some x = sym (ap (λ b. cond b (Some y) (object_at os o)) (eq-eqb y.serial o same)) ∙ e in
-          let is : y ≡ x = cc in
-          (inl is, sym (ap (λ (z : Object). z.serial) is) ∙ same)
-      go (inr differs) rec e = let rest = rec (sym (ap (λ b. cond b (Some y) (object_at os o)) (ne_eqb y.serial o differs)) ∙ e) in (inr rest.0, rest.1)
-
-  condemned_in : (o : ℕ) → is_condemned_in objects o ≡ true → Includes (list_at store Cand) o
-  condemned_in o h = known (object_at objects o) refl h
-    where
-      known : (x : Option Object) → object_at objects o ≡ x → unwrap_or (option_map is_condemned x) false ≡ true → Includes (list_at store Cand) o
-      known None e h = absurd (cc)
-      known (Some x) e h = let found = found_object objects o x e in subst (Includes (list_at store Cand)) found.1 (condemned_at x found.0 h)
-
-  none_missed : HasMissedNone store (slice_get (list_at store Cand) 0) None
-  none_missed x m loses plain = known x.referent refl loses
-    where
-      from_start : (q : ℕ) → Includes (list_at store Cand) q → Includes (from_on (slice_get (list_at store Cand) 0) (list_at store Cand)) q
-      from_start q h = subst (λ l. Includes l q) (sym (from_first (list_at store Cand))) h
-
-      known : (r : Option ℕ) → x.referent ≡ r → unwrap_or (option_map (λ o. is_condemned_in objects o || is_condemned x) r) false ≡ true
-          → ⊥ ⊎ Includes (from_on (slice_get (list_at store Cand) 0) (list_at store Cand)) x.serial ⊎ ((o : ℕ) × (x.referent ≡ Some o) × Includes (from_on (slice_get (list_at store Cand) 0) (list_at store Cand)) o)
-      known None e h = absurd (cc)
-      known (Some o) e h = either (true_or (is_condemned_in objects o) (is_condemned x) h)
-          (λ c. inr (inr (o, e, from_start o (condemned_in o c))))
-          (λ c. inr (inl (from_start x.serial (condemned_at x m c))))
-
   nobody_waits : (v : ℕ) → Includes (list_at store Pend) v → ⊥
   nobody_waits v h = subst (λ l. Includes l v) pending h
 
   pub ready_weak : (g : ℕ) → IsReadyAt store g (told_weak store)
-  ready_weak g = (
-    apart,
-    λ w h. absurd (nobody_waits w h),
-    record {
-      member_at = at_first (list_at store Cand);
-      weak_live = λ v e. absurd (cc);
-      none_missed = none_missed;
-      none_newer = λ v e. absurd (cc);
-      waiting = λ v h. absurd (nobody_waits v h);
-    },
-  )
+  ready_weak g = (apart, λ w h. absurd (nobody_waits w h))
 
   pub ready_told : (g : ℕ) (b : Bool) → IsReadyAt store g (told_if b store)
   ready_told g true = (apart, pending, at_first (list_at store Cand))
   ready_told g false = ready_weak g
+
+  pub walk_told : (profile : ℕ) (b : Bool) → HasItsWalk profile store (told_if b store)
+  walk_told profile true = tt
+  walk_told profile false = walk_begins profile store listed apart.1 pending
 
 -- a turn that tells the same of another phase
 pub turn_to : (turn : Turn) (told phase : Phase) (answer : CollectStep) → turn ≡ record { phase = told; release = None; collected = 0; answer = answer } → told ≡ phase → turn ≡ record { phase = phase; release = None; collected = 0; answer = answer }

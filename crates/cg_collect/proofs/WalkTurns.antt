@@ -1,6 +1,6 @@
 -- The walk of the weak phase goes on with the next condemned object, and ends.
-use Rattle.std.proofs.Common.{◌≡◌, ◌≢◌, refl, sym, ◌∙◌, ap, subst, ℕ, ◌+◌, ◌*◌, ◌<◌, ◌≤◌, true, false, List, [], ◌∷◌, ◌++◌, length, append_assoc, Option, Some, None, inl, inr, sum_by, arith}
-use Rattle.std.specs.Prelude.{◌⊎◌, unwrap_or, slice_get}
+use Rattle.std.proofs.Common.{◌≡◌, ◌≢◌, refl, sym, ◌∙◌, ap, subst, ℕ, ◌+◌, ◌*◌, ◌<◌, ◌≤◌, Bool, true, false, List, [], ◌∷◌, ◌++◌, length, append_assoc, Option, Some, None, inl, inr, sum_by, arith}
+use Rattle.std.specs.Prelude.{◌⊎◌, if◌then◌else◌, option_map, unwrap_or, slice_get}
 use Rattle.std.specs.FinMap as fin
 use Rattle.std.proofs.lemmas.List.{length-map}
 use Rattle.std.proofs.lemmas.List.Sums.{length-filter, count_by-le-length, sum_by-cons}
@@ -9,7 +9,7 @@ use Rattle.cg_value.specs.declared.Place.{Place}
 use Rattle.cg_value.specs.declared.Place.TheVariants.{Cand, Pend}
 use Rattle.cg_script.specs.declared.Script.{Script}
 use Rattle.cg_graph.specs.Member.{Includes}
-use Rattle.cg_graph.specs.Object.{Object, is_at, objects_at, serials_at}
+use Rattle.cg_graph.specs.Object.{Object, object_at, is_at, objects_at, serials_at}
 use Rattle.cg_graph.specs.Holdings.{occurrences}
 use Rattle.cg_graph.specs.Rows.{IsRising, referent_in, refers_to, weak_references_in}
 use Rattle.cg_graph.specs.Store.{Store, Node, HasCode, list_at, objects_of, object_from, place_of}
@@ -22,6 +22,7 @@ use Rattle.cg_heap.proofs.RowLemmas.{refers_live}
 use Rattle.cg_machine.specs.World as machine
 use Rattle.cg_machine.specs.World.{World, Activity, Collecting, with_stack}
 use Rattle.cg_machine.specs.Weak.{NoneLeft, has_weak_references}
+use Rattle.cg_machine.specs.Program.{profile_of}
 use Rattle.cg_machine.specs.Collect.{loses_in_weak_phase}
 use Rattle.cg_machine.specs.Laws.{IsOrderly}
 use Rattle.cg_machine.proofs.Representing.{in_one}
@@ -34,17 +35,17 @@ use Rattle.cg_death.proofs.RowSplits.{head_in}
 use Rattle.cg_collect.specs.declared.answer.CollectStep.TheVariants as answer_of
 use Rattle.cg_collect.specs.declared.collection.Facts.{Facts}
 use Rattle.cg_collect.specs.declared.phase.Phase.TheVariants as phase_of
-use Rattle.cg_collect.specs.Phases.{collection_of, from_on}
-use Rattle.cg_collect.specs.Ready.{IsAt, IsWalk, RefersPlainly, references_to, to_look_at}
+use Rattle.cg_collect.specs.Phases.{collection_of, from_on, references_in, to_look_at}
+use Rattle.cg_collect.specs.Ready.{IsAt, IsWalk, RefersPlainly, loses_at, looked_at_for}
 use Rattle.cg_collect.specs.Answers.{CollectSteps}
 use Rattle.cg_collect.specs.Turns.{collection_at}
 use Rattle.cg_collect.proofs.Standing.{node_there, code_there, list_length}
 use Rattle.cg_collect.proofs.Moving.{comes_next}
 use Rattle.cg_collect.proofs.Worlds.{steps_at, represents_same}
 use Rattle.cg_collect.proofs.RowWalks.{from_on-past, from_on-first, head_highest, referent-listed, listed-referent, references-le}
-use Rattle.cg_collect.proofs.Walking.{loses_some}
+use Rattle.cg_collect.proofs.Walking.{loses_some, object_found}
 
-less : (a b r l : ℕ) → b ≡ a + 1 → l ≤ r → (a * (r + 1) + l) + 0 < (b * (r + 1) + 0) + 0
+pub less : (a b r l : ℕ) → b ≡ a + 1 → l ≤ r → (a * (r + 1) + l) + 0 < (b * (r + 1) + 0) + 0
 less a b r l is few = let whole : b * (r + 1) ≡ (a + 1) * (r + 1) = ap (λ n. n * (r + 1)) is in omega (arith, whole, few)
 
 -- a list around one of it
@@ -86,14 +87,14 @@ module _ (xs : List ℕ) (once : (o : ℕ) → occurrences o xs ≤ 1) (o : ℕ)
 pub looks_all : (store : Store) → IsRising store.rows → (t : ℕ) (c : Option ℕ) → c ≡ slice_get (weak_references_in store.rows t) 0 → to_look_at store c ≡ weak_references_in store.rows t
 looks_all store rise t None e = sym (none_first (weak_references_in store.rows t) (sym e))
 looks_all store rise t (Some w) e =
-    ap (λ k. from_on (Some w) (references_to store k)) (referent-listed store.rows rise t w (head_in (weak_references_in store.rows t) w (sym e)))
+    ap (λ k. from_on (Some w) (references_in store.rows k)) (referent-listed store.rows rise t w (head_in (weak_references_in store.rows t) w (sym e)))
     ∙ from_on-first (weak_references_in store.rows t) (Some w) e
 
 -- The next condemned object is looked at.
-module _ (store : Store) (listed : IsListed store) (ok : AreRows store) (object : ℕ) (walk : IsWalk store (Some object) None) (next weak : Option ℕ)
-    (next_is : next ≡ following object (list_at store (place_of store object))) (weak_is : weak ≡ slice_get (weak_references_in store.rows (unwrap_or (referent_in store.rows object) object)) 0) where
+module _ (profile : ℕ) (store : Store) (listed : IsListed store) (ok : AreRows store) (object : ℕ) (walk : IsWalk profile store (Some object) None) (next weak : Option ℕ)
+    (next_is : next ≡ following object (list_at store (place_of store object))) (weak_is : weak ≡ slice_get (weak_references_in store.rows (looked_at_for profile store object)) 0) where
   abbrev t : ℕ
-  t = unwrap_or (referent_in store.rows object) object
+  t = looked_at_for profile store object
 
   candidates : List ℕ
   candidates = list_at store Cand
@@ -123,7 +124,7 @@ module _ (store : Store) (listed : IsListed store) (ok : AreRows store) (object 
       let (n, got, made) = node_there store x m in
       subst (λ l. Includes l x.serial) (sym looks) (listed-referent store.rows t x.serial (ap (λ (y : Object). y.referent) made ∙ refers))
 
-  pub walk_next : IsWalk store next weak
+  pub walk_next : IsWalk profile store next weak
   walk_next = record {
     member_at = subst (λ k. IsAt k (list_at store Cand)) (sym next_head) (next_at (list_at store Cand) (once_at store listed Cand) object here.front here.back here.is);
     weak_live = λ v e. (t, referent-listed store.rows ok.rise t v (head_in (weak_references_in store.rows t) v (sym weak_is ∙ e)));
@@ -140,21 +141,27 @@ module _ (store : Store) (listed : IsListed store) (ok : AreRows store) (object 
     waiting = walk.waiting;
   }
     where
-      -- the condemned object itself has a referent
-      itself : (x : Object) → Includes (objects_of store) x → loses_in_weak_phase (objects_of store) x ≡ true → object ≡ x.serial → x.referent ≡ Some t
+      -- the condemned object itself is to lose its referent
+      itself : (x : Object) → Includes (objects_of store) x → loses_in_weak_phase profile (objects_of store) x ≡ true → object ≡ x.serial → x.referent ≡ Some t
       itself x m loses e =
           let (n, got, made) = node_there store x m in
-          let (o, is, condemned) = loses_some (objects_of store) x loses in
+          let (o, is, condemned) = loses_some profile (objects_of store) x loses in
           let refers : referent_in store.rows object ≡ Some o = ap (referent_in store.rows) e ∙ ap (λ (y : Object). y.referent) made ∙ is in
-          is ∙ ap Some (sym (ap (λ k. unwrap_or k object) refers))
+          let wanted : loses_at profile store object ≡ true =
+          ap (λ k. unwrap_or (option_map (loses_in_weak_phase profile (objects_of store)) k) false) (ap (object_at (objects_of store)) e ∙ object_found store x m) ∙ loses in
+          is ∙ ap Some (sym (ap (λ b. if b then unwrap_or (referent_in store.rows object) object else object) wanted ∙ ap (λ k. unwrap_or k object) refers))
 
       -- the condemned object is a referent, and has none itself
       plain_one : (x : Object) → RefersPlainly store x → (o : ℕ) → x.referent ≡ Some o → object ≡ o → t ≡ o
-      plain_one x plain o is e = known (referent_in store.rows object) refl
+      plain_one x plain o is e = either_way (loses_at profile store object) ∙ e
         where
-          known : (k : Option ℕ) → referent_in store.rows object ≡ k → unwrap_or k object ≡ o
-          known None none = e
+          known : (k : Option ℕ) → referent_in store.rows object ≡ k → unwrap_or k object ≡ object
+          known None none = refl
           known (Some p) refers = absurd (plain o is (subst (λ q. HasCode store q Weak) e (refers_live store ok object p refers).0))
+
+          either_way : (b : Bool) → (if b then unwrap_or (referent_in store.rows object) object else object) ≡ object
+          either_way true = known (referent_in store.rows object) refl
+          either_way false = refl
 
   -- less is left
   pub next_falls : (length (from_on next (list_at store Cand)) * (length store.rows + 1) + length (to_look_at store weak)) + 0 < (length (from_on (Some object) (list_at store Cand)) * (length store.rows + 1) + 0) + 0
@@ -166,9 +173,9 @@ module _ (store : Store) (listed : IsListed store) (ok : AreRows store) (object 
       (omega (arith, longer, shorter)) (omega (arith, references-le store.rows t, same))
 
 -- When all were looked at, none is left that is to lose its referent.
-module _ (store : Store) (walk : IsWalk store None None) where
-  none_left : (w : World) → IsOrderly w → objects_of store ≡ w.objects → NoneLeft (loses_in_weak_phase w.objects) w.objects
-  none_left w orderly same x m = either (cases_of (loses_in_weak_phase w.objects x)) (λ loses. absurd (missed loses)) (λ e. e)
+module _ (profile : ℕ) (store : Store) (walk : IsWalk profile store None None) where
+  none_left : (w : World) → IsOrderly w → objects_of store ≡ w.objects → NoneLeft (loses_in_weak_phase profile w.objects) w.objects
+  none_left w orderly same x m = either (cases_of (loses_in_weak_phase profile w.objects x)) (λ loses. absurd (missed loses)) (λ e. e)
     where
       there : Includes (objects_of store) x
       there = subst (λ (os : List Object). Includes os x) (sym same) m
@@ -183,11 +190,11 @@ module _ (store : Store) (walk : IsWalk store None None) where
           let f : true ≡ false = sym supports ∙ ap (λ c. has_weak_references (record z { code = c })) weak in
           cc
 
-      missed : loses_in_weak_phase w.objects x ≡ true → ⊥
-      missed loses = either (walk.none_missed x there (ap (λ (os : List Object). loses_in_weak_phase os x) same ∙ loses) plain) (λ k. k) (λ k. either k (λ a. a) (λ b. b.2))
+      missed : loses_in_weak_phase profile w.objects x ≡ true → ⊥
+      missed loses = either (walk.none_missed x there (ap (λ (os : List Object). loses_in_weak_phase profile os x) same ∙ loses) plain) (λ k. k) (λ k. either k (λ a. a) (λ b. b.2))
 
-  pub turn-all_cleared : (script : Script) (facts : Facts) (policy : Policy) → CollectSteps script (collection_at facts (phase_of.WeakClearing None None) None) store policy (collection_at facts phase_of.WeakCalling None) store policy answer_of.Continue
-  turn-all_cleared script facts policy =
+  pub turn-all_cleared : (script : Script) → profile_of script.items ≡ profile → (facts : Facts) (policy : Policy) → CollectSteps script (collection_at facts (phase_of.WeakClearing None None) None) store policy (collection_at facts phase_of.WeakCalling None) store policy answer_of.Continue
+  turn-all_cleared script in_profile facts policy =
       steps_at script (collection_at facts (phase_of.WeakClearing None None) None) store policy (collection_at facts phase_of.WeakCalling None) store policy answer_of.Continue
       (λ asked v below s.
       let pending : List ℕ = list_at store Pend in
@@ -197,7 +204,7 @@ module _ (store : Store) (walk : IsWalk store None None) where
       record {
         events = [];
         after = after;
-        goes = in_one script w [] after s.running (inr (none_left w s.orderly s.shows.represents.objects, (refl, refl)));
+        goes = in_one script w [] after s.running (inr (subst (λ p. NoneLeft (loses_in_weak_phase p w.objects) w.objects) (sym in_profile) (none_left w s.orderly s.shows.represents.objects), (refl, refl)));
         lines = refl;
         shows = record {
           represents = represents_same store v below (c (machine.WeakClearing pending)) (c (machine.WeakCalling pending)) s.shows.represents s.alone refl (λ q. refl);

@@ -1,6 +1,8 @@
 -- A collection as its callers see it. (Ours.)
 use Rattle.std.specs.Prelude.{◌≡◌, ℕ, ◌+◌, ◌≤◌, List, [], ◌∷◌, ◌++◌, Option, Some, None, IsSome, drop}
 use Rattle.cg_graph.specs.Store.{Store}
+use Rattle.cg_script.specs.declared.Script.{Script}
+use Rattle.cg_machine.specs.Program.{profile_of}
 use Rattle.cg_death.specs.declared.release.Release.{Release}
 use Rattle.cg_death.specs.Activities.{references_left, IsUnheld}
 use Rattle.cg_death.specs.Answers.{ReleaseSteps, once_released, release_answer}
@@ -12,7 +14,7 @@ use Rattle.cg_collect.specs.declared.answer.CollectStep.TheVariants as answer_of
 use Rattle.cg_collect.specs.declared.answer.CollectStep.{CollectStep}
 use Rattle.cg_collect.specs.declared.collection.Collection.{Collection}
 use Rattle.cg_collect.specs.declared.collection.Facts.{Facts}
-use Rattle.cg_collect.specs.Ready.{IsReadyAt, SparesGarbageList, HasFewCollected, GivesUpIn, RunsFrame, MayRun}
+use Rattle.cg_collect.specs.Ready.{IsReadyAt, HasItsWalk, SparesGarbageList, HasFewCollected, GivesUpIn, RunsFrame, MayRun}
 use Rattle.cg_machine.specs.declared.event.Event.TheVariants.{GcStop}
 use Rattle.cg_collect.specs.declared.phase.Turn.{Turn}
 use Rattle.cg_collect.specs.Turns.{ComesNearer}
@@ -38,9 +40,10 @@ abbrev pub held_by : Collection → List ℕ
 held_by c = given_up_by c.release ++ own_holds_at c.phase
 
 -- What a step needs of the heap, which commands, frames and deaths may have changed since the step before.
-pub record IsReady (c : Collection) (store : Store) : Type 0 where
+pub record IsReady (script : Script) (c : Collection) (store : Store) : Type 0 where
   pub generation : c.generation ≤ 2
   pub phase : IsReadyAt store c.generation c.phase
+  pub walk : HasItsWalk (profile_of script.items) store c.phase
   pub collected : HasFewCollected c.collected c.phase store
   pub gives_up : GivesUpIn c.phase c.release
 
@@ -55,12 +58,12 @@ pub record HandsOut (c : Collection) (store : Store) : Type 0 where
 
 -- After an answer that hands nothing out, the heap is ready for the next step. After a frame or a death it is where its phase is
 -- (`IsReadyAt`), which is for the caller to show. A collection that has finished found few.
-abbrev pub KeepsReady : Collection → Store → CollectStep → Type 0
-KeepsReady c store answer_of.Continue = IsReady c store
-KeepsReady c store (answer_of.Emit event) = IsReady c store
-KeepsReady c store (answer_of.Frame spec) = HandsOut c store × RunsFrame c.phase c.release
-KeepsReady c store (answer_of.Died o) = HandsOut c store × IsSome c.release
-KeepsReady c store (answer_of.Finished collected set_aside) = (c.generation ≤ 2) × (collected + set_aside ≤ 3000003)
+abbrev pub KeepsReady : Script → Collection → Store → CollectStep → Type 0
+KeepsReady script c store answer_of.Continue = IsReady script c store
+KeepsReady script c store (answer_of.Emit event) = IsReady script c store
+KeepsReady script c store (answer_of.Frame spec) = HandsOut c store × RunsFrame c.phase c.release
+KeepsReady script c store (answer_of.Died o) = HandsOut c store × IsSome c.release
+KeepsReady script c store (answer_of.Finished collected set_aside) = (c.generation ≤ 2) × (collected + set_aside ≤ 3000003)
 
 -- The object whose death is to begin lives, and nothing holds it.
 abbrev pub DiesUnheld : CollectStep → Store → Type 0

@@ -5,7 +5,7 @@ use Rattle.cg_value.specs.declared.Place.TheVariants.{Gen, Cand, Pend}
 use Rattle.cg_script.specs.declared.Script.{Script}
 use Rattle.cg_graph.specs.Member.{includes}
 use Rattle.cg_graph.specs.Object.{object_at}
-use Rattle.cg_graph.specs.Rows.{Row, weak_references_in}
+use Rattle.cg_graph.specs.Rows.{Row, referent_in, weak_references_in}
 use Rattle.cg_graph.specs.Store.{Store, list_at, objects_of}
 use Rattle.cg_machine.specs.declared.event.Event.{Event}
 use Rattle.cg_machine.specs.declared.event.Event.TheVariants.{Gens, Alive, Cleared, GcCollectable, GcUncollectable, GcSaved, GcStop, Collected}
@@ -40,6 +40,7 @@ machine_phase (phase_of.AfterFinalizing o) pending = Some (machine.AfterFinalizi
 machine_phase phase_of.Split pending = Some machine.Split
 machine_phase (phase_of.Living next) pending = Some machine.Turns
 machine_phase (phase_of.Detaching next) pending = Some machine.Turns
+machine_phase (phase_of.Unlinking member weak) pending = Some machine.Turns
 machine_phase phase_of.Turns pending = Some machine.Turns
 machine_phase (phase_of.Turn o) pending = Some (machine.Turn o)
 machine_phase (phase_of.AfterTurn o) pending = Some (machine.AfterTurn o)
@@ -71,9 +72,38 @@ shown_with asked c pending = released_over c.release (collecting asked c (machin
 abbrev pub on_stack : Bool → Collection → Store → List Activity
 on_stack asked c store = shown_with asked c (list_at store Pend)
 
+-- the weak references to an object that may have none, the newest first
+abbrev pub references_in : List Row → Option ℕ → List ℕ
+references_in rows None = []
+references_in rows (Some o) = weak_references_in rows o
+
+-- the weak references that a walk over those to one object has still to look at, the newest first
+abbrev pub to_look_at : Store → Option ℕ → List ℕ
+to_look_at store None = []
+to_look_at store (Some weak) = from_on (Some weak) (references_in store.rows (referent_in store.rows weak))
+
 -- the lines `cleared` of the weak references to some objects, the newest first for each
 abbrev pub cleared_lines : List Row → List ℕ → List Event
 cleared_lines rows members = flat_map (λ o. map Cleared (weak_references_in rows o)) members
+
+-- whether a row has one of these as referent, and does not wait
+abbrev pub refers_to_any : List ℕ → Row → Bool
+refers_to_any members r = includes members r.referent && not r.waits
+
+-- the rows once the weak references to these have lost them
+abbrev pub without_referents : List ℕ → List Row → List Row
+without_referents members rows = filter (λ r. not (refers_to_any members r)) rows
+
+-- the rows once these weak references have lost their referents
+abbrev pub without_rows : List ℕ → List Row → List Row
+without_rows weaks rows = filter (λ r. not (includes weaks r.weak)) rows
+
+-- The members of the final set that have a referent, in the order in which they lose it: with each all that have the same
+-- referent, the newest first.
+abbrev pub members_losing : List ℕ → List ℕ → List Row → List ℕ
+members_losing final [] rows = []
+members_losing final (o ∷ members) rows =
+    let weaks = filter (includes final) (references_in rows (referent_in rows o)) in weaks ++ members_losing final members (without_rows weaks rows)
 
 -- whether an object that was set aside is saved
 abbrev pub is_saved_at : Script → ℕ → Store → ℕ → Bool
@@ -95,12 +125,21 @@ stop_lines asked c number = GcStop c.generation c.collected number ∷ answer_li
 abbrev pub old_list : Collection → Store → List ℕ
 old_list c store = list_at store (Gen (older c.generation))
 
+-- the lines `cleared` of the members that have a referent, once no weak reference has a member
+abbrev pub member_lines : Store → List Event
+member_lines store = map Cleared (members_losing (list_at store Cand) (list_at store Cand) (without_referents (list_at store Cand) store.rows))
+
+-- the same where these are the next of them, and then those from one member on
+abbrev pub still_unlinked : List ℕ → List ℕ → Option ℕ → Store → List Event
+still_unlinked final weaks member store = map Cleared (weaks ++ members_losing final (from_on member final) (without_rows weaks store.rows))
+
 -- The lines of the machine's last step that are still to be told.
 abbrev pub lines_left : Script → Bool → Collection → Phase → Store → List Event
 lines_left script asked c (phase_of.Sizes zero one two frozen) store = Gens zero one two frozen ∷ lines_if (has_flag (bits_of c.flags) collectable) (map GcCollectable (list_at store Cand))
 lines_left script asked c (phase_of.Telling next) store = map GcCollectable (from_on next (list_at store Cand))
-lines_left script asked c (phase_of.Living next) store = map Alive (from_on next (old_list c store)) ++ cleared_lines store.rows (list_at store Cand)
-lines_left script asked c (phase_of.Detaching next) store = cleared_lines store.rows (from_on next (list_at store Cand))
+lines_left script asked c (phase_of.Living next) store = map Alive (from_on next (old_list c store)) ++ (cleared_lines store.rows (list_at store Cand) ++ member_lines store)
+lines_left script asked c (phase_of.Detaching next) store = cleared_lines store.rows (from_on next (list_at store Cand)) ++ member_lines store
+lines_left script asked c (phase_of.Unlinking member weak) store = still_unlinked (list_at store Cand) (filter (includes (list_at store Cand)) (to_look_at store weak)) member store
 lines_left script asked c (phase_of.Uncollectable first next number) store =
     map GcUncollectable (from_on next (old_list c store)) ++ saved_lines script (bits_of c.flags) store (from_on first (old_list c store)) ++ stop_lines asked c number
 lines_left script asked c (phase_of.Saved next number) store = saved_lines script (bits_of c.flags) store (from_on next (old_list c store)) ++ stop_lines asked c number
@@ -108,16 +147,18 @@ lines_left script asked c (phase_of.Stopping number) store = stop_lines asked c 
 lines_left script asked c (phase_of.Over number) store = answer_lines asked (c.collected + number)
 lines_left script asked c phase store = []
 
--- whether a row has one of these as referent, and does not wait
-abbrev pub refers_to_any : List ℕ → Row → Bool
-refers_to_any members r = includes members r.referent && not r.waits
+-- whether a row is that of a weak reference to one of these, or of one of these, and does not wait
+abbrev pub is_lost_with : List ℕ → Row → Bool
+is_lost_with members r = (includes members r.referent || includes members r.weak) && not r.waits
 
--- weak references to members of the final set have lost them
-abbrev pub without_rows_to : List ℕ → Store → Store
-without_rows_to members store = record store { rows = filter (λ r. not (refers_to_any members r)) store.rows }
+-- weak references to members of the final set, and members that are weak references, have lost their referents
+abbrev pub without_rows_of : List ℕ → Store → Store
+without_rows_of members store = record store { rows = filter (λ r. not (is_lost_with members r)) store.rows }
 
--- The heap once these lines are told: weak references to the final set lose it one by one, as their lines are told.
+-- The heap once these lines are told: weak references to the final set and in it lose their referents one by one, as their
+-- lines are told.
 abbrev pub store_after : Phase → Store → Store
-store_after (phase_of.Living next) store = without_rows_to (list_at store Cand) store
-store_after (phase_of.Detaching next) store = without_rows_to (list_at store Cand) store
+store_after (phase_of.Living next) store = without_rows_of (list_at store Cand) store
+store_after (phase_of.Detaching next) store = without_rows_of (list_at store Cand) store
+store_after (phase_of.Unlinking member weak) store = without_rows_of (list_at store Cand) store
 store_after phase store = store

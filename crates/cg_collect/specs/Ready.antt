@@ -1,11 +1,11 @@
 -- What a step of a collection needs of the heap. Frames and deaths that run in it may change the heap between two steps; what
 -- they leave is said here. (Ours.)
-use Rattle.std.specs.Prelude.{◌≡◌, ◌≢◌, ℕ, ◌+◌, ◌≤◌, ◌⊎◌, ◌==◌, not, true, List, [], Option, Some, None, IsSome, slice_get, length, filter}
+use Rattle.std.specs.Prelude.{◌≡◌, ◌≢◌, ℕ, ◌+◌, ◌≤◌, ◌⊎◌, ◌==◌, not, Bool, true, false, List, [], Option, Some, None, IsSome, if◌then◌else◌, option_map, unwrap_or, slice_get, length, filter}
 use Rattle.cg_value.specs.declared.Place.{Place}
 use Rattle.cg_value.specs.declared.Place.TheVariants.{Untracked, Gen, Cand, Seen, Back, Legacy, Pend}
 use Rattle.cg_graph.specs.Member.{Includes}
 use Rattle.cg_graph.specs.Value.{references}
-use Rattle.cg_graph.specs.Object.{Object}
+use Rattle.cg_graph.specs.Object.{Object, object_at}
 use Rattle.cg_graph.specs.Rows.{referent_in, weak_references_in}
 use Rattle.cg_graph.specs.Store.{Store, HasCode, list_at, objects_of, entries_of, place_of}
 use Rattle.cg_value.specs.declared.KindCode.TheVariants.{Weak}
@@ -14,7 +14,7 @@ use Rattle.cg_machine.specs.Weak.{callback_of}
 use Rattle.cg_death.specs.declared.release.Release.{Release}
 use Rattle.cg_collect.specs.declared.phase.Phase.{Phase}
 use Rattle.cg_collect.specs.declared.phase.Phase.TheVariants as phase_of
-use Rattle.cg_collect.specs.Phases.{from_on}
+pub use Rattle.cg_collect.specs.Phases.{from_on, to_look_at}
 
 -- none stands at a place
 abbrev pub IsEmptyAt : Store → Place → Type 0
@@ -58,15 +58,13 @@ abbrev pub IsAt : Option ℕ → List ℕ → Type 0
 IsAt None xs = Unit {0}
 IsAt (Some o) xs = Includes xs o
 
--- the weak references to an object that may have none, the newest first
-abbrev pub references_to : Store → Option ℕ → List ℕ
-references_to store None = []
-references_to store (Some o) = weak_references_in store.rows o
+-- whether a weak reference is to lose its referent in the weak phase, by its serial
+abbrev pub loses_at : ℕ → Store → ℕ → Bool
+loses_at profile store weak = unwrap_or (option_map (loses_in_weak_phase profile (objects_of store)) (object_at (objects_of store) weak)) false
 
--- the weak references that a walk over those to one object has still to look at, the newest first
-abbrev pub to_look_at : Store → Option ℕ → List ℕ
-to_look_at store None = []
-to_look_at store (Some weak) = from_on (Some weak) (references_to store (referent_in store.rows weak))
+-- the object whose weak references are looked at for a candidate: its referent, where it is to lose it itself, or else it
+abbrev pub looked_at_for : ℕ → Store → ℕ → ℕ
+looked_at_for profile store o = if loses_at profile store o then unwrap_or (referent_in store.rows o) o else o
 
 -- the referent of a weak reference is none itself (`weakref` manual: class instances and functions have weak references)
 abbrev pub RefersPlainly : Store → Object → Type 0
@@ -74,28 +72,45 @@ RefersPlainly store x = (o : ℕ) → x.referent ≡ Some o → ¬ HasCode store
 
 -- The walk of the weak phase has left out nothing: a weak reference that is still to lose its referent is to be looked at, or
 -- it, or its referent, is a candidate whose turn is to come.
-abbrev pub HasMissedNone : Store → Option ℕ → Option ℕ → Type 0
-HasMissedNone store member weak = (x : Object) → Includes (objects_of store) x → loses_in_weak_phase (objects_of store) x ≡ true → RefersPlainly store x
+abbrev pub HasMissedNone : ℕ → Store → Option ℕ → Option ℕ → Type 0
+HasMissedNone profile store member weak = (x : Object) → Includes (objects_of store) x → loses_in_weak_phase profile (objects_of store) x ≡ true → RefersPlainly store x
     → Includes (to_look_at store weak) x.serial
     ⊎ Includes (from_on member (list_at store Cand)) x.serial
     ⊎ ((o : ℕ) × (x.referent ≡ Some o) × Includes (from_on member (list_at store Cand)) o)
 
 -- Of the weak references to one object that are to lose it, none is newer than the one that is looked at.
-abbrev pub HasNoneNewer : Store → Option ℕ → Type 0
-HasNoneNewer store weak = (v : ℕ) → weak ≡ Some v → (x : Object) → Includes (objects_of store) x → loses_in_weak_phase (objects_of store) x ≡ true
+abbrev pub HasNoneNewer : ℕ → Store → Option ℕ → Type 0
+HasNoneNewer profile store weak = (v : ℕ) → weak ≡ Some v → (x : Object) → Includes (objects_of store) x → loses_in_weak_phase profile (objects_of store) x ≡ true
     → x.referent ≡ referent_in store.rows v → x.serial ≤ v
 
 -- The candidates that come before the next of a walk have no weak references.
 abbrev pub HasNoneBehind : Store → Option ℕ → Type 0
 HasNoneBehind store next = (o : ℕ) → Includes (list_at store Cand) o → Includes (from_on next (list_at store Cand)) o ⊎ (weak_references_in store.rows o ≡ [])
 
+-- a weak reference that is looked at has a referent
+abbrev pub StillRefers : Store → Option ℕ → Type 0
+StillRefers store weak = (v : ℕ) → weak ≡ Some v → (o : ℕ) × (referent_in store.rows v ≡ Some o)
+
 -- what a walk of the weak phase has
-pub record IsWalk (store : Store) (member weak : Option ℕ) : Type 0 where
+pub record IsWalk (profile : ℕ) (store : Store) (member weak : Option ℕ) : Type 0 where
   pub member_at : IsAt member (list_at store Cand)
-  pub weak_live : (v : ℕ) → weak ≡ Some v → (o : ℕ) × (referent_in store.rows v ≡ Some o)
-  pub none_missed : HasMissedNone store member weak
-  pub none_newer : HasNoneNewer store weak
+  pub weak_live : StillRefers store weak
+  pub none_missed : HasMissedNone profile store member weak
+  pub none_newer : HasNoneNewer profile store weak
   pub waiting : (v : ℕ) → Includes (list_at store Pend) v → referent_in store.rows v ≡ None  -- those that wait have lost theirs
+
+-- the walk of a phase has this, in the profile of the script
+abbrev pub HasItsWalk : ℕ → Store → Phase → Type 0
+HasItsWalk profile store (phase_of.WeakClearing member weak) = IsWalk profile store member weak
+HasItsWalk profile store phase = Unit {0}
+
+-- What the walk over the members with a referent has: none has weak references, and a member that has a referent is to be
+-- looked at, or its turn is to come.
+pub record IsMemberWalk (store : Store) (member weak : Option ℕ) : Type 0 where
+  pub member_at : IsAt member (list_at store Cand)
+  pub weak_live : StillRefers store weak
+  pub none_missed : (o : ℕ) → Includes (list_at store Cand) o → Includes (to_look_at store weak) o ⊎ Includes (from_on member (list_at store Cand)) o ⊎ (referent_in store.rows o ≡ None)
+  pub unreferred : (o : ℕ) → Includes (list_at store Cand) o → weak_references_in store.rows o ≡ []
 
 -- an object is not the garbage list, which stays untracked
 abbrev pub IsNotGarbageList : ℕ → Type 0
@@ -114,7 +129,7 @@ abbrev pub IsReadyAt : Store → ℕ → Phase → Type 0
 IsReadyAt store g phase_of.Start = IsClear store
 IsReadyAt store g (phase_of.Sizes zero one two frozen) = IsApartUnseen store × IsEmptyAt store Pend
 IsReadyAt store g (phase_of.Telling next) = IsApartUnseen store × IsEmptyAt store Pend × IsAt next (list_at store Cand)
-IsReadyAt store g (phase_of.WeakClearing member weak) = IsApartUnseen store × HaveCallbacks store × IsWalk store member weak
+IsReadyAt store g (phase_of.WeakClearing member weak) = IsApartUnseen store × HaveCallbacks store
 IsReadyAt store g phase_of.WeakCalling = IsApartUnseen store × HaveCallbacks store
 IsReadyAt store g (phase_of.AfterCallback weak) = IsApartUnseen store × HaveCallbacks store × (slice_get (list_at store Pend) 0 ≡ Some weak) × IsNotGarbageList weak
 IsReadyAt store g (phase_of.AfterRelease weak) = IsApartUnseen store × OthersHaveCallbacks store weak × IsNotGarbageList weak
@@ -123,6 +138,7 @@ IsReadyAt store g (phase_of.AfterFinalizing o) = IsApart store
 IsReadyAt store g phase_of.Split = IsApartUnseen store
 IsReadyAt store g (phase_of.Living next) = IsApartUnseen store × IsAt next (list_at store (Gen (older g)))
 IsReadyAt store g (phase_of.Detaching next) = IsApartUnseen store × IsAt next (list_at store Cand) × HasNoneBehind store next
+IsReadyAt store g (phase_of.Unlinking member weak) = IsApartUnseen store × IsMemberWalk store member weak
 IsReadyAt store g phase_of.Turns = IsApartUnseen store
 IsReadyAt store g (phase_of.Turn o) = IsApartUnseen store × IsNotGarbageList o
 IsReadyAt store g (phase_of.AfterTurn o) = IsApartUnseen store × IsNotGarbageList o

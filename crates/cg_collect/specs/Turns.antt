@@ -53,14 +53,15 @@ pass_of (phase_of.AfterFinalizing o) = 5
 pass_of phase_of.Split = 6
 pass_of (phase_of.Living next) = 7
 pass_of (phase_of.Detaching next) = 8
-pass_of phase_of.Turns = 9
-pass_of (phase_of.Turn o) = 9
-pass_of (phase_of.AfterTurn o) = 9
-pass_of phase_of.Ending = 10
-pass_of (phase_of.Uncollectable first next number) = 11
-pass_of (phase_of.Saved next number) = 12
-pass_of (phase_of.Stopping number) = 13
-pass_of (phase_of.Over number) = 14
+pass_of (phase_of.Unlinking member weak) = 9
+pass_of phase_of.Turns = 10
+pass_of (phase_of.Turn o) = 10
+pass_of (phase_of.AfterTurn o) = 10
+pass_of phase_of.Ending = 11
+pass_of (phase_of.Uncollectable first next number) = 12
+pass_of (phase_of.Saved next number) = 13
+pass_of (phase_of.Stopping number) = 14
+pass_of (phase_of.Over number) = 15
 
 -- by how many passes the next step is later at least: a detection is over after one
 abbrev pub passes_on : Phase → ℕ
@@ -90,15 +91,20 @@ abbrev pub list_around : Store → Option ℕ → List ℕ
 list_around store None = []
 list_around store (Some o) = list_at store (place_of store o)
 
+-- what is left of a walk over weak references to candidates, or to their referents
+abbrev pub left_to_walk : Option ℕ → Option ℕ → Store → ℕ
+left_to_walk member weak store = length (from_on member (list_at store Cand)) * (length store.rows + 1) + length (to_look_at store weak)
+
 -- What is left in a pass, what is given up aside.
 abbrev pub left_in_pass : Phase → Store → ℕ
-left_in_pass (phase_of.WeakClearing member weak) store = length (from_on member (list_at store Cand)) * (length store.rows + 1) + length (to_look_at store weak)
+left_in_pass (phase_of.WeakClearing member weak) store = left_to_walk member weak store
 left_in_pass phase_of.WeakCalling store = 8 * length (list_at store Pend)
 left_in_pass (phase_of.AfterCallback weak) store = 8 * length (list_at store Pend) + 6
 left_in_pass (phase_of.AfterRelease weak) store = 8 * length (list_at store Pend) + 1
 left_in_pass phase_of.Finalizing store = 8 * length (list_at store Cand)
 left_in_pass (phase_of.AfterFinalizing o) store = 8 * length (list_at store Cand) + 6
 left_in_pass (phase_of.Detaching next) store = length (from_on next (list_at store Cand))
+left_in_pass (phase_of.Unlinking member weak) store = left_to_walk member weak store
 left_in_pass phase_of.Turns store = still_cleared store + 9
 left_in_pass (phase_of.Turn o) store = others_cleared store o + to_clear store o + 8
 left_in_pass (phase_of.AfterTurn o) store = others_cleared store o + 10

@@ -1,5 +1,7 @@
 //! A collection of a generation.
 ghost use Rattle.std.specs.Prelude.{◌≡◌, ◌+◌, ◌≤◌, ◌⊎◌, ℕ, false, true, Bool, None, IfNone, IfSome};
+ghost use Rattle.cg_script.specs.declared.Script.{Script as AnyScript};
+ghost use Rattle.cg_machine.specs.Program.{profile_of};
 ghost use Rattle.cg_machine.specs.World.{World, push};
 ghost use Rattle.cg_machine.specs.Collect.{begun};
 ghost use Rattle.cg_machine.specs.Commands.{new_collection};
@@ -11,14 +13,14 @@ ghost use Rattle.cg_death.specs.Steady.{KeepsNames};
 ghost use Rattle.cg_collect.specs.declared.answer.CollectStep.TheVariants as answer_of;
 ghost use Rattle.cg_collect.specs.declared.phase.Phase.TheVariants as phase_of;
 ghost use Rattle.cg_collect.specs.Numbers.{AreSmall};
-ghost use Rattle.cg_collect.specs.Ready.{IsClear, IsReadyAt, IsBegun};
+ghost use Rattle.cg_collect.specs.Ready.{IsClear, IsReadyAt, HasItsWalk, IsBegun};
 ghost use Rattle.cg_collect.specs.Turns.{pass_of, passes_on, TurnSteps, TurnFalls, TurnLeaves, TurnEnds, StaysReady, KeepsObjects};
 ghost use Rattle.cg_collect.specs.Looks.{most_looks};
 ghost use Rattle.cg_collect.specs.Answers.{CollectSteps, Shows};
 ghost use Rattle.cg_collect.specs.Collections.{IsReady, KeepsReady, CollectFalls, DiesUnheld, EndsWith, GivesUpNext, StopsWith, stop_turn, held_by, given_up_by, own_holds_at, facts_of};
 
 use crate::answer::CollectStep;
-use crate::detection::{detach_one, detect, tell_living};
+use crate::detection::{detach_one, detect, tell_living, unlink_one};
 use crate::ending::{end, tell_end, tell_saved, tell_uncollectable};
 use crate::finalizing::{after_finalizer, look_at_one};
 use crate::phase::{Phase, Turn};
@@ -65,7 +67,7 @@ impl Collection {
         ensures policy { policy.new ≡ record { numbers = begun generation policy.old.numbers; running = true } }
         ensures begins { (asked : Bool) (w : World) → Represents heap.old w → policy.old.numbers ≡ w.numbers
             → Shows asked result heap.new policy.new (push (new_collection generation asked w) w) w.stack }
-        ensures ready { IsReady result heap.new }
+        ensures ready { (script : AnyScript) → IsReady script result heap.new }
     {
         let flags = policy.flags();
         policy.begin(generation);
@@ -88,10 +90,10 @@ impl Collection {
     ) -> CollectStep
         requires few { HasFewHolds heap.old }
         requires held { HasHolds heap.old (held_by self.old) }
-        requires ready { IsReady self.old heap.old }
+        requires ready { IsReady script.now self.old heap.old }
         requires bounded { AreSmall policy.old.numbers }
         ensures steps { CollectSteps script.now self.old heap.old policy.old self.new heap.new policy.new result }
-        ensures ready { KeepsReady self.new heap.new result }
+        ensures ready { KeepsReady script.now self.new heap.new result }
         ensures falls { result ≡ answer_of.Continue → CollectFalls self.old heap.old self.new heap.new }
         ensures died { DiesUnheld result heap.new }
 
@@ -148,11 +150,13 @@ impl Collection {
     ) -> Turn
         requires generation { self.now.generation ≤ 2 }
         requires ready { IsReadyAt heap.old self.now.generation self.now.phase }
+        requires walk { HasItsWalk (profile_of script.now.items) heap.old self.now.phase }
         requires few { HasFewHolds heap.old }
         requires held { HasHolds heap.old (own_holds_at self.now.phase) }
         requires bounded { AreSmall policy.old.numbers }
         ensures steps { TurnSteps script.now (facts_of self.now) self.now.phase heap.old policy.old heap.new policy.new result }
         ensures ready { StaysReady heap.new self.now.generation result.phase result.answer }
+        ensures walk { HasItsWalk (profile_of script.now.items) heap.new result.phase }
         ensures falls { TurnFalls heap.old self.now.phase heap.new result }
         ensures leaves { TurnLeaves heap.old self.now.phase heap.new result ⊎ TurnEnds self.now result }
         ensures stops { (set_aside : ℕ) → self.now.phase ≡ phase_of.Stopping set_aside → result ≡ stop_turn (facts_of self.now) set_aside }
@@ -173,7 +177,9 @@ impl Collection {
                 frozen,
             } => tell_sizes(facts, heap, zero, one, two, frozen),
             Phase::Telling(next) => tell_condemned(heap, next),
-            Phase::WeakClearing { member, weak } => clear_one(heap, member, weak),
+            Phase::WeakClearing { member, weak } => {
+                clear_one(heap, script.profile(), member, weak)
+            }
             Phase::WeakCalling => call_one(heap),
             Phase::AfterCallback(weak) => after_callback(weak),
             Phase::AfterRelease(weak) => after_release(facts, heap, weak),
@@ -182,6 +188,7 @@ impl Collection {
             Phase::Split => detect(facts, heap, steps),
             Phase::Living(next) => tell_living(facts, heap, next),
             Phase::Detaching(next) => detach_one(heap, next),
+            Phase::Unlinking { member, weak } => unlink_one(heap, member, weak),
             Phase::Turns => take_turn(facts, heap),
             Phase::Turn(object) => empty_one(heap, object),
             Phase::AfterTurn(object) => after_turn(facts, heap, object),

@@ -1,6 +1,10 @@
 //! The second detection: what finalizers brought back is alive; the rest is the final set. (PEP 442, "disposal of cyclic
 //! isolates".)
-ghost use Rattle.std.specs.Prelude.{◌+◌, ◌≤◌, ℕ};
+ghost use Rattle.std.specs.Prelude.{◌≡◌, ◌+◌, ◌≤◌, ℕ, Some, None, true, slice_get, option_and_then};
+ghost use Rattle.cg_value.specs.declared.Place.TheVariants as place_of;
+ghost use Rattle.cg_graph.specs.Object.{same_place};
+ghost use Rattle.cg_graph.specs.Rows.{referent_in, weak_references_in};
+ghost use Rattle.cg_graph.specs.Store.{IsLive, place_of};
 ghost use Rattle.cg_script.specs.declared.Script.{Script as AnyScript};
 ghost use Rattle.cg_policy.specs.Policy.{Policy as Standing};
 ghost use Rattle.cg_collect.specs.declared.collection.Facts.{Facts as AnyFacts};
@@ -60,7 +64,7 @@ pub fn tell_living<B: Kind>(facts: Facts, heap: &Heap<B>, next: Option<u64>) -> 
 }
 
 /// The newest weak reference to a member of the final set loses it, without callback; when none to it is left, those to
-/// the next member follow.
+/// the next member follow. When none to a member is left, members lose their own referents.
 pub fn detach_one<B: Kind>(heap: &mut Heap<B>, next: Option<u64>) -> Turn
     requires ready { IsReadyAt heap.old 0 (phase_of.Detaching next) }
     ensures steps { (script : AnyScript) (facts : AnyFacts) (policy : Standing) → TurnSteps script facts (phase_of.Detaching next) heap.old policy heap.new policy result }
@@ -70,7 +74,10 @@ pub fn detach_one<B: Kind>(heap: &mut Heap<B>, next: Option<u64>) -> Turn
     ensures keeps { KeepsObjects heap.old heap.new }
 {
     let Some(object) = next else {
-        return Turn::to(Phase::Turns);
+        return Turn::to(Phase::Unlinking {
+            member: heap.first(Place::Cand),
+            weak: None,
+        });
     };
     heap.sound();
     match heap.newest_of(object) {
@@ -79,5 +86,88 @@ pub fn detach_one<B: Kind>(heap: &mut Heap<B>, next: Option<u64>) -> Turn
             Turn::tells(Event::Cleared(weak), Phase::Detaching(next))
         }
         None => Turn::to(Phase::Detaching(heap.next(object))),
+    }
+}
+
+/// Looks at the next weak reference of the walk, or at the next member of the final set.
+///
+/// For each member that has a referent all weak references to it are looked at, from the newest on, and the members among
+/// them lose it. So each list is gone through once.
+pub fn unlink_one<B: Kind>(heap: &mut Heap<B>, member: Option<u64>, weak: Option<u64>) -> Turn
+    requires ready { IsReadyAt heap.old 0 (phase_of.Unlinking member weak) }
+    ensures steps { (script : AnyScript) (facts : AnyFacts) (policy : Standing) → TurnSteps script facts (phase_of.Unlinking member weak) heap.old policy heap.new policy result }
+    ensures ready { (g : ℕ) → StaysReady heap.new g result.phase result.answer }
+    ensures falls { TurnFalls heap.old (phase_of.Unlinking member weak) heap.new result }
+    ensures leaves { TurnLeaves heap.old (phase_of.Unlinking member weak) heap.new result }
+    ensures keeps { KeepsObjects heap.old heap.new }
+{
+    match weak {
+        Some(weak) => look_at(heap, member, weak),
+        None => next_member(heap, member),
+    }
+}
+
+/// A weak reference that is a member loses its referent, without callback.
+fn look_at<B: Kind>(heap: &mut Heap<B>, member: Option<u64>, weak: u64) -> Turn
+    requires ready { IsReadyAt heap.old 0 (phase_of.Unlinking member (Some weak)) }
+    ensures steps { (script : AnyScript) (facts : AnyFacts) (policy : Standing) → TurnSteps script facts (phase_of.Unlinking member (Some weak)) heap.old policy heap.new policy result }
+    ensures ready { (g : ℕ) → StaysReady heap.new g result.phase result.answer }
+    ensures falls { TurnFalls heap.old (phase_of.Unlinking member (Some weak)) heap.new result }
+    ensures leaves { TurnLeaves heap.old (phase_of.Unlinking member (Some weak)) heap.new result }
+    ensures keeps { KeepsObjects heap.old heap.new }
+{
+    heap.sound();
+    let phase = Phase::Unlinking {
+        member,
+        weak: heap.older_of(weak),
+    };
+    if is_member(heap, weak) {
+        heap.clear_weak(weak, false);
+        heap.sound();
+        Turn::tells(Event::Cleared(weak), phase)
+    } else {
+        Turn::to(phase)
+    }
+}
+
+/// Whether an object is a member of the final set.
+fn is_member<B: Kind>(heap: &Heap<B>, object: u64) -> bool
+    requires { IsLive heap.now object }
+    ensures { result ≡ same_place (place_of heap.now object) place_of.Cand }
+{
+    match heap.place_of(object) {
+        Place::Cand => true,
+        _ => false,
+    }
+}
+
+/// The weak references to the referent of the next member are looked at; when all members were, they have their turns.
+fn next_member<B: Kind>(heap: &mut Heap<B>, member: Option<u64>) -> Turn
+    requires ready { IsReadyAt heap.old 0 (phase_of.Unlinking member None) }
+    ensures steps { (script : AnyScript) (facts : AnyFacts) (policy : Standing) → TurnSteps script facts (phase_of.Unlinking member None) heap.old policy heap.new policy result }
+    ensures ready { (g : ℕ) → StaysReady heap.new g result.phase result.answer }
+    ensures falls { TurnFalls heap.old (phase_of.Unlinking member None) heap.new result }
+    ensures leaves { TurnLeaves heap.old (phase_of.Unlinking member None) heap.new result }
+    ensures keeps { KeepsObjects heap.old heap.new }
+{
+    heap.sound();
+    match member {
+        Some(object) => Turn::to(Phase::Unlinking {
+            member: heap.next(object),
+            weak: newest_beside(heap, object),
+        }),
+        None => Turn::to(Phase::Turns),
+    }
+}
+
+/// The newest weak reference to the referent of an object, if it has one.
+fn newest_beside<B: Kind>(heap: &Heap<B>, object: u64) -> Option<u64>
+    requires { IsLive heap.now object }
+    ensures { result ≡ option_and_then (λ o. slice_get (weak_references_in heap.now.rows o) 0) (referent_in heap.now.rows object) }
+{
+    heap.sound();
+    match heap.referent_of(object) {
+        Some(referent) => heap.newest_of(referent),
+        None => None,
     }
 }

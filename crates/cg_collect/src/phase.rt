@@ -10,8 +10,8 @@ use cg_machine::{Event, FrameSpec};
 /// Where a collection stands. (PEP 442, "Disposal of cyclic isolates"; developer guide, "Destroying unreachable objects".)
 ///
 /// A step of the machine may print several lines. It is done at once, and its other lines are told by the calls that
-/// follow: `Sizes` and `Telling` after the start, `Living` and `Detaching` after the second detection, `Uncollectable`,
-/// `Saved` and `Stopping` after the end.
+/// follow: `Sizes` and `Telling` after the start, `Living`, `Detaching` and `Unlinking` after the second detection,
+/// `Uncollectable`, `Saved` and `Stopping` after the end.
 #[derive(Clone, Copy, Debug, PartialEq, Eq, Drop)]
 pub enum Phase {
     /// All before the weak phase is to come.
@@ -45,8 +45,14 @@ pub enum Phase {
     Split,
     /// Survivors of it are to be told, from this one on.
     Living(Option<u64>),
-    /// Weak references that finalizers made lose the members of the final set, from this one on.
+    /// Weak references lose the members of the final set, from this one on.
     Detaching(Option<u64>),
+    /// Members of the final set lose their referents. `member` is the one that is looked at next, and `weak` the weak
+    /// reference that is, of those to one object, which are gone through from the newest on.
+    Unlinking {
+        member: Option<u64>,
+        weak: Option<u64>,
+    },
     /// Members of the final set are to have their turns.
     Turns,
     /// The entries of a member are taken out; it is held.

@@ -1,6 +1,6 @@
 //! The weak phase: weak references lose condemned objects, and the callbacks of those that are not condemned are called.
 //! (PEP 442; `weakref` manual.)
-ghost use Rattle.std.specs.Prelude.{◌≡◌, ◌≤◌, ◌∷◌, [], ℕ, Some, None, IsSome, true, false, slice_get, unwrap_or, option_map, option_and_then, if◌then◌else◌};
+ghost use Rattle.std.specs.Prelude.{◌≡◌, ◌≤◌, ◌∷◌, [], ℕ, ◌==◌, ◌||◌, not, Some, None, IsSome, true, false, is_some, slice_get, unwrap_or, option_and_then, if◌then◌else◌};
 ghost use Rattle.cg_value.specs.declared.Place.TheVariants as place_of;
 ghost use Rattle.cg_script.specs.declared.Script.{Script as AnyScript};
 ghost use Rattle.cg_policy.specs.Policy.{Policy as Standing};
@@ -12,10 +12,11 @@ ghost use Rattle.cg_heap.specs.Calls.{HasFewHolds};
 ghost use Rattle.cg_heap.specs.Weak.{cleared_weak};
 ghost use Rattle.cg_machine.specs.declared.event.FrameSort.TheVariants as sort_of;
 ghost use Rattle.cg_machine.specs.Weak.{callback_of};
-ghost use Rattle.cg_machine.specs.Collect.{is_condemned_in, loses_in_weak_phase, waits};
+ghost use Rattle.cg_machine.specs.Program.{profile_of};
+ghost use Rattle.cg_machine.specs.Collect.{is_condemned_in, waits};
 ghost use Rattle.cg_collect.specs.declared.collection.Facts.{Facts as AnyFacts};
 ghost use Rattle.cg_collect.specs.declared.phase.Phase.TheVariants as phase_of;
-ghost use Rattle.cg_collect.specs.Ready.{IsReadyAt};
+ghost use Rattle.cg_collect.specs.Ready.{IsReadyAt, IsWalk, HasItsWalk, loses_at, looked_at_for};
 ghost use Rattle.cg_collect.specs.Turns.{TurnSteps, TurnFalls, TurnLeaves, StaysReady, KeepsObjects};
 
 use crate::answer::CollectStep;
@@ -30,28 +31,37 @@ use cg_value::Place;
 /// Looks at the next weak reference of the walk, or at the next condemned object.
 ///
 /// For each condemned object all weak references to it are looked at, from the newest on; for a weak reference that is
-/// condemned, all to its referent. So each list is gone through once.
-pub fn clear_one<B: Kind>(heap: &mut Heap<B>, member: Option<u64>, weak: Option<u64>) -> Turn
+/// condemned and is to lose its referent, all to its referent. So each list is gone through once or twice.
+pub fn clear_one<B: Kind>(
+    heap: &mut Heap<B>,
+    profile: u8,
+    member: Option<u64>,
+    weak: Option<u64>,
+) -> Turn
     requires ready { IsReadyAt heap.old 0 (phase_of.WeakClearing member weak) }
+    requires walk { IsWalk profile heap.old member weak }
     requires few { HasFewHolds heap.old }
-    ensures steps { (script : AnyScript) (facts : AnyFacts) (policy : Standing) → TurnSteps script facts (phase_of.WeakClearing member weak) heap.old policy heap.new policy result }
+    ensures steps { (script : AnyScript) → profile_of script.items ≡ profile → (facts : AnyFacts) (policy : Standing) → TurnSteps script facts (phase_of.WeakClearing member weak) heap.old policy heap.new policy result }
     ensures ready { (g : ℕ) → StaysReady heap.new g result.phase result.answer }
+    ensures walk { HasItsWalk profile heap.new result.phase }
     ensures falls { TurnFalls heap.old (phase_of.WeakClearing member weak) heap.new result }
     ensures leaves { TurnLeaves heap.old (phase_of.WeakClearing member weak) heap.new result }
     ensures keeps { KeepsObjects heap.old heap.new }
 {
     match weak {
-        Some(weak) => look_at(heap, member, weak),
-        None => next_member(heap, member),
+        Some(weak) => look_at(heap, profile, member, weak),
+        None => next_member(heap, profile, member),
     }
 }
 
-/// A weak reference loses its referent, where one of the two is condemned.
-fn look_at<B: Kind>(heap: &mut Heap<B>, member: Option<u64>, weak: u64) -> Turn
+/// A weak reference loses its referent, if it is to lose it.
+fn look_at<B: Kind>(heap: &mut Heap<B>, profile: u8, member: Option<u64>, weak: u64) -> Turn
     requires ready { IsReadyAt heap.old 0 (phase_of.WeakClearing member (Some weak)) }
+    requires walk { IsWalk profile heap.old member (Some weak) }
     requires few { HasFewHolds heap.old }
-    ensures steps { (script : AnyScript) (facts : AnyFacts) (policy : Standing) → TurnSteps script facts (phase_of.WeakClearing member (Some weak)) heap.old policy heap.new policy result }
+    ensures steps { (script : AnyScript) → profile_of script.items ≡ profile → (facts : AnyFacts) (policy : Standing) → TurnSteps script facts (phase_of.WeakClearing member (Some weak)) heap.old policy heap.new policy result }
     ensures ready { (g : ℕ) → StaysReady heap.new g result.phase result.answer }
+    ensures walk { HasItsWalk profile heap.new result.phase }
     ensures falls { TurnFalls heap.old (phase_of.WeakClearing member (Some weak)) heap.new result }
     ensures leaves { TurnLeaves heap.old (phase_of.WeakClearing member (Some weak)) heap.new result }
     ensures keeps { KeepsObjects heap.old heap.new }
@@ -61,7 +71,7 @@ fn look_at<B: Kind>(heap: &mut Heap<B>, member: Option<u64>, weak: u64) -> Turn
         member,
         weak: heap.older_of(weak),
     };
-    if loses(heap, weak) {
+    if loses(heap, profile, weak) {
         lose(heap, weak);
         heap.sound();
         Turn::tells(Event::Cleared(weak), phase)
@@ -70,16 +80,28 @@ fn look_at<B: Kind>(heap: &mut Heap<B>, member: Option<u64>, weak: u64) -> Turn
     }
 }
 
-/// Whether a weak reference has a referent, and one of the two is condemned.
-fn loses<B: Kind>(heap: &Heap<B>, weak: u64) -> bool
+/// Whether a weak reference is to lose its referent: it has one, and one of the two is condemned.
+fn loses<B: Kind>(heap: &Heap<B>, profile: u8, weak: u64) -> bool
     requires { IsLive heap.now weak }
-    ensures { result ≡ unwrap_or (option_map (loses_in_weak_phase (objects_of heap.now)) (object_at (objects_of heap.now) weak)) false }
+    ensures { result ≡ loses_at profile heap.now weak }
 {
     heap.sound();
     match heap.referent_of(weak) {
-        Some(referent) => is_condemned(heap, referent) || is_condemned(heap, weak),
+        Some(referent) => {
+            is_lost_early(heap, profile, weak)
+                && (is_condemned(heap, referent) || is_condemned(heap, weak))
+        }
         None => false,
     }
+}
+
+/// Whether a weak reference loses its referent before the finalizers run. In profile 2 one without a callback keeps it for
+/// them.
+fn is_lost_early<B: Kind>(heap: &Heap<B>, profile: u8, weak: u64) -> bool
+    requires { IsLive heap.now weak }
+    ensures { result ≡ not (profile == 2) || is_some (callback_of (objects_of heap.now) weak) }
+{
+    profile != 2 || callback_of(heap, weak).is_some()
 }
 
 /// Whether an object is condemned.
@@ -120,10 +142,12 @@ fn waits<B: Kind>(heap: &Heap<B>, weak: u64) -> bool
 
 /// The weak references to the next condemned object are looked at, or those to its referent; when all were, the callbacks
 /// follow.
-fn next_member<B: Kind>(heap: &mut Heap<B>, member: Option<u64>) -> Turn
+fn next_member<B: Kind>(heap: &mut Heap<B>, profile: u8, member: Option<u64>) -> Turn
     requires ready { IsReadyAt heap.old 0 (phase_of.WeakClearing member None) }
-    ensures steps { (script : AnyScript) (facts : AnyFacts) (policy : Standing) → TurnSteps script facts (phase_of.WeakClearing member None) heap.old policy heap.new policy result }
+    requires walk { IsWalk profile heap.old member None }
+    ensures steps { (script : AnyScript) → profile_of script.items ≡ profile → (facts : AnyFacts) (policy : Standing) → TurnSteps script facts (phase_of.WeakClearing member None) heap.old policy heap.new policy result }
     ensures ready { (g : ℕ) → StaysReady heap.new g result.phase result.answer }
+    ensures walk { HasItsWalk profile heap.new result.phase }
     ensures falls { TurnFalls heap.old (phase_of.WeakClearing member None) heap.new result }
     ensures leaves { TurnLeaves heap.old (phase_of.WeakClearing member None) heap.new result }
     ensures keeps { KeepsObjects heap.old heap.new }
@@ -132,21 +156,21 @@ fn next_member<B: Kind>(heap: &mut Heap<B>, member: Option<u64>) -> Turn
     match member {
         Some(object) => Turn::to(Phase::WeakClearing {
             member: heap.next(object),
-            weak: first_to_look_at(heap, object),
+            weak: first_to_look_at(heap, profile, object),
         }),
         None => Turn::to(Phase::WeakCalling),
     }
 }
 
-/// The newest weak reference to the referent of a condemned one, or to a condemned object.
-fn first_to_look_at<B: Kind>(heap: &Heap<B>, object: u64) -> Option<u64>
+/// The newest weak reference to the referent of a condemned one that is to lose it, or else to a condemned object.
+fn first_to_look_at<B: Kind>(heap: &Heap<B>, profile: u8, object: u64) -> Option<u64>
     requires { IsLive heap.now object }
-    ensures { result ≡ slice_get (weak_references_in heap.now.rows (unwrap_or (referent_in heap.now.rows object) object)) 0 }
+    ensures { result ≡ slice_get (weak_references_in heap.now.rows (looked_at_for profile heap.now object)) 0 }
 {
     heap.sound();
     match heap.referent_of(object) {
-        Some(referent) => heap.newest_of(referent),
-        None => heap.newest_of(object),
+        Some(referent) if loses(heap, profile, object) => heap.newest_of(referent),
+        _ => heap.newest_of(object),
     }
 }
 

@@ -21,6 +21,7 @@ use Rattle.cg_collect.proofs.Keeping.{keeps_all, keeps-cleared}
 use Rattle.cg_collect.proofs.Worlds.{turn_steps}
 use Rattle.cg_collect.proofs.Stopping.{next_from, next_at}
 use Rattle.cg_collect.proofs.Detecting.{turn-passed, turn-detached, turn-lost, apart_lost, behind_lost, lost_refers, Newest, newest_row, from_here}
+use Rattle.cg_collect.proofs.Unlinking.{unlink_begins}
 use Rattle.cg_collect.proofs.detection.detach_one.Goals as goal
 
 -- All have lost the final set.
@@ -28,8 +29,14 @@ pub returns-in_default-clause-steps : goal.returns-in_default-clause-steps
 returns-in_default-clause-steps g c = λ script facts policy.
     let ready = subst (λ n. IsReadyAt c.args.heap.now 0 (phase_of.Detaching n)) c.in_default.is c.requires.ready in
     subst (λ n. TurnSteps script facts (phase_of.Detaching n) c.args.heap.now policy c.args.heap.now policy c.to.result) (sym c.in_default.is)
-    (turn_steps script facts (phase_of.Detaching None) c.args.heap.now policy c.args.heap.now policy c.to.result phase_of.Turns None answer_of.Continue c.to.ensures
-    (turn-detached script facts c.args.heap.now policy (λ o m. either (ready.2 o m) (λ e. absurd e) (λ none. none))))
+    (turn_steps script facts (phase_of.Detaching None) c.args.heap.now policy c.args.heap.now policy c.to.result (phase_of.Unlinking c.first.result None) None answer_of.Continue c.to.ensures
+    (turn-detached script facts c.args.heap.now policy (λ o m. either (ready.2 o m) (λ e. absurd e) (λ none. none)) c.first.result c.first.ensures))
+
+pub returns-in_default-clause-ready : goal.returns-in_default-clause-ready
+returns-in_default-clause-ready g c = λ k.
+    let ready = subst (λ n. IsReadyAt c.args.heap.now 0 (phase_of.Detaching n)) c.in_default.is c.requires.ready in
+    subst (λ (turn : Turn). StaysReady c.args.heap.now k turn.phase turn.answer) (sym c.to.ensures)
+    (ready.0, unlink_begins c.args.heap.now (λ o m. either (ready.2 o m) (λ e. absurd e) (λ none. none)) c.first.result c.first.ensures)
 
 -- the object is a member
 pub newest_of-requires : goal.newest_of-requires

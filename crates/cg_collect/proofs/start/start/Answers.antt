@@ -4,7 +4,7 @@ use Rattle.cg_graph.specs.Store.{list_at}
 use Rattle.cg_collect.proofs.Traces.{Trace, splits_off}
 use Rattle.cg_collect.proofs.Apart.{empty_merged, none_aside_yet, list_few}
 use Rattle.cg_collect.proofs.Looks.{entries-merged}
-use Rattle.cg_collect.proofs.Begins.{still_bounded, turn_start, ready_after, leaves_after, keeps_after}
+use Rattle.cg_collect.proofs.Begins.{still_bounded, turn_start, ready_after, walk_after, leaves_after, keeps_after}
 use Rattle.cg_collect.proofs.start.start.Goals as goal
 
 pub split-requires-clause-back : goal.split-requires-clause-back
@@ -55,6 +55,20 @@ returns-clause-ready g c =
       sets_aside = c.set_legacy_aside.ensures;
     } in
     ready_after c.args.script.now c.args.facts c.args.heap.now c.merge_younger.new.heap c.split.new.heap c.untrack.new.heap c.get_older.new.heap c.set_legacy_aside.new.heap trace c.sound.ensures.listed c.sound-3.ensures.listed c.sound-5.ensures.listed c.requires.ready
+    c.first_phase-next.result c.first_phase-next.ensures c.told_first.result c.told_first.ensures c.tells.result c.tells.ensures
+
+pub returns-clause-walk : goal.returns-clause-walk
+returns-clause-walk g c =
+    let empty : list_at c.merge_younger.new.heap Cand ≡ [] =
+    empty_merged c.args.facts.generation c.args.heap.now c.merge_younger.new.heap c.merge_younger.ensures c.sound.ensures.listed c.sound-2.ensures.listed Cand (λ e. cc) (λ i e. cc) c.requires.ready.candidates in
+    let trace : Trace c.args.script.now c.args.facts.generation c.args.heap.now c.merge_younger.new.heap c.split.new.heap c.untrack.new.heap c.get_older.new.heap c.set_legacy_aside.new.heap = record {
+      merges = c.merge_younger.ensures;
+      splits = splits_off c.args.facts.generation c.merge_younger.new.heap c.split.new.heap c.sound-2.ensures.listed c.split.ensures.listed empty c.split.ensures.unreachable c.split.ensures.reachable c.split.ensures.others c.split.ensures.same;
+      untracks = c.untrack.ensures;
+      gets_older = c.get_older.ensures;
+      sets_aside = c.set_legacy_aside.ensures;
+    } in
+    walk_after c.args.script.now c.args.facts c.args.heap.now c.merge_younger.new.heap c.split.new.heap c.untrack.new.heap c.get_older.new.heap c.set_legacy_aside.new.heap trace c.sound.ensures.listed c.sound-3.ensures.listed c.sound-5.ensures.listed c.requires.ready
     c.first_phase-next.result c.first_phase-next.ensures c.told_first.result c.told_first.ensures c.tells.result c.tells.ensures
 
 pub returns-clause-leaves : goal.returns-clause-leaves

@@ -1,4 +1,4 @@
-use Rattle.std.proofs.Common.{sym, subst, ℕ, Option, Some, None}
+use Rattle.std.proofs.Common.{sym, subst, ℕ, false, Option, Some, None}
 use Rattle.cg_value.specs.declared.Place.TheVariants.{Cand}
 use Rattle.cg_graph.specs.Member.{Includes}
 use Rattle.cg_graph.specs.Store.{list_at}
@@ -7,11 +7,11 @@ use Rattle.cg_trial.proofs.Placed.{where_is}
 use Rattle.cg_collect.specs.declared.answer.CollectStep.TheVariants as answer_of
 use Rattle.cg_collect.specs.declared.phase.Phase.TheVariants as phase_of
 use Rattle.cg_collect.specs.declared.phase.Turn.{Turn}
-use Rattle.cg_collect.specs.Ready.{IsAt}
+use Rattle.cg_collect.specs.Ready.{IsAt, HasItsWalk}
 use Rattle.cg_collect.specs.Starting.{told_weak}
 use Rattle.cg_collect.specs.Turns.{StaysReady, TurnSteps}
 use Rattle.cg_collect.proofs.Worlds.{turn_steps}
-use Rattle.cg_collect.proofs.Telling.{ready_weak, from_next, at_next, steps_condemned, steps_told, turn_to}
+use Rattle.cg_collect.proofs.Telling.{ready_weak, walk_told, from_next, at_next, steps_condemned, steps_told, turn_to}
 use Rattle.cg_collect.proofs.start.tell_condemned.Goals as goal
 
 pub next-requires : goal.next-requires
@@ -45,3 +45,11 @@ returns-in-None-clause-ready g c = λ n.
     let is = turn_to c.to.result c.weak_phase.result (told_weak c.args.heap.now) answer_of.Continue c.to.ensures c.weak_phase.ensures in
     subst (λ (t : Turn). StaysReady c.args.heap.now n t.phase t.answer) (sym is)
     (ready_weak c.args.heap.now c.sound.ensures.listed c.requires.ready.0 c.requires.ready.1 n)
+
+pub returns-in-Some-clause-walk : goal.returns-in-Some-clause-walk
+returns-in-Some-clause-walk g c = λ profile. subst (λ (t : Turn). HasItsWalk profile c.args.heap.now t.phase) (sym c.tells.ensures) tt
+
+pub returns-in-None-clause-walk : goal.returns-in-None-clause-walk
+returns-in-None-clause-walk g c = λ profile.
+    let is = turn_to c.to.result c.weak_phase.result (told_weak c.args.heap.now) answer_of.Continue c.to.ensures c.weak_phase.ensures in
+    subst (λ (t : Turn). HasItsWalk profile c.args.heap.now t.phase) (sym is) (walk_told c.args.heap.now c.sound.ensures.listed c.requires.ready.0 c.requires.ready.1 profile false)

@@ -1,9 +1,9 @@
-use Rattle.std.proofs.Common.{◌∙◌, sym, ap, false}
-use Rattle.std.specs.Prelude.{◌||◌, option_map, unwrap_or}
+use Rattle.std.proofs.Common.{◌∙◌, sym, ap}
+use Rattle.std.specs.Prelude.{◌||◌}
 use Rattle.cg_graph.specs.Store.{objects_of}
 use Rattle.cg_machine.specs.Collect.{is_condemned_in}
 use Rattle.cg_heap.proofs.RowLemmas.{refers_live}
-use Rattle.cg_collect.proofs.Walking.{loses-at}
+use Rattle.cg_collect.proofs.Walking.{loses-some, loses-none}
 use Rattle.cg_collect.proofs.weak.loses.Goals as goal
 
 pub is_condemned-requires : goal.is_condemned-requires
@@ -12,18 +12,14 @@ is_condemned-requires g c = (refers_live c.args.heap.now c.sound.ensures.rows c.
 pub returns-then-is_condemned : goal.returns-then-is_condemned
 returns-then-is_condemned g c =
     c.if-is_condemned.true
-    ∙ sym (loses-at c.args.heap.now c.args.weak c.requires
-    ∙ ap (λ k. unwrap_or (option_map (λ o. is_condemned_in (objects_of c.args.heap.now) o || is_condemned_in (objects_of c.args.heap.now) c.args.weak) k) false) (sym c.in-Some.ensures)
+    ∙ sym (loses-some c.args.profile c.args.heap.now c.args.weak c.requires c.in-Some.referent (sym c.in-Some.ensures) (sym c.is_lost_early.ensures ∙ c.if-is_lost_early.true)
     ∙ ap (λ b. b || is_condemned_in (objects_of c.args.heap.now) c.args.weak) (sym c.is_condemned.ensures ∙ c.if-is_condemned.true))
 
 pub returns-else-is_condemned : goal.returns-else-is_condemned
 returns-else-is_condemned g c =
     c.is_condemned-else-is_condemned.ensures
-    ∙ sym (loses-at c.args.heap.now c.args.weak c.requires
-    ∙ ap (λ k. unwrap_or (option_map (λ o. is_condemned_in (objects_of c.args.heap.now) o || is_condemned_in (objects_of c.args.heap.now) c.args.weak) k) false) (sym c.in-Some.ensures)
+    ∙ sym (loses-some c.args.profile c.args.heap.now c.args.weak c.requires c.in-Some.referent (sym c.in-Some.ensures) (sym c.is_lost_early.ensures ∙ c.if-is_lost_early.true)
     ∙ ap (λ b. b || is_condemned_in (objects_of c.args.heap.now) c.args.weak) (sym c.is_condemned.ensures ∙ c.if-is_condemned.false))
 
 pub returns-in-None : goal.returns-in-None
-returns-in-None g c =
-    sym (loses-at c.args.heap.now c.args.weak c.requires
-    ∙ ap (λ k. unwrap_or (option_map (λ o. is_condemned_in (objects_of c.args.heap.now) o || is_condemned_in (objects_of c.args.heap.now) c.args.weak) k) false) (sym c.in-None.ensures))
+returns-in-None g c = sym (loses-none c.args.profile c.args.heap.now c.args.weak c.requires (sym c.in-None.ensures))

@@ -11,7 +11,7 @@ pub returns-in-Some-clause-steps : goal.returns-in-Some-clause-steps
 returns-in-Some-clause-steps g c = gives_up-steps c.args.script.now c.args.policy.now c.args.self.now c.args.heap.now c.give_up.new.self c.give_up.new.heap c.in-Some.answer c.requires.ready.gives_up c.in-Some.ensures.some
 
 pub returns-in-Some-clause-ready : goal.returns-in-Some-clause-ready
-returns-in-Some-clause-ready g c = gives_up-ready c.args.self.now c.args.heap.now c.give_up.new.self c.give_up.new.heap c.in-Some.answer c.requires.ready.gives_up c.in-Some.ensures.some c.requires.ready
+returns-in-Some-clause-ready g c = gives_up-ready c.args.self.now c.args.heap.now c.give_up.new.self c.give_up.new.heap c.in-Some.answer c.requires.ready.gives_up c.in-Some.ensures.some c.args.script.now c.requires.ready
 
 pub returns-in-Some-clause-falls : goal.returns-in-Some-clause-falls
 returns-in-Some-clause-falls g c = gives_up-falls c.args.self.now c.args.heap.now c.give_up.new.self c.give_up.new.heap c.in-Some.answer c.requires.ready.gives_up c.in-Some.ensures.some
@@ -19,12 +19,17 @@ returns-in-Some-clause-falls g c = gives_up-falls c.args.self.now c.args.heap.no
 pub turn-turn-requires-clause-generation : goal.turn-turn-requires-clause-generation
 turn-turn-requires-clause-generation g c =
     let same = c.in_default.ensures.none in
-    (still_ready c.args.self.now c.give_up.new.self c.args.heap.now c.give_up.new.heap same.0 same.1 same.2 c.requires.ready).generation
+    (still_ready c.args.self.now c.give_up.new.self c.args.heap.now c.give_up.new.heap same.0 same.1 same.2 c.args.script.now c.requires.ready).generation
 
 pub turn-turn-requires-clause-ready : goal.turn-turn-requires-clause-ready
 turn-turn-requires-clause-ready g c =
     let same = c.in_default.ensures.none in
-    (still_ready c.args.self.now c.give_up.new.self c.args.heap.now c.give_up.new.heap same.0 same.1 same.2 c.requires.ready).phase
+    (still_ready c.args.self.now c.give_up.new.self c.args.heap.now c.give_up.new.heap same.0 same.1 same.2 c.args.script.now c.requires.ready).phase
+
+pub turn-turn-requires-clause-walk : goal.turn-turn-requires-clause-walk
+turn-turn-requires-clause-walk g c =
+    let same = c.in_default.ensures.none in
+    (still_ready c.args.self.now c.give_up.new.self c.args.heap.now c.give_up.new.heap same.0 same.1 same.2 c.args.script.now c.requires.ready).walk
 
 pub turn-turn-requires-clause-few : goal.turn-turn-requires-clause-few
 turn-turn-requires-clause-few g c = subst HasFewHolds (sym c.in_default.ensures.none.1) c.requires.few
@@ -42,7 +47,7 @@ returns-clause-steps g c =
 pub returns-clause-ready : goal.returns-clause-ready
 returns-clause-ready g c =
     let same = c.in_default.ensures.none in
-    turned-ready c.args.self.now c.give_up.new.self c.args.heap.now c.give_up.new.heap same.0 same.1 same.2 c.turn-turn.result c.turn-turn.new.heap c.requires.ready c.turn-turn.ensures.ready c.turn-turn.ensures.leaves
+    turned-ready c.args.self.now c.give_up.new.self c.args.heap.now c.give_up.new.heap same.0 same.1 same.2 c.turn-turn.result c.turn-turn.new.heap c.args.script.now c.requires.ready c.turn-turn.ensures.ready c.turn-turn.ensures.walk c.turn-turn.ensures.leaves
 
 pub returns-clause-falls : goal.returns-clause-falls
 returns-clause-falls g c =

@@ -1,13 +1,16 @@
 use Rattle.std.proofs.Common.{◌+◌, ◌<◌, ◌≤◌, ℕ, [], ◌∷◌, inl, inr, subst, sym, arith}
+use Rattle.cg_machine.specs.Program.{profile_of}
 use Rattle.cg_graph.specs.Store.{Store, outside_of}
 use Rattle.cg_death.specs.Activities.{HasHolds}
 use Rattle.cg_machine.proofs.Representing.{occurrences-one}
 use Rattle.cg_collect.specs.declared.phase.Phase.{Phase}
-use Rattle.cg_collect.specs.Ready.{IsReadyAt}
+use Rattle.cg_collect.specs.declared.phase.Turn.{Turn}
+use Rattle.cg_collect.specs.Ready.{IsReadyAt, IsWalk, HasItsWalk}
 use Rattle.cg_collect.specs.Turns.{TurnSteps, TurnFalls, TurnLeaves}
 use Rattle.cg_collect.specs.Looks.{most_looks}
 use Rattle.cg_collect.specs.Collections.{facts_of, own_holds_at}
 use Rattle.cg_collect.proofs.GivingUp.{turn-over}
+use Rattle.cg_collect.proofs.Stepping.{walk_past}
 use Rattle.cg_collect.proofs.Keeping.{keeps_all}
 use Rattle.cg_collect.proofs.collection.Collection.turn.Goals as goal
 
@@ -21,6 +24,9 @@ returns-in-Start-clause-steps g c =
 pub returns-in-Start-clause-falls : goal.returns-in-Start-clause-falls
 returns-in-Start-clause-falls g c = subst (λ (p : Phase). TurnFalls c.args.heap.now p c.start.new.heap c.start.result) (sym c.in-Start.is) (c.start.ensures.falls)
 
+pub returns-in-Start-clause-walk : goal.returns-in-Start-clause-walk
+returns-in-Start-clause-walk g c = c.start.ensures.walk (profile_of c.args.script.now.items)
+
 pub returns-in-Start-clause-leaves : goal.returns-in-Start-clause-leaves
 returns-in-Start-clause-leaves g c = inl (subst (λ (p : Phase). TurnLeaves c.args.heap.now p c.start.new.heap c.start.result) (sym c.in-Start.is) (c.start.ensures.leaves))
 
@@ -33,6 +39,9 @@ returns-in-Sizes-clause-steps g c =
 
 pub returns-in-Sizes-clause-falls : goal.returns-in-Sizes-clause-falls
 returns-in-Sizes-clause-falls g c = subst (λ (p : Phase). TurnFalls c.args.heap.now p c.args.heap.now c.tell_sizes.result) (sym c.in-Sizes.is) (c.tell_sizes.ensures.falls)
+
+pub returns-in-Sizes-clause-walk : goal.returns-in-Sizes-clause-walk
+returns-in-Sizes-clause-walk g c = c.tell_sizes.ensures.walk (profile_of c.args.script.now.items)
 
 pub returns-in-Sizes-clause-leaves : goal.returns-in-Sizes-clause-leaves
 returns-in-Sizes-clause-leaves g c = inl (subst (λ (p : Phase). TurnLeaves c.args.heap.now p c.args.heap.now c.tell_sizes.result) (sym c.in-Sizes.is) (c.tell_sizes.ensures.leaves))
@@ -50,15 +59,26 @@ returns-in-Telling-clause-ready g c = c.tell_condemned.ensures.ready c.args.self
 pub returns-in-Telling-clause-falls : goal.returns-in-Telling-clause-falls
 returns-in-Telling-clause-falls g c = subst (λ (p : Phase). TurnFalls c.args.heap.now p c.args.heap.now c.tell_condemned.result) (sym c.in-Telling.is) (c.tell_condemned.ensures.falls)
 
+pub returns-in-Telling-clause-walk : goal.returns-in-Telling-clause-walk
+returns-in-Telling-clause-walk g c = c.tell_condemned.ensures.walk (profile_of c.args.script.now.items)
+
 pub returns-in-Telling-clause-leaves : goal.returns-in-Telling-clause-leaves
 returns-in-Telling-clause-leaves g c = inl (subst (λ (p : Phase). TurnLeaves c.args.heap.now p c.args.heap.now c.tell_condemned.result) (sym c.in-Telling.is) (c.tell_condemned.ensures.leaves))
 
 pub clear_one-requires-clause-ready : goal.clear_one-requires-clause-ready
 clear_one-requires-clause-ready g c = subst (IsReadyAt c.args.heap.now c.args.self.now.generation) c.in-WeakClearing.is c.requires.ready
 
+pub clear_one-requires-clause-walk : goal.clear_one-requires-clause-walk
+clear_one-requires-clause-walk g c =
+    subst (λ profile. IsWalk profile c.args.heap.now c.in-WeakClearing.member c.in-WeakClearing.weak) (sym c.profile.ensures)
+    (subst (HasItsWalk (profile_of c.args.script.now.items) c.args.heap.now) c.in-WeakClearing.is c.requires.walk)
+
+pub returns-in-WeakClearing-clause-walk : goal.returns-in-WeakClearing-clause-walk
+returns-in-WeakClearing-clause-walk g c = subst (λ profile. HasItsWalk profile c.clear_one.new.heap c.clear_one.result.phase) c.profile.ensures c.clear_one.ensures.walk
+
 pub returns-in-WeakClearing-clause-steps : goal.returns-in-WeakClearing-clause-steps
 returns-in-WeakClearing-clause-steps g c =
-    subst (λ (p : Phase). TurnSteps c.args.script.now (facts_of c.args.self.now) p c.args.heap.now c.args.policy.now c.clear_one.new.heap c.args.policy.now c.clear_one.result) (sym c.in-WeakClearing.is) (c.clear_one.ensures.steps c.args.script.now (facts_of c.args.self.now) c.args.policy.now)
+    subst (λ (p : Phase). TurnSteps c.args.script.now (facts_of c.args.self.now) p c.args.heap.now c.args.policy.now c.clear_one.new.heap c.args.policy.now c.clear_one.result) (sym c.in-WeakClearing.is) (c.clear_one.ensures.steps c.args.script.now (sym c.profile.ensures) (facts_of c.args.self.now) c.args.policy.now)
 
 pub returns-in-WeakClearing-clause-ready : goal.returns-in-WeakClearing-clause-ready
 returns-in-WeakClearing-clause-ready g c = c.clear_one.ensures.ready c.args.self.now.generation
@@ -183,6 +203,22 @@ returns-in-Detaching-clause-falls g c = subst (λ (p : Phase). TurnFalls c.args.
 
 pub returns-in-Detaching-clause-leaves : goal.returns-in-Detaching-clause-leaves
 returns-in-Detaching-clause-leaves g c = inl (subst (λ (p : Phase). TurnLeaves c.args.heap.now p c.detach_one.new.heap c.detach_one.result) (sym c.in-Detaching.is) (c.detach_one.ensures.leaves))
+
+pub unlink_one-requires : goal.unlink_one-requires
+unlink_one-requires g c = record { ready = subst (IsReadyAt c.args.heap.now c.args.self.now.generation) c.in-Unlinking.is c.requires.ready }
+
+pub returns-in-Unlinking-clause-steps : goal.returns-in-Unlinking-clause-steps
+returns-in-Unlinking-clause-steps g c =
+    subst (λ (p : Phase). TurnSteps c.args.script.now (facts_of c.args.self.now) p c.args.heap.now c.args.policy.now c.unlink_one.new.heap c.args.policy.now c.unlink_one.result) (sym c.in-Unlinking.is) (c.unlink_one.ensures.steps c.args.script.now (facts_of c.args.self.now) c.args.policy.now)
+
+pub returns-in-Unlinking-clause-ready : goal.returns-in-Unlinking-clause-ready
+returns-in-Unlinking-clause-ready g c = c.unlink_one.ensures.ready c.args.self.now.generation
+
+pub returns-in-Unlinking-clause-falls : goal.returns-in-Unlinking-clause-falls
+returns-in-Unlinking-clause-falls g c = subst (λ (p : Phase). TurnFalls c.args.heap.now p c.unlink_one.new.heap c.unlink_one.result) (sym c.in-Unlinking.is) (c.unlink_one.ensures.falls)
+
+pub returns-in-Unlinking-clause-leaves : goal.returns-in-Unlinking-clause-leaves
+returns-in-Unlinking-clause-leaves g c = inl (subst (λ (p : Phase). TurnLeaves c.args.heap.now p c.unlink_one.new.heap c.unlink_one.result) (sym c.in-Unlinking.is) (c.unlink_one.ensures.leaves))
 
 pub take_turn-requires-clause-ready : goal.take_turn-requires-clause-ready
 take_turn-requires-clause-ready g c = subst (IsReadyAt c.args.heap.now c.args.self.now.generation) c.in-Turns.is c.requires.ready
@@ -326,3 +362,55 @@ returns-in-Start-clause-looks g c = subst (λ (p : Phase). c.start.new.steps ≤
 
 pub returns-in-Split-clause-looks : goal.returns-in-Split-clause-looks
 returns-in-Split-clause-looks g c = subst (λ (p : Phase). c.detect.new.steps ≤ c.args.steps.now + most_looks c.args.self.now.generation p c.args.heap.now) (sym c.in-Split.is) c.detect.ensures.looks
+
+-- past the weak phase
+pub returns-in-WeakCalling-clause-walk : goal.returns-in-WeakCalling-clause-walk
+returns-in-WeakCalling-clause-walk g c = walk_past (profile_of c.args.script.now.items) c.call_one.new.heap c.call_one.result.phase (omega (arith, (c.call_one.ensures.leaves).onward))
+
+pub returns-in-AfterCallback-clause-walk : goal.returns-in-AfterCallback-clause-walk
+returns-in-AfterCallback-clause-walk g c = walk_past (profile_of c.args.script.now.items) c.args.heap.now c.after_callback.result.phase (omega (arith, (c.after_callback.ensures.leaves c.args.heap.now c.args.self.now.generation (subst (IsReadyAt c.args.heap.now c.args.self.now.generation) c.in-AfterCallback.is c.requires.ready)).onward))
+
+pub returns-in-AfterRelease-clause-walk : goal.returns-in-AfterRelease-clause-walk
+returns-in-AfterRelease-clause-walk g c = walk_past (profile_of c.args.script.now.items) c.after_release.new.heap c.after_release.result.phase (omega (arith, (c.after_release.ensures.leaves).onward))
+
+pub returns-in-Finalizing-clause-walk : goal.returns-in-Finalizing-clause-walk
+returns-in-Finalizing-clause-walk g c = walk_past (profile_of c.args.script.now.items) c.look_at_one.new.heap c.look_at_one.result.phase (omega (arith, (c.look_at_one.ensures.leaves).onward))
+
+pub returns-in-AfterFinalizing-clause-walk : goal.returns-in-AfterFinalizing-clause-walk
+returns-in-AfterFinalizing-clause-walk g c = walk_past (profile_of c.args.script.now.items) c.args.heap.now c.after_finalizer.result.phase (omega (arith, (c.after_finalizer.ensures.leaves c.args.heap.now).onward))
+
+pub returns-in-Split-clause-walk : goal.returns-in-Split-clause-walk
+returns-in-Split-clause-walk g c = walk_past (profile_of c.args.script.now.items) c.detect.new.heap c.detect.result.phase (omega (arith, (c.detect.ensures.leaves).onward))
+
+pub returns-in-Living-clause-walk : goal.returns-in-Living-clause-walk
+returns-in-Living-clause-walk g c = walk_past (profile_of c.args.script.now.items) c.args.heap.now c.tell_living.result.phase (omega (arith, (c.tell_living.ensures.leaves).onward))
+
+pub returns-in-Detaching-clause-walk : goal.returns-in-Detaching-clause-walk
+returns-in-Detaching-clause-walk g c = walk_past (profile_of c.args.script.now.items) c.detach_one.new.heap c.detach_one.result.phase (omega (arith, (c.detach_one.ensures.leaves).onward))
+
+pub returns-in-Unlinking-clause-walk : goal.returns-in-Unlinking-clause-walk
+returns-in-Unlinking-clause-walk g c = walk_past (profile_of c.args.script.now.items) c.unlink_one.new.heap c.unlink_one.result.phase (omega (arith, (c.unlink_one.ensures.leaves).onward))
+
+pub returns-in-Turns-clause-walk : goal.returns-in-Turns-clause-walk
+returns-in-Turns-clause-walk g c = walk_past (profile_of c.args.script.now.items) c.take_turn.new.heap c.take_turn.result.phase (omega (arith, (c.take_turn.ensures.leaves).onward))
+
+pub returns-in-Turn-clause-walk : goal.returns-in-Turn-clause-walk
+returns-in-Turn-clause-walk g c = walk_past (profile_of c.args.script.now.items) c.empty_one.new.heap c.empty_one.result.phase (omega (arith, (c.empty_one.ensures.leaves).onward))
+
+pub returns-in-AfterTurn-clause-walk : goal.returns-in-AfterTurn-clause-walk
+returns-in-AfterTurn-clause-walk g c = walk_past (profile_of c.args.script.now.items) c.after_turn.new.heap c.after_turn.result.phase (omega (arith, (c.after_turn.ensures.leaves).onward))
+
+pub returns-in-Ending-clause-walk : goal.returns-in-Ending-clause-walk
+returns-in-Ending-clause-walk g c = walk_past (profile_of c.args.script.now.items) c.end.new.heap c.end.result.phase (omega (arith, (c.end.ensures.leaves).onward))
+
+pub returns-in-Uncollectable-clause-walk : goal.returns-in-Uncollectable-clause-walk
+returns-in-Uncollectable-clause-walk g c = walk_past (profile_of c.args.script.now.items) c.args.heap.now c.tell_uncollectable.result.phase (omega (arith, (c.tell_uncollectable.ensures.leaves).onward))
+
+pub returns-in-Saved-clause-walk : goal.returns-in-Saved-clause-walk
+returns-in-Saved-clause-walk g c = walk_past (profile_of c.args.script.now.items) c.args.heap.now c.tell_saved.result.phase (omega (arith, (c.tell_saved.ensures.leaves).onward))
+
+pub returns-in-Stopping-clause-walk : goal.returns-in-Stopping-clause-walk
+returns-in-Stopping-clause-walk g c = walk_past (profile_of c.args.script.now.items) c.args.heap.now c.tell_end.result.phase (omega (arith, (c.tell_end.ensures.leaves c.args.heap.now).onward))
+
+pub returns-in-Over-clause-walk : goal.returns-in-Over-clause-walk
+returns-in-Over-clause-walk g c = subst (λ (t : Turn). HasItsWalk (profile_of c.args.script.now.items) c.args.heap.now t.phase) (sym c.answers.ensures) tt
