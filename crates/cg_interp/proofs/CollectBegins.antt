@@ -43,6 +43,7 @@ none_at_start script asked d (phase_of.Sizes zero one two frozen) pending store 
 none_at_start script asked d (phase_of.Telling next) pending store is = absurd (cc)
 none_at_start script asked d (phase_of.Living next) pending store is = absurd (cc)
 none_at_start script asked d (phase_of.Detaching next) pending store is = absurd (cc)
+none_at_start script asked d (phase_of.Unlinking member weak) pending store is = absurd (cc)
 none_at_start script asked d (phase_of.Uncollectable first next number) pending store is = absurd (cc)
 none_at_start script asked d (phase_of.Saved next number) pending store is = absurd (cc)
 none_at_start script asked d (phase_of.Stopping number) pending store is = absurd (cc)
@@ -61,7 +62,7 @@ module _ (script : Script) (asked : Bool) (g : ℕ) (top : Own) (e : State) (w :
   clear_before budget sound kept = clear_at_start e.store (push (new_collection g asked w) w) sound stands.represents.objects kept.apart begins_as (inl refl) refl
 
   -- the engine in which it has begun
-  pub begins : (d : Collection) (mid : State) → e.policy.running ≡ false → mid.activities ≡ top ∷ e.activities → mid.budget ≡ e.budget → CollectionShows asked d mid.store mid.policy (push (new_collection g asked w) w) w.stack → IsReady d mid.store
+  pub begins : (d : Collection) (mid : State) → e.policy.running ≡ false → mid.activities ≡ top ∷ e.activities → mid.budget ≡ e.budget → CollectionShows asked d mid.store mid.policy (push (new_collection g asked w) w) w.stack → IsReady script d mid.store
       → Collects script asked d mid [] (push (new_collection g asked w) w)
   begins d mid idle activities budget shows ready = record {
     below = w.stack;

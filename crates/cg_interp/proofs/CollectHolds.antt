@@ -40,6 +40,7 @@ use Rattle.cg_interp.proofs.CollectReady.{phase_there}
 nodes_after : (p : Phase) (store : Store) → (store_after p store).nodes ≡ store.nodes
 nodes_after (phase_of.Living next) store = refl
 nodes_after (phase_of.Detaching next) store = refl
+nodes_after (phase_of.Unlinking member weak) store = refl
 nodes_after p store = refl
 
 outside_after : (p : Phase) (store : Store) (s : ℕ) → outside_of (store_after p store) s ≡ outside_of store s
@@ -86,6 +87,7 @@ objects_after p store w r = ap length (sym r.objects) ∙ each p
     each : (p : Phase) → length (objects_of (store_after p store)) ≡ length (objects_of store)
     each (phase_of.Living next) = entries (store_after (phase_of.Living next) store).rows store.rows (fin.entries store.nodes)
     each (phase_of.Detaching next) = entries (store_after (phase_of.Detaching next) store).rows store.rows (fin.entries store.nodes)
+    each (phase_of.Unlinking member weak) = entries (store_after (phase_of.Unlinking member weak) store).rows store.rows (fin.entries store.nodes)
     each p = refl
 
 -- There is room on the stack, above what lies below a collection.

@@ -39,14 +39,14 @@ abbrev pub engine_of : Store → Policy → Stacked → ℕ → ℕ → State
 engine_of store policy stack budget frames = record { store = store; policy = policy; activities = stack.activities; room = stack.room; budget = budget; frames = frames }
 
 -- what a step of a collection wants
-pub record MayStep (c : Collection) (e : State) : Type 0 where
+pub record MayStep (script : Script) (c : Collection) (e : State) : Type 0 where
   pub few : HasFewHolds e.store
   pub held : HasHolds e.store (held_by c)
-  pub ready : IsReady c e.store
+  pub ready : IsReady script c e.store
   pub small : AreSmall e.policy.numbers
 
 module _ (script : Script) (asked : Bool) (c : Collection) (e : State) where
-  pub may_step : CollectsNext script asked c e → IsSound e.store → IsSpelled script → e.frames ≤ 100000 → MayStep c e
+  pub may_step : CollectsNext script asked c e → IsSound e.store → IsSpelled script → e.frames ≤ 100000 → MayStep script c e
   may_step (w, left, k, stays) sound spelled low =
       let kept : IsKept script e.frames w = stays [] tt in
       record {
@@ -71,10 +71,10 @@ module _ (script : Script) (asked : Bool) (c : Collection) (e : State) where
       subst (λ l. CollectAnswer script asked w k.below l d new.store new.policy answer) (sym k.lines) (steps asked w k.below (stands_for_step script asked c e left w k kept))
 
   module _ (d : Collection) (mid : State) (top : mid.activities ≡ activity.Collecting asked d ∷ e.activities) (budget : mid.budget ≡ e.budget) where
-    pub turns_quietly : IsReady d mid.store → IsBegun d.phase → CollectFalls c e.store d mid.store → CollectSteps script c e.store e.policy d mid.store mid.policy answer_of.Continue → CollectTurns script asked c e mid turned.Quiet
+    pub turns_quietly : IsReady script d mid.store → IsBegun d.phase → CollectFalls c e.store d mid.store → CollectSteps script c e.store e.policy d mid.store mid.policy answer_of.Continue → CollectTurns script asked c e mid turned.Quiet
     turns_quietly ready begun falls steps w left k stays = goes_on_quietly script asked c e left w k d mid top budget ready begun falls (answered left w k (stays [] tt) d mid answer_of.Continue steps)
 
-    pub turns_telling : (event : Event) → IsReady d mid.store → IsBegun d.phase → CollectSteps script c e.store e.policy d mid.store mid.policy (answer_of.Emit event) → CollectTurns script asked c e mid (turned.Line event)
+    pub turns_telling : (event : Event) → IsReady script d mid.store → IsBegun d.phase → CollectSteps script c e.store e.policy d mid.store mid.policy (answer_of.Emit event) → CollectTurns script asked c e mid (turned.Line event)
     turns_telling event ready begun steps w left k stays = goes_on_telling script asked c e left w k d mid top budget ready begun event (answered left w k (stays [] tt) d mid (answer_of.Emit event) steps)
 
     -- a frame

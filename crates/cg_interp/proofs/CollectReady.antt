@@ -27,12 +27,14 @@ use Rattle.cg_collect.specs.declared.collection.Collection.{Collection}
 use Rattle.cg_collect.specs.declared.phase.Phase.{Phase}
 use Rattle.cg_collect.specs.declared.phase.Phase.TheVariants as phase_of
 use Rattle.cg_collect.specs.Phases.{machine_phase, collection_of, collecting, released_over, shown_with, on_stack}
-use Rattle.cg_collect.specs.Ready.{IsClear, IsApart as IsSetApart, IsApartUnseen, IsEmptyAt, IsUnsaved, IsReadyAt, HasFewCollected, SparesGarbageList, MayRun}
+use Rattle.cg_collect.specs.Ready.{IsClear, IsApart as IsSetApart, IsApartUnseen, IsEmptyAt, IsUnsaved, IsReadyAt, HasFewCollected, SparesGarbageList, MayRun, HasItsWalk}
 use Rattle.cg_collect.specs.Collections.{IsReady}
 use Rattle.cg_collect.proofs.Standing.{object_there, node_of_live, empty_at}
 use Rattle.cg_interp.specs.Engines.{HasHandedOut}
 use Rattle.cg_inspect.specs.Inspection.{IsIdle}
 use Rattle.cg_machine.specs.Holdings.{is_collecting}
+use Rattle.cg_script.specs.declared.Script.{Script}
+use Rattle.cg_machine.specs.Program.{profile_of}
 
 -- what a collection of the stack waits with is among all that waits
 waits_among : (stack : List Activity) (c : machine.Collection) (q : ℕ) → Includes stack (Collecting c) → Includes (collection_waits c.phase) q → Includes (all_waits stack) q
@@ -191,6 +193,11 @@ phase_there (phase_of.Turn o) pending runs = (machine.Turn o, refl)
 phase_there (phase_of.AfterTurn o) pending runs = (machine.AfterTurn o, refl)
 phase_there p pending runs = absurd runs
 
+-- such a phase is no walk
+no_walk : (profile : ℕ) (p : Phase) (store : Store) → MayRun p → HasItsWalk profile store p
+no_walk profile (phase_of.WeakClearing member weak) store runs = absurd runs
+no_walk profile p store runs = tt
+
 -- the collection is among what is shown, with what it gives up above it
 pub shown_there : (asked : Bool) (c : Collection) (pending : List ℕ) (q : machine.CollectPhase) → machine_phase c.phase pending ≡ Some q → Includes (shown_with asked c pending) (Collecting (collection_of asked c q))
 shown_there asked c pending q is = subst (λ x. Includes (released_over c.release (collecting asked c x)) (Collecting (collection_of asked c q))) (sym is) (by c.release)
@@ -200,12 +207,12 @@ shown_there asked c pending q is = subst (λ x. Includes (released_over c.releas
     by (Some r) = inr (inl refl)
 
 -- After a frame or a death a collection stands for what it stood for, by the heap as it is, and may take its next step.
-pub record Resumes (asked : Bool) (c : Collection) (store : Store) (tops : List Activity) : Type 0 where
+pub record Resumes (script : Script) (asked : Bool) (c : Collection) (store : Store) (tops : List Activity) : Type 0 where
   pub shown : tops ≡ on_stack asked c store
-  pub ready : IsReady c store
+  pub ready : IsReady script c store
 
-pub resumes : (asked : Bool) (c : Collection) (store : Store) (w : World) (tops below : List Activity) → IsSound store → Represents store w → IsApart w → IsOrderly w → HasHandedOut asked c tops → w.stack ≡ tops ++ below → Resumes asked c store tops
-resumes asked c store w tops below sound r apart orderly out top =
+pub resumes : (script : Script) (asked : Bool) (c : Collection) (store : Store) (w : World) (tops below : List Activity) → IsSound store → Represents store w → IsApart w → IsOrderly w → HasHandedOut asked c tops → w.stack ≡ tops ++ below → Resumes script asked c store tops
+resumes script asked c store w tops below sound r apart orderly out top =
     let then : Store = out.then in
     let h = out.handing in
     let (q, is) = phase_there c.phase (list_at then Pend) h.runs in
@@ -217,6 +224,7 @@ resumes asked c store w tops below sound r apart orderly out top =
       ready = record {
         generation = h.generation;
         phase = ready_again store w sound r.objects apart orderly (collection_of asked c q) on waits c.generation c.phase (list_at then Pend) h.runs h.spares is;
+        walk = no_walk (profile_of script.items) c.phase store h.runs;
         collected = few_again c.collected c.phase then store q h.runs is (out.waited q is) waits h.collected;
         gives_up = h.gives_up;
       };

@@ -45,6 +45,7 @@ use Rattle.cg_interp.proofs.CollectHolds.{count_same, count_own, none_counted, n
 pub store_in_run : (p : Phase) (store : Store) → MayRun p → store_after p store ≡ store
 store_in_run (phase_of.Living next) store runs = absurd runs
 store_in_run (phase_of.Detaching next) store runs = absurd runs
+store_in_run (phase_of.Unlinking member weak) store runs = absurd runs
 store_in_run p store runs = refl
 
 numbers_in_run : (p : Phase) (g : ℕ) (n : Numbers) → MayRun p → numbers_at p g n ≡ n
@@ -56,6 +57,7 @@ lines_in_run script asked c (phase_of.Sizes zero one two frozen) store runs = ab
 lines_in_run script asked c (phase_of.Telling next) store runs = absurd runs
 lines_in_run script asked c (phase_of.Living next) store runs = absurd runs
 lines_in_run script asked c (phase_of.Detaching next) store runs = absurd runs
+lines_in_run script asked c (phase_of.Unlinking member weak) store runs = absurd runs
 lines_in_run script asked c (phase_of.Uncollectable first next number) store runs = absurd runs
 lines_in_run script asked c (phase_of.Saved next number) store runs = absurd runs
 lines_in_run script asked c (phase_of.Stopping number) store runs = absurd runs
@@ -70,7 +72,7 @@ module _ (script : Script) (asked : Bool) (c : Collection) (e : State) (left : L
   came_back : IsSound e.store → IsKept script e.frames w → StandsFor script (under (activity.Collecting asked c) e) w → left ≡ [] → Collects script asked c e left w
   came_back sound kept stands none =
       let s : ShowsTop script (activity.Collecting asked c) (ShowsAll script e.activities) w.stack = stands.shows in
-      let again = resumes asked c e.store w s.tops s.below sound stands.represents kept.apart kept.lawful.orderly s.shows s.is in
+      let again = resumes script asked c e.store w s.tops s.below sound stands.represents kept.apart kept.lawful.orderly s.shows s.is in
       let runs = s.shows.handing.runs in
       record {
         below = s.below;
@@ -112,7 +114,7 @@ module _ (script : Script) (asked : Bool) (c : Collection) (e : State) (left : L
 
     -- the collection stays on top
     module _ (d : Collection) (new : State) (top : new.activities ≡ activity.Collecting asked d ∷ e.activities) (budget : new.budget ≡ e.budget) where
-      module _ (ready : IsReady d new.store) (begun : IsBegun d.phase) where
+      module _ (ready : IsReady script d new.store) (begun : IsBegun d.phase) where
         on_top : (told : List Event) (went : WentOn script asked w k.below left told d new.store new.policy) → StandsWith script new (lines_left script asked d d.phase new.store) went.after
         on_top told went = inr (record {
           asked = asked;

@@ -255,6 +255,7 @@ begun_numbers _ generation numbers begun = refl
 names_after : (phase : Phase) (store : Store) → (store_after phase store).names ≡ store.names
 names_after (phase_of.Living next) store = refl
 names_after (phase_of.Detaching next) store = refl
+names_after (phase_of.Unlinking member weak) store = refl
 names_after phase store = refl
 
 -- the number of a world for which an engine stands once its lines are told

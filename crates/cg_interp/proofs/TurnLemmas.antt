@@ -50,7 +50,7 @@ stands_alike script old new left w store policy activities budget stands = eithe
         budget = on_top.collects.budget ∙ sym budget;
         running = on_top.collects.running;
         alone = on_top.collects.alone;
-        ready = subst (IsReady on_top.collection) (sym store) on_top.collects.ready;
+        ready = subst (IsReady script on_top.collection) (sym store) on_top.collects.ready;
         lines = on_top.collects.lines ∙ ap (lines_left script on_top.asked on_top.collection on_top.collection.phase) (sym store);
       };
     }))

@@ -57,6 +57,7 @@ running_is_one asked c (phase_of.AfterFinalizing o) pending runs = refl
 running_is_one asked c phase_of.Split pending runs = absurd runs
 running_is_one asked c (phase_of.Living next) pending runs = absurd runs
 running_is_one asked c (phase_of.Detaching next) pending runs = absurd runs
+running_is_one asked c (phase_of.Unlinking member weak) pending runs = absurd runs
 running_is_one asked c phase_of.Turns pending runs = absurd runs
 running_is_one asked c (phase_of.Turn o) pending runs = refl
 running_is_one asked c (phase_of.AfterTurn o) pending runs = refl

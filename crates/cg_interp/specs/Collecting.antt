@@ -22,7 +22,7 @@ pub record Collects (script : Script) (asked : Bool) (c : Collection) (e : State
   pub budget : w.budget ≡ e.budget
   pub running : w.outcome ≡ Running
   pub alone : any_collecting e.activities ≡ false
-  pub ready : IsReady c e.store
+  pub ready : IsReady script c e.store
   pub lines : left ≡ lines_left script asked c c.phase e.store
 
 -- such a one is on top of an engine, and has taken its first step

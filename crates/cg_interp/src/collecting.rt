@@ -94,7 +94,7 @@ impl<B: Kind> Engine<B> {
         requires fit { IsFit script.now self.old }
         requires few { HasFewHolds self.old.store }
         requires held { HasHolds self.old.store (held_by collection) }
-        requires ready { IsReady collection self.old.store }
+        requires ready { IsReady script.now collection self.old.store }
         requires small { AreSmall self.old.policy.numbers }
         requires room { 1 < self.old.room }
         requires stands { CollectsNext script.now asked collection self.old }

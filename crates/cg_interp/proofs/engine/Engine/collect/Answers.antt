@@ -28,7 +28,7 @@ go_on_collecting-requires-clause-stands g c =
     let idle = subst (λ (s : State). s.policy.running ≡ false) (sym c.self.view_is) c.requires.idle in (
       push (new_collection c.args.generation c.args.asked w) w,
       [],
-      begins c.args.script.now c.args.asked c.args.generation c.args.top e w stands c.begin-collection.result mid idle c.push.ensures.top refl (c.begin-collection.ensures.begins c.args.asked w stands.represents stands.numbers) c.begin-collection.ensures.ready,
+      begins c.args.script.now c.args.asked c.args.generation c.args.top e w stands c.begin-collection.result mid idle c.push.ensures.top refl (c.begin-collection.ensures.begins c.args.asked w stands.represents stands.numbers) (c.begin-collection.ensures.ready c.args.script.now),
       stays,
     )
 
@@ -56,6 +56,9 @@ returns-clause-turns g c = λ w stood stayed.
     let idle = subst (λ (s : State). s.policy.running ≡ false) (sym c.self.view_is) c.requires.idle in
     let stays = subst (λ (s : State). StaysKept c.args.script.now s.frames after) (sym c.self.view_is) stayed in
     let k =
-    begins c.args.script.now c.args.asked c.args.generation c.args.top e w stands c.begin-collection.result mid idle c.push.ensures.top refl (c.begin-collection.ensures.begins c.args.asked w stands.represents stands.numbers) c.begin-collection.ensures.ready in
+    begins c.args.script.now c.args.asked c.args.generation c.args.top e w stands c.begin-collection.result mid idle c.push.ensures.top refl (c.begin-collection.ensures.begins c.args.asked w stands.represents stands.numbers) (c.begin-collection.ensures.ready c.args.script.now) in
     turns_freely c.args.script.now (Advances (under (activity.Collecting c.args.asked c.begin-collection.result) mid) [] c.go_on_collecting.new.self) after [] c.go_on_collecting.new.self c.go_on_collecting.result
     (c.go_on_collecting.ensures.turns after [] k stays)
+
+pub go_on_collecting-requires-clause-ready : goal.go_on_collecting-requires-clause-ready
+go_on_collecting-requires-clause-ready g c = c.begin-collection.ensures.ready c.args.script.now
