@@ -7,10 +7,10 @@
 In a program: `with gcrecord.Recorder(file): ..`.
 
 A record has the graph that the collector is about to see (the objects of the generations that are merged, with their
-in-degrees and their references to one another) and the set that it found, which its debug flags make it tell. Neither is
-to be disturbed by the recorder. So the graph is taken by the last callback of a collection's start, which is one call of
-a function in C over iterators in C: no bytecode runs in it, nor between it and the collection, so no other thread, no
-signal handler and no code of the program comes between. What is kept of an object is its address.
+in-degrees and their references to one another) and the set that it found, which its debug flags make it tell. Neither
+is to be disturbed by the recorder. So the graph is taken by the last callback of a collection's start, which is one
+call of a function in C over iterators in C: no bytecode runs in it, nor between it and the collection, so no other
+thread, no signal handler and no code of the program comes between. What is kept of an object is its address.
 
 The collector writes its lines to `sys.stderr`, and not to descriptor 2. So an object of ours stands there while a
 collection runs; what else is written to it goes on to the program's own.
@@ -27,7 +27,7 @@ import sys
 from array import array
 from collections import Counter
 from functools import partial
-from itertools import chain, count, islice, repeat
+from itertools import chain, count, islice, repeat, starmap
 from typing import Callable, Iterable, Iterator, NamedTuple, NoReturn, Self, TextIO
 
 # what gccheck reads at most
@@ -45,7 +45,10 @@ DEPTH = 30
 
 TOO_LARGE = "larger than what is left of the size limit"
 TOO_DEEP = "the calls were too near to the recursion limit"
+OVERLAPPED = "another collection began before it had ended"
+WITHIN = "it began before another had ended"
 NOT_TAKEN = "the graph could not be taken"
+DIED = "an object died while the graph was taken, where an audit hook lets other code run"
 FLAGS_SET = "the program set the debug flags meanwhile"
 NOT_LAST = "a callback of the program ran after the graph was taken"
 NOT_TOLD = "not all uncollectable objects were told"
@@ -60,40 +63,61 @@ class Snapshot:
 
     def __init__(self, generation: int) -> None:
         self.addresses = array("Q")
-        self.counts = array("Q")
-        # for each member 0, and then the addresses of its referents
-        self.referents = array("Q")
         # for each member the address of its type; and for each type its address, its name and its `tp_del`
         self.types = array("Q")
         self.kinds: list[int] = []
         self.names: list[str] = []
         self.legacy: list[int] = []
-        objects: list[object] = []
-        self.own = id(objects)
-        # kept, so that it is not among the members and alive by that alone
-        self.lists = map(gc.get_objects, range(generation + 1))
-        self.left = iter(self.steps(objects))
+        # for each member the address of a mark, and then those of its referents
+        self.referents = array("Q")
+        self.counts = array("Q")
+        mark = object()
+        self.mark = id(mark)
+        # iterators and what they are over, which would be alive by `objects` alone once these are at their end
+        self.kept: list[object] = []
+        self.left = iter(self.steps(generation, [], (mark,)))
         self.take = in_one_call(self.left)
 
-    def steps(self, objects: list[object]) -> tuple[Callable[[], None], ...]:
-        """The steps in turn. Each is a call in C; iterators over the lists see what earlier steps put there."""
+    def steps(
+        self, generation: int, objects: list[object], marker: tuple[object, ...]
+    ) -> tuple[Callable[[], None], ...]:
+        """The steps in turn. Each is a call in C; iterators over the lists see what earlier steps put there.
+
+        Some of the calls are told to hooks of `sys.addaudithook`, which the program may have: none from the visit to
+        the members on, whose hook runs before it. What is made meanwhile is no member: where nothing holds it, the
+        collector tells of it, and there is no record; else it is held, and what it refers to looks held from outside.
+        """
         kinds: dict[int, type] = {}
-        asked = map(instead_of_asyncio().get, map(id, objects), objects)
-        referents = map(map, repeat(id), map(gc.get_referents, asked))
+        visited = self.visit(objects, marker)
         slots = map(ctypes.c_size_t.from_address, map(operator.add, self.kinds, repeat(LEGACY_SLOT)))
         return (
-            partial(objects.extend, chain.from_iterable(self.lists)),
-            partial(self.counts.extend, map(sys.getrefcount, objects)),
+            partial(objects.extend, without([objects, marker, *self.kept], self.members(generation))),
             partial(self.addresses.extend, map(id, objects)),
-            partial(self.referents.extend, chain.from_iterable(map(chain, repeat((0,)), referents))),
             partial(self.types.extend, map(id, map(type, objects))),
             partial(kinds.update, zip(self.types, map(type, objects))),
             partial(self.kinds.extend, kinds),
             partial(self.names.extend, map(type.__repr__, map(kinds.get, self.kinds))),
-            partial(self.legacy.extend, map(operator.attrgetter("value"), slots)),
             kinds.clear,
+            partial(self.legacy.extend, map(operator.attrgetter("value"), slots)),
+            partial(self.referents.extend, map(id, visited)),
+            partial(self.counts.extend, map(sys.getrefcount, objects)),
             objects.clear,
         )
+
+    def members(self, generation: int) -> Iterator[object]:
+        """The objects of the generations that are merged."""
+        lists = map(gc.get_objects, range(generation + 1))
+        self.kept.append(lists)
+        return chain.from_iterable(lists)
+
+    def visit(self, objects: list[object], marker: tuple[object, ...]) -> Iterator[object]:
+        """For each object the contents of the marker, and its referents: all by one call of `gc.get_referents`."""
+        asked = map(instead_of_asyncio().get, map(id, objects), objects)
+        pairs = zip(repeat(marker), asked)
+        arguments = (chain.from_iterable(pairs),)
+        calls = starmap(gc.get_referents, arguments)
+        self.kept += [pairs, arguments, calls]
+        return chain.from_iterable(calls)
 
     def is_taken(self) -> bool:
         """Whether all steps were made; where one failed, the last, which lets go of the objects, is made now."""
@@ -102,26 +126,26 @@ class Snapshot:
             left[-1]()
         return not left
 
+    def has_dead(self) -> bool:
+        """Whether a member was held by the recorder alone: it has died since the members were listed."""
+        return OWN_REFERENCES in self.counts
+
     def graph(self) -> "Told":
         """The lines of the graph, with the serials of its members."""
         told = Told()
         marks = dict(zip(self.kinds, map(bool, self.legacy)))
         names = dict(zip(self.kinds, map(printable, self.names)))
         serials = told.serials
-        for address in self.addresses:
-            if address != self.own:
-                serials[address] = len(serials)
-        place, is_own = -1, False
+        for serial, address in enumerate(self.addresses):
+            serials[address] = serial
+        serial = -1
         for referent in self.referents:
-            if referent == 0:
-                place += 1
-                address, kind = self.addresses[place], self.types[place]
-                is_own = address == self.own
-                if not is_own:
-                    serial, degree = serials[address], self.counts[place] - OWN_REFERENCES
-                    told.lines.append(f"m {serial} {degree} {marks[kind]:d}\n")
-                    told.rows.append(f"{serial} {address:#x} {names[kind]}\n")
-            elif not is_own and referent in serials:
+            if referent == self.mark:
+                serial += 1
+                kind = self.types[serial]
+                told.lines.append(f"m {serial} {self.counts[serial] - OWN_REFERENCES} {marks[kind]:d}\n")
+                told.rows.append(f"{serial} {self.addresses[serial]:#x} {names[kind]}\n")
+            elif referent in serials:
                 told.lines.append(f"r {serials[referent]}\n")
         return told
 
@@ -139,6 +163,13 @@ class Told:
         self.rows: list[str] = []
         # for each address
         self.serials: dict[int, int] = {}
+
+
+def without(left_out: list[object], objects: Iterator[object]) -> Iterator[object]:
+    """All but these."""
+    for one in left_out:
+        objects = filter(partial(operator.is_not, one), objects)
+    return objects
 
 
 def instead_of_asyncio() -> dict[int, tuple[object, ...]]:
@@ -303,7 +334,9 @@ class Recorder:
         self.left_out: Counter[str] = Counter()
         self.process = os.getpid()
         self.first_callback: Callable[..., None] | None = None
+        # the collection that is recorded now, and the threads of those that have begun since
         self.collection: Collection | None = None
+        self.within: list[int] = []
 
     def __enter__(self) -> Self:
         self.first_callback = self.called
@@ -320,17 +353,37 @@ class Recorder:
     def called(self, phase: str, info: dict[str, int]) -> None:
         """The first callback of each collection."""
         try:
-            if phase == "start" and self.is_wanted(info["generation"]):
-                if has_room(DEPTH):
-                    self.collection = Collection(info["generation"])
-                else:
-                    self.left_out[TOO_DEEP] += 1
-            elif phase == "stop" and self.collection is not None:
-                collection = self.collection
-                self.give_back()
-                self.record(collection, info["uncollectable"])
+            if phase == "start":
+                self.begin(info["generation"])
+            else:
+                self.stop(info["uncollectable"])
         except BaseException as fault:
             self.failed(fault)
+
+    def begin(self, generation: int) -> None:
+        """A collection begins. CPython may begin one that was due while another, of any thread, is under way."""
+        collection = Collection(generation) if self.is_wanted(generation) else None
+        # no other thread can run between the question and its consequence
+        if self.collection is None and collection is not None:
+            self.collection = collection
+            if has_room(DEPTH):
+                collection.enter()
+            else:
+                self.collection = None
+                self.left_out[TOO_DEEP] += 1
+        elif self.collection is not None:
+            self.collection.is_overlapped = True
+            self.within.append(_thread.get_ident())
+            self.left_out[WITHIN] += collection is not None
+
+    def stop(self, uncollectable: int) -> None:
+        """A collection has ended: of those of this thread, the one that began last."""
+        thread, collection = _thread.get_ident(), self.collection
+        if thread in self.within:
+            self.within.remove(thread)
+        elif collection is not None and collection.thread == thread:
+            self.give_back()
+            self.record(collection, uncollectable)
 
     def is_wanted(self, generation: int) -> bool:
         """Whether a collection of the generation is to be recorded here: not in a process that was forked off."""
@@ -386,22 +439,26 @@ class Collection:
 
     def __init__(self, generation: int) -> None:
         self.generation = generation
+        self.thread = _thread.get_ident()
         self.snapshot = Snapshot(generation)
+        self.flags = self.flags_meanwhile = 0
+        self.stand: Stand | None = None
+        self.is_taken = self.is_last = True
+        self.flags_set = self.is_overlapped = False
+
+    def enter(self) -> None:
+        """Has the graph taken once all callbacks were called, and what is found told."""
         self.flags = gc.get_debug()
         self.flags_meanwhile = self.flags | TELLING
         self.stand = Stand(sys.stderr, self.flags)
-        self.is_taken = self.is_last = True
-        self.flags_set = False
-        try:
-            gc.callbacks.append(self.snapshot.take)
-            gc.set_debug(self.flags_meanwhile)
-            sys.stderr = self.stand
-        except BaseException:
-            self.leave()
-            raise
+        gc.callbacks.append(self.snapshot.take)
+        gc.set_debug(self.flags_meanwhile)
+        sys.stderr = self.stand
 
     def leave(self) -> None:
         """Gives the flags and `sys.stderr` back, where the program did not set its own."""
+        if self.stand is None:
+            return
         try:
             self.flags_set = gc.get_debug() != self.flags_meanwhile
             if not self.flags_set:
@@ -414,8 +471,12 @@ class Collection:
 
     def fault(self, uncollectable: int) -> str | None:
         """Why it can't be told what the collector saw and found."""
+        if self.is_overlapped:
+            return OVERLAPPED
         if not self.is_taken:
             return NOT_TAKEN
+        if self.snapshot.has_dead():
+            return DIED
         if self.flags_set:
             return FLAGS_SET
         if not self.is_last:
@@ -676,7 +737,9 @@ def arguments_of(words: list[str]) -> argparse.Namespace:
     parser.add_argument("--more-files", action="store_true", help="go on in OUT.2, OUT.3, .. where OUT is full")
     parser.add_argument("--no-objects", action="store_true", help="do not write OUT.objects, which --explain reads")
     parser.add_argument("out", metavar="OUT", help="the file of records")
-    parser.add_argument("rest", metavar="PROGRAM ARGS..", nargs=argparse.REMAINDER, help="or -m MODULE ARGS..; or VERDICT")
+    parser.add_argument(
+        "rest", metavar="PROGRAM ARGS..", nargs=argparse.REMAINDER, help="or -m MODULE ARGS..; with --explain a verdict"
+    )
     given = parser.parse_args(words)
     if not 0 < given.limit <= LIMIT:
         parser.error(f"the limit is at most {LIMIT}")

@@ -11,7 +11,7 @@ sys.path.insert(0, str(HERE.parent.parent / "python"))
 import cycles  # noqa: E402
 import gcrecord  # noqa: E402
 
-ROUNDS = 20
+ROUNDS = 18
 
 if __name__ == "__main__":
     with open(HERE / "collections.records", "w", encoding="ascii") as file:

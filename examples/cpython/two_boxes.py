@@ -1,7 +1,7 @@
 """Two boxes of the wrong type of `borrowing.c` share a label: its in-degree is below the references that are visited.
 
-With `1` as its word the program makes one box alone, and nothing is seen: the one reference that the box visits and does
-not own is as many as the one that the program has.
+With `1` as its word the program makes one box alone, and nothing is seen: the one reference that the box visits and
+does not own is as many as the one that the program has.
 """
 import gc
 import sys

@@ -8,7 +8,10 @@ OWN_LIST = "record 2; graph 1; m 2 1 0; r 2; lost 2; graph 2; m 2 1 0; r 2; lost
 # an instance with a legacy finalizer that held itself
 LEGACY = "record 2; graph 1; m 2 1 1; r 2; lost 2; legacy 2; graph 2; stop; end"
 # 1 is held from outside and refers to 2, which refers to 3; 4 and 5 refer to each other, and 5 to 3
-HELD = "record 0; graph 1; m 1 1 0; r 2; m 2 1 0; r 3; m 3 2 0; m 4 1 0; r 5; m 5 1 0; r 4; r 3; lost 5; lost 4; cut; end"
+HELD = (
+    "record 0; graph 1; m 1 1 0; r 2; m 2 1 0; r 3; m 3 2 0; m 4 1 0; r 5; m 5 1 0; r 4; r 3; "
+    "lost 5; lost 4; cut; end"
+)
 
 VERDICTS = [
     ("end", "yes 0"),

@@ -11,6 +11,8 @@ from .recording import CPYTHON, explained, record, run, verdict
 sys.path.insert(0, str(CPYTHON))
 from build import build  # noqa: E402
 
+# garbage
+OWN_LIST = "l = []; l.append(l); del l"
 # begins a program so that the next young collection has nothing of the start
 QUIET = "import gc, io, os, sys\ngc.disable()\ngc.collect()\n"
 
@@ -19,15 +21,17 @@ class Seen(unittest.TestCase):
     """Graphs and sets of known objects."""
 
     def test_a_list_that_holds_itself(self) -> None:
-        recorded = record(QUIET + "l = []; l.append(l); del l; gc.collect(0)")
+        recorded = record(QUIET + OWN_LIST + "; gc.collect(0)")
         graph = recorded.graphs[-1]
         self.assertEqual(recorded.all_right, recorded.verdict)
         (lost,) = graph.lost
         self.assertEqual(((lost, 1, False), [lost]), (graph.members[lost], graph.references[lost]))
 
     def test_in_degrees_and_repeated_references(self) -> None:
-        recorded = record(QUIET + "class C: pass\na = C(); b = a; l = [a, a, a]; print(hex(id(a)), hex(id(l))); gc.collect(0)")
-        members = {row.split()[1]: int(row.split()[0]) for row in recorded.objects.rpartition("graph ")[2].splitlines()[1:]}
+        program = "class C: pass\na = C(); b = a; l = [a, a, a]; print(hex(id(a)), hex(id(l))); gc.collect(0)"
+        recorded = record(QUIET + program)
+        rows = recorded.objects.rpartition("graph ")[2].splitlines()[1:]
+        members = {row.split()[1]: int(row.split()[0]) for row in rows}
         instance, holder = (members[address] for address in recorded.output.split())
         graph = recorded.graphs[-1]
         self.assertEqual(recorded.all_right, recorded.verdict)
@@ -58,14 +62,22 @@ class Seen(unittest.TestCase):
         self.assertGreater(len(recorded.graphs[-1].lost), 1)
 
     def test_what_a_callback_of_the_program_did_before(self) -> None:
-        program = "l = []; l.append(l); gc.callbacks.append(lambda phase, info: globals().pop('l', None)); gc.collect(0)"
+        program = "l = []; l.append(l); gc.callbacks.append(lambda p, i: globals().pop('l', None)); gc.collect(0)"
         recorded = record(QUIET + program)
         self.assertEqual((recorded.all_right, 1), (recorded.verdict, len(recorded.graphs[-1].lost)))
 
     def test_other_threads(self) -> None:
+        self.runs_beside("")
+
+    def test_other_threads_where_calls_are_told_to_a_hook(self) -> None:
+        self.runs_beside("sys.addaudithook(lambda name, arguments: None)")
+
+    def runs_beside(self, first: str) -> None:
+        """Collects while other threads change the graph."""
         recorded = record(
-            """
+            f"""
             import gc, sys, threading
+            {first}
             sys.setswitchinterval(1e-5)
             def change(shared=[]):
                 while not done:
@@ -79,7 +91,23 @@ class Seen(unittest.TestCase):
             for thread in threads: thread.join()
             """
         )
-        self.assertEqual(("", recorded.all_right), (recorded.message, recorded.verdict))
+        self.assertGreater(len(recorded.graphs), 0)
+        self.assertEqual(recorded.all_right, recorded.verdict)
+
+    def test_a_collection_within_another(self) -> None:
+        program = """
+class C:
+    def __del__(self):
+        self.sets = [{number} for number in range(50)]
+for _ in range(20):
+    c = C(); c.me = c; del c
+    gc.set_threshold(5); gc.enable()
+    x = [{1}, {2}, {3}, {4}, {5}, {6}, {7}, {8}, gc.collect()]
+    gc.set_threshold(700); gc.disable()
+"""
+        recorded = record(QUIET + program)
+        self.assertEqual(recorded.all_right, recorded.verdict)
+        self.assertIn("gcrecord: left out 20: another collection began before it had ended\n", recorded.message)
 
     def test_the_free_list_of_asyncio(self) -> None:
         program = "import asyncio, gc\nasync def run(): await asyncio.gather(*map(asyncio.sleep, [0] * 3))\n"
@@ -97,8 +125,8 @@ class Noticed(unittest.TestCase):
         return recorded.output + recorded.message
 
     def test_flags_and_callbacks_are_given_back(self) -> None:
-        program = "gc.collect(); sys.stderr.write('told'); print(gc.get_debug(), len(gc.callbacks), sys.stderr is sys.__stderr__)"
-        self.assertEqual("0 1 True\ntold", self.outcome(program))
+        program = "gc.collect(); print(gc.get_debug(), len(gc.callbacks), sys.stderr is sys.__stderr__)"
+        self.assertEqual("0 1 True\n", self.outcome(program))
 
     def test_a_replaced_stderr_gets_the_programs_own_lines(self) -> None:
         program = """
@@ -112,18 +140,18 @@ print(sys.stderr.getvalue())
         self.assertEqual("gone.\n", self.outcome(program))
 
     def test_no_stderr(self) -> None:
-        self.assertEqual("None\n", self.outcome("sys.stderr = None; l = []; l.append(l); del l; gc.collect(); print(sys.stderr)"))
+        self.assertEqual("None\n", self.outcome(f"sys.stderr = None; {OWN_LIST}; gc.collect(); print(sys.stderr)"))
 
     def test_lines_that_the_program_asked_for(self) -> None:
-        self.assertIn("gc: collectable <list 0x", self.outcome("gc.set_debug(2); l = []; l.append(l); del l; gc.collect()"))
-        self.assertEqual("", self.outcome("gc.set_debug(4); l = []; l.append(l); del l; gc.collect()"))
+        self.assertIn("gc: collectable <list 0x", self.outcome(f"gc.set_debug(2); {OWN_LIST}; gc.collect()"))
+        self.assertEqual("", self.outcome(f"gc.set_debug(4); {OWN_LIST}; gc.collect()"))
 
     def test_the_next_collection_comes_no_sooner(self) -> None:
         self.assertLess(int(self.outcome("gc.collect(); print(gc.get_count()[0])")), 10)
 
     def test_flags_that_a_finalizer_sets(self) -> None:
-        program = "class C:\n  def __del__(self): gc.set_debug(1)\nc = C(); c.me = c; del c; gc.collect(); print(gc.get_debug())"
-        outcome = self.outcome(program)
+        program = "class C:\n  def __del__(self): gc.set_debug(1)\nc = C(); c.me = c; del c; gc.collect()"
+        outcome = self.outcome(program + "; print(gc.get_debug())")
         self.assertTrue(outcome.startswith("1\n"), outcome)
         self.assertIn("gcrecord: left out 1: the program set the debug flags meanwhile", outcome)
 
@@ -132,8 +160,9 @@ print(sys.stderr.getvalue())
         self.assertIn("left out 1: a callback of the program ran after", self.outcome(program))
 
     def test_deep_calls(self) -> None:
-        program = "gc.set_threshold(1); gc.enable(); sys.unraisablehook = print\ndef f(n): l = [n]; l.append(l); return f(n + 1)\n"
-        recorded = record(QUIET + program + "try: f(0)\nexcept RecursionError: print('deep')", "--generation", 0)
+        program = "gc.set_threshold(1); gc.enable(); sys.unraisablehook = print\n"
+        calls = "def f(n): l = [n]; l.append(l); return f(n + 1)\n"
+        recorded = record(QUIET + program + calls + "try: f(0)\nexcept RecursionError: print('deep')", "--generation", 0)
         self.assertEqual(("deep", 0), (recorded.output.splitlines()[-1], recorded.status))
         self.assertEqual(recorded.all_right, recorded.verdict)
 
@@ -177,7 +206,8 @@ class Lines(unittest.TestCase):
     """The command line, and the context manager."""
 
     def test_a_program_runs_as_without(self) -> None:
-        recorded = record(QUIET + "print(__name__, sys.argv[0] == __file__, sys.path[0] == os.path.dirname(__file__)); sys.exit(7)")
+        program = "print(__name__, sys.argv[0] == __file__, sys.path[0] == os.path.dirname(__file__)); sys.exit(7)"
+        recorded = record(QUIET + program)
         self.assertEqual(("__main__ True True\n", 7), (recorded.output, recorded.status))
         recorded = record(QUIET + "1 / 0")
         self.assertEqual((1, recorded.all_right), (recorded.status, recorded.verdict))
@@ -199,7 +229,8 @@ class Lines(unittest.TestCase):
 
     def generations(self, program: str, *options: object) -> list[int]:
         """The generations of the collections that were recorded."""
-        return [int(line.split()[1]) for line in record(program, *options).text.splitlines() if line.startswith("record")]
+        lines = record(program, *options).text.splitlines()
+        return [int(line.split()[1]) for line in lines if line.startswith("record")]
 
     def test_a_record_that_has_no_room_is_left_out_whole(self) -> None:
         recorded = record(QUIET + "l = [[] for _ in range(1000)]; gc.collect(0); gc.collect(0)", "--limit", 10_000)
@@ -208,7 +239,8 @@ class Lines(unittest.TestCase):
         self.assertRegex(recorded.message, r"^gcrecord: left out \d+: larger than what is left of the size limit\n$")
 
     def test_more_files(self) -> None:
-        recorded = record(QUIET + "for _ in range(4): l = [[] for _ in range(1000)]; gc.collect(0)", "--limit", 30_000, "--more-files")
+        program = "for _ in range(4): l = [[] for _ in range(1000)]; gc.collect(0)"
+        recorded = record(QUIET + program, "--limit", 30_000, "--more-files")
         self.assertGreater(len(recorded.records), 1)
         self.assertGreaterEqual(sum(int(verdict(text).removeprefix("yes ")) for text in recorded.records), 4)
         self.assertTrue(all(len(text) <= 30_000 for text in recorded.records))
@@ -236,7 +268,10 @@ class Lines(unittest.TestCase):
 class Explained(unittest.TestCase):
     """What is said of a verdict."""
 
-    GRAPH = "record 1; graph 1; m 1 1 0; r 2; m 2 2 0; m 3 1 1; r 4; m 4 1 0; r 3; r 2; lost 3; lost 4; legacy 3; legacy 4; cut; end"
+    GRAPH = (
+        "record 1; graph 1; m 1 1 0; r 2; m 2 2 0; m 3 1 1; r 4; m 4 1 0; r 3; r 2; "
+        "lost 3; lost 4; legacy 3; legacy 4; cut; end"
+    )
 
     def said(self, code: int, *change: str) -> list[str]:
         """The lines on a fault that the change makes, without the heading."""
@@ -251,10 +286,14 @@ class Explained(unittest.TestCase):
             self.said(3, "m 2 2", "m 2 1"),
         )
         self.assertEqual(
-            ["  list at 0xb (serial 2) was found, but is held from outside: C at 0xa (serial 1) -> list at 0xb (serial 2)"],
+            [
+                "  list at 0xb (serial 2) was found, but is held from outside: "
+                "C at 0xa (serial 1) -> list at 0xb (serial 2)"
+            ],
             self.said(4, "lost 3", "lost 2; lost 3"),
         )
-        self.assertEqual(["  serial 3 was not found, but no path from outside leads to it"], self.said(4, "lost 3; ", ""))
+        said = self.said(4, "lost 3; ", "")
+        self.assertEqual(["  serial 3 was not found, but no path from outside leads to it"], said)
         self.assertEqual(
             ["  serial 4 was not set aside, but a legacy finalizer reaches it: serial 3 -> serial 4"],
             self.said(5, "legacy 4; ", ""),
@@ -282,7 +321,7 @@ class Examples(unittest.TestCase):
             one = record([Path(name, "two_boxes.py"), 1])
         self.assertEqual(f"no {len(two.graphs)} 3", two.verdict)
         said = explained(two.text, two.verdict, objects=two.objects)
-        self.assertRegex(said, r"\n  list at 0x\w+ \(serial \d+\): in-degree 1, but 2 references, of borrowing.Box at .*, borrowing.Box")
+        self.assertRegex(said, r"\n  list at 0x\w+ \(serial \d+\): in-degree 1, but 2 references, of borrowing.Box at ")
         self.assertEqual(one.all_right, one.verdict)
 
     def test_the_stored_records(self) -> None:
