@@ -374,7 +374,8 @@ class Recorder:
         elif self.collection is not None:
             self.collection.is_overlapped = True
             self.within.append(_thread.get_ident())
-            self.left_out[WITHIN] += collection is not None
+            if collection is not None:
+                self.left_out[WITHIN] += 1
 
     def stop(self, uncollectable: int) -> None:
         """A collection has ended: of those of this thread, the one that began last."""
