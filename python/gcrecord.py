@@ -757,13 +757,21 @@ class Files:
         self.out = os.path.abspath(out)
         self.objects = objects
         self.numbers = count(1)
+        self.opened: list[TextIO] = []
 
     def open(self) -> tuple[TextIO, TextIO | None]:
-        """The next file, and the one for its objects."""
+        """The next file, and the one for its objects; those before are closed."""
+        self.close()
         number = next(self.numbers)
         out = self.out if number == 1 else f"{self.out}.{number}"
-        objects = open(objects_beside(out), "w", encoding="ascii") if self.objects else None
-        return open(out, "w", encoding="ascii"), objects
+        names = [out, objects_beside(out)] if self.objects else [out]
+        self.opened = [open(name, "w", encoding="ascii") for name in names]
+        return self.opened[0], self.opened[1] if self.objects else None
+
+    def close(self) -> None:
+        """Closes what is open."""
+        for file in self.opened:
+            file.close()
 
 
 def run_program(words: list[str]) -> None:
@@ -792,6 +800,7 @@ def record(given: argparse.Namespace) -> NoReturn:
         with recorder:
             run_program(given.rest)
     finally:
+        files.close()
         for why, times in recorder.left_out.items():
             print(f"gcrecord: left out {times}: {why}", file=sys.__stderr__)
     sys.exit(0)
