@@ -33,13 +33,14 @@ from typing import Callable, Iterable, Iterator, NamedTuple, NoReturn, Self, Tex
 # what gccheck reads at most
 LIMIT = 67_108_864
 END = "end\n"
+# how the name of the file goes on that tells of the objects
+BESIDE = ".objects"
 TELLING = gc.DEBUG_COLLECTABLE | gc.DEBUG_UNCOLLECTABLE
 FOUND = re.compile(r"gc: (un)?collectable <.* 0x([0-9a-f]+)>\n", re.DOTALL)
 # a member's count has two references of the recorder: of its list, and of the iterator that hands it on
 OWN_REFERENCES = 2
 # where a type has its `tp_del`, which makes a legacy finalizer: after the head of the object, 44 words on
 LEGACY_SLOT = object.__basicsize__ + ctypes.sizeof(ctypes.c_ssize_t) + 44 * ctypes.sizeof(ctypes.c_void_p)
-
 # how deep the recorder's own calls go, with some to spare
 DEPTH = 30
 
@@ -74,13 +75,12 @@ class Snapshot:
         mark = object()
         self.mark = id(mark)
         # iterators and what they are over, which would be alive by `objects` alone once these are at their end
+        self.lists = map(gc.get_objects, range(generation + 1))
         self.kept: list[object] = []
-        self.left = iter(self.steps(generation, [], (mark,)))
+        self.left = iter(self.steps([], (mark,)))
         self.take = in_one_call(self.left)
 
-    def steps(
-        self, generation: int, objects: list[object], marker: tuple[object, ...]
-    ) -> tuple[Callable[[], None], ...]:
+    def steps(self, objects: list[object], marker: tuple[object, ...]) -> tuple[Callable[[], None], ...]:
         """The steps in turn. Each is a call in C; iterators over the lists see what earlier steps put there.
 
         Some of the calls are told to hooks of `sys.addaudithook`, which the program may have: none from the visit to
@@ -91,7 +91,7 @@ class Snapshot:
         visited = self.visit(objects, marker)
         slots = map(ctypes.c_size_t.from_address, map(operator.add, self.kinds, repeat(LEGACY_SLOT)))
         return (
-            partial(objects.extend, without([objects, marker, *self.kept], self.members(generation))),
+            partial(objects.extend, without([objects, marker, *self.kept], chain.from_iterable(self.lists))),
             partial(self.addresses.extend, map(id, objects)),
             partial(self.types.extend, map(id, map(type, objects))),
             partial(kinds.update, zip(self.types, map(type, objects))),
@@ -103,12 +103,6 @@ class Snapshot:
             partial(self.counts.extend, map(sys.getrefcount, objects)),
             objects.clear,
         )
-
-    def members(self, generation: int) -> Iterator[object]:
-        """The objects of the generations that are merged."""
-        lists = map(gc.get_objects, range(generation + 1))
-        self.kept.append(lists)
-        return chain.from_iterable(lists)
 
     def visit(self, objects: list[object], marker: tuple[object, ...]) -> Iterator[object]:
         """For each object the contents of the marker, and its referents: all by one call of `gc.get_referents`."""
@@ -125,10 +119,6 @@ class Snapshot:
         if left:
             left[-1]()
         return not left
-
-    def has_dead(self) -> bool:
-        """Whether a member was held by the recorder alone: it has died since the members were listed."""
-        return OWN_REFERENCES in self.counts
 
     def graph(self) -> "Told":
         """The lines of the graph, with the serials of its members."""
@@ -256,12 +246,9 @@ class Output:
         self.limit = limit
         self.graphs = 0
         self.size = 0
-        self.end_at = self.tell()
+        # where the end of the records stands, if one can come back to it
+        self.end_at = file.tell() if file.seekable() else None
         self.put(END)
-
-    def tell(self) -> int | None:
-        """Where the end of the records is to stand, if one can come back to it."""
-        return self.file.tell() if self.file.seekable() else None
 
     def put(self, text: str) -> None:
         """Writes the text at the end of the records."""
@@ -395,7 +382,7 @@ class Recorder:
         )
 
     def give_back(self) -> None:
-        """Leaves the collection that is under way, if one is."""
+        """Leaves the collection that is recorded now, if one is."""
         collection, self.collection = self.collection, None
         if collection is not None:
             collection.leave()
@@ -414,9 +401,7 @@ class Recorder:
         """Writes the record of a collection that has ended."""
         if self.process != os.getpid():
             return
-        fault = collection.fault(uncollectable)
-        if fault is None:
-            fault = self.write(collection)
+        fault = collection.fault(uncollectable) or self.write(collection)
         if fault is None:
             self.recorded += 1
         else:
@@ -476,7 +461,8 @@ class Collection:
             return OVERLAPPED
         if not self.is_taken:
             return NOT_TAKEN
-        if self.snapshot.has_dead():
+        # held by the recorder alone
+        if OWN_REFERENCES in self.snapshot.counts:
             return DIED
         if self.flags_set:
             return FLAGS_SET
@@ -620,17 +606,15 @@ class Explanation:
 
     def of(self, code: int) -> tuple[str, Iterator[str]]:
         """A heading for the code of a fault, and a line for each object."""
-        match code:
-            case 2:
-                return "a serial names no member, or stands twice", self.misnamed()
-            case 3:
-                return "an in-degree is below the references of members", self.too_low()
-            case 4:
-                return "what was found is not what is unreachable", self.wrongly_found()
-            case 5:
-                return "what was set aside is not what legacy finalizers reach", self.wrongly_set_aside()
-            case _:
-                raise ValueError(f"no fault of a graph has the code {code}")
+        faults = {
+            2: ("a serial names no member, or stands twice", self.misnamed()),
+            3: ("an in-degree is below the references of members", self.too_low()),
+            4: ("what was found is not what is unreachable", self.wrongly_found()),
+            5: ("what was set aside is not what legacy finalizers reach", self.wrongly_set_aside()),
+        }
+        if code not in faults:
+            raise ValueError(f"no fault of a graph has the code {code}")
+        return faults[code]
 
     def misnamed(self) -> Iterator[str]:
         """The serials that stand twice or name no member."""
@@ -711,8 +695,8 @@ def explain(out: str, verdict: list[str], most: int = 20) -> str:
     if graph is None:
         raise ValueError(f"there is no graph {at} in {out}")
     names: dict[int, str] = {}
-    if os.path.exists(objects_beside(out)):
-        with open(objects_beside(out), encoding="ascii") as file:
+    if os.path.exists(out + BESIDE):
+        with open(out + BESIDE, encoding="ascii") as file:
             names = names_in(file, at)
     heading, objects = Explanation(graph, names).of(kind)
     lines = [f"graph {at}, a collection of generation {graph.generation}: {heading}\n"]
@@ -721,16 +705,9 @@ def explain(out: str, verdict: list[str], most: int = 20) -> str:
     return "".join(lines + [f"  and {left} more\n"] * (left > 0))
 
 
-def objects_beside(out: str) -> str:
-    """The name of the file that tells of the objects."""
-    return f"{out}.objects"
-
-
 def arguments_of(words: list[str]) -> argparse.Namespace:
     """The words after the program's name."""
-    parser = argparse.ArgumentParser(
-        prog="gcrecord.py", description="Records the collections of a Python program for gccheck."
-    )
+    parser = argparse.ArgumentParser("gcrecord.py", description="Records the collections of a program for gccheck.")
     parser.add_argument("--explain", action="store_true", help="say which objects a verdict on OUT is about")
     parser.add_argument("--generation", action="append", type=int, choices=(0, 1, 2), help="only collections of it")
     parser.add_argument("--most", type=int, metavar="N", help="record at most N collections")
@@ -764,7 +741,7 @@ class Files:
         self.close()
         number = next(self.numbers)
         out = self.out if number == 1 else f"{self.out}.{number}"
-        names = [out, objects_beside(out)] if self.objects else [out]
+        names = [out, out + BESIDE] if self.objects else [out]
         self.opened = [open(name, "w", encoding="ascii") for name in names]
         return self.opened[0], self.opened[1] if self.objects else None
 
