@@ -1,0 +1,20 @@
+"""Writes `collections.records`, real collections of this CPython, and `collections.verdict`, what is expected of them.
+
+The recorder is used from within the program here.
+"""
+import sys
+from pathlib import Path
+
+HERE = Path(__file__).resolve().parent
+sys.path.insert(0, str(HERE.parent.parent / "python"))
+
+import cycles  # noqa: E402
+import gcrecord  # noqa: E402
+
+ROUNDS = 18
+
+if __name__ == "__main__":
+    with open(HERE / "collections.records", "w", encoding="ascii") as file:
+        with gcrecord.Recorder(file) as recorder:
+            cycles.main(ROUNDS)
+    (HERE / "collections.verdict").write_text(f"yes {recorder.recorded}\n")

@@ -1,0 +1,89 @@
+"""Records a program in a process of its own, and asks for the verdict."""
+import subprocess
+import sys
+import tempfile
+import textwrap
+from pathlib import Path
+from typing import NamedTuple
+
+from . import judge
+
+HERE = Path(__file__).resolve().parent
+RECORDER = HERE.parent / "gcrecord.py"
+CPYTHON = HERE.parent.parent / "examples" / "cpython"
+GCCHECK = HERE.parent.parent / "crates" / "gccheck" / "out" / "gccheck"
+
+
+class Recorded(NamedTuple):
+    """How a recorded program ended, and what was written."""
+
+    status: int
+    output: str
+    message: str
+    records: list[str]
+    objects: str
+
+    @property
+    def text(self) -> str:
+        """The records, where they are in one file."""
+        (text,) = self.records
+        return text
+
+    @property
+    def verdict(self) -> str:
+        """The verdict on them."""
+        return verdict(self.text)
+
+    @property
+    def all_right(self) -> str:
+        """The verdict where each record is right."""
+        return f"yes {len(self.graphs)}"
+
+    @property
+    def graphs(self) -> list[judge.Graph]:
+        """The first graph of each record."""
+        return [graphs[0] for graphs in judge.records(self.text)]
+
+
+def verdict(text: str) -> str:
+    """The verdict of the plain judge; where gccheck has been built, it must say the same."""
+    answer = judge.verdict(text)
+    if GCCHECK.exists():
+        done = subprocess.run([GCCHECK], input=text, capture_output=True, text=True)
+        if done.stdout != answer + "\n":
+            raise AssertionError(f"gccheck says {done.stdout.strip()}, the plain judge {answer}")
+    return answer
+
+
+def run(*words: object, folder: Path | None = None) -> subprocess.CompletedProcess[str]:
+    """Runs the recorder with these words."""
+    return subprocess.run(
+        [sys.executable, RECORDER, *map(str, words)], capture_output=True, text=True, cwd=folder, timeout=120
+    )
+
+
+def record(program: str | list[object], *options: object, folder: Path | None = None) -> Recorded:
+    """Records a program, given as its text or as the words that start it."""
+    with tempfile.TemporaryDirectory() as name:
+        out = Path(name, "out")
+        words = program if isinstance(program, list) else [Path(name, "program.py")]
+        if isinstance(program, str):
+            Path(name, "program.py").write_text(textwrap.dedent(program))
+        done = run(*options, out, *words, folder=folder)
+        files = [out] if out.exists() else []
+        while (further := Path(f"{out}.{len(files) + 1}")).exists():
+            files.append(further)
+        objects = Path(f"{out}.objects")
+        told = objects.read_text("ascii") if objects.exists() else ""
+        texts = [file.read_text("ascii") for file in files]
+    return Recorded(done.returncode, done.stdout, done.stderr, texts, told)
+
+
+def explained(text: str, *verdict_words: str, objects: str = "") -> str:
+    """What the recorder says of a verdict on a text."""
+    with tempfile.TemporaryDirectory() as name:
+        Path(name, "out").write_text(text)
+        if objects:
+            Path(name, "out.objects").write_text(objects)
+        done = run("--explain", Path(name, "out"), *verdict_words)
+    return done.stdout + done.stderr

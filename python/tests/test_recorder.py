@@ -1,0 +1,334 @@
+"""The recorder: what it sees of a collection, what the program notices of it, and its command line."""
+import io
+import shutil
+import sys
+import tempfile
+import unittest
+from pathlib import Path
+
+from .recording import CPYTHON, explained, record, run, verdict
+
+sys.path.insert(0, str(CPYTHON))
+from build import build  # noqa: E402
+
+# garbage
+OWN_LIST = "l = []; l.append(l); del l"
+# begins a program so that the next young collection has nothing of the start
+QUIET = "import gc, io, os, sys\ngc.disable()\ngc.collect()\n"
+
+
+class Seen(unittest.TestCase):
+    """Graphs and sets of known objects."""
+
+    def test_a_list_that_holds_itself(self) -> None:
+        recorded = record(QUIET + OWN_LIST + "; gc.collect(0)")
+        graph = recorded.graphs[-1]
+        self.assertEqual(recorded.all_right, recorded.verdict)
+        (lost,) = graph.lost
+        self.assertEqual(((lost, 1, False), [lost]), (graph.members[lost], graph.references[lost]))
+
+    def test_in_degrees_and_repeated_references(self) -> None:
+        program = "class C: pass\na = C(); b = a; l = [a, a, a]; print(hex(id(a)), hex(id(l))); gc.collect(0)"
+        recorded = record(QUIET + program)
+        rows = recorded.objects.rpartition("graph ")[2].splitlines()[1:]
+        members = {row.split()[1]: int(row.split()[0]) for row in rows}
+        instance, holder = (members[address] for address in recorded.output.split())
+        graph = recorded.graphs[-1]
+        self.assertEqual(recorded.all_right, recorded.verdict)
+        self.assertEqual((instance, 5, False), graph.members[instance])
+        self.assertEqual((holder, 1, False), graph.members[holder])
+        self.assertEqual([instance] * 3, graph.references[holder])
+
+    def test_legacy_finalizers(self) -> None:
+        program = """
+            @_testcapi.with_tp_del
+            class Legacy:
+                def __tp_del__(self): pass
+            a = Legacy(); a.me = a; a.l = [[]]; b = Legacy()
+            c = []; c.append(c)
+            del a, c
+            gc.collect(0)
+        """
+        recorded = record(f"import _testcapi\n{QUIET}" + "\n".join(line[12:] for line in program.splitlines()))
+        graph = recorded.graphs[-1]
+        self.assertEqual(recorded.all_right, recorded.verdict)
+        self.assertEqual(2, sum(mark for _, _, mark in graph.members))
+        self.assertEqual((4, 3), (len(graph.lost), len(graph.legacy)))
+
+    def test_names_of_types_may_be_odd(self) -> None:
+        recorded = record(QUIET + "a = type('a b\\n> 0x1>\\u20ac', (), {})(); a.me = a; del a; gc.collect(0)")
+        self.assertEqual(recorded.all_right, recorded.verdict)
+        self.assertIn(" __main__.a b\\n> 0x1>\\u20ac\n", recorded.objects)
+        self.assertGreater(len(recorded.graphs[-1].lost), 1)
+
+    def test_what_a_callback_of_the_program_did_before(self) -> None:
+        program = "l = []; l.append(l); gc.callbacks.append(lambda p, i: globals().pop('l', None)); gc.collect(0)"
+        recorded = record(QUIET + program)
+        self.assertEqual((recorded.all_right, 1), (recorded.verdict, len(recorded.graphs[-1].lost)))
+
+    def test_other_threads(self) -> None:
+        self.runs_beside("")
+
+    def test_other_threads_where_calls_are_told_to_a_hook(self) -> None:
+        self.runs_beside("sys.addaudithook(lambda name, arguments: None)")
+
+    def runs_beside(self, first: str) -> None:
+        """Collects while other threads change the graph."""
+        recorded = record(
+            f"""
+            import gc, sys, threading
+            {first}
+            sys.setswitchinterval(1e-5)
+            def change(shared=[]):
+                while not done:
+                    shared[:] = [[shared], [shared]]
+                    cycle = []; cycle.append([cycle])
+            done = False
+            threads = [threading.Thread(target=change) for _ in range(4)]
+            for thread in threads: thread.start()
+            for _ in range(15): gc.collect()
+            done = True
+            for thread in threads: thread.join()
+            """
+        )
+        self.assertGreater(len(recorded.graphs), 0)
+        self.assertEqual(recorded.all_right, recorded.verdict)
+
+    def test_a_collection_within_another(self) -> None:
+        program = """
+class C:
+    def __del__(self):
+        self.sets = [{number} for number in range(50)]
+for _ in range(20):
+    c = C(); c.me = c; del c
+    gc.set_threshold(5); gc.enable()
+    x = [{1}, {2}, {3}, {4}, {5}, {6}, {7}, {8}, gc.collect()]
+    gc.set_threshold(700); gc.disable()
+"""
+        recorded = record(QUIET + program)
+        self.assertEqual(recorded.all_right, recorded.verdict)
+        self.assertIn("gcrecord: left out 20: another collection began before it had ended\n", recorded.message)
+
+    def test_the_free_list_of_asyncio(self) -> None:
+        program = "import asyncio, gc\nasync def run(): await asyncio.gather(*map(asyncio.sleep, [0] * 3))\n"
+        recorded = record(program + "for _ in range(3): asyncio.run(run()); gc.collect()")
+        self.assertEqual((0, recorded.all_right), (recorded.status, recorded.verdict))
+
+
+class Noticed(unittest.TestCase):
+    """What the program notices, and that the recorder's faults are its own."""
+
+    def outcome(self, program: str, *options: object) -> str:
+        """What the program writes, and the verdict on its records."""
+        recorded = record(QUIET + program, *options)
+        self.assertEqual(recorded.all_right, recorded.verdict)
+        return recorded.output + recorded.message
+
+    def test_flags_and_callbacks_are_given_back(self) -> None:
+        program = "gc.collect(); print(gc.get_debug(), len(gc.callbacks), sys.stderr is sys.__stderr__)"
+        self.assertEqual("0 1 True\n", self.outcome(program))
+
+    def test_a_replaced_stderr_gets_the_programs_own_lines(self) -> None:
+        program = """
+class C:
+    def __del__(self): sys.stderr.write('gone'); sys.stderr.flush(); sys.stderr.write('.')
+sys.stderr = io.StringIO()
+c = C(); c.me = c; del c
+gc.collect()
+print(sys.stderr.getvalue())
+"""
+        self.assertEqual("gone.\n", self.outcome(program))
+
+    def test_no_stderr(self) -> None:
+        self.assertEqual("None\n", self.outcome(f"sys.stderr = None; {OWN_LIST}; gc.collect(); print(sys.stderr)"))
+
+    def test_lines_that_the_program_asked_for(self) -> None:
+        self.assertIn("gc: collectable <list 0x", self.outcome(f"gc.set_debug(2); {OWN_LIST}; gc.collect()"))
+        self.assertEqual("", self.outcome(f"gc.set_debug(4); {OWN_LIST}; gc.collect()"))
+
+    def test_the_next_collection_comes_no_sooner(self) -> None:
+        self.assertLess(int(self.outcome("gc.collect(); print(gc.get_count()[0])")), 10)
+
+    def test_flags_that_a_finalizer_sets(self) -> None:
+        program = "class C:\n  def __del__(self): gc.set_debug(1)\nc = C(); c.me = c; del c; gc.collect()"
+        outcome = self.outcome(program + "; print(gc.get_debug())")
+        self.assertTrue(outcome.startswith("1\n"), outcome)
+        self.assertIn("gcrecord: left out 1: the program set the debug flags meanwhile", outcome)
+
+    def test_a_callback_that_another_adds(self) -> None:
+        program = "gc.callbacks.append(lambda p, i: gc.callbacks.append(lambda p, i: None)); gc.collect()"
+        self.assertIn("left out 1: a callback of the program ran after", self.outcome(program))
+
+    def test_deep_calls(self) -> None:
+        program = "gc.set_threshold(1); gc.enable(); sys.unraisablehook = print\n"
+        calls = "def f(n): l = [n]; l.append(l); return f(n + 1)\n"
+        recorded = record(QUIET + program + calls + "try: f(0)\nexcept RecursionError: print('deep')", "--generation", 0)
+        self.assertEqual(("deep", 0), (recorded.output.splitlines()[-1], recorded.status))
+        self.assertEqual(recorded.all_right, recorded.verdict)
+
+    def test_forks(self) -> None:
+        program = """
+gc.collect(); gc.collect()
+child = os.fork()
+gc.collect()
+if child: print(os.waitstatus_to_exitcode(os.waitpid(child, 0)[1]))
+else: sys.exit(3)
+"""
+        recorded = record(QUIET + program)
+        self.assertEqual(("3\n", recorded.all_right), (recorded.output, recorded.verdict))
+        self.assertEqual(4, len([line for line in recorded.text.splitlines() if line == "record 2"]))
+
+    def test_a_program_that_is_cut_off_leaves_a_whole_file(self) -> None:
+        recorded = record(QUIET + "os._exit(4)")
+        self.assertEqual((4, recorded.all_right), (recorded.status, recorded.verdict))
+        self.assertIn("record 2\n", recorded.text)
+
+    def test_a_file_that_fails(self) -> None:
+        program = """
+import gcrecord
+class Full(io.StringIO):
+    def write(self, text):
+        if len(text) > 10:
+            super().write(text[:9])
+            raise OSError
+        return super().write(text)
+file = Full()
+with gcrecord.Recorder(file) as recorder:
+    gc.collect()
+print(recorder.recorded, dict(recorder.left_out), repr(file.getvalue()))
+"""
+        path = f"import sys\nsys.path.insert(0, {str(CPYTHON.parent.parent / 'python')!r})\n"
+        recorded = record(path + QUIET + program, "--most", 1)
+        self.assertEqual("0 {'OSError in the recorder': 1} 'end\\n'\n", recorded.output)
+
+
+class Lines(unittest.TestCase):
+    """The command line, and the context manager."""
+
+    def test_a_program_runs_as_without(self) -> None:
+        program = "print(__name__, sys.argv[0] == __file__, sys.path[0] == os.path.dirname(__file__)); sys.exit(7)"
+        recorded = record(QUIET + program)
+        self.assertEqual(("__main__ True True\n", 7), (recorded.output, recorded.status))
+        recorded = record(QUIET + "1 / 0")
+        self.assertEqual((1, recorded.all_right), (recorded.status, recorded.verdict))
+        self.assertIn("ZeroDivisionError", recorded.message)
+
+    def test_a_module(self) -> None:
+        recorded = record(["-m", "unittest", "-h"])
+        self.assertEqual(0, recorded.status)
+        self.assertIn("usage", recorded.output)
+
+    def test_words_of_the_program(self) -> None:
+        recorded = record(["-m", "platform", "--most", "terse"])
+        self.assertEqual(("", 0), (recorded.message, recorded.status))
+
+    def test_generations_and_how_many(self) -> None:
+        program = QUIET + "for g in 0, 1, 2, 1, 0: gc.collect(g)"
+        self.assertEqual([2, 1, 2], self.generations(program, "--generation", 1, "--generation", 2, "--most", 3))
+        self.assertEqual([2, 2], self.generations(program, "--generation", 2))
+
+    def generations(self, program: str, *options: object) -> list[int]:
+        """The generations of the collections that were recorded."""
+        lines = record(program, *options).text.splitlines()
+        return [int(line.split()[1]) for line in lines if line.startswith("record")]
+
+    def test_a_record_that_has_no_room_is_left_out_whole(self) -> None:
+        recorded = record(QUIET + "l = [[] for _ in range(1000)]; gc.collect(0); gc.collect(0)", "--limit", 10_000)
+        self.assertEqual(recorded.all_right, recorded.verdict)
+        self.assertLessEqual(len(recorded.text), 10_000)
+        self.assertRegex(recorded.message, r"^gcrecord: left out \d+: larger than what is left of the size limit\n$")
+
+    def test_more_files(self) -> None:
+        program = "for _ in range(4): l = [[] for _ in range(1000)]; gc.collect(0)"
+        recorded = record(QUIET + program, "--limit", 30_000, "--more-files")
+        self.assertGreater(len(recorded.records), 1)
+        self.assertGreaterEqual(sum(int(verdict(text).removeprefix("yes ")) for text in recorded.records), 4)
+        self.assertTrue(all(len(text) <= 30_000 for text in recorded.records))
+
+    def test_words_that_are_wrong(self) -> None:
+        for words in ([], ["out"], ["out", "-m"], ["--limit", 67_108_865, "out", "p"], ["--explain", "out"]):
+            self.assertEqual(2, run(*words).returncode, words)
+        self.assertIn("no verdict", explained("end\n", "maybe"))
+        self.assertIn("there is no graph 3", explained("end\n", "no", "3", "4"))
+
+    def test_the_context_manager(self) -> None:
+        import gc
+
+        import gcrecord
+
+        file, before = io.StringIO(), (list(gc.callbacks), gc.get_debug(), sys.stderr)
+        with gcrecord.Recorder(file, generations=[0], most=1) as recorder:
+            gc.collect(0)
+            gc.collect(0)
+        self.assertEqual((1, {}), (recorder.recorded, recorder.left_out))
+        self.assertEqual("yes 1", verdict(file.getvalue()))
+        self.assertEqual(before, (list(gc.callbacks), gc.get_debug(), sys.stderr))
+
+
+class Explained(unittest.TestCase):
+    """What is said of a verdict."""
+
+    GRAPH = (
+        "record 1; graph 1; m 1 1 0; r 2; m 2 2 0; m 3 1 1; r 4; m 4 1 0; r 3; r 2; "
+        "lost 3; lost 4; legacy 3; legacy 4; cut; end"
+    )
+
+    def said(self, code: int, *change: str) -> list[str]:
+        """The lines on a fault that the change makes, without the heading."""
+        text = self.GRAPH.replace(*change).replace("; ", "\n") + "\n"
+        self.assertEqual(f"no 1 {code}", verdict(text))
+        return explained(text, f"no 1 {code}", objects="graph 1\n1 0xa C\n2 0xb list\n").splitlines()[1:]
+
+    def test_each_code(self) -> None:
+        self.assertEqual(["  serial 4 refers to 5, which is no member"], self.said(2, "r 3", "r 5"))
+        self.assertEqual(
+            ["  list at 0xb (serial 2): in-degree 1, but 2 references, of C at 0xa (serial 1), serial 4"],
+            self.said(3, "m 2 2", "m 2 1"),
+        )
+        self.assertEqual(
+            [
+                "  list at 0xb (serial 2) was found, but is held from outside: "
+                "C at 0xa (serial 1) -> list at 0xb (serial 2)"
+            ],
+            self.said(4, "lost 3", "lost 2; lost 3"),
+        )
+        said = self.said(4, "lost 3; ", "")
+        self.assertEqual(["  serial 3 was not found, but no path from outside leads to it"], said)
+        self.assertEqual(
+            ["  serial 4 was not set aside, but a legacy finalizer reaches it: serial 3 -> serial 4"],
+            self.said(5, "legacy 4; ", ""),
+        )
+
+    def test_verdicts_without_a_graph(self) -> None:
+        self.assertIn("every recorded collection is right", explained("end\n", "yes 0"))
+        self.assertIn("no text of records", explained("", "no", "0", "1"))
+
+
+class Examples(unittest.TestCase):
+    """The examples for CPython."""
+
+    def test_a_program_that_is_right(self) -> None:
+        recorded = record([CPYTHON / "cycles.py"])
+        self.assertEqual(("", recorded.all_right), (recorded.message, recorded.verdict))
+        self.assertGreater(sum(len(graph.lost) for graph in recorded.graphs), 1000)
+
+    @unittest.skipUnless(shutil.which("cc"), "no C compiler")
+    def test_boxes_that_visit_what_they_borrow(self) -> None:
+        with tempfile.TemporaryDirectory() as name:
+            build(Path(name))
+            shutil.copy(CPYTHON / "two_boxes.py", name)
+            two = record([Path(name, "two_boxes.py")])
+            one = record([Path(name, "two_boxes.py"), 1])
+        self.assertEqual(f"no {len(two.graphs)} 3", two.verdict)
+        said = explained(two.text, two.verdict, objects=two.objects)
+        self.assertRegex(said, r"\n  list at 0x\w+ \(serial \d+\): in-degree 1, but 2 references, of borrowing.Box at ")
+        self.assertEqual(one.all_right, one.verdict)
+
+    def test_the_stored_records(self) -> None:
+        text = (CPYTHON / "collections.records").read_text("ascii")
+        self.assertLessEqual(len(text), 200_000)
+        self.assertEqual((CPYTHON / "collections.verdict").read_text("ascii"), verdict(text) + "\n")
+
+
+if __name__ == "__main__":
+    unittest.main()
