@@ -9,7 +9,7 @@ use Rattle.std.proofs.lemmas.List.Elements.{All-head, All-tail}
 use Rattle.std.proofs.lemmas.Str.Parse.{IsDigitsTest, IsNumeralModel, numerals_by_fold, digits_value_short, parse_gives}
 use Rattle.cg_script.specs.declared.Script.{Script}
 use Rattle.cg_script.specs.declared.Item.{Item}
-use Rattle.cg_script.specs.declared.Item.TheVariants.{Budget, Class, Def, Run}
+use Rattle.cg_script.specs.declared.Item.TheVariants.{Budget, Profile, Shutdown, Class, Def, Run}
 use Rattle.cg_script.specs.Spelled.{IsSpelled, IsSpelledItem}
 use Rattle.cg_script.specs.Words.{is_digit, are_digits, decimal_value, decimal_after}
 use Rattle.cg_script.proofs.Ascii.{both}
@@ -22,6 +22,8 @@ set_here lines i line budget within here is = ap budget_in (drop_more lines i li
 set_at_most : (names : ℕ) (lines : List Item) → All (IsSpelledItem names) lines → IfSome (budget_in lines) (λ n. n ≤ 100000)
 set_at_most names [] all = tt
 set_at_most names (Budget n ∷ later) all = All-head (IsSpelledItem names) (Budget n) later all
+set_at_most names (Profile n ∷ later) all = set_at_most names later (All-tail (IsSpelledItem names) (Profile n) later all)
+set_at_most names (Shutdown ∷ later) all = set_at_most names later (All-tail (IsSpelledItem names) Shutdown later all)
 set_at_most names (Class c ∷ later) all = set_at_most names later (All-tail (IsSpelledItem names) (Class c) later all)
 set_at_most names (Def p ∷ later) all = set_at_most names later (All-tail (IsSpelledItem names) (Def p) later all)
 set_at_most names (Run c ∷ later) all = set_at_most names later (All-tail (IsSpelledItem names) (Run c) later all)

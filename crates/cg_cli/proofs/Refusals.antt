@@ -6,7 +6,7 @@ use Rattle.std.proofs.lemmas.List.Concat.{flat_map-cons}
 use Rattle.std.proofs.lemmas.List.Folds.{list_any-append}
 use Rattle.cg_script.specs.Pieces.{lines_of, onto}
 use Rattle.cg_machine.specs.declared.event.Event.{Event}
-use Rattle.cg_machine.specs.declared.event.Event.TheVariants.{Made, Enter, Leave, Cleared, Free, Alive, GcStart, GcCollectable, GcUncollectable, GcSaved, GcStop, Collected, Value, RefCount, Tracked, Finalized, Count, Gens, Refused, BudgetSpent, End}
+use Rattle.cg_machine.specs.declared.event.Event.TheVariants.{Made, Enter, Leave, Cleared, Free, Alive, GcStart, GcCollectable, GcUncollectable, GcSaved, GcStop, Collected, Value, RefCount, Tracked, Finalized, Referent, Referrer, Listed, Held, Via, Unreachable, Count, Gens, Refused, BudgetSpent, Left, End}
 use Rattle.cg_machine.specs.Lines.{words_of, line}
 use Rattle.cg_generator.specs.Tallies.{is_refusal, has_refusal}
 use Rattle.cg_cli.specs.Summaries.{is_refused}
@@ -76,9 +76,16 @@ told names (Value v) later h = refl
 told names (RefCount n) later h = refl
 told names (Tracked b) later h = refl
 told names (Finalized b) later h = refl
+told names (Referent n) later h = refl
+told names (Referrer n) later h = refl
+told names (Listed n) later h = refl
+told names (Held n) later h = refl
+told names (Via n) later h = refl
+told names Unreachable later h = refl
 told names (Count a b c) later h = refl
 told names (Gens a b c p) later h = refl
 told names BudgetSpent later h = refl
+told names (Left n) later h = refl
 told names End later h = refl
 
 -- the text of some events

@@ -23,6 +23,8 @@ limit = 16777217
 abbrev pub budget_in : List Item → Option ℕ
 budget_in [] = None
 budget_in (items.Budget n ∷ later) = Some n
+budget_in (items.Profile n ∷ later) = budget_in later
+budget_in (items.Shutdown ∷ later) = budget_in later
 budget_in (items.Class c ∷ later) = budget_in later
 budget_in (items.Def p ∷ later) = budget_in later
 budget_in (items.Run c ∷ later) = budget_in later

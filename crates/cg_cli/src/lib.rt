@@ -29,6 +29,8 @@ mod promises;
 #[cfg(test)]
 mod rows;
 #[cfg(test)]
+mod shutdowns;
+#[cfg(test)]
 mod summaries;
 #[cfg(test)]
 mod tests;
