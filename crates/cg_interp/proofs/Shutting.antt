@@ -9,7 +9,7 @@ use Rattle.cg_graph.specs.Value.{references_of_value}
 use Rattle.cg_graph.specs.Holdings.{occurrences}
 use Rattle.cg_graph.specs.Store.{Store, IsLive, objects_of}
 use Rattle.cg_graph.specs.Changes.{held, named}
-use Rattle.cg_heap.specs.Calls.{IsSound, object_number}
+use Rattle.cg_heap.specs.Calls.{IsSound, object_number, IsBound, IsGreatestBound}
 use Rattle.cg_heap.proofs.HoldLemmas.{name_holds}
 use Rattle.cg_machine.specs.declared.event.Event.{Event}
 use Rattle.cg_machine.specs.declared.event.Event.TheVariants.{Left, End}
@@ -37,47 +37,48 @@ use Rattle.cg_interp.proofs.Standing.{plain_shutdown, replaced, spelled}
 use Rattle.cg_interp.proofs.StepLemmas.{turns}
 use Rattle.cg_death.proofs.ObjectNumbers.{none-held}
 
--- Where the names from one on are unbound, and it is bound, it is the greatest that is.
-greatest_at : (n k : ℕ) (names : List (Option Val)) (v : Val) → slice_get names k ≡ Some (Some v) → greatest_from (n + suc k) (drop (suc k) names) ≡ None → greatest_from n names ≡ Some (n + k)
-greatest_at n k [] v at none = absurd (cc)
-greatest_at n zero (x ∷ names) v at none =
-    let same : x ≡ Some v = cc in
-    let next : greatest_from (n + 1) names ≡ None = none in
-    let here : n ≡ n + 0 = omega arith in
-    ap (λ m. greatest_of m n x) next ∙ ap (greatest_of None n) same ∙ ap Some here
-greatest_at n (suc k) (x ∷ names) v at none =
-    let shifted : n + suc (suc k) ≡ (n + 1) + suc k = omega arith in
-    let found = greatest_at (n + 1) k names v at (ap (λ m. greatest_from m (drop (suc k) names)) (sym shifted) ∙ none) in
-    let back : (n + 1) + k ≡ n + suc k = omega arith in
-    ap (λ m. greatest_of m n x) found ∙ ap Some back
+-- What the machine finds is bound, and what is bound is not above it.
+abbrev FoundFrom : ℕ → List (Option Val) → Option ℕ → Type 0
+FoundFrom n names None = (k : ℕ) → ¬ IsBound names k
+FoundFrom n names (Some m) = (k : ℕ) × (m ≡ n + k) × IsBound names k × ((j : ℕ) → IsBound names j → j ≤ k)
 
-from_next : (above k : ℕ) (names : List (Option Val)) → above ≡ k + 1 → greatest_from above (drop above names) ≡ None → greatest_from (0 + suc k) (drop (suc k) names) ≡ None
-from_next above k names is none =
-    let after : 0 + suc k ≡ above = omega (arith, is) in
-    let next : suc k ≡ above = omega (arith, is) in
-    ap (λ m. greatest_from m (drop (suc k) names)) after ∙ ap (λ m. greatest_from above (drop m names)) next ∙ none
+found_from : (n : ℕ) (names : List (Option Val)) → FoundFrom n names (greatest_from n names)
+found_from n [] = λ k b. let no : None ≡ Some (Some b.0) = b.1 in cc
+found_from n (x ∷ names) = go (greatest_from (n + 1) names) x (found_from (n + 1) names)
+  where
+    above : (k : ℕ) (u : Option Val) → ((j : ℕ) → IsBound names j → j ≤ k) → (j : ℕ) → IsBound (u ∷ names) j → j ≤ suc k
+    above k u h zero b = omega arith
+    above k u h (suc j) b = let low = h j b in omega (arith, low)
 
-pub greatest_here : (names : List (Option Val)) (above k : ℕ) (v : Val) → above ≡ k + 1 → slice_get names k ≡ Some (Some v) → greatest_from above (drop above names) ≡ None → Some k ≡ greatest_from 0 names
-greatest_here names above k v is at none =
-    let here : k ≡ 0 + k = omega arith in
-    ap Some here ∙ sym (greatest_at 0 k names v at (from_next above k names is none))
+    first : (v : Val) → ((j : ℕ) → ¬ IsBound names j) → (j : ℕ) → IsBound (Some v ∷ names) j → j ≤ zero
+    first v h zero b = omega arith
+    first v h (suc j) b = absurd (h j b)
 
--- where it is unbound too, none is bound from it on
-pub none_from : (n k : ℕ) (names : List (Option Val)) → slice_get names k ≡ Some None → greatest_from (n + suc k) (drop (suc k) names) ≡ None → greatest_from (n + k) (drop k names) ≡ None
-none_from n k [] at none = absurd (cc)
-none_from n zero (x ∷ names) at none =
-    let same : x ≡ None = cc in
-    let here : n + 0 ≡ n = omega arith in
-    ap (λ m. greatest_from m (x ∷ names)) here ∙ ap (λ m. greatest_of m n x) none ∙ ap (greatest_of None n) same
-none_from n (suc k) (x ∷ names) at none =
-    let shifted : n + suc (suc k) ≡ (n + 1) + suc k = omega arith in
-    let back : n + suc k ≡ (n + 1) + k = omega arith in
-    ap (λ m. greatest_from m (drop k names)) back ∙ none_from (n + 1) k names at (ap (λ m. greatest_from m (drop (suc k) names)) (sym shifted) ∙ none)
+    unbound : ((j : ℕ) → ¬ IsBound names j) → (j : ℕ) → ¬ IsBound (None ∷ names) j
+    unbound h zero b = let no : ◌≡◌ {A = Option (Option Val)} (Some None) (Some (Some b.0)) = b.1 in cc
+    unbound h (suc j) b = h j b
 
-pub none_here : (names : List (Option Val)) (above k : ℕ) → above ≡ k + 1 → slice_get names k ≡ Some None → greatest_from above (drop above names) ≡ None → greatest_from k (drop k names) ≡ None
-none_here names above k is at none =
-    let here : k ≡ 0 + k = omega arith in
-    ap (λ m. greatest_from m (drop k names)) here ∙ none_from 0 k names at (from_next above k names is none)
+    go : (m : Option ℕ) (u : Option Val) → FoundFrom (n + 1) names m → FoundFrom n (u ∷ names) (greatest_of m n u)
+    go (Some m) u f = (suc f.0, omega (arith, f.1), f.2, above f.0 u f.3)
+    go None (Some v) f = (zero, omega arith, (v, refl), first v f)
+    go None None f = unbound f
+
+-- So the heap answers what the machine finds.
+pub greatest_is : (names : List (Option Val)) (result : Option ℕ) → IsGreatestBound names result → result ≡ greatest_from 0 names
+greatest_is names None none = go (greatest_from 0 names) (found_from 0 names)
+  where
+    go : (m : Option ℕ) → FoundFrom 0 names m → None ≡ m
+    go None f = refl
+    go (Some m) f = absurd (none f.0 f.2)
+greatest_is names (Some greatest) is = go (greatest_from 0 names) (found_from 0 names)
+  where
+    go : (m : Option ℕ) → FoundFrom 0 names m → Some greatest ≡ m
+    go None f = absurd (f greatest is.0)
+    go (Some m) f =
+        let most = is.1 f.0 f.2 in
+        let least = f.3 greatest is.0 in
+        let same : greatest ≡ m = omega (arith, f.1, most, least) in
+        ap Some same
 
 -- the greatest is one of the names
 greatest_from-below : (n : ℕ) (names : List (Option Val)) (name : ℕ) → greatest_from n names ≡ Some name → name < n + length names

@@ -1,22 +1,14 @@
 //! Which name is given up next at the shutdown.
-ghost use Rattle.std.specs.Prelude.{◌≡◌, length};
+ghost use Rattle.std.specs.Prelude.{◌≡◌};
 ghost use Rattle.cg_machine.specs.Shutdown.{greatest_from};
 
 use cg_heap::Heap;
 use cg_kind::Kind;
 
-/// The bound name with the greatest number, of so many names. It looks at all names that are greater.
-pub fn greatest_bound<B: Kind>(heap: &Heap<B>, names: u32) -> Option<u32>
-    requires { names ≡ length heap.now.names }
-    ensures { result ≡ greatest_from 0 heap.now.names }
+/// The bound name with the greatest number. It takes constant time, but that a name which was given up is passed over once.
+pub fn greatest_bound<B: Kind>(heap: &mut Heap<B>) -> Option<u32>
+    ensures same { heap.new ≡ heap.old }
+    ensures greatest { result ≡ greatest_from 0 heap.old.names }
 {
-    let mut above = names;
-    'names: while 0 < above {
-        above -= 1;
-        match heap.name(above) {
-            Some(_) => return Some(above),
-            None => {}
-        }
-    }
-    None
+    heap.greatest_name()
 }

@@ -54,7 +54,7 @@ impl<B: Kind> Engine<B> {
         ensures fit { IsFit script.now self.new }
         ensures frames { self.new.frames ≡ self.old.frames }
     {
-        match greatest_bound(&self.heap, script.names.len()) {
+        match greatest_bound(&mut self.heap) {
             Some(name) => self.give_up(name),
             None => self.collect(
                 Activity::Shutdown { started: true },
