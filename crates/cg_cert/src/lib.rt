@@ -14,6 +14,8 @@
 #[cfg(test)]
 mod calls;
 mod check;
+#[cfg(test)]
+mod cpython_tests;
 mod degrees;
 mod graph;
 mod input;

@@ -329,7 +329,7 @@ fn the_last_of_the_budget_in_a_collection(rt: HostRuntime) -> Result<(), Fail> {
 }
 
 /// Appends a line that ends with a number.
-fn push_numbered(bytes: &mut Vec<u8>, text: &str, number: u32) -> Result<(), AllocError> {
+pub fn push_numbered(bytes: &mut Vec<u8>, text: &str, number: u32) -> Result<(), AllocError> {
     let mut digits = Buffer::new();
     bytes.extend_from_slice(text.as_bytes())?;
     bytes.extend_from_slice(digits.format(number).as_bytes())?;

@@ -23,6 +23,8 @@ mod collections;
 #[cfg(test)]
 mod examples;
 #[cfg(test)]
+mod inspections;
+#[cfg(test)]
 mod kinds;
 #[cfg(test)]
 mod promises;

@@ -1,5 +1,4 @@
-//! Worked scripts with a shutdown, and with commands that tell several lines, through the top call. The texts come from the
-//! rules of docs/RULES.md, worked out by hand.
+//! Worked scripts with a shutdown, through the top call. The texts come from the rules of docs/RULES.md, worked out by hand.
 use crate::Status;
 use crate::rows::{check, check_done, lines};
 use crate::tests::answer_with_faults;
@@ -90,39 +89,8 @@ fn the_budget_is_spent_in_the_shutdown(rt: HostRuntime) -> Result<(), Fail> {
     Ok(())
 }
 
-#[test]
-fn inspections(rt: HostRuntime) -> Result<(), Fail> {
-    let alloc = rt.alloc();
-    for (script, text) in [
-        (
-            "a = list; b = list a; referrers a; referents b; why a; del b; why a",
-            "made list #2; made list #3; referrer #3; listed 1; referent #2; listed 1; held #3; via #2; free #3; unreachable; end",
-        ),
-        // None is told while a collection runs.
-        (
-            "def cb; why q; end; class C; f = func cb; q = list; a = new C; setattr a me a; w = ref a f; del a; collect 2",
-            "made function #2; made list #3; made instance #4; made weakref #5; gc start 2; cleared #5; enter callback #5; refused 13; leave; free #4; gc stop 2 1 0; collected 1; end",
-        ),
-        // Each reference is told, each referrer once.
-        (
-            "a = list; append a a; append a a; referents a; referrers a; refs a",
-            "made list #2; referent #2; referent #2; listed 2; referrer #2; listed 1; refs 3; end",
-        ),
-        // Another name of the object holds it.
-        ("a = list; b = a; why a", "made list #2; held #2; end"),
-        // A refusal ends a frame, the lines of a list do not.
-        (
-            "def p; referents a; referents 1; print 5; end; a = list; f = func p; call f; referrers q; why q",
-            "made list #2; made function #3; enter call #3; listed 0; refused 2; leave; refused 1; refused 1; end",
-        ),
-    ] {
-        check_done(&rt, alloc, script, text)?;
-    }
-    Ok(())
-}
-
 /// A run of the script, of whose text these are the lines, with a sink that fails at one of them after two bytes.
-fn check_cut(
+pub fn check_cut(
     rt: &impl Abort,
     alloc: Global,
     script: &str,
@@ -140,25 +108,6 @@ fn check_cut(
     wanted.extend_from_slice(&texts[line].as_bytes()[..2])?;
     assert_eq!(rt; found.status, Status::WriteFault, "at {line}");
     assert_eq!(rt; found.text.as_slice(), wanted.as_slice(), "at {line}");
-    Ok(())
-}
-
-#[test]
-fn a_write_fails_between_two_lines_of_a_command(rt: HostRuntime) -> Result<(), Fail> {
-    let alloc = rt.alloc();
-    let texts = [
-        "made list #2",
-        "made list #3",
-        "made list #4",
-        "referrer #3",
-        "referrer #4",
-        "listed 2",
-        "end",
-    ];
-    for line in 0..7usize {
-        let script = "a = list; b = list a; c = list a; referrers a";
-        check_cut(&rt, alloc, script, &texts, line)?;
-    }
     Ok(())
 }
 

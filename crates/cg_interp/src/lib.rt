@@ -2,7 +2,6 @@
 #![tactic(auto)]
 
 mod activity;
-mod bound;
 mod callers;
 mod collecting;
 mod commands;

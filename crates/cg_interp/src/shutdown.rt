@@ -16,7 +16,6 @@ ghost use Rattle.cg_interp.specs.Turns.{Turns, Keeps, IsFit};
 ghost use Rattle.cg_interp.specs.Telling.{IsAtTurn, TurnsFrom};
 
 use crate::activity::Activity;
-use crate::bound::greatest_bound;
 use crate::engine::Engine;
 use crate::turned::Turned;
 use cg_death::Release;
@@ -54,7 +53,7 @@ impl<B: Kind> Engine<B> {
         ensures fit { IsFit script.now self.new }
         ensures frames { self.new.frames ≡ self.old.frames }
     {
-        match greatest_bound(&mut self.heap) {
+        match self.greatest_bound() {
             Some(name) => self.give_up(name),
             None => self.collect(
                 Activity::Shutdown { started: true },
@@ -64,6 +63,14 @@ impl<B: Kind> Engine<B> {
                 steps,
             ),
         }
+    }
+
+    /// The bound name with the greatest number. A name that was given up is passed over once.
+    fn greatest_bound(&mut self) -> Option<u32>
+        ensures same { self.new ≡ self.old }
+        ensures greatest { result ≡ greatest_from 0 self.old.store.names }
+    {
+        self.heap.greatest_name()
     }
 
     /// Gives up what stands under a name, the greatest that is bound. The shutdown was on top.
