@@ -164,6 +164,11 @@ fn weak_references_in_profile_2(rt: HostRuntime) -> Result<(), Fail> {
             "def cb; x = deref u; end; class C; f = func cb; a = new C; setattr a me a; u = ref a; w = ref a f; del a; collect 2; y = deref u; print y",
             "made function #2; made instance #3; made weakref #4; made weakref #5; gc start 2; cleared #5; cleared #4; enter callback #5; leave; free #3; gc stop 2 1 0; collected 1; value none; end",
         ),
+        // A callback keeps it and drops it again: its weak reference is a late one.
+        (
+            "profile 2; def cb; x = deref u; del x; end; class C; f = func cb; a = new C; setattr a me a; u = ref a; w = ref a f; del a; collect 2; y = deref u; print y",
+            "made function #2; made instance #3; made weakref #4; made weakref #5; gc start 2; cleared #5; enter callback #5; leave; cleared #4; free #3; gc stop 2 1 0; collected 1; value none; end",
+        ),
         // A late one: nothing reached its referent.
         (
             "profile 2; class C; a = new C; w = ref a; setattr a me a; del a; collect 2; y = deref w; print y",
