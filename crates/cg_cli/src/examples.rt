@@ -237,6 +237,13 @@ const FINALIZER_FREEZES: Example = Example {
     text: "made list #2; made instance #3; gc start 2; enter del #3; gens 0 0 0 1; leave; free #3; gc stop 2 1 0; collected 1; gens 0 0 0 1; end",
 };
 
+/// `examples/finalizer-in-a-cycle.script`.
+const FINALIZER_IN_A_CYCLE: Example = Example {
+    status: Status::Done,
+    script: "def d; x = deref w; print x; end; class C del=d; a = new C; setattr a me a; w = ref a; del a; collect",
+    text: "made instance #2; made weakref #3; gc start 2; cleared #3; enter del #2; value none; leave; free #2; gc stop 2 1 0; collected 1; end",
+};
+
 /// `examples/finalizer-makes.script`.
 const FINALIZER_MAKES: Example = Example {
     status: Status::Done,
@@ -352,6 +359,7 @@ fn every_example_of_frames_in_a_collection_has_its_text(rt: HostRuntime) -> Resu
     run(&rt, alloc, CALLBACK_IN_TURN)?;
     run(&rt, alloc, FINALIZER_FREES)?;
     run(&rt, alloc, FINALIZER_FREEZES)?;
+    run(&rt, alloc, FINALIZER_IN_A_CYCLE)?;
     run(&rt, alloc, FINALIZER_MAKES)?;
     run(&rt, alloc, FINALIZER_SETS)?;
     Ok(())
