@@ -52,7 +52,7 @@ fn a_write_fails_between_two_lines_of_a_command(rt: HostRuntime) -> Result<(), F
         "listed 2",
         "end",
     ];
-    for line in 0..7usize {
+    for line in 0..7u32 {
         let script = "a = list; b = list a; c = list a; referrers a";
         check_cut(&rt, alloc, script, &texts, line)?;
     }

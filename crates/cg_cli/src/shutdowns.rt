@@ -95,10 +95,11 @@ pub fn check_cut(
     alloc: Global,
     script: &str,
     texts: &[&str],
-    line: usize,
+    line: u32,
 ) -> Result<(), AllocError> {
     let mut source = PlainSource::new(lines(alloc, script)?);
-    let fails = vec![in alloc; line as u64 + 1]?;
+    let fails = vec![in alloc; u64::from(line) + 1]?;
+    let line = line as usize;
     let found = answer_with_faults(alloc, &["run"], &mut source, fails)?;
     let mut wanted = Vec::new(alloc);
     for text in &texts[..line] {
@@ -122,7 +123,7 @@ fn a_write_fails_between_the_last_two_lines(rt: HostRuntime) -> Result<(), Fail>
         "left 0",
         "end",
     ];
-    for line in 0..6usize {
+    for line in 0..6u32 {
         check_cut(&rt, alloc, "shutdown; a = list", &texts, line)?;
     }
     Ok(())
