@@ -89,6 +89,21 @@ fn the_budget_is_spent_in_the_shutdown(rt: HostRuntime) -> Result<(), Fail> {
     Ok(())
 }
 
+/// The lines before one of them, and the first two bytes of that one.
+fn front_of_lines(alloc: Global, texts: &[&str], line: u32) -> Result<Vec<u8>, AllocError> {
+    let mut front = Vec::new(alloc);
+    for (at, text) in texts.iter().enumerate() {
+        let bytes = text.as_bytes();
+        if at < line as usize {
+            front.extend_from_slice(bytes)?;
+            front.push(b'\n')?;
+        } else if at == line as usize {
+            front.extend_from_slice(&bytes[..bytes.len().min(2)])?;
+        }
+    }
+    Ok(front)
+}
+
 /// A run of the script, of whose text these are the lines, with a sink that fails at one of them after two bytes.
 pub fn check_cut(
     rt: &impl Abort,
@@ -99,14 +114,8 @@ pub fn check_cut(
 ) -> Result<(), AllocError> {
     let mut source = PlainSource::new(lines(alloc, script)?);
     let fails = vec![in alloc; u64::from(line) + 1]?;
-    let line = line as usize;
     let found = answer_with_faults(alloc, &["run"], &mut source, fails)?;
-    let mut wanted = Vec::new(alloc);
-    for text in &texts[..line] {
-        wanted.extend_from_slice(text.as_bytes())?;
-        wanted.push(b'\n')?;
-    }
-    wanted.extend_from_slice(&texts[line].as_bytes()[..2])?;
+    let wanted = front_of_lines(alloc, texts, line)?;
     assert_eq!(rt; found.status, Status::WriteFault, "at {line}");
     assert_eq!(rt; found.text.as_slice(), wanted.as_slice(), "at {line}");
     Ok(())
