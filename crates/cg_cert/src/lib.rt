@@ -18,7 +18,6 @@ mod check;
 mod cpython_tests;
 mod degrees;
 mod graph;
-mod input;
 mod laws;
 #[cfg(test)]
 mod lines;

@@ -5,11 +5,13 @@ ghost use Rattle.cg_io.specs.Causes.{AppendsFront, Rose};
 ghost use Rattle.cg_cert.specs.Statuses.{ToldVerdict, ToldFront, TookTooMany, Answers, IsCutShort};
 
 use crate::check::check_records;
-use crate::input::{InputFault, LIMIT, read_all};
 use crate::status::CheckStatus;
 use crate::tell::{tell_bad_words, tell_large, tell_verdict};
-use cg_io::{Sink, Source};
+use cg_io::{InputFault, Sink, Source, read_up_to};
 use std::alloc::{AllocError, Global};
+
+/// One more byte than records may have.
+const LIMIT: usize = 67_108_865;
 
 /// Checks what was read, or says that it is too large.
 fn check_read<K: Sink>(alloc: Global, bytes: &[u8], sink: &mut K) -> CheckStatus
@@ -45,7 +47,7 @@ fn check_source<S: Source, K: Sink>(alloc: Global, source: &mut S, sink: &mut K)
     ensures only { IsCutShort result ⊎ IfSome (S.left source.old) (λ bytes. Answers bytes result) }
     ensures words { result ≢ CheckStatus.BadWords }
 {
-    match read_all(alloc, source) {
+    match read_up_to(alloc, source, LIMIT) {
         Ok(bytes) => check_read(alloc, bytes.as_slice(), sink),
         Err(InputFault::ReadFault) => CheckStatus::ReadFault,
         Err(InputFault::OutOfMemory) => CheckStatus::OutOfMemory,

@@ -12,12 +12,12 @@ ghost use Rattle.cg_interp.specs.Written.{WroteRun, WrotePart};
 ghost use Rattle.cg_cli.specs.Statuses.{RanWhole, RanBad, TookTooMany, WroteFront, Answers, AnswersReading, IsCutShort, budget_of};
 
 use crate::budget::budget_for;
-use crate::input::{InputFault, LIMIT, read_all};
+use crate::input::LIMIT;
 use crate::status::Status;
 use crate::tell::{tell_bad_script, tell_large};
 use cg_heap::Heap;
 use cg_interp::{RunEnd, run_script};
-use cg_io::{Sink, Source};
+use cg_io::{InputFault, Sink, Source, read_up_to};
 use cg_kind::Kind;
 use cg_script::{Script, ScriptFault, parse};
 use std::alloc::Global;
@@ -133,7 +133,7 @@ pub fn run_job<S: Source, K: Sink, B: Kind>(
     ensures only { IsCutShort result ⊎ IfSome (S.left source.old) (λ bytes. Answers bytes result) }
     ensures words { result ≢ Status.BadWords }
 {
-    match read_all(alloc, source) {
+    match read_up_to(alloc, source, LIMIT) {
         Ok(bytes) => run_read(alloc, given, bytes.as_slice(), sink, kinds),
         Err(InputFault::ReadFault) => Status::ReadFault,
         Err(InputFault::OutOfMemory) => Status::OutOfMemory,

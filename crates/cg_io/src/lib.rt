@@ -6,6 +6,7 @@
 //! of whose bytes nothing is known.
 #![tactic(auto)]
 
+mod input;
 mod mem_sink;
 mod mem_source;
 mod memory;
@@ -15,6 +16,7 @@ mod read_source;
 mod traits;
 mod write_sink;
 
+pub use input::{InputFault, read_up_to};
 pub use mem_sink::MemSink;
 pub use mem_source::MemSource;
 pub use null_sink::NullSink;

@@ -3,11 +3,8 @@ ghost use Rattle.std.specs.Prelude.{◌≡◌, ◌<◌, ◌≤◌, length, IfOk,
 ghost use Rattle.std.specs.Io.KnownBytes.{Consumes, IsAtEnd};
 ghost use Rattle.cg_io.specs.Causes.{Rose};
 
-use cg_io::{ReadFailed, Source};
+use crate::traits::{ReadFailed, Source};
 use std::alloc::Global;
-
-/// One more byte than records may have.
-pub const LIMIT: usize = 67_108_865;
 
 /// How many bytes are asked for at a time.
 const ROOM: usize = 4096;
@@ -15,22 +12,27 @@ const ROOM: usize = 4096;
 /// Why a source was not read.
 #[derive(Clone, Copy, Debug, PartialEq, Eq)]
 pub enum InputFault {
+    /// The source failed.
     ReadFault,
+    /// Memory for its bytes was refused.
     OutOfMemory,
 }
 
-/// Reads until the source answers its end, or `LIMIT` bytes were read.
-pub fn read_all<S: Source>(alloc: Global, source: &mut S) -> Result<Vec<u8>, InputFault>
+/// Reads until the source answers its end, or `most` bytes were read, and answers the bytes.
+///
+/// Fewer than `most` bytes are all that the source had. `ReadFault` comes only where its faults rose, and `OutOfMemory` leaves
+/// it somewhere before its end.
+pub fn read_up_to<S: Source>(alloc: Global, source: &mut S, most: usize) -> Result<Vec<u8>, InputFault>
     ensures bytes { IfOk result (λ b. Consumes (S.left source.old) (S.left source.new) b.items) }
-    ensures size { IfOk result (λ b. length b.items ≤ LIMIT) }
-    ensures end { IfOk result (λ b. length b.items < LIMIT → IsAtEnd (S.left source.new)) }
+    ensures size { IfOk result (λ b. length b.items ≤ most) }
+    ensures end { IfOk result (λ b. length b.items < most → IsAtEnd (S.left source.new)) }
     ensures fault { result ≡ Err InputFault.ReadFault → Rose (S.faults source.old) (S.faults source.new) }
     ensures later { S.faults source.old ≤ S.faults source.new }
 {
     let mut bytes = Vec::new(alloc);
     let mut buffer = [0u8; ROOM];
-    'reads: while bytes.len() < LIMIT {
-        let room = (LIMIT - bytes.len()).min(ROOM);
+    'reads: while bytes.len() < most {
+        let room = (most - bytes.len()).min(ROOM);
         match source.read(&mut buffer[..room]) {
             Ok(0) => return Ok(bytes),
             Ok(n) => {
