@@ -1,14 +1,14 @@
 """Makes the stored texts again: `python3 -m tests.make_texts GCRUN`, in the folder `python`.
 
 GCRUN is the built program, crates/gcrun/out/gcrun. The texts of the generated scripts go to tests/texts.jsonl, a line
-for each seed, and those of the scripts in `points` to files beside them.
+for each seed.
 """
 import json
 import subprocess
 import sys
 
 from .generator import Generator
-from .running import POINTS, TEXTS
+from .running import TEXTS
 
 SEEDS = 340
 # a bad script, and a run that ended for want of budget, have texts too
@@ -29,8 +29,6 @@ def main(program: str) -> None:
         for seed in range(SEEDS):
             script = Generator(seed).script()
             texts.write(json.dumps({"seed": seed, "script": script, "text": text_of(program, script)}) + "\n")
-    for script_file in sorted(POINTS.glob("*.script")):
-        script_file.with_suffix(".expected").write_text(text_of(program, script_file.read_text()))
 
 
 if __name__ == "__main__":

@@ -10,7 +10,7 @@ from . import judge
 
 HERE = Path(__file__).resolve().parent
 RECORDER = HERE.parent / "gcrecord.py"
-CPYTHON = HERE.parent.parent / "examples" / "cpython"
+JUDGED = HERE.parent.parent / "examples" / "judged"
 GCCHECK = HERE.parent.parent / "crates" / "gccheck" / "out" / "gccheck"
 
 

@@ -10,8 +10,8 @@ from typing import Iterable, Iterator, NamedTuple
 
 HERE = Path(__file__).resolve().parent
 PROGRAM = HERE.parent / "gcscript.py"
-POINTS = HERE.parent / "points"
 EXAMPLES = HERE.parent.parent / "examples"
+OTHERWISE = EXAMPLES / "otherwise"
 TEXTS = HERE / "texts.jsonl"
 
 
@@ -37,8 +37,8 @@ class Outcome(NamedTuple):
 
 
 def folder_cases(folder: Path) -> list[Case]:
-    """The scripts of a folder with their texts."""
-    scripts = sorted(folder.glob("*.script"))
+    """The scripts of a folder with their texts, but for those that are run by other words than `run`."""
+    scripts = [script for script in sorted(folder.glob("*.script")) if not script.with_suffix(".args").exists()]
     return [Case(script.stem, script.read_text(), script.with_suffix(".expected").read_text()) for script in scripts]
 
 

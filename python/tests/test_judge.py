@@ -1,11 +1,7 @@
 """The plain judge on small records, each verdict by hand."""
-import re
 import unittest
-from pathlib import Path
 
 from .recording import verdict
-
-TOP = Path(__file__).resolve().parent.parent.parent
 
 # a list that held itself and was thrown away, as the collector finds it and as it is left after the finalizers
 OWN_LIST = "record 2; graph 1; m 2 1 0; r 2; lost 2; graph 2; m 2 1 0; r 2; lost 2; stop; end"
@@ -52,16 +48,3 @@ class Verdicts(unittest.TestCase):
 
     def test_no_line_feed_at_the_end(self) -> None:
         self.assertEqual("no 0 1", verdict("end"))
-
-
-class Stored(unittest.TestCase):
-    """The collections that the gate's test of the checker has."""
-
-    def test_they_are_two_of_the_stored_record(self) -> None:
-        source = (TOP / "crates/cg_cert/src/cpython_tests.rt").read_text("utf-8")
-        literal = re.search(r'COLLECTIONS: &str = "(.*?)";', source, re.DOTALL)
-        assert literal is not None
-        text = re.sub(r"\\\n\s*", "", literal[1]).replace("\\n", "\n")
-        stored = (TOP / "examples/cpython/collections.records").read_text("ascii")
-        records = stored.removesuffix("end\n").split("record ")[1:]
-        self.assertEqual(f"record {records[1]}record {records[3]}end\n", text)

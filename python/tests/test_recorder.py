@@ -6,9 +6,9 @@ import tempfile
 import unittest
 from pathlib import Path
 
-from .recording import CPYTHON, explained, record, run, verdict
+from .recording import JUDGED, explained, record, run, verdict
 
-sys.path.insert(0, str(CPYTHON))
+sys.path.insert(0, str(JUDGED))
 from build import build  # noqa: E402
 
 # garbage
@@ -197,7 +197,7 @@ with gcrecord.Recorder(file) as recorder:
     gc.collect()
 print(recorder.recorded, dict(recorder.left_out), repr(file.getvalue()))
 """
-        path = f"import sys\nsys.path.insert(0, {str(CPYTHON.parent.parent / 'python')!r})\n"
+        path = f"import sys\nsys.path.insert(0, {str(JUDGED.parent.parent / 'python')!r})\n"
         recorded = record(path + QUIET + program, "--most", 1)
         self.assertEqual("0 {'OSError in the recorder': 1} 'end\\n'\n", recorded.output)
 
@@ -305,10 +305,10 @@ class Explained(unittest.TestCase):
 
 
 class Examples(unittest.TestCase):
-    """The examples for CPython."""
+    """The examples of `judged`."""
 
     def test_a_program_that_is_right(self) -> None:
-        recorded = record([CPYTHON / "cycles.py"])
+        recorded = record([JUDGED / "cycles.py"])
         self.assertEqual(("", recorded.all_right), (recorded.message, recorded.verdict))
         self.assertGreater(sum(len(graph.lost) for graph in recorded.graphs), 1000)
 
@@ -316,7 +316,7 @@ class Examples(unittest.TestCase):
     def test_boxes_that_visit_what_they_borrow(self) -> None:
         with tempfile.TemporaryDirectory() as name:
             build(Path(name))
-            shutil.copy(CPYTHON / "two_boxes.py", name)
+            shutil.copy(JUDGED / "two_boxes.py", name)
             two = record([Path(name, "two_boxes.py")])
             one = record([Path(name, "two_boxes.py"), 1])
         self.assertEqual(f"no {len(two.graphs)} 3", two.verdict)
@@ -325,9 +325,9 @@ class Examples(unittest.TestCase):
         self.assertEqual(one.all_right, one.verdict)
 
     def test_the_stored_records(self) -> None:
-        text = (CPYTHON / "collections.records").read_text("ascii")
+        text = (JUDGED / "collections.records").read_text("ascii")
         self.assertLessEqual(len(text), 200_000)
-        self.assertEqual((CPYTHON / "collections.verdict").read_text("ascii"), verdict(text) + "\n")
+        self.assertEqual((JUDGED / "collections.expected").read_text("ascii"), verdict(text) + "\n")
 
 
 if __name__ == "__main__":

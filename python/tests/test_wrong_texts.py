@@ -5,7 +5,7 @@ from typing import Callable
 
 from beside.texts import seen
 
-from .running import POINTS, Case, compare_all, folder_cases, run, stored_cases
+from .running import OTHERWISE, Case, compare_all, folder_cases, run, stored_cases
 
 FEWEST = 40
 
@@ -99,7 +99,7 @@ class WrongPoints(unittest.TestCase):
 
     def refuse_change(self, name: str, old: str, new: str) -> None:
         """Wants the status 1 where the text of a point's script is changed."""
-        (case,) = [case for case in folder_cases(POINTS) if case.name == name]
+        (case,) = [case for case in folder_cases(OTHERWISE) if case.name == name]
         self.assertEqual(1, case.text.count(old))
         self.assertEqual(1, run(case.script, text=case.text.replace(old, new)).status)
 

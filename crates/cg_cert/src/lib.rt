@@ -14,8 +14,6 @@
 #[cfg(test)]
 mod calls;
 mod check;
-#[cfg(test)]
-mod cpython_tests;
 mod degrees;
 mod graph;
 mod laws;

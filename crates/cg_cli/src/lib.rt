@@ -16,12 +16,10 @@ mod top;
 
 pub use cg_words::{Job, read_words};
 pub use status::Status;
-pub use top::gc_run;
+pub use top::{gc_over, gc_run};
 
 #[cfg(test)]
 mod collections;
-#[cfg(test)]
-mod examples;
 #[cfg(test)]
 mod inspections;
 #[cfg(test)]

@@ -19,8 +19,8 @@ use cg_promises::{no_dead_lines, one_finalizer_each};
 use cg_words::{Job, read_words};
 use std::alloc::{AllocError, Global};
 
-/// The same over kinds of any one type.
-fn gc_over<S: Source, K: Sink, B: Kind>(
+/// `gc_run` over kinds of any one type, as one that needs no boxes. Its clauses are those of `gc_run`, which adds `promises`.
+pub fn gc_over<S: Source, K: Sink, B: Kind>(
     alloc: Global,
     words: &[String],
     source: &mut S,

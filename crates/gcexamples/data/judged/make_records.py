@@ -1,4 +1,4 @@
-"""Writes `collections.records`, real collections of this CPython, and `collections.verdict`, what is expected of them.
+"""Writes `collections.records`, real collections of this CPython, and `collections.expected`, the verdict on them.
 
 The recorder is used from within the program here.
 """
@@ -6,7 +6,8 @@ import sys
 from pathlib import Path
 
 HERE = Path(__file__).resolve().parent
-sys.path.insert(0, str(HERE.parent.parent / "python"))
+# the folder stands in crates/gcexamples/data, and `examples` is a link to that
+sys.path.insert(0, str(HERE.parents[3] / "python"))
 
 import cycles  # noqa: E402
 import gcrecord  # noqa: E402
@@ -17,4 +18,4 @@ if __name__ == "__main__":
     with open(HERE / "collections.records", "w", encoding="ascii") as file:
         with gcrecord.Recorder(file) as recorder:
             cycles.main(ROUNDS)
-    (HERE / "collections.verdict").write_text(f"yes {recorder.recorded}\n")
+    (HERE / "collections.expected").write_text(f"yes {recorder.recorded}\n")
