@@ -2,7 +2,7 @@
 //!
 //! Beside `NAME.script` or `NAME.records` stand `NAME.expected`, the text that it gives; where it is not run by the usual words,
 //! `NAME.args`, a word a line; and where it does not end with status 0, `NAME.status`.
-ghost use Rattle.std.specs.Prelude.{◌≡◌, ◌×◌, ◌↔◌};
+ghost use Rattle.std.specs.Prelude.{◌≡◌, ◌↔◌};
 
 use cg_any_kind::six;
 use cg_cert::check_run;
