@@ -2,7 +2,7 @@
 //!
 //! Beside `NAME.script` or `NAME.records` stand `NAME.expected`, the text that it gives; where it is not run by the usual words,
 //! `NAME.args`, a word a line; and where it does not end with status 0, `NAME.status`.
-ghost use Rattle.std.specs.Prelude.{◌≡◌, ◌×◌, ◌↔◌};
+ghost use Rattle.std.specs.Prelude.{◌≡◌, ◌↔◌};
 
 use cg_any_kind::six;
 use cg_cert::check_run;
@@ -58,7 +58,7 @@ fn compare(found: &Given, stored: &Given) -> Outcome
 }
 
 /// What is in a sink, with how the run ended.
-fn given(alloc: Global, sink: &MemSink, status: u8) -> Result<Given, AllocError> {
+fn gathered(alloc: Global, sink: &MemSink, status: u8) -> Result<Given, AllocError> {
     let mut text = Vec::new(alloc);
     text.extend_from_slice(sink.bytes())?;
     Ok(Given { text, status })
@@ -69,7 +69,7 @@ fn run_script(alloc: Global, words: &[String], script: Vec<u8>) -> Result<Given,
     let mut source = PlainSource::new(script);
     let mut sink = MemSink::new(alloc, Vec::new(alloc), 0);
     let status = gc_over(alloc, words, &mut source, &mut sink, six(alloc)?);
-    given(alloc, &sink, status as u8)
+    gathered(alloc, &sink, status as u8)
 }
 
 /// The verdict on the records.
@@ -77,7 +77,7 @@ fn judge_records(alloc: Global, words: &[String], records: Vec<u8>) -> Result<Gi
     let mut source = PlainSource::new(records);
     let mut sink = MemSink::new(alloc, Vec::new(alloc), 0);
     let status = check_run(alloc, words, &mut source, &mut sink);
-    given(alloc, &sink, status as u8)
+    gathered(alloc, &sink, status as u8)
 }
 
 /// The text of a file, or another text where there is no such file.

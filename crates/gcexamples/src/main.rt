@@ -15,9 +15,13 @@ const INDEX: &str = "README.md";
 
 /// Runs the example, and writes its line. The answer is whether it came out as stored.
 fn tell(rt: &HostRuntime, path: &str, index: &str) -> io::Result<bool> {
-    let outcome = outcome_of(rt, path, index)?;
-    println!(rt; "{} {path}", outcome.words())?;
-    Ok(outcome == Outcome::AsStored)
+    let outcome = outcome_of(rt, path, index);
+    let words = match &outcome {
+        Ok(outcome) => outcome.words(),
+        Err(_) => "a file is missing:",
+    };
+    println!(rt; "{words} {path}")?;
+    Ok(matches!(outcome, Ok(Outcome::AsStored)))
 }
 
 fn main(rt: HostRuntime) -> io::Result<ExitCode> {
