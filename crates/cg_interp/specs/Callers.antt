@@ -1,9 +1,10 @@
 -- The activities that have commands, and what a command leaves. (Ours.)
-use Rattle.std.specs.Prelude.{◌≡◌, ℕ, true, ◌⊎◌, List, [], ◌∷◌, None, Some, Result}
+use Rattle.std.specs.Prelude.{◌≡◌, ℕ, true, ◌⊎◌, List, [], ◌∷◌, Option, None, Some, Result}
 use Rattle.cg_value.specs.declared.Entry.{Entry}
 use Rattle.cg_script.specs.declared.Script.{Script}
 use Rattle.cg_graph.specs.Value.{entry_references}
 use Rattle.cg_machine.specs.declared.event.Event.{Event}
+use Rattle.cg_machine.specs.Program.{body_of}
 use Rattle.cg_machine.specs.World.{World, Releasing, Running, push}
 use Rattle.cg_machine.specs.Frame.{Transition, procedure_of}
 use Rattle.cg_machine.specs.Commands.{CommandStep, new_collection, effect}
@@ -19,13 +20,14 @@ use Rattle.cg_script.specs.declared.Command.{Command}
 use Rattle.cg_graph.specs.Member.{Includes}
 use Rattle.cg_script.specs.Spelled.{IsSpelledCommand}
 use Rattle.cg_interp.specs.declared.turned.Turned.{Turned}
+use Rattle.cg_interp.specs.declared.turned.Turned.TheVariants as turned
 use Rattle.cg_interp.specs.Turns.{Makes}
 use Rattle.cg_laws.specs.Kept.{StaysKept}
-use Rattle.cg_interp.specs.Telling.{TurnsWith}
+use Rattle.cg_interp.specs.Collecting.{StandsWith}
 use Rattle.cg_machine.specs.Represents.{Represents}
 use Rattle.cg_interp.specs.declared.activity.Activity.{Activity}
 use Rattle.cg_interp.specs.declared.activity.Activity.TheVariants as activity
-use Rattle.cg_interp.specs.Engines.{State, StandsFor, ShowsAll, under, any_collecting}
+use Rattle.cg_interp.specs.Engines.{State, StandsFor, ShowsAll, under, any_collecting, commands_from}
 
 -- the script, or a frame
 abbrev pub IsCaller : Activity → Type 0
@@ -78,12 +80,12 @@ pub record Does (script : Script) (w : World) (command : Command) (e : State) (a
   pub may : CommandStep script w command transition.0 transition.1
   pub makes : Makes script transition e answer
 
--- A command asked for a collection, which has begun and taken its first step: the machine made the step of the command, and
--- went on from there.
+-- A command asked for a collection, which has begun: the machine made the step of the command, and no line is due.
 pub record StartsCollection (script : Script) (w : World) (command : Command) (e : State) (answer : Turned) : Type 0 where
   pub generation : ℕ
   pub may : CommandStep script w command [] (push (new_collection generation true w) w)
-  pub turns : TurnsWith script (λ still. Unit {0}) (push (new_collection generation true w) w) [] e answer
+  pub quiet : answer ≡ turned.Quiet
+  pub stands : StandsWith script e [] (push (new_collection generation true w) w)
 
 -- what is done for any command
 abbrev pub DoesAny : Script → World → Command → State → Turned → Type 0
@@ -107,6 +109,10 @@ pub record HasPerformed (script : Script) (top : Activity) (e : State) (answer :
   pub was : Policy
   pub few : HasFewHolds before
   pub performed : IsPerformed script top e world command before was answer
+
+-- In a procedure this command has the turn, and the one with that number comes after it.
+abbrev pub ComesNext : Script → ℕ → Option ℕ → Command → ℕ → Type 0
+ComesNext script procedure next command after = commands_from next (body_of script procedure) ≡ command ∷ commands_from (Some after) (body_of script procedure)
 
 -- Each of these commands is spelled by a script with so many texts.
 abbrev pub AreDoable : ℕ → List Command → Type 0
