@@ -1,0 +1,211 @@
+//! Writing the lines of an expansion.
+ghost use Rattle.std.specs.Prelude.{◌≡◌, ◌≤◌, ◌∷◌, [], ◌++◌, map, flat_map, length, decimal, codes, OnOk};
+ghost use Rattle.cg_script.specs.Canonical.{behind_space, joined, line_of_words};
+ghost use Rattle.cg_weakcoll.specs.Expansion.{weak_name, proc_name, object_name, exit_name, function_name, watch_name, wmap_lines, wset_lines, wget_lines, wdrop_lines, exit_lines, watch_lines, finalize_lines, call_line, call_lines, form_lines, written_by, with_feed, with_feeds};
+
+use crate::form::{Form, word_in};
+use arrayvec::ArrayString;
+use itoa::Buffer;
+use std::alloc::AllocError;
+
+/// A name that an expansion brings.
+type Name = ArrayString<64>;
+
+/// The name of this prefix and number.
+fn name(prefix: &str, number: u32) -> Name
+    requires { length prefix.now ≤ 10 }
+    ensures { result.bytes ≡ prefix.now ++ decimal number }
+{
+    let mut name = ArrayString::new();
+    name.push_str(prefix);
+    name.push_str(Buffer::new().format(number));
+    name
+}
+
+/// Writes words, a space before each.
+fn write_behind(out: &mut Vec<u8>, words: &[&[u8]]) -> Result<(), AllocError>
+    ensures { OnOk result (out.new.items ≡ out.old.items ++ flat_map behind_space (map (λ w. w.now) words.now)) }
+{
+    'words: for word in words {
+        out.push(b' ')?;
+        out.extend_from_slice(word)?;
+    }
+    Ok(())
+}
+
+/// Writes a line of these words, with one space between them.
+fn write_words(out: &mut Vec<u8>, words: &[&[u8]]) -> Result<(), AllocError>
+    ensures { OnOk result (out.new.items ≡ out.old.items ++ with_feed (joined (map (λ w. w.now) words.now))) }
+{
+    if let Some((first, others)) = words.split_first() {
+        out.extend_from_slice(first)?;
+        write_behind(out, others)?;
+    }
+    out.push(b'\n')?;
+    Ok(())
+}
+
+/// Writes `x = wmap`.
+fn write_wmap(out: &mut Vec<u8>, x: &[u8]) -> Result<(), AllocError>
+    ensures { OnOk result (out.new.items ≡ out.old.items ++ with_feeds (map joined (wmap_lines x.now))) }
+{
+    write_words(out, &[x, b"=", b"dict"])
+}
+
+/// Writes `wset M k v`.
+fn write_wset(
+    out: &mut Vec<u8>,
+    number: u32,
+    dict: &[u8],
+    key: &[u8],
+    value: &[u8],
+) -> Result<(), AllocError>
+    ensures { OnOk result (out.new.items ≡ out.old.items ++ with_feeds (map joined (wset_lines number dict.now key.now value.now))) }
+{
+    let weak = name("wv_", number);
+    let weak = weak.as_str().as_bytes();
+    write_words(out, &[weak, b"=", b"ref", value])?;
+    write_words(out, &[b"put", dict, key, weak])?;
+    write_words(out, &[b"del", weak])
+}
+
+/// Writes `x = wget M k`.
+fn write_wget(out: &mut Vec<u8>, x: &[u8], dict: &[u8], key: &[u8]) -> Result<(), AllocError>
+    ensures { OnOk result (out.new.items ≡ out.old.items ++ with_feeds (map joined (wget_lines x.now dict.now key.now))) }
+{
+    write_words(out, &[x, b"=", b"none"])?;
+    write_words(out, &[x, b"=", b"get", dict, key])?;
+    write_words(out, &[x, b"=", b"deref", x])
+}
+
+/// Writes `wdrop M k`.
+fn write_wdrop(out: &mut Vec<u8>, dict: &[u8], key: &[u8]) -> Result<(), AllocError>
+    ensures { OnOk result (out.new.items ≡ out.old.items ++ with_feeds (map joined (wdrop_lines dict.now key.now))) }
+{
+    write_words(out, &[b"drop", dict, key])
+}
+
+/// Writes the procedure of a `finalize` line.
+fn write_exit(out: &mut Vec<u8>, number: u32) -> Result<(), AllocError>
+    ensures { OnOk result (out.new.items ≡ out.old.items ++ with_feeds (map joined (exit_lines number))) }
+{
+    let object = name("wv_o_", number);
+    let object = object.as_str().as_bytes();
+    let watch = name("wv_w_", number);
+    let watch = watch.as_str().as_bytes();
+    write_words(out, &[b"def", name("wv_p_", number).as_str().as_bytes()])?;
+    write_words(out, &[object, b"=", b"deref", watch])?;
+    write_words(out, &[b"quit", object])?;
+    write_words(out, &[b"del", watch])?;
+    write_words(out, &[b"del", object])?;
+    write_words(out, &[b"call", name("wv_f_", number).as_str().as_bytes()])?;
+    write_words(out, &[b"end"])
+}
+
+/// Writes what follows the procedure: its function, the function to call, and the weak reference with it.
+fn write_watch(
+    out: &mut Vec<u8>,
+    number: u32,
+    object: &[u8],
+    function: &[u8],
+) -> Result<(), AllocError>
+    ensures { OnOk result (out.new.items ≡ out.old.items ++ with_feeds (map joined (watch_lines number object.now function.now))) }
+{
+    let own = name("wv_f_", number);
+    let own = own.as_str().as_bytes();
+    let proc = name("wv_p_", number);
+    write_words(
+        out,
+        &[
+            name("wv_g_", number).as_str().as_bytes(),
+            b"=",
+            b"func",
+            proc.as_str().as_bytes(),
+        ],
+    )?;
+    write_words(out, &[own, b"=", function])?;
+    write_words(
+        out,
+        &[
+            name("wv_w_", number).as_str().as_bytes(),
+            b"=",
+            b"ref",
+            object,
+            own,
+        ],
+    )
+}
+
+/// Writes `finalize y f`.
+fn write_finalize(
+    out: &mut Vec<u8>,
+    number: u32,
+    object: &[u8],
+    function: &[u8],
+) -> Result<(), AllocError>
+    ensures { OnOk result (out.new.items ≡ out.old.items ++ with_feeds (map joined (finalize_lines number object.now function.now))) }
+{
+    write_exit(out, number)?;
+    write_watch(out, number, object, function)
+}
+
+/// Writes what the line of this number becomes, which has this form and these words.
+fn write_form(out: &mut Vec<u8>, form: Form, number: u32, words: &[&[u8]]) -> Result<(), AllocError>
+    ensures { OnOk result (out.new.items ≡ out.old.items ++ with_feeds (map joined (form_lines form number (map (λ w. w.now) words.now)))) }
+{
+    match form {
+        Form::MakeMap => write_wmap(out, word_in(words, 0)),
+        Form::Set => write_wset(
+            out,
+            number,
+            word_in(words, 1),
+            word_in(words, 2),
+            word_in(words, 3),
+        ),
+        Form::Get => write_wget(out, word_in(words, 0), word_in(words, 3), word_in(words, 4)),
+        Form::Remove => write_wdrop(out, word_in(words, 1), word_in(words, 2)),
+        Form::Finalize => write_finalize(out, number, word_in(words, 1), word_in(words, 2)),
+    }
+}
+
+/// Writes a line as it is.
+fn write_copy(out: &mut Vec<u8>, line: &[u8]) -> Result<(), AllocError>
+    ensures { OnOk result (out.new.items ≡ out.old.items ++ with_feed line.now) }
+{
+    out.extend_from_slice(line)?;
+    out.push(b'\n')?;
+    Ok(())
+}
+
+/// Writes what the line of this number becomes.
+pub(crate) fn write_line(
+    out: &mut Vec<u8>,
+    form: Option<Form>,
+    number: u32,
+    line: &[u8],
+    words: &[&[u8]],
+) -> Result<(), AllocError>
+    ensures { OnOk result (out.new.items ≡ out.old.items ++ with_feeds (written_by form number line.now (map (λ w. w.now) words.now))) }
+{
+    match form {
+        Some(form) => write_form(out, form, number, words),
+        None => write_copy(out, line),
+    }
+}
+
+/// Writes the line at the end for the `finalize` line of this number.
+fn write_call(out: &mut Vec<u8>, number: u32) -> Result<(), AllocError>
+    ensures { OnOk result (out.new.items ≡ out.old.items ++ with_feed (joined (call_line number))) }
+{
+    write_words(out, &[b"call", name("wv_g_", number).as_str().as_bytes()])
+}
+
+/// Writes the lines at the end for the `finalize` lines of these numbers, for the last one first.
+pub(crate) fn write_calls(out: &mut Vec<u8>, mut numbers: Vec<u32>) -> Result<(), AllocError>
+    ensures { OnOk result (out.new.items ≡ out.old.items ++ with_feeds (call_lines numbers.items)) }
+{
+    'calls: while let Some(number) = numbers.pop() {
+        write_call(out, number)?;
+    }
+    Ok(())
+}
