@@ -3,13 +3,13 @@
 //! `expand` is what the layer above uses: it answers the expansion of some bytes by `specs/Expansion`, or their first bad line.
 #![tactic(auto)]
 
-mod expand;
+mod expander;
 mod fault;
 mod form;
 mod pieces;
 mod write;
 
-pub use expand::expand;
+pub use expander::expand;
 
 #[cfg(test)]
 mod tests;

@@ -1,44 +1,52 @@
 //! Writing the lines of an expansion.
-ghost use Rattle.std.specs.Prelude.{◌≡◌, ◌≤◌, ◌∷◌, [], ◌++◌, map, flat_map, length, decimal, codes, OnOk};
-ghost use Rattle.cg_script.specs.Canonical.{behind_space, joined, line_of_words};
-ghost use Rattle.cg_weakcoll.specs.Expansion.{weak_name, proc_name, object_name, exit_name, function_name, watch_name, wmap_lines, wset_lines, wget_lines, wdrop_lines, exit_lines, watch_lines, finalize_lines, call_line, call_lines, form_lines, written_by, with_feed, with_feeds};
+ghost use Rattle.std.specs.Prelude.{◌≡◌, ◌++◌, map, flat_map, OnOk};
+ghost use Rattle.cg_script.specs.Canonical.{behind_space, joined};
+ghost use Rattle.cg_weakcoll.specs.Words.{word_bytes};
+ghost use Rattle.cg_weakcoll.specs.Expansion.{wmap_lines, wset_lines, wget_lines, wdrop_lines, exit_lines, watch_lines, finalize_lines, call_line, call_lines, form_lines, written_by, with_feed, with_feeds};
 
 use crate::form::{Form, word_in};
-use arrayvec::ArrayString;
 use itoa::Buffer;
 use std::alloc::AllocError;
 
-/// A name that an expansion brings.
-type Name = ArrayString<64>;
+/// A word of a line that is written.
+#[derive(Clone, Copy)]
+pub(crate) enum Word<'a> {
+    /// These bytes.
+    Text(&'a [u8]),
+    /// A name that the line of this number brings, by what stands before the number.
+    Own(&'a [u8], u32),
+}
 
-/// The name of this prefix and number.
-fn name(prefix: &str, number: u32) -> Name
-    requires { length prefix.now ≤ 10 }
-    ensures { result.bytes ≡ prefix.now ++ decimal number }
+/// Writes a word.
+fn write_word(out: &mut Vec<u8>, word: Word<'_>) -> Result<(), AllocError>
+    ensures { OnOk result (out.new.items ≡ out.old.items ++ word_bytes word.entry) }
 {
-    let mut name = ArrayString::new();
-    name.push_str(prefix);
-    name.push_str(Buffer::new().format(number));
-    name
+    match word {
+        Word::Text(text) => out.extend_from_slice(text),
+        Word::Own(front, number) => {
+            out.extend_from_slice(front)?;
+            out.extend_from_slice(Buffer::new().format(number).as_bytes())
+        }
+    }
 }
 
 /// Writes words, a space before each.
-fn write_behind(out: &mut Vec<u8>, words: &[&[u8]]) -> Result<(), AllocError>
-    ensures { OnOk result (out.new.items ≡ out.old.items ++ flat_map behind_space (map (λ w. w.now) words.now)) }
+fn write_behind(out: &mut Vec<u8>, words: &[Word<'_>]) -> Result<(), AllocError>
+    ensures { OnOk result (out.new.items ≡ out.old.items ++ flat_map behind_space (map word_bytes words.now)) }
 {
     'words: for word in words {
         out.push(b' ')?;
-        out.extend_from_slice(word)?;
+        write_word(out, *word)?;
     }
     Ok(())
 }
 
 /// Writes a line of these words, with one space between them.
-fn write_words(out: &mut Vec<u8>, words: &[&[u8]]) -> Result<(), AllocError>
-    ensures { OnOk result (out.new.items ≡ out.old.items ++ with_feed (joined (map (λ w. w.now) words.now))) }
+fn write_words(out: &mut Vec<u8>, words: &[Word<'_>]) -> Result<(), AllocError>
+    ensures { OnOk result (out.new.items ≡ out.old.items ++ with_feed (joined (map word_bytes words.now))) }
 {
     if let Some((first, others)) = words.split_first() {
-        out.extend_from_slice(first)?;
+        write_word(out, *first)?;
         write_behind(out, others)?;
     }
     out.push(b'\n')?;
@@ -49,100 +57,62 @@ fn write_words(out: &mut Vec<u8>, words: &[&[u8]]) -> Result<(), AllocError>
 fn write_wmap(out: &mut Vec<u8>, x: &[u8]) -> Result<(), AllocError>
     ensures { OnOk result (out.new.items ≡ out.old.items ++ with_feeds (map joined (wmap_lines x.now))) }
 {
-    write_words(out, &[x, b"=", b"dict"])
+    write_words(out, &[Word::Text(x), Word::Text(b"="), Word::Text(b"dict")])
 }
 
 /// Writes `wset M k v`.
-fn write_wset(
-    out: &mut Vec<u8>,
-    number: u32,
-    dict: &[u8],
-    key: &[u8],
-    value: &[u8],
-) -> Result<(), AllocError>
+fn write_wset(out: &mut Vec<u8>, number: u32, dict: &[u8], key: &[u8], value: &[u8]) -> Result<(), AllocError>
     ensures { OnOk result (out.new.items ≡ out.old.items ++ with_feeds (map joined (wset_lines number dict.now key.now value.now))) }
 {
-    let weak = name("wv_", number);
-    let weak = weak.as_str().as_bytes();
-    write_words(out, &[weak, b"=", b"ref", value])?;
-    write_words(out, &[b"put", dict, key, weak])?;
-    write_words(out, &[b"del", weak])
+    let weak = Word::Own(b"wv_", number);
+    write_words(out, &[weak, Word::Text(b"="), Word::Text(b"ref"), Word::Text(value)])?;
+    write_words(out, &[Word::Text(b"put"), Word::Text(dict), Word::Text(key), weak])?;
+    write_words(out, &[Word::Text(b"del"), weak])
 }
 
 /// Writes `x = wget M k`.
 fn write_wget(out: &mut Vec<u8>, x: &[u8], dict: &[u8], key: &[u8]) -> Result<(), AllocError>
     ensures { OnOk result (out.new.items ≡ out.old.items ++ with_feeds (map joined (wget_lines x.now dict.now key.now))) }
 {
-    write_words(out, &[x, b"=", b"none"])?;
-    write_words(out, &[x, b"=", b"get", dict, key])?;
-    write_words(out, &[x, b"=", b"deref", x])
+    write_words(out, &[Word::Text(x), Word::Text(b"="), Word::Text(b"none")])?;
+    write_words(out, &[Word::Text(x), Word::Text(b"="), Word::Text(b"get"), Word::Text(dict), Word::Text(key)])?;
+    write_words(out, &[Word::Text(x), Word::Text(b"="), Word::Text(b"deref"), Word::Text(x)])
 }
 
 /// Writes `wdrop M k`.
 fn write_wdrop(out: &mut Vec<u8>, dict: &[u8], key: &[u8]) -> Result<(), AllocError>
     ensures { OnOk result (out.new.items ≡ out.old.items ++ with_feeds (map joined (wdrop_lines dict.now key.now))) }
 {
-    write_words(out, &[b"drop", dict, key])
+    write_words(out, &[Word::Text(b"drop"), Word::Text(dict), Word::Text(key)])
 }
 
 /// Writes the procedure of a `finalize` line.
 fn write_exit(out: &mut Vec<u8>, number: u32) -> Result<(), AllocError>
     ensures { OnOk result (out.new.items ≡ out.old.items ++ with_feeds (map joined (exit_lines number))) }
 {
-    let object = name("wv_o_", number);
-    let object = object.as_str().as_bytes();
-    let watch = name("wv_w_", number);
-    let watch = watch.as_str().as_bytes();
-    write_words(out, &[b"def", name("wv_p_", number).as_str().as_bytes()])?;
-    write_words(out, &[object, b"=", b"deref", watch])?;
-    write_words(out, &[b"quit", object])?;
-    write_words(out, &[b"del", watch])?;
-    write_words(out, &[b"del", object])?;
-    write_words(out, &[b"call", name("wv_f_", number).as_str().as_bytes()])?;
-    write_words(out, &[b"end"])
+    let object = Word::Own(b"wv_o_", number);
+    let watch = Word::Own(b"wv_w_", number);
+    write_words(out, &[Word::Text(b"def"), Word::Own(b"wv_p_", number)])?;
+    write_words(out, &[object, Word::Text(b"="), Word::Text(b"deref"), watch])?;
+    write_words(out, &[Word::Text(b"quit"), object])?;
+    write_words(out, &[Word::Text(b"del"), watch])?;
+    write_words(out, &[Word::Text(b"del"), object])?;
+    write_words(out, &[Word::Text(b"call"), Word::Own(b"wv_f_", number)])?;
+    write_words(out, &[Word::Text(b"end")])
 }
 
 /// Writes what follows the procedure: its function, the function to call, and the weak reference with it.
-fn write_watch(
-    out: &mut Vec<u8>,
-    number: u32,
-    object: &[u8],
-    function: &[u8],
-) -> Result<(), AllocError>
+fn write_watch(out: &mut Vec<u8>, number: u32, object: &[u8], function: &[u8]) -> Result<(), AllocError>
     ensures { OnOk result (out.new.items ≡ out.old.items ++ with_feeds (map joined (watch_lines number object.now function.now))) }
 {
-    let own = name("wv_f_", number);
-    let own = own.as_str().as_bytes();
-    let proc = name("wv_p_", number);
-    write_words(
-        out,
-        &[
-            name("wv_g_", number).as_str().as_bytes(),
-            b"=",
-            b"func",
-            proc.as_str().as_bytes(),
-        ],
-    )?;
-    write_words(out, &[own, b"=", function])?;
-    write_words(
-        out,
-        &[
-            name("wv_w_", number).as_str().as_bytes(),
-            b"=",
-            b"ref",
-            object,
-            own,
-        ],
-    )
+    let own = Word::Own(b"wv_f_", number);
+    write_words(out, &[Word::Own(b"wv_g_", number), Word::Text(b"="), Word::Text(b"func"), Word::Own(b"wv_p_", number)])?;
+    write_words(out, &[own, Word::Text(b"="), Word::Text(function)])?;
+    write_words(out, &[Word::Own(b"wv_w_", number), Word::Text(b"="), Word::Text(b"ref"), Word::Text(object), own])
 }
 
 /// Writes `finalize y f`.
-fn write_finalize(
-    out: &mut Vec<u8>,
-    number: u32,
-    object: &[u8],
-    function: &[u8],
-) -> Result<(), AllocError>
+fn write_finalize(out: &mut Vec<u8>, number: u32, object: &[u8], function: &[u8]) -> Result<(), AllocError>
     ensures { OnOk result (out.new.items ≡ out.old.items ++ with_feeds (map joined (finalize_lines number object.now function.now))) }
 {
     write_exit(out, number)?;
@@ -155,13 +125,7 @@ fn write_form(out: &mut Vec<u8>, form: Form, number: u32, words: &[&[u8]]) -> Re
 {
     match form {
         Form::MakeMap => write_wmap(out, word_in(words, 0)),
-        Form::Set => write_wset(
-            out,
-            number,
-            word_in(words, 1),
-            word_in(words, 2),
-            word_in(words, 3),
-        ),
+        Form::Set => write_wset(out, number, word_in(words, 1), word_in(words, 2), word_in(words, 3)),
         Form::Get => write_wget(out, word_in(words, 0), word_in(words, 3), word_in(words, 4)),
         Form::Remove => write_wdrop(out, word_in(words, 1), word_in(words, 2)),
         Form::Finalize => write_finalize(out, number, word_in(words, 1), word_in(words, 2)),
@@ -178,13 +142,7 @@ fn write_copy(out: &mut Vec<u8>, line: &[u8]) -> Result<(), AllocError>
 }
 
 /// Writes what the line of this number becomes.
-pub(crate) fn write_line(
-    out: &mut Vec<u8>,
-    form: Option<Form>,
-    number: u32,
-    line: &[u8],
-    words: &[&[u8]],
-) -> Result<(), AllocError>
+pub(crate) fn write_line(out: &mut Vec<u8>, form: Option<Form>, number: u32, line: &[u8], words: &[&[u8]]) -> Result<(), AllocError>
     ensures { OnOk result (out.new.items ≡ out.old.items ++ with_feeds (written_by form number line.now (map (λ w. w.now) words.now))) }
 {
     match form {
@@ -197,7 +155,7 @@ pub(crate) fn write_line(
 fn write_call(out: &mut Vec<u8>, number: u32) -> Result<(), AllocError>
     ensures { OnOk result (out.new.items ≡ out.old.items ++ with_feed (joined (call_line number))) }
 {
-    write_words(out, &[b"call", name("wv_g_", number).as_str().as_bytes()])
+    write_words(out, &[Word::Text(b"call"), Word::Own(b"wv_g_", number)])
 }
 
 /// Writes the lines at the end for the `finalize` lines of these numbers, for the last one first.
