@@ -105,10 +105,17 @@ fn is_kept(word: &[u8]) -> bool
     begins_with(b"wv_", word) || begins_with(b"del=wv_", word) || begins_with(b"legacy=wv_", word)
 }
 
+fn any_kept(words: &[&[u8]]) -> bool
+    ensures { result ≡ list_any (λ w. is_kept w.now) words.now }
+{
+    words.iter().any(|word| is_kept(word))
+}
+
+/// Whether one of the words does.
 fn has_kept(words: &[&[u8]]) -> bool
     ensures { result ≡ list_any is_kept (map (λ w. w.now) words.now) }
 {
-    words.iter().any(|word| is_kept(word))
+    any_kept(words)
 }
 
 /// What is wrong with the names of a line.

@@ -1,5 +1,6 @@
 //! Which lines an expansion replaces.
 ghost use Rattle.std.specs.Prelude.{◌≡◌, map};
+ghost use Rattle.std.specs.Str.{bytes_eq};
 ghost use Rattle.cg_script.specs.Pieces.{word_at, word_is};
 ghost use Rattle.cg_script.specs.Meanings.{is_passed};
 ghost use Rattle.cg_weakcoll.specs.Expansion.{binding_form, opening_form, form_of};
@@ -32,11 +33,17 @@ pub(crate) fn word_in<'a>(words: &[&'a [u8]], place: usize) -> &'a [u8]
     }
 }
 
+fn is_text(word: &[u8], text: &[u8]) -> bool
+    ensures { result ≡ bytes_eq word.now text.now }
+{
+    word == text
+}
+
 /// Whether the word at this place is this text.
 pub(crate) fn has_word(words: &[&[u8]], place: usize, text: &[u8]) -> bool
     ensures { result ≡ word_is (map (λ w. w.now) words.now) place text.now }
 {
-    word_in(words, place) == text
+    is_text(word_in(words, place), text)
 }
 
 /// Whether a line of these words is passed over: it has none, or it is a comment.
@@ -53,10 +60,12 @@ pub(crate) fn is_passed_over(words: &[&[u8]]) -> bool
 fn binding_form(word: &[u8]) -> Option<Form>
     ensures { result ≡ binding_form word.now }
 {
-    match word {
-        b"wmap" => Some(Form::MakeMap),
-        b"wget" => Some(Form::Get),
-        _ => None,
+    if is_text(word, b"wmap") {
+        Some(Form::MakeMap)
+    } else if is_text(word, b"wget") {
+        Some(Form::Get)
+    } else {
+        None
     }
 }
 
@@ -64,11 +73,14 @@ fn binding_form(word: &[u8]) -> Option<Form>
 fn opening_form(word: &[u8]) -> Option<Form>
     ensures { result ≡ opening_form word.now }
 {
-    match word {
-        b"wset" => Some(Form::Set),
-        b"wdrop" => Some(Form::Remove),
-        b"finalize" => Some(Form::Finalize),
-        _ => None,
+    if is_text(word, b"wset") {
+        Some(Form::Set)
+    } else if is_text(word, b"wdrop") {
+        Some(Form::Remove)
+    } else if is_text(word, b"finalize") {
+        Some(Form::Finalize)
+    } else {
+        None
     }
 }
 

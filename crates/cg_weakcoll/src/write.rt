@@ -1,7 +1,7 @@
 //! Writing the lines of an expansion.
 ghost use Rattle.std.specs.Prelude.{◌≡◌, ◌++◌, map, flat_map, OnOk};
 ghost use Rattle.cg_script.specs.Canonical.{behind_space, joined};
-ghost use Rattle.cg_weakcoll.specs.Words.{word_bytes};
+ghost use Rattle.cg_weakcoll.specs.Words.{word_bytes, line_of};
 ghost use Rattle.cg_weakcoll.specs.Expansion.{wmap_lines, wset_lines, wget_lines, wdrop_lines, exit_lines, watch_lines, finalize_lines, call_line, call_lines, form_lines, written_by, with_feed, with_feeds};
 
 use crate::form::{Form, word_in};
@@ -53,37 +53,51 @@ fn write_words(out: &mut Vec<u8>, words: &[Word<'_>]) -> Result<(), AllocError>
     Ok(())
 }
 
+/// Writes lines of these words.
+fn write_lines(out: &mut Vec<u8>, lines: &[&[Word<'_>]]) -> Result<(), AllocError>
+    ensures { OnOk result (out.new.items ≡ out.old.items ++ with_feeds (map line_of lines.now)) }
+{
+    'lines: for line in lines {
+        write_words(out, line)?;
+    }
+    Ok(())
+}
+
 /// Writes `x = wmap`.
 fn write_wmap(out: &mut Vec<u8>, x: &[u8]) -> Result<(), AllocError>
     ensures { OnOk result (out.new.items ≡ out.old.items ++ with_feeds (map joined (wmap_lines x.now))) }
 {
-    write_words(out, &[Word::Text(x), Word::Text(b"="), Word::Text(b"dict")])
+    write_lines(out, &[&[Word::Text(x), Word::Text(b"="), Word::Text(b"dict")]])
 }
 
 /// Writes `wset M k v`.
-fn write_wset(out: &mut Vec<u8>, number: u32, dict: &[u8], key: &[u8], value: &[u8]) -> Result<(), AllocError>
+fn write_wset<'a>(out: &mut Vec<u8>, number: u32, dict: &'a [u8], key: &'a [u8], value: &'a [u8]) -> Result<(), AllocError>
     ensures { OnOk result (out.new.items ≡ out.old.items ++ with_feeds (map joined (wset_lines number dict.now key.now value.now))) }
 {
     let weak = Word::Own(b"wv_", number);
-    write_words(out, &[weak, Word::Text(b"="), Word::Text(b"ref"), Word::Text(value)])?;
-    write_words(out, &[Word::Text(b"put"), Word::Text(dict), Word::Text(key), weak])?;
-    write_words(out, &[Word::Text(b"del"), weak])
+    write_lines(out, &[
+        &[weak, Word::Text(b"="), Word::Text(b"ref"), Word::Text(value)],
+        &[Word::Text(b"put"), Word::Text(dict), Word::Text(key), weak],
+        &[Word::Text(b"del"), weak],
+    ])
 }
 
 /// Writes `x = wget M k`.
-fn write_wget(out: &mut Vec<u8>, x: &[u8], dict: &[u8], key: &[u8]) -> Result<(), AllocError>
+fn write_wget<'a>(out: &mut Vec<u8>, x: &'a [u8], dict: &'a [u8], key: &'a [u8]) -> Result<(), AllocError>
     ensures { OnOk result (out.new.items ≡ out.old.items ++ with_feeds (map joined (wget_lines x.now dict.now key.now))) }
 {
-    write_words(out, &[Word::Text(x), Word::Text(b"="), Word::Text(b"none")])?;
-    write_words(out, &[Word::Text(x), Word::Text(b"="), Word::Text(b"get"), Word::Text(dict), Word::Text(key)])?;
-    write_words(out, &[Word::Text(x), Word::Text(b"="), Word::Text(b"deref"), Word::Text(x)])
+    write_lines(out, &[
+        &[Word::Text(x), Word::Text(b"="), Word::Text(b"none")],
+        &[Word::Text(x), Word::Text(b"="), Word::Text(b"get"), Word::Text(dict), Word::Text(key)],
+        &[Word::Text(x), Word::Text(b"="), Word::Text(b"deref"), Word::Text(x)],
+    ])
 }
 
 /// Writes `wdrop M k`.
-fn write_wdrop(out: &mut Vec<u8>, dict: &[u8], key: &[u8]) -> Result<(), AllocError>
+fn write_wdrop<'a>(out: &mut Vec<u8>, dict: &'a [u8], key: &'a [u8]) -> Result<(), AllocError>
     ensures { OnOk result (out.new.items ≡ out.old.items ++ with_feeds (map joined (wdrop_lines dict.now key.now))) }
 {
-    write_words(out, &[Word::Text(b"drop"), Word::Text(dict), Word::Text(key)])
+    write_lines(out, &[&[Word::Text(b"drop"), Word::Text(dict), Word::Text(key)]])
 }
 
 /// Writes the procedure of a `finalize` line.
@@ -92,23 +106,27 @@ fn write_exit(out: &mut Vec<u8>, number: u32) -> Result<(), AllocError>
 {
     let object = Word::Own(b"wv_o_", number);
     let watch = Word::Own(b"wv_w_", number);
-    write_words(out, &[Word::Text(b"def"), Word::Own(b"wv_p_", number)])?;
-    write_words(out, &[object, Word::Text(b"="), Word::Text(b"deref"), watch])?;
-    write_words(out, &[Word::Text(b"quit"), object])?;
-    write_words(out, &[Word::Text(b"del"), watch])?;
-    write_words(out, &[Word::Text(b"del"), object])?;
-    write_words(out, &[Word::Text(b"call"), Word::Own(b"wv_f_", number)])?;
-    write_words(out, &[Word::Text(b"end")])
+    write_lines(out, &[
+        &[Word::Text(b"def"), Word::Own(b"wv_p_", number)],
+        &[object, Word::Text(b"="), Word::Text(b"deref"), watch],
+        &[Word::Text(b"quit"), object],
+        &[Word::Text(b"del"), watch],
+        &[Word::Text(b"del"), object],
+        &[Word::Text(b"call"), Word::Own(b"wv_f_", number)],
+        &[Word::Text(b"end")],
+    ])
 }
 
 /// Writes what follows the procedure: its function, the function to call, and the weak reference with it.
-fn write_watch(out: &mut Vec<u8>, number: u32, object: &[u8], function: &[u8]) -> Result<(), AllocError>
+fn write_watch<'a>(out: &mut Vec<u8>, number: u32, object: &'a [u8], function: &'a [u8]) -> Result<(), AllocError>
     ensures { OnOk result (out.new.items ≡ out.old.items ++ with_feeds (map joined (watch_lines number object.now function.now))) }
 {
     let own = Word::Own(b"wv_f_", number);
-    write_words(out, &[Word::Own(b"wv_g_", number), Word::Text(b"="), Word::Text(b"func"), Word::Own(b"wv_p_", number)])?;
-    write_words(out, &[own, Word::Text(b"="), Word::Text(function)])?;
-    write_words(out, &[Word::Own(b"wv_w_", number), Word::Text(b"="), Word::Text(b"ref"), Word::Text(object), own])
+    write_lines(out, &[
+        &[Word::Own(b"wv_g_", number), Word::Text(b"="), Word::Text(b"func"), Word::Own(b"wv_p_", number)],
+        &[own, Word::Text(b"="), Word::Text(function)],
+        &[Word::Own(b"wv_w_", number), Word::Text(b"="), Word::Text(b"ref"), Word::Text(object), own],
+    ])
 }
 
 /// Writes `finalize y f`.
@@ -116,7 +134,8 @@ fn write_finalize(out: &mut Vec<u8>, number: u32, object: &[u8], function: &[u8]
     ensures { OnOk result (out.new.items ≡ out.old.items ++ with_feeds (map joined (finalize_lines number object.now function.now))) }
 {
     write_exit(out, number)?;
-    write_watch(out, number, object, function)
+    write_watch(out, number, object, function)?;
+    Ok(())
 }
 
 /// Writes what the line of this number becomes, which has this form and these words.
