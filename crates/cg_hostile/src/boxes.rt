@@ -9,11 +9,7 @@ use cg_value::KindCode;
 use std::alloc::{AllocError, Global};
 
 /// One kind more, without objects.
-fn push(
-    kinds: &mut Vec<Box<dyn Kind>>,
-    alloc: Global,
-    code: KindCode,
-) -> Result<(), AllocError>
+fn push(kinds: &mut Vec<Box<dyn Kind>>, alloc: Global, code: KindCode) -> Result<(), AllocError>
     ensures codes { OnOk result (map (λ b. kind b) kinds.new.items ≡
         map (λ b. kind b) kinds.old.items ++ code ∷ []) }
     ensures bodies { OnOk result (map (λ b. bodies b) kinds.new.items ≡

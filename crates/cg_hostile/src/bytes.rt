@@ -1,6 +1,4 @@
 //! Each byte in each place of a short script, and each front of a longer one.
-ghost use Rattle.std.specs.Prelude.{◌<◌, IfSome};
-
 use crate::calls::{answer_to, check_bytes, lines};
 use cg_cli::Status;
 use cg_io::PlainSource;
@@ -15,100 +13,52 @@ const SHORT: &str = "a = list\ndel a";
 /// What a run of it prints.
 const UNCHANGED: &str = "made list #2; free #2; end";
 
-const ONE_TWO: &str = "bad script 1 2";
-const ONE_THREE: &str = "bad script 1 3";
-const ONE_FOUR: &str = "bad script 1 4";
-const TWO_TWO: &str = "bad script 2 2";
-const TWO_THREE: &str = "bad script 2 3";
-const TWO_FOUR: &str = "bad script 2 4";
-
-/// The name of the list, or of what is to be dropped, is another.
+/// The list is bound to another name, or another one is to be dropped.
 const NOT_DROPPED: &str = "made list #2; refused 1; end";
 
-/// The value to be bound is a variable that is not bound, and neither is what is to be dropped.
+/// What is to be bound is a variable to which nothing is bound, and so is what is to be dropped.
 const NOT_BOUND: &str = "refused 1; refused 1; end";
 
-/// A row for each place of the script. Where no other byte of the row is right, a byte is of these sorts: a line feed, a
-/// space, `#`, `=`, `'`, `-`, a digit, a letter or `_`, and any other that a script may have.
-static TEXTS: [[&str; 9]; 14] = [
-    [
-        TWO_TWO, ONE_TWO, "refused 1; end", ONE_FOUR, ONE_FOUR, ONE_FOUR, ONE_FOUR, NOT_DROPPED, ONE_FOUR,
-    ],
-    [
-        ONE_TWO, UNCHANGED, ONE_TWO, ONE_TWO, ONE_TWO, ONE_TWO, ONE_TWO, ONE_TWO, ONE_TWO,
-    ],
-    [
-        ONE_TWO, ONE_TWO, ONE_TWO, UNCHANGED, ONE_TWO, ONE_TWO, ONE_TWO, ONE_TWO, ONE_TWO,
-    ],
-    [
-        ONE_THREE, UNCHANGED, ONE_TWO, ONE_TWO, ONE_TWO, ONE_TWO, ONE_TWO, ONE_TWO, ONE_TWO,
-    ],
-    // A string is bound, and dropped without a line.
-    [
-        ONE_THREE, NOT_BOUND, ONE_FOUR, ONE_FOUR, "end", ONE_FOUR, ONE_FOUR, NOT_BOUND, ONE_FOUR,
-    ],
-    [
-        TWO_TWO, ONE_THREE, ONE_FOUR, ONE_FOUR, ONE_FOUR, ONE_FOUR, NOT_BOUND, NOT_BOUND, ONE_FOUR,
-    ],
-    [
-        TWO_TWO, ONE_THREE, ONE_FOUR, ONE_FOUR, ONE_FOUR, ONE_FOUR, NOT_BOUND, NOT_BOUND, ONE_FOUR,
-    ],
-    [
-        NOT_BOUND, NOT_BOUND, ONE_FOUR, ONE_FOUR, ONE_FOUR, ONE_FOUR, NOT_BOUND, NOT_BOUND, ONE_FOUR,
-    ],
-    // One line: of a list with a bad value, or of four words where a value is bound.
-    [
-        UNCHANGED, ONE_FOUR, ONE_THREE, ONE_THREE, ONE_THREE, ONE_THREE, ONE_THREE, ONE_THREE, ONE_THREE,
-    ],
-    [
-        "bad script 3 2", TWO_TWO, "made list #2; end", TWO_TWO, TWO_TWO, TWO_TWO, TWO_TWO, TWO_TWO, TWO_TWO,
-    ],
-    [
-        TWO_TWO, TWO_TWO, TWO_TWO, TWO_TWO, TWO_TWO, TWO_TWO, TWO_TWO, TWO_TWO, TWO_TWO,
-    ],
-    [
-        TWO_TWO, TWO_TWO, TWO_TWO, TWO_TWO, TWO_TWO, TWO_TWO, TWO_TWO, TWO_TWO, TWO_TWO,
-    ],
-    [
-        TWO_THREE, UNCHANGED, TWO_TWO, TWO_TWO, TWO_TWO, TWO_TWO, TWO_TWO, TWO_TWO, TWO_TWO,
-    ],
-    // `del =` is a line whose second word is `=`, and has two words.
-    [
-        TWO_THREE, TWO_THREE, TWO_FOUR, TWO_THREE, TWO_FOUR, TWO_FOUR, TWO_FOUR, NOT_DROPPED, TWO_FOUR,
-    ],
-];
-
-/// The column of a byte, or none where no script has it.
-fn column_of(byte: u8) -> Option<usize>
-    ensures { IfSome result (λ column. column < 9) }
-{
-    match byte {
-        b'\n' => Some(0),
-        b' ' => Some(1),
-        b'#' => Some(2),
-        b'=' => Some(3),
-        b'\'' => Some(4),
-        b'-' => Some(5),
-        b'0'..=b'9' => Some(6),
-        b'A'..=b'Z' | b'a'..=b'z' | b'_' => Some(7),
-        33..=126 => Some(8),
-        _ => None,
-    }
-}
-
-/// What a run prints where this byte stands in a place with this row.
-fn text_of(place: usize, row: &[&'static str; 9], byte: u8, there: u8) -> &'static str {
-    if byte == there {
-        return UNCHANGED;
-    }
-    // A procedure begins, and is open at the end.
-    if place == 11 && byte == b'f' {
-        return "bad script 3 7";
-    }
-    match column_of(byte) {
-        Some(column) => row[column],
-        None if place < 9 => "bad script 1 1",
-        None => "bad script 2 1",
+/// What a run prints where another byte stands in a place.
+fn text_with(place: usize, byte: u8) -> &'static str {
+    let is_letter = matches!(byte, b'A'..=b'Z' | b'a'..=b'z' | b'_');
+    let is_digit = matches!(byte, b'0'..=b'9');
+    match (place, byte) {
+        // No script has such a byte.
+        (0..=8, 0..=9 | 11..=31 | 127..=255) => "bad script 1 1",
+        (_, 0..=9 | 11..=31 | 127..=255) => "bad script 2 1",
+        // In place of the name: a line of two words, a comment, another name.
+        (0, b'\n') => "bad script 2 2",
+        (0, b' ') => "bad script 1 2",
+        (0, b'#') => "refused 1; end",
+        (0, _) if is_letter => NOT_DROPPED,
+        (0, _) => "bad script 1 4",
+        // Around `=`, and in its place: nothing is bound.
+        (3, b'\n') => "bad script 1 3",
+        (1..=3, _) => "bad script 1 2",
+        // In `list`: another variable, two words, or a text; a line that ends there.
+        (4, b'\n') => "bad script 1 3",
+        (4, b' ') => NOT_BOUND,
+        (4, b'\'') => "end",
+        (4, _) if is_letter => NOT_BOUND,
+        (5 | 6, b'\n') => "bad script 2 2",
+        (5 | 6, b' ') => "bad script 1 3",
+        (7, b'\n' | b' ') => NOT_BOUND,
+        (5..=7, _) if is_letter || is_digit => NOT_BOUND,
+        (4..=7, _) => "bad script 1 4",
+        // One line: a list of `del`, or four words where a value is bound.
+        (8, b' ') => "bad script 1 4",
+        (8, _) => "bad script 1 3",
+        // In `del`: a comment, a procedure that has no end, a line that ends there.
+        (9, b'#') => "made list #2; end",
+        (9, b'\n') => "bad script 3 2",
+        (11, b'f') => "bad script 3 7",
+        (12, b'\n') => "bad script 2 3",
+        (9..=12, _) => "bad script 2 2",
+        // In place of its name. A second word `=` makes the line one that binds, which has three words.
+        (_, b'\n' | b' ' | b'=') => "bad script 2 3",
+        (_, _) if is_letter => NOT_DROPPED,
+        (_, _) => "bad script 2 4",
     }
 }
 
@@ -121,16 +71,14 @@ fn script_with(alloc: Global, place: usize, byte: u8) -> Result<Vec<u8>, AllocEr
     Ok(script)
 }
 
-/// Each byte in one place.
-fn check_place(
-    rt: &impl Abort,
-    alloc: Global,
-    place: usize,
-    row: &[&'static str; 9],
-    there: u8,
-) -> Result<(), AllocError> {
+/// Each byte in one place, where the script has this one.
+fn check_place(rt: &impl Abort, alloc: Global, place: usize, there: u8) -> Result<(), AllocError> {
     for byte in 0..=255u8 {
-        let text = text_of(place, row, byte, there);
+        let text = if byte == there {
+            UNCHANGED
+        } else {
+            text_with(place, byte)
+        };
         let status = if text.as_bytes().starts_with(b"bad") {
             Status::BadScript
         } else {
@@ -144,8 +92,8 @@ fn check_place(
 #[test]
 fn each_byte_in_each_place(rt: HostRuntime) -> Result<(), Fail> {
     let alloc = rt.alloc();
-    for (place, (row, there)) in TEXTS.iter().zip(SHORT.as_bytes()).enumerate() {
-        check_place(&rt, alloc, place, row, *there)?;
+    for (place, there) in SHORT.as_bytes().iter().enumerate() {
+        check_place(&rt, alloc, place, *there)?;
     }
     Ok(())
 }

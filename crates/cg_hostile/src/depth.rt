@@ -62,7 +62,11 @@ fn callbacks_within_callbacks(rt: HostRuntime) -> Result<(), Fail> {
         alloc,
         "threshold 0; budget 100000; def cb; k = item k 2; end; class C; f = func cb; k = list",
     )?;
-    push_lines(&mut script, "a = new C\nw = ref a f\nk = list w a k\n", 100_000)?;
+    push_lines(
+        &mut script,
+        "a = new C\nw = ref a f\nk = list w a k\n",
+        100_000,
+    )?;
     script.extend_from_slice(b"del a\ndel w\nk = item k 2\n")?;
     let mut text = lines(alloc, "made function #2; made list #3")?;
     for made in 1..=100_000u32 {

@@ -128,7 +128,11 @@ fn check_writes(
             let mut source = PlainSource::new(Vec::from_slice(alloc, script)?);
             let fails = u64::from(line) + 1;
             let found = answer_with_fault(alloc, words, &mut source, fails, keep)?;
-            let wanted = if line < last { Status::WriteFault } else { status };
+            let wanted = if line < last {
+                Status::WriteFault
+            } else {
+                status
+            };
             assert_eq!(rt; found.status, wanted, "at {line} of {words:?}");
             let front = front_of(text, line, keep);
             assert_eq!(rt; shown(&found.text), shown(front), "at {line} of {words:?}");
@@ -158,20 +162,31 @@ fn check_read<S: Source>(
     source: &mut S,
     fails: bool,
 ) -> Result<(), AllocError> {
-    let found = answer_to(alloc, call.words, source)?;
-    if fails {
-        assert_eq!(rt; found.status, Status::ReadFault, "at {:?}", call.script);
-        assert!(rt; found.text.is_empty(), "at {:?}", call.script);
+    let Call {
+        words,
+        script,
+        status,
+        text,
+        ..
+    } = call;
+    let found = answer_to(alloc, words, source)?;
+    let (status, text) = if fails {
+        (Status::ReadFault, Vec::new(alloc))
     } else {
-        let text = lines(alloc, call.text)?;
-        assert_eq!(rt; found.status, call.status, "at {:?}", call.script);
-        assert_eq!(rt; shown(&found.text), shown(&text), "at {:?}", call.script);
-    }
+        (status, lines(alloc, text)?)
+    };
+    assert_eq!(rt; found.status, status, "at {script:?}");
+    assert_eq!(rt; shown(&found.text), shown(&text), "at {script:?}");
     Ok(())
 }
 
 /// Each read of a job fails in turn, and the one after the last, with a source that gives all that is asked for.
-fn check_reads(rt: &impl Abort, alloc: Global, call: Call, script: &[u8]) -> Result<(), AllocError> {
+fn check_reads(
+    rt: &impl Abort,
+    alloc: Global,
+    call: Call,
+    script: &[u8],
+) -> Result<(), AllocError> {
     for number in 1..call.reads.saturating_add(2) {
         let bytes = Vec::from_slice(alloc, script)?;
         let mut source = MemSource::new(bytes, vec![in alloc; number]?);
