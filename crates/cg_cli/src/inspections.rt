@@ -3,10 +3,8 @@
 use crate::Status;
 use crate::collections::push_numbered;
 use crate::rows::{check_done, lines};
-use crate::shutdowns::check_cut;
 use crate::tests::answer_to;
 use cg_io::PlainSource;
-use std::alloc::Global;
 use std::test::Fail;
 
 #[test]
@@ -36,25 +34,6 @@ fn inspections(rt: HostRuntime) -> Result<(), Fail> {
         ),
     ] {
         check_done(&rt, alloc, script, text)?;
-    }
-    Ok(())
-}
-
-#[test]
-fn a_write_fails_between_two_lines_of_a_command(rt: HostRuntime) -> Result<(), Fail> {
-    let alloc = rt.alloc();
-    let texts = [
-        "made list #2",
-        "made list #3",
-        "made list #4",
-        "referrer #3",
-        "referrer #4",
-        "listed 2",
-        "end",
-    ];
-    for line in 0..7u32 {
-        let script = "a = list; b = list a; c = list a; referrers a";
-        check_cut(&rt, alloc, script, &texts, line)?;
     }
     Ok(())
 }

@@ -2,9 +2,9 @@
 //!
 //! The lines of a script, and of a text, stand with `; ` between them.
 use crate::kinds::six;
-use crate::tests::{answer_to, answer_with_faults, spaces, words_of};
+use crate::tests::{answer_to, spaces, words_of};
 use crate::{Status, gc_run};
-use cg_io::{MemSource, NullSink, PlainSource};
+use cg_io::{NullSink, PlainSource};
 use std::alloc::{AllocError, Global};
 use std::process::Abort;
 use std::test::Fail;
@@ -482,81 +482,6 @@ fn the_largest_script(rt: HostRuntime) -> Result<(), Fail> {
     let found = answer_to(alloc, &["run"], &mut source)?;
     assert_eq!(rt; found.status, Status::Done);
     assert_eq!(rt; found.text.as_slice(), b"end\n".as_slice());
-    Ok(())
-}
-
-/// A script whose text has twelve lines.
-const TWO_CALLBACKS: &str =
-    "def p; end; class C; f = func p; a = new C; u = ref a f; v = ref a f; del a";
-
-/// These lines.
-static TWELVE_LINES: [&str; 12] = [
-    "made function #2\n",
-    "made instance #3\n",
-    "made weakref #4\n",
-    "made weakref #5\n",
-    "cleared #5\n",
-    "cleared #4\n",
-    "enter callback #5\n",
-    "leave\n",
-    "enter callback #4\n",
-    "leave\n",
-    "free #3\n",
-    "end\n",
-];
-
-/// The lines before one of them, and the first two bytes of that one.
-fn front_of_lines(alloc: Global, line: usize) -> Result<Vec<u8>, AllocError> {
-    let mut front = Vec::new(alloc);
-    for (at, text) in TWELVE_LINES.iter().enumerate() {
-        let bytes = text.as_bytes();
-        if at < line {
-            front.extend_from_slice(bytes)?;
-        } else if at == line {
-            front.extend_from_slice(&bytes[..bytes.len().min(2)])?;
-        }
-    }
-    Ok(front)
-}
-
-#[test]
-fn each_write_fails_in_turn(rt: HostRuntime) -> Result<(), Fail> {
-    let alloc = rt.alloc();
-    for line in 0..13usize {
-        let mut source = PlainSource::new(lines(alloc, TWO_CALLBACKS)?);
-        let fails = vec![in alloc; line as u64 + 1]?;
-        let found = answer_with_faults(alloc, &["run"], &mut source, fails)?;
-        let wanted = front_of_lines(alloc, line)?;
-        let status = if line < 12 {
-            Status::WriteFault
-        } else {
-            Status::Done
-        };
-        assert_eq!(rt; found.status, status, "at {line}");
-        assert_eq!(rt; found.text.as_slice(), wanted.as_slice(), "at {line}");
-    }
-    Ok(())
-}
-
-#[test]
-fn each_read_fails_in_turn(rt: HostRuntime) -> Result<(), Fail> {
-    let alloc = rt.alloc();
-    // The first read gives the whole script, and the second its end.
-    for (call, status) in [
-        (1, Status::ReadFault),
-        (2, Status::ReadFault),
-        (3, Status::Done),
-    ] {
-        let mut source = MemSource::new(lines(alloc, TWO_CALLBACKS)?, vec![in alloc; call]?);
-        let found = answer_to(alloc, &["run"], &mut source)?;
-        let wanted = if call < 3 {
-            Vec::new(alloc)
-        } else {
-            front_of_lines(alloc, 12)?
-        };
-        assert_eq!(rt; found.status, status, "at {call}");
-        assert_eq!(rt; found.text.as_slice(), wanted.as_slice(), "at {call}");
-    }
     Ok(())
 }
 

@@ -1,10 +1,6 @@
 //! Worked scripts with a shutdown, through the top call. The texts come from the rules of docs/RULES.md, worked out by hand.
 use crate::Status;
-use crate::rows::{check, check_done, lines};
-use crate::tests::answer_with_faults;
-use cg_io::PlainSource;
-use std::alloc::{AllocError, Global};
-use std::process::Abort;
+use crate::rows::{check, check_done};
 use std::test::Fail;
 
 #[test]
@@ -85,55 +81,6 @@ fn the_budget_is_spent_in_the_shutdown(rt: HostRuntime) -> Result<(), Fail> {
         ),
     ] {
         check(&rt, alloc, &["run"], script, Status::Budget, text)?;
-    }
-    Ok(())
-}
-
-/// The lines before one of them, and the first two bytes of that one.
-fn front_of_lines(alloc: Global, texts: &[&str], line: u32) -> Result<Vec<u8>, AllocError> {
-    let mut front = Vec::new(alloc);
-    for (at, text) in texts.iter().enumerate() {
-        let bytes = text.as_bytes();
-        if at < line as usize {
-            front.extend_from_slice(bytes)?;
-            front.push(b'\n')?;
-        } else if at == line as usize {
-            front.extend_from_slice(&bytes[..bytes.len().min(2)])?;
-        }
-    }
-    Ok(front)
-}
-
-/// A run of the script, of whose text these are the lines, with a sink that fails at one of them after two bytes.
-pub fn check_cut(
-    rt: &impl Abort,
-    alloc: Global,
-    script: &str,
-    texts: &[&str],
-    line: u32,
-) -> Result<(), AllocError> {
-    let mut source = PlainSource::new(lines(alloc, script)?);
-    let fails = vec![in alloc; u64::from(line) + 1]?;
-    let found = answer_with_faults(alloc, &["run"], &mut source, fails)?;
-    let wanted = front_of_lines(alloc, texts, line)?;
-    assert_eq!(rt; found.status, Status::WriteFault, "at {line}");
-    assert_eq!(rt; found.text.as_slice(), wanted.as_slice(), "at {line}");
-    Ok(())
-}
-
-#[test]
-fn a_write_fails_between_the_last_two_lines(rt: HostRuntime) -> Result<(), Fail> {
-    let alloc = rt.alloc();
-    let texts = [
-        "made list #2",
-        "free #2",
-        "gc start 2",
-        "gc stop 2 0 0",
-        "left 0",
-        "end",
-    ];
-    for line in 0..6u32 {
-        check_cut(&rt, alloc, "shutdown; a = list", &texts, line)?;
     }
     Ok(())
 }

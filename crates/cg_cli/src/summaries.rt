@@ -1,8 +1,8 @@
 //! Large scripts and their summaries, through the top call. The numbers were worked out by hand from the blocks.
 use crate::kinds::six_refusing;
-use crate::tests::{answer_to, answer_with_faults, words_of};
+use crate::tests::{answer_to, words_of};
 use crate::{Status, gc_run};
-use cg_io::{MemSink, MemSource, PlainSource};
+use cg_io::{MemSink, PlainSource};
 use std::test::Fail;
 
 #[test]
@@ -55,25 +55,5 @@ fn a_list_that_is_refused_leaves_no_summary(rt: HostRuntime) -> Result<(), Fail>
             assert_eq!(rt; sink.bytes(), b"summary 7 7 1 2 18\n".as_slice());
         }
     }
-    Ok(())
-}
-
-#[test]
-fn a_summary_reads_no_source(rt: HostRuntime) -> Result<(), Fail> {
-    let alloc = rt.alloc();
-    let mut source = MemSource::new(Vec::new(alloc), vec![in alloc; 1]?);
-    let found = answer_to(alloc, &["generate", "1"], &mut source)?;
-    assert_eq!(rt; found.status, Status::Done);
-    assert_eq!(rt; found.text.as_slice(), b"summary 3 3 1 2 10\n".as_slice());
-    Ok(())
-}
-
-#[test]
-fn a_failed_write_leaves_the_front_of_a_summary(rt: HostRuntime) -> Result<(), Fail> {
-    let alloc = rt.alloc();
-    let mut source = PlainSource::new(Vec::new(alloc));
-    let found = answer_with_faults(alloc, &["generate", "3"], &mut source, vec![in alloc; 1]?)?;
-    assert_eq!(rt; found.status, Status::WriteFault);
-    assert_eq!(rt; found.text.as_slice(), b"su".as_slice());
     Ok(())
 }

@@ -1,7 +1,7 @@
-//! Words, sizes, faults and bad scripts, through the top call.
+//! Words, sizes and bad scripts, through the top call.
 use crate::kinds::six;
 use crate::{Status, gc_run};
-use cg_io::{MemSink, MemSource, PlainSource, Source};
+use cg_io::{MemSink, PlainSource, Source};
 use std::alloc::{AllocError, Global};
 use std::process::Abort;
 use std::test::Fail;
@@ -121,35 +121,5 @@ fn one_byte_too_many(rt: HostRuntime) -> Result<(), Fail> {
     let found = answer_to(alloc, &["run"], &mut source)?;
     assert_eq!(rt; found.status, Status::TooLarge);
     assert_eq!(rt; found.text.as_slice(), b"too large\n".as_slice());
-    Ok(())
-}
-
-#[test]
-fn a_failed_first_write_leaves_two_bytes(rt: HostRuntime) -> Result<(), Fail> {
-    let alloc = rt.alloc();
-    for (bytes, front) in [
-        (Vec::from_slice(alloc, b"list = list")?, b"ba"),
-        (spaces(alloc, 1)?, b"to"),
-    ] {
-        let mut source = PlainSource::new(bytes);
-        let found = answer_with_faults(alloc, &["run"], &mut source, vec![in alloc; 1]?)?;
-        assert_eq!(rt; found.status, Status::WriteFault);
-        assert_eq!(rt; found.text.as_slice(), front.as_slice());
-    }
-    let mut source = PlainSource::new(Vec::new(alloc));
-    let found = answer_with_faults(alloc, &["fly"], &mut source, vec![in alloc; 1]?)?;
-    assert_eq!(rt; found.status, Status::WriteFault);
-    assert_eq!(rt; found.text.as_slice(), b"ba".as_slice());
-    Ok(())
-}
-
-#[test]
-fn a_failed_read_writes_nothing(rt: HostRuntime) -> Result<(), Fail> {
-    let alloc = rt.alloc();
-    let script = Vec::from_slice(alloc, b"a = list\ndel a")?;
-    let mut source = MemSource::new(script, vec![in alloc; 1]?);
-    let found = answer_to(alloc, &["run"], &mut source)?;
-    assert_eq!(rt; found.status, Status::ReadFault);
-    assert!(rt; found.text.is_empty());
     Ok(())
 }

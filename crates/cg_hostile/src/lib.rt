@@ -1,0 +1,22 @@
+//! Tests of the top call under faults, at its limits and in depth. They stand apart so that cg_cli is checked without them;
+//! nothing but tests is here.
+#![tactic(auto)]
+
+#[cfg(test)]
+mod boxes;
+#[cfg(test)]
+mod bytes;
+#[cfg(test)]
+mod calls;
+#[cfg(test)]
+mod depth;
+#[cfg(test)]
+mod edges;
+#[cfg(test)]
+mod faults;
+#[cfg(test)]
+mod limits;
+#[cfg(test)]
+mod one_byte;
+#[cfg(test)]
+mod sizes;
