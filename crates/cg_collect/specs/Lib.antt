@@ -4,6 +4,7 @@ pub mod Ready
 pub mod Turns
 pub mod Looks
 pub mod Numbers
+pub mod Stages
 pub mod Collections
 pub mod Starting
 pub mod Saving

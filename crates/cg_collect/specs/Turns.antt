@@ -20,13 +20,13 @@ use Rattle.cg_collect.specs.Phases.{from_on}
 use Rattle.cg_collect.specs.Ready.{IsReadyAt, SparesGarbageList, to_look_at, HasFewCollected, GivesUpIn, RunsFrame, IsBegun}
 use Rattle.cg_collect.specs.Answers.{CollectSteps}
 
--- a collection with these facts, at a phase, which gives up this first
+-- a collection with these facts, at a phase, which gives up this first; whether its last step detected is seen in no answer
 abbrev pub collection_at : Facts → Phase → Option Release → Collection
-collection_at facts phase release = record { generation = facts.generation; flags = facts.flags; collected = facts.collected; phase = phase; release = release }
+collection_at facts phase release = record { generation = facts.generation; flags = facts.flags; collected = facts.collected; phase = phase; release = release; detected = None }
 
 -- the one that a turn leaves
 abbrev pub collection_after : Facts → Turn → Collection
-collection_after facts turn = record { generation = facts.generation; flags = facts.flags; collected = facts.collected + turn.collected; phase = turn.phase; release = turn.release }
+collection_after facts turn = record { generation = facts.generation; flags = facts.flags; collected = facts.collected + turn.collected; phase = turn.phase; release = turn.release; detected = None }
 
 -- a turn of a phase is steps of the machine, in every world that heap and policy stand for
 abbrev pub TurnSteps : Script → Facts → Phase → Store → Policy → Store → Policy → Turn → Type 0

@@ -1,5 +1,5 @@
 //! A collection of a generation.
-ghost use Rattle.std.specs.Prelude.{◌≡◌, ◌+◌, ◌≤◌, ◌⊎◌, ℕ, false, true, Bool, None, IfNone, IfSome};
+ghost use Rattle.std.specs.Prelude.{◌≡◌, ◌+◌, ◌≤◌, ◌⊎◌, ◌↔◌, ℕ, false, true, Bool, None, IfNone, IfSome};
 ghost use Rattle.cg_script.specs.declared.Script.{Script as AnyScript};
 ghost use Rattle.cg_machine.specs.Program.{profile_of};
 ghost use Rattle.cg_machine.specs.World.{World, push};
@@ -17,6 +17,8 @@ ghost use Rattle.cg_collect.specs.Ready.{IsClear, IsReadyAt, HasItsWalk, IsBegun
 ghost use Rattle.cg_collect.specs.Turns.{pass_of, passes_on, TurnSteps, TurnFalls, TurnLeaves, TurnEnds, StaysReady, KeepsObjects};
 ghost use Rattle.cg_collect.specs.Looks.{most_looks};
 ghost use Rattle.cg_collect.specs.Answers.{CollectSteps, Shows};
+ghost use Rattle.cg_collect.specs.Stages.{stage_of, detection_at, LeavesStage};
+ghost use Rattle.cg_collect.specs.declared.stage.Stage.TheVariants as stage;
 ghost use Rattle.cg_collect.specs.Collections.{IsReady, KeepsReady, CollectFalls, DiesUnheld, EndsWith, GivesUpNext, StopsWith, stop_turn, held_by, given_up_by, own_holds_at, facts_of};
 
 use crate::answer::CollectStep;
@@ -24,6 +26,7 @@ use crate::detection::{detach_one, detect, tell_living, unlink_one};
 use crate::ending::{end, tell_end, tell_saved, tell_uncollectable};
 use crate::finalizing::{after_finalizer, look_at_one};
 use crate::phase::{Phase, Turn};
+use crate::stage::{Detection, Stage};
 use crate::start::{start, tell_condemned, tell_sizes};
 use crate::turns::{after_turn, empty_one, take_turn};
 use crate::weak::{after_callback, after_release, call_one, clear_one};
@@ -46,6 +49,8 @@ pub struct Collection {
     collected: u64,
     phase: Phase,
     release: Option<Release>,
+    // The detection that its last step made, if it made one.
+    detected: Option<Detection>,
 }
 
 /// What the phases know of their collection.
@@ -68,6 +73,7 @@ impl Collection {
         ensures begins { (asked : Bool) (w : World) → Represents heap.old w → policy.old.numbers ≡ w.numbers
             → Shows asked result heap.new policy.new (push (new_collection generation asked w) w) w.stack }
         ensures ready { (script : AnyScript) → IsReady script result heap.new }
+        ensures stage { stage_of result ≡ stage.BeforeFirst }
     {
         let flags = policy.flags();
         policy.begin(generation);
@@ -77,6 +83,24 @@ impl Collection {
             collected: 0,
             phase: Phase::Start,
             release: None,
+            detected: None,
+        }
+    }
+
+    /// Where it stands towards its two detections.
+    pub fn stage(&self) -> Stage
+        ensures stage { result ≡ stage_of self.now }
+
+        // Before a detection it stands exactly at the phases whose step makes one.
+        ensures first { (result ≡ stage.BeforeFirst) ↔ (self.now.phase ≡ phase_of.Start) }
+        ensures second { (result ≡ stage.BeforeSecond) ↔ (self.now.phase ≡ phase_of.Split) }
+    {
+        match (self.phase, self.detected) {
+            (Phase::Start, _) => Stage::BeforeFirst,
+            (Phase::Split, _) => Stage::BeforeSecond,
+            (_, Some(Detection::First)) => Stage::AfterFirst,
+            (_, Some(Detection::Second)) => Stage::AfterSecond,
+            (_, None) => Stage::Between,
         }
     }
 
@@ -105,11 +129,15 @@ impl Collection {
         // What it leaves besides, whatever it answers.
         ensures generation { self.new.generation ≡ self.old.generation }
         ensures begun { IsBegun self.new.phase }
+        ensures detected { self.new.detected ≡ detection_at self.old.phase }
+        ensures stage { LeavesStage self.old.phase (stage_of self.new) }
         ensures onward { pass_of self.old.phase + passes_on self.old.phase ≤ pass_of self.new.phase }
         ensures objects { MakesNone heap.old heap.new }
         ensures names { KeepsNames heap.old heap.new }
         ensures looks { steps.new ≤ steps.old + most_looks self.old.generation self.old.phase heap.old }
     {
+        // Nothing is given up at a phase that makes one.
+        self.detected = self.phase.detection();
         if let Some(answer) = self.give_up(heap) {
             return answer;
         }
@@ -162,6 +190,7 @@ impl Collection {
         ensures stops { (set_aside : ℕ) → self.now.phase ≡ phase_of.Stopping set_aside → result ≡ stop_turn (facts_of self.now) set_aside }
         ensures keeps { KeepsObjects heap.old heap.new }
         ensures looks { steps.new ≤ steps.old + most_looks self.now.generation self.now.phase heap.old }
+        ensures apart { self.now.phase ≡ phase_of.Start → detection_at result.phase ≡ None }
     {
         let facts = Facts {
             generation: self.generation,

@@ -3,7 +3,7 @@
 //! The layer above rests on one contract: in every world of the machine that heap and policy stand for, a step of a
 //! collection goes on as the machine does, and tells what is due: a line, a frame, or an object's death.
 //!
-//! - `answer`: what a step answers; `phase`: where a collection stands.
+//! - `answer`: what a step answers; `phase`: where a collection stands; `stage`: where it stands towards its detections.
 //! - `collection`: a collection, and its steps.
 //! - `start`: all before the weak phase; `untracking` and `legacy`, parts of it.
 //! - `weak`: the weak phase; `finalizing`: the finalizer phase.
@@ -19,6 +19,7 @@ mod finalizing;
 mod laws;
 mod legacy;
 mod phase;
+mod stage;
 mod start;
 mod turns;
 mod untracking;
@@ -27,3 +28,4 @@ mod weak;
 pub use answer::CollectStep;
 pub use collection::Collection;
 pub use laws::a_collection_looks_at_each_twice;
+pub use stage::Stage;

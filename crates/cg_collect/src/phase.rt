@@ -2,8 +2,10 @@
 ghost use Rattle.std.specs.Prelude.{◌≡◌, ◌∷◌, [], Some, None, ◌≤◌};
 ghost use Rattle.cg_machine.specs.Collect.{older};
 ghost use Rattle.cg_collect.specs.declared.answer.CollectStep.TheVariants as answer_of;
+ghost use Rattle.cg_collect.specs.Stages.{detection_at};
 
 use crate::answer::CollectStep;
+use crate::stage::Detection;
 use cg_death::Release;
 use cg_machine::{Event, FrameSpec};
 
@@ -76,6 +78,19 @@ pub enum Phase {
     Stopping(u64),
     /// It has ended, with that number.
     Over(u64),
+}
+
+impl Phase {
+    /// The detection that the step of a phase makes, if it makes one.
+    pub fn detection(self) -> Option<Detection>
+        ensures { result ≡ detection_at self }
+    {
+        match self {
+            Phase::Start => Some(Detection::First),
+            Phase::Split => Some(Detection::Second),
+            _ => None,
+        }
+    }
 }
 
 /// What a turn of a phase leaves, and what it answers.

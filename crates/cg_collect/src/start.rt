@@ -12,6 +12,7 @@ ghost use Rattle.cg_collect.specs.Ready.{IsReadyAt, HasItsWalk};
 ghost use Rattle.cg_collect.specs.Starting.{MergesYounger, GetOlder, told_sizes, told_weak, told_after_sizes};
 ghost use Rattle.cg_collect.specs.Turns.{TurnSteps, TurnFalls, TurnLeaves, StaysReady, KeepsObjects};
 ghost use Rattle.cg_collect.specs.Looks.{most_looks};
+ghost use Rattle.cg_collect.specs.Stages.{detection_at};
 
 use crate::answer::CollectStep;
 use crate::collection::Facts;
@@ -48,6 +49,7 @@ pub fn start<B: Kind, L: Ledger>(
     ensures leaves { TurnLeaves heap.old phase_of.Start heap.new result }
     ensures keeps { KeepsObjects heap.old heap.new }
     ensures looks { steps.new ≤ steps.old + most_looks facts.generation phase_of.Start heap.old }
+    ensures apart { detection_at result.phase ≡ None }
 {
     heap.sound();
     let next = first_phase(facts, heap);

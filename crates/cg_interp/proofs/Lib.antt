@@ -8,7 +8,6 @@ mod Standing
 mod Fitting
 mod FrameLemmas
 mod CallerLemmas
-mod Joining
 mod ReleaseLemmas
 mod AnswerLemmas
 mod StepLemmas

@@ -19,9 +19,10 @@ use Rattle.cg_script.specs.declared.Command.{Command}
 use Rattle.cg_graph.specs.Member.{Includes}
 use Rattle.cg_script.specs.Spelled.{IsSpelledCommand}
 use Rattle.cg_interp.specs.declared.turned.Turned.{Turned}
+use Rattle.cg_interp.specs.declared.turned.Turned.TheVariants as turned
 use Rattle.cg_interp.specs.Turns.{Makes}
 use Rattle.cg_laws.specs.Kept.{StaysKept}
-use Rattle.cg_interp.specs.Telling.{TurnsWith}
+use Rattle.cg_interp.specs.Collecting.{StandsWith}
 use Rattle.cg_machine.specs.Represents.{Represents}
 use Rattle.cg_interp.specs.declared.activity.Activity.{Activity}
 use Rattle.cg_interp.specs.declared.activity.Activity.TheVariants as activity
@@ -78,12 +79,12 @@ pub record Does (script : Script) (w : World) (command : Command) (e : State) (a
   pub may : CommandStep script w command transition.0 transition.1
   pub makes : Makes script transition e answer
 
--- A command asked for a collection, which has begun and taken its first step: the machine made the step of the command, and
--- went on from there.
+-- A command asked for a collection, which has begun: the machine made the step of the command, and no line is due.
 pub record StartsCollection (script : Script) (w : World) (command : Command) (e : State) (answer : Turned) : Type 0 where
   pub generation : ℕ
   pub may : CommandStep script w command [] (push (new_collection generation true w) w)
-  pub turns : TurnsWith script (λ still. Unit {0}) (push (new_collection generation true w) w) [] e answer
+  pub quiet : answer ≡ turned.Quiet
+  pub stands : StandsWith script e [] (push (new_collection generation true w) w)
 
 -- what is done for any command
 abbrev pub DoesAny : Script → World → Command → State → Turned → Type 0

@@ -8,7 +8,9 @@ use Rattle.cg_collect.specs.declared.collection.Collection.{Collection}
 use Rattle.cg_collect.specs.Phases.{lines_left}
 use Rattle.cg_collect.specs.Answers.{Shows as CollectionShows}
 use Rattle.cg_collect.specs.Collections.{IsReady}
-use Rattle.cg_collect.specs.Ready.{IsBegun}
+use Rattle.cg_collect.specs.Stages.{stage_of}
+use Rattle.cg_collect.specs.declared.stage.Stage.{Stage}
+use Rattle.cg_collect.specs.declared.stage.Stage.TheVariants.{Between}
 use Rattle.cg_interp.specs.declared.activity.Activity.{Activity}
 use Rattle.cg_interp.specs.declared.activity.Activity.TheVariants as activity
 use Rattle.cg_interp.specs.Engines.{State, StandsFor, ShowsAll, any_collecting}
@@ -25,16 +27,20 @@ pub record Collects (script : Script) (asked : Bool) (c : Collection) (e : State
   pub ready : IsReady script c e.store
   pub lines : left ≡ lines_left script asked c c.phase e.store
 
--- such a one is on top of an engine, and has taken its first step
+-- such a one is on top of an engine
 pub record CollectsOnTop (script : Script) (e : State) (left : List Event) (w : World) : Type 0 where
   pub asked : Bool
   pub collection : Collection
   pub rest : List Activity
   pub top : e.activities ≡ activity.Collecting asked collection ∷ rest
-  pub begun : IsBegun collection.phase
   pub collects : Collects script asked collection (record e { activities = rest }) left w
 
 -- An engine stands for a world once these lines are told: they are those that a collection on top has left of the machine's
 -- last step, and there are none without one.
 abbrev pub StandsWith : Script → State → List Event → World → Type 0
 StandsWith script e left w = (StandsFor script e w × (left ≡ [])) ⊎ CollectsOnTop script e left w
+
+-- where the collection on top stands towards its two detections; between without one there
+abbrev pub stage_on_top : List Activity → Stage
+stage_on_top (activity.Collecting asked collection ∷ activities) = stage_of collection
+stage_on_top activities = Between

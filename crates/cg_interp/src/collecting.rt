@@ -7,6 +7,7 @@ ghost use Rattle.cg_machine.specs.Commands.{new_collection};
 ghost use Rattle.cg_machine.specs.declared.event.Event.{Event as AnyEvent};
 ghost use Rattle.cg_machine.specs.declared.event.Event.TheVariants as event_of;
 ghost use Rattle.cg_laws.specs.Kept.{StaysKept};
+ghost use Rattle.cg_script.specs.declared.Script.{Script as AnyScript};
 ghost use Rattle.cg_script.specs.Spelled.{IsSpelled};
 ghost use Rattle.cg_collect.specs.Collections.{IsReady, held_by};
 ghost use Rattle.cg_collect.specs.Numbers.{AreSmall};
@@ -15,7 +16,7 @@ ghost use Rattle.cg_interp.specs.Engines.{StandsFor, under};
 ghost use Rattle.cg_interp.specs.declared.turned.Turned.TheVariants as turned_of;
 ghost use Rattle.cg_interp.specs.Collecting.{StandsWith};
 ghost use Rattle.cg_interp.specs.Telling.{TurnsWith, Advances, CollectsNext, CollectTurns};
-ghost use Rattle.cg_interp.specs.Turns.{IsFit};
+ghost use Rattle.cg_interp.specs.Turns.{IsFit, Keeps};
 
 use crate::activity::Activity;
 use crate::engine::Engine;
@@ -28,32 +29,23 @@ use cg_script::Script;
 use std::sync::ledger::Ledger;
 
 impl<B: Kind> Engine<B> {
-    /// A collection of a generation begins above the activity that was on top, and takes its first step.
-    pub fn collect<L: Ledger>(
-        &mut self,
-        top: Activity,
-        asked: bool,
-        generation: u8,
-        script: &Script,
-        steps: &mut Steps<L>,
-    ) -> Turned
+    /// A collection of a generation begins above the activity that was on top. Its first step is that of the next turn.
+    pub fn collect(&mut self, top: Activity, asked: bool, generation: u8)
         requires generation { generation ≤ 2 }
-        requires spelled { IsSpelled script.now }
-        requires fit { IsFit script.now self.old }
-        requires room { 2 < self.old.room }
+        requires room { 1 < self.old.room }
         requires idle { self.old.policy.running ≡ false }
-        requires stands { (w : World) × StandsFor script.now (under top self.old) w
-            × StaysKept script.now self.old.frames (push (new_collection generation asked w) w) }
-        ensures turns { (w : World) → StandsFor script.now (under top self.old) w
-            → StaysKept script.now self.old.frames (push (new_collection generation asked w) w)
-            → TurnsWith script.now (λ still. Unit {0}) (push (new_collection generation asked w) w) [] self.new result }
-        ensures fit { IsFit script.now self.new }
-        ensures frames { self.new.frames ≡ self.old.frames }
+        requires stands { (script : AnyScript) × IsSpelled script × IsFit script self.old
+            × (w : World) × StandsFor script (under top self.old) w
+            × StaysKept script self.old.frames (push (new_collection generation asked w) w) }
+        ensures begins { (script : AnyScript) (w : World) → StandsFor script (under top self.old) w
+            → StaysKept script self.old.frames (push (new_collection generation asked w) w)
+            → StandsWith script self.new [] (push (new_collection generation asked w) w) }
+        ensures keeps { Keeps self.old self.new }
     {
         self.stack.push(top);
         self.heap.sound();
         let collection = Collection::begin(&mut self.heap, &mut self.policy, generation);
-        self.go_on_collecting(asked, collection, script, steps)
+        self.stack.push(Activity::Collecting { asked, collection });
     }
 
     /// A turn of a collection, which was on top.

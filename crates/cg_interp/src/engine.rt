@@ -1,5 +1,10 @@
 //! What runs.
+ghost use Rattle.std.specs.Prelude.{◌≡◌};
+ghost use Rattle.cg_interp.specs.Collecting.{stage_on_top};
+
+use crate::activity::Activity;
 use crate::stack::Stack;
+use cg_collect::Stage;
 use cg_heap::Heap;
 use cg_kind::Kind;
 use cg_policy::Policy;
@@ -38,4 +43,16 @@ impl<B: Kind> Model for Engine<B> {
       budget = e.budget;
       frames = e.frames;
     } };
+}
+
+impl<B: Kind> Engine<B> {
+    /// Where the collection on top stands towards its two detections; `Between` without one there.
+    pub fn stage(&self) -> Stage
+        ensures stage { result ≡ stage_on_top self.now.activities }
+    {
+        match self.stack.top() {
+            Some(Activity::Collecting { collection, .. }) => collection.stage(),
+            _ => Stage::Between,
+        }
+    }
 }

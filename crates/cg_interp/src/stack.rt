@@ -1,5 +1,5 @@
 //! The stack of activities, whose room is reserved before it is needed.
-ghost use Rattle.std.specs.Prelude.{◌≡◌, ◌<◌, ◌≤◌, ◌+◌, [], ◌∷◌, IfOk, IfSome, OnSome, IfNone, OnOk, length};
+ghost use Rattle.std.specs.Prelude.{◌≡◌, ◌<◌, ◌≤◌, ◌+◌, [], ◌∷◌, IfOk, IfSome, OnSome, IfNone, OnOk, drop, length};
 
 use crate::activity::Activity;
 use std::alloc::{AllocError, Global};
@@ -53,6 +53,14 @@ impl Stack {
         ensures none { IfNone result (self.old.activities ≡ []) }
     {
         self.activities.pop()
+    }
+
+    /// The activity on top, if there is one.
+    pub fn top(&self) -> Option<&Activity>
+        ensures top { IfSome result (λ a. self.now.activities ≡ a.now ∷ drop 1 self.now.activities) }
+        ensures none { IfNone result (self.now.activities ≡ []) }
+    {
+        self.activities.last()
     }
 
     /// Makes room for so many. It answers `AllocError` for want of memory alone.

@@ -1,6 +1,6 @@
 -- What a heap stands for, and what that gives the layers above: a count is the in-degree, a dying object has a death on the
 -- stack, and a release more or less is seen in the holds alone.
-use Rattle.std.proofs.Common.{◌≡◌, refl, sym, ◌∙◌, ap, ℕ, ◌+◌, ◌≤◌, true, cond, inl, inr, List, [], ◌∷◌, ◌++◌, arith}
+use Rattle.std.proofs.Common.{◌≡◌, refl, sym, ◌∙◌, ap, ℕ, ◌+◌, ◌≤◌, true, false, cond, inl, inr, List, [], ◌∷◌, ◌++◌, arith}
 use Rattle.std.specs.Prelude.{flat_map, ◌==◌}
 use Rattle.std.specs.List.{list_any}
 use Rattle.std.proofs.lemmas.Bool.{eqb-true, eq-eqb}
@@ -15,9 +15,9 @@ use Rattle.cg_graph.proofs.Members.{either, true_or}
 use Rattle.cg_machine.specs.declared.event.Event.{Event}
 use Rattle.cg_machine.specs.World.{World, Activity, TopLevel, Framed, Releasing, Dying, Collecting, Death, Collection, Running, with_stack, ShuttingDown}
 use Rattle.cg_machine.specs.Holdings.{holdings, holds, in_degree, is_death_of}
-use Rattle.cg_machine.specs.Run.{StepOf}
+use Rattle.cg_machine.specs.Run.{StepOf, StepTaken}
 use Rattle.cg_machine.proofs.PlainCollect.{occurrences-cons}
-use Rattle.cg_machine.specs.Represents.{Represents, Goes, death_waits, CollectionWaits}
+use Rattle.cg_machine.specs.Represents.{Represents, Goes, MakesDetectionsAlone, detects, death_waits, CollectionWaits}
 
 append_none : (events : List Event) → events ++ [] ≡ events
 append_none [] = refl
@@ -30,15 +30,23 @@ in_one script w events after running step = record {
   run = (record { running = running; step = step }, tt);
   prints = append_none events;
   ends = refl;
+  alone = tt;
 }
 
--- a step that prints nothing, and then more
-pub and_then : (script : Script) (w mid : World) (events : List Event) (after : World) → w.outcome ≡ Running → StepOf script w w.stack [] mid → Goes script mid events after → Goes script w events after
-and_then script w mid events after running step rest = record {
+-- a step more, where neither it nor the next is a detection
+alone_after : (w : World) (step : StepTaken) (steps : List StepTaken) → detects w.stack ≡ false → detects step.world.stack ≡ false → MakesDetectionsAlone step.world steps → MakesDetectionsAlone w (step ∷ steps)
+alone_after w step [] none next alone = tt
+alone_after w step (one ∷ []) none next alone = (none, next, tt)
+alone_after w step (one ∷ two ∷ steps) none next alone = (none, alone)
+
+-- a step that prints nothing, and then more, where neither it nor the next is a detection
+pub and_then : (script : Script) (w mid : World) (events : List Event) (after : World) → w.outcome ≡ Running → StepOf script w w.stack [] mid → detects w.stack ≡ false → detects mid.stack ≡ false → Goes script mid events after → Goes script w events after
+and_then script w mid events after running step none next rest = record {
   steps = record { events = []; world = mid } ∷ rest.steps;
   run = (record { running = running; step = step }, rest.run);
   prints = rest.prints;
   ends = rest.ends;
+  alone = alone_after w (record { events = []; world = mid }) rest.steps none next rest.alone;
 }
 
 -- an object alone

@@ -1,6 +1,6 @@
 -- How a heap and the activities of an interpreter stand for a world. The layers above the heap state their calls by it.
 -- (Ours.)
-use Rattle.std.specs.Prelude.{◌++◌, ◌≡◌, ℕ, true, ◌+◌, List, [], ◌∷◌, ◌⊎◌, flat_map}
+use Rattle.std.specs.Prelude.{◌++◌, ◌≡◌, ℕ, Bool, true, false, ◌+◌, List, [], ◌∷◌, ◌⊎◌, flat_map}
 use Rattle.cg_value.specs.declared.Place.TheVariants.{Pend}
 use Rattle.cg_script.specs.declared.Script.{Script}
 use Rattle.cg_graph.specs.Member.{Includes}
@@ -9,7 +9,7 @@ use Rattle.cg_graph.specs.Rows.{Row}
 use Rattle.cg_graph.specs.Holdings.{occurrences}
 use Rattle.cg_machine.specs.declared.event.Event.{Event}
 use Rattle.cg_machine.specs.declared.event.FrameSpec.{FrameSpec}
-use Rattle.cg_machine.specs.World.{World, Activity, Dying, Collecting, Death, DyingPhase, Clearing, Calling, AfterCall, Collection, CollectPhase, WeakClearing, WeakCalling, AfterCallback, AfterRelease}
+use Rattle.cg_machine.specs.World.{World, Activity, Dying, Collecting, Death, DyingPhase, Clearing, Calling, AfterCall, Collection, CollectPhase, Start, WeakClearing, WeakCalling, AfterCallback, AfterRelease, Split}
 use Rattle.cg_machine.specs.Holdings.{holds}
 use Rattle.cg_machine.specs.Frame.{begin_death, start_frame}
 use Rattle.cg_machine.specs.Run.{Step, StepTaken, Run, events_of, last_world}
@@ -40,12 +40,35 @@ pub record Represents (store : Store) (w : World) : Type 0 where
   pub no_others : (r : Row) → Includes store.rows r → r.waits ≡ true → (d : Death) × Includes w.stack (Dying d) × (d.object ≡ r.referent)
   pub collection : (c : Collection) → Includes w.stack (Collecting c) → CollectionWaits c.phase (list_at store Pend)
 
+-- whether the next step of a collection is one of its two detections: the start makes the first
+abbrev pub is_detection : CollectPhase → Bool
+is_detection Start = true
+is_detection Split = true
+is_detection phase = false
+
+-- whether the next step of a stack is one
+abbrev pub detects : List Activity → Bool
+detects (Collecting c ∷ below) = is_detection c.phase
+detects stack = false
+
+-- none of these steps is one
+abbrev pub MakesNoDetection : World → List StepTaken → Type 0
+MakesNoDetection w [] = Unit {0}
+MakesNoDetection w (step ∷ steps) = (detects w.stack ≡ false) × MakesNoDetection step.world steps
+
+-- Several steps make no detection: one is made by itself.
+abbrev pub MakesDetectionsAlone : World → List StepTaken → Type 0
+MakesDetectionsAlone w [] = Unit {0}
+MakesDetectionsAlone w (step ∷ []) = Unit {0}
+MakesDetectionsAlone w (step ∷ next ∷ steps) = MakesNoDetection w (step ∷ next ∷ steps)
+
 -- The machine goes from one world to another in some steps, perhaps none, and prints these lines.
 pub record Goes (script : Script) (w : World) (events : List Event) (after : World) : Type 0 where
   pub steps : List StepTaken
   pub run : Run script w steps
   pub prints : events_of steps ≡ events
   pub ends : last_world w steps ≡ after
+  pub alone : MakesDetectionsAlone w steps
 
 -- What a call of a death, a release or a collection may answer. The stack of the world is stack, over what lies below.
 -- It went on, or printed a line:

@@ -1,0 +1,25 @@
+//! Where a collection stands towards its two detections.
+
+/// Where a collection stands towards its two detections. Each of the first four is met once, between two steps.
+#[derive(Clone, Copy, Debug, PartialEq, Eq, Drop)]
+pub enum Stage {
+    /// It has begun, and its next step makes the first detection.
+    BeforeFirst,
+    /// Its last step made the first detection, and sorted out what that found.
+    AfterFirst,
+    /// Its next step makes the second detection.
+    BeforeSecond,
+    /// Its last step made the second detection: what is left of the condemned objects is the final set.
+    AfterSecond,
+    /// None of these.
+    Between,
+}
+
+/// A detection of a collection.
+#[derive(Clone, Copy, Debug, PartialEq, Eq, Drop)]
+pub enum Detection {
+    /// Of what is unreachable among the candidates.
+    First,
+    /// Of what finalizers brought back among the condemned objects.
+    Second,
+}
