@@ -9,6 +9,7 @@
 mod budget;
 mod generate;
 mod input;
+mod record;
 mod run;
 mod status;
 mod tell;
@@ -28,6 +29,8 @@ mod inspections;
 mod kinds;
 #[cfg(test)]
 mod promises;
+#[cfg(test)]
+mod recordings;
 #[cfg(test)]
 mod rows;
 #[cfg(test)]

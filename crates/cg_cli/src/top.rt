@@ -7,9 +7,11 @@ ghost use Rattle.cg_heap.specs.Boxes.{six_kinds};
 ghost use Rattle.cg_machine.specs.World.{Ended, BudgetIsSpent};
 ghost use Rattle.cg_words.specs.Words.{AsksFor, Ask};
 ghost use Rattle.cg_cli.specs.Summaries.{WroteSummary, WroteSummaryFront};
+ghost use Rattle.cg_cli.specs.Recordings.{RecordedWhole, RecordedPart, RecordedFront};
 ghost use Rattle.cg_cli.specs.Statuses.{RanWhole, RanKept, RanBad, TookTooMany, WroteFront, Answers, IsCutShort};
 
 use crate::generate::generate_job;
+use crate::record::record_job;
 use crate::run::run_job;
 use crate::status::Status;
 use crate::tell::tell_bad_words;
@@ -31,9 +33,11 @@ fn gc_over<S: Source, K: Sink, B: Kind>(
     requires empty { map B.bodies kinds.items ≡ replicate 6 fin.empty }
     ensures done { result ≡ Status.Done → ((given : Option ℕ) × AsksFor (map string_bytes words.now) (Job.Run given)
         × IfSome (S.left source.old) (λ bytes. RanWhole given Ended bytes (K.written sink.old) (K.written sink.new)))
-        ⊎ ((blocks : ℕ) × AsksFor (map string_bytes words.now) (Job.Generate blocks) × WroteSummary blocks (K.written sink.old) (K.written sink.new)) }
-    ensures spent { result ≡ Status.Budget → (given : Option ℕ) × AsksFor (map string_bytes words.now) (Job.Run given)
-        × IfSome (S.left source.old) (λ bytes. RanWhole given BudgetIsSpent bytes (K.written sink.old) (K.written sink.new)) }
+        ⊎ ((blocks : ℕ) × AsksFor (map string_bytes words.now) (Job.Generate blocks) × WroteSummary blocks (K.written sink.old) (K.written sink.new))
+        ⊎ (AsksFor (map string_bytes words.now) Job.Record × IfSome (S.left source.old) (λ bytes. RecordedWhole Ended bytes (K.written sink.old) (K.written sink.new))) }
+    ensures spent { result ≡ Status.Budget → ((given : Option ℕ) × AsksFor (map string_bytes words.now) (Job.Run given)
+        × IfSome (S.left source.old) (λ bytes. RanWhole given BudgetIsSpent bytes (K.written sink.old) (K.written sink.new)))
+        ⊎ (AsksFor (map string_bytes words.now) Job.Record × IfSome (S.left source.old) (λ bytes. RecordedWhole BudgetIsSpent bytes (K.written sink.old) (K.written sink.new))) }
     ensures bad_words { result ≡ Status.BadWords → Appends (K.written sink.old) (K.written sink.new) (codes "bad words\n") }
     ensures bad_script { result ≡ Status.BadScript → IfSome (S.left source.old) (λ bytes. RanBad bytes (K.written sink.old) (K.written sink.new)) }
     ensures too_large { result ≡ Status.TooLarge → Appends (K.written sink.old) (K.written sink.new) (codes "too large\n") }
@@ -46,7 +50,7 @@ fn gc_over<S: Source, K: Sink, B: Kind>(
     ensures write { (given : Option ℕ) → AsksFor (map string_bytes words.now) (Job.Run given) → result ≡ Status.WriteFault
         → IfSome (S.left source.old) (λ bytes. WroteFront given bytes (K.written sink.old) (K.written sink.new)) }
     ensures write_words { ¬ (Ask (map string_bytes words.now)) → result ≡ Status.WriteFault → AppendsFront (K.written sink.old) (K.written sink.new) (codes "bad words\n") }
-    ensures memory { result ≡ Status.OutOfMemory → Keeps (K.written sink.old) (K.written sink.new) }
+    ensures memory { ¬ AsksFor (map string_bytes words.now) Job.Record → result ≡ Status.OutOfMemory → Keeps (K.written sink.old) (K.written sink.new) }
     ensures answers { (given : Option ℕ) → AsksFor (map string_bytes words.now) (Job.Run given) → IsCutShort result ⊎ IfSome (S.left source.old) (λ bytes. Answers bytes result) }
     ensures words { Ask (map string_bytes words.now) → result ≢ Status.BadWords }
     ensures no_job { ¬ (Ask (map string_bytes words.now)) → (result ≡ Status.BadWords) ⊎ (result ≡ Status.WriteFault) ⊎ (result ≡ Status.OutOfMemory) }
@@ -60,10 +64,22 @@ fn gc_over<S: Source, K: Sink, B: Kind>(
     ensures summary_reads_nothing { (blocks : ℕ) → AsksFor (map string_bytes words.now) (Job.Generate blocks) → source.new ≡ source.old }
     ensures complete_summary { (blocks : ℕ) → AsksFor (map string_bytes words.now) (Job.Generate blocks) → ¬ (Rose (K.faults sink.old) (K.faults sink.new))
         → (result ≡ Status.Done) ⊎ (result ≡ Status.OutOfMemory) }
+    ensures records_to_end { AsksFor (map string_bytes words.now) Job.Record
+        → (result ≡ Status.Done) ⊎ (result ≡ Status.Budget) ⊎ (result ≡ Status.BadScript) → IsAtEnd (S.left source.new) }
+    ensures write_records { AsksFor (map string_bytes words.now) Job.Record → result ≡ Status.WriteFault
+        → IfSome (S.left source.old) (λ bytes. RecordedFront bytes (K.written sink.old) (K.written sink.new)) }
+    ensures memory_records { AsksFor (map string_bytes words.now) Job.Record → result ≡ Status.OutOfMemory → Keeps (K.written sink.old) (K.written sink.new)
+        ⊎ IfSome (S.left source.old) (λ bytes. RecordedPart bytes (K.written sink.old) (K.written sink.new)) }
+    ensures records { AsksFor (map string_bytes words.now) Job.Record → IsCutShort result ⊎ IfSome (S.left source.old) (λ bytes. Answers bytes result) }
+    ensures complete_records { AsksFor (map string_bytes words.now) Job.Record → ¬ (Rose (S.faults source.old) (S.faults source.new)) → ¬ (Rose (K.faults sink.old) (K.faults sink.new))
+        → (result ≡ Status.OutOfMemory) ⊎ IfSome (S.left source.old) (λ bytes. Answers bytes result) }
 {
     match read_words(alloc, words) {
         Ok(Some(Job::Run { budget })) => run_job(alloc, budget, source, sink, kinds),
         Ok(Some(Job::Generate { blocks })) => generate_job(alloc, blocks, sink, kinds),
+        Ok(Some(Job::Record)) => record_job(alloc, source, sink, kinds),
+        // Extended scripts are not expanded yet.
+        Ok(Some(Job::Expand)) => Status::OutOfMemory,
         Ok(None) => tell_bad_words(sink),
         Err(AllocError) => Status::OutOfMemory,
     }
@@ -71,13 +87,15 @@ fn gc_over<S: Source, K: Sink, B: Kind>(
 
 /// Does what the words ask for: with `run`, or `run --budget N`, reads a script from the source, runs it on a heap over the
 /// kinds, and writes the text of the run to the sink, one `write` a line; with `generate N`, runs the script of N blocks with
-/// the usual budget on a heap over the kinds, and writes the summary of its text.
+/// the usual budget on a heap over the kinds, and writes the summary of its text; with `record`, reads and runs a script as `run`
+/// does, and writes the records of its collections in place of its text.
 ///
 /// The kinds stand in the order of `KindCode`, and have no object. The budget is that of the words, else that of the script,
 /// else 10,000. It answers `Done` where the run ended by `end`, and `Budget` where it ended by `budget spent`; `BadWords`,
 /// `BadScript` or `TooLarge`, each with its line written, where the words, a line of the script or its size are not as they
 /// should be; `ReadFault` and `WriteFault` where the source or the sink failed; `OutOfMemory` where memory was refused before
-/// anything was written, and with `generate N` also where a command was refused for want of memory. What the source tells of its bytes and the sink of what was written, the clauses speak of. (Ours.)
+/// anything was written, and with `generate N` and `record` also where a command was refused for want of memory: then `record` has
+/// written a front of the records. What the source tells of its bytes and the sink of what was written, the clauses speak of. (Ours.)
 pub fn gc_run<S: Source, K: Sink>(
     alloc: Global,
     words: &[String],
@@ -90,12 +108,15 @@ pub fn gc_run<S: Source, K: Sink>(
 
     // The words ask for a run, the bytes spell a script, and what was written is the text of a whole run of the machine on it,
     // which ended by `end`, or for want of budget. Or they ask for a large script, and what was written is the summary of the
-    // text of such a run of it, in which no command was refused.
+    // text of such a run of it, in which no command was refused. Or they ask for records, the bytes spell a script, and what was
+    // written is the text of the records of a whole run of it in which no command was refused for want of memory.
     ensures done { result ≡ Status.Done → ((given : Option ℕ) × AsksFor (map string_bytes words.now) (Job.Run given)
         × IfSome (S.left source.old) (λ bytes. RanWhole given Ended bytes (K.written sink.old) (K.written sink.new)))
-        ⊎ ((blocks : ℕ) × AsksFor (map string_bytes words.now) (Job.Generate blocks) × WroteSummary blocks (K.written sink.old) (K.written sink.new)) }
-    ensures spent { result ≡ Status.Budget → (given : Option ℕ) × AsksFor (map string_bytes words.now) (Job.Run given)
-        × IfSome (S.left source.old) (λ bytes. RanWhole given BudgetIsSpent bytes (K.written sink.old) (K.written sink.new)) }
+        ⊎ ((blocks : ℕ) × AsksFor (map string_bytes words.now) (Job.Generate blocks) × WroteSummary blocks (K.written sink.old) (K.written sink.new))
+        ⊎ (AsksFor (map string_bytes words.now) Job.Record × IfSome (S.left source.old) (λ bytes. RecordedWhole Ended bytes (K.written sink.old) (K.written sink.new))) }
+    ensures spent { result ≡ Status.Budget → ((given : Option ℕ) × AsksFor (map string_bytes words.now) (Job.Run given)
+        × IfSome (S.left source.old) (λ bytes. RanWhole given BudgetIsSpent bytes (K.written sink.old) (K.written sink.new)))
+        ⊎ (AsksFor (map string_bytes words.now) Job.Record × IfSome (S.left source.old) (λ bytes. RecordedWhole BudgetIsSpent bytes (K.written sink.old) (K.written sink.new))) }
 
     // Its lines begin the finalizer of one object at most once (PEP 442), and name no object that an earlier line frees.
     ensures promises { (given : Option ℕ) → AsksFor (map string_bytes words.now) (Job.Run given) → (result ≡ Status.Done) ⊎ (result ≡ Status.Budget)
@@ -116,7 +137,7 @@ pub fn gc_run<S: Source, K: Sink>(
     ensures write { (given : Option ℕ) → AsksFor (map string_bytes words.now) (Job.Run given) → result ≡ Status.WriteFault
         → IfSome (S.left source.old) (λ bytes. WroteFront given bytes (K.written sink.old) (K.written sink.new)) }
     ensures write_words { ¬ (Ask (map string_bytes words.now)) → result ≡ Status.WriteFault → AppendsFront (K.written sink.old) (K.written sink.new) (codes "bad words\n") }
-    ensures memory { result ≡ Status.OutOfMemory → Keeps (K.written sink.old) (K.written sink.new) }
+    ensures memory { ¬ AsksFor (map string_bytes words.now) Job.Record → result ≡ Status.OutOfMemory → Keeps (K.written sink.old) (K.written sink.new) }
 
     // Which answer comes: by the words and the bytes alone, but for faults, want of memory and how the run ended.
     ensures answers { (given : Option ℕ) → AsksFor (map string_bytes words.now) (Job.Run given) → IsCutShort result ⊎ IfSome (S.left source.old) (λ bytes. Answers bytes result) }
@@ -136,6 +157,18 @@ pub fn gc_run<S: Source, K: Sink>(
     ensures summary_reads_nothing { (blocks : ℕ) → AsksFor (map string_bytes words.now) (Job.Generate blocks) → source.new ≡ source.old }
     ensures complete_summary { (blocks : ℕ) → AsksFor (map string_bytes words.now) (Job.Generate blocks) → ¬ (Rose (K.faults sink.old) (K.faults sink.new))
         → (result ≡ Status.Done) ⊎ (result ≡ Status.OutOfMemory) }
+
+    // With words to record a run: the budget is that of the script, else 10,000. Want of memory may come to a command too, and then
+    // a front of the records was written.
+    ensures records_to_end { AsksFor (map string_bytes words.now) Job.Record
+        → (result ≡ Status.Done) ⊎ (result ≡ Status.Budget) ⊎ (result ≡ Status.BadScript) → IsAtEnd (S.left source.new) }
+    ensures write_records { AsksFor (map string_bytes words.now) Job.Record → result ≡ Status.WriteFault
+        → IfSome (S.left source.old) (λ bytes. RecordedFront bytes (K.written sink.old) (K.written sink.new)) }
+    ensures memory_records { AsksFor (map string_bytes words.now) Job.Record → result ≡ Status.OutOfMemory → Keeps (K.written sink.old) (K.written sink.new)
+        ⊎ IfSome (S.left source.old) (λ bytes. RecordedPart bytes (K.written sink.old) (K.written sink.new)) }
+    ensures records { AsksFor (map string_bytes words.now) Job.Record → IsCutShort result ⊎ IfSome (S.left source.old) (λ bytes. Answers bytes result) }
+    ensures complete_records { AsksFor (map string_bytes words.now) Job.Record → ¬ (Rose (S.faults source.old) (S.faults source.new)) → ¬ (Rose (K.faults sink.old) (K.faults sink.new))
+        → (result ≡ Status.OutOfMemory) ⊎ IfSome (S.left source.old) (λ bytes. Answers bytes result) }
 {
     one_finalizer_each();
     no_dead_lines();
