@@ -28,6 +28,7 @@ use Rattle.cg_collect.specs.Numbers.{AreSmall}
 use Rattle.cg_collect.specs.Phases.{collection_of, lines_left}
 use Rattle.cg_collect.specs.Ready.{IsClear, IsReadyAt, HasItsWalk, IsApartUnseen, IsEmptyAt, HasFewCollected, IsBegun}
 use Rattle.cg_collect.specs.Answers.{Shows, Stands, WentOn, CollectSteps}
+use Rattle.cg_collect.specs.Stages.{detection_at}
 use Rattle.cg_collect.specs.Turns.{pass_of, collection_at, TurnSteps, StaysReady, TurnLeaves, KeepsObjects}
 use Rattle.cg_collect.specs.Starting.{told_sizes, told_if, told_after_sizes, told_start}
 use Rattle.cg_collect.proofs.Standing.{same_more, map_alike, place_there, objects_on, outside_on, list_has, list_length}
@@ -69,6 +70,12 @@ few_start n false b old store e = few_told n b store e
 begun_start : (s b : Bool) (old store : Store) → IsBegun (told_start s b old store)
 begun_start true b old store = tt
 begun_start false b old store = begun_told b store
+
+-- no detection is to come next
+pub apart_start : (s b : Bool) (old store : Store) → detection_at (unwrap_or (if s then Some (told_sizes old) else None) (told_if b store)) ≡ None
+apart_start true b old store = refl
+apart_start false true old store = refl
+apart_start false false old store = refl
 
 late_start : (s b : Bool) (old store : Store) → 1 ≤ pass_of (told_start s b old store)
 late_start true b old store = omega arith

@@ -37,6 +37,8 @@ use Rattle.cg_collect.specs.Ready.{IsApart, OthersHaveCallbacks, IsReadyAt, HasI
 use Rattle.cg_collect.specs.Answers.{Shows, CollectAnswer, CollectSteps, numbers_at}
 use Rattle.cg_collect.specs.Turns.{pass_of, passes_on, TurnSteps, ComesNearer, KeepsObjects, left_in_pass, to_clear, others_cleared}
 use Rattle.cg_collect.specs.Collections.{IsReady, KeepsReady, CollectFalls, GivesUpNext, once_given_up, give_up_answer}
+use Rattle.cg_collect.specs.Stages.{detection_at, stage_at, LeavesStage}
+use Rattle.cg_collect.proofs.Staging.{leaves_stage}
 use Rattle.cg_collect.proofs.Worlds.{turn_steps}
 use Rattle.cg_collect.proofs.Keeping.{keeps-released}
 use Rattle.cg_collect.proofs.Looking.{still_unsaved}
@@ -343,16 +345,16 @@ module _ (c : Collection) (store : Store) (new : Collection) (now : Store) (answ
       )
       known death_answer.Gone = record { generation = ready.generation; phase = same.ready c.generation ready.phase; walk = (lasts_at c.phase may).walk (profile_of script.items) now; collected = same.few c.collected ready.collected; gives_up = tt }
 
-  -- generation and phase stay
-  gives_up-stays : (new.generation ≡ c.generation) × (new.phase ≡ c.phase)
-  gives_up-stays = subst (λ (n : Collection). (n.generation ≡ c.generation) × (n.phase ≡ c.phase)) (sym g.collection) (known (release_answer (references_left g.before) now))
+  -- generation and phase stay, and what was detected
+  gives_up-stays : (new.generation ≡ c.generation) × (new.phase ≡ c.phase) × (new.detected ≡ c.detected)
+  gives_up-stays = subst (λ (n : Collection). (n.generation ≡ c.generation) × (n.phase ≡ c.phase) × (n.detected ≡ c.detected)) (sym g.collection) (known (release_answer (references_left g.before) now))
     where
-      known : (a : DeathStep) → ((once_given_up c g.after a).generation ≡ c.generation) × ((once_given_up c g.after a).phase ≡ c.phase)
-      known death_answer.Continue = (refl, refl)
-      known (death_answer.Emit event) = (refl, refl)
-      known (death_answer.Frame spec) = (refl, refl)
-      known (death_answer.Died o) = (refl, refl)
-      known death_answer.Gone = (refl, refl)
+      known : (a : DeathStep) → ((once_given_up c g.after a).generation ≡ c.generation) × ((once_given_up c g.after a).phase ≡ c.phase) × ((once_given_up c g.after a).detected ≡ c.detected)
+      known death_answer.Continue = (refl, refl, refl)
+      known (death_answer.Emit event) = (refl, refl, refl)
+      known (death_answer.Frame spec) = (refl, refl, refl)
+      known (death_answer.Died o) = (refl, refl, refl)
+      known death_answer.Gone = (refl, refl, refl)
 
   pub gives_up-generation : new.generation ≡ c.generation
   gives_up-generation = gives_up-stays.0
@@ -362,6 +364,13 @@ module _ (c : Collection) (store : Store) (new : Collection) (now : Store) (answ
 
   pub gives_up-onward : pass_of c.phase + passes_on c.phase ≤ pass_of new.phase
   gives_up-onward = omega (arith, (lasts_at c.phase may).onward, ap pass_of gives_up-stays.1)
+
+  -- its stage is that of a step without a detection
+  pub gives_up-detected : c.detected ≡ detection_at c.phase → new.detected ≡ detection_at c.phase
+  gives_up-detected is = gives_up-stays.2 ∙ is
+
+  pub gives_up-stage : c.detected ≡ detection_at c.phase → LeavesStage c.phase (stage_at new.phase new.detected)
+  gives_up-stage is = leaves_stage c.phase new.phase new.detected (gives_up-detected is) gives_up-begun (λ start. absurd (subst MayGiveUp start may)) gives_up-onward
 
   pub gives_up-keeps : KeepsObjects store now
   gives_up-keeps = subst (KeepsObjects store) (sym g.heap) (keeps-released (references_left g.before) store)

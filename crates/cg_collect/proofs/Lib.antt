@@ -26,6 +26,7 @@ pub mod RowWalks
 pub mod Walking
 pub mod Losing
 pub mod WalkTurns
+pub mod Staging
 pub mod GivingUp
 pub mod Stepping
 mod LookingTwice

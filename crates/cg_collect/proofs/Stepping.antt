@@ -15,9 +15,11 @@ use Rattle.cg_collect.specs.declared.phase.Phase.TheVariants as phase_of
 use Rattle.cg_collect.specs.declared.phase.Turn.{Turn}
 use Rattle.cg_collect.specs.Ready.{HasItsWalk, HasFewCollected, RunsFrame, MayRun, IsBegun}
 use Rattle.cg_collect.specs.Answers.{CollectSteps}
-use Rattle.cg_collect.specs.Turns.{pass_of, passes_on, TurnSteps, TurnFalls, TurnLeaves, TurnEnds, StaysReady, HandsOutIn, KeepsObjects}
+use Rattle.cg_collect.specs.Turns.{pass_of, passes_on, collection_at, collection_after, TurnSteps, TurnFalls, TurnLeaves, TurnEnds, StaysReady, HandsOutIn, KeepsObjects}
 use Rattle.cg_collect.specs.Looks.{most_looks}
+use Rattle.cg_collect.specs.Stages.{detection_at, stage_at, LeavesStage}
 use Rattle.cg_collect.specs.Collections.{IsReady, KeepsReady, CollectFalls, DiesUnheld, facts_of, given_up_by, own_holds_at, held_by}
+use Rattle.cg_collect.proofs.Staging.{also-steps, leaves_stage}
 use Rattle.cg_collect.proofs.GivingUp.{few_at_most}
 
 -- what is held of a collection: what it gives up, and what its phase holds
@@ -96,7 +98,8 @@ module _ (old mid : Collection) (store between : Store) (same : mid ≡ old) (he
     turned-steps script policy policy_now steps =
         subst (λ (c : Collection). CollectSteps script c store policy (turned turn) now policy_now turn.answer) same
         (subst (λ r. CollectSteps script (record mid { release = r }) store policy (turned turn) now policy_now turn.answer) (sym (ap (λ (c : Collection). c.release) same ∙ none))
-        (subst (λ st. CollectSteps script (record mid { release = None }) st policy (turned turn) now policy_now turn.answer) heap steps))
+        (subst (λ st. CollectSteps script (record mid { release = None }) st policy (turned turn) now policy_now turn.answer) heap
+        (also-steps mid.detected mid.detected script (collection_at (facts_of mid) mid.phase None) between policy (collection_after (facts_of mid) turn) now policy_now turn.answer steps)))
 
     -- the turn goes on, or it was the last
     abbrev Left : Type 0
@@ -125,6 +128,14 @@ module _ (old mid : Collection) (store between : Store) (same : mid ≡ old) (he
         from_mid : Left → pass_of mid.phase + passes_on mid.phase ≤ pass_of turn.phase
         from_mid (inl leaves) = leaves.onward
         from_mid (inr e) = subst (λ (p : Phase). pass_of p + passes_on p ≤ pass_of turn.phase) (sym e.over) (subst (λ (t : Turn). 15 ≤ pass_of t.phase) (sym e.is) (omega arith))
+
+    -- what it detected, and so its stage
+    pub turned-detected : old.detected ≡ detection_at old.phase → (turned turn).detected ≡ detection_at old.phase
+    turned-detected is = ap (λ (c : Collection). c.detected) same ∙ is
+
+    pub turned-stage : old.detected ≡ detection_at old.phase → Left → (mid.phase ≡ phase_of.Start → detection_at turn.phase ≡ None) → LeavesStage old.phase (stage_at turn.phase mid.detected)
+    turned-stage is left apart =
+        leaves_stage old.phase turn.phase mid.detected (turned-detected is) (turned-begun left) (λ start. apart (ap (λ (c : Collection). c.phase) same ∙ start)) (turned-onward left)
 
     pub turned-ready : (script : Script) → IsReady script old store → StaysReady now mid.generation turn.phase turn.answer → HasItsWalk (profile_of script.items) now turn.phase → Left → KeepsReady script (turned turn) now turn.answer
     turned-ready script ready stays_ready walks (inl leaves) = known turn.answer stays_ready leaves.hands_out

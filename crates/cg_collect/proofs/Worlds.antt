@@ -53,7 +53,7 @@ turn_steps script facts phase store policy now policy_now turn next release answ
 
 -- no step of the machine
 pub stays : (script : Script) (w : World) → Goes script w [] w
-stays script w = record { steps = []; run = tt; prints = refl; ends = refl }
+stays script w = record { steps = []; run = tt; prints = refl; ends = refl; alone = tt }
 
 -- A call that tells a line, or none, of the machine's last step, and makes no step.
 pub only_tells : (script : Script) (asked : Bool) (w : World) (below : List Activity) (left told : List Event) (c : Collection) (store : Store) (policy : Policy)

@@ -1,5 +1,5 @@
 -- Steps of the machine put one after the other, and what is given up above a death.
-use Rattle.std.proofs.Common.{◌≡◌, refl, sym, ◌∙◌, ap, subst, ℕ, ◌+◌, Bool, true, false, cond, inl, inr, List, [], ◌∷◌, ◌++◌, Option, Some, None, arith}
+use Rattle.std.proofs.Common.{◌≡◌, refl, sym, ◌∙◌, ap, subst, ℕ, ◌+◌, ◌⊎◌, Bool, true, false, cond, inl, inr, List, [], ◌∷◌, ◌++◌, Option, Some, None, arith}
 use Rattle.std.specs.Prelude.{◌==◌, count_by, if◌then◌else◌}
 use Rattle.std.proofs.lemmas.List.Sums.{sum_by-cons}
 use Rattle.cg_script.specs.declared.Script.{Script}
@@ -10,6 +10,7 @@ use Rattle.cg_machine.specs.World.{World, Activity, Releasing, Dying, Death, Aft
 use Rattle.cg_machine.specs.Holdings.{holdings, is_death_of}
 use Rattle.cg_machine.specs.Laws.{IsHeldInItsFramesAlone}
 use Rattle.cg_machine.specs.Run.{StepOf}
+use Rattle.cg_machine.specs.Represents.{detects}
 use Rattle.cg_death.specs.declared.answer.DeathStep.{DeathStep}
 use Rattle.cg_death.specs.declared.answer.DeathStep.TheVariants as answer_of
 use Rattle.cg_death.specs.declared.phase.Phase.{Phase}
@@ -19,17 +20,17 @@ use Rattle.cg_death.specs.Activities.{death_of, death_activities, activities, re
 use Rattle.cg_death.specs.Deaths.{TakesNext}
 use Rattle.cg_death.specs.Answers.{Stands, WentOn, ReleaseAnswer, DeathAnswer, DeathSteps}
 use Rattle.cg_death.proofs.Worlds.{steps_at}
-use Rattle.cg_machine.proofs.Representing.{and_then, matches, represents, pushed, popped}
+use Rattle.cg_machine.proofs.Representing.{in_one, and_then, matches, represents, pushed, popped}
 use Rattle.cg_death.proofs.Releases.{given_up}
 use Rattle.cg_death.proofs.Turns.{here, rephased, death}
 
--- A step that prints nothing and changes the stack alone, and then an answer.
-module _ (script : Script) (v : World) (before between : List Activity) (step : StepOf script (with_stack before v) before [] (with_stack between v)) (new : Store) (stack : List Activity) where
+-- A step that prints nothing and changes the stack alone, and then an answer. Neither it nor the next is a detection of a collection.
+module _ (script : Script) (v : World) (before between : List Activity) (step : StepOf script (with_stack before v) before [] (with_stack between v)) (none : detects before ≡ false) (next : detects between ≡ false) (new : Store) (stack : List Activity) where
   went : (e : List Rattle.cg_machine.specs.declared.event.Event.Event) (numbers : Rattle.cg_machine.specs.World.Numbers) → (with_stack before v).outcome ≡ Rattle.cg_machine.specs.World.Running → WentOn script (with_stack between v) e numbers new stack → WentOn script (with_stack before v) e numbers new stack
   went e numbers running a = record {
     goes = record {
       after = a.goes.after;
-      goes = and_then script (with_stack before v) (with_stack between v) e a.goes.after running step a.goes.goes;
+      goes = and_then script (with_stack before v) (with_stack between v) e a.goes.after running step none next a.goes.goes;
       top = a.goes.top;
       represents = a.goes.represents;
     };
@@ -42,7 +43,7 @@ module _ (script : Script) (v : World) (before between : List Activity) (step : 
   first_then (answer_of.Frame spec) running a = record {
     hands = record {
       before = a.hands.before;
-      goes = and_then script (with_stack before v) (with_stack between v) _ _ running step a.hands.goes;
+      goes = and_then script (with_stack before v) (with_stack between v) _ _ running step none next a.hands.goes;
       top = a.hands.top;
       represents = a.hands.represents;
     };
@@ -51,7 +52,7 @@ module _ (script : Script) (v : World) (before between : List Activity) (step : 
   first_then (answer_of.Died o) running a = record {
     hands = record {
       before = a.hands.before;
-      goes = and_then script (with_stack before v) (with_stack between v) [] _ running step a.hands.goes;
+      goes = and_then script (with_stack before v) (with_stack between v) [] _ running step none next a.hands.goes;
       top = a.hands.top;
       represents = a.hands.represents;
     };
@@ -80,11 +81,12 @@ module _ (store : Store) (v : World) (stack : List Activity) where
     once = λ q. let was = s.once q in omega (arith, was, count_release q [] stack);
   }
 
-pub after_pop : (script : Script) (store : Store) (tops : List Activity) (new : Store) (tops_after : List Activity) (answer : DeathStep) → DeathSteps script store tops new tops_after answer → DeathSteps script store (Releasing [] ∷ tops) new tops_after answer
-after_pop script store tops new tops_after answer steps =
+-- A death that is not over is no collection.
+pub after_pop : (script : Script) (store : Store) (tops : List Activity) (new : Store) (tops_after : List Activity) (answer : DeathStep) → ((below : List Activity) → detects (tops ++ below) ≡ false) → DeathSteps script store tops new tops_after answer → DeathSteps script store (Releasing [] ∷ tops) new tops_after answer
+after_pop script store tops new tops_after answer none steps =
     steps_at script store (Releasing [] ∷ tops) new tops_after answer
     (λ v below s.
-    first_then script v (Releasing [] ∷ tops ++ below) (tops ++ below) (refl, refl) new (tops_after ++ below) answer s.running
+    first_then script v (Releasing [] ∷ tops ++ below) (tops ++ below) (refl, refl) refl (none below) new (tops_after ++ below) answer s.running
     (steps (with_stack (tops ++ below) v) below (stands-popped store v (tops ++ below) s)))
 
 -- What is given up above a death is a step of the release.
@@ -123,7 +125,7 @@ module _ (script : Script) (store : Store) (o weak callback : ℕ) where
       (λ v below s.
       subst (λ l. DeathAnswer script (here store v o (AfterCall weak callback ws) below) new (Releasing l ∷ death_of o (Calling (waiting_for new o)) ∷ below) (if count_of new callback == 0 then answer_of.Died callback else answer_of.Continue)) (sym left)
       (subst (λ us. DeathAnswer script (here store v o (AfterCall weak callback ws) below) new (Releasing (weak ∷ []) ∷ death_of o (Calling us) ∷ below) (if count_of new callback == 0 then answer_of.Died callback else answer_of.Continue)) (ap (λ st. waiting_for st o) (sym is))
-      (first_then script v (death_of o (AfterCall weak callback ws) ∷ below) (Releasing (callback ∷ weak ∷ []) ∷ death_of o (Calling ws) ∷ below) (refl, refl) new (Releasing (weak ∷ []) ∷ death_of o (Calling ws) ∷ below) (if count_of new callback == 0 then answer_of.Died callback else answer_of.Continue) s.running
+      (first_then script v (death_of o (AfterCall weak callback ws) ∷ below) (Releasing (callback ∷ weak ∷ []) ∷ death_of o (Calling ws) ∷ below) (refl, refl) refl refl new (Releasing (weak ∷ []) ∷ death_of o (Calling ws) ∷ below) (if count_of new callback == 0 then answer_of.Died callback else answer_of.Continue) s.running
       (of_release script (with_stack (Releasing (callback ∷ weak ∷ []) ∷ death_of o (Calling ws) ∷ below) v) (death_of o (Calling ws) ∷ below) new (weak ∷ []) callback (count_of new callback == 0)
       (given_up script store v callback (weak ∷ []) (death_of o (Calling ws) ∷ below) (stands-pushed v below s) new is)))))
 
@@ -137,12 +139,53 @@ step-given_up script store new o q phase (Some release) (Some left) takes is =
     (subst (λ refs. DeathSteps script store (Releasing refs ∷ death_activities o phase (waiting_for store o)) new (Releasing (references_left left) ∷ death_activities o phase (waiting_for store o)) (if count_of new q == 0 then answer_of.Died q else answer_of.Continue)) (sym takes)
     (gives_up_above script store new q (references_left left) (death_activities o phase (waiting_for store o)) is))
 
-pub step-turned : (script : Script) (store new : Store) (o : ℕ) (phase : Phase) (before after : Option Release) (tops : List Activity) (answer : DeathStep) → TakesNext before None after
-    → DeathSteps script store (activities o phase None store) new tops answer → DeathSteps script store (activities o phase before store) new tops answer
-step-turned script store new o phase None after tops answer takes steps = steps
-step-turned script store new o phase (Some release) after tops answer takes steps =
-    subst (λ refs. DeathSteps script store (Releasing refs ∷ death_activities o phase (waiting_for store o)) new tops answer) (sym takes)
-    (after_pop script store (death_activities o phase (waiting_for store o)) new tops answer steps)
+-- One that is over has nothing left but a release that ends.
+over_popped : (script : Script) (store : Store) → DeathSteps script store (Releasing [] ∷ []) store [] answer_of.Gone
+over_popped script store =
+    steps_at script store (Releasing [] ∷ []) store [] answer_of.Gone
+    (λ v below s. record {
+      goes = record {
+        after = with_stack below v;
+        goes = in_one script (with_stack (Releasing [] ∷ below) v) [] (with_stack below v) s.running (refl, refl);
+        top = refl;
+        represents = (stands-popped store v below s).represents;
+      };
+      keeps = record { numbers = refl; budget = refl; outcome = refl };
+    })
+
+-- a death is over, or on the stack
+over_or_there : (o : ℕ) (phase : Phase) (waiting : List ℕ) → (phase ≡ phase_of.Over) ⊎ ((below : List Activity) → detects (death_activities o phase waiting ++ below) ≡ false)
+over_or_there o phase_of.Finalizer waiting = inr (λ below. refl)
+over_or_there o phase_of.AfterFinalizer waiting = inr (λ below. refl)
+over_or_there o phase_of.Clearing waiting = inr (λ below. refl)
+over_or_there o phase_of.Calling waiting = inr (λ below. refl)
+over_or_there o (phase_of.AfterCall weak callback) waiting = inr (λ below. refl)
+over_or_there o phase_of.LegacyFinalizer waiting = inr (λ below. refl)
+over_or_there o phase_of.AfterLegacy waiting = inr (λ below. refl)
+over_or_there o phase_of.Detaching waiting = inr (λ below. refl)
+over_or_there o phase_of.Emptying waiting = inr (λ below. refl)
+over_or_there o phase_of.Over waiting = inl refl
+
+-- The turn of one that is over leaves all as it is.
+pub record RestsIfOver (store new : Store) (phase : Phase) (tops : List Activity) (answer : DeathStep) : Type 0 where
+  pub heap : phase ≡ phase_of.Over → new ≡ store
+  pub nothing : phase ≡ phase_of.Over → tops ≡ []
+  pub gone : phase ≡ phase_of.Over → answer ≡ answer_of.Gone
+
+module _ (script : Script) (store new : Store) (o : ℕ) (phase : Phase) (tops : List Activity) (answer : DeathStep) (rests : RestsIfOver store new phase tops answer) (steps : DeathSteps script store (death_activities o phase (waiting_for store o)) new tops answer) where
+  -- the release above it ends first
+  turned_below : DeathSteps script store (Releasing [] ∷ death_activities o phase (waiting_for store o)) new tops answer
+  turned_below = either (over_or_there o phase (waiting_for store o))
+      (λ over.
+      subst (λ p. DeathSteps script store (Releasing [] ∷ death_activities o p (waiting_for store o)) new tops answer) (sym over)
+      (subst (λ st. DeathSteps script store (Releasing [] ∷ []) st tops answer) (sym (rests.heap over))
+      (subst (λ ts. DeathSteps script store (Releasing [] ∷ []) store ts answer) (sym (rests.nothing over))
+      (subst (DeathSteps script store (Releasing [] ∷ []) store []) (sym (rests.gone over)) (over_popped script store)))))
+      (λ none. after_pop script store (death_activities o phase (waiting_for store o)) new tops answer none steps)
+
+  pub step-turned : (before after : Option Release) → TakesNext before None after → DeathSteps script store (activities o phase before store) new tops answer
+  step-turned None after takes = steps
+  step-turned (Some release) after takes = subst (λ refs. DeathSteps script store (Releasing refs ∷ death_activities o phase (waiting_for store o)) new tops answer) (sym takes) turned_below
 
 -- a death that is over stays so
 pub turn-over : (script : Script) (store : Store) (o : ℕ) → DeathSteps script store (activities o phase_of.Over None store) store (activities o phase_of.Over None store) answer_of.Gone
@@ -151,7 +194,7 @@ turn-over script store o =
     (λ v below s. record {
       goes = record {
         after = with_stack below v;
-        goes = record { steps = []; run = tt; prints = refl; ends = refl };
+        goes = record { steps = []; run = tt; prints = refl; ends = refl; alone = tt };
         top = refl;
         represents = s.represents;
       };

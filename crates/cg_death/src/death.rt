@@ -139,6 +139,7 @@ fn turn<B: Kind>(object: u64, phase: Phase, heap: &mut Heap<B>, script: &Script)
     requires ready { IsReadyAt heap.old object phase }
     ensures takes { TakesTurn script.now heap.old object phase heap.new result }
     ensures over { phase ≡ phase_of.Over → result.answer ≡ answer_of.Gone }
+    ensures rests { phase ≡ phase_of.Over → heap.new ≡ heap.old }
 {
     match phase {
         Phase::Finalizer => run_finalizer(object, heap, script),

@@ -17,7 +17,6 @@ use Rattle.cg_collect.specs.declared.answer.CollectStep.TheVariants as answer_of
 use Rattle.cg_collect.specs.declared.collection.Collection.{Collection}
 use Rattle.cg_collect.specs.Phases.{on_stack}
 use Rattle.cg_collect.specs.Numbers.{AreSmall}
-use Rattle.cg_collect.specs.Ready.{IsBegun}
 use Rattle.cg_collect.specs.Collections.{IsReady, HandsOut, CollectFalls, held_by}
 use Rattle.cg_collect.specs.Answers.{CollectSteps, CollectAnswer}
 use Rattle.cg_interp.specs.declared.activity.Activity.TheVariants as activity
@@ -71,11 +70,11 @@ module _ (script : Script) (asked : Bool) (c : Collection) (e : State) where
       subst (λ l. CollectAnswer script asked w k.below l d new.store new.policy answer) (sym k.lines) (steps asked w k.below (stands_for_step script asked c e left w k kept))
 
   module _ (d : Collection) (mid : State) (top : mid.activities ≡ activity.Collecting asked d ∷ e.activities) (budget : mid.budget ≡ e.budget) where
-    pub turns_quietly : IsReady script d mid.store → IsBegun d.phase → CollectFalls c e.store d mid.store → CollectSteps script c e.store e.policy d mid.store mid.policy answer_of.Continue → CollectTurns script asked c e mid turned.Quiet
-    turns_quietly ready begun falls steps w left k stays = goes_on_quietly script asked c e left w k d mid top budget ready begun falls (answered left w k (stays [] tt) d mid answer_of.Continue steps)
+    pub turns_quietly : IsReady script d mid.store → CollectFalls c e.store d mid.store → CollectSteps script c e.store e.policy d mid.store mid.policy answer_of.Continue → CollectTurns script asked c e mid turned.Quiet
+    turns_quietly ready falls steps w left k stays = goes_on_quietly script asked c e left w k d mid top budget ready falls (answered left w k (stays [] tt) d mid answer_of.Continue steps)
 
-    pub turns_telling : (event : Event) → IsReady script d mid.store → IsBegun d.phase → CollectSteps script c e.store e.policy d mid.store mid.policy (answer_of.Emit event) → CollectTurns script asked c e mid (turned.Line event)
-    turns_telling event ready begun steps w left k stays = goes_on_telling script asked c e left w k d mid top budget ready begun event (answered left w k (stays [] tt) d mid (answer_of.Emit event) steps)
+    pub turns_telling : (event : Event) → IsReady script d mid.store → CollectSteps script c e.store e.policy d mid.store mid.policy (answer_of.Emit event) → CollectTurns script asked c e mid (turned.Line event)
+    turns_telling event ready steps w left k stays = goes_on_telling script asked c e left w k d mid top budget ready event (answered left w k (stays [] tt) d mid (answer_of.Emit event) steps)
 
     -- a frame
     module _ (spec : FrameSpec) (h : HandsOut d mid.store) (steps : CollectSteps script c e.store e.policy d mid.store mid.policy (answer_of.Frame spec)) where

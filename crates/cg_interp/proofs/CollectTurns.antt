@@ -26,7 +26,7 @@ use Rattle.cg_collect.specs.declared.collection.Collection.{Collection}
 use Rattle.cg_collect.specs.declared.phase.Phase.{Phase}
 use Rattle.cg_collect.specs.declared.phase.Phase.TheVariants as phase_of
 use Rattle.cg_collect.specs.Phases.{machine_phase, collecting, collection_of, released_over, on_stack, store_after, lines_left, answer_lines}
-use Rattle.cg_collect.specs.Ready.{MayRun, IsBegun}
+use Rattle.cg_collect.specs.Ready.{MayRun}
 use Rattle.cg_collect.specs.Collections.{IsReady, HandsOut, CollectFalls}
 use Rattle.cg_collect.specs.Answers.{Shows as CollectionShows, Stands, WentOn, HasFinished, numbers_at}
 use Rattle.cg_interp.specs.declared.activity.Activity.{Activity as Own}
@@ -114,14 +114,13 @@ module _ (script : Script) (asked : Bool) (c : Collection) (e : State) (left : L
 
     -- the collection stays on top
     module _ (d : Collection) (new : State) (top : new.activities ≡ activity.Collecting asked d ∷ e.activities) (budget : new.budget ≡ e.budget) where
-      module _ (ready : IsReady script d new.store) (begun : IsBegun d.phase) where
+      module _ (ready : IsReady script d new.store) where
         on_top : (told : List Event) (went : WentOn script asked w k.below left told d new.store new.policy) → StandsWith script new (lines_left script asked d d.phase new.store) went.after
         on_top told went = inr (record {
           asked = asked;
           collection = d;
           rest = e.activities;
           top = top;
-          begun = begun;
           collects = record {
             below = k.below;
             shows = went.shows;
@@ -215,7 +214,7 @@ module _ (script : Script) (asked : Bool) (c : Collection) (e : State) (left : L
         events = [];
         after = w;
         still = [];
-        goes = record { steps = []; run = tt; prints = refl; ends = refl };
+        goes = record { steps = []; run = tt; prints = refl; ends = refl; alone = tt };
         lines = ap (λ l. l ++ []) is;
         moves = inr advances;
         stands = inl (stands_after, refl);
@@ -260,7 +259,7 @@ tells_with script may_rest w left transition e told none goes tells is stands = 
   events = told;
   after = transition.1;
   still = [];
-  goes = record { steps = goes.steps; run = goes.run; prints = goes.prints ∙ is; ends = goes.ends };
+  goes = record { steps = goes.steps; run = goes.run; prints = goes.prints ∙ is; ends = goes.ends; alone = goes.alone };
   lines = ap (λ l. l ++ told) none ∙ sym (append-nil told);
   moves = inl (λ no_step. tells (sym goes.prints ∙ ap events_of no_step));
   stands = inl (stands, refl);
@@ -272,9 +271,9 @@ pub makes_with : (script : Script) (may_rest : List Event → Type 0) (w : World
 makes_with script may_rest w left transition e turned.Quiet none goes tells makes = absurd (tells makes.0)
 makes_with script may_rest w left transition e (turned.Line event) none goes tells makes = tells_with script may_rest w left transition e (event ∷ []) none goes tells makes.0 makes.1
 makes_with script may_rest w left transition e (turned.Lines events) none goes tells makes = tells_with script may_rest w left transition e events none goes tells makes.0 makes.1
-makes_with script may_rest w left transition e turned.Ended none goes tells makes = (none, record { after = transition.1; goes = record { steps = goes.steps; run = goes.run; prints = goes.prints ∙ makes.0; ends = goes.ends }; ended = makes.1 })
-makes_with script may_rest w left transition e (turned.Left n) none goes tells makes = (none, record { after = transition.1; goes = record { steps = goes.steps; run = goes.run; prints = goes.prints ∙ makes.0; ends = goes.ends }; ended = makes.1 })
-makes_with script may_rest w left transition e turned.Spent none goes tells makes = (none, record { after = transition.1; goes = record { steps = goes.steps; run = goes.run; prints = goes.prints ∙ makes.0; ends = goes.ends }; ended = makes.1 })
+makes_with script may_rest w left transition e turned.Ended none goes tells makes = (none, record { after = transition.1; goes = record { steps = goes.steps; run = goes.run; prints = goes.prints ∙ makes.0; ends = goes.ends; alone = goes.alone }; ended = makes.1 })
+makes_with script may_rest w left transition e (turned.Left n) none goes tells makes = (none, record { after = transition.1; goes = record { steps = goes.steps; run = goes.run; prints = goes.prints ∙ makes.0; ends = goes.ends; alone = goes.alone }; ended = makes.1 })
+makes_with script may_rest w left transition e turned.Spent none goes tells makes = (none, record { after = transition.1; goes = record { steps = goes.steps; run = goes.run; prints = goes.prints ∙ makes.0; ends = goes.ends; alone = goes.alone }; ended = makes.1 })
 
 pub starts_with : (script : Script) (may_rest : List Event → Type 0) (w : World) (left : List Event) (spec : FrameSpec) (before : World) (e : State) (answer : Turned) → left ≡ [] → Goes script w (start_frame script spec before).0 (start_frame script spec before).1 → Makes script (start_frame script spec before) e answer
     → TurnsWith script may_rest w left e answer

@@ -24,7 +24,7 @@ use Rattle.cg_collect.specs.declared.collection.Collection.{Collection}
 use Rattle.cg_collect.specs.declared.phase.Phase.{Phase}
 use Rattle.cg_collect.specs.declared.phase.Phase.TheVariants as phase_of
 use Rattle.cg_collect.specs.Phases.{machine_phase, collecting, released_over, shown_with, lines_left, store_after}
-use Rattle.cg_collect.specs.Ready.{MayRun, IsBegun}
+use Rattle.cg_collect.specs.Ready.{MayRun}
 use Rattle.cg_collect.specs.Answers.{numbers_at}
 use Rattle.cg_interp.specs.declared.activity.Activity.{Activity}
 use Rattle.cg_interp.specs.declared.activity.Activity.TheVariants as activity
@@ -220,8 +220,16 @@ any_starting (x ∷ xs) = go (is_starting x) (any_starting xs)
     go true e = sym (lt-ltb 0 (1 + tally starting xs) (omega arith))
     go false e = let same : tally starting xs ≡ 0 + tally starting xs = omega arith in e ∙ ap (nat_lt 0) same
 
--- A world that has what the engine tells of it, and a stack with the same sums, has its number.
-module _ (script : Script) (e : State) (w : World) (objects : w.objects ≡ objects_of (store_told e.activities e.store)) (names : w.names ≡ e.store.names) (numbers : w.numbers ≡ e.policy.numbers) (budget : w.budget ≡ e.budget) (running : w.outcome ≡ Running)
+-- A collection that is to start counts the same, whatever the numbers are.
+due_alike : (s t : Bool) → s ≡ t → (m n : Numbers) → (s ≡ false → m ≡ n) → due_rank (is_due m) s ≡ due_rank (is_due n) t
+due_alike true true same m n numbers = refl
+due_alike true false same m n numbers = absurd (cc)
+due_alike false true same m n numbers = absurd (cc)
+due_alike false false same m n numbers = ap (λ (k : Numbers). due_rank (is_due k) false) (numbers refl)
+
+-- A world that has what the engine tells of it, and a stack with the same sums, has its number. Where a collection is to start,
+-- the numbers of the policy are not read.
+module _ (script : Script) (e : State) (w : World) (objects : w.objects ≡ objects_of (store_told e.activities e.store)) (names : w.names ≡ e.store.names) (numbers : list_any is_starting w.stack ≡ false → w.numbers ≡ e.policy.numbers) (budget : w.budget ≡ e.budget) (running : w.outcome ≡ Running)
     (alike : (f : machine.Activity → ℕ) → IsBlind f → tally f w.stack ≡ tally f (flat_map (shown script) e.activities)) where
   same_summary : summary script w ≡ summary script (world_from script e)
   same_summary =
@@ -233,9 +241,10 @@ module _ (script : Script) (e : State) (w : World) (objects : w.objects ≡ obje
       let weight = alike weight_in (record { deaths = weights_of_deaths; collections = weights_of_collections }) in
       let starts : list_any is_starting w.stack ≡ list_any is_starting (flat_map (shown script) e.activities) =
       any_starting w.stack ∙ ap (nat_lt 0) (alike starting (record { deaths = starts_of_deaths; collections = starts_of_collections })) ∙ sym (any_starting (flat_map (shown script) e.activities)) in
+      let due = due_alike (list_any is_starting w.stack) (list_any is_starting (flat_map (shown script) e.activities)) starts w.numbers e.policy.numbers numbers in
       λ i. record {
         commands = alive (running i) + 2 * (budget i * suc (all_bodies script)) + commands i + bound_names (names i);
-        due = due_rank (is_due (numbers i)) (starts i);
+        due = due i;
         rank = rank i;
         left = left i;
         entries = entries_in (objects i);
@@ -247,9 +256,12 @@ module _ (script : Script) (e : State) (w : World) (objects : w.objects ≡ obje
   same : number_of script w ≡ number_of script (world_from script e)
   same = ap number same_summary
 
-begun_numbers : (phase : Phase) (generation : ℕ) (numbers : Numbers) → IsBegun phase → numbers_at phase generation numbers ≡ numbers
-begun_numbers phase_of.Start generation numbers begun = absurd begun
-begun_numbers _ generation numbers begun = refl
+-- the numbers of the policy are those of the world, unless a collection is to start
+begun_numbers : (asked : Bool) (c : Collection) (phase : Phase) (release : Option Release) (pending : List ℕ) (below : List machine.Activity) (generation : ℕ) (numbers : Numbers)
+    → list_any is_starting (released_over release (collecting asked c (machine_phase phase pending)) ++ below) ≡ false → numbers_at phase generation numbers ≡ numbers
+begun_numbers asked c phase_of.Start None pending below generation numbers none = absurd (let no : true ≡ false = none in cc)
+begun_numbers asked c phase_of.Start (Some release) pending below generation numbers none = absurd (let no : true ≡ false = none in cc)
+begun_numbers asked c _ release pending below generation numbers none = refl
 
 -- the heap once the lines that are left are told has the same names
 names_after : (phase : Phase) (store : Store) → (store_after phase store).names ≡ store.names
@@ -261,12 +273,13 @@ names_after phase store = refl
 -- the number of a world for which an engine stands once its lines are told
 pub same_number : (script : Script) (e : State) (left : List Event) (w : World) → StandsWith script e left w → number_of script w ≡ number_of script (world_from script e)
 same_number script e left w (inl (stands, none)) =
-    same script e w (sym stands.represents.objects ∙ ap objects_of (sym (same_store script e.activities w.stack e.store stands.shows))) (sym stands.represents.names) (sym stands.numbers) stands.budget stands.running
+    same script e w (sym stands.represents.objects ∙ ap objects_of (sym (same_store script e.activities w.stack e.store stands.shows))) (sym stands.represents.names) (λ none. sym stands.numbers) stands.budget stands.running
     (λ f blind. same_tally f blind script e.activities w.stack stands.shows)
 same_number script e left w (inr top) =
     let c : Collection = top.collection in
     let h = top.collects in
     let here : State = record e { activities = activity.Collecting top.asked c ∷ top.rest } in
-    same script here w (sym h.shows.represents.objects) (sym h.shows.represents.names ∙ names_after c.phase e.store) (sym (h.shows.numbers ∙ begun_numbers c.phase c.generation w.numbers top.begun)) h.budget h.running
+    same script here w (sym h.shows.represents.objects) (sym h.shows.represents.names ∙ names_after c.phase e.store) 
+    (λ none. sym (h.shows.numbers ∙ begun_numbers top.asked c c.phase c.release (list_at e.store Pend) h.below c.generation w.numbers (ap (list_any is_starting) (sym h.shows.top) ∙ none))) h.budget h.running
     (λ f blind. same_on_top f blind script top.asked c (list_at e.store Pend) top.rest w.stack h.below h.shows.top h.over)
     ∙ ap (λ list. number_of script (world_from script (record e { activities = list }))) (sym top.top)

@@ -125,12 +125,12 @@ starts_moves script spec w steps prints = by (w.budget == 0) _ _ prints
 
 -- a transition that the machine came to
 comes : (script : Script) (w : World) (e : State) (t : Transition) (answer : Turned) → (goes : Goes script w t.0 t.1) → goes.steps ≢ [] → Makes script t e answer → Turns script w e answer
-comes script w e t turned.Quiet goes moves makes = record { after = t.1; goes = record { steps = goes.steps; run = goes.run; prints = goes.prints ∙ makes.0; ends = goes.ends }; moves = moves; stands = makes.1 }
-comes script w e t (turned.Line event) goes moves makes = record { after = t.1; goes = record { steps = goes.steps; run = goes.run; prints = goes.prints ∙ makes.0; ends = goes.ends }; moves = moves; stands = makes.1 }
-comes script w e t (turned.Lines events) goes moves makes = record { after = t.1; goes = record { steps = goes.steps; run = goes.run; prints = goes.prints ∙ makes.0; ends = goes.ends }; moves = moves; stands = makes.1 }
-comes script w e t turned.Ended goes moves makes = record { after = t.1; goes = record { steps = goes.steps; run = goes.run; prints = goes.prints ∙ makes.0; ends = goes.ends }; ended = makes.1 }
-comes script w e t (turned.Left n) goes moves makes = record { after = t.1; goes = record { steps = goes.steps; run = goes.run; prints = goes.prints ∙ makes.0; ends = goes.ends }; ended = makes.1 }
-comes script w e t turned.Spent goes moves makes = record { after = t.1; goes = record { steps = goes.steps; run = goes.run; prints = goes.prints ∙ makes.0; ends = goes.ends }; ended = makes.1 }
+comes script w e t turned.Quiet goes moves makes = record { after = t.1; goes = record { steps = goes.steps; run = goes.run; prints = goes.prints ∙ makes.0; ends = goes.ends; alone = goes.alone }; moves = moves; stands = makes.1 }
+comes script w e t (turned.Line event) goes moves makes = record { after = t.1; goes = record { steps = goes.steps; run = goes.run; prints = goes.prints ∙ makes.0; ends = goes.ends; alone = goes.alone }; moves = moves; stands = makes.1 }
+comes script w e t (turned.Lines events) goes moves makes = record { after = t.1; goes = record { steps = goes.steps; run = goes.run; prints = goes.prints ∙ makes.0; ends = goes.ends; alone = goes.alone }; moves = moves; stands = makes.1 }
+comes script w e t turned.Ended goes moves makes = record { after = t.1; goes = record { steps = goes.steps; run = goes.run; prints = goes.prints ∙ makes.0; ends = goes.ends; alone = goes.alone }; ended = makes.1 }
+comes script w e t (turned.Left n) goes moves makes = record { after = t.1; goes = record { steps = goes.steps; run = goes.run; prints = goes.prints ∙ makes.0; ends = goes.ends; alone = goes.alone }; ended = makes.1 }
+comes script w e t turned.Spent goes moves makes = record { after = t.1; goes = record { steps = goes.steps; run = goes.run; prints = goes.prints ∙ makes.0; ends = goes.ends; alone = goes.alone }; ended = makes.1 }
 
 -- what of a death on top is on the stack
 module _ (script : Script) (e : State) (death : Death) (w : World) (stands : StandsFor script (under (activity.Dying death) e) w) where

@@ -1,6 +1,6 @@
 -- That a turn keeps what an engine has room for.
 use Rattle.std.proofs.Common.{◌≡◌, refl, ◌∙◌, ap, subst, ◌+◌, ◌≤◌, ◌∷◌, length, arith}
-use Rattle.cg_graph.specs.Store.{Store}
+use Rattle.cg_graph.specs.Store.{Store, objects_of}
 use Rattle.cg_script.specs.declared.Script.{Script}
 use Rattle.cg_death.specs.Answers.{MakesNone}
 use Rattle.cg_interp.specs.declared.activity.Activity.{Activity}
@@ -26,6 +26,14 @@ still_fit script old new keeps fit = record {
   names = keeps.names ∙ fit.names;
   frames = omega (arith, keeps.frames, fit.frames);
   room = omega (arith, keeps.frames, keeps.objects, keeps.room, fit.room);
+}
+
+-- more room, with the same heap and the same activities
+pub still_fits : (script : Script) (old new : State) → new.store ≡ old.store → new.activities ≡ old.activities → new.frames ≡ old.frames → old.room ≤ new.room → IsFit script old → IsFit script new
+still_fits script old new store activities frames more fit = record {
+  names = ap (λ st. length st.names) store ∙ fit.names;
+  frames = omega (arith, frames, fit.frames);
+  room = omega (arith, fit.room, frames, more, ap (λ st. length (objects_of st)) store, ap length activities);
 }
 
 -- another heap without an object more, and one activity on top, where there is room

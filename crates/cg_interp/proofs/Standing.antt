@@ -107,4 +107,5 @@ one_step script w events after running step = record {
   run = (record { running = running; step = step }, tt);
   prints = append-nil events;
   ends = refl;
+  alone = tt;
 }

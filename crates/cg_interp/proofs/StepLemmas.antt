@@ -13,7 +13,7 @@ use Rattle.cg_machine.specs.Frame.{Transition, Yields}
 use Rattle.cg_machine.specs.Commands.{CommandStep, new_collection}
 use Rattle.cg_machine.specs.Due.{due}
 use Rattle.cg_machine.specs.Run.{StepOf, TopLevelStep, FrameStep, CommandInFrame}
-use Rattle.cg_machine.specs.Represents.{Represents, Goes}
+use Rattle.cg_machine.specs.Represents.{Represents}
 use Rattle.cg_policy.specs.Policy.{due_of, Policy}
 use Rattle.cg_laws.specs.Kept.{StaysKept}
 use Rattle.cg_commands.specs.declared.locals.Locals.{Locals}
@@ -22,8 +22,9 @@ use Rattle.cg_interp.specs.declared.activity.Activity.TheVariants as activity
 use Rattle.cg_interp.specs.declared.turned.Turned.{Turned}
 use Rattle.cg_interp.specs.declared.turned.Turned.TheVariants as turned
 use Rattle.cg_interp.specs.Engines.{State, StandsFor, commands_from, frame_of, under, ShowsAll, any_collecting}
-use Rattle.cg_interp.specs.Callers.{Does, StartsCollection, DoesAny, StaysKeptAfter}
-use Rattle.cg_interp.specs.Telling.{GoesOnTo, TurnsWith}
+use Rattle.cg_interp.specs.Callers.{Does, StartsCollection, DoesAny, StaysKeptAfter, ComesNext}
+use Rattle.cg_interp.specs.Collecting.{StandsWith}
+use Rattle.cg_interp.specs.Telling.{TurnsWith}
 use Rattle.cg_interp.specs.Turns.{Makes, Turns}
 use Rattle.cg_interp.proofs.Standing.{plain_frame, plain_script, replaced, spelled, one_step, plain_shutdown}
 use Rattle.cg_interp.proofs.Telling.{turns_plainly}
@@ -53,35 +54,17 @@ module _ (script : Script) (w mid : World) (running : w.outcome ≡ Running) whe
   pub kept_after : (budget : ℕ) (events : List Event) → StepOf script w w.stack events mid → StaysKept script budget w → StaysKept script budget mid
   kept_after budget events step kept steps run = kept (record { events = events; world = mid } ∷ steps) (record { running = running; step = step }, run)
 
-  module _ (step : StepOf script w w.stack [] mid) where
-    goes_after : (events : List Event) (after : World) → Goes script mid events after → Goes script w events after
-    goes_after events after goes = record {
-      steps = record { events = []; world = mid } ∷ goes.steps;
-      run = (record { running = running; step = step }, goes.run);
-      prints = goes.prints;
-      ends = goes.ends;
-    }
-
-    goes_on_after : (may_rest : List Event → Type 0) (told : List Event) (e : State) → GoesOnTo script may_rest mid [] told e → GoesOnTo script (λ still. ⊥) w [] told e
-    unfolding goes_after
-    goes_on_after may_rest told e goes = record {
-      events = goes.events;
-      after = goes.after;
-      still = goes.still;
-      goes = goes_after goes.events goes.after goes.goes;
-      lines = goes.lines;
-      moves = inl (λ none. absurd (cc));
-      stands = goes.stands;
-    }
-
-    -- where it prints nothing, what is answered from the world that it leaves is answered from the one before
-    pub turns_after : (may_rest : List Event → Type 0) (e : State) (answer : Turned) → TurnsWith script may_rest mid [] e answer → TurnsWith script (λ still. ⊥) w [] e answer
-    turns_after may_rest e turned.Quiet goes = goes_on_after may_rest [] e goes
-    turns_after may_rest e (turned.Line event) goes = goes_on_after may_rest (event ∷ []) e goes
-    turns_after may_rest e (turned.Lines events) goes = goes_on_after may_rest events e goes
-    turns_after may_rest e turned.Ended ends = (refl, record { after = ends.1.after; goes = goes_after (End ∷ []) ends.1.after ends.1.goes; ended = ends.1.ended })
-    turns_after may_rest e (turned.Left n) ends = (refl, record { after = ends.1.after; goes = goes_after (Left n ∷ End ∷ []) ends.1.after ends.1.goes; ended = ends.1.ended })
-    turns_after may_rest e turned.Spent ends = (refl, record { after = ends.1.after; goes = goes_after (BudgetSpent ∷ []) ends.1.after ends.1.goes; ended = ends.1.ended })
+  -- where it starts a collection, no line is due
+  pub begins_collection : (e : State) → StepOf script w w.stack [] mid → StandsWith script e [] mid → TurnsWith script (λ still. ⊥) w [] e turned.Quiet
+  begins_collection e step stands = record {
+    events = [];
+    after = mid;
+    still = [];
+    goes = one_step script w [] mid running step;
+    lines = refl;
+    moves = inl (λ none. absurd (cc));
+    stands = stands;
+  }
 
 -- A command is done from the world without it: what the machine may do for the command is its step.
 module _ (script : Script) (w without : World) (c : Command) (running : w.outcome ≡ Running) (step : (events : List Event) (after : World) → CommandStep script without c events after → StepOf script w w.stack events after) where
@@ -89,7 +72,8 @@ module _ (script : Script) (w without : World) (c : Command) (running : w.outcom
   command_turns e answer does = either does
       (λ (done : Does script without c e answer). turns_plainly script w e answer (turns script w e done.transition answer running (step done.transition.0 done.transition.1 done.may) done.makes))
       (λ (starts : StartsCollection script without c e answer).
-      turns_after script w (push (new_collection starts.generation true without) without) running (step [] (push (new_collection starts.generation true without) without) starts.may) (λ still. Unit {0}) e answer starts.turns)
+      let begun = push (new_collection starts.generation true without) without in
+      subst (TurnsWith script (λ still. ⊥) w [] e) (sym starts.quiet) (begins_collection script w begun running e (step [] begun starts.may) starts.stands))
 
   pub command_keeps : (budget : ℕ) → StaysKept script budget w → StaysKeptAfter script budget without c
   command_keeps budget kept events after may = kept_after script w after running budget events (step events after may) kept
@@ -101,6 +85,10 @@ still_there n xs x m = subst (λ l. Includes l x) (take-append-drop n xs) (Inclu
 pub is_there : (commands rest : List Command) (next : Option ℕ) (c : Command) → commands_from next commands ≡ c ∷ rest → Includes commands c
 is_there commands rest None c is = absurd (cc)
 is_there commands rest (Some n) c is = still_there n commands c (subst (λ l. Includes l c) (sym is) (inl refl))
+
+-- the command that has the turn in the body of a procedure
+pub comes_next : (script : Script) (procedure : ℕ) (next : Option ℕ) (c : Command) (after : ℕ) (body : List Command) → body ≡ body_of script procedure → commands_from next body ≡ c ∷ commands_from (Some after) body → ComesNext script procedure next c after
+comes_next script procedure next c after body is turn = subst (λ l. commands_from next l ≡ c ∷ commands_from (Some after) l) is turn
 
 -- The script is on top.
 module _ (script : Script) (e : State) (next : Option ℕ) (w : World) (stands : StandsFor script (under (activity.Script next) e) w) where

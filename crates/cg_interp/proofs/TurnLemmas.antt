@@ -41,7 +41,6 @@ stands_alike script old new left w store policy activities budget stands = eithe
       collection = on_top.collection;
       rest = on_top.rest;
       top = activities ∙ on_top.top;
-      begun = on_top.begun;
       collects = record {
         below = on_top.collects.below;
         shows = subst (λ s. CollectionShows on_top.asked on_top.collection s new.policy w on_top.collects.below) (sym store)

@@ -1,9 +1,10 @@
 -- The activities that have commands, and what a command leaves. (Ours.)
-use Rattle.std.specs.Prelude.{◌≡◌, ℕ, true, ◌⊎◌, List, [], ◌∷◌, None, Some, Result}
+use Rattle.std.specs.Prelude.{◌≡◌, ℕ, true, ◌⊎◌, List, [], ◌∷◌, Option, None, Some, Result}
 use Rattle.cg_value.specs.declared.Entry.{Entry}
 use Rattle.cg_script.specs.declared.Script.{Script}
 use Rattle.cg_graph.specs.Value.{entry_references}
 use Rattle.cg_machine.specs.declared.event.Event.{Event}
+use Rattle.cg_machine.specs.Program.{body_of}
 use Rattle.cg_machine.specs.World.{World, Releasing, Running, push}
 use Rattle.cg_machine.specs.Frame.{Transition, procedure_of}
 use Rattle.cg_machine.specs.Commands.{CommandStep, new_collection, effect}
@@ -26,7 +27,7 @@ use Rattle.cg_interp.specs.Collecting.{StandsWith}
 use Rattle.cg_machine.specs.Represents.{Represents}
 use Rattle.cg_interp.specs.declared.activity.Activity.{Activity}
 use Rattle.cg_interp.specs.declared.activity.Activity.TheVariants as activity
-use Rattle.cg_interp.specs.Engines.{State, StandsFor, ShowsAll, under, any_collecting}
+use Rattle.cg_interp.specs.Engines.{State, StandsFor, ShowsAll, under, any_collecting, commands_from}
 
 -- the script, or a frame
 abbrev pub IsCaller : Activity → Type 0
@@ -108,6 +109,10 @@ pub record HasPerformed (script : Script) (top : Activity) (e : State) (answer :
   pub was : Policy
   pub few : HasFewHolds before
   pub performed : IsPerformed script top e world command before was answer
+
+-- In a procedure this command has the turn, and the one with that number comes after it.
+abbrev pub ComesNext : Script → ℕ → Option ℕ → Command → ℕ → Type 0
+ComesNext script procedure next command after = commands_from next (body_of script procedure) ≡ command ∷ commands_from (Some after) (body_of script procedure)
 
 -- Each of these commands is spelled by a script with so many texts.
 abbrev pub AreDoable : ℕ → List Command → Type 0

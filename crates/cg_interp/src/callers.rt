@@ -3,83 +3,71 @@ ghost use Rattle.std.specs.Prelude.{◌≡◌, ◌<◌, ◌≤◌, ◌∷◌, tr
 ghost use Rattle.cg_heap.specs.Calls.{HasFewHolds};
 ghost use Rattle.cg_machine.specs.Program.{body_of};
 ghost use Rattle.cg_machine.specs.World.{World};
+ghost use Rattle.cg_script.specs.declared.Script.{Script as AnyScript};
 ghost use Rattle.cg_script.specs.Spelled.{IsSpelled, IsSpelledCommand};
 ghost use Rattle.cg_inspect.specs.Inspection.{IsIdle};
 ghost use Rattle.cg_collect.specs.Numbers.{AreSmall};
 ghost use Rattle.cg_commands.specs.Stands.{LocalsLive, HasLocals};
 ghost use Rattle.cg_interp.specs.declared.activity.Activity.TheVariants as activity_of;
-ghost use Rattle.cg_interp.specs.Engines.{StandsFor, under, commands_from};
-ghost use Rattle.cg_interp.specs.Turns.{IsFit, HasRoomForOneMore};
+ghost use Rattle.cg_interp.specs.Engines.{StandsFor, under};
+ghost use Rattle.cg_interp.specs.Turns.{IsFit, StaysFit, HasRoomForOneMore};
 ghost use Rattle.cg_interp.specs.Telling.{IsAtTurn, TurnsFrom};
-ghost use Rattle.cg_interp.specs.Callers.{IsCaller, DoesAny, StaysKeptAfter};
+ghost use Rattle.cg_interp.specs.Callers.{IsCaller, ComesNext, DoesAny, StaysKeptAfter};
 
 use crate::activity::Activity;
 use crate::engine::Engine;
 use crate::next::{next_in, next_of};
 use crate::turned::Turned;
 use cg_commands::{Locals, makes_object, perform};
-use cg_heap::Steps;
 use cg_kind::Kind;
 use cg_script::{Command, Script};
-use std::sync::ledger::Ledger;
 
 impl<B: Kind> Engine<B> {
     /// Does a command of the activity that was on top, which has gone on to the command after it.
-    pub fn run<L: Ledger>(
-        &mut self,
-        top: Activity,
-        locals: Option<Locals>,
-        command: &Command,
-        script: &Script,
-        steps: &mut Steps<L>,
-    ) -> Turned
+    pub fn run(&mut self, top: Activity, locals: Option<Locals>, command: &Command) -> Turned
         requires caller { IsCaller top }
-        requires script { IsSpelled script.now }
         requires spelled { IsSpelledCommand (length self.old.store.names) command.now }
         requires locals { LocalsLive self.old.store locals }
         requires few { HasFewHolds self.old.store }
         requires last { self.old.store.last < 9223372036854775808 }
         requires small { AreSmall self.old.policy.numbers }
         requires idle { self.old.policy.running ≡ false → IsIdle self.old.store }
-        requires fit { IsFit script.now self.old }
         requires room { 2 < self.old.room }
-        requires stands { (w : World) × StandsFor script.now (under top self.old) w × HasLocals locals w
-            × StaysKeptAfter script.now self.old.frames w command.now }
-        ensures does { (w : World) → StandsFor script.now (under top self.old) w → HasLocals locals w
-            → StaysKeptAfter script.now self.old.frames w command.now → DoesAny script.now w command.now self.new result }
-        ensures fit { IsFit script.now self.new }
+        requires stands { (script : AnyScript) × IsSpelled script × IsFit script self.old × (w : World)
+            × StandsFor script (under top self.old) w × HasLocals locals w
+            × StaysKeptAfter script self.old.frames w command.now }
+        ensures does { (script : AnyScript) (w : World) → StandsFor script (under top self.old) w → HasLocals locals w
+            → StaysKeptAfter script self.old.frames w command.now → DoesAny script w command.now self.new result }
+        ensures fit { StaysFit self.old self.new }
         ensures frames { self.new.frames ≡ self.old.frames }
     {
         let room = self.make_room(command);
-        self.carry_out(top, locals, command, script, steps, room)
+        self.carry_out(top, locals, command, room)
     }
 
     /// The same, where an object is made only if there is room for its death.
-    fn carry_out<L: Ledger>(
+    fn carry_out(
         &mut self,
         top: Activity,
         locals: Option<Locals>,
         command: &Command,
-        script: &Script,
-        steps: &mut Steps<L>,
         room: bool,
     ) -> Turned
         requires caller { IsCaller top }
-        requires script { IsSpelled script.now }
         requires spelled { IsSpelledCommand (length self.old.store.names) command.now }
         requires locals { LocalsLive self.old.store locals }
         requires few { HasFewHolds self.old.store }
         requires last { self.old.store.last < 9223372036854775808 }
         requires small { AreSmall self.old.policy.numbers }
         requires idle { self.old.policy.running ≡ false → IsIdle self.old.store }
-        requires fit { IsFit script.now self.old }
         requires room { 2 < self.old.room }
-        requires stands { (w : World) × StandsFor script.now (under top self.old) w × HasLocals locals w
-            × StaysKeptAfter script.now self.old.frames w command.now }
+        requires stands { (script : AnyScript) × IsSpelled script × IsFit script self.old × (w : World)
+            × StandsFor script (under top self.old) w × HasLocals locals w
+            × StaysKeptAfter script self.old.frames w command.now }
         requires one_more { room ≡ true → HasRoomForOneMore self.old }
-        ensures does { (w : World) → StandsFor script.now (under top self.old) w → HasLocals locals w
-            → StaysKeptAfter script.now self.old.frames w command.now → DoesAny script.now w command.now self.new result }
-        ensures fit { IsFit script.now self.new }
+        ensures does { (script : AnyScript) (w : World) → StandsFor script (under top self.old) w → HasLocals locals w
+            → StaysKeptAfter script self.old.frames w command.now → DoesAny script w command.now self.new result }
+        ensures fit { StaysFit self.old self.new }
         ensures frames { self.new.frames ≡ self.old.frames }
     {
         let done = perform(
@@ -90,7 +78,7 @@ impl<B: Kind> Engine<B> {
             command,
             room,
         );
-        self.answer(top, done, script, steps)
+        self.answer(top, done)
     }
 
     /// Makes room on the stack for the death of an object, if the command makes one. It answers whether it does and there is
@@ -129,12 +117,7 @@ impl<B: Kind> Engine<B> {
     }
 
     /// Goes on with the script, which was on top. A collection that is due comes first, also before the end or the shutdown.
-    pub fn go_on<L: Ledger>(
-        &mut self,
-        script: &Script,
-        next: Option<usize>,
-        steps: &mut Steps<L>,
-    ) -> Turned
+    pub fn go_on(&mut self, script: &Script, next: Option<usize>) -> Turned
         requires spelled { IsSpelled script.now }
         requires few { HasFewHolds self.old.store }
         requires last { self.old.store.last < 9223372036854775808 }
@@ -148,75 +131,64 @@ impl<B: Kind> Engine<B> {
         ensures frames { self.new.frames ≡ self.old.frames }
     {
         if let Some(generation) = self.policy.due() {
-            return self.collect(Activity::Script { next }, false, generation, script, steps);
+            self.collect(Activity::Script { next }, false, generation);
+            return Turned::Quiet;
         }
         match next_in(&script.items, next) {
-            Some((command, after)) => self.run(
-                Activity::Script { next: Some(after) },
-                None,
-                command,
-                script,
-                steps,
-            ),
+            Some((command, after)) => {
+                self.run(Activity::Script { next: Some(after) }, None, command)
+            }
             None => self.end_commands(script),
         }
     }
 
     /// Goes on with a frame, which was on top. A collection that is due comes before its next command; its end waits for none.
-    pub fn go_on_in<L: Ledger>(
+    pub fn go_on_in(
         &mut self,
         body: &[Command],
         locals: Locals,
         procedure: u32,
         next: Option<usize>,
-        script: &Script,
-        steps: &mut Steps<L>,
     ) -> Turned
-        requires body { body.now ≡ body_of script.now procedure }
-        requires spelled { IsSpelled script.now }
         requires live { LocalsLive self.old.store (Some locals) }
         requires few { HasFewHolds self.old.store }
         requires last { self.old.store.last < 9223372036854775808 }
         requires small { AreSmall self.old.policy.numbers }
         requires idle { self.old.policy.running ≡ false → IsIdle self.old.store }
-        requires fit { IsFit script.now self.old }
         requires room { 2 < self.old.room }
-        requires stands { IsAtTurn script.now (activity_of.Frame locals procedure next) self.old }
-        ensures turns { TurnsFrom script.now (activity_of.Frame locals procedure next) self.old self.new result }
-        ensures fit { IsFit script.now self.new }
+        requires stands { (script : AnyScript) × IsSpelled script × IsFit script self.old
+            × (body.now ≡ body_of script procedure) × IsAtTurn script (activity_of.Frame locals procedure next) self.old }
+        ensures turns { (script : AnyScript) → body.now ≡ body_of script procedure
+            → TurnsFrom script (activity_of.Frame locals procedure next) self.old self.new result }
+        ensures fit { StaysFit self.old self.new }
         ensures frames { self.new.frames ≡ self.old.frames }
     {
         match next_of(body, next) {
-            Some((command, after)) => self.go_on_with(
-                command, locals, procedure, next, after, script, steps,
-            ),
+            Some((command, after)) => self.go_on_with(command, locals, procedure, next, after),
             None => self.leave(locals),
         }
     }
 
     /// The same where the next command of the frame is known, and the number of the one after it.
-    fn go_on_with<L: Ledger>(
+    fn go_on_with(
         &mut self,
         command: &Command,
         locals: Locals,
         procedure: u32,
         next: Option<usize>,
         after: usize,
-        script: &Script,
-        steps: &mut Steps<L>,
     ) -> Turned
-        requires next { commands_from next (body_of script.now procedure) ≡ command.now ∷ commands_from (Some after) (body_of script.now procedure) }
-        requires spelled { IsSpelled script.now }
         requires live { LocalsLive self.old.store (Some locals) }
         requires few { HasFewHolds self.old.store }
         requires last { self.old.store.last < 9223372036854775808 }
         requires small { AreSmall self.old.policy.numbers }
         requires idle { self.old.policy.running ≡ false → IsIdle self.old.store }
-        requires fit { IsFit script.now self.old }
         requires room { 2 < self.old.room }
-        requires stands { IsAtTurn script.now (activity_of.Frame locals procedure next) self.old }
-        ensures turns { TurnsFrom script.now (activity_of.Frame locals procedure next) self.old self.new result }
-        ensures fit { IsFit script.now self.new }
+        requires stands { (script : AnyScript) × IsSpelled script × IsFit script self.old
+            × ComesNext script procedure next command.now after × IsAtTurn script (activity_of.Frame locals procedure next) self.old }
+        ensures turns { (script : AnyScript) → ComesNext script procedure next command.now after
+            → TurnsFrom script (activity_of.Frame locals procedure next) self.old self.new result }
+        ensures fit { StaysFit self.old self.new }
         ensures frames { self.new.frames ≡ self.old.frames }
     {
         if let Some(generation) = self.policy.due() {
@@ -225,13 +197,14 @@ impl<B: Kind> Engine<B> {
                 procedure,
                 next,
             };
-            return self.collect(top, false, generation, script, steps);
+            self.collect(top, false, generation);
+            return Turned::Quiet;
         }
         let top = Activity::Frame {
             locals,
             procedure,
             next: Some(after),
         };
-        self.run(top, Some(locals), command, script, steps)
+        self.run(top, Some(locals), command)
     }
 }

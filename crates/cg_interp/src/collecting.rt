@@ -38,7 +38,6 @@ impl<B: Kind> Engine<B> {
             × (w : World) × StandsFor script (under top self.old) w
             × StaysKept script self.old.frames (push (new_collection generation asked w) w) }
         ensures begins { (script : AnyScript) (w : World) → StandsFor script (under top self.old) w
-            → StaysKept script self.old.frames (push (new_collection generation asked w) w)
             → StandsWith script self.new [] (push (new_collection generation asked w) w) }
         ensures keeps { Keeps self.old self.new }
     {

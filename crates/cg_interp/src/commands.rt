@@ -23,62 +23,44 @@ use crate::engine::Engine;
 use crate::turned::Turned;
 use cg_commands::{Done, Lines, Refusal};
 use cg_death::Release;
-use cg_heap::{Heap, Steps};
+use cg_heap::Heap;
 use cg_kind::Kind;
 use cg_machine::{Event, FrameSort, FrameSpec};
-use cg_script::Script;
 use cg_value::{Entry, Val};
-use std::sync::ledger::Ledger;
 
 impl<B: Kind> Engine<B> {
     /// What the engine does once the command of the activity that was on top has been performed.
     #[inline(always)]
-    pub fn answer<L: Ledger>(
-        &mut self,
-        top: Activity,
-        done: Result<Done, Refusal>,
-        script: &Script,
-        steps: &mut Steps<L>,
-    ) -> Turned
+    pub fn answer(&mut self, top: Activity, done: Result<Done, Refusal>) -> Turned
         requires caller { IsCaller top }
-        requires script { IsSpelled script.now }
-        requires fit { IsFit script.now self.old }
         requires room { 2 < self.old.room }
-        requires performed { HasPerformed script.now top self.old done }
-        ensures does { (w : World) (command : AnyCommand) (before : Store) (was : AnyPolicy)
-            → IsPerformed script.now top self.old w command before was done → DoesAny script.now w command self.new result }
-        ensures fit { IsFit script.now self.new }
-        ensures frames { self.new.frames ≡ self.old.frames }
+        requires performed { (script : AnyScript) × IsSpelled script × IsFit script self.old
+            × HasPerformed script top self.old done }
+        ensures does { (script : AnyScript) (w : World) (command : AnyCommand) (before : Store) (was : AnyPolicy)
+            → IsPerformed script top self.old w command before was done → DoesAny script w command self.new result }
+        ensures keeps { Keeps self.old self.new }
     {
         match done {
-            Ok(done) => self.proceed(top, done, script, steps),
+            Ok(done) => self.proceed(top, done),
             Err(refusal) => self.refuse(top, refusal.number()),
         }
     }
 
     /// The same once it has been done.
     #[inline(always)]
-    fn proceed<L: Ledger>(
-        &mut self,
-        top: Activity,
-        done: Done,
-        script: &Script,
-        steps: &mut Steps<L>,
-    ) -> Turned
+    fn proceed(&mut self, top: Activity, done: Done) -> Turned
         requires caller { IsCaller top }
-        requires script { IsSpelled script.now }
-        requires fit { IsFit script.now self.old }
         requires room { 2 < self.old.room }
-        requires performed { HasPerformed script.now top self.old (Ok done) }
-        ensures does { (w : World) (command : AnyCommand) (before : Store) (was : AnyPolicy)
-            → IsPerformed script.now top self.old w command before was (Ok done) → DoesAny script.now w command self.new result }
-        ensures fit { IsFit script.now self.new }
-        ensures frames { self.new.frames ≡ self.old.frames }
+        requires performed { (script : AnyScript) × IsSpelled script × IsFit script self.old
+            × HasPerformed script top self.old (Ok done) }
+        ensures does { (script : AnyScript) (w : World) (command : AnyCommand) (before : Store) (was : AnyPolicy)
+            → IsPerformed script top self.old w command before was (Ok done) → DoesAny script w command self.new result }
+        ensures keeps { Keeps self.old self.new }
     {
         match done {
             Done::Changed { line, given_up } => self.change(top, line, given_up),
             Done::Calls(function) => self.call(top, function),
-            Done::Collects(generation) => self.collect_if_idle(top, generation, script, steps),
+            Done::Collects(generation) => self.collect_if_idle(top, generation),
             Done::Quits => self.quit(top),
             Done::Tells(lines) => self.tell(top, lines),
         }
@@ -157,30 +139,22 @@ impl<B: Kind> Engine<B> {
     }
 
     /// Starts the collection that a command asks for. Where one is running, none starts, and the answer is 0.
-    fn collect_if_idle<L: Ledger>(
-        &mut self,
-        top: Activity,
-        generation: u8,
-        script: &Script,
-        steps: &mut Steps<L>,
-    ) -> Turned
-        requires script { IsSpelled script.now }
+    fn collect_if_idle(&mut self, top: Activity, generation: u8) -> Turned
         requires generation { generation ≤ 2 }
-        requires fit { IsFit script.now self.old }
         requires room { 2 < self.old.room }
-        requires stands { (command : AnyCommand) × (w : World) × StandsFor script.now (under top self.old) w
-            × (effect w command ≡ Ok (Collects generation)) × StaysKeptAfter script.now self.old.frames w command }
-        ensures does { (command : AnyCommand) (w : World) → StandsFor script.now (under top self.old) w
-            → effect w command ≡ Ok (Collects generation) → StaysKeptAfter script.now self.old.frames w command
-            → DoesAny script.now w command self.new result }
-        ensures fit { IsFit script.now self.new }
-        ensures frames { self.new.frames ≡ self.old.frames }
+        requires stands { (script : AnyScript) × IsSpelled script × IsFit script self.old
+            × (command : AnyCommand) × (w : World) × StandsFor script (under top self.old) w
+            × (effect w command ≡ Ok (Collects generation)) × StaysKeptAfter script self.old.frames w command }
+        ensures does { (script : AnyScript) (command : AnyCommand) (w : World) → StandsFor script (under top self.old) w
+            → effect w command ≡ Ok (Collects generation) → DoesAny script w command self.new result }
+        ensures keeps { Keeps self.old self.new }
     {
         if self.policy.running() {
             self.stack.push(top);
             Turned::Line(Event::Collected(0))
         } else {
-            self.collect(top, true, generation, script, steps)
+            self.collect(top, true, generation);
+            Turned::Quiet
         }
     }
 }

@@ -19,11 +19,9 @@ use crate::activity::Activity;
 use crate::engine::Engine;
 use crate::turned::Turned;
 use cg_death::Release;
-use cg_heap::Steps;
 use cg_kind::Kind;
 use cg_script::Script;
 use cg_value::{Entry, Val};
-use std::sync::ledger::Ledger;
 
 impl<B: Kind> Engine<B> {
     /// The script, which was on top, has no command left: the run ends, or the shutdown comes in its place.
@@ -43,25 +41,20 @@ impl<B: Kind> Engine<B> {
 
     /// Gives up the bound name with the greatest number, or, where none is bound, starts the last collection. The shutdown was
     /// on top.
-    pub fn shut_down<L: Ledger>(&mut self, script: &Script, steps: &mut Steps<L>) -> Turned
-        requires spelled { IsSpelled script.now }
+    pub fn shut_down(&mut self) -> Turned
         requires few { HasFewHolds self.old.store }
-        requires fit { IsFit script.now self.old }
         requires room { 2 < self.old.room }
-        requires stands { IsAtTurn script.now (activity_of.Shutdown false) self.old }
-        ensures turns { TurnsFrom script.now (activity_of.Shutdown false) self.old self.new result }
-        ensures fit { IsFit script.now self.new }
-        ensures frames { self.new.frames ≡ self.old.frames }
+        requires stands { (script : AnyScript) × IsSpelled script × IsFit script self.old
+            × IsAtTurn script (activity_of.Shutdown false) self.old }
+        ensures turns { (script : AnyScript) → TurnsFrom script (activity_of.Shutdown false) self.old self.new result }
+        ensures keeps { Keeps self.old self.new }
     {
         match self.greatest_bound() {
             Some(name) => self.give_up(name),
-            None => self.collect(
-                Activity::Shutdown { started: true },
-                false,
-                2,
-                script,
-                steps,
-            ),
+            None => {
+                self.collect(Activity::Shutdown { started: true }, false, 2);
+                Turned::Quiet
+            }
         }
     }
 

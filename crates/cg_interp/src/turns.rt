@@ -45,14 +45,14 @@ impl<B: Kind> Engine<B> {
         ensures frames { self.new.frames ≡ self.old.frames }
     {
         match top {
-            Activity::Script { next } => self.turn_of_script(script, next, steps),
+            Activity::Script { next } => self.turn_of_script(script, next),
             Activity::Frame {
                 locals,
                 procedure,
                 next,
-            } => self.turn_of_frame(script, locals, procedure, next, steps),
+            } => self.turn_of_frame(script, locals, procedure, next),
             Activity::Releasing(release) => self.turn_of_release(release),
-            Activity::Shutdown { started } => self.turn_of_shutdown(script, started, steps),
+            Activity::Shutdown { started } => self.turn_of_shutdown(started),
             Activity::Dying(death) => self.turn_of_death(script, death),
             Activity::Collecting { asked, collection } => {
                 self.turn_of_collection(asked, collection, script, steps)
@@ -62,12 +62,7 @@ impl<B: Kind> Engine<B> {
 
     /// A turn of the script, which was on top.
     #[inline(always)]
-    fn turn_of_script<L: Ledger>(
-        &mut self,
-        script: &Script,
-        next: Option<usize>,
-        steps: &mut Steps<L>,
-    ) -> Turned
+    fn turn_of_script(&mut self, script: &Script, next: Option<usize>) -> Turned
         requires spelled { IsSpelled script.now }
         requires fit { IsFit script.now self.old }
         requires stands { IsAtTurn script.now (activity_of.Script next) self.old }
@@ -76,18 +71,17 @@ impl<B: Kind> Engine<B> {
         ensures frames { self.new.frames ≡ self.old.frames }
     {
         self.heap.sound();
-        self.go_on(script, next, steps)
+        self.go_on(script, next)
     }
 
     /// A turn of a frame, which was on top.
     #[inline(always)]
-    fn turn_of_frame<L: Ledger>(
+    fn turn_of_frame(
         &mut self,
         script: &Script,
         locals: Locals,
         procedure: u32,
         next: Option<usize>,
-        steps: &mut Steps<L>,
     ) -> Turned
         requires spelled { IsSpelled script.now }
         requires fit { IsFit script.now self.old }
@@ -98,14 +92,7 @@ impl<B: Kind> Engine<B> {
         ensures frames { self.new.frames ≡ self.old.frames }
     {
         self.heap.sound();
-        self.go_on_in(
-            body_of(script, procedure),
-            locals,
-            procedure,
-            next,
-            script,
-            steps,
-        )
+        self.go_on_in(body_of(script, procedure), locals, procedure, next)
     }
 
     /// A turn of a release, which was on top.
@@ -123,24 +110,18 @@ impl<B: Kind> Engine<B> {
 
     /// A turn of the shutdown, which was on top.
     #[inline(always)]
-    fn turn_of_shutdown<L: Ledger>(
-        &mut self,
-        script: &Script,
-        started: bool,
-        steps: &mut Steps<L>,
-    ) -> Turned
-        requires spelled { IsSpelled script.now }
-        requires fit { IsFit script.now self.old }
-        requires stands { IsAtTurn script.now (activity_of.Shutdown started) self.old }
-        ensures turns { TurnsFrom script.now (activity_of.Shutdown started) self.old self.new result }
-        ensures fit { IsFit script.now self.new }
+    fn turn_of_shutdown(&mut self, started: bool) -> Turned
+        requires stands { (script : AnyScript) × IsSpelled script × IsFit script self.old
+            × IsAtTurn script (activity_of.Shutdown started) self.old }
+        ensures turns { (script : AnyScript) → TurnsFrom script (activity_of.Shutdown started) self.old self.new result }
+        ensures fit { StaysFit self.old self.new }
         ensures frames { self.new.frames ≡ self.old.frames }
     {
         self.heap.sound();
         if started {
             self.tell_left()
         } else {
-            self.shut_down(script, steps)
+            self.shut_down()
         }
     }
 

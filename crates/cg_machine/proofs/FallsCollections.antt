@@ -114,10 +114,14 @@ module _ (script : Script) (c : Collection) (below : List Activity) (v : World) 
   begun_not_due : (g n : ℕ) (numbers : Numbers) → is_due (survived g n (begun g numbers)) ≡ false
   begun_not_due g n numbers = and_right (numbers.enabled && not (numbers.zero_threshold == 0)) (nat_lt numbers.zero_threshold 0) (le-ltb numbers.zero_threshold 0 (omega arith))
 
+  not_due : (s : Bool) → due_rank false s ≤ 1
+  not_due true = omega arith
+  not_due false = omega arith
+
   start_moves : (events : List Event) (after : World) → StartStep script (collection_at c Start below v) c below events after → Sound (collection_at c Start below v) → Moves script (collection_at c Start below v) after
   start_moves events after step sound = moves_to Start after now step.world (record {
     sound = record { rises = stays.rises 1 v.next_serial sound.rises; bottom = sound.bottom; single = sound.single };
-    lower = by_rank (omega arith) stays.size (subst (λ b. due_rank b (list_any is_starting below) ≤ due_left (collection_at c Start below v)) (sym (begun_not_due c.generation count v.numbers)) (omega arith)) (omega arith) (omega (arith, same_entries)) stays.referents (omega arith);
+    lower = by_rank (omega arith) stays.size (subst (λ b. due_rank b (list_any is_starting below) ≤ due_left (collection_at c Start below v)) (sym (begun_not_due c.generation count v.numbers)) (not_due (list_any is_starting below))) (omega arith) (omega (arith, same_entries)) stays.referents (omega arith);
   })
     where
       w : World

@@ -33,7 +33,7 @@ bound_names names = tally (λ v. bit (is_some v)) names
 abbrev pub commands_left : Script → World → ℕ
 commands_left script w = alive w.outcome + 2 * (w.budget * suc (all_bodies script)) + tally commands_in w.stack + bound_names w.names
 
--- 2. Whether a collection is due by the numbers, and whether one that is on the stack will end that with its start.
+-- 2. Whether a collection is due by the numbers, or one on the stack is to start. Its start ends both.
 abbrev pub is_first : CollectPhase → Bool
 is_first Start = true
 is_first _ = false
@@ -43,7 +43,7 @@ is_starting (Collecting c) = is_first c.phase
 is_starting _ = false
 
 abbrev pub due_rank : Bool → Bool → ℕ
-due_rank due starting = cond due (cond starting 1 2) 0
+due_rank due starting = cond starting 1 (cond due 2 0)
 
 abbrev pub due_left : World → ℕ
 due_left w = due_rank (is_due w.numbers) (list_any is_starting w.stack)

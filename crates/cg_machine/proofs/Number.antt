@@ -49,9 +49,9 @@ falls n o b (by_weight c s d k l e r w) = quiet n o c s d k (omega (arith, l, e,
 
 -- what each sound world keeps to
 due_two : (d s : Bool) → due_rank d s ≤ 2
-due_two true true = omega arith
+due_two d true = omega arith
 due_two true false = omega arith
-due_two false s = omega arith
+due_two false false = omega arith
 
 rank_ten : (p : CollectPhase) → phase_rank p ≤ 10
 rank_ten Start = omega arith

@@ -36,7 +36,7 @@ in_one script w events after running step = record {
 -- a step more, where neither it nor the next is a detection
 alone_after : (w : World) (step : StepTaken) (steps : List StepTaken) → detects w.stack ≡ false → detects step.world.stack ≡ false → MakesDetectionsAlone step.world steps → MakesDetectionsAlone w (step ∷ steps)
 alone_after w step [] none next alone = tt
-alone_after w step (one ∷ []) none next alone = (none, next, tt)
+alone_after w step (one ∷ []) none next alone = (none, (next, tt))
 alone_after w step (one ∷ two ∷ steps) none next alone = (none, alone)
 
 -- a step that prints nothing, and then more, where neither it nor the next is a detection

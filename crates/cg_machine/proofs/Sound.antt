@@ -102,6 +102,7 @@ plain_counts (Dying d ∷ tops) below h = let k = plain_counts tops below h in r
 plain_counts (_ ∷ tops) below h = absurd h
 
 pub due_less : (b c s : Bool) → (b ≡ true → c ≡ true) → due_rank b s ≤ due_rank c s
-due_less false c s h = omega arith
-due_less true true s h = omega arith
-due_less true false s h = absurd (let no : false ≡ true = h refl in cc)
+due_less b c true h = omega arith
+due_less false c false h = omega arith
+due_less true true false h = omega arith
+due_less true false false h = absurd (let no : false ≡ true = h refl in cc)

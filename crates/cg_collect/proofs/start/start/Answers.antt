@@ -1,10 +1,16 @@
-use Rattle.std.proofs.Common.{◌≡◌, sym, subst, ℕ, ◌≤◌, [], arith}
+use Rattle.std.proofs.Common.{◌≡◌, sym, subst, ℕ, ◌≤◌, [], None, arith}
+use Rattle.std.specs.Prelude.{unwrap_or}
 use Rattle.cg_value.specs.declared.Place.TheVariants.{Gen, Cand, Back}
 use Rattle.cg_graph.specs.Store.{list_at}
 use Rattle.cg_collect.proofs.Traces.{Trace, splits_off}
 use Rattle.cg_collect.proofs.Apart.{empty_merged, none_aside_yet, list_few}
 use Rattle.cg_collect.proofs.Looks.{entries-merged}
-use Rattle.cg_collect.proofs.Begins.{still_bounded, turn_start, ready_after, walk_after, leaves_after, keeps_after}
+use Rattle.cg_machine.specs.Collect.{has_flag, stats, collectable}
+use Rattle.cg_policy.specs.Flagset.{bits_of}
+use Rattle.cg_collect.specs.declared.phase.Turn.{Turn}
+use Rattle.cg_collect.specs.Stages.{detection_at}
+use Rattle.cg_collect.specs.Starting.{told_after_sizes}
+use Rattle.cg_collect.proofs.Begins.{apart_start, still_bounded, turn_start, ready_after, walk_after, leaves_after, keeps_after}
 use Rattle.cg_collect.proofs.start.start.Goals as goal
 
 pub split-requires-clause-back : goal.split-requires-clause-back
@@ -101,3 +107,11 @@ returns-clause-keeps g c =
 
 pub returns-clause-looks : goal.returns-clause-looks
 returns-clause-looks g c = omega (arith, c.split.ensures.most, entries-merged c.args.facts.generation c.args.heap.now c.merge_younger.new.heap c.merge_younger.ensures)
+
+pub returns-clause-apart : goal.returns-clause-apart
+returns-clause-apart g c =
+    let flags = bits_of c.args.facts.flags in
+    subst (λ (t : Turn). detection_at t.phase ≡ None) (sym c.tells.ensures)
+    (subst (λ p. detection_at p ≡ None) (sym c.told_first.ensures)
+    (subst (λ first. detection_at (unwrap_or first (told_after_sizes flags c.set_legacy_aside.new.heap)) ≡ None) (sym c.first_phase-next.ensures)
+    (apart_start (has_flag flags stats) (has_flag flags collectable) c.args.heap.now c.set_legacy_aside.new.heap)))

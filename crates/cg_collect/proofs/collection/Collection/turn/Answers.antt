@@ -414,3 +414,7 @@ returns-in-Stopping-clause-walk g c = walk_past (profile_of c.args.script.now.it
 
 pub returns-in-Over-clause-walk : goal.returns-in-Over-clause-walk
 returns-in-Over-clause-walk g c = subst (λ (t : Turn). HasItsWalk (profile_of c.args.script.now.items) c.args.heap.now t.phase) (sym c.answers.ensures) tt
+
+-- the start comes before no other detection
+pub returns-in-Start-clause-apart : goal.returns-in-Start-clause-apart
+returns-in-Start-clause-apart g c = λ is. c.start.ensures.apart

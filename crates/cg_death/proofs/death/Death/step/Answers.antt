@@ -2,7 +2,7 @@ use Rattle.std.proofs.Common.{subst, sym}
 use Rattle.cg_death.specs.Answers.{DeathSteps}
 use Rattle.cg_death.specs.Activities.{activities}
 use Rattle.cg_death.specs.Falls.{Falls}
-use Rattle.cg_death.proofs.Steps.{step-given_up, step-turned}
+use Rattle.cg_death.proofs.Steps.{RestsIfOver, step-given_up, step-turned}
 use Rattle.cg_death.proofs.Falling.{falls-step}
 use Rattle.cg_death.specs.Steady.{IsSteadyAt}
 use Rattle.cg_death.proofs.SteadySteps.{steady-given_up, steady-popped}
@@ -21,7 +21,13 @@ returns-in-Some-clause-falls g c = λ e.
 
 pub returns-clause-steps : goal.returns-clause-steps
 returns-clause-steps g c =
-    step-turned c.args.script.now c.args.heap.now c.turn-turn.new.heap c.args.self.now.object c.args.self.now.phase c.args.self.now.release c.next_reference.new.release (activities c.args.self.now.object c.turn-turn.result.phase c.turn-turn.result.release c.turn-turn.new.heap) c.turn-turn.result.answer c.in_default.ensures c.turn-turn.ensures.takes.steps
+    let tops = activities c.args.self.now.object c.turn-turn.result.phase c.turn-turn.result.release c.turn-turn.new.heap in
+    let rests : RestsIfOver c.args.heap.now c.turn-turn.new.heap c.args.self.now.phase tops c.turn-turn.result.answer = record {
+      heap = c.turn-turn.ensures.rests;
+      nothing = λ over. none_left c.args.self.now.object c.turn-turn.result c.turn-turn.new.heap (c.turn-turn.ensures.takes.ends (c.turn-turn.ensures.over over));
+      gone = c.turn-turn.ensures.over;
+    } in
+    step-turned c.args.script.now c.args.heap.now c.turn-turn.new.heap c.args.self.now.object c.args.self.now.phase tops c.turn-turn.result.answer rests c.turn-turn.ensures.takes.steps c.args.self.now.release c.next_reference.new.release c.in_default.ensures
 
 pub returns-clause-over : goal.returns-clause-over
 returns-clause-over g c = λ e. none_left c.args.self.now.object c.turn-turn.result c.turn-turn.new.heap (c.turn-turn.ensures.takes.ends e)

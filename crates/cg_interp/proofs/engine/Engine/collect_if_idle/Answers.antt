@@ -10,30 +10,31 @@ use Rattle.cg_interp.proofs.engine.Engine.collect_if_idle.Goals as goal
 
 pub collect-requires-clause-stands : goal.collect-requires-clause-stands
 collect-requires-clause-stands g c =
-    let s = c.requires.stands in
-    let idle = sym (runs_in c.args.script.now (under c.args.top c.args.self.now) s.1 s.2) ∙ sym (ap (λ (e : State). e.policy.running) c.self.view_is) ∙ sym c.running.ensures ∙ c.if-running.false in
-    (s.1, s.2, s.4 [] (push (new_collection c.args.generation true s.1) s.1) (idle_may c.args.script.now s.1 (effect s.1 s.0) c.args.generation s.3 idle))
+    let (script, spelled, fit, command, w, stands, is, kept) = c.requires.stands in
+    let idle = sym (runs_in script (under c.args.top c.args.self.now) w stands) ∙ sym (ap (λ (e : State). e.policy.running) c.self.view_is) ∙ sym c.running.ensures ∙ c.if-running.false in
+    (script, spelled, fit, w, stands, kept [] (push (new_collection c.args.generation true w) w) (idle_may script w (effect w command) c.args.generation is idle))
 
 pub returns-then-running-clause-does : goal.returns-then-running-clause-does
-returns-then-running-clause-does g c = λ command w stands is kept.
-    let busy = sym (runs_in c.args.script.now (under c.args.top c.args.self.now) w stands) ∙ sym (ap (λ (e : State). e.policy.running) c.self.view_is) ∙ sym c.running.ensures ∙ c.if-running.true in
+returns-then-running-clause-does g c = λ script command w stands is.
+    let busy = sym (runs_in script (under c.args.top c.args.self.now) w stands) ∙ sym (ap (λ (e : State). e.policy.running) c.self.view_is) ∙ sym c.running.ensures ∙ c.if-running.true in
     inl (record {
       transition = (Collected 0 ∷ [], w);
-      may = busy_may c.args.script.now w (effect w command) c.args.generation is busy;
+      may = busy_may script w (effect w command) c.args.generation is busy;
       makes = (
         refl,
-        subst (λ (e : State). StandsFor c.args.script.now (record e { activities = c.push.new.self.activities; room = c.push.new.self.room }) w) (sym c.self.view_is)
-            (same_engine c.args.script.now (under c.args.top c.args.self.now) (record c.args.self.now { activities = c.push.new.self.activities; room = c.push.new.self.room }) w stands refl refl
+        subst (λ (e : State). StandsFor script (record e { activities = c.push.new.self.activities; room = c.push.new.self.room }) w) (sym c.self.view_is)
+            (same_engine script (under c.args.top c.args.self.now) (record c.args.self.now { activities = c.push.new.self.activities; room = c.push.new.self.room }) w stands refl refl
             (c.push.ensures.top ∙ ap (λ (e : State). c.args.top ∷ e.activities) c.self.view_is) refl),
       );
     })
 
 pub returns-else-running-clause-does : goal.returns-else-running-clause-does
-returns-else-running-clause-does g c = λ command w stands is kept.
-    let idle = sym (runs_in c.args.script.now (under c.args.top c.args.self.now) w stands) ∙ sym (ap (λ (e : State). e.policy.running) c.self.view_is) ∙ sym c.running.ensures ∙ c.if-running.false in
-    let may = idle_may c.args.script.now w (effect w command) c.args.generation is idle in
+returns-else-running-clause-does g c = λ script command w stands is.
+    let idle = sym (runs_in script (under c.args.top c.args.self.now) w stands) ∙ sym (ap (λ (e : State). e.policy.running) c.self.view_is) ∙ sym c.running.ensures ∙ c.if-running.false in
+    let may = idle_may script w (effect w command) c.args.generation is idle in
     inr (record {
       generation = c.args.generation;
       may = may;
-      turns = c.collect.ensures.turns w stands (kept [] (push (new_collection c.args.generation true w) w) may);
+      quiet = refl;
+      stands = c.collect.ensures.begins script w stands;
     })

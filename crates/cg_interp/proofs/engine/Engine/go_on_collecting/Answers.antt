@@ -35,14 +35,14 @@ returns-in-Continue-clause-turns g c =
     let e : State = engine_of c.self.inside.heap c.self.inside.policy c.self.inside.stack c.self.inside.budget c.self.inside.frames in
     let mid : State = engine_of c.step-answer.new.heap c.step-answer.new.policy c.push.new.self c.self.inside.budget c.self.inside.frames in
     subst (λ s. CollectTurns c.args.script.now c.args.asked c.args.collection s mid turned.Quiet) c.self.view_is
-    (turns_quietly c.args.script.now c.args.asked c.args.collection e c.step-answer.new.self mid c.push.ensures.top refl c.in-Continue.ensures.ready c.step-answer.ensures.begun (c.in-Continue.ensures.falls refl) c.in-Continue.ensures.steps)
+    (turns_quietly c.args.script.now c.args.asked c.args.collection e c.step-answer.new.self mid c.push.ensures.top refl c.in-Continue.ensures.ready (c.in-Continue.ensures.falls refl) c.in-Continue.ensures.steps)
 
 pub returns-in-Emit-clause-turns : goal.returns-in-Emit-clause-turns
 returns-in-Emit-clause-turns g c =
     let e : State = engine_of c.self.inside.heap c.self.inside.policy c.self.inside.stack c.self.inside.budget c.self.inside.frames in
     let mid : State = engine_of c.step-answer.new.heap c.step-answer.new.policy c.push-in-Emit.new.self c.self.inside.budget c.self.inside.frames in
     subst (λ s. CollectTurns c.args.script.now c.args.asked c.args.collection s mid (turned.Line c.in-Emit.event)) c.self.view_is
-    (turns_telling c.args.script.now c.args.asked c.args.collection e c.step-answer.new.self mid c.push-in-Emit.ensures.top refl c.in-Emit.event c.in-Emit.ensures.ready c.step-answer.ensures.begun c.in-Emit.ensures.steps)
+    (turns_telling c.args.script.now c.args.asked c.args.collection e c.step-answer.new.self mid c.push-in-Emit.ensures.top refl c.in-Emit.event c.in-Emit.ensures.ready c.in-Emit.ensures.steps)
 
 pub returns-in-Frame-clause-turns : goal.returns-in-Frame-clause-turns
 returns-in-Frame-clause-turns g c =

@@ -7,76 +7,68 @@ use Rattle.cg_machine.specs.Commands.{effect}
 use Rattle.cg_machine.specs.Frame.{start_frame}
 use Rattle.cg_interp.specs.Callers.{IsPerformed, HasPerformed, transition_of_change, call_of}
 use Rattle.cg_interp.proofs.AnswerLemmas.{change_may, call_may, quit_may, changed, told, as_before, called_lives}
-use Rattle.cg_interp.proofs.Keeping.{still_fit}
 use Rattle.cg_interp.proofs.engine.Engine.proceed.Goals as goal
 
 pub returns-in-Changed-clause-does : goal.returns-in-Changed-clause-does
-returns-in-Changed-clause-does g c = λ w command before was performed.
-    let p = subst (λ d. IsPerformed c.args.script.now c.args.top c.args.self.now w command before was (Ok d)) c.in-Changed.is performed in
+returns-in-Changed-clause-does g c = λ script w command before was performed.
+    let p = subst (λ d. IsPerformed script c.args.top c.args.self.now w command before was (Ok d)) c.in-Changed.is performed in
     inl (record {
       transition = transition_of_change (option_to_list c.in-Changed.line) c.in-Changed.given_up p.answers.heap.after;
-      may = change_may c.args.script.now w (effect w command) p.answers.heap.wants_memory _ _ p.answers.heap.after p.answers.heap.is;
-      makes = c.change.ensures.changes c.args.script.now p.answers.heap.after (changed c.args.script.now c.args.self.now c.args.top w command before was c.in-Changed.line c.in-Changed.given_up p);
+      may = change_may script w (effect w command) p.answers.heap.wants_memory _ _ p.answers.heap.after p.answers.heap.is;
+      makes = c.change.ensures.changes script p.answers.heap.after (changed script c.args.self.now c.args.top w command before was c.in-Changed.line c.in-Changed.given_up p);
     })
-
-pub returns-in-Changed-clause-fit : goal.returns-in-Changed-clause-fit
-returns-in-Changed-clause-fit g c = still_fit c.args.script.now c.args.self.now c.change.new.self c.change.ensures.keeps c.requires.fit
 
 pub call-requires-clause-few : goal.call-requires-clause-few
 call-requires-clause-few g c =
-    let has = subst (λ d. HasPerformed c.args.script.now c.args.top c.args.self.now (Ok d)) c.in-Calls.is c.requires.performed in
+    let (script, spelled, fit, performed) = c.requires.performed in
+    let has = subst (λ d. HasPerformed script c.args.top c.args.self.now (Ok d)) c.in-Calls.is performed in
     subst HasFewHolds (sym has.performed.answers.heap.1) has.few
 
 pub call-requires-clause-live : goal.call-requires-clause-live
 call-requires-clause-live g c =
-    let has = subst (λ d. HasPerformed c.args.script.now c.args.top c.args.self.now (Ok d)) c.in-Calls.is c.requires.performed in
-    called_lives c.args.script.now c.args.self.now c.args.top has.world has.command has.before has.was c.in-Calls.function has.performed
+    let (script, spelled, fit, performed) = c.requires.performed in
+    let has = subst (λ d. HasPerformed script c.args.top c.args.self.now (Ok d)) c.in-Calls.is performed in
+    called_lives script c.args.self.now c.args.top has.world has.command has.before has.was c.in-Calls.function has.performed
 
 pub returns-in-Calls-clause-does : goal.returns-in-Calls-clause-does
-returns-in-Calls-clause-does g c = λ w command before was performed.
-    let p = subst (λ d. IsPerformed c.args.script.now c.args.top c.args.self.now w command before was (Ok d)) c.in-Calls.is performed in
+returns-in-Calls-clause-does g c = λ script w command before was performed.
+    let p = subst (λ d. IsPerformed script c.args.top c.args.self.now w command before was (Ok d)) c.in-Calls.is performed in
     inl (record {
-      transition = start_frame c.args.script.now (call_of c.in-Calls.function w) w;
-      may = call_may c.args.script.now w (effect w command) c.in-Calls.function p.answers.heap.0;
-      makes = c.call.ensures.calls c.args.script.now w (as_before c.args.script.now c.args.self.now c.args.top w command before was p.stood p.answers.heap.1 p.answers.policy);
+      transition = start_frame script (call_of c.in-Calls.function w) w;
+      may = call_may script w (effect w command) c.in-Calls.function p.answers.heap.0;
+      makes = c.call.ensures.calls script w (as_before script c.args.self.now c.args.top w command before was p.stood p.answers.heap.1 p.answers.policy);
     })
-
-pub returns-in-Calls-clause-fit : goal.returns-in-Calls-clause-fit
-returns-in-Calls-clause-fit g c = still_fit c.args.script.now c.args.self.now c.call.new.self c.call.ensures.keeps c.requires.fit
 
 pub collect_if_idle-requires-clause-generation : goal.collect_if_idle-requires-clause-generation
 collect_if_idle-requires-clause-generation g c =
-    let has = subst (λ d. HasPerformed c.args.script.now c.args.top c.args.self.now (Ok d)) c.in-Collects.is c.requires.performed in
+    let (script, spelled, fit, performed) = c.requires.performed in
+    let has = subst (λ d. HasPerformed script c.args.top c.args.self.now (Ok d)) c.in-Collects.is performed in
     has.performed.answers.heap.1
 
 pub collect_if_idle-requires-clause-stands : goal.collect_if_idle-requires-clause-stands
 collect_if_idle-requires-clause-stands g c =
-    let has = subst (λ d. HasPerformed c.args.script.now c.args.top c.args.self.now (Ok d)) c.in-Collects.is c.requires.performed in
+    let (script, spelled, fit, performed) = c.requires.performed in
+    let has = subst (λ d. HasPerformed script c.args.top c.args.self.now (Ok d)) c.in-Collects.is performed in
     let p = has.performed in
-    (has.command, has.world, as_before c.args.script.now c.args.self.now c.args.top has.world has.command has.before has.was p.stood p.answers.heap.2 p.answers.policy, p.answers.heap.0, p.kept)
+    (script, spelled, fit, has.command, has.world, as_before script c.args.self.now c.args.top has.world has.command has.before has.was p.stood p.answers.heap.2 p.answers.policy, p.answers.heap.0, p.kept)
 
 pub returns-in-Collects-clause-does : goal.returns-in-Collects-clause-does
-returns-in-Collects-clause-does g c = λ w command before was performed.
-    let p = subst (λ d. IsPerformed c.args.script.now c.args.top c.args.self.now w command before was (Ok d)) c.in-Collects.is performed in
-    c.collect_if_idle.ensures.does command w (as_before c.args.script.now c.args.self.now c.args.top w command before was p.stood p.answers.heap.2 p.answers.policy) p.answers.heap.0 p.kept
+returns-in-Collects-clause-does g c = λ script w command before was performed.
+    let p = subst (λ d. IsPerformed script c.args.top c.args.self.now w command before was (Ok d)) c.in-Collects.is performed in
+    c.collect_if_idle.ensures.does script command w (as_before script c.args.self.now c.args.top w command before was p.stood p.answers.heap.2 p.answers.policy) p.answers.heap.0
 
 pub returns-in-Tells-clause-does : goal.returns-in-Tells-clause-does
-returns-in-Tells-clause-does g c = λ w command before was performed.
-    let p = subst (λ d. IsPerformed c.args.script.now c.args.top c.args.self.now w command before was (Ok d)) c.in-Tells.is performed in
-    let t = told c.args.script.now c.args.self.now c.args.top w command before was c.in-Tells.lines p in
-    inl (record { transition = transition_of_change c.in-Tells.lines (item val_of.None) t.after; may = t.may; makes = c.tell.ensures.tells c.args.script.now t.after t.changes })
-
-pub returns-in-Tells-clause-fit : goal.returns-in-Tells-clause-fit
-returns-in-Tells-clause-fit g c = still_fit c.args.script.now c.args.self.now c.tell.new.self c.tell.ensures.keeps c.requires.fit
+returns-in-Tells-clause-does g c = λ script w command before was performed.
+    let p = subst (λ d. IsPerformed script c.args.top c.args.self.now w command before was (Ok d)) c.in-Tells.is performed in
+    let t = told script c.args.self.now c.args.top w command before was c.in-Tells.lines p in
+    inl (record { transition = transition_of_change c.in-Tells.lines (item val_of.None) t.after; may = t.may; makes = c.tell.ensures.tells script t.after t.changes })
 
 pub returns-in-Quits-clause-does : goal.returns-in-Quits-clause-does
-returns-in-Quits-clause-does g c = λ w command before was performed.
-    let p = subst (λ d. IsPerformed c.args.script.now c.args.top c.args.self.now w command before was (Ok d)) c.in-Quits.is performed in
+returns-in-Quits-clause-does g c = λ script w command before was performed.
+    let p = subst (λ d. IsPerformed script c.args.top c.args.self.now w command before was (Ok d)) c.in-Quits.is performed in
     inl (record {
       transition = _;
-      may = quit_may c.args.script.now w (effect w command) p.answers.heap.0;
-      makes = c.quit.ensures.quits c.args.script.now w (as_before c.args.script.now c.args.self.now c.args.top w command before was p.stood p.answers.heap.1 p.answers.policy);
+      may = quit_may script w (effect w command) p.answers.heap.0;
+      makes = c.quit.ensures.quits script w (as_before script c.args.self.now c.args.top w command before was p.stood p.answers.heap.1 p.answers.policy);
     })
 
-pub returns-in-Quits-clause-fit : goal.returns-in-Quits-clause-fit
-returns-in-Quits-clause-fit g c = still_fit c.args.script.now c.args.self.now c.quit.new.self c.quit.ensures.keeps c.requires.fit

@@ -2,12 +2,11 @@ use Rattle.std.proofs.Common.{◌≡◌, ◌∙◌, sym, ap, subst, [], Some, No
 use Rattle.cg_machine.specs.World.{World, push}
 use Rattle.cg_machine.specs.Commands.{new_collection}
 use Rattle.cg_machine.specs.Shutdown.{greatest_from}
-use Rattle.cg_laws.specs.Kept.{StaysKept}
 use Rattle.cg_interp.specs.declared.activity.Activity.TheVariants as activity_of
 use Rattle.cg_interp.specs.Engines.{State, StandsFor, under}
 use Rattle.cg_interp.proofs.CollectBegins.{IsAtStart}
 use Rattle.cg_interp.proofs.Shutting.{greatest_below, none_runs, starts_last, last_stands, last_steps}
-use Rattle.cg_interp.proofs.StepLemmas.{kept_after, turns_after}
+use Rattle.cg_interp.proofs.StepLemmas.{kept_after, begins_collection}
 use Rattle.cg_interp.proofs.Telling.{turns_plainly}
 use Rattle.cg_interp.proofs.engine.Engine.shut_down.Goals as goal
 
@@ -16,30 +15,33 @@ give_up-requires-clause-name g c = greatest_below c.greatest_bound.new.self.stor
 
 pub collect-requires-clause-idle : goal.collect-requires-clause-idle
 collect-requires-clause-idle g c =
-    let s = c.requires.stands in
-    ap (λ (e : State). e.policy.running) c.greatest_bound.ensures.same ∙ none_runs c.args.script.now c.args.self.now false s.0 s.1 c.args.self.now.frames (s.2 [] tt).lawful
+    let (script, spelled, fit, w, stands, kept) = c.requires.stands in
+    ap (λ (e : State). e.policy.running) c.greatest_bound.ensures.same ∙ none_runs script c.args.self.now false w stands c.args.self.now.frames (kept [] tt).lawful
 
 pub collect-requires-clause-stands : goal.collect-requires-clause-stands
 collect-requires-clause-stands g c =
-    let s = c.requires.stands in
+    let (script, spelled, fit, w, stands, kept) = c.requires.stands in
     let none = sym (sym c.in-None.is ∙ c.greatest_bound.ensures.greatest) in
-    let last : World = starts_last c.args.script.now c.args.self.now s.0 s.1 in
-    subst (IsAtStart c.args.script.now false 2 (activity_of.Shutdown true)) (sym c.greatest_bound.ensures.same)
-    (last, last_stands c.args.script.now c.args.self.now s.0 s.1, kept_after c.args.script.now s.0 (push (new_collection 2 false last) last) s.1.running c.args.self.now.frames [] (last_steps c.args.script.now c.args.self.now s.0 s.1 none) s.2)
+    let last : World = starts_last script c.args.self.now w stands in
+    subst (IsAtStart false 2 (activity_of.Shutdown true)) (sym c.greatest_bound.ensures.same) (
+      script,
+      spelled,
+      fit,
+      last,
+      last_stands script c.args.self.now w stands,
+      kept_after script w (push (new_collection 2 false last) last) stands.running c.args.self.now.frames [] (last_steps script c.args.self.now w stands none) kept,
+    )
 
 pub returns-in-Some-clause-turns : goal.returns-in-Some-clause-turns
-returns-in-Some-clause-turns g c = λ w stands kept.
+returns-in-Some-clause-turns g c = λ script w stands kept.
     let found = ap (λ (e : State). greatest_from 0 e.store.names) c.greatest_bound.ensures.same ∙ sym (sym c.in-Some.is ∙ c.greatest_bound.ensures.greatest) in
-    let before = subst (λ e. StandsFor c.args.script.now (under (activity_of.Shutdown false) e) w) (sym c.greatest_bound.ensures.same) stands in
-    turns_plainly c.args.script.now w c.give_up.new.self c.give_up.result (c.give_up.ensures.gives found c.args.script.now w before)
+    let before = subst (λ e. StandsFor script (under (activity_of.Shutdown false) e) w) (sym c.greatest_bound.ensures.same) stands in
+    turns_plainly script w c.give_up.new.self c.give_up.result (c.give_up.ensures.gives found script w before)
 
 pub returns-in-None-clause-turns : goal.returns-in-None-clause-turns
-returns-in-None-clause-turns g c = λ w stands kept.
+returns-in-None-clause-turns g c = λ script w stands kept.
     let none = sym (sym c.in-None.is ∙ c.greatest_bound.ensures.greatest) in
-    let last : World = starts_last c.args.script.now c.args.self.now w stands in
-    let begun : World = push (new_collection 2 false last) last in
-    let step = last_steps c.args.script.now c.args.self.now w stands none in
+    let last : World = starts_last script c.args.self.now w stands in
     let back = sym c.greatest_bound.ensures.same in
-    let begins = subst (λ e. StandsFor c.args.script.now (under (activity_of.Shutdown true) e) last) back (last_stands c.args.script.now c.args.self.now w stands) in
-    let keeps = subst (λ (e : State). StaysKept c.args.script.now e.frames begun) back (kept_after c.args.script.now w begun stands.running c.args.self.now.frames [] step kept) in
-    turns_after c.args.script.now w begun stands.running step (λ still. Unit {0}) c.collect.new.self c.collect.result (c.collect.ensures.turns last begins keeps)
+    let begins = subst (λ e. StandsFor script (under (activity_of.Shutdown true) e) last) back (last_stands script c.args.self.now w stands) in
+    begins_collection script w (push (new_collection 2 false last) last) stands.running c.collect.new.self (last_steps script c.args.self.now w stands none) (c.collect.ensures.begins script last begins)

@@ -23,7 +23,7 @@ returns-in-Releasing-clause-turns g c =
 pub returns-in-Shutdown-clause-turns : goal.returns-in-Shutdown-clause-turns
 returns-in-Shutdown-clause-turns g c =
     subst (λ top. TurnsAny c.args.script.now (under top c.args.self.now) c.turn_of_shutdown.new.self c.turn_of_shutdown.result) (sym c.in-Shutdown.is)
-    (turns_any c.args.script.now (activity_of.Shutdown c.in-Shutdown.started) c.args.self.now c.turn_of_shutdown.new.self c.turn_of_shutdown.result refl c.turn_of_shutdown.ensures.turns)
+    (turns_any c.args.script.now (activity_of.Shutdown c.in-Shutdown.started) c.args.self.now c.turn_of_shutdown.new.self c.turn_of_shutdown.result refl (c.turn_of_shutdown.ensures.turns c.args.script.now))
 
 pub returns-in-Dying-clause-turns : goal.returns-in-Dying-clause-turns
 returns-in-Dying-clause-turns g c =

@@ -38,3 +38,12 @@ pub go_on_in-requires-clause-room : goal.go_on_in-requires-clause-room
 go_on_in-requires-clause-room g c =
     let s = c.requires.stands in
     omega (arith, has_room c.args.script.now (activity_of.Frame c.args.locals c.args.procedure c.args.next) c.args.self.now s.0 s.1 (s.2 [] tt).lawful c.requires.fit)
+
+pub go_on_in-requires-clause-stands : goal.go_on_in-requires-clause-stands
+go_on_in-requires-clause-stands g c = (c.args.script.now, c.requires.spelled, c.requires.fit, c.body_of.ensures, c.requires.stands)
+
+pub returns-clause-turns : goal.returns-clause-turns
+returns-clause-turns g c = c.go_on_in.ensures.turns c.args.script.now c.body_of.ensures
+
+pub returns-clause-fit : goal.returns-clause-fit
+returns-clause-fit g c = c.go_on_in.ensures.fit c.args.script.now c.requires.fit
