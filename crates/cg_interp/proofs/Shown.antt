@@ -25,7 +25,9 @@ graph_by script d w after order all = record { order = order; all = all; members
 -- each step shows something
 step_shown : (script : Script) (w after : World) (d : Option Detection) → (ps : List Picture) × ShowsStep script w after d ps
 step_shown script w after None = ([], refl)
-step_shown script w after (Some d) = (_, _, refl, graph_by script d w after (candidates d w) (λ o. refl))
+step_shown script w after (Some d) =
+    let g : Graph = graph (map (member_among script w (candidates d w)) (candidates d w)) (lost_at d after) (legacy_at d after) in
+    (picture d g ∷ [], (g, refl, graph_by script d w after (candidates d w) (λ o. refl)))
 
 -- and each run
 pub some_shown : (script : Script) (w : World) (steps : List StepTaken) → (ps : List Picture) × Shows script w steps ps
@@ -33,7 +35,7 @@ some_shown script w [] = ([], refl)
 some_shown script w (step ∷ steps) =
     let now = step_shown script w step.world (next_detection w.stack) in
     let later = some_shown script step.world steps in
-    (now.0 ++ later.0, now.0, later.0, refl, now.1, later.1)
+    (now.0 ++ later.0, (now.0, later.0, refl, now.1, later.1))
 
 -- where no detection is made, nothing is shown
 phase_none : (g : ℕ) (phase : CollectPhase) → is_detection phase ≡ false → detection_at g phase ≡ None
@@ -86,3 +88,8 @@ step_of script w after d (Some k) e g is = let same : k ≡ d = cc in (g, ap (λ
 
 pub shows_one : (script : Script) (w : World) (step : StepTaken) (d : Detection) → next_detection w.stack ≡ Some d → (g : Graph) → IsGraphOf script d w step.world g → Shows script w (step ∷ []) (picture d g ∷ [])
 shows_one script w step d next g is = (picture d g ∷ [], [], refl, step_of script w step.world d (next_detection w.stack) next g is, refl)
+
+-- and more steps
+pub shows_first : (script : Script) (w : World) (step : StepTaken) (more : List StepTaken) (d : Detection) → next_detection w.stack ≡ Some d → (g : Graph) → IsGraphOf script d w step.world g → (ps : List Picture) → Shows script step.world more ps
+    → Shows script w (step ∷ more) (picture d g ∷ ps)
+shows_first script w step more d next g is ps then = (picture d g ∷ [], ps, refl, step_of script w step.world d (next_detection w.stack) next g is, then)

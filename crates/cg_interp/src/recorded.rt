@@ -1,6 +1,7 @@
 //! Runs of scripts whose records are written in place of their text.
-ghost use Rattle.std.specs.Prelude.{◌≡◌, ◌≤◌, List, length, IfOk, OnErr};
-ghost use Rattle.cg_io.specs.Causes.{Rose, HasCause};
+ghost use Rattle.std.specs.Prelude.{◌≡◌, ◌≢◌, ◌≤◌, ◌⊎◌, ◌++◌, List, length, codes, IfOk, OnErr};
+ghost use Rattle.std.specs.Io.KnownBytes.{Appends};
+ghost use Rattle.cg_io.specs.Causes.{Rose, HasCause, AppendsFront};
 ghost use Rattle.cg_script.specs.Spelled.{IsSpelled};
 ghost use Rattle.cg_script.specs.Texts.{TextsAreKnown};
 ghost use Rattle.cg_graph.specs.Changes.{opening_store};
@@ -12,6 +13,7 @@ ghost use Rattle.cg_interp.specs.Engines.{StandsFor};
 ghost use Rattle.cg_interp.specs.Collecting.{StandsWith};
 ghost use Rattle.cg_interp.specs.Turns.{IsFit};
 ghost use Rattle.cg_interp.specs.Recorded.{WroteRecords, WroteRecordsPart};
+ghost use Rattle.cg_interp.specs.Graphs.{closing};
 ghost use Rattle.cg_interp.specs.Recording.{RecordsTurn, CutsRecord};
 ghost use Rattle.cg_interp.specs.Running.{HasLaws};
 
@@ -51,8 +53,11 @@ fn turn_and_record<B: Kind, K: Sink, L: Ledger>(
     ensures cause { HasCause (K.faults sink.old) (K.faults sink.new) result }
     ensures fit { IsFit script.now engine.new }
     ensures frames { engine.new.frames ≡ engine.old.frames }
+    ensures was_sound { IsSound engine.old.store }
     ensures sound { IsSound engine.new.store }
 {
+    // No heap is large, and each object stands in the list of its place.
+    engine.heap.sound();
     let detection = recorded_of(engine.next_detection(), *unfinished);
     write_before(&engine.heap, script, detection, *unfinished, sink)?;
     let answer = engine.turn(script, steps);
@@ -67,6 +72,14 @@ fn turn_and_record<B: Kind, K: Sink, L: Ledger>(
 
 /// Ends the records of a run that has ended so.
 fn end_records<K: Sink>(unfinished: bool, end: RunEnd, sink: &mut K) -> RunEnd
+    requires { (end ≡ RunEnd.Done) ⊎ (end ≡ RunEnd.Budget) }
+    ensures only { (result ≡ end) ⊎ (result ≡ RunEnd.WriteFault) }
+    ensures ok { result ≢ RunEnd.WriteFault
+        → Appends (K.written sink.old) (K.written sink.new) (closing unfinished ++ codes "end\n") }
+    ensures part { result ≡ RunEnd.WriteFault
+        → AppendsFront (K.written sink.old) (K.written sink.new) (closing unfinished ++ codes "end\n") }
+    ensures cause { result ≡ RunEnd.WriteFault → Rose (K.faults sink.old) (K.faults sink.new) }
+    ensures later { K.faults sink.old ≤ K.faults sink.new }
 {
     match write_end(unfinished, sink) {
         Ok(()) => end,
