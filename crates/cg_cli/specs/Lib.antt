@@ -1,3 +1,4 @@
 pub mod Statuses
 pub mod Summaries
 pub mod Expansions
+pub mod Recordings

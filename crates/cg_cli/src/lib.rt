@@ -10,6 +10,7 @@ mod budget;
 mod expand;
 mod generate;
 mod input;
+mod record;
 mod run;
 mod status;
 mod tell;
@@ -29,6 +30,8 @@ mod inspections;
 mod kinds;
 #[cfg(test)]
 mod promises;
+#[cfg(test)]
+mod recordings;
 #[cfg(test)]
 mod rows;
 #[cfg(test)]

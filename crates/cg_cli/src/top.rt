@@ -8,10 +8,12 @@ ghost use Rattle.cg_machine.specs.World.{Ended, BudgetIsSpent};
 ghost use Rattle.cg_words.specs.Words.{AsksFor, Ask};
 ghost use Rattle.cg_cli.specs.Summaries.{WroteSummary, WroteSummaryFront};
 ghost use Rattle.cg_cli.specs.Expansions.{WroteExpansion, WroteFirstBad, WroteExpandFront, AnswersExpand};
+ghost use Rattle.cg_cli.specs.Recordings.{RecordedWhole, RecordedPart, RecordedFront};
 ghost use Rattle.cg_cli.specs.Statuses.{RanWhole, RanKept, RanBad, TookTooMany, WroteFront, Answers, IsCutShort};
 
 use crate::expand::expand_job;
 use crate::generate::generate_job;
+use crate::record::record_job;
 use crate::run::run_job;
 use crate::status::Status;
 use crate::tell::tell_bad_words;
@@ -34,9 +36,11 @@ pub fn gc_over<S: Source, K: Sink, B: Kind>(
     ensures done { result ≡ Status.Done → ((given : Option ℕ) × AsksFor (map string_bytes words.now) (Job.Run given)
         × IfSome (S.left source.old) (λ bytes. RanWhole given Ended bytes (K.written sink.old) (K.written sink.new)))
         ⊎ ((blocks : ℕ) × AsksFor (map string_bytes words.now) (Job.Generate blocks) × WroteSummary blocks (K.written sink.old) (K.written sink.new))
-        ⊎ (AsksFor (map string_bytes words.now) Job.Expand × IfSome (S.left source.old) (λ bytes. WroteExpansion bytes (K.written sink.old) (K.written sink.new))) }
-    ensures spent { result ≡ Status.Budget → (given : Option ℕ) × AsksFor (map string_bytes words.now) (Job.Run given)
-        × IfSome (S.left source.old) (λ bytes. RanWhole given BudgetIsSpent bytes (K.written sink.old) (K.written sink.new)) }
+        ⊎ (AsksFor (map string_bytes words.now) Job.Expand × IfSome (S.left source.old) (λ bytes. WroteExpansion bytes (K.written sink.old) (K.written sink.new)))
+        ⊎ (AsksFor (map string_bytes words.now) Job.Record × IfSome (S.left source.old) (λ bytes. RecordedWhole Ended bytes (K.written sink.old) (K.written sink.new))) }
+    ensures spent { result ≡ Status.Budget → ((given : Option ℕ) × AsksFor (map string_bytes words.now) (Job.Run given)
+        × IfSome (S.left source.old) (λ bytes. RanWhole given BudgetIsSpent bytes (K.written sink.old) (K.written sink.new)))
+        ⊎ (AsksFor (map string_bytes words.now) Job.Record × IfSome (S.left source.old) (λ bytes. RecordedWhole BudgetIsSpent bytes (K.written sink.old) (K.written sink.new))) }
     ensures bad_words { result ≡ Status.BadWords → Appends (K.written sink.old) (K.written sink.new) (codes "bad words\n") }
     ensures bad_script { (given : Option ℕ) → AsksFor (map string_bytes words.now) (Job.Run given) → result ≡ Status.BadScript
         → IfSome (S.left source.old) (λ bytes. RanBad bytes (K.written sink.old) (K.written sink.new)) }
@@ -50,7 +54,7 @@ pub fn gc_over<S: Source, K: Sink, B: Kind>(
     ensures write { (given : Option ℕ) → AsksFor (map string_bytes words.now) (Job.Run given) → result ≡ Status.WriteFault
         → IfSome (S.left source.old) (λ bytes. WroteFront given bytes (K.written sink.old) (K.written sink.new)) }
     ensures write_words { ¬ (Ask (map string_bytes words.now)) → result ≡ Status.WriteFault → AppendsFront (K.written sink.old) (K.written sink.new) (codes "bad words\n") }
-    ensures memory { result ≡ Status.OutOfMemory → Keeps (K.written sink.old) (K.written sink.new) }
+    ensures memory { ¬ AsksFor (map string_bytes words.now) Job.Record → result ≡ Status.OutOfMemory → Keeps (K.written sink.old) (K.written sink.new) }
     ensures answers { (given : Option ℕ) → AsksFor (map string_bytes words.now) (Job.Run given) → IsCutShort result ⊎ IfSome (S.left source.old) (λ bytes. Answers bytes result) }
     ensures words { Ask (map string_bytes words.now) → result ≢ Status.BadWords }
     ensures no_job { ¬ (Ask (map string_bytes words.now)) → (result ≡ Status.BadWords) ⊎ (result ≡ Status.WriteFault) ⊎ (result ≡ Status.OutOfMemory) }
@@ -73,12 +77,23 @@ pub fn gc_over<S: Source, K: Sink, B: Kind>(
     ensures expand_statuses { AsksFor (map string_bytes words.now) Job.Expand → (result ≡ Status.Done) ⊎ (result ≡ Status.BadScript) ⊎ (result ≡ Status.TooLarge) ⊎ IsCutShort result }
     ensures complete_expand { AsksFor (map string_bytes words.now) Job.Expand → ¬ (Rose (S.faults source.old) (S.faults source.new)) → ¬ (Rose (K.faults sink.old) (K.faults sink.new))
         → (result ≡ Status.OutOfMemory) ⊎ IfSome (S.left source.old) (λ bytes. AnswersExpand bytes result) }
+    ensures records_bad { AsksFor (map string_bytes words.now) Job.Record → result ≡ Status.BadScript
+        → IfSome (S.left source.old) (λ bytes. RanBad bytes (K.written sink.old) (K.written sink.new)) }
+    ensures records_to_end { AsksFor (map string_bytes words.now) Job.Record
+        → (result ≡ Status.Done) ⊎ (result ≡ Status.Budget) ⊎ (result ≡ Status.BadScript) → IsAtEnd (S.left source.new) }
+    ensures write_records { AsksFor (map string_bytes words.now) Job.Record → result ≡ Status.WriteFault
+        → IfSome (S.left source.old) (λ bytes. RecordedFront bytes (K.written sink.old) (K.written sink.new)) }
+    ensures memory_records { AsksFor (map string_bytes words.now) Job.Record → result ≡ Status.OutOfMemory → Keeps (K.written sink.old) (K.written sink.new)
+        ⊎ IfSome (S.left source.old) (λ bytes. RecordedPart bytes (K.written sink.old) (K.written sink.new)) }
+    ensures records { AsksFor (map string_bytes words.now) Job.Record → IsCutShort result ⊎ IfSome (S.left source.old) (λ bytes. Answers bytes result) }
+    ensures complete_records { AsksFor (map string_bytes words.now) Job.Record → ¬ (Rose (S.faults source.old) (S.faults source.new)) → ¬ (Rose (K.faults sink.old) (K.faults sink.new))
+        → (result ≡ Status.OutOfMemory) ⊎ IfSome (S.left source.old) (λ bytes. Answers bytes result) }
 {
     match read_words(alloc, words) {
         Ok(Some(Job::Run { budget })) => run_job(alloc, budget, source, sink, kinds),
         Ok(Some(Job::Generate { blocks })) => generate_job(alloc, blocks, sink, kinds),
         Ok(Some(Job::Expand)) => expand_job(alloc, source, sink),
-        Ok(Some(Job::Record)) => Status::OutOfMemory,
+        Ok(Some(Job::Record)) => record_job(alloc, source, sink, kinds),
         Ok(None) => tell_bad_words(sink),
         Err(AllocError) => Status::OutOfMemory,
     }
@@ -87,13 +102,15 @@ pub fn gc_over<S: Source, K: Sink, B: Kind>(
 /// Does what the words ask for: with `run`, or `run --budget N`, reads a script from the source, runs it on a heap over the
 /// kinds, and writes the text of the run to the sink, one `write` a line; with `generate N`, runs the script of N blocks with
 /// the usual budget on a heap over the kinds, and writes the summary of its text; with `expand`, reads an extended script from
-/// the source, and writes its expansion.
+/// the source, and writes its expansion; with `record`, reads and runs a script as `run` does, and writes the records of its
+/// collections in place of its text.
 ///
 /// The kinds stand in the order of `KindCode`, and have no object. The budget is that of the words, else that of the script,
 /// else 10,000. It answers `Done` where the run ended by `end`, and `Budget` where it ended by `budget spent`; `BadWords`,
 /// `BadScript` or `TooLarge`, each with its line written, where the words, a line of the script or its size are not as they
 /// should be; `ReadFault` and `WriteFault` where the source or the sink failed; `OutOfMemory` where memory was refused before
-/// anything was written, and with `generate N` also where a command was refused for want of memory. What the source tells of its bytes and the sink of what was written, the clauses speak of. (Ours.)
+/// anything was written, and with `generate N` and `record` also where a command was refused for want of memory: then `record` has
+/// written a prefix of the records. What the source tells of its bytes and the sink of what was written, the clauses speak of. (Ours.)
 pub fn gc_run<S: Source, K: Sink>(
     alloc: Global,
     words: &[String],
@@ -107,13 +124,16 @@ pub fn gc_run<S: Source, K: Sink>(
     // The words ask for a run, the bytes spell a script, and what was written is the text of a whole run of the machine on it,
     // which ended by `end`, or for want of budget. Or they ask for a large script, and what was written is the summary of the
     // text of such a run of it, in which no command was refused. Or they ask for an expansion, the bytes have no bad line, and
-    // what was written is their expansion.
+    // what was written is their expansion. Or they ask for records, the bytes spell a script, and what was written is the text
+    // of the records of a whole run of it in which no command was refused for want of memory.
     ensures done { result ≡ Status.Done → ((given : Option ℕ) × AsksFor (map string_bytes words.now) (Job.Run given)
         × IfSome (S.left source.old) (λ bytes. RanWhole given Ended bytes (K.written sink.old) (K.written sink.new)))
         ⊎ ((blocks : ℕ) × AsksFor (map string_bytes words.now) (Job.Generate blocks) × WroteSummary blocks (K.written sink.old) (K.written sink.new))
-        ⊎ (AsksFor (map string_bytes words.now) Job.Expand × IfSome (S.left source.old) (λ bytes. WroteExpansion bytes (K.written sink.old) (K.written sink.new))) }
-    ensures spent { result ≡ Status.Budget → (given : Option ℕ) × AsksFor (map string_bytes words.now) (Job.Run given)
-        × IfSome (S.left source.old) (λ bytes. RanWhole given BudgetIsSpent bytes (K.written sink.old) (K.written sink.new)) }
+        ⊎ (AsksFor (map string_bytes words.now) Job.Expand × IfSome (S.left source.old) (λ bytes. WroteExpansion bytes (K.written sink.old) (K.written sink.new)))
+        ⊎ (AsksFor (map string_bytes words.now) Job.Record × IfSome (S.left source.old) (λ bytes. RecordedWhole Ended bytes (K.written sink.old) (K.written sink.new))) }
+    ensures spent { result ≡ Status.Budget → ((given : Option ℕ) × AsksFor (map string_bytes words.now) (Job.Run given)
+        × IfSome (S.left source.old) (λ bytes. RanWhole given BudgetIsSpent bytes (K.written sink.old) (K.written sink.new)))
+        ⊎ (AsksFor (map string_bytes words.now) Job.Record × IfSome (S.left source.old) (λ bytes. RecordedWhole BudgetIsSpent bytes (K.written sink.old) (K.written sink.new))) }
 
     // Its lines begin the finalizer of one object at most once (PEP 442), and name no object that an earlier line frees.
     ensures promises { (given : Option ℕ) → AsksFor (map string_bytes words.now) (Job.Run given) → (result ≡ Status.Done) ⊎ (result ≡ Status.Budget)
@@ -135,7 +155,7 @@ pub fn gc_run<S: Source, K: Sink>(
     ensures write { (given : Option ℕ) → AsksFor (map string_bytes words.now) (Job.Run given) → result ≡ Status.WriteFault
         → IfSome (S.left source.old) (λ bytes. WroteFront given bytes (K.written sink.old) (K.written sink.new)) }
     ensures write_words { ¬ (Ask (map string_bytes words.now)) → result ≡ Status.WriteFault → AppendsFront (K.written sink.old) (K.written sink.new) (codes "bad words\n") }
-    ensures memory { result ≡ Status.OutOfMemory → Keeps (K.written sink.old) (K.written sink.new) }
+    ensures memory { ¬ AsksFor (map string_bytes words.now) Job.Record → result ≡ Status.OutOfMemory → Keeps (K.written sink.old) (K.written sink.new) }
 
     // Which answer comes: by the words and the bytes alone, but for faults, want of memory and how the run ended.
     ensures answers { (given : Option ℕ) → AsksFor (map string_bytes words.now) (Job.Run given) → IsCutShort result ⊎ IfSome (S.left source.old) (λ bytes. Answers bytes result) }
@@ -166,6 +186,20 @@ pub fn gc_run<S: Source, K: Sink>(
     ensures expand_statuses { AsksFor (map string_bytes words.now) Job.Expand → (result ≡ Status.Done) ⊎ (result ≡ Status.BadScript) ⊎ (result ≡ Status.TooLarge) ⊎ IsCutShort result }
     ensures complete_expand { AsksFor (map string_bytes words.now) Job.Expand → ¬ (Rose (S.faults source.old) (S.faults source.new)) → ¬ (Rose (K.faults sink.old) (K.faults sink.new))
         → (result ≡ Status.OutOfMemory) ⊎ IfSome (S.left source.old) (λ bytes. AnswersExpand bytes result) }
+
+    // With words to record a run: the budget is that of the script, else 10,000. Want of memory may come to a command too, and then
+    // a front of the records was written.
+    ensures records_bad { AsksFor (map string_bytes words.now) Job.Record → result ≡ Status.BadScript
+        → IfSome (S.left source.old) (λ bytes. RanBad bytes (K.written sink.old) (K.written sink.new)) }
+    ensures records_to_end { AsksFor (map string_bytes words.now) Job.Record
+        → (result ≡ Status.Done) ⊎ (result ≡ Status.Budget) ⊎ (result ≡ Status.BadScript) → IsAtEnd (S.left source.new) }
+    ensures write_records { AsksFor (map string_bytes words.now) Job.Record → result ≡ Status.WriteFault
+        → IfSome (S.left source.old) (λ bytes. RecordedFront bytes (K.written sink.old) (K.written sink.new)) }
+    ensures memory_records { AsksFor (map string_bytes words.now) Job.Record → result ≡ Status.OutOfMemory → Keeps (K.written sink.old) (K.written sink.new)
+        ⊎ IfSome (S.left source.old) (λ bytes. RecordedPart bytes (K.written sink.old) (K.written sink.new)) }
+    ensures records { AsksFor (map string_bytes words.now) Job.Record → IsCutShort result ⊎ IfSome (S.left source.old) (λ bytes. Answers bytes result) }
+    ensures complete_records { AsksFor (map string_bytes words.now) Job.Record → ¬ (Rose (S.faults source.old) (S.faults source.new)) → ¬ (Rose (K.faults sink.old) (K.faults sink.new))
+        → (result ≡ Status.OutOfMemory) ⊎ IfSome (S.left source.old) (λ bytes. Answers bytes result) }
 {
     one_finalizer_each();
     no_dead_lines();

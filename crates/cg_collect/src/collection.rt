@@ -87,6 +87,13 @@ impl Collection {
         }
     }
 
+    /// The generation that it collects.
+    pub fn generation(&self) -> u8
+        ensures { result ≡ self.now.generation }
+    {
+        self.generation
+    }
+
     /// Where it stands towards its two detections.
     pub fn stage(&self) -> Stage
         ensures stage { result ≡ stage_of self.now }

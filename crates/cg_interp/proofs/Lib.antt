@@ -30,3 +30,10 @@ mod Telling
 mod UnderWay
 mod TurnLemmas
 mod KeptLines
+mod RecordText
+mod Shown
+mod GraphText
+mod NextDetections
+mod WorldGraphs
+mod TurnGraphs
+mod RecordingLemmas

@@ -90,7 +90,7 @@ module _ (script : Script) (budget : ℕ) (before : Option (List ℕ)) (e : Stat
   abbrev pub so_far : World
   so_far = world_after script budget ran.steps
 
-  kept_so_far : StaysKept script e.frames so_far
+  pub kept_so_far : StaysKept script e.frames so_far
   kept_so_far = subst (λ n. StaysKept script n so_far) (sym frames) (laws.kept ran.steps ran.run)
 
   -- the lines of longer runs
@@ -111,16 +111,16 @@ module _ (script : Script) (budget : ℕ) (before : Option (List ℕ)) (e : Stat
 
   -- the machine goes on, and tells some lines
   module _ (events tell still : List Event) (after : World) (goes : Goes script so_far events after) (lines : ran.left ++ events ≡ tell ++ still) where
-    abbrev longer : List StepTaken
+    abbrev pub longer : List StepTaken
     longer = ran.steps ++ goes.steps
 
-    run_longer : IsRun script budget longer
+    pub run_longer : IsRun script budget longer
     run_longer = Run-append script (opening script budget) ran.steps goes.steps ran.run goes.run
 
-    ends_longer : world_after script budget longer ≡ after
+    pub ends_longer : world_after script budget longer ≡ after
     ends_longer = last_world-append (opening script budget) ran.steps goes.steps ∙ goes.ends
 
-    lines_longer : events_of longer ≡ (ran.told ++ tell) ++ still
+    pub lines_longer : events_of longer ≡ (ran.told ++ tell) ++ still
     lines_longer = lines_on goes.steps ∙ ap (λ es. ran.told ++ (ran.left ++ es)) goes.prints ∙ ap (λ es. ran.told ++ es) lines ∙ sym (append_assoc ran.told tell still)
 
     told_longer : text (ran.told ++ tell) ≡ text ran.told ++ text tell
@@ -129,7 +129,7 @@ module _ (script : Script) (budget : ℕ) (before : Option (List ℕ)) (e : Stat
     wrote_longer : (now' : Option (List ℕ)) → Appends now now' (text tell) → Appends before now' (text (ran.told ++ tell))
     wrote_longer now' wrote = subst (Appends before now') (sym told_longer) (Appends-trans before now now' _ _ ran.written wrote)
 
-    ran_longer : (e' : State) (now' : Option (List ℕ)) → StandsWith script e' still after → Appends now now' (text tell) → Ran script budget before e' now'
+    pub ran_longer : (e' : State) (now' : Option (List ℕ)) → StandsWith script e' still after → Appends now now' (text tell) → Ran script budget before e' now'
     ran_longer e' now' stands wrote = record {
       steps = longer;
       told = ran.told ++ tell;

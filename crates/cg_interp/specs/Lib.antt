@@ -7,3 +7,6 @@ pub mod Telling
 pub mod Callers
 pub mod Written
 pub mod Running
+pub mod Graphs
+pub mod Recorded
+pub mod Recording

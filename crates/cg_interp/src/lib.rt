@@ -8,8 +8,12 @@ mod commands;
 mod deaths;
 mod engine;
 mod frames;
+mod graphs;
 mod next;
 mod opening;
+mod record_lines;
+mod recorded;
+mod recording;
 mod releases;
 mod run;
 mod shutdown;
@@ -18,4 +22,5 @@ mod turned;
 mod turns;
 mod writing;
 
+pub use recorded::run_recorded;
 pub use run::{RunEnd, run_script};

@@ -1,8 +1,10 @@
 //! What a turn answers.
 ghost use Rattle.std.specs.Prelude.{◌≡◌};
-ghost use Rattle.cg_interp.specs.Running.{standing_after};
+ghost use Rattle.std.specs.List.{list_any};
+ghost use Rattle.cg_interp.specs.Recorded.{wants_memory};
+ghost use Rattle.cg_interp.specs.Running.{events_told, standing_after};
 
-use cg_commands::Lines;
+use cg_commands::{Lines, Refusal};
 use cg_machine::Event;
 
 /// What a turn answers.
@@ -44,6 +46,39 @@ impl Turned {
             Turned::Spent => Standing::Spent,
         }
     }
+
+    /// Whether one of its lines tells that a command was refused for want of memory.
+    pub fn wants_memory(&self) -> bool
+        ensures { result ≡ list_any wants_memory (events_told self.now) }
+    {
+        match self {
+            Turned::Line(event) => wants_memory(event),
+            Turned::Lines(lines) => any_wants_memory(lines.as_slice()),
+            Turned::Quiet | Turned::Ended | Turned::Left(_) | Turned::Spent => false,
+        }
+    }
+}
+
+/// Whether an event tells that a command was refused for want of memory.
+fn wants_memory(event: &Event) -> bool
+    ensures { result ≡ wants_memory event.now }
+{
+    match event {
+        Event::Refused(number) => *number == Refusal::OutOfMemory.number(),
+        _ => false,
+    }
+}
+
+/// Whether one of them does.
+fn any_wants_memory(events: &[Event]) -> bool
+    ensures { result ≡ list_any wants_memory events.now }
+{
+    'events: for event in events.iter() {
+        if wants_memory(event) {
+            return true;
+        }
+    }
+    false
 }
 
 /// What the turn of a death answers.

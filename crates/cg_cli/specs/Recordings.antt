@@ -1,0 +1,38 @@
+-- What a job to record a run writes. (Ours.)
+use Rattle.std.specs.Prelude.{◌≡◌, ◌<◌, ◌≤◌, ◌⊎◌, ℕ, List, length, codes, Option, None}
+use Rattle.std.specs.Io.KnownBytes.{Keeps}
+use Rattle.cg_io.specs.Causes.{AppendsFront}
+use Rattle.cg_script.specs.declared.Script.{Script}
+use Rattle.cg_script.specs.Reading.{reading, faulty}
+use Rattle.cg_machine.specs.World.{Outcome}
+use Rattle.cg_machine.specs.Run.{StepTaken, IsWholeRun}
+use Rattle.cg_records.specs.declared.graph.Rec.{Rec}
+use Rattle.cg_records.specs.Text.{text}
+use Rattle.cg_interp.specs.Recorded.{HasRecords, WroteRecords, WroteRecordsPart}
+use Rattle.cg_cli.specs.Statuses.{limit, Spells, budget_of, bad_script_text}
+
+-- The bytes spell a script, and the text of the records of a whole run of it was written. The run ended so, and in it no command
+-- was refused for want of memory.
+pub record RecordedWhole (outcome : Outcome) (bytes : List ℕ) (before now : Option (List ℕ)) : Type 0 where
+  pub few : length bytes < limit
+  pub script : Script
+  pub spelled : Spells bytes script
+  pub wrote : WroteRecords script (budget_of None script) outcome before now
+
+-- The bytes spell a script, and a front of the text of the records of a whole run of it was written.
+pub record RecordedPart (bytes : List ℕ) (before now : Option (List ℕ)) : Type 0 where
+  pub few : length bytes < limit
+  pub script : Script
+  pub spelled : Spells bytes script
+  pub wrote : WroteRecordsPart script (budget_of None script) before now
+
+-- Nothing was written, or such a front.
+abbrev pub RecordedSome : List ℕ → Option (List ℕ) → Option (List ℕ) → Type 0
+RecordedSome bytes before now = Keeps before now ⊎ RecordedPart bytes before now
+
+-- A front was written of what such a job writes on these bytes: the records of a whole run, or the first bad line, or that they are
+-- too many.
+pub data RecordedFront (bytes : List ℕ) (before now : Option (List ℕ)) : Type 0 where
+  records_front : RecordedPart bytes before now → RecordedFront bytes before now
+  bad_front : (number code : ℕ) → length bytes < limit → reading bytes ≡ faulty number code → AppendsFront before now (bad_script_text number code) → RecordedFront bytes before now
+  large_front : limit ≤ length bytes → AppendsFront before now (codes "too large\n") → RecordedFront bytes before now

@@ -1,0 +1,137 @@
+//! A record job: a source is read, its bytes are read as a script, the script is run on a heap over the kinds, and the records of
+//! the run are written.
+ghost use Rattle.std.specs.Prelude.{◌≡◌, ◌≢◌, ◌≤◌, ◌<◌, ◌⊎◌, None, length, map, replicate, IfSome, codes};
+ghost use Rattle.std.specs.FinMap as fin;
+ghost use Rattle.std.specs.Io.KnownBytes.{Appends, Keeps, IsAtEnd};
+ghost use Rattle.cg_io.specs.Causes.{AppendsFront, Rose};
+ghost use Rattle.cg_heap.specs.Boxes.{six_kinds};
+ghost use Rattle.cg_machine.specs.World.{Ended, BudgetIsSpent};
+ghost use Rattle.cg_script.specs.Spelled.{IsSpelled};
+ghost use Rattle.cg_script.specs.Texts.{TextsAreKnown};
+ghost use Rattle.cg_script.specs.Reading.{reading};
+ghost use Rattle.cg_interp.specs.Recorded.{WroteRecords, WroteRecordsPart};
+ghost use Rattle.cg_cli.specs.Statuses.{RanBad, TookTooMany, Answers, AnswersReading, IsCutShort, budget_of};
+ghost use Rattle.cg_cli.specs.Recordings.{RecordedWhole, RecordedPart, RecordedFront, RecordedSome};
+
+use crate::budget::budget_for;
+use crate::input::LIMIT;
+use crate::status::Status;
+use crate::tell::{tell_bad_script, tell_large};
+use cg_heap::Heap;
+use cg_interp::{RunEnd, run_recorded};
+use cg_io::{InputFault, Sink, Source, read_up_to};
+use cg_kind::Kind;
+use cg_script::{Script, ScriptFault, parse};
+use std::alloc::Global;
+
+/// Runs a script that was read, with its budget, and writes the records of the run.
+fn record_parsed<K: Sink, B: Kind>(
+    alloc: Global,
+    script: &Script,
+    sink: &mut K,
+    kinds: Vec<B>,
+) -> Status
+    requires spelled { IsSpelled script.now }
+    requires known { TextsAreKnown script.now }
+    requires kinds { map B.kind kinds.items ≡ six_kinds }
+    requires empty { map B.bodies kinds.items ≡ replicate 6 fin.empty }
+    ensures done { result ≡ Status.Done → WroteRecords script.now (budget_of None script.now) Ended (K.written sink.old) (K.written sink.new) }
+    ensures spent { result ≡ Status.Budget → WroteRecords script.now (budget_of None script.now) BudgetIsSpent (K.written sink.old) (K.written sink.new) }
+    ensures part { result ≡ Status.WriteFault → WroteRecordsPart script.now (budget_of None script.now) (K.written sink.old) (K.written sink.new) }
+    ensures cause { result ≡ Status.WriteFault → Rose (K.faults sink.old) (K.faults sink.new) }
+    ensures memory { result ≡ Status.OutOfMemory → Keeps (K.written sink.old) (K.written sink.new)
+        ⊎ WroteRecordsPart script.now (budget_of None script.now) (K.written sink.old) (K.written sink.new) }
+    ensures only { (result ≡ Status.Done) ⊎ (result ≡ Status.Budget) ⊎ (result ≡ Status.WriteFault) ⊎ (result ≡ Status.OutOfMemory) }
+{
+    let budget = budget_for(None, script);
+    let Ok(heap) = Heap::new(alloc, kinds, script.names.len()) else {
+        return Status::OutOfMemory;
+    };
+    match run_recorded(alloc, heap, script, budget, sink) {
+        RunEnd::Done => Status::Done,
+        RunEnd::Budget => Status::Budget,
+        RunEnd::WriteFault => Status::WriteFault,
+        RunEnd::OutOfMemory => Status::OutOfMemory,
+    }
+}
+
+/// Records a run of what some bytes spell.
+fn record_in_hand<K: Sink, B: Kind>(
+    alloc: Global,
+    bytes: &[u8],
+    sink: &mut K,
+    kinds: Vec<B>,
+) -> Status
+    requires few { length bytes.now < LIMIT }
+    requires kinds { map B.kind kinds.items ≡ six_kinds }
+    requires empty { map B.bodies kinds.items ≡ replicate 6 fin.empty }
+    ensures done { result ≡ Status.Done → RecordedWhole Ended bytes.now (K.written sink.old) (K.written sink.new) }
+    ensures spent { result ≡ Status.Budget → RecordedWhole BudgetIsSpent bytes.now (K.written sink.old) (K.written sink.new) }
+    ensures bad_script { result ≡ Status.BadScript → RanBad bytes.now (K.written sink.old) (K.written sink.new) }
+    ensures write { result ≡ Status.WriteFault → RecordedFront bytes.now (K.written sink.old) (K.written sink.new) }
+    ensures cause { result ≡ Status.WriteFault → Rose (K.faults sink.old) (K.faults sink.new) }
+    ensures memory { result ≡ Status.OutOfMemory → RecordedSome bytes.now (K.written sink.old) (K.written sink.new) }
+    ensures only { AnswersReading (reading bytes.now) result ⊎ (result ≡ Status.WriteFault) ⊎ (result ≡ Status.OutOfMemory) }
+{
+    match parse(alloc, bytes) {
+        Ok(script) => record_parsed(alloc, &script, sink, kinds),
+        Err(ScriptFault::Bad { line, code }) => tell_bad_script(line, code, sink),
+        Err(ScriptFault::OutOfMemory) => Status::OutOfMemory,
+    }
+}
+
+/// Records a run of what was read, or says that it is too large.
+fn record_read<K: Sink, B: Kind>(
+    alloc: Global,
+    bytes: &[u8],
+    sink: &mut K,
+    kinds: Vec<B>,
+) -> Status
+    requires kinds { map B.kind kinds.items ≡ six_kinds }
+    requires empty { map B.bodies kinds.items ≡ replicate 6 fin.empty }
+    ensures done { result ≡ Status.Done → RecordedWhole Ended bytes.now (K.written sink.old) (K.written sink.new) }
+    ensures spent { result ≡ Status.Budget → RecordedWhole BudgetIsSpent bytes.now (K.written sink.old) (K.written sink.new) }
+    ensures bad_script { result ≡ Status.BadScript → RanBad bytes.now (K.written sink.old) (K.written sink.new) }
+    ensures large { result ≡ Status.TooLarge → Appends (K.written sink.old) (K.written sink.new) (codes "too large\n") }
+    ensures many { result ≡ Status.TooLarge → LIMIT ≤ length bytes.now }
+    ensures write { result ≡ Status.WriteFault → RecordedFront bytes.now (K.written sink.old) (K.written sink.new) }
+    ensures cause { result ≡ Status.WriteFault → Rose (K.faults sink.old) (K.faults sink.new) }
+    ensures memory { result ≡ Status.OutOfMemory → RecordedSome bytes.now (K.written sink.old) (K.written sink.new) }
+    ensures only { Answers bytes.now result ⊎ (result ≡ Status.WriteFault) ⊎ (result ≡ Status.OutOfMemory) }
+{
+    if bytes.len() >= LIMIT {
+        return tell_large(sink);
+    }
+    record_in_hand(alloc, bytes, sink, kinds)
+}
+
+/// Reads a source to its end, and writes the records of a run of what it gave.
+pub fn record_job<S: Source, K: Sink, B: Kind>(
+    alloc: Global,
+    source: &mut S,
+    sink: &mut K,
+    kinds: Vec<B>,
+) -> Status
+    requires kinds { map B.kind kinds.items ≡ six_kinds }
+    requires empty { map B.bodies kinds.items ≡ replicate 6 fin.empty }
+    ensures done { result ≡ Status.Done → IfSome (S.left source.old) (λ bytes. RecordedWhole Ended bytes (K.written sink.old) (K.written sink.new)) }
+    ensures spent { result ≡ Status.Budget → IfSome (S.left source.old) (λ bytes. RecordedWhole BudgetIsSpent bytes (K.written sink.old) (K.written sink.new)) }
+    ensures bad_script { result ≡ Status.BadScript → IfSome (S.left source.old) (λ bytes. RanBad bytes (K.written sink.old) (K.written sink.new)) }
+    ensures read_to_end { (result ≡ Status.Done) ⊎ (result ≡ Status.Budget) ⊎ (result ≡ Status.BadScript) → IsAtEnd (S.left source.new) }
+    ensures too_large { result ≡ Status.TooLarge → Appends (K.written sink.old) (K.written sink.new) (codes "too large\n") }
+    ensures taken { result ≡ Status.TooLarge → TookTooMany (S.left source.old) (S.left source.new) }
+    ensures read_cause { result ≡ Status.ReadFault → Rose (S.faults source.old) (S.faults source.new) }
+    ensures read { result ≡ Status.ReadFault → Keeps (K.written sink.old) (K.written sink.new) }
+    ensures write_cause { result ≡ Status.WriteFault → Rose (K.faults sink.old) (K.faults sink.new) }
+    ensures write { result ≡ Status.WriteFault → IfSome (S.left source.old) (λ bytes. RecordedFront bytes (K.written sink.old) (K.written sink.new)) }
+    ensures memory { result ≡ Status.OutOfMemory → Keeps (K.written sink.old) (K.written sink.new)
+        ⊎ IfSome (S.left source.old) (λ bytes. RecordedPart bytes (K.written sink.old) (K.written sink.new)) }
+    ensures only { IsCutShort result ⊎ IfSome (S.left source.old) (λ bytes. Answers bytes result) }
+    ensures words { result ≢ Status.BadWords }
+{
+    match read_up_to(alloc, source, LIMIT) {
+        Ok(bytes) => record_read(alloc, bytes.as_slice(), sink, kinds),
+        Err(InputFault::ReadFault) => Status::ReadFault,
+        Err(InputFault::OutOfMemory) => Status::OutOfMemory,
+    }
+}

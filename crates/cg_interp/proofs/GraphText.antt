@@ -1,0 +1,99 @@
+-- The members of a graph, as they are written one after the other.
+use Rattle.std.proofs.Common.{◌≡◌, refl, sym, ◌∙◌, ap, subst, ℕ, suc, ◌+◌, ◌<◌, ◌≤◌, Bool, List, [], ◌∷◌, ◌++◌, Option, None, Some, take, drop, length, append_assoc, append-nil, codes, arith}
+use Rattle.std.specs.Prelude.{flat_map, filter, slice_get}
+use Rattle.std.proofs.lemmas.Grind.{flat_map-append}
+use Rattle.std.proofs.lemmas.List.Elements.{filter-append}
+use Rattle.std.proofs.KnownBytes.{Appends-trans}
+use Rattle.std.specs.Io.KnownBytes.{Appends}
+use Rattle.cg_io.specs.Causes.{AppendsFront}
+use Rattle.cg_value.specs.declared.Entry.{Entry}
+use Rattle.cg_value.specs.declared.Place.{Place}
+use Rattle.cg_script.specs.declared.Script.{Script}
+use Rattle.cg_graph.specs.Value.{references, references_of_value}
+use Rattle.cg_graph.specs.Store.{Store, list_at, place_of, IsLive}
+use Rattle.cg_heap.specs.Calls.{IsListed}
+use Rattle.cg_arena.specs.Nodes.{following}
+use Rattle.cg_trial.proofs.Entries.{references_more, references_split}
+use Rattle.cg_trial.proofs.Lists.{IsAt, ahead, head_is}
+use Rattle.cg_trial.proofs.Scenes.{Along, along_more, along_end}
+use Rattle.cg_records.specs.Text.{numbered}
+use Rattle.cg_interp.specs.declared.graphs.Detection.{Detection}
+use Rattle.cg_interp.specs.Graphs.{among}
+use Rattle.cg_interp.proofs.LineByLine.{after_front, longer_front}
+
+-- bytes that were written, a front of some more, and what would follow
+pub cut_between : (a b c : Option (List ℕ)) (xs ys zs whole : List ℕ) → whole ≡ xs ++ (ys ++ zs) → Appends a b xs → AppendsFront b c ys → AppendsFront a c whole
+cut_between a b c xs ys zs whole is wrote part = subst (AppendsFront a c) (sym is) (after_front a b c xs (ys ++ zs) wrote (longer_front b c ys zs part))
+
+-- the references of a member to members
+abbrev pub references_text : Store → Detection → List ℕ → List ℕ
+references_text store d refs = flat_map (numbered (codes "r")) (among store d refs)
+
+module _ (store : Store) (d : Detection) where
+  abbrev r : List ℕ → List ℕ
+  r refs = references_text store d refs
+
+  r-append : (xs ys : List ℕ) → r (xs ++ ys) ≡ r xs ++ r ys
+  r-append xs ys = ap (flat_map (numbered (codes "r"))) (filter-append _ xs ys) ∙ flat_map-append (numbered (codes "r")) (among store d xs) (among store d ys)
+
+  module _ (es : List Entry) (i : ℕ) (e : Entry) (at : slice_get es i ≡ Some e) where
+    abbrev value : List ℕ
+    value = references_of_value (Some e.val)
+
+    abbrev key : List ℕ
+    key = references_of_value (Some e.key)
+
+    -- an entry more
+    pub entry_more : (a b c k : Option (List ℕ)) → Appends a b (r (references (take i es))) → Appends b c (r value) → Appends c k (r key) → Appends a k (r (references (take (i + 1) es)))
+    entry_more a b c k so first second =
+        subst (Appends a k)
+        (sym (ap r (references_more es i e at) ∙ r-append (references (take i es) ++ value) key ∙ ap (λ t. t ++ r key) (r-append (references (take i es)) value)))
+        (Appends-trans a c k _ _ (Appends-trans a b c _ _ so first) second)
+
+    whole : r (references es) ≡ r (references (take i es)) ++ (r value ++ (r key ++ r (references (drop (i + 1) es))))
+    whole =
+        ap r (references_split es i e at)
+        ∙ r-append (references (take i es)) (value ++ (key ++ references (drop (i + 1) es)))
+        ∙ ap (λ t. r (references (take i es)) ++ t) (r-append value (key ++ references (drop (i + 1) es)) ∙ ap (λ t. r value ++ t) (r-append key (references (drop (i + 1) es))))
+
+    -- where the one of its value was cut, and where that of its key was
+    pub value_cut : (a b c : Option (List ℕ)) → Appends a b (r (references (take i es))) → AppendsFront b c (r value) → AppendsFront a c (r (references es))
+    value_cut a b c so part = cut_between a b c (r (references (take i es))) (r value) (r key ++ r (references (drop (i + 1) es))) (r (references es)) whole so part
+
+    pub key_cut : (a b c k : Option (List ℕ)) → Appends a b (r (references (take i es))) → Appends b c (r value) → AppendsFront c k (r key) → AppendsFront a k (r (references es))
+    key_cut a b c k so first part =
+        cut_between a c k (r (references (take i es)) ++ r value) (r key) (r (references (drop (i + 1) es))) (r (references es))
+        (whole ∙ sym (append_assoc (r (references (take i es))) (r value) (r key ++ r (references (drop (i + 1) es)))))
+        (Appends-trans a b c _ _ so first) part
+
+-- Something is written for each object of a place: how far that is.
+pub record WritesAlong (store : Store) (place : Place) (f : ℕ → List ℕ) (cursor : Option ℕ) (before now : Option (List ℕ)) : Type 0 where
+  pub done : List ℕ
+  pub along : Along store place cursor done
+  pub wrote : Appends before now (flat_map f done)
+
+module _ (store : Store) (place : Place) (f : ℕ → List ℕ) where
+  one_more : (done : List ℕ) (o : ℕ) → flat_map f (done ++ o ∷ []) ≡ flat_map f done ++ f o
+  one_more done o = flat_map-append f done (o ∷ []) ∙ ap (λ t. flat_map f done ++ t) (append-nil (f o))
+
+  module _ (listed : IsListed store) (was : Option ℕ) (o : ℕ) (is : was ≡ Some o) (before mid : Option (List ℕ)) (so : WritesAlong store place f was before mid) where
+    pub along_on : (cursor : Option ℕ) (now : Option (List ℕ)) → cursor ≡ following o (list_at store (place_of store o)) → Appends mid now (f o) → WritesAlong store place f cursor before now
+    along_on cursor now next more = record {
+      done = so.done ++ o ∷ [];
+      along = (along_more store listed place was cursor so.done (so.done ++ o ∷ []) o so.along is next refl).0;
+      wrote = subst (Appends before now) (sym (one_more so.done o)) (Appends-trans before mid now _ _ so.wrote more);
+    }
+
+    pub along_shorter : (cursor : Option ℕ) → cursor ≡ following o (list_at store (place_of store o)) → length (ahead cursor (list_at store place)) < length (ahead was (list_at store place))
+    along_shorter cursor next = (along_more store listed place was cursor so.done (so.done ++ o ∷ []) o so.along is next refl).1
+
+    pub along_cut : (now : Option (List ℕ)) → AppendsFront mid now (f o) → AppendsFront before now (flat_map f (list_at store place))
+    along_cut now part =
+        let at : IsAt (list_at store place) (Some o) so.done so.along.0 = subst (λ (k : Option ℕ). IsAt (list_at store place) k so.done so.along.0) is so.along.1 in
+        let head = head_is so.along.0 o at.at in
+        cut_between before mid now (flat_map f so.done) (f o) (flat_map f head.0) (flat_map f (list_at store place))
+        (ap (flat_map f) (at.parts ∙ ap (λ (b : List ℕ). so.done ++ b) head.1) ∙ flat_map-append f so.done (o ∷ head.0))
+        so.wrote part
+
+  pub along_all : (cursor : Option ℕ) (before now : Option (List ℕ)) → WritesAlong store place f cursor before now → cursor ≡ None → Appends before now (flat_map f (list_at store place))
+  along_all cursor before now so none = subst (λ xs. Appends before now (flat_map f xs)) (along_end store place cursor so.done so.along none) so.wrote

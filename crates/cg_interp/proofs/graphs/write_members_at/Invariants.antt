@@ -1,0 +1,17 @@
+use Rattle.std.proofs.Common.{◌≤◌, length}
+use Rattle.cg_graph.specs.Store.{list_at}
+use Rattle.cg_trial.proofs.Lists.{ahead}
+use Rattle.cg_interp.proofs.GraphText.{WritesAlong}
+use Rattle.cg_records.specs.Text.{member_text}
+use Rattle.cg_interp.specs.Graphs.{member_in}
+use Rattle.cg_interp.proofs.graphs.write_members_at.Given as goal
+
+-- the objects so far were written
+abbrev pub invariant-objects : goal.invariant-objects
+invariant-objects g l = record {
+  so_far : WritesAlong l.heap l.place (λ o. member_text (member_in l.script l.heap l.detection o)) l.cursor (g.K.Sink.written l.fn.sink) (g.K.Sink.written l.sink);
+  later : g.K.Sink.faults l.fn.sink ≤ g.K.Sink.faults l.sink;
+}
+
+abbrev pub decreases-objects : goal.decreases-objects
+decreases-objects g l = length (ahead l.cursor (list_at l.heap l.place))

@@ -1,0 +1,1 @@
+use Rattle.cg_interp.proofs.recorded.turn_and_record.Goals as goal

@@ -1,0 +1,142 @@
+-- The records of a run: for each collection what it saw, and what it found, at each of its two detections. (Ours. Their data and
+-- their text are those of `cg_records`.)
+use Rattle.std.specs.Prelude.{◌≡◌, ℕ, ◌==◌, Bool, false, List, [], ◌∷◌, ◌++◌, map, filter, Option, None, Some}
+use Rattle.std.specs.List.{list_any}
+use Rattle.std.specs.Io.KnownBytes.{Appends}
+use Rattle.cg_io.specs.Causes.{AppendsFront}
+use Rattle.cg_value.specs.declared.Place.TheVariants.{Gen, Cand, Legacy}
+use Rattle.cg_script.specs.declared.Script.{Script}
+use Rattle.cg_graph.specs.Member.{includes}
+use Rattle.cg_graph.specs.Value.{references}
+use Rattle.cg_graph.specs.Object.{entries_of, serials_at}
+use Rattle.cg_machine.specs.declared.event.Event.{Event}
+use Rattle.cg_machine.specs.declared.event.Event.TheVariants.{Refused}
+use Rattle.cg_machine.specs.Refusals.{no_memory}
+use Rattle.cg_machine.specs.World.{World, Outcome, Activity, TopLevel, Framed, Releasing, Dying, Collecting, ShuttingDown, CollectPhase, Start, Split, opening}
+use Rattle.cg_machine.specs.Holdings.{in_degree}
+use Rattle.cg_machine.specs.Collect.{SameMembers, merged, has_legacy}
+use Rattle.cg_machine.specs.Run.{StepTaken, IsWholeRun, events_of}
+use Rattle.cg_records.specs.declared.graph.Member.{Member}
+use Rattle.cg_records.specs.declared.graph.Graph.{Graph}
+use Rattle.cg_records.specs.declared.graph.Rec.{Rec}
+use Rattle.cg_records.specs.Members.{member}
+use Rattle.cg_records.specs.Reading.{recorded}
+use Rattle.cg_records.specs.Text.{text}
+use Rattle.cg_interp.specs.declared.graphs.Detection.{Detection}
+use Rattle.cg_interp.specs.declared.graphs.Detection.TheVariants.{First, Second}
+
+-- the detection that the step of a collection makes, by its generation and its phase
+abbrev pub detection_at : ℕ → CollectPhase → Option Detection
+detection_at g Start = Some (First g)
+detection_at g Split = Some Second
+detection_at g phase = None
+
+-- the one that the step of an activity makes
+abbrev pub detection_of : Activity → Option Detection
+detection_of (TopLevel commands) = None
+detection_of (Framed f) = None
+detection_of (Releasing references) = None
+detection_of (Dying d) = None
+detection_of (Collecting c) = detection_at c.generation c.phase
+detection_of (ShuttingDown started) = None
+
+-- the one that the next step makes, with these activities under way
+abbrev pub next_detection : List Activity → Option Detection
+next_detection [] = None
+next_detection (top ∷ below) = detection_of top
+
+-- what it looks at: the objects of the generation and those below it; or the condemned objects
+abbrev pub candidates : Detection → World → List ℕ
+candidates (First g) w = serials_at (merged g w).objects (Gen g)
+candidates Second w = serials_at w.objects Cand
+
+-- What it finds unreachable, as its step leaves it: at first what is condemned or set aside, and then the final set.
+abbrev pub lost_at : Detection → World → List ℕ
+lost_at (First g) after = serials_at after.objects Cand ++ serials_at after.objects Legacy
+lost_at Second after = serials_at after.objects Cand
+
+-- what it sets aside for a legacy finalizer
+abbrev pub legacy_at : Detection → World → List ℕ
+legacy_at (First g) after = serials_at after.objects Legacy
+legacy_at Second after = []
+
+-- An object among these: how often it is held, whether its class has a legacy finalizer, and its references to these.
+abbrev pub member_among : Script → World → List ℕ → ℕ → Member
+member_among script w objects o = member o (in_degree w o) (has_legacy script w o) (filter (includes objects) (references (entries_of w.objects o)))
+
+-- The graph of a detection whose step goes from one world to another. Members and sets may stand in any order.
+pub record IsGraphOf (script : Script) (d : Detection) (w after : World) (g : Graph) : Type 0 where
+  pub order : List ℕ
+  pub all : SameMembers order (candidates d w)
+  pub members : g.members ≡ map (member_among script w (candidates d w)) order
+  pub lost : SameMembers g.lost (lost_at d after)
+  pub legacy : SameMembers g.legacy (legacy_at d after)
+
+-- a detection, and its graph
+pub record Picture : Type 0 where
+  pub detection : Detection
+  pub graph : Graph
+
+-- a detection and its graph
+abbrev pub picture : Detection → Graph → Picture
+picture d g = record { detection = d; graph = g }
+
+-- what a step shows: a graph of its detection, if it makes one
+abbrev pub ShowsStep : Script → World → World → Option Detection → List Picture → Type 0
+ShowsStep script w after None pictures = pictures ≡ []
+ShowsStep script w after (Some d) pictures = (g : Graph) × (pictures ≡ picture d g ∷ []) × IsGraphOf script d w after g
+
+-- what a run from a world shows, step by step
+abbrev pub Shows : Script → World → List StepTaken → List Picture → Type 0
+Shows script w [] pictures = pictures ≡ []
+Shows script w (step ∷ steps) pictures = (now later : List Picture) × (pictures ≡ now ++ later) × ShowsStep script w step.world (next_detection w.stack) now × Shows script step.world steps later
+
+-- the second graph of a record is the next one
+abbrev pub second_in : Detection → Graph → Option Graph
+second_in (First g) graph = None
+second_in Second graph = Some graph
+
+-- if it is a second one
+abbrev pub second_of : List Picture → Option Graph
+second_of [] = None
+second_of (p ∷ later) = second_in p.detection p.graph
+
+-- a first graph begins a record
+abbrev pub begins : Detection → Graph → Option Graph → List Rec
+begins (First g) graph second = recorded g graph second ∷ []
+begins Second graph second = []
+
+-- A record of each collection: its first graph, and the second one, where the run came so far.
+abbrev pub records_of : List Picture → List Rec
+records_of [] = []
+records_of (p ∷ later) = begins p.detection p.graph (second_of later) ++ records_of later
+
+-- These are records of a run. (It has more than one list of them, since members and sets may stand in any order.)
+pub record HasRecords (script : Script) (budget : ℕ) (steps : List StepTaken) (records : List Rec) : Type 0 where
+  pub pictures : List Picture
+  pub shows : Shows script (opening script budget) steps pictures
+  pub are : records ≡ records_of pictures
+
+-- whether an event tells that a command was refused for want of memory
+abbrev pub wants_memory : Event → Bool
+wants_memory (Refused reason) = reason == no_memory
+wants_memory event = false
+
+-- The text of records of a whole run of the script was written. The run ended so, and in it no command was refused for want of
+-- memory.
+pub record WroteRecords (script : Script) (budget : ℕ) (outcome : Outcome) (before now : Option (List ℕ)) : Type 0 where
+  pub steps : List StepTaken
+  pub whole : IsWholeRun script budget outcome steps
+  pub unrefused : list_any wants_memory (events_of steps) ≡ false
+  pub records : List Rec
+  pub has : HasRecords script budget steps records
+  pub written : Appends before now (text records)
+
+-- A front of the text of records of a whole run of the script was written.
+pub record WroteRecordsPart (script : Script) (budget : ℕ) (before now : Option (List ℕ)) : Type 0 where
+  pub steps : List StepTaken
+  pub outcome : Outcome
+  pub whole : IsWholeRun script budget outcome steps
+  pub records : List Rec
+  pub has : HasRecords script budget steps records
+  pub written : AppendsFront before now (text records)

@@ -1,0 +1,189 @@
+//! Runs of scripts whose records are written in place of their text.
+ghost use Rattle.std.specs.Prelude.{◌≡◌, ◌≢◌, ◌≤◌, ◌⊎◌, ◌++◌, List, length, codes, IfOk, OnErr};
+ghost use Rattle.std.specs.Io.KnownBytes.{Appends};
+ghost use Rattle.cg_io.specs.Causes.{Rose, HasCause, AppendsFront};
+ghost use Rattle.cg_script.specs.Spelled.{IsSpelled};
+ghost use Rattle.cg_script.specs.Texts.{TextsAreKnown};
+ghost use Rattle.cg_graph.specs.Changes.{opening_store};
+ghost use Rattle.cg_heap.specs.Calls.{IsSound};
+ghost use Rattle.cg_machine.specs.declared.event.Event.{Event as AnyEvent};
+ghost use Rattle.cg_machine.specs.World.{World, Ended, BudgetIsSpent, opening};
+ghost use Rattle.cg_laws.specs.Kept.{StaysKept};
+ghost use Rattle.cg_interp.specs.Engines.{StandsFor};
+ghost use Rattle.cg_interp.specs.Collecting.{StandsWith};
+ghost use Rattle.cg_interp.specs.Turns.{IsFit};
+ghost use Rattle.cg_interp.specs.Recorded.{WroteRecords, WroteRecordsPart};
+ghost use Rattle.cg_interp.specs.Graphs.{closing};
+ghost use Rattle.cg_interp.specs.Recording.{RecordsTurn, CutsRecord};
+ghost use Rattle.cg_interp.specs.Running.{HasLaws};
+
+use crate::engine::Engine;
+use crate::recording::{is_unfinished_after, recorded_of, write_after, write_before, write_end};
+use crate::run::RunEnd;
+use crate::turned::Standing;
+use cg_heap::{Heap, Steps};
+use cg_io::{Sink, WriteFailed};
+use cg_kind::Kind;
+use cg_laws::worlds_stay_kept;
+use cg_machine::{lines_are_printable, no_run_is_stuck};
+use cg_script::Script;
+use std::alloc::Global;
+use std::marker::Brand;
+use std::sync::ledger::{Blank, Ledger};
+
+/// One turn, and what is recorded of it; its lines are dropped. It tells how the run stands, or nothing where a command was
+/// refused for want of memory.
+fn turn_and_record<B: Kind, K: Sink, L: Ledger>(
+    engine: &mut Engine<B>,
+    script: &Script,
+    steps: &mut Steps<L>,
+    unfinished: &mut bool,
+    sink: &mut K,
+) -> Result<Option<Standing>, WriteFailed>
+    requires spelled { IsSpelled script.now }
+    requires fit { IsFit script.now engine.old }
+    requires stands { (w : World) × (left : List AnyEvent) × StandsWith script.now engine.old left w
+        × StaysKept script.now engine.old.frames w }
+    ensures ok { IfOk result (λ told. (w : World) (left : List AnyEvent) → StandsWith script.now engine.old left w
+        → StaysKept script.now engine.old.frames w
+        → RecordsTurn script.now engine.old unfinished.old w left engine.new unfinished.new told (K.written sink.old) (K.written sink.new)) }
+    ensures err { OnErr result ((w : World) (left : List AnyEvent) → StandsWith script.now engine.old left w
+        → StaysKept script.now engine.old.frames w
+        → CutsRecord script.now engine.old unfinished.old w left engine.new (K.written sink.old) (K.written sink.new)) }
+    ensures cause { HasCause (K.faults sink.old) (K.faults sink.new) result }
+    ensures fit { IsFit script.now engine.new }
+    ensures frames { engine.new.frames ≡ engine.old.frames }
+    ensures was_sound { IsSound engine.old.store }
+    ensures sound { IsSound engine.new.store }
+{
+    // No heap is large, and each object stands in the list of its place.
+    engine.heap.sound();
+    let detection = recorded_of(engine.next_detection(), *unfinished);
+    write_before(&engine.heap, script, detection, *unfinished, sink)?;
+    let answer = engine.turn(script, steps);
+    engine.heap.sound();
+    write_after(&engine.heap, detection, sink)?;
+    *unfinished = is_unfinished_after(detection, *unfinished);
+    if answer.wants_memory() {
+        return Ok(None);
+    }
+    Ok(Some(answer.standing()))
+}
+
+/// Ends the records of a run that has ended so.
+fn end_records<K: Sink>(unfinished: bool, end: RunEnd, sink: &mut K) -> RunEnd
+    requires { (end ≡ RunEnd.Done) ⊎ (end ≡ RunEnd.Budget) }
+    ensures only { (result ≡ end) ⊎ (result ≡ RunEnd.WriteFault) }
+    ensures ok { result ≢ RunEnd.WriteFault
+        → Appends (K.written sink.old) (K.written sink.new) (closing unfinished ++ codes "end\n") }
+    ensures part { result ≡ RunEnd.WriteFault
+        → AppendsFront (K.written sink.old) (K.written sink.new) (closing unfinished ++ codes "end\n") }
+    ensures cause { result ≡ RunEnd.WriteFault → Rose (K.faults sink.old) (K.faults sink.new) }
+    ensures later { K.faults sink.old ≤ K.faults sink.new }
+{
+    match write_end(unfinished, sink) {
+        Ok(()) => end,
+        Err(WriteFailed) => RunEnd::WriteFault,
+    }
+}
+
+/// Turns, each with what is recorded of it, until the run has ended, the sink has failed or a command was refused for want of
+/// memory.
+fn record_turns<B: Kind, K: Sink, L: Ledger>(
+    engine: &mut Engine<B>,
+    script: &Script,
+    steps: &mut Steps<L>,
+    sink: &mut K,
+) -> RunEnd
+    requires spelled { IsSpelled script.now }
+    requires laws { HasLaws script.now engine.old.frames }
+    requires fit { IsFit script.now engine.old }
+    requires opens { StandsFor script.now engine.old (opening script.now engine.old.frames) }
+    ensures done { result ≡ RunEnd.Done
+        → WroteRecords script.now engine.old.frames Ended (K.written sink.old) (K.written sink.new) }
+    ensures spent { result ≡ RunEnd.Budget
+        → WroteRecords script.now engine.old.frames BudgetIsSpent (K.written sink.old) (K.written sink.new) }
+    ensures part { result ≡ RunEnd.WriteFault
+        → WroteRecordsPart script.now engine.old.frames (K.written sink.old) (K.written sink.new) }
+    ensures cause { result ≡ RunEnd.WriteFault → Rose (K.faults sink.old) (K.faults sink.new) }
+    ensures memory { result ≡ RunEnd.OutOfMemory
+        → WroteRecordsPart script.now engine.old.frames (K.written sink.old) (K.written sink.new) }
+    ensures later { K.faults sink.old ≤ K.faults sink.new }
+{
+    no_run_is_stuck();
+    let mut unfinished = false;
+    'turns: loop {
+        match turn_and_record(engine, script, steps, &mut unfinished, sink) {
+            Ok(Some(Standing::Running)) => {}
+            Ok(Some(Standing::Ended)) => return end_records(unfinished, RunEnd::Done, sink),
+            Ok(Some(Standing::Spent)) => return end_records(unfinished, RunEnd::Budget, sink),
+            Ok(None) => return RunEnd::OutOfMemory,
+            Err(WriteFailed) => return RunEnd::WriteFault,
+        }
+    }
+}
+
+/// The same on a heap that is not yet run.
+fn open_and_record<B: Kind, K: Sink, L: Ledger>(
+    alloc: Global,
+    heap: Heap<B>,
+    script: &Script,
+    budget: u32,
+    sink: &mut K,
+    blank: Blank,
+) -> RunEnd
+    requires spelled { IsSpelled script.now }
+    requires known { TextsAreKnown script.now }
+    requires heap { heap ≡ opening_store (length script.now.names) }
+    requires budget { budget ≤ 100000 }
+    requires name { blank.name ≡ L.name }
+    requires parts { blank.parts ≡ L.parts }
+    requires some { 0 < blank.parts }
+    ensures done { result ≡ RunEnd.Done → WroteRecords script.now budget Ended (K.written sink.old) (K.written sink.new) }
+    ensures spent { result ≡ RunEnd.Budget → WroteRecords script.now budget BudgetIsSpent (K.written sink.old) (K.written sink.new) }
+    ensures part { result ≡ RunEnd.WriteFault → WroteRecordsPart script.now budget (K.written sink.old) (K.written sink.new) }
+    ensures cause { result ≡ RunEnd.WriteFault → Rose (K.faults sink.old) (K.faults sink.new) }
+    ensures memory { result ≡ RunEnd.OutOfMemory → WroteRecordsPart script.now budget (K.written sink.old) (K.written sink.new) }
+    ensures later { K.faults sink.old ≤ K.faults sink.new }
+{
+    worlds_stay_kept();
+    lines_are_printable();
+    no_run_is_stuck();
+    let Ok(mut engine) = Engine::new(alloc, heap, script, budget) else {
+        return RunEnd::OutOfMemory;
+    };
+    let mut steps = Steps::<L>::new(blank);
+    record_turns(&mut engine, script, &mut steps, sink)
+}
+
+/// Runs a script as `run_script` does, under the same conditions, and writes the records of its collections in place of its
+/// text, line by line and one `write` a line. The records take no memory.
+///
+/// It answers `Done` where the run ended by `end`, and `Budget` where it ended by `budget spent`; `WriteFault` where the sink
+/// failed; and `OutOfMemory` where memory was refused, at the opening before anything was written, or to a command: then the run
+/// goes no further, and what was written is a front of the records.
+pub fn run_recorded<B: Kind, K: Sink>(
+    alloc: Global,
+    heap: Heap<B>,
+    script: &Script,
+    budget: u32,
+    sink: &mut K,
+) -> RunEnd
+    requires spelled { IsSpelled script.now }
+    requires known { TextsAreKnown script.now }
+    requires heap { heap ≡ opening_store (length script.now.names) }
+    requires budget { budget ≤ 100000 }
+
+    // The text of the records of a whole run, in which no command was refused for want of memory.
+    ensures done { result ≡ RunEnd.Done → WroteRecords script.now budget Ended (K.written sink.old) (K.written sink.new) }
+    ensures spent { result ≡ RunEnd.Budget → WroteRecords script.now budget BudgetIsSpent (K.written sink.old) (K.written sink.new) }
+
+    // A front of the text of the records of a whole run.
+    ensures part { result ≡ RunEnd.WriteFault → WroteRecordsPart script.now budget (K.written sink.old) (K.written sink.new) }
+    ensures memory { result ≡ RunEnd.OutOfMemory → WroteRecordsPart script.now budget (K.written sink.old) (K.written sink.new) }
+    ensures cause { result ≡ RunEnd.WriteFault → Rose (K.faults sink.old) (K.faults sink.new) }
+    ensures later { K.faults sink.old ≤ K.faults sink.new }
+{
+    // How many entries collections look at is counted by contracts alone.
+    open_and_record::<B, K, Brand>(alloc, heap, script, budget, sink, Blank::new(1))
+}

@@ -1,0 +1,169 @@
+//! What is recorded of a turn: the graph of the detection that it makes.
+ghost use Rattle.std.specs.Prelude.{◌≡◌, ◌++◌, codes, cond, Some, None, OnOk, OnErr};
+ghost use Rattle.std.specs.Io.KnownBytes.{Appends};
+ghost use Rattle.cg_io.specs.Causes.{HasCause, AppendsFront};
+ghost use Rattle.cg_interp.specs.Graphs.{IsOfGenerations, AreOfGenerations, heading, begun_text, text_before, text_after, closing, taken, taken_while, unfinished_after, begins_record, detection_on, detection_by};
+ghost use Rattle.cg_collect.specs.Stages.{stage_of};
+
+use crate::activity::Activity;
+use crate::engine::Engine;
+use crate::graphs::{Detection, write_findings, write_members};
+use crate::record_lines::{write_cut, write_numbered};
+use cg_collect::{Collection, Stage};
+use cg_heap::Heap;
+use cg_io::{Sink, WriteFailed};
+use cg_kind::Kind;
+use cg_script::Script;
+
+/// The detection that the next step of a collection makes, if it makes one.
+fn detection_of(collection: &Collection) -> Option<Detection>
+    ensures { result ≡ detection_by collection.now.generation (stage_of collection.now) }
+{
+    match collection.stage() {
+        Stage::BeforeFirst => Some(Detection::First {
+            generation: collection.generation(),
+        }),
+        Stage::BeforeSecond => Some(Detection::Second),
+        Stage::AfterFirst | Stage::AfterSecond | Stage::Between => None,
+    }
+}
+
+impl<B: Kind> Engine<B> {
+    /// The detection that the next turn makes, if it makes one: that of a collection on top.
+    pub fn next_detection(&self) -> Option<Detection>
+        ensures { result ≡ detection_on self.now.activities }
+    {
+        match self.stack.top() {
+            Some(Activity::Collecting { collection, .. }) => detection_of(collection),
+            _ => None,
+        }
+    }
+}
+
+impl Detection {
+    /// Whether a record has its graph: that of a first one begins a record, and that of a second one ends the unfinished one.
+    fn is_taken(self, unfinished: bool) -> bool
+        ensures { taken_while unfinished self ≡ cond result (Some self) None }
+    {
+        match self {
+            Detection::First { .. } => true,
+            Detection::Second => unfinished,
+        }
+    }
+
+    /// Whether a record is unfinished after it, and waits for its second graph.
+    fn begins_record(self) -> bool
+        ensures { result ≡ begins_record self }
+    {
+        match self {
+            Detection::First { .. } => true,
+            Detection::Second => false,
+        }
+    }
+}
+
+/// The detection, where a record has its graph.
+pub fn recorded_of(detection: Option<Detection>, unfinished: bool) -> Option<Detection>
+    ensures { result ≡ taken unfinished detection }
+{
+    match detection {
+        Some(made) if made.is_taken(unfinished) => Some(made),
+        _ => None,
+    }
+}
+
+/// Whether a record is unfinished after a turn that makes this detection, or none.
+pub fn is_unfinished_after(detection: Option<Detection>, unfinished: bool) -> bool
+    ensures { result ≡ unfinished_after unfinished detection }
+{
+    match detection {
+        Some(made) => made.begins_record(),
+        None => unfinished,
+    }
+}
+
+/// Writes how the graph of a detection begins. A first one ends an unfinished record, and begins another.
+fn write_heading<K: Sink>(
+    detection: Detection,
+    unfinished: bool,
+    sink: &mut K,
+) -> Result<(), WriteFailed>
+    ensures ok { OnOk result (Appends (K.written sink.old) (K.written sink.new) (heading unfinished detection)) }
+    ensures err { OnErr result (AppendsFront (K.written sink.old) (K.written sink.new) (heading unfinished detection)) }
+    ensures cause { HasCause (K.faults sink.old) (K.faults sink.new) result }
+{
+    match detection {
+        Detection::First { generation } => {
+            write_cut(unfinished, sink)?;
+            write_numbered("record", u64::from(generation), sink)?;
+            sink.write(b"graph 1\n")
+        }
+        Detection::Second => sink.write(b"graph 2\n"),
+    }
+}
+
+/// Writes how the graph of a detection begins, and its members, from the heap before its step.
+fn write_begun<B: Kind, K: Sink>(
+    heap: &Heap<B>,
+    script: &Script,
+    detection: Detection,
+    unfinished: bool,
+    sink: &mut K,
+) -> Result<(), WriteFailed>
+    requires { IsOfGenerations detection }
+    ensures ok { OnOk result (Appends (K.written sink.old) (K.written sink.new)
+        (begun_text script.now heap.now unfinished detection)) }
+    ensures err { OnErr result (AppendsFront (K.written sink.old) (K.written sink.new)
+        (begun_text script.now heap.now unfinished detection)) }
+    ensures cause { HasCause (K.faults sink.old) (K.faults sink.new) result }
+{
+    write_heading(detection, unfinished, sink)?;
+    write_members(heap, script, detection, sink)
+}
+
+/// Writes what is recorded before a turn that makes this detection, or none.
+pub fn write_before<B: Kind, K: Sink>(
+    heap: &Heap<B>,
+    script: &Script,
+    detection: Option<Detection>,
+    unfinished: bool,
+    sink: &mut K,
+) -> Result<(), WriteFailed>
+    requires { AreOfGenerations detection }
+    ensures ok { OnOk result (Appends (K.written sink.old) (K.written sink.new)
+        (text_before script.now heap.now unfinished detection)) }
+    ensures err { OnErr result (AppendsFront (K.written sink.old) (K.written sink.new)
+        (text_before script.now heap.now unfinished detection)) }
+    ensures cause { HasCause (K.faults sink.old) (K.faults sink.new) result }
+{
+    match detection {
+        Some(made) => write_begun(heap, script, made, unfinished, sink),
+        None => Ok(()),
+    }
+}
+
+/// Writes what is recorded after it.
+pub fn write_after<B: Kind, K: Sink>(
+    heap: &Heap<B>,
+    detection: Option<Detection>,
+    sink: &mut K,
+) -> Result<(), WriteFailed>
+    ensures ok { OnOk result (Appends (K.written sink.old) (K.written sink.new) (text_after heap.now detection)) }
+    ensures err { OnErr result (AppendsFront (K.written sink.old) (K.written sink.new) (text_after heap.now detection)) }
+    ensures cause { HasCause (K.faults sink.old) (K.faults sink.new) result }
+{
+    match detection {
+        Some(made) => write_findings(heap, made, sink),
+        None => Ok(()),
+    }
+}
+
+/// Writes the end of the records: an unfinished one ends without a second graph.
+pub fn write_end<K: Sink>(unfinished: bool, sink: &mut K) -> Result<(), WriteFailed>
+    ensures ok { OnOk result (Appends (K.written sink.old) (K.written sink.new) (closing unfinished ++ codes "end\n")) }
+    ensures err { OnErr result (AppendsFront (K.written sink.old) (K.written sink.new) (closing unfinished ++ codes "end\n")) }
+    ensures cause { HasCause (K.faults sink.old) (K.faults sink.new) result }
+{
+    write_cut(unfinished, sink)?;
+    sink.write(b"end\n")
+}
