@@ -1,0 +1,9 @@
+pub mod Wanes
+pub mod WanesDeaths
+pub mod WanesCollections
+pub mod WanesRuns
+pub mod Burns
+pub mod Taking
+pub mod MapRuns
+pub mod MapLaws
+pub mod ReadLines

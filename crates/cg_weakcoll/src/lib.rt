@@ -1,0 +1,6 @@
+//! Weak value maps and exit finalizers.
+#![tactic(auto)]
+
+mod map_laws;
+
+pub use map_laws::{looks_answer, looks_find_referents, weak_maps_answer, weak_references_keep_their_referents};

@@ -1,0 +1,26 @@
+//! What weak references and weak value maps tell in every run. Each law is the contract of a function that does nothing.
+ghost use Rattle.cg_weakcoll.specs.Maps.{LooksAnswer, LooksFindReferents, WeakMapsAnswer, WeakReferencesKeepTheirReferents};
+
+/// In every run a weak reference refers to the object that it was made of exactly until the line that it is cleared, unless it
+/// is dying itself.
+pub fn weak_references_keep_their_referents()
+    ensures { WeakReferencesKeepTheirReferents }
+{}
+
+/// In every run, where the three commands of a `wget` are not refused and no frame begins from the second to the third, the
+/// variable is what the weak reference under the key refers to before the third, or none.
+pub fn looks_find_referents()
+    ensures { LooksFindReferents }
+{}
+
+/// In every run such a `wget` answers the object that the weak reference under the key was made of, exactly where no line that it
+/// is cleared was printed since, and else none.
+pub fn looks_answer()
+    ensures { LooksAnswer }
+{}
+
+/// In every run, where a `wset` made the weak reference of an object and put it into a map, such a `wget` that finds it answers
+/// the object exactly where no line that it is cleared was printed since it was made, and else none.
+pub fn weak_maps_answer()
+    ensures { WeakMapsAnswer }
+{}
