@@ -7,3 +7,4 @@ pub mod Taking
 pub mod MapRuns
 pub mod MapLaws
 pub mod ReadLines
+pub mod LookLines

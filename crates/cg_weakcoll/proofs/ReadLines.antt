@@ -34,7 +34,7 @@ unfolding meant
 meant_is known number line = refl
 
 module _ (known : Known) (number : ℕ) (line : List ℕ) (lines texts : List (List ℕ)) (saids : List Said) where
-  later_lines : Known → Lines
+  abbrev later_lines : Known → Lines
   later_lines behind = lines_from behind (number + 1) lines
 
   also : (form : Form) (words : List (List ℕ)) → says form words ≡ meaning number line → fault_in known form words ≡ None → (l : Lines) → later_lines (known_after known form words) ≡ l
@@ -83,7 +83,7 @@ passes_words number line e =
     is_passed_over (is_passed (words_of line)) (words_of line) b
 
 -- what some lines in the middle say: what was said before, and from where the lines go on
-pub record Onward (texts : List (List ℕ)) (inside : Bool) (lines : List (List ℕ)) (saids : List Said) : Type 0 where
+pub record Onward (texts : List (List ℕ)) (lines : List (List ℕ)) (saids : List Said) : Type 0 where
   pub before : List Said
   pub later : List Said
   pub all : before ++ later ≡ saids
@@ -91,14 +91,14 @@ pub record Onward (texts : List (List ℕ)) (inside : Bool) (lines : List (List 
   pub number : ℕ
   pub goes : lines_from known number lines ≡ good texts later
 
-pub onward : (front lines : List (List ℕ)) (known : Known) (number : ℕ) (texts : List (List ℕ)) (saids : List Said) → lines_from known number (front ++ lines) ≡ good texts saids → Onward texts known.inside lines saids
+pub onward : (front lines : List (List ℕ)) (known : Known) (number : ℕ) (texts : List (List ℕ)) (saids : List Said) → lines_from known number (front ++ lines) ≡ good texts saids → Onward texts lines saids
 onward [] lines known number texts saids e = record { before = []; later = saids; all = refl; known = known; number = number; goes = e }
-onward (line ∷ front) lines known number texts saids e = go (first_line known number line (front ++ lines) texts saids e)
+onward (line ∷ front) lines known number texts saids e = go (λ k n ss h. onward front lines k n texts ss h) (first_line known number line (front ++ lines) texts saids e)
   where
-    go : First known number line (front ++ lines) texts saids → Onward texts known.inside lines saids
-    go (Passes m rest) = let o = onward front lines known (number + 1) texts saids rest in record { before = o.before; later = o.later; all = o.all; known = o.known; number = o.number; goes = o.goes }
-    go (Says form words later m f is rest) =
-        let o = onward front lines (known_after known form words) (number + 1) texts later rest in
+    go : ((k : Known) (n : ℕ) (ss : List Said) → lines_from k n (front ++ lines) ≡ good texts ss → Onward texts lines ss) → First known number line (front ++ lines) texts saids → Onward texts lines saids
+    go ih (Passes m rest) = let o = ih known (number + 1) saids rest in record { before = o.before; later = o.later; all = o.all; known = o.known; number = o.number; goes = o.goes }
+    go ih (Says form words later m f is rest) =
+        let o = ih (known_after known form words) (number + 1) later rest in
         record { before = said form (parts_of known form words) ∷ o.before; later = o.later; all = ap (λ l. said form (parts_of known form words) ∷ l) o.all ∙ is; known = o.known; number = o.number; goes = o.goes }
 
 -- declarations stand outside procedures, and `end` inside one
@@ -112,13 +112,13 @@ nested [] known number texts saids e = go known.inside refl e
     go : (b : Bool) → known.inside ≡ b → (if b then spoilt number 7 else good known.texts []) ≡ good texts saids → AreNested known.inside saids
     go true i k = absurd (cc)
     go false i k = let none : [] ≡ saids = cc in subst (AreNested known.inside) none tt
-nested (line ∷ lines) known number texts saids e = go (first_line known number line lines texts saids e)
+nested (line ∷ lines) known number texts saids e = go (λ k n ss h. nested lines k n texts ss h) (first_line known number line lines texts saids e)
   where
-    go : First known number line lines texts saids → AreNested known.inside saids
-    go (Passes m rest) = nested lines known (number + 1) texts saids rest
-    go (Says form words later m f is rest) = subst (AreNested known.inside) is (
+    go : ((k : Known) (n : ℕ) (ss : List Said) → lines_from k n lines ≡ good texts ss → AreNested k.inside ss) → First known number line lines texts saids → AreNested known.inside saids
+    go ih (Passes m rest) = ih known (number + 1) saids rest
+    go ih (Says form words later m f is rest) = subst (AreNested known.inside) is (
       placed known form (parts_of known form words) (faultless known form words f).placed,
-      subst (λ b. AreNested b later) (sym (inside_said form (parts_of known form words) known.inside)) (nested lines (known_after known form words) (number + 1) texts later rest),
+      subst (λ b. AreNested b later) (sym (inside_said form (parts_of known form words) known.inside)) (ih (known_after known form words) (number + 1) later rest),
     )
 
 -- where commands stand that are said one after the other
@@ -141,7 +141,7 @@ more_items variants.Shutdown items commands (InProcedure p front back m e) = InP
 more_items (variants.Budget n) items commands (InProcedure p front back m e) = InProcedure p front back m e
 more_items (variants.Class c) items commands (InProcedure p front back m e) = InProcedure p front back m e
 
-does_all : List Command → List Said
+abbrev pub does_all : List Command → List Said
 does_all commands = map (λ c. Does c) commands
 
 run_all : (commands : List Command) (later : List Said) → commands_of (items_of false (does_all commands ++ later)) ≡ commands ++ commands_of (items_of false later)

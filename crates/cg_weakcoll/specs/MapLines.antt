@@ -1,12 +1,15 @@
--- What the lines of a `wget` and of a `wset` are once they are read: commands next to each other. (Ours.)
-use Rattle.std.specs.Prelude.{◌≡◌, ℕ, true, List, [], ◌∷◌, ◌++◌, codes, map}
+-- What the lines that a `wget` and a `wset` become are once they are read: their commands, next to each other. (Ours.)
+use Rattle.std.specs.Prelude.{◌≡◌, ℕ, true, List, [], ◌∷◌, ◌++◌, Some, codes}
 use Rattle.cg_script.specs.declared.item.Item.{Item}
 use Rattle.cg_script.specs.declared.item.Proc.{Proc}
 use Rattle.cg_script.specs.declared.command.Operand.{Operand}
+use Rattle.cg_script.specs.declared.command.Operand.TheVariants as operands
 use Rattle.cg_script.specs.declared.command.Command.{Command}
 use Rattle.cg_script.specs.Items.{commands_of, procedures}
 use Rattle.cg_script.specs.Pieces.{lines_of, words_of}
-use Rattle.cg_script.specs.Words.{is_variable}
+use Rattle.cg_script.specs.Tables.{named}
+use Rattle.cg_script.specs.Words.{atoms, is_value, is_variable, number_of, string_text}
+use Rattle.cg_script.specs.Canonical.{text_of}
 use Rattle.cg_script.specs.Reading.{reading, spells}
 use Rattle.cg_graph.specs.Member.{Includes}
 use Rattle.cg_weakcoll.specs.Maps.{wget_commands, wset_commands}
@@ -16,22 +19,53 @@ pub data StandTogether (items : List Item) (commands : List Command) : Type 0 wh
   Outside : (front back : List Command) → commands_of items ≡ front ++ commands ++ back → StandTogether items commands
   InProcedure : (proc : Proc) (front back : List Command) → Includes (procedures items) proc → proc.body ≡ front ++ commands ++ back → StandTogether items commands
 
--- the words of three lines of a script
+-- what a word stands for in a script with these texts
+pub data StandsFor (texts : List (List ℕ)) (word : List ℕ) : Operand → Type 0 where
+  Atom : (operand : Operand) → named atoms word ≡ Some operand → StandsFor texts word operand
+  Quoted : (n : ℕ) → text_of texts n ≡ string_text word → StandsFor texts word (operands.Str n)
+  Named : (n : ℕ) → text_of texts n ≡ word → StandsFor texts word (operands.Name n)
+  Counted : StandsFor texts word (operands.Int (number_of word))
+
+-- three lines of a script one after the other, by their words
 pub record HasLines (bytes : List ℕ) (first second third : List (List ℕ)) : Type 0 where
   pub front : List (List ℕ)
-  pub lines : List (List ℕ)
+  pub one : List ℕ
+  pub two : List ℕ
+  pub three : List ℕ
   pub back : List (List ℕ)
-  pub all : lines_of bytes ≡ front ++ lines ++ back
-  pub words : map words_of lines ≡ first ∷ second ∷ third ∷ []
+  pub all : lines_of bytes ≡ front ++ one ∷ two ∷ three ∷ back
+  pub first_is : words_of one ≡ first
+  pub second_is : words_of two ≡ second
+  pub third_is : words_of three ≡ third
 
--- In a script with the lines `x = none`, `x = get M k` and `x = deref x` their commands stand together.
+-- the commands of `x = wget M k`, where its words stand for these
+pub record HasLook (texts : List (List ℕ)) (items : List Item) (x map key : List ℕ) : Type 0 where
+  pub name : ℕ
+  pub dict : Operand
+  pub at : Operand
+  pub name_is : text_of texts name ≡ x
+  pub dict_is : StandsFor texts map dict
+  pub at_is : StandsFor texts key at
+  pub together : StandTogether items (wget_commands name dict at)
+
+-- A script with its three lines has them.
 abbrev pub LookLinesAreCommands : Type 0
 LookLinesAreCommands = (bytes : List ℕ) (texts : List (List ℕ)) (items : List Item) → reading bytes ≡ spells texts items → (x map key : List ℕ) → is_variable x ≡ true
-    → HasLines bytes (x ∷ codes "=" ∷ codes "none" ∷ []) (x ∷ codes "=" ∷ codes "get" ∷ map ∷ key ∷ []) (x ∷ codes "=" ∷ codes "deref" ∷ x ∷ [])
-    → (name : ℕ) × (dict at : Operand) × StandTogether items (wget_commands name dict at)
+    → HasLines bytes (x ∷ codes "=" ∷ codes "none" ∷ []) (x ∷ codes "=" ∷ codes "get" ∷ map ∷ key ∷ []) (x ∷ codes "=" ∷ codes "deref" ∷ x ∷ []) → HasLook texts items x map key
 
--- In one with the lines `t = ref v`, `put M k t` and `del t` theirs do.
+-- the commands of `wset M k v`
+pub record HasStore (texts : List (List ℕ)) (items : List Item) (temporary map key v : List ℕ) : Type 0 where
+  pub name : ℕ
+  pub dict : Operand
+  pub at : Operand
+  pub value : Operand
+  pub name_is : text_of texts name ≡ temporary
+  pub dict_is : StandsFor texts map dict
+  pub at_is : StandsFor texts key at
+  pub value_is : StandsFor texts v value
+  pub together : StandTogether items (wset_commands name dict at value)
+
+-- A script with its three lines has them.
 abbrev pub StoreLinesAreCommands : Type 0
-StoreLinesAreCommands = (bytes : List ℕ) (texts : List (List ℕ)) (items : List Item) → reading bytes ≡ spells texts items → (t map key v : List ℕ) → is_variable t ≡ true
-    → HasLines bytes (t ∷ codes "=" ∷ codes "ref" ∷ v ∷ []) (codes "put" ∷ map ∷ key ∷ t ∷ []) (codes "del" ∷ t ∷ [])
-    → (name : ℕ) × (dict at value : Operand) × StandTogether items (wset_commands name dict at value)
+StoreLinesAreCommands = (bytes : List ℕ) (texts : List (List ℕ)) (items : List Item) → reading bytes ≡ spells texts items → (temporary map key v : List ℕ) → is_variable temporary ≡ true → is_value map ≡ true
+    → HasLines bytes (temporary ∷ codes "=" ∷ codes "ref" ∷ v ∷ []) (codes "put" ∷ map ∷ key ∷ temporary ∷ []) (codes "del" ∷ temporary ∷ []) → HasStore texts items temporary map key v
