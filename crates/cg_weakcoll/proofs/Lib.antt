@@ -8,3 +8,4 @@ pub mod MapRuns
 pub mod MapLaws
 pub mod ReadLines
 pub mod LookLines
+pub mod StoreLines

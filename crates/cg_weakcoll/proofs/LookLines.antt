@@ -63,7 +63,7 @@ or_true : (b : Bool) → (b || true) ≡ true
 or_true true = refl
 or_true false = refl
 
-added : (texts : List (List ℕ)) (text : List ℕ) → IsAt (with_text texts text) text (place_of texts text)
+pub added : (texts : List (List ℕ)) (text : List ℕ) → IsAt (with_text texts text) text (place_of texts text)
 added texts text = by (has_text texts text) refl
   where
     by : (b : Bool) → has_text texts text ≡ b → IsAt (cond b texts (texts ++ text ∷ [])) text (place_of texts text)
@@ -73,7 +73,7 @@ added texts text = by (has_text texts text) refl
       place = new_push (bytes_eq text) texts text e (same_text text);
     }
 
-kept_with : (texts : List (List ℕ)) (text : List ℕ) (n : ℕ) (other : Option (List ℕ)) → IsAt texts text n → IsAt (with_text_if texts other) text n
+pub kept_with : (texts : List (List ℕ)) (text : List ℕ) (n : ℕ) (other : Option (List ℕ)) → IsAt texts text n → IsAt (with_text_if texts other) text n
 kept_with texts text n None h = h
 kept_with texts text n (Some other) h = by (has_text texts other)
   where
@@ -84,7 +84,7 @@ kept_with texts text n (Some other) h = by (has_text texts other)
       place = found_push (bytes_eq text) texts other h.there ∙ h.place;
     }
 
-kept_from : (form : Form) (words texts : List (List ℕ)) (place : ℕ) (text : List ℕ) (n : ℕ) → IsAt texts text n → IsAt (texts_from texts form place words) text n
+pub kept_from : (form : Form) (words texts : List (List ℕ)) (place : ℕ) (text : List ℕ) (n : ℕ) → IsAt texts text n → IsAt (texts_from texts form place words) text n
 kept_from form [] texts place text n h = h
 kept_from form (word ∷ words) texts place text n h = kept_from form words (with_text_if texts (text_in (sort_at form place) word)) (place + 1) text n (kept_with texts text n (text_in (sort_at form place) word) h)
 
@@ -123,7 +123,7 @@ name_of_variable x e =
       no_atom = no_some (named atoms x) (reserves (named openers x)) (reserves (named bindings x)) (not_true (is_reserved x) parts.1);
     }
 
-no_comment : (b : ℕ) → begins_name b ≡ true → (b == 35) ≡ false
+pub no_comment : (b : ℕ) → begins_name b ≡ true → (b == 35) ≡ false
 no_comment b e = grind (arith, nat_tests)
 
 no_quote : (b : ℕ) → begins_name b ≡ true → (b == 39) ≡ false

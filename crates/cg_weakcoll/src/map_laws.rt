@@ -1,5 +1,5 @@
 //! What weak references and weak value maps tell in every run. Each law is the contract of a function that does nothing.
-ghost use Rattle.cg_weakcoll.specs.MapLines.{LookLinesAreCommands};
+ghost use Rattle.cg_weakcoll.specs.MapLines.{LookLinesAreCommands, StoreLinesAreCommands};
 ghost use Rattle.cg_weakcoll.specs.Maps.{LooksAnswer, LooksFindReferents, WeakMapsAnswer, WeakReferencesKeepTheirReferents};
 
 /// In every run a weak reference refers to the object that it was made of exactly until the line that it is cleared, unless it
@@ -30,4 +30,10 @@ pub fn weak_maps_answer()
 /// one, and name what its words stand for.
 pub fn look_lines_are_commands()
     ensures { LookLinesAreCommands }
+{}
+
+/// In a script with the three lines that a `wset` becomes, its three commands stand next to each other, outside procedures or in
+/// one, and name what its words stand for.
+pub fn store_lines_are_commands()
+    ensures { StoreLinesAreCommands }
 {}
