@@ -1,8 +1,7 @@
 -- While no frame begins, commands only become fewer, and what has no commands binds no name. So names stay until the next command
 -- of what was on top is taken.
-use Rattle.std.proofs.Common.{◌≡◌, ◌≢◌, refl, sym, ◌∙◌, ap, subst, ℕ, suc, ◌+◌, ◌-◌, ◌<◌, ◌≤◌, Bool, true, false, inl, inr, ◌⊎◌, List, [], ◌∷◌, ◌++◌, length, Option, Some, None, arith}
-use Rattle.std.specs.Prelude.{not, ◌==◌, ◌&&◌, if◌then◌else◌, count_by, is_some, option_and_then, option_to_list, unwrap_or}
-use Rattle.std.proofs.lemmas.List.{append_assoc}
+use Rattle.std.proofs.Common.{◌≡◌, ◌≢◌, refl, sym, ap, subst, ℕ, suc, ◌+◌, ◌<◌, ◌≤◌, Bool, true, false, inl, inr, ◌⊎◌, List, [], ◌∷◌, ◌++◌, length, Option, Some, None, arith}
+use Rattle.std.specs.Prelude.{not, ◌==◌, ◌&&◌, if◌then◌else◌, count_by, option_and_then, option_to_list}
 use Rattle.cg_value.specs.declared.Val.{Val}
 use Rattle.cg_value.specs.declared.Entry.{Entry}
 use Rattle.cg_value.specs.declared.Place.TheVariants.{Untracked}
@@ -11,7 +10,7 @@ use Rattle.cg_script.specs.declared.Command.{Command}
 use Rattle.cg_graph.specs.Value.{last_entry}
 use Rattle.cg_graph.specs.Object.{Object, object_at, entries_of, is_in_map, is_tuple, with_place}
 use Rattle.cg_machine.specs.declared.event.Event.{Event}
-use Rattle.cg_machine.specs.declared.event.Event.TheVariants.{Alive, GcSaved}
+use Rattle.cg_machine.specs.declared.event.Event.TheVariants.{Alive}
 use Rattle.cg_machine.specs.declared.event.FrameSort.{FrameSort}
 use Rattle.cg_machine.specs.declared.event.FrameSort.TheVariants.{Del, Legacy, Callback, Call}
 use Rattle.cg_machine.specs.World.{World, Activity, TopLevel, Framed, Releasing, Dying, Collecting, ShuttingDown, Frame, DyingPhase, Finalizer, AfterFinalizer, Clearing, Calling, AfterCall, LegacyFinalizer, AfterLegacy, Detaching, Emptying, Collection, CollectPhase, Start, WeakClearing, WeakCalling, AfterCallback, AfterRelease, Finalizing, AfterFinalizing, Split, Turns, Turn, AfterTurn, Ending, Running, Ended, push, with_change, with_stack}
@@ -22,13 +21,12 @@ use Rattle.cg_machine.specs.Dying.{death_at, has_finalizers, finalizer_to_run, r
 use Rattle.cg_machine.specs.Collect.{calls_back, after_release, collection_at, empties, has_flag, looks_at, save_all, takes_turn, waits, PhaseStep, WeakClearingStep, FinalizingStep, TurnsStep}
 use Rattle.cg_machine.specs.Program.{legacy_of, profile_of}
 use Rattle.cg_machine.specs.Origins.{commands_on}
-use Rattle.cg_machine.specs.Effects.{Changes}
 use Rattle.cg_machine.specs.Commands.{new_collection}
 use Rattle.cg_machine.specs.Laws.{is_enter}
 use Rattle.cg_machine.specs.Run.{Step}
-use Rattle.cg_machine.proofs.Tally.{tally, tally-append}
+use Rattle.cg_machine.proofs.Tally.{tally}
 use Rattle.cg_machine.proofs.ShapeLaws.{changes_leave}
-use Rattle.cg_machine.proofs.Invariants.{AreLast, HasCommands, Takes, FromTop, FromFrame, CommandSteps, Steps, any_step, emptied, on}
+use Rattle.cg_machine.proofs.Invariants.{HasCommands, Takes, FromTop, FromFrame, Steps, any_step, emptied, on}
 use Rattle.cg_promises.proofs.KeptRuns.{starts_none}
 
 -- what an activity may still do of itself: its commands, and that it ends

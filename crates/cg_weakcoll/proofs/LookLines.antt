@@ -4,13 +4,12 @@ use Rattle.std.specs.Prelude.{is_some, slice_index}
 use Rattle.std.specs.List.{list_all, list_any, position_or_len}
 use Rattle.std.specs.Str.{bytes_eq}
 use Rattle.std.proofs.lemmas.Bool.Decides.{nat_tests}
-use Rattle.std.proofs.lemmas.List.Folds.{list_any-append, position_or_len_push}
+use Rattle.std.proofs.lemmas.List.Folds.{list_any-append}
 use Rattle.std.proofs.lemmas.Slice.Eq.{bytes_eq-Decides}
 use Rattle.cg_value.specs.Texts.{has_text, place_of, with_text}
 use Rattle.cg_script.specs.declared.item.Item.{Item}
 use Rattle.cg_script.specs.declared.command.Operand.{Operand}
 use Rattle.cg_script.specs.declared.command.Operand.TheVariants as operands
-use Rattle.cg_script.specs.declared.command.Command.{Command}
 use Rattle.cg_script.specs.declared.command.Command.TheVariants as commands
 use Rattle.cg_script.specs.declared.form.Form.{Form}
 use Rattle.cg_script.specs.declared.form.Form.TheVariants as forms
@@ -20,7 +19,7 @@ use Rattle.cg_script.specs.Pieces.{words_of, lines_of}
 use Rattle.cg_script.specs.Words.{atoms, begins_name, is_identifier, is_name_byte, is_quoted, is_reserved, is_variable, reserves, string_text, number_of}
 use Rattle.cg_script.specs.Tables.{named}
 use Rattle.cg_script.specs.Forms.{bindings, openers, row, sort_at}
-use Rattle.cg_script.specs.Meanings.{Meaning, passed, says, bad, all_fit, repeats_finalizer, formed, worded, is_passed}
+use Rattle.cg_script.specs.Meanings.{passed, says, bad, all_fit, repeats_finalizer, formed, worded, is_passed}
 use Rattle.cg_script.specs.Parts.{Known, parts_of, texts_from, text_in, with_text_if, value_text, operand_or}
 use Rattle.cg_script.specs.Commands.{said}
 use Rattle.cg_script.specs.Reading.{known_after, Lines, good, spoilt, lines_from, nothing_known, items_of, script_of, reading, spells}

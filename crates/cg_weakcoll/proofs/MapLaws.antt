@@ -1,7 +1,6 @@
 -- The laws on weak references and weak value maps.
-use Rattle.std.proofs.Common.{◌≡◌, refl, sym, ◌∙◌, ap, subst, ℕ, ◌+◌, ◌<◌, Bool, true, false, inl, inr, ◌⊎◌, List, [], ◌∷◌, ◌++◌, Option, Some, None, Ok, arith}
+use Rattle.std.proofs.Common.{◌≡◌, refl, sym, ◌∙◌, ap, subst, ℕ, true, false, inl, List, [], ◌∷◌, ◌++◌, Some, None, Ok, arith}
 use Rattle.std.specs.Prelude.{option_and_then, slice_get}
-use Rattle.cg_value.specs.declared.Val.{Val}
 use Rattle.cg_value.specs.declared.Val.TheVariants.{Ref}
 use Rattle.cg_value.specs.declared.Entry.{Entry}
 use Rattle.cg_value.specs.declared.KindCode.TheVariants.{Weak}
@@ -11,11 +10,10 @@ use Rattle.cg_script.specs.declared.Operand.TheVariants.{Name}
 use Rattle.cg_script.specs.declared.Command.TheVariants.{MakeRef}
 use Rattle.cg_graph.specs.Member.{Includes}
 use Rattle.cg_graph.specs.Value.{references_of_value, value_at}
-use Rattle.cg_graph.specs.Object.{Object, entries_of, first_place, serials}
+use Rattle.cg_graph.specs.Object.{Object, entries_of, first_place}
 use Rattle.cg_graph.proofs.Members.{either, Includes-append_cases, Includes-map}
-use Rattle.cg_machine.specs.declared.event.Event.{Event}
-use Rattle.cg_machine.specs.declared.event.Event.TheVariants.{Made, Cleared}
-use Rattle.cg_machine.specs.World.{World, Activity, Releasing, Dying, DyingPhase, Finalizer, AfterFinalizer, Clearing, Calling, AfterCall, LegacyFinalizer, AfterLegacy, Detaching, Emptying, opening, push, with_stack}
+use Rattle.cg_machine.specs.declared.event.Event.TheVariants.{Made}
+use Rattle.cg_machine.specs.World.{World, Releasing, DyingPhase, Finalizer, AfterFinalizer, Clearing, Calling, AfterCall, LegacyFinalizer, AfterLegacy, Detaching, Emptying, opening, push, with_stack}
 use Rattle.cg_machine.specs.Operands.{value_of}
 use Rattle.cg_machine.specs.Effects.{bound, given_up_by, with_new}
 use Rattle.cg_machine.specs.Commands.{DoesEffect}
@@ -27,11 +25,11 @@ use Rattle.cg_machine.proofs.Serials.{Rises}
 use Rattle.cg_machine.proofs.Unheld.{Calm, Stands}
 use Rattle.cg_machine.proofs.RunsCalm.{death_stands}
 use Rattle.cg_promises.proofs.ToldRuns.{Fit, opening_fit, run_back, run_fit, run_front, step_fit}
-use Rattle.cg_weakcoll.specs.Maps.{Answers, Finds, IsUnder, Look, Looks, LooksAnswer, LooksFindReferents, MakesWeak, WeakMapsAnswer, WeakReferencesKeepTheirReferents, before_second, before_third, referent_value, since_making, steps_before_third, steps_of}
+use Rattle.cg_weakcoll.specs.Maps.{IsUnder, Look, Looks, LooksAnswer, LooksFindReferents, MakesWeak, WeakMapsAnswer, WeakReferencesKeepTheirReferents, before_second, before_third, referent_value, since_making, steps_before_third, steps_of}
 use Rattle.cg_weakcoll.proofs.Wanes.{IsFading, is_frameless}
 use Rattle.cg_weakcoll.proofs.WanesRuns.{Keeps, keeps_refers, run_keeps}
 use Rattle.cg_weakcoll.proofs.Taking.{Done, Refs, changes_so, ref_refs, taken_done}
-use Rattle.cg_weakcoll.proofs.MapRuns.{Found, Parts, found, parts}
+use Rattle.cg_weakcoll.proofs.MapRuns.{Found, found, parts}
 
 -- a weak reference that was just made
 new_keeps : (u : World) (name object : ℕ) (entries : List Entry) (given_up : List ℕ) → Rises 1 u.next_serial u.objects → Keeps [] u.next_serial object (push (Releasing given_up) (bound (with_new u Weak None entries (Some object)) name (Some (Ref u.next_serial))))

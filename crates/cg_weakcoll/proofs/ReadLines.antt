@@ -1,26 +1,24 @@
 -- What three lines of a script say, one after the other, and where their commands stand.
-use Rattle.std.proofs.Common.{◌≡◌, ℕ, ◌+◌, List, [], ◌∷◌, ◌++◌, length, map, Bool, true, false, not, cond, ◌&&◌, ◌||◌, ◌==◌, Option, Some, None, refl, sym, ap, subst, ◌∙◌, arith, inl, inr, ◌⊎◌}
+use Rattle.std.proofs.Common.{◌≡◌, ℕ, ◌+◌, List, [], ◌∷◌, ◌++◌, length, map, Bool, true, false, not, ◌||◌, ◌==◌, Option, Some, None, refl, sym, ap, subst, ◌∙◌, inl, inr, ◌⊎◌}
 use Rattle.std.specs.Prelude.{if◌then◌else◌, nat_lt}
 use Rattle.std.specs.List.{list_all}
 use Rattle.cg_script.specs.declared.item.Item.{Item}
 use Rattle.cg_script.specs.declared.item.Item.TheVariants as variants
-use Rattle.cg_script.specs.declared.item.Proc.{Proc}
 use Rattle.cg_script.specs.declared.command.Command.{Command}
 use Rattle.cg_script.specs.declared.form.Form.{Form}
 use Rattle.cg_script.specs.declared.part.Said.{Said}
 use Rattle.cg_script.specs.declared.part.Said.TheVariants.{Declares, Begins, Ends, Does}
-use Rattle.cg_script.specs.Items.{commands_of, procedures}
+use Rattle.cg_script.specs.Items.{commands_of}
 use Rattle.cg_script.specs.Pieces.{words_of}
 use Rattle.cg_script.specs.Words.{is_printable}
 use Rattle.cg_script.specs.Meanings.{Meaning, passed, says, bad, worded, is_passed, meaning}
 use Rattle.cg_script.specs.Parts.{Known, parts_of}
 use Rattle.cg_script.specs.Commands.{said}
-use Rattle.cg_script.specs.Reading.{fault_in, says_or_bad, checked, meant, known_after, inside_after, Lines, good, spoilt, also_said, with_later, lines_from, body_of, items_of}
+use Rattle.cg_script.specs.Reading.{fault_in, says_or_bad, checked, meant, known_after, Lines, good, spoilt, also_said, with_later, lines_from, body_of, items_of}
 use Rattle.cg_script.specs.Views.{is_placed, inside_behind}
 use Rattle.cg_script.proofs.Says.{not_bad, not_passed}
 use Rattle.cg_script.proofs.GoodLines.{faultless}
 use Rattle.cg_script.proofs.Grouped.{placed, inside_said}
-use Rattle.cg_graph.specs.Member.{Includes}
 use Rattle.cg_weakcoll.specs.MapLines.{StandTogether, Outside, InProcedure}
 
 -- what the first of some good lines means, and that the others are good behind it
@@ -153,7 +151,6 @@ body_all [] later = refl
 body_all (c ∷ commands) later = ap (λ l. c ∷ l) (body_all commands later)
 
 module _ (commands : List Command) (later : List Said) where
-
   more_said : (s : Said) (inside : Bool) (saids : List Said) → is_placed s inside ≡ true → Stands (inside_behind s inside) saids commands → Stands inside (s ∷ saids) commands
   more_said (Does c) true saids p (InOpen i front back e) = InOpen refl (c ∷ front) back (ap (λ l. c ∷ l) e)
   more_said (Does c) false saids p (InOpen i front back e) = absurd (let no : false ≡ true = i in cc)

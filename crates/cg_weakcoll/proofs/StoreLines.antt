@@ -1,5 +1,5 @@
 -- The lines of a `wset`, read one after the other.
-use Rattle.std.proofs.Common.{◌≡◌, ℕ, ◌+◌, List, [], ◌∷◌, ◌++◌, Bool, true, false, refl, sym, ap, subst, ◌∙◌, cond, not, length, ◌==◌, codes}
+use Rattle.std.proofs.Common.{◌≡◌, ℕ, ◌+◌, List, [], ◌∷◌, ◌++◌, Bool, false, refl, sym, ap, subst, ◌∙◌, cond, not, length, ◌==◌, codes}
 use Rattle.std.specs.Prelude.{slice_index, Option}
 use Rattle.std.specs.Str.{bytes_eq}
 use Rattle.cg_value.specs.Texts.{place_of, with_text}
@@ -12,11 +12,10 @@ use Rattle.cg_script.specs.declared.form.Form.TheVariants as forms
 use Rattle.cg_script.specs.declared.form.Sort.TheVariants.{Value, Variable}
 use Rattle.cg_script.specs.declared.part.Said.{Said}
 use Rattle.cg_script.specs.declared.part.Said.TheVariants.{Does}
-use Rattle.cg_script.specs.Pieces.{lines_of}
-use Rattle.cg_script.specs.Words.{atoms, is_value, is_variable}
+use Rattle.cg_script.specs.Words.{atoms}
 use Rattle.cg_script.specs.Tables.{named}
 use Rattle.cg_script.specs.Forms.{bindings, openers}
-use Rattle.cg_script.specs.Meanings.{Meaning, bad, binding_form, fits, formed, formed_if, worded, is_passed}
+use Rattle.cg_script.specs.Meanings.{Meaning, bad, binding_form, fits, formed, formed_if, worded}
 use Rattle.cg_script.specs.Parts.{Known, parts_of, with_text_if, value_text, operand_or}
 use Rattle.cg_script.specs.Commands.{said}
 use Rattle.cg_script.specs.Reading.{known_after, good, lines_from, nothing_known, items_of}

@@ -1,5 +1,5 @@
 -- What a step does that takes a command and is not refused: `ref`, `get` and `deref`.
-use Rattle.std.proofs.Common.{◌≡◌, refl, sym, ◌∙◌, ap, subst, ℕ, ◌+◌, Bool, true, false, inl, inr, ◌⊎◌, List, [], ◌∷◌, ◌++◌, Option, Some, None, Result, Ok, Err}
+use Rattle.std.proofs.Common.{◌≡◌, refl, sym, ◌∙◌, ap, subst, ℕ, Bool, true, false, inl, inr, List, [], ◌∷◌, Option, Some, None, Result, Ok, Err}
 use Rattle.std.specs.Prelude.{if◌then◌else◌, ok_or, option_map, unwrap_or}
 use Rattle.cg_value.specs.declared.Val.{Val}
 use Rattle.cg_value.specs.declared.Val.TheVariants.{None as Nothing, Int, Str, Ref}
@@ -17,10 +17,10 @@ use Rattle.cg_graph.specs.Object.{Object, entries_of, object_at}
 use Rattle.cg_machine.specs.declared.event.Event.{Event}
 use Rattle.cg_machine.specs.declared.event.Event.TheVariants.{Made, Refused}
 use Rattle.cg_machine.specs.World.{World, Activity, TopLevel, Framed, Releasing, Dying, Collecting, ShuttingDown, Frame, push, with_stack}
-use Rattle.cg_machine.specs.Operands.{is_weak, object, object_of, tested, value, value_of}
+use Rattle.cg_machine.specs.Operands.{is_weak, object, object_of, tested, value_of}
 use Rattle.cg_machine.specs.Origins.{commands_on}
 use Rattle.cg_machine.specs.Refusals.{◌>>=◌, no_memory}
-use Rattle.cg_machine.specs.Effects.{Effect, Changes, Calls, Collects, Explains, Quits, bound, given_up_by, makes, with_new}
+use Rattle.cg_machine.specs.Effects.{Effect, Changes, bound, given_up_by, with_new}
 use Rattle.cg_machine.specs.Commands.{effect, refused, DoesEffect}
 use Rattle.cg_machine.specs.Frame.{Yields}
 use Rattle.cg_machine.specs.Due.{due}

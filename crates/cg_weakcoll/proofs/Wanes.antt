@@ -1,6 +1,6 @@
 -- What a step does to weak references: a referent is lost by a line, or as the weak reference itself begins to die, and does not
 -- come back.
-use Rattle.std.proofs.Common.{◌≡◌, refl, sym, ◌∙◌, ap, subst, ℕ, ◌-◌, Bool, true, false, inl, inr, ◌⊎◌, List, [], ◌∷◌, ◌++◌, map, Option, Some, None}
+use Rattle.std.proofs.Common.{◌≡◌, refl, sym, ◌∙◌, ap, subst, ℕ, ◌-◌, Bool, true, false, inl, inr, ◌⊎◌, List, [], ◌∷◌, ◌++◌, map, None}
 use Rattle.std.specs.Prelude.{◌==◌, not, if◌then◌else◌}
 use Rattle.std.proofs.lemmas.Bool.{eqb-true, eq-eqb}
 use Rattle.cg_value.specs.declared.Entry.{Entry}
@@ -77,12 +77,15 @@ same_waned lost objects y m = (y, m, record { serial = refl; code = refl; refere
 pub waned_trans : (lost : ℕ → Type 0) (before now after : List Object) → Waned lost before now → Waned lost now after → Waned lost before after
 waned_trans lost before now after h k z m =
     let y = k z m in
-    let x = h y.0 y.1 in
-    (x.0, x.1, record {
-      serial = y.2.serial ∙ x.2.serial;
-      code = y.2.code ∙ x.2.code;
-      referent = either y.2.referent (λ e. either x.2.referent (λ f. inl (e ∙ f)) (λ f. inr (e ∙ f.0, subst lost (sym y.2.serial) f.1))) (λ e. inr e);
-    })
+    let x = h y.0 y.1 in (
+      x.0,
+      x.1,
+      record {
+        serial = y.2.serial ∙ x.2.serial;
+        code = y.2.code ∙ x.2.code;
+        referent = either y.2.referent (λ e. either x.2.referent (λ f. inl (e ∙ f)) (λ f. inr (e ∙ f.0, subst lost (sym y.2.serial) f.1))) (λ e. inr e);
+      },
+    )
 
 pub map_waned : (lost : ℕ → Type 0) (f : Object → Object) → ((x : Object) → Wanes lost x (f x)) → (objects : List Object) → Waned lost objects (map f objects)
 map_waned lost f h objects y m = let x = Includes-map_cases f objects y m in (x.0, x.1, subst (Wanes lost x.0) x.2 (h x.0))

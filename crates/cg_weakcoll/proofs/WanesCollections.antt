@@ -1,5 +1,5 @@
 -- What a collection does to weak references, phase by phase.
-use Rattle.std.proofs.Common.{◌≡◌, refl, sym, subst, ℕ, ◌+◌, Bool, true, false, inl, inr, List, [], ◌∷◌, ◌++◌, map, length, Option, Some, None}
+use Rattle.std.proofs.Common.{◌≡◌, refl, subst, ℕ, ◌+◌, Bool, true, false, inl, inr, List, [], ◌∷◌, ◌++◌, map, length, Option, Some, None}
 use Rattle.std.specs.Prelude.{◌==◌, if◌then◌else◌, option_and_then, unwrap_or}
 use Rattle.cg_value.specs.declared.Entry.{Entry}
 use Rattle.cg_value.specs.declared.Place.TheVariants.{Cand, Gen, Legacy, Pend, Seen}
@@ -19,7 +19,7 @@ use Rattle.cg_machine.specs.Dying.{finalizer_to_run}
 use Rattle.cg_machine.specs.Effects.{gens_line}
 use Rattle.cg_machine.specs.Collect.{all_saved, calls_back, after_release, collectable, collection_at, empties, get_older, has_flag, lines_if, looks_at, loses_at_split, merged, merged_place, older, replaced_place, save_all, saved, sorted, start_world, stats, takes_turn, uncollectable, waits, EndStep, FinalizingStep, PhaseStep, SplitStep, StartStep, TurnsStep, WeakClearingStep}
 use Rattle.cg_machine.specs.Program.{profile_of}
-use Rattle.cg_weakcoll.proofs.Wanes.{ClearNone, IsLost, IsOther, Waned, Never, Goes, HasNoReferent, wanes_for, waned_for, waned_none, same_waned, waned_trans, map_waned, if_waned, placed_waned, place_waned, entries_waned, lost_waned, lost_none, all_lose_waned, all_lose_none, none_cleared, other_line, others_more, others_both, others_each, steady, clears, starts_going, yields_going, either_going}
+use Rattle.cg_weakcoll.proofs.Wanes.{ClearNone, IsLost, Waned, Never, Goes, wanes_for, waned_for, waned_none, same_waned, waned_trans, map_waned, if_waned, placed_waned, place_waned, entries_waned, lost_waned, lost_none, all_lose_waned, all_lose_none, none_cleared, other_line, others_more, others_both, others_each, steady, clears, starts_going, yields_going, either_going}
 
 saved_waned : (o : ℕ) (objects : List Object) → Waned Never objects (saved o objects)
 saved_waned o objects = if_waned Never (λ x. with_entries (x.entries ++ item (Ref o) ∷ []) x) (λ x. x.serial == 1) (λ x e. record { serial = refl; code = refl; referent = inl refl }) objects

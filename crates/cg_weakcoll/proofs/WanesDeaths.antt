@@ -1,5 +1,5 @@
 -- What a release, a death and the end of a frame do to weak references.
-use Rattle.std.proofs.Common.{◌≡◌, refl, sym, ◌∙◌, ap, subst, ℕ, ◌-◌, Bool, true, false, not, inl, inr, ◌⊎◌, List, [], ◌∷◌, ◌++◌, Option, Some, None}
+use Rattle.std.proofs.Common.{◌≡◌, refl, sym, ap, subst, ℕ, ◌-◌, Bool, true, false, not, inl, inr, ◌⊎◌, List, [], ◌∷◌, ◌++◌, Option, Some, None}
 use Rattle.std.specs.Prelude.{◌==◌, ◌&&◌, if◌then◌else◌, is_some, slice_get, option_and_then, option_to_list, unwrap_or}
 use Rattle.std.proofs.lemmas.Bool.{eqb-true}
 use Rattle.cg_value.specs.declared.Entry.{Entry}
@@ -11,7 +11,7 @@ use Rattle.cg_graph.specs.Value.{entry_references, last_entry, without_last}
 use Rattle.cg_graph.specs.Object.{Object, change, object_at, entries_of, marked, serials, with_entries, with_place, with_referent}
 use Rattle.cg_graph.proofs.Members.{Includes-append_right}
 use Rattle.cg_machine.specs.declared.event.Event.{Event}
-use Rattle.cg_machine.specs.declared.event.Event.TheVariants.{Alive, BudgetSpent, Cleared, Enter, Free, Leave}
+use Rattle.cg_machine.specs.declared.event.Event.TheVariants.{Alive, BudgetSpent, Enter, Free, Leave}
 use Rattle.cg_machine.specs.declared.event.FrameSort.{FrameSort}
 use Rattle.cg_machine.specs.declared.event.FrameSort.TheVariants.{Del, Legacy, Callback, Call}
 use Rattle.cg_machine.specs.declared.event.FrameSpec.{FrameSpec}
@@ -25,7 +25,7 @@ use Rattle.cg_machine.specs.Run.{Step, StepOf}
 use Rattle.cg_machine.proofs.Lookups.{found_at}
 use Rattle.cg_machine.proofs.LeftRuns.{LeavesUnder}
 use Rattle.cg_promises.proofs.Told.{without_gone}
-use Rattle.cg_weakcoll.proofs.Wanes.{IsFading, is_frameless, IsLost, Waned, Wanes, Never, Goes, wanes_for, same_waned, if_waned, place_waned, entries_waned, without_waned, lost_waned, lost_none, other_line, none_cleared, steady, clears, starts_going, either_going}
+use Rattle.cg_weakcoll.proofs.Wanes.{IsFading, is_frameless, IsLost, Waned, Never, Goes, wanes_for, same_waned, if_waned, place_waned, entries_waned, without_waned, lost_waned, lost_none, other_line, none_cleared, steady, clears, starts_going, either_going}
 
 -- a frame ends
 pub frame_end_going : (f : Frame) (u : World) → (let s : Transition = frame_end f u in Goes u.objects u.next_serial s.0 s.1)

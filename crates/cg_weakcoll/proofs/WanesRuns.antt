@@ -8,18 +8,16 @@ use Rattle.cg_value.specs.declared.Entry.{Entry}
 use Rattle.cg_value.specs.declared.Place.{Place}
 use Rattle.cg_value.specs.declared.Place.TheVariants.{Gen}
 use Rattle.cg_value.specs.declared.KindCode.{KindCode}
-use Rattle.cg_value.specs.declared.KindCode.TheVariants.{Weak}
 use Rattle.cg_script.specs.declared.Script.{Script}
 use Rattle.cg_script.specs.declared.Command.{Command}
 use Rattle.cg_graph.specs.Member.{Includes}
 use Rattle.cg_graph.specs.Value.{put}
-use Rattle.cg_graph.specs.Object.{Object, change, first_place, is_tracked, serials, with_entries, with_place}
+use Rattle.cg_graph.specs.Object.{Object, first_place, is_tracked, serials, with_entries, with_place}
 use Rattle.cg_graph.proofs.Members.{either, Includes-append_cases, Includes-append_left, Includes-append_right, Includes-map}
 use Rattle.cg_machine.specs.declared.event.Event.{Event}
 use Rattle.cg_machine.specs.declared.event.Event.TheVariants.{Made, Value, RefCount, Tracked as TrackedLine, Finalized as FinalizedLine, Count as CountLine, Gens as GensLine, Referent, Referrer, Held, Via, Listed, Unreachable, Cleared, Collected, End, Left, Refused}
 use Rattle.cg_machine.specs.declared.event.FrameSort.TheVariants.{Call as CallFrame}
 use Rattle.cg_machine.specs.World.{World, Activity, TopLevel, ShuttingDown, Releasing, Numbers, Ended, push, with_change, with_stack}
-use Rattle.cg_machine.specs.Holdings.{is_dying}
 use Rattle.cg_machine.specs.Operands.{is_dict}
 use Rattle.cg_machine.specs.Frame.{procedure_of}
 use Rattle.cg_machine.specs.Effects.{Effect, Changes, Calls, Collects, Quits, Explains, bound, frozen, given_up_by, live, may_track, replaced, tracked_by, unfrozen, with_new}

@@ -1,7 +1,7 @@
 -- What weak value maps answer, in every run. The lines `wset` and `wget` become three commands each: here is what these do.
 -- (Ours, after CPython's `weakref.WeakValueDictionary`. There an entry goes with its value; here the entry of a dead value
 -- stays, and `wget` answers none.)
-use Rattle.std.specs.Prelude.{◌≡◌, ℕ, Bool, false, List, [], ◌∷◌, ◌++◌, Option, Some, None, count_by}
+use Rattle.std.specs.Prelude.{◌≡◌, ℕ, false, List, [], ◌∷◌, ◌++◌, Option, Some, None, count_by}
 use Rattle.cg_value.specs.declared.Val.{Val}
 use Rattle.cg_value.specs.declared.Val.TheVariants.{None as Nothing, Ref}
 use Rattle.cg_value.specs.declared.KindCode.TheVariants.{Weak}
