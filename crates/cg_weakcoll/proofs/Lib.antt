@@ -1,3 +1,4 @@
+mod Fed
 pub mod Wanes
 pub mod WanesDeaths
 pub mod WanesCollections
@@ -9,3 +10,4 @@ pub mod MapLaws
 pub mod ReadLines
 pub mod LookLines
 pub mod StoreLines
+pub mod ExpandedLines

@@ -1,2 +1,4 @@
+pub mod Expansion
+pub mod Words
 pub mod Maps
 pub mod MapLines

@@ -1,17 +1,19 @@
 -- What the lines that a `wget` and a `wset` become are once they are read: their commands, next to each other. (Ours.)
-use Rattle.std.specs.Prelude.{◌≡◌, ℕ, true, List, [], ◌∷◌, ◌++◌, Some, codes}
+use Rattle.std.specs.Prelude.{◌≡◌, ℕ, ◌+◌, true, List, [], ◌∷◌, ◌++◌, None, Some, codes, length}
 use Rattle.cg_script.specs.declared.item.Item.{Item}
 use Rattle.cg_script.specs.declared.item.Proc.{Proc}
 use Rattle.cg_script.specs.declared.command.Operand.{Operand}
 use Rattle.cg_script.specs.declared.command.Operand.TheVariants as operands
 use Rattle.cg_script.specs.declared.command.Command.{Command}
 use Rattle.cg_script.specs.Items.{commands_of, procedures}
-use Rattle.cg_script.specs.Pieces.{lines_of, words_of}
+use Rattle.cg_script.specs.Pieces.{lines_of, words_of, word_at}
 use Rattle.cg_script.specs.Tables.{named}
 use Rattle.cg_script.specs.Words.{atoms, is_value, is_variable, number_of, string_text}
 use Rattle.cg_script.specs.Canonical.{text_of}
 use Rattle.cg_script.specs.Reading.{reading, spells}
 use Rattle.cg_graph.specs.Member.{Includes}
+use Rattle.cg_weakcoll.specs.declared.form.Form.TheVariants as forms
+use Rattle.cg_weakcoll.specs.Expansion.{expansion, first_bad, form_of, weak_name}
 use Rattle.cg_weakcoll.specs.Maps.{wget_commands, wset_commands}
 
 -- commands stand next to each other outside procedures, or in the body of one
@@ -69,3 +71,15 @@ pub record HasStore (texts : List (List ℕ)) (items : List Item) (temporary map
 abbrev pub StoreLinesAreCommands : Type 0
 StoreLinesAreCommands = (bytes : List ℕ) (texts : List (List ℕ)) (items : List Item) → reading bytes ≡ spells texts items → (temporary map key v : List ℕ) → is_variable temporary ≡ true → is_value map ≡ true
     → HasLines bytes (temporary ∷ codes "=" ∷ codes "ref" ∷ v ∷ []) (codes "put" ∷ map ∷ key ∷ temporary ∷ []) (codes "del" ∷ temporary ∷ []) → HasStore texts items temporary map key v
+
+-- In the script that an expansion spells each `wget` line has its commands.
+abbrev pub ExpandedLooksAreCommands : Type 0
+ExpandedLooksAreCommands = (bytes : List ℕ) → first_bad bytes ≡ None → (texts : List (List ℕ)) (items : List Item) → reading (expansion bytes) ≡ spells texts items
+    → (front : List (List ℕ)) (line : List ℕ) (back : List (List ℕ)) → lines_of bytes ≡ front ++ line ∷ back → form_of (words_of line) ≡ Some forms.Get
+    → HasLook texts items (word_at (words_of line) 0) (word_at (words_of line) 3) (word_at (words_of line) 4)
+
+-- Each `wset` line has its own, and the name that its number brings.
+abbrev pub ExpandedStoresAreCommands : Type 0
+ExpandedStoresAreCommands = (bytes : List ℕ) → first_bad bytes ≡ None → (texts : List (List ℕ)) (items : List Item) → reading (expansion bytes) ≡ spells texts items
+    → (front : List (List ℕ)) (line : List ℕ) (back : List (List ℕ)) → lines_of bytes ≡ front ++ line ∷ back → form_of (words_of line) ≡ Some forms.Set
+    → HasStore texts items (weak_name (1 + length front)) (word_at (words_of line) 1) (word_at (words_of line) 2) (word_at (words_of line) 3)

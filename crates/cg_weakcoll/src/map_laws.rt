@@ -1,5 +1,5 @@
 //! What weak references and weak value maps tell in every run. Each law is the contract of a function that does nothing.
-ghost use Rattle.cg_weakcoll.specs.MapLines.{LookLinesAreCommands, StoreLinesAreCommands};
+ghost use Rattle.cg_weakcoll.specs.MapLines.{ExpandedLooksAreCommands, LookLinesAreCommands, StoreLinesAreCommands};
 ghost use Rattle.cg_weakcoll.specs.Maps.{LooksAnswer, LooksFindReferents, WeakMapsAnswer, WeakReferencesKeepTheirReferents};
 
 /// In every run a weak reference refers to the object that it was made of exactly until the line that it is cleared, unless it
@@ -36,4 +36,10 @@ pub fn look_lines_are_commands()
 /// one, and name what its words stand for.
 pub fn store_lines_are_commands()
     ensures { StoreLinesAreCommands }
+{}
+
+/// In the script that an expansion spells the three commands of each `wget` line of the extended script stand next to each other,
+/// outside procedures or in one, and name what the words of the line stand for.
+pub fn expanded_looks_are_commands()
+    ensures { ExpandedLooksAreCommands }
 {}

@@ -26,6 +26,10 @@ pub enum Job {
     Run { budget: Option<u32> },
     /// To run the generated script of so many blocks, and write the summary of its text.
     Generate { blocks: u32 },
+    /// To write the expansion of the extended script that the source gives.
+    Expand,
+    /// To run the script that the source gives, and write the records of its collections.
+    Record,
 }
 
 fn is_digit_byte(byte: u8) -> bool
@@ -96,7 +100,9 @@ fn command_line<'a>(alloc: Global) -> Result<Command<'a>, AllocError>
         .disable_version_flag(true)
         .subcommand_required(true)
         .subcommand(run)?
-        .subcommand(generate)
+        .subcommand(generate)?
+        .subcommand(Command::new(alloc, "expand"))?
+        .subcommand(Command::new(alloc, "record"))
 }
 
 /// A run, by the text of its option.
@@ -133,12 +139,15 @@ fn job_in_matches(matches: &ArgMatches<'_>) -> Option<Job>
     match name {
         "run" => run_job_by(found.get_str("budget")),
         "generate" => generate_job_by(found.get_str("blocks")),
+        "expand" => Some(Job::Expand),
+        "record" => Some(Job::Record),
         _ => None,
     }
 }
 
 /// What the words ask for: `run` for a run, `run --budget N` for a run with a budget of N frames, one to six digits from 0 to
-/// 100,000, and `generate N` for the generated script of N blocks, one to six digits from 1 to 10,000.
+/// 100,000, `generate N` for the generated script of N blocks, one to six digits from 1 to 10,000, `expand` for the expansion of
+/// an extended script, and `record` for the records of a run.
 ///
 /// The words are read by `clap`. It answers `None` where clap refuses them, or where the text taken for N has not this form
 /// and range, and `AllocError` for want of memory alone. (Ours.)
