@@ -241,7 +241,7 @@ expansion_lines bytes e = lines_again (expanded_lines (lines_of bytes)) (both_un
     (all_written (lines_of bytes) false 1 (lines_unfed bytes) e) (calls_unfed (finalize_numbers_from 1 (lines_of bytes)) (numbers_low (lines_of bytes) false 1 e)))
 
 -- where a line stands
-written-append : (front lines : List (List ℕ)) (l : ℕ) → written_from l (front ++ lines) ≡ written_from l front ++ written_from (l + length front) lines
+pub written-append : (front lines : List (List ℕ)) (l : ℕ) → written_from l (front ++ lines) ≡ written_from l front ++ written_from (l + length front) lines
 written-append [] lines l = let same : l ≡ l + 0 = omega arith in ap (λ n. written_from n lines) same
 written-append (line ∷ front) lines l =
     let same : l + 1 + length front ≡ l + suc (length front) = omega arith in

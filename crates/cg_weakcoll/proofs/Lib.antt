@@ -11,3 +11,5 @@ pub mod ReadLines
 pub mod LookLines
 pub mod StoreLines
 pub mod ExpandedLines
+pub mod ExpandedStores
+pub mod WorkedCache

@@ -2,3 +2,4 @@ pub mod Expansion
 pub mod Words
 pub mod Maps
 pub mod MapLines
+pub mod Worked

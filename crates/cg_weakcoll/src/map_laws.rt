@@ -1,5 +1,5 @@
 //! What weak references and weak value maps tell in every run. Each law is the contract of a function that does nothing.
-ghost use Rattle.cg_weakcoll.specs.MapLines.{ExpandedLooksAreCommands, LookLinesAreCommands, StoreLinesAreCommands};
+ghost use Rattle.cg_weakcoll.specs.MapLines.{ExpandedLooksAreCommands, ExpandedStoresAreCommands, LookLinesAreCommands, StoreLinesAreCommands};
 ghost use Rattle.cg_weakcoll.specs.Maps.{LooksAnswer, LooksFindReferents, WeakMapsAnswer, WeakReferencesKeepTheirReferents};
 
 /// In every run a weak reference refers to the object that it was made of exactly until the line that it is cleared, unless it
@@ -42,4 +42,9 @@ pub fn store_lines_are_commands()
 /// outside procedures or in one, and name what the words of the line stand for.
 pub fn expanded_looks_are_commands()
     ensures { ExpandedLooksAreCommands }
+{}
+
+/// So do those of each `wset` line, with the name that its number brings.
+pub fn expanded_stores_are_commands()
+    ensures { ExpandedStoresAreCommands }
 {}
