@@ -90,6 +90,7 @@ fn finish(draft: Draft) -> Result<Vec<u8>, ScriptFault>
 /// of its words is wrong, 4 where a word has not the form that its place asks, or a look-up names its own variable, 7 where a
 /// `finalize` stands inside a procedure. Of any line: 4 where a word begins with `wv_`, `del=wv_` or `legacy=wv_`. `OutOfMemory`
 /// may come for any bytes. (Ours.)
+#[tactic(auto, unfolding(crate::specs::Expansion::first_bad))]
 pub fn expand(alloc: Global, bytes: &[u8]) -> Result<Vec<u8>, ScriptFault>
     requires few { length bytes.now < 4294967295 }
     ensures ok { IfOk result (λ text. text.items ≡ expansion bytes.now) }
@@ -101,6 +102,8 @@ pub fn expand(alloc: Global, bytes: &[u8]) -> Result<Vec<u8>, ScriptFault>
         finalizes: Vec::new(alloc),
         inside: false,
     };
-    take_lines(&mut draft, alloc, bytes)?;
-    finish(draft)
+    match take_lines(&mut draft, alloc, bytes) {
+        Ok(()) => finish(draft),
+        Err(fault) => Err(fault),
+    }
 }

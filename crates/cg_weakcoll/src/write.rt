@@ -67,37 +67,76 @@ fn write_lines(out: &mut Vec<u8>, lines: &[&[Word<'_>]]) -> Result<(), AllocErro
 fn write_wmap(out: &mut Vec<u8>, x: &[u8]) -> Result<(), AllocError>
     ensures { OnOk result (out.new.items ≡ out.old.items ++ with_feeds (map joined (wmap_lines x.now))) }
 {
-    write_lines(out, &[&[Word::Text(x), Word::Text(b"="), Word::Text(b"dict")]])
+    write_lines(
+        out,
+        &[&[Word::Text(x), Word::Text(b"="), Word::Text(b"dict")]],
+    )
 }
 
 /// Writes `wset M k v`.
-fn write_wset<'a>(out: &mut Vec<u8>, number: u32, dict: &'a [u8], key: &'a [u8], value: &'a [u8]) -> Result<(), AllocError>
+fn write_wset<'a>(
+    out: &mut Vec<u8>,
+    number: u32,
+    dict: &'a [u8],
+    key: &'a [u8],
+    value: &'a [u8],
+) -> Result<(), AllocError>
     ensures { OnOk result (out.new.items ≡ out.old.items ++ with_feeds (map joined (wset_lines number dict.now key.now value.now))) }
 {
     let weak = Word::Own(b"wv_", number);
-    write_lines(out, &[
-        &[weak, Word::Text(b"="), Word::Text(b"ref"), Word::Text(value)],
-        &[Word::Text(b"put"), Word::Text(dict), Word::Text(key), weak],
-        &[Word::Text(b"del"), weak],
-    ])
+    write_lines(
+        out,
+        &[
+            &[
+                weak,
+                Word::Text(b"="),
+                Word::Text(b"ref"),
+                Word::Text(value),
+            ],
+            &[Word::Text(b"put"), Word::Text(dict), Word::Text(key), weak],
+            &[Word::Text(b"del"), weak],
+        ],
+    )
 }
 
 /// Writes `x = wget M k`.
-fn write_wget<'a>(out: &mut Vec<u8>, x: &'a [u8], dict: &'a [u8], key: &'a [u8]) -> Result<(), AllocError>
+fn write_wget<'a>(
+    out: &mut Vec<u8>,
+    x: &'a [u8],
+    dict: &'a [u8],
+    key: &'a [u8],
+) -> Result<(), AllocError>
     ensures { OnOk result (out.new.items ≡ out.old.items ++ with_feeds (map joined (wget_lines x.now dict.now key.now))) }
 {
-    write_lines(out, &[
-        &[Word::Text(x), Word::Text(b"="), Word::Text(b"none")],
-        &[Word::Text(x), Word::Text(b"="), Word::Text(b"get"), Word::Text(dict), Word::Text(key)],
-        &[Word::Text(x), Word::Text(b"="), Word::Text(b"deref"), Word::Text(x)],
-    ])
+    write_lines(
+        out,
+        &[
+            &[Word::Text(x), Word::Text(b"="), Word::Text(b"none")],
+            &[
+                Word::Text(x),
+                Word::Text(b"="),
+                Word::Text(b"get"),
+                Word::Text(dict),
+                Word::Text(key),
+            ],
+            &[
+                Word::Text(x),
+                Word::Text(b"="),
+                Word::Text(b"deref"),
+                Word::Text(x),
+            ],
+        ],
+    )
 }
 
 /// Writes `wdrop M k`.
 fn write_wdrop<'a>(out: &mut Vec<u8>, dict: &'a [u8], key: &'a [u8]) -> Result<(), AllocError>
     ensures { OnOk result (out.new.items ≡ out.old.items ++ with_feeds (map joined (wdrop_lines dict.now key.now))) }
 {
-    write_lines(out, &[&[Word::Text(b"drop"), Word::Text(dict), Word::Text(key)]])
+    write_lines(
+        out,
+        &[&[Word::Text(b"drop"), Word::Text(dict), Word::Text(key)]],
+    )
 }
 
 /// Writes the procedure of a `finalize` line.
@@ -106,31 +145,58 @@ fn write_exit(out: &mut Vec<u8>, number: u32) -> Result<(), AllocError>
 {
     let object = Word::Own(b"wv_o_", number);
     let watch = Word::Own(b"wv_w_", number);
-    write_lines(out, &[
-        &[Word::Text(b"def"), Word::Own(b"wv_p_", number)],
-        &[object, Word::Text(b"="), Word::Text(b"deref"), watch],
-        &[Word::Text(b"quit"), object],
-        &[Word::Text(b"del"), watch],
-        &[Word::Text(b"del"), object],
-        &[Word::Text(b"call"), Word::Own(b"wv_f_", number)],
-        &[Word::Text(b"end")],
-    ])
+    write_lines(
+        out,
+        &[
+            &[Word::Text(b"def"), Word::Own(b"wv_p_", number)],
+            &[object, Word::Text(b"="), Word::Text(b"deref"), watch],
+            &[Word::Text(b"quit"), object],
+            &[Word::Text(b"del"), watch],
+            &[Word::Text(b"del"), object],
+            &[Word::Text(b"call"), Word::Own(b"wv_f_", number)],
+            &[Word::Text(b"end")],
+        ],
+    )
 }
 
 /// Writes what follows the procedure: its function, the function to call, and the weak reference with it.
-fn write_watch<'a>(out: &mut Vec<u8>, number: u32, object: &'a [u8], function: &'a [u8]) -> Result<(), AllocError>
+fn write_watch<'a>(
+    out: &mut Vec<u8>,
+    number: u32,
+    object: &'a [u8],
+    function: &'a [u8],
+) -> Result<(), AllocError>
     ensures { OnOk result (out.new.items ≡ out.old.items ++ with_feeds (map joined (watch_lines number object.now function.now))) }
 {
     let own = Word::Own(b"wv_f_", number);
-    write_lines(out, &[
-        &[Word::Own(b"wv_g_", number), Word::Text(b"="), Word::Text(b"func"), Word::Own(b"wv_p_", number)],
-        &[own, Word::Text(b"="), Word::Text(function)],
-        &[Word::Own(b"wv_w_", number), Word::Text(b"="), Word::Text(b"ref"), Word::Text(object), own],
-    ])
+    write_lines(
+        out,
+        &[
+            &[
+                Word::Own(b"wv_g_", number),
+                Word::Text(b"="),
+                Word::Text(b"func"),
+                Word::Own(b"wv_p_", number),
+            ],
+            &[own, Word::Text(b"="), Word::Text(function)],
+            &[
+                Word::Own(b"wv_w_", number),
+                Word::Text(b"="),
+                Word::Text(b"ref"),
+                Word::Text(object),
+                own,
+            ],
+        ],
+    )
 }
 
 /// Writes `finalize y f`.
-fn write_finalize(out: &mut Vec<u8>, number: u32, object: &[u8], function: &[u8]) -> Result<(), AllocError>
+fn write_finalize(
+    out: &mut Vec<u8>,
+    number: u32,
+    object: &[u8],
+    function: &[u8],
+) -> Result<(), AllocError>
     ensures { OnOk result (out.new.items ≡ out.old.items ++ with_feeds (map joined (finalize_lines number object.now function.now))) }
 {
     write_exit(out, number)?;
@@ -144,7 +210,13 @@ fn write_form(out: &mut Vec<u8>, form: Form, number: u32, words: &[&[u8]]) -> Re
 {
     match form {
         Form::MakeMap => write_wmap(out, word_in(words, 0)),
-        Form::Set => write_wset(out, number, word_in(words, 1), word_in(words, 2), word_in(words, 3)),
+        Form::Set => write_wset(
+            out,
+            number,
+            word_in(words, 1),
+            word_in(words, 2),
+            word_in(words, 3),
+        ),
         Form::Get => write_wget(out, word_in(words, 0), word_in(words, 3), word_in(words, 4)),
         Form::Remove => write_wdrop(out, word_in(words, 1), word_in(words, 2)),
         Form::Finalize => write_finalize(out, number, word_in(words, 1), word_in(words, 2)),
@@ -161,7 +233,13 @@ fn write_copy(out: &mut Vec<u8>, line: &[u8]) -> Result<(), AllocError>
 }
 
 /// Writes what the line of this number becomes.
-pub(crate) fn write_line(out: &mut Vec<u8>, form: Option<Form>, number: u32, line: &[u8], words: &[&[u8]]) -> Result<(), AllocError>
+pub(crate) fn write_line(
+    out: &mut Vec<u8>,
+    form: Option<Form>,
+    number: u32,
+    line: &[u8],
+    words: &[&[u8]],
+) -> Result<(), AllocError>
     ensures { OnOk result (out.new.items ≡ out.old.items ++ with_feeds (written_by form number line.now (map (λ w. w.now) words.now))) }
 {
     match form {

@@ -37,10 +37,13 @@ record_line = new_app (codes "record")
 abbrev pub settings : Shape → Shape
 settings s = record s { no_binary_name = true; disable_help_flag = true; disable_help_subcommand = true; disable_version_flag = true; subcommand_required = true }
 
+-- the subcommands that take a number
+abbrev pub line_with_numbers : App
+line_with_numbers = with_subcommand (with_subcommand (on_top settings (new_app (codes "gcrun"))) run_line.top) generate_line.top
+
 -- the command line: one of the four subcommands
 abbrev pub command_line : App
-command_line =
-    with_subcommand (with_subcommand (with_subcommand (with_subcommand (on_top settings (new_app (codes "gcrun"))) run_line.top) generate_line.top) expand_line.top) record_line.top
+command_line = with_subcommand (with_subcommand line_with_numbers expand_line.top) record_line.top
 
 -- the number that one to six digits write, where it is in a range
 abbrev pub number_between : ℕ → ℕ → Text → Option ℕ

@@ -4,7 +4,7 @@ ghost use Rattle.std.specs.List.{list_all};
 ghost use Rattle.clap.specs.Words.{app_of, subcommand_rows_of};
 ghost use Rattle.clap.specs.declared.builder.command.Command.TheViews.{out-Command as fields_of};
 ghost use Rattle.cg_script.specs.Words.{is_digit, are_digits};
-ghost use Rattle.cg_words.specs.Words.{number_between, run_by, generate_by, job_in, run_line, generate_line, command_line as line_of_commands, asked, IsInRange};
+ghost use Rattle.cg_words.specs.Words.{number_between, run_by, generate_by, job_in, run_line, generate_line, expand_line, record_line, line_with_numbers, command_line as line_of_commands, asked, IsInRange};
 
 use clap::error::ErrorKind;
 use clap::{Arg, ArgAction, ArgMatches, Command};
@@ -87,9 +87,25 @@ fn generate_command<'a>(alloc: Global) -> Result<Command<'a>, AllocError>
     Command::new(alloc, "generate").arg(blocks)
 }
 
-/// The command line, which wants one of the subcommands.
-fn command_line<'a>(alloc: Global) -> Result<Command<'a>, AllocError>
-    ensures { IfOk result (λ c. app_of c ≡ line_of_commands) }
+/// `expand`, without arguments.
+fn expand_command<'a>(alloc: Global) -> Command<'a>
+    ensures app { app_of result ≡ expand_line }
+    ensures local { (fields_of result).has_globals ≡ false }
+{
+    Command::new(alloc, "expand")
+}
+
+/// `record`, without arguments.
+fn record_command<'a>(alloc: Global) -> Command<'a>
+    ensures app { app_of result ≡ record_line }
+    ensures local { (fields_of result).has_globals ≡ false }
+{
+    Command::new(alloc, "record")
+}
+
+/// The command line with the subcommands that take a number.
+fn line_with_numbers<'a>(alloc: Global) -> Result<Command<'a>, AllocError>
+    ensures { IfOk result (λ c. app_of c ≡ line_with_numbers) }
 {
     let run = run_command(alloc)?;
     let generate = generate_command(alloc)?;
@@ -100,9 +116,16 @@ fn command_line<'a>(alloc: Global) -> Result<Command<'a>, AllocError>
         .disable_version_flag(true)
         .subcommand_required(true)
         .subcommand(run)?
-        .subcommand(generate)?
-        .subcommand(Command::new(alloc, "expand"))?
-        .subcommand(Command::new(alloc, "record"))
+        .subcommand(generate)
+}
+
+/// The command line, which wants one of the subcommands.
+fn command_line<'a>(alloc: Global) -> Result<Command<'a>, AllocError>
+    ensures { IfOk result (λ c. app_of c ≡ line_of_commands) }
+{
+    line_with_numbers(alloc)?
+        .subcommand(expand_command(alloc))?
+        .subcommand(record_command(alloc))
 }
 
 /// A run, by the text of its option.
