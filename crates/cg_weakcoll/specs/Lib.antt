@@ -1,2 +1,5 @@
 pub mod Expansion
 pub mod Words
+pub mod Maps
+pub mod MapLines
+pub mod Worked
