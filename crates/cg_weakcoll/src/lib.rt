@@ -1,0 +1,6 @@
+//! Weak value maps and exit finalizers: extended scripts, which are expanded to scripts of the base language.
+#![tactic(auto)]
+
+mod exit_laws;
+
+pub use exit_laws::exits_begin_once;
