@@ -155,7 +155,7 @@ module _ (script : Script) (w : World) (below : List Activity) where
 
   pub one_raised : (t : Activity) → IsRaised script w t → (a : Activity) → Includes (t ∷ []) a → IsRaised script w a
   one_raised t h a (inl e) = subst (IsRaised script w) e h
-  one_raised t h a (inr no) = absurd no
+  one_raised t h a (inr none) = absurd none
 
   pub two_raised : (s t : Activity) → IsRaised script w s → IsRaised script w t → (a : Activity) → Includes (s ∷ t ∷ []) a → IsRaised script w a
   two_raised s t h k a (inl e) = subst (IsRaised script w) e h
@@ -177,7 +177,7 @@ module _ (script : Script) (w : World) (below : List Activity) where
       frame = Framed (record { sort = spec.sort; subject = spec.subject; function = spec.func; commands = body_of script spec.proc })
 
       begins : (n : ℕ) → Includes (Enter spec.sort spec.subject ∷ []) (Enter Callback n) → Called w below (frame ∷ t ∷ []) (Enter spec.sort spec.subject ∷ []) n
-      begins n (inr no) = absurd no
+      begins n (inr none) = absurd none
       begins n (inl e) =
           let sort : spec.sort ≡ Callback = cc in
           let same : spec.subject ≡ n = cc in
