@@ -6,3 +6,7 @@ pub mod Secret
 pub mod SecretSteps
 pub mod Once
 pub mod Own
+pub mod Tell
+pub mod Tame
+pub mod Fresh
+pub mod Stage

@@ -179,7 +179,7 @@ acted_hidden script budget n o w a below events after k top acts uncalled h = re
     framed f m = either (Includes-append_cases acts.tops below (Framed f) m) (λ i. let b = acts.raised (Framed f) i in begun f.sort f.subject b.proc b.by) (λ i. h.locals f (subst (λ st. Includes st (Framed f)) (sym top) (inr i)))
 
 -- a command is taken from the top, or the rest of the commands is dropped
-taken_locals : (o : ℕ) (command : Command) (a b : Activity) (below : List Activity) → Takes command a b → ((f : Frame) → Includes (a ∷ below) (Framed f) → (self_in f.sort f.subject ≢ Some o) × (weak_in f.sort f.subject ≢ Some o))
+pub taken_locals : (o : ℕ) (command : Command) (a b : Activity) (below : List Activity) → Takes command a b → ((f : Frame) → Includes (a ∷ below) (Framed f) → (self_in f.sort f.subject ≢ Some o) × (weak_in f.sort f.subject ≢ Some o))
     → (f : Frame) → Includes (b ∷ below) (Framed f) → (self_in f.sort f.subject ≢ Some o) × (weak_in f.sort f.subject ≢ Some o)
 taken_locals o command a b below (FromTop commands) h f (inl e) = cc
 taken_locals o command a b below (FromFrame g commands left) h f (inl e) = let same : record g { commands = commands } ≡ f = cc in subst (λ (q : Frame). (self_in q.sort q.subject ≢ Some o) × (weak_in q.sort q.subject ≢ Some o)) same (h g (inl refl))
