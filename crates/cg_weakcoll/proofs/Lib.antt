@@ -10,3 +10,5 @@ pub mod Tell
 pub mod Tame
 pub mod Fresh
 pub mod Stage
+pub mod HiddenKept
+pub mod StageSteps

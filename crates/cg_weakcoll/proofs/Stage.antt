@@ -53,7 +53,7 @@ cut done rest [] ys c is = inr (done, sym is)
 cut [] rest (x ∷ xs) ys c is = inl (let same : c ≡ x = cc in inl (sym same))
 cut (d ∷ done) rest (x ∷ xs) ys c is = either (cut done rest xs ys c (let tail : done ++ c ∷ rest ≡ xs ++ ys = cc in tail)) (λ m. inl (inr m)) (λ k. inr k)
 
-heads : (x y : Command) (xs ys : List Command) → x ∷ xs ≡ y ∷ ys → (x ≡ y) × (xs ≡ ys)
+pub heads : (x y : Command) (xs ys : List Command) → x ∷ xs ≡ y ∷ ys → (x ≡ y) × (xs ≡ ys)
 heads x y xs ys is = (let same : x ≡ y = cc in same, let rest : xs ≡ ys = cc in rest)
 
 module _ (script : Script) (e : Exit) (ex : IsExit script e) where
@@ -80,11 +80,11 @@ module _ (script : Script) (e : Exit) (ex : IsExit script e) where
 abbrev pub AreTame : Exit → List Activity → Type 0
 AreTame e stack = (a : Activity) → Includes stack a → AllOther e (commands_on a)
 
--- how far a run is, with so many calls so far
-pub data Stage (script : Script) (e : Exit) (calls : ℕ) (stack : List Activity) : Type 0 where
-  Before : (tops : List Activity) (done commands : List Command) → stack ≡ tops ++ TopLevel commands ∷ [] → AllHigh e tops → commands_of script.items ≡ done ++ commands → calls ≡ 0 → Stage script e calls stack
-  During : (tops : List Activity) (f : Frame) (commands : List Command) → stack ≡ tops ++ Framed f ∷ TopLevel commands ∷ [] → AllHigh e tops → IsTail e f.commands → AllOther e commands → calls ≡ 0 → Stage script e calls stack
-  After : AreTame e stack → calls ≤ 1 → Stage script e calls stack
+-- how far a run is, with so many calls so far, and what is known while the procedure's frame stands
+pub data Stage (script : Script) (e : Exit) (Q : List Command → Type 0) (calls : ℕ) (stack : List Activity) : Type 0 where
+  Before : (tops : List Activity) (done commands : List Command) → stack ≡ tops ++ TopLevel commands ∷ [] → AllHigh e tops → commands_of script.items ≡ done ++ commands → calls ≡ 0 → Stage script e Q calls stack
+  During : (tops : List Activity) (f : Frame) (commands : List Command) → stack ≡ tops ++ Framed f ∷ TopLevel commands ∷ [] → AllHigh e tops → IsTail e f.commands → AllOther e commands → Q f.commands → calls ≡ 0 → Stage script e Q calls stack
+  After : AreTame e stack → calls ≤ 1 → Stage script e Q calls stack
 
 -- what a command that is taken may be
 pub data IsTold (e : Exit) (command : Command) : Type 0 where
@@ -92,7 +92,7 @@ pub data IsTold (e : Exit) (command : Command) : Type 0 where
   MakesIt : command ≡ MakeFunc e.exit e.proc [] → IsTold e command
   CallsIt : command ≡ Call (Name e.exit) → IsTold e command
 
-high_tame : (e : Exit) (a : Activity) → IsHigh e a → AllOther e (commands_on a)
+pub high_tame : (e : Exit) (a : Activity) → IsHigh e a → AllOther e (commands_on a)
 high_tame e (TopLevel commands) h = absurd h
 high_tame e (Framed f) h = h
 high_tame e (Releasing references) h = λ c m. absurd m
@@ -100,27 +100,30 @@ high_tame e (Dying d) h = λ c m. absurd m
 high_tame e (Collecting c) h = λ c m. absurd m
 high_tame e (ShuttingDown started) h = λ c m. absurd m
 
-joined_tame : (e : Exit) (tops below : List Activity) → AllHigh e tops → AreTame e below → AreTame e (tops ++ below)
+pub joined_tame : (e : Exit) (tops below : List Activity) → AllHigh e tops → AreTame e below → AreTame e (tops ++ below)
 joined_tame e tops below h k a m = either (Includes-append_cases tops below a m) (λ i. high_tame e a (h a i)) (k a)
 
-counted : (calls n : ℕ) (b : Bool) → b ≡ false → calls + (if b then n else 0) ≡ calls
+pub counted : (calls n : ℕ) (b : Bool) → b ≡ false → calls + (if b then n else 0) ≡ calls
 counted calls n true is = cc
 counted calls n false is = omega arith
 
-frame_is : (f g : Frame) → Framed f ≡ Framed g → f ≡ g
+pub frame_is : (f g : Frame) → Framed f ≡ Framed g → f ≡ g
 frame_is f g is = cc
 
-top_is : (xs ys : List Command) → TopLevel xs ≡ TopLevel ys → xs ≡ ys
+pub top_is : (xs ys : List Command) → TopLevel xs ≡ TopLevel ys → xs ≡ ys
 top_is xs ys is = cc
 
 module _ (script : Script) (budget : ℕ) (e : Exit) (ex : IsExit script e) where
   -- the commands of the procedure
-  tail_told : (commands rest : List Command) (c : Command) → IsTail e commands → commands ≡ c ∷ rest → IsTold e c × ((IsTail e rest ⊎ (rest ≡ [])))
-  tail_told commands rest c AtDeref is = let h = heads _ c _ rest is in (subst (IsTold e) h.0 (Quiet (λ m. either m (λ i. ex.exit_object (sym i)) (λ k. either k (λ i. ex.watch_exit i) (λ none. none))) (λ n cs i. cc)), inl (subst (IsTail e) h.1 AtQuit))
-  tail_told commands rest c AtQuit is = let h = heads _ c _ rest is in (subst (IsTold e) h.0 (Quiet (λ m. either m (λ i. ex.exit_object (sym i)) (λ none. none)) (λ n cs i. cc)), inl (subst (IsTail e) h.1 AtWatch))
-  tail_told commands rest c AtWatch is = let h = heads _ c _ rest is in (subst (IsTold e) h.0 (Quiet (λ m. either m (λ i. ex.watch_exit i) (λ none. none)) (λ n cs i. cc)), inl (subst (IsTail e) h.1 AtObject))
-  tail_told commands rest c AtObject is = let h = heads _ c _ rest is in (subst (IsTold e) h.0 (Quiet (λ m. either m (λ i. ex.exit_object (sym i)) (λ none. none)) (λ n cs i. cc)), inl (subst (IsTail e) h.1 AtCall))
-  tail_told commands rest c AtCall is = let h = heads _ c _ rest is in (subst (IsTold e) h.0 (Quiet (λ m. either m (λ i. ex.exit_function (sym i)) (λ none. none)) (λ n cs i. cc)), inr (sym h.1))
+  abbrev pub IsQuiet : Command → Type 0
+  IsQuiet c = (¬ Includes (command_texts c) e.exit) × ((name : ℕ) (cells : List Operand) → c ≢ MakeFunc name e.proc cells)
+
+  pub tail_quiet : (commands rest : List Command) (c : Command) → IsTail e commands → commands ≡ c ∷ rest → IsQuiet c × (IsTail e rest ⊎ (rest ≡ []))
+  tail_quiet commands rest c AtDeref is = let h = heads _ c _ rest is in (subst IsQuiet h.0 (λ m. either m (λ i. ex.exit_object (sym i)) (λ k. either k (λ i. ex.watch_exit i) (λ none. none)), λ n cs i. cc), inl (subst (IsTail e) h.1 AtQuit))
+  tail_quiet commands rest c AtQuit is = let h = heads _ c _ rest is in (subst IsQuiet h.0 (λ m. either m (λ i. ex.exit_object (sym i)) (λ none. none), λ n cs i. cc), inl (subst (IsTail e) h.1 AtWatch))
+  tail_quiet commands rest c AtWatch is = let h = heads _ c _ rest is in (subst IsQuiet h.0 (λ m. either m (λ i. ex.watch_exit i) (λ none. none), λ n cs i. cc), inl (subst (IsTail e) h.1 AtObject))
+  tail_quiet commands rest c AtObject is = let h = heads _ c _ rest is in (subst IsQuiet h.0 (λ m. either m (λ i. ex.exit_object (sym i)) (λ none. none), λ n cs i. cc), inl (subst (IsTail e) h.1 AtCall))
+  tail_quiet commands rest c AtCall is = let h = heads _ c _ rest is in (subst IsQuiet h.0 (λ m. either m (λ i. ex.exit_function (sym i)) (λ none. none), λ n cs i. cc), inr (sym h.1))
 
   other_told : (c : Command) → IsOther e c → IsTold e c
   other_told c h = Quiet (other_exit script budget e ex c h) h.makes
@@ -128,7 +131,7 @@ module _ (script : Script) (budget : ℕ) (e : Exit) (ex : IsExit script e) wher
   not_exit : (texts : List ℕ) → AreOthers e texts → ¬ Includes texts e.exit
   not_exit texts h m = h e.exit m (inr (inl refl))
 
-  position_told : (c : Command) (rest : List Command) → Position script e ex c rest → IsTold e c
+  pub position_told : (c : Command) (rest : List Command) → Position script e ex c rest → IsTold e c
   position_told c rest (InOther h) = other_told c h
   position_told c rest (InFirst is) = MakesIt is
   position_told c rest (InSecond is) = subst (IsTold e) (sym is) (Quiet (λ m. either m (λ i. ex.exit_function (sym i)) (not_exit (operand_texts e.source) ex.source_other)) (λ n cs i. cc))
@@ -141,16 +144,16 @@ module _ (script : Script) (budget : ℕ) (e : Exit) (ex : IsExit script e) wher
 
   frame_told : (f : Frame) (c : Command) (a b : Activity) → Takes c a b → Framed f ≡ a → IsTail e f.commands → IsTold e c
   frame_told f c a b (FromTop commands) is t = absurd (cc)
-  frame_told f c a b (FromFrame g commands left) is t = (tail_told f.commands commands c t (ap (λ (q : Frame). q.commands) (frame_is f g is) ∙ left)).0
+  frame_told f c a b (FromFrame g commands left) is t = let q = tail_quiet f.commands commands c t (ap (λ (q : Frame). q.commands) (frame_is f g is) ∙ left) in Quiet q.0.0 q.0.1
 
   top_told : (cs done : List Command) (c : Command) (a b : Activity) → Takes c a b → TopLevel cs ≡ a → commands_of script.items ≡ done ++ cs → IsTold e c
   top_told cs done c a b (FromTop commands) is at = position_told c commands (positioned script e ex done commands c (at ∙ ap (λ xs. done ++ xs) (top_is cs (c ∷ commands) is)))
   top_told cs done c a b (FromFrame g commands left) is at = absurd (cc)
 
   -- what is taken from the top of the stack
-  pub stage_told : (calls : ℕ) (stack : List Activity) (c : Command) (a b : Activity) (below : List Activity) → Stage script e calls stack → stack ≡ a ∷ below → Takes c a b → IsTold e c
-  stage_told calls stack c a b below (Before [] done commands is high at none) top takes = top_told commands done c a b takes (same_top script budget e ex (TopLevel commands) a [] below stack is top).0 at
-  stage_told calls stack c a b below (Before (t ∷ tops) done commands is high at none) top takes = high_told c a b takes (subst (λ (x : Activity). AllOther e (commands_on x)) (same_top script budget e ex t a (tops ++ TopLevel commands ∷ []) below stack is top).0 (high_tame e t (high t (inl refl))))
-  stage_told calls stack c a b below (During [] f commands is high tail other none) top takes = frame_told f c a b takes (same_top script budget e ex (Framed f) a (TopLevel commands ∷ []) below stack is top).0 tail
-  stage_told calls stack c a b below (During (t ∷ tops) f commands is high tail other none) top takes = high_told c a b takes (subst (λ (x : Activity). AllOther e (commands_on x)) (same_top script budget e ex t a (tops ++ Framed f ∷ TopLevel commands ∷ []) below stack is top).0 (high_tame e t (high t (inl refl))))
-  stage_told calls stack c a b below (After tame few) top takes = high_told c a b takes (tame a (subst (λ st. Includes st a) (sym top) (inl refl)))
+  pub stage_told : (Q : List Command → Type 0) (calls : ℕ) (stack : List Activity) (c : Command) (a b : Activity) (below : List Activity) → Stage script e Q calls stack → stack ≡ a ∷ below → Takes c a b → IsTold e c
+  stage_told Q calls stack c a b below (Before [] done commands is high at none) top takes = top_told commands done c a b takes (same_top script budget e ex (TopLevel commands) a [] below stack is top).0 at
+  stage_told Q calls stack c a b below (Before (t ∷ tops) done commands is high at none) top takes = high_told c a b takes (subst (λ (x : Activity). AllOther e (commands_on x)) (same_top script budget e ex t a (tops ++ TopLevel commands ∷ []) below stack is top).0 (high_tame e t (high t (inl refl))))
+  stage_told Q calls stack c a b below (During [] f commands is high tail other q none) top takes = frame_told f c a b takes (same_top script budget e ex (Framed f) a (TopLevel commands ∷ []) below stack is top).0 tail
+  stage_told Q calls stack c a b below (During (t ∷ tops) f commands is high tail other q none) top takes = high_told c a b takes (subst (λ (x : Activity). AllOther e (commands_on x)) (same_top script budget e ex t a (tops ++ Framed f ∷ TopLevel commands ∷ []) below stack is top).0 (high_tame e t (high t (inl refl))))
+  stage_told Q calls stack c a b below (After tame few) top takes = high_told c a b takes (tame a (subst (λ st. Includes st a) (sym top) (inl refl)))

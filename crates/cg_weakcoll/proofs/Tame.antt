@@ -194,7 +194,7 @@ module _ (script : Script) (budget : ℕ) (e : Exit) (ex : IsExit script e) wher
   other_call (Call (Name x)) h = ne_eqb x e.function (λ i. h.texts x (inl refl) (inr (inr (inl (sym i)))))
   other_call command h = refl
 
-  others_call : (commands : List Command) → AllOther e commands → is_call e.function (first_of commands) ≡ false
+  pub others_call : (commands : List Command) → AllOther e commands → is_call e.function (first_of commands) ≡ false
   others_call [] h = refl
   others_call (command ∷ commands) h = other_call command (h command (inl refl))
 

@@ -1,6 +1,6 @@
-use Rattle.cg_weakcoll.proofs.Fresh.{new_hidden, old_hidden, unborn_taken, unborn}
-use Rattle.cg_weakcoll.proofs.Stage.{stage_told}
+use Rattle.cg_weakcoll.proofs.HiddenKept.{hidden_kept}
+use Rattle.cg_weakcoll.proofs.StageSteps.{stage_step}
 use Rattle.cg_weakcoll.proofs.exit_laws.exits_begin_once.Goals as goal
 
 pub returns : goal.returns
-returns c = let a = new_hidden in let b = stage_told in ?
+returns c = let a = hidden_kept in let b = stage_step in ?
