@@ -12,3 +12,5 @@ pub mod Fresh
 pub mod Stage
 pub mod HiddenKept
 pub mod StageSteps
+pub mod Names
+pub mod Watch

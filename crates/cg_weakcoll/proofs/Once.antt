@@ -19,7 +19,8 @@ use Rattle.cg_machine.proofs.Condemned.{present}
 use Rattle.cg_machine.proofs.Forgotten.{IsLater, none_later}
 use Rattle.cg_machine.proofs.Releasing.{no_times}
 use Rattle.cg_machine.proofs.Saving.{count_cons}
-use Rattle.cg_weakcoll.proofs.Acts.{Acts, Called, IsRaised, Loses, Waited, all_to_call, to_call, to_call_in}
+use Rattle.cg_weakcoll.proofs.Acts.{Acts, Called, IsAside, IsCollected, IsRaised, Loses, Waited, all_to_call, to_call, to_call_in}
+use Rattle.cg_laws.specs.Apart.{IsFound}
 use Rattle.cg_weakcoll.proofs.Went.{Known}
 
 -- one of a stack has it to call
@@ -81,6 +82,7 @@ pub record Tells (s : ℕ) (w : World) (events : List Event) (after : World) : T
   pub serial : w.next_serial ≤ after.next_serial
   pub comes : (y : Object) → Includes after.objects y → y.serial ≡ s → (x : Object) × Includes w.objects x × IsLater x y
   pub waits : Includes (all_to_call after.stack) s → Waited w s
+  pub places : (o : ℕ) (y : Object) → Includes after.objects y → y.serial ≡ o → o < w.next_serial → IsFound y.place → IsAside w o ⊎ IsCollected w o
   pub begins : Includes events (Enter Callback s) → Includes (all_to_call w.stack) s × (¬ Includes (all_to_call after.stack) s) × (events ≡ Enter Callback s ∷ [])
 
 -- a step of the machine by itself
@@ -90,6 +92,7 @@ acted_tells script budget s w a below events after k top acts = record {
   comes = λ y m e. let x = acts.grows y m in (x.0, x.1, x.2.later);
   waits = λ m. let b = to_call_of (acts.tops ++ below) s (subst (λ st. Includes (all_to_call st) s) acts.stack m) in either (Includes-append_cases acts.tops below b.0 b.1) (λ i. raised b.0 (acts.raised b.0 i) b.2)
       (λ i. inl (subst (λ st. Includes (all_to_call st) s) (sym top) (Includes-append_right (to_call a) (all_to_call below) s (to_call_in_stack below b.0 s i b.2))));
+  places = λ o y m i low f. let x = acts.grows y m in let is = sym x.2.later.serial ∙ i in either (x.2.place f) (λ g. inl (x.0, x.1, is, g)) (λ c. inr (subst (IsCollected w) is c));
   begins = λ m. let c = acts.callbacks s m in (subst (λ xs. Includes xs s) (sym c.first) (inl refl), λ i. gone c (to_call_of (acts.tops ++ below) s (subst (λ st. Includes (all_to_call st) s) acts.stack i)), c.alone);
 }
   where

@@ -231,11 +231,11 @@ changed_hidden n o u next names later stack objects h = record {
   kind = λ y m s. ((objects y m).2 s).1;
 }
 
-frozen_found : (p : Place) → IsFound (frozen p) → IsFound p
+pub frozen_found : (p : Place) → IsFound (frozen p) → IsFound p
 frozen_found (Gen i) f = f
 frozen_found p f = f
 
-unfrozen_found : (p : Place) → IsFound (unfrozen p) → IsFound p
+pub unfrozen_found : (p : Place) → IsFound (unfrozen p) → IsFound p
 unfrozen_found Frozen f = f
 unfrozen_found p f = f
 

@@ -88,7 +88,7 @@ to_call_lives script budget w n k m =
     Includes-map_cases (λ (z : Object). z.serial) w.objects n (k.lawful.orderly.held_live n (Includes-append_right _ (flat_map holds w.stack) n (held_in w.stack a.0 n a.1 (to_call_held a.0 n a.2))))
 
 -- the code of a function
-function_code : (x : Object) → is_function x ≡ true → x.code ≡ Func
+pub function_code : (x : Object) → is_function x ≡ true → x.code ≡ Func
 function_code x t = go x.code refl
   where
     go : (k : KindCode) → x.code ≡ k → x.code ≡ Func

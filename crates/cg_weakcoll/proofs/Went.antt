@@ -21,6 +21,8 @@ use Rattle.cg_machine.proofs.Origins.{IsAllOfScript}
 use Rattle.cg_machine.proofs.OriginsOfRuns.{opening_origin}
 use Rattle.cg_machine.proofs.Serials.{Rises}
 use Rattle.cg_machine.proofs.Shapes.{HasObject, Shape}
+use Rattle.cg_laws.specs.Apart.{IsApart}
+use Rattle.cg_laws.proofs.RunsApart.{runs_apart}
 use Rattle.cg_promises.proofs.Minded.{IsMinded}
 use Rattle.cg_promises.proofs.MindedRuns.{minded_after, opening_minded}
 use Rattle.cg_promises.proofs.ToldRuns.{Fit, opening_fit, run_fit}
@@ -33,12 +35,14 @@ pub record Known (script : Script) (budget : ℕ) (w : World) : Type 0 where
   pub fit : Fit script w
   pub minded : IsMinded (length script.names) w
   pub lawful : IsLawful script budget w
+  pub apart : IsApart w
 
 pub known_after : (script : Script) (budget : ℕ) (steps : List StepTaken) → TextsAreKnown script → IsRun script budget steps → Known script budget (world_after script budget steps)
 known_after script budget steps texts run = record {
   fit = run_fit script (opening script budget) steps run (opening_fit script budget);
   minded = minded_after script texts (opening script budget) steps run (opening_fit script budget) (opening_origin script budget) (opening_minded script texts budget);
   lawful = lawful_after script budget steps run;
+  apart = runs_apart script budget steps run;
 }
 
 -- a command was taken, and is done in u
