@@ -1,9 +1,10 @@
 //! Weak value maps and exit finalizers: extended scripts, which are expanded to scripts of the base language.
 //!
 //! `expand` is what the layer above uses: it answers the expansion of some bytes by `specs/Expansion`, or their first bad line. What weak value
-//! maps answer in every run of the machine is told by laws (`map_laws`).
+//! maps answer in every run of the machine, and how often an exit finalizer begins, is told by laws (`map_laws`, `exit_laws`).
 #![tactic(auto)]
 
+mod exit_laws;
 mod expander;
 mod fault;
 mod form;
@@ -12,6 +13,7 @@ mod pieces;
 mod worked;
 mod write;
 
+pub use exit_laws::exits_begin_once;
 pub use expander::expand;
 pub use map_laws::{expanded_looks_are_commands, expanded_stores_are_commands};
 pub use map_laws::{look_lines_are_commands, looks_answer, looks_find_referents, store_lines_are_commands, weak_maps_answer, weak_references_keep_their_referents};

@@ -1,0 +1,125 @@
+-- Exit finalizers in a script, and what becomes of them in its runs. (Ours; after CPython's `weakref.finalize`: the function is
+-- called when the object dies, or at the end, newest first, and at most once.)
+use Rattle.std.specs.Prelude.{◌≡◌, ◌≢◌, ℕ, ◌+◌, ◌≤◌, Bool, true, false, ◌==◌, List, [], ◌∷◌, ◌++◌, Option, Some, None, count_by, if◌then◌else◌}
+use Rattle.cg_value.specs.declared.KindCode.TheVariants.{Weak}
+use Rattle.cg_script.specs.declared.Script.{Script}
+use Rattle.cg_script.specs.declared.ClassDef.{ClassDef}
+use Rattle.cg_script.specs.declared.Command.{Command}
+use Rattle.cg_script.specs.declared.Command.TheVariants.{Bind, Call, Del, Deref, MakeFunc, MakeRef, Quit}
+use Rattle.cg_script.specs.declared.Operand.{Operand}
+use Rattle.cg_script.specs.declared.Operand.TheVariants.{Name}
+use Rattle.cg_script.specs.Texts.{TextsAreKnown, command_texts, operand_texts}
+use Rattle.cg_graph.specs.Member.{Includes}
+use Rattle.cg_machine.specs.declared.event.Event.{Event}
+use Rattle.cg_machine.specs.declared.event.Event.TheVariants.{Enter, Made}
+use Rattle.cg_machine.specs.declared.event.FrameSort.TheVariants.{Callback}
+use Rattle.cg_machine.specs.Program.{body_of, classes, commands_of}
+use Rattle.cg_machine.specs.World.{World, Activity, TopLevel, Framed, opening}
+use Rattle.cg_machine.specs.Run.{StepTaken, IsRun, events_of, world_after}
+use Rattle.cg_machine.specs.Laws.{is_enter}
+
+-- One exit finalizer: the number of its procedure, and the numbers of its names: of the object that the procedure asks for, of the
+-- procedure's function, of the function to call, and of the weak reference. What the last two are bound to.
+pub record Exit : Type 0 where
+  pub proc : ℕ
+  pub object : ℕ
+  pub exit : ℕ
+  pub function : ℕ
+  pub watch : ℕ
+  pub source : Operand
+  pub target : Operand
+
+-- its names
+abbrev pub names_of : Exit → List ℕ
+names_of e = e.object ∷ e.exit ∷ e.function ∷ e.watch ∷ []
+
+-- the procedure: nothing where the object is gone, and else the weak reference goes, and the function is called
+abbrev pub exit_body : Exit → List Command
+exit_body e = Deref e.object (Name e.watch) ∷ Quit (Name e.object) ∷ Del e.watch ∷ Del e.object ∷ Call (Name e.function) ∷ []
+
+-- the last line of the finalizer, which makes the weak reference
+abbrev pub watch_command : Exit → Command
+watch_command e = MakeRef e.watch e.target (Name e.function)
+
+-- the lines of the finalizer outside the procedure
+abbrev pub exit_commands : Exit → List Command
+exit_commands e = MakeFunc e.exit e.proc [] ∷ Bind e.function e.source ∷ watch_command e ∷ []
+
+-- texts of other lines: none is a name of the finalizer
+abbrev pub AreOthers : Exit → List ℕ → Type 0
+AreOthers e texts = (text : ℕ) → Includes texts text → ¬ Includes (names_of e) text
+
+-- a command of another line: it names none of these, and makes no function of the procedure
+pub record IsOther (e : Exit) (command : Command) : Type 0 where
+  pub texts : AreOthers e (command_texts command)
+  pub makes : (name : ℕ) (cells : List Operand) → command ≢ MakeFunc name e.proc cells
+
+-- all of some commands
+abbrev pub AllOther : Exit → List Command → Type 0
+AllOther e commands = (command : Command) → Includes commands command → IsOther e command
+
+-- A script has an exit finalizer: its lines, once, and the call at the end; no other line speaks of it.
+pub record IsExit (script : Script) (e : Exit) : Type 0 where
+  pub body : body_of script e.proc ≡ exit_body e
+  pub front : List Command
+  pub middle : List Command
+  pub back : List Command
+  pub commands : commands_of script.items ≡ front ++ (exit_commands e ++ (middle ++ Call (Name e.exit) ∷ back))
+  pub front_other : AllOther e front
+  pub middle_other : AllOther e middle
+  pub back_other : AllOther e back
+  pub bodies_other : (proc : ℕ) → proc ≢ e.proc → AllOther e (body_of script proc)
+  pub source_other : AreOthers e (operand_texts e.source)
+  pub target_other : AreOthers e (operand_texts e.target)
+  pub classes_other : (class : ClassDef) → Includes (classes script.items) class → (class.del ≢ Some e.proc) × (class.legacy ≢ Some e.proc)
+  pub watch_exit : e.watch ≢ e.exit
+  pub watch_function : e.watch ≢ e.function
+  pub watch_object : e.watch ≢ e.object
+  pub exit_function : e.exit ≢ e.function
+  pub exit_object : e.exit ≢ e.object
+  pub function_object : e.function ≢ e.object
+
+-- the first of some commands
+abbrev pub first_of : List Command → Option Command
+first_of [] = None
+first_of (command ∷ commands) = Some command
+
+-- the command that is the next to be done, if the activity on top has one
+abbrev pub next_command : List Activity → Option Command
+next_command (TopLevel commands ∷ below) = first_of commands
+next_command (Framed f ∷ below) = first_of f.commands
+next_command stack = None
+
+-- whether a command is `call f`, for a name f
+abbrev pub is_call : ℕ → Option Command → Bool
+is_call name (Some (Call (Name x))) = x == name
+is_call name command = false
+
+-- how many frames begin by `call f` in a run from a world
+abbrev pub calls_from : ℕ → World → List StepTaken → ℕ
+calls_from name w [] = 0
+calls_from name w (step ∷ steps) = (if is_call name (next_command w.stack) then count_by is_enter step.events else 0) + calls_from name step.world steps
+
+-- the callback of a weak reference begins
+abbrev pub is_callback_of : ℕ → Event → Bool
+is_callback_of weak (Enter Callback n) = n == weak
+is_callback_of weak event = false
+
+-- the last line of the finalizer made this weak reference
+pub record MakesWatch (script : Script) (budget : ℕ) (steps : List StepTaken) (e : Exit) (weak : ℕ) : Type 0 where
+  pub before : List StepTaken
+  pub making : StepTaken
+  pub after : List StepTaken
+  pub is : steps ≡ before ++ making ∷ after
+  pub line : next_command (world_after script budget before).stack ≡ Some (watch_command e)
+  pub made : Includes making.events (Made Weak weak)
+
+-- The frames that the procedure's `call f` begins are at most one, and together with those of the callback of the weak reference
+-- too.
+pub record BeginsOnce (script : Script) (budget : ℕ) (steps : List StepTaken) (e : Exit) : Type 0 where
+  pub calls : calls_from e.function (opening script budget) steps ≤ 1
+  pub together : (weak : ℕ) → MakesWatch script budget steps e weak → count_by (is_callback_of weak) (events_of steps) + calls_from e.function (opening script budget) steps ≤ 1
+
+-- So it is in every run.
+abbrev pub ExitsBeginOnce : Type 0
+ExitsBeginOnce = (script : Script) (budget : ℕ) (steps : List StepTaken) → TextsAreKnown script → IsRun script budget steps → (e : Exit) → IsExit script e → BeginsOnce script budget steps e
