@@ -1,8 +1,13 @@
 -- The members of a graph, as they are written one after the other.
-use Rattle.std.proofs.Common.{◌≡◌, refl, sym, ◌∙◌, ap, subst, ℕ, suc, ◌+◌, ◌<◌, ◌≤◌, Bool, List, [], ◌∷◌, ◌++◌, Option, None, Some, take, drop, length, append_assoc, append-nil, codes, arith}
+use Rattle.std.proofs.Common.{◌≡◌, refl, sym, ◌∙◌, ap, subst, ℕ, zero, suc, ◌+◌, ◌<◌, ◌≤◌, ◌⊎◌, inl, inr, true, false, Bool, List, [], ◌∷◌, ◌++◌, Option, None, Some, take, drop, length, append_assoc, append-nil, codes, arith}
 use Rattle.std.specs.Prelude.{flat_map, filter, slice_get, decimal, Result, Ok, Err, OnErr}
 use Rattle.std.proofs.lemmas.Grind.{flat_map-append}
 use Rattle.std.proofs.lemmas.List.Elements.{filter-append}
+use Rattle.std.proofs.lemmas.Bool.{eqb-true}
+use Rattle.std.proofs.lemmas.Bool.Decides.{nat_tests}
+use Rattle.std.specs.Prelude.{◌==◌}
+use Rattle.cg_value.specs.declared.Place.TheVariants.{Gen}
+use Rattle.cg_graph.proofs.Members.{cases_of}
 use Rattle.std.proofs.KnownBytes.{Appends-trans}
 use Rattle.std.specs.Io.KnownBytes.{Appends}
 use Rattle.cg_io.specs.Causes.{AppendsFront}
@@ -20,7 +25,7 @@ use Rattle.cg_records.specs.Members.{member}
 use Rattle.cg_records.specs.Text.{numbered, flag, member_text}
 use Rattle.cg_interp.specs.declared.graphs.Detection.{Detection}
 use Rattle.cg_collect.specs.Starting.{has_legacy_in}
-use Rattle.cg_interp.specs.Graphs.{among, member_in, member_line}
+use Rattle.cg_interp.specs.Graphs.{among, member_in, member_line, generations_below}
 use Rattle.cg_interp.proofs.LineByLine.{after_front, longer_front}
 
 -- a fact of any error, and what follows from one
@@ -124,3 +129,31 @@ module _ (script : Script) (store : Store) (d : Detection) (o degree : ℕ) (leg
 
   pub references_cut : (a b c : Option (List ℕ)) → Appends a b (member_line o degree legacy) → AppendsFront b c refs → AppendsFront a c (member_text (member_in script store d o))
   references_cut a b c wrote part = subst (AppendsFront a c) (sym member_split) (after_front a b c (member_line o degree legacy) refs wrote part)
+
+-- the generations below one: those below another, that one, and the others
+below_split : (store : Store) (n i : ℕ) → i < n → (rest : List ℕ) × (generations_below store n ≡ generations_below store i ++ (list_at store (Gen i) ++ rest))
+below_split store zero i less = absurd (omega (arith, less))
+below_split store (suc n) i less = go (cases_of (i == n))
+  where
+    go : (i == n ≡ true) ⊎ (i == n ≡ false) → (rest : List ℕ) × (generations_below store (suc n) ≡ generations_below store i ++ (list_at store (Gen i) ++ rest))
+    go (inl same) =
+        let e : i ≡ n = eqb-true i n same in
+        ([], subst (λ k. generations_below store (suc n) ≡ generations_below store k ++ (list_at store (Gen k) ++ [])) (sym e) (ap (λ l. generations_below store n ++ l) (sym (append-nil (list_at store (Gen n))))))
+    go (inr other) =
+        let deeper = below_split store n i (lower other) in
+        (
+          deeper.0 ++ list_at store (Gen n),
+          ap (λ l. l ++ list_at store (Gen n)) deeper.1
+          ∙ append_assoc (generations_below store i) (list_at store (Gen i) ++ deeper.0) (list_at store (Gen n))
+          ∙ ap (λ l. generations_below store i ++ l) (append_assoc (list_at store (Gen i)) deeper.0 (list_at store (Gen n))),
+        )
+      where
+        lower : i == n ≡ false → i < n
+        lower e = grind (arith, nat_tests, less, e)
+
+pub generations_cut : (f : ℕ → List ℕ) (store : Store) (n i : ℕ) → i < n → (a b c : Option (List ℕ)) → Appends a b (flat_map f (generations_below store i)) → AppendsFront b c (flat_map f (list_at store (Gen i))) → AppendsFront a c (flat_map f (generations_below store n))
+generations_cut f store n i less a b c wrote part =
+    let (rest, is) = below_split store n i less in
+    cut_between a b c (flat_map f (generations_below store i)) (flat_map f (list_at store (Gen i))) (flat_map f rest) (flat_map f (generations_below store n))
+    (ap (flat_map f) is ∙ flat_map-append f (generations_below store i) (list_at store (Gen i) ++ rest) ∙ ap (λ l. flat_map f (generations_below store i) ++ l) (flat_map-append f (list_at store (Gen i)) rest))
+    wrote part

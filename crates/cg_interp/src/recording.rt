@@ -84,7 +84,7 @@ pub fn is_unfinished_after(detection: Option<Detection>, unfinished: bool) -> bo
 
 /// Writes how a record of a collection of this generation begins, and its first graph. An unfinished record ends.
 fn write_record<K: Sink>(
-    generation: u8,
+    generation: u64,
     unfinished: bool,
     sink: &mut K,
 ) -> Result<(), WriteFailed>
@@ -93,7 +93,7 @@ fn write_record<K: Sink>(
     ensures cause { HasCause (K.faults sink.old) (K.faults sink.new) result }
 {
     write_cut(unfinished, sink)?;
-    write_numbered("record", u64::from(generation), sink)?;
+    write_numbered("record", generation, sink)?;
     sink.write(b"graph 1\n")
 }
 
@@ -108,7 +108,9 @@ fn write_heading<K: Sink>(
     ensures cause { HasCause (K.faults sink.old) (K.faults sink.new) result }
 {
     match detection {
-        Detection::First { generation } => write_record(generation, unfinished, sink),
+        Detection::First { generation } => {
+            write_record(u64::from(generation), unfinished, sink)
+        }
         Detection::Second => sink.write(b"graph 2\n"),
     }
 }
