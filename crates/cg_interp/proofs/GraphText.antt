@@ -133,23 +133,24 @@ module _ (script : Script) (store : Store) (d : Detection) (o degree : ℕ) (leg
 -- the generations below one: those below another, that one, and the others
 below_split : (store : Store) (n i : ℕ) → i < n → (rest : List ℕ) × (generations_below store n ≡ generations_below store i ++ (list_at store (Gen i) ++ rest))
 below_split store zero i less = absurd (omega (arith, less))
-below_split store (suc n) i less = go (cases_of (i == n))
+below_split store (suc n) i less = go (cases_of (i == n)) (below_split store n i)
   where
-    go : (i == n ≡ true) ⊎ (i == n ≡ false) → (rest : List ℕ) × (generations_below store (suc n) ≡ generations_below store i ++ (list_at store (Gen i) ++ rest))
-    go (inl same) =
+    lower : i == n ≡ false → i < n
+    lower e = grind (arith, nat_tests, less, e)
+
+    go : (i == n ≡ true) ⊎ (i == n ≡ false) → (i < n → (rest : List ℕ) × (generations_below store n ≡ generations_below store i ++ (list_at store (Gen i) ++ rest)))
+        → (rest : List ℕ) × (generations_below store (suc n) ≡ generations_below store i ++ (list_at store (Gen i) ++ rest))
+    go (inl same) rec =
         let e : i ≡ n = eqb-true i n same in
         ([], subst (λ k. generations_below store (suc n) ≡ generations_below store k ++ (list_at store (Gen k) ++ [])) (sym e) (ap (λ l. generations_below store n ++ l) (sym (append-nil (list_at store (Gen n))))))
-    go (inr other) =
-        let deeper = below_split store n i (lower other) in
+    go (inr other) rec =
+        let deeper = rec (lower other) in
         (
           deeper.0 ++ list_at store (Gen n),
           ap (λ l. l ++ list_at store (Gen n)) deeper.1
           ∙ append_assoc (generations_below store i) (list_at store (Gen i) ++ deeper.0) (list_at store (Gen n))
           ∙ ap (λ l. generations_below store i ++ l) (append_assoc (list_at store (Gen i)) deeper.0 (list_at store (Gen n))),
         )
-      where
-        lower : i == n ≡ false → i < n
-        lower e = grind (arith, nat_tests, less, e)
 
 pub generations_cut : (f : ℕ → List ℕ) (store : Store) (n i : ℕ) → i < n → (a b c : Option (List ℕ)) → Appends a b (flat_map f (generations_below store i)) → AppendsFront b c (flat_map f (list_at store (Gen i))) → AppendsFront a c (flat_map f (generations_below store n))
 generations_cut f store n i less a b c wrote part =
