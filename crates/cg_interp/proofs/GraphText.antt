@@ -1,8 +1,13 @@
 -- The members of a graph, as they are written one after the other.
-use Rattle.std.proofs.Common.{◌≡◌, refl, sym, ◌∙◌, ap, subst, ℕ, suc, ◌+◌, ◌<◌, ◌≤◌, Bool, List, [], ◌∷◌, ◌++◌, Option, None, Some, take, drop, length, append_assoc, append-nil, codes, arith}
-use Rattle.std.specs.Prelude.{flat_map, filter, slice_get}
+use Rattle.std.proofs.Common.{◌≡◌, refl, sym, ◌∙◌, ap, subst, ℕ, zero, suc, ◌+◌, ◌<◌, ◌≤◌, ◌⊎◌, inl, inr, true, false, Bool, List, [], ◌∷◌, ◌++◌, Option, None, Some, take, drop, length, append_assoc, append-nil, codes, arith}
+use Rattle.std.specs.Prelude.{flat_map, filter, slice_get, decimal, Result, Ok, Err, OnErr}
 use Rattle.std.proofs.lemmas.Grind.{flat_map-append}
 use Rattle.std.proofs.lemmas.List.Elements.{filter-append}
+use Rattle.std.proofs.lemmas.Bool.{eqb-true}
+use Rattle.std.proofs.lemmas.Bool.Decides.{nat_tests}
+use Rattle.std.specs.Prelude.{◌==◌}
+use Rattle.cg_value.specs.declared.Place.TheVariants.{Gen}
+use Rattle.cg_graph.proofs.Members.{cases_of}
 use Rattle.std.proofs.KnownBytes.{Appends-trans}
 use Rattle.std.specs.Io.KnownBytes.{Appends}
 use Rattle.cg_io.specs.Causes.{AppendsFront}
@@ -10,16 +15,27 @@ use Rattle.cg_value.specs.declared.Entry.{Entry}
 use Rattle.cg_value.specs.declared.Place.{Place}
 use Rattle.cg_script.specs.declared.Script.{Script}
 use Rattle.cg_graph.specs.Value.{references, references_of_value}
-use Rattle.cg_graph.specs.Store.{Store, list_at, place_of, IsLive}
+use Rattle.cg_graph.specs.Store.{Store, list_at, place_of, entries_of, count_of, IsLive}
 use Rattle.cg_heap.specs.Calls.{IsListed}
 use Rattle.cg_arena.specs.Nodes.{following}
 use Rattle.cg_trial.proofs.Entries.{references_more, references_split}
 use Rattle.cg_trial.proofs.Lists.{IsAt, ahead, head_is}
 use Rattle.cg_trial.proofs.Scenes.{Along, along_more, along_end}
-use Rattle.cg_records.specs.Text.{numbered}
+use Rattle.cg_records.specs.Members.{member}
+use Rattle.cg_records.specs.Text.{numbered, flag, member_text}
 use Rattle.cg_interp.specs.declared.graphs.Detection.{Detection}
-use Rattle.cg_interp.specs.Graphs.{among}
+use Rattle.cg_collect.specs.Starting.{has_legacy_in}
+use Rattle.cg_interp.specs.Graphs.{among, member_in, member_line, generations_below}
 use Rattle.cg_interp.proofs.LineByLine.{after_front, longer_front}
+
+-- a fact of any error, and what follows from one
+pub given_err : {T E : Type 0} (r : Result T E) (Q : Type 0) → Q → OnErr r Q
+given_err (Ok x) Q q = tt
+given_err (Err x) Q q = q
+
+pub on_err : {T E : Type 0} (r : Result T E) (P Q : Type 0) → (P → Q) → OnErr r P → OnErr r Q
+on_err (Ok x) P Q f p = tt
+on_err (Err x) P Q f p = f p
 
 -- bytes that were written, a front of some more, and what would follow
 pub cut_between : (a b c : Option (List ℕ)) (xs ys zs whole : List ℕ) → whole ≡ xs ++ (ys ++ zs) → Appends a b xs → AppendsFront b c ys → AppendsFront a c whole
@@ -97,3 +113,48 @@ module _ (store : Store) (place : Place) (f : ℕ → List ℕ) where
 
   pub along_all : (cursor : Option ℕ) (before now : Option (List ℕ)) → WritesAlong store place f cursor before now → cursor ≡ None → Appends before now (flat_map f (list_at store place))
   along_all cursor before now so none = subst (λ xs. Appends before now (flat_map f xs)) (along_end store place cursor so.done so.along none) so.wrote
+
+-- a member is written as its line, and then its references
+module _ (script : Script) (store : Store) (d : Detection) (o degree : ℕ) (legacy : Bool) (counts : degree ≡ count_of store o) (has : legacy ≡ has_legacy_in script store o) where
+  abbrev refs : List ℕ
+  refs = references_text store d (references (entries_of store o))
+
+  member_split : member_text (member_in script store d o) ≡ member_line o degree legacy ++ refs
+  member_split =
+      (λ i. member_text (member o (sym counts i) (sym has i) (among store d (references (entries_of store o)))))
+      ∙ sym (append_assoc (codes "m " ++ decimal o ++ 32 ∷ decimal degree ++ 32 ∷ flag legacy) (10 ∷ []) refs)
+
+  pub member_cut : (a b : Option (List ℕ)) → AppendsFront a b (member_line o degree legacy) → AppendsFront a b (member_text (member_in script store d o))
+  member_cut a b part = subst (AppendsFront a b) (sym member_split) (longer_front a b (member_line o degree legacy) refs part)
+
+  pub references_cut : (a b c : Option (List ℕ)) → Appends a b (member_line o degree legacy) → AppendsFront b c refs → AppendsFront a c (member_text (member_in script store d o))
+  references_cut a b c wrote part = subst (AppendsFront a c) (sym member_split) (after_front a b c (member_line o degree legacy) refs wrote part)
+
+-- the generations below one: those below another, that one, and the others
+below_split : (store : Store) (n i : ℕ) → i < n → (rest : List ℕ) × (generations_below store n ≡ generations_below store i ++ (list_at store (Gen i) ++ rest))
+below_split store zero i less = absurd (omega (arith, less))
+below_split store (suc n) i less = go (cases_of (i == n)) (below_split store n i)
+  where
+    lower : i == n ≡ false → i < n
+    lower e = grind (arith, nat_tests, less, e)
+
+    go : (i == n ≡ true) ⊎ (i == n ≡ false) → (i < n → (rest : List ℕ) × (generations_below store n ≡ generations_below store i ++ (list_at store (Gen i) ++ rest)))
+        → (rest : List ℕ) × (generations_below store (suc n) ≡ generations_below store i ++ (list_at store (Gen i) ++ rest))
+    go (inl same) rec =
+        let e : i ≡ n = eqb-true i n same in
+        ([], subst (λ k. generations_below store (suc n) ≡ generations_below store k ++ (list_at store (Gen k) ++ [])) (sym e) (ap (λ l. generations_below store n ++ l) (sym (append-nil (list_at store (Gen n))))))
+    go (inr other) rec =
+        let deeper = rec (lower other) in
+        (
+          deeper.0 ++ list_at store (Gen n),
+          ap (λ l. l ++ list_at store (Gen n)) deeper.1
+          ∙ append_assoc (generations_below store i) (list_at store (Gen i) ++ deeper.0) (list_at store (Gen n))
+          ∙ ap (λ l. generations_below store i ++ l) (append_assoc (list_at store (Gen i)) deeper.0 (list_at store (Gen n))),
+        )
+
+pub generations_cut : (f : ℕ → List ℕ) (store : Store) (n i : ℕ) → i < n → (a b c : Option (List ℕ)) → Appends a b (flat_map f (generations_below store i)) → AppendsFront b c (flat_map f (list_at store (Gen i))) → AppendsFront a c (flat_map f (generations_below store n))
+generations_cut f store n i less a b c wrote part =
+    let (rest, is) = below_split store n i less in
+    cut_between a b c (flat_map f (generations_below store i)) (flat_map f (list_at store (Gen i))) (flat_map f rest) (flat_map f (generations_below store n))
+    (ap (flat_map f) is ∙ flat_map-append f (generations_below store i) (list_at store (Gen i) ++ rest) ∙ ap (λ l. flat_map f (generations_below store i) ++ l) (flat_map-append f (list_at store (Gen i)) rest))
+    wrote part

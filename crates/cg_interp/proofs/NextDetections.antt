@@ -1,5 +1,5 @@
 -- What is on top of an engine tells which detection the machine makes next.
-use Rattle.std.proofs.Common.{◌≡◌, ◌≢◌, refl, sym, ◌∙◌, ap, subst, ℕ, ◌<◌, ◌≤◌, Bool, true, false, inl, inr, List, [], ◌∷◌, ◌++◌, Option, None, Some, length, arith}
+use Rattle.std.proofs.Common.{◌≡◌, ◌≢◌, refl, sym, ◌∙◌, ap, subst, ℕ, ◌<◌, ◌≤◌, Bool, true, false, ◌||◌, inl, inr, List, [], ◌∷◌, ◌++◌, Option, None, Some, length, arith}
 use Rattle.cg_script.specs.declared.Script.{Script}
 use Rattle.cg_graph.specs.Store.{Store, list_at}
 use Rattle.cg_value.specs.declared.Place.TheVariants.{Pend}
@@ -89,19 +89,19 @@ death_none d waiting below some = go d.release some
 
 module _ (script : Script) (rest : List machine.Activity → Type 0) (stack : List machine.Activity) where
   top_none : (top : Activity) → is_collecting top ≡ false → ShowsTop script top rest stack → next_detection stack ≡ None
-  top_none (activity.Script next) no t = ap next_detection (t.is ∙ ap (λ l. l ++ t.below) t.shows)
-  top_none (activity.Frame locals procedure next) no t = ap next_detection (t.is ∙ ap (λ l. l ++ t.below) t.shows)
-  top_none (activity.Releasing release) no t = ap next_detection (t.is ∙ ap (λ l. l ++ t.below) t.shows)
-  top_none (activity.Shutdown started) no t = ap next_detection (t.is ∙ ap (λ l. l ++ t.below) t.shows)
-  top_none (activity.Dying d) no t =
+  top_none (activity.Script next) other t = ap next_detection (t.is ∙ ap (λ l. l ++ t.below) t.shows)
+  top_none (activity.Frame locals procedure next) other t = ap next_detection (t.is ∙ ap (λ l. l ++ t.below) t.shows)
+  top_none (activity.Releasing release) other t = ap next_detection (t.is ∙ ap (λ l. l ++ t.below) t.shows)
+  top_none (activity.Shutdown started) other t = ap next_detection (t.is ∙ ap (λ l. l ++ t.below) t.shows)
+  top_none (activity.Dying d) other t =
       ap next_detection (t.is ∙ ap (λ l. l ++ t.below) t.shows.1)
       ∙ death_none d t.shows.0 t.below (λ e. t.some (t.shows.1 ∙ e))
-  top_none (activity.Collecting asked c) no t = absurd (cc)
+  top_none (activity.Collecting asked c) other t = absurd (cc)
 
 -- without a collection there is none
 pub none_below : (script : Script) (activities : List Activity) (stack : List machine.Activity) → ShowsAll script activities stack → any_collecting activities ≡ false → next_detection stack ≡ None
-none_below script [] stack none no = ap next_detection none
-none_below script (top ∷ rest) stack shown no = top_none script (ShowsAll script rest) stack top (first_false (is_collecting top) (any_collecting rest) no) shown
+none_below script [] stack none other = ap next_detection none
+none_below script (top ∷ rest) stack shown other = top_none script (ShowsAll script rest) stack top (first_false (is_collecting top) (any_collecting rest) other) shown
   where
     first_false : (a b : Bool) → (a || b) ≡ false → a ≡ false
     first_false false b e = refl

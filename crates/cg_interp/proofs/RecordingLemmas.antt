@@ -192,7 +192,7 @@ module _ (law : NoRunIsStuck) (script : Script) (budget : ℕ) (before : Option 
     graph_cut : (d : Detection) → detection_on e.activities ≡ Some d → taken_while unfinished d ≡ Some d → Begun (Some d) → WroteRecordsPart script budget before now'
     graph_cut d next is wrote = part_of_records law script budget before now' so.ran.steps so.pictures (begun_text script e.store unfinished d) so.ran.run so.shows wrote on
       where
-        abbrev at : AtDetection e d left so_far
+        at : AtDetection e d left so_far
         at = at_detection script e left so_far d so.ran.stands next
 
         on : (others : List StepTaken) (outcome : Outcome) → IsWholeRun script budget outcome (so.ran.steps ++ others)
@@ -250,16 +250,10 @@ module _ (law : NoRunIsStuck) (script : Script) (budget : ℕ) (before : Option 
         let (none, stands) = told_some (list_any wants_memory (events_told h.answer)) (standing_after h.answer) standing.Running (sym h.is ∙ is) in
         go h.answer stands none h.turns h.still h.written
       where
-        abbrev Written : Type 0
-        Written = Appends now now' (text_of_turn script e.store e'.store unfinished (recorded_next unfinished e))
-
-        abbrev Still : Type 0
-        Still = then ≡ unfinished_after unfinished (recorded_next unfinished e)
-
-        on : (tell : List Event) → list_any wants_memory tell ≡ false → GoesOnTo script (Advances e left e') so_far left tell e' → Still → Written → RecordedSo script budget before e' then now'
+        on : (tell : List Event) → list_any wants_memory tell ≡ false → GoesOnTo script (Advances e left e') so_far left tell e' → then ≡ unfinished_after unfinished (recorded_next unfinished e) → Appends now now' (text_of_turn script e.store e'.store unfinished (recorded_next unfinished e)) → RecordedSo script budget before e' then now'
         on tell none g still wrote = so_longer e' now' g.events g.after g.goes (on_shown tell g) tell g.still g.lines g.stands none then still wrote
 
-        go : (answer : Turned) → standing_after answer ≡ standing.Running → list_any wants_memory (events_told answer) ≡ false → Turned_so answer → Still → Written → RecordedSo script budget before e' then now'
+        go : (answer : Turned) → standing_after answer ≡ standing.Running → list_any wants_memory (events_told answer) ≡ false → Turned_so answer → then ≡ unfinished_after unfinished (recorded_next unfinished e) → Appends now now' (text_of_turn script e.store e'.store unfinished (recorded_next unfinished e)) → RecordedSo script budget before e' then now'
         go turned.Quiet s none g still wrote = on [] none g still wrote
         go (turned.Line event) s none g still wrote = on (event ∷ []) none g still wrote
         go (turned.Lines events) s none g still wrote = on events none g still wrote

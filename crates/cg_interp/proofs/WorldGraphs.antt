@@ -39,11 +39,8 @@ merged_serials : (g : ℕ) (objects : List Object) → serials_at (map (λ x. wi
 merged_serials g [] = refl
 merged_serials g (x ∷ objects) = go (same_place (merged_place g x.place) (Gen g)) (merged_serials g objects)
   where
-    abbrev rest : List Object
-    rest = map (λ y. with_place (merged_place g y.place) y) objects
-
-    go : (b : Bool) → serials_at rest (Gen g) ≡ serials (filter (stands_so (First g)) objects)
-        → serials (cond b (with_place (merged_place g x.place) x ∷ filter (is_at (Gen g)) rest) (filter (is_at (Gen g)) rest)) ≡ serials (cond b (x ∷ filter (stands_so (First g)) objects) (filter (stands_so (First g)) objects))
+    go : (b : Bool) → serials_at (map (λ y. with_place (merged_place g y.place) y) objects) (Gen g) ≡ serials (filter (stands_so (First g)) objects)
+        → serials (cond b (with_place (merged_place g x.place) x ∷ filter (is_at (Gen g)) (map (λ y. with_place (merged_place g y.place) y) objects)) (filter (is_at (Gen g)) (map (λ y. with_place (merged_place g y.place) y) objects))) ≡ serials (cond b (x ∷ filter (stands_so (First g)) objects) (filter (stands_so (First g)) objects))
     go true same = ap (λ l. x.serial ∷ l) same
     go false same = same
 

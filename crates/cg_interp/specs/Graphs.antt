@@ -1,5 +1,5 @@
 -- The graphs of records, as a heap has them. (Ours; their text is that of `cg_records`.)
-use Rattle.std.specs.Prelude.{ℕ, suc, ◌+◌, ◌≤◌, Bool, true, false, List, [], ◌∷◌, ◌++◌, map, filter, flat_map, codes, decimal, Option, None, Some}
+use Rattle.std.specs.Prelude.{ℕ, zero, suc, ◌+◌, ◌≤◌, Bool, true, false, List, [], ◌∷◌, ◌++◌, map, filter, flat_map, codes, decimal, Option, None, Some}
 use Rattle.cg_value.specs.declared.Place.{Place}
 use Rattle.cg_value.specs.declared.Place.TheVariants.{Gen, Cand, Legacy}
 use Rattle.cg_script.specs.declared.Script.{Script}
@@ -75,15 +75,31 @@ abbrev pub closing : Bool → List ℕ
 closing true = codes "cut\n"
 closing false = []
 
+-- how a record begins, with its first graph
+abbrev pub record_heading : Bool → ℕ → List ℕ
+record_heading unfinished g = closing unfinished ++ (numbered (codes "record") g ++ codes "graph 1\n")
+
 -- how the graph of a detection begins: a first one begins a record
 abbrev pub heading : Bool → Detection → List ℕ
-heading unfinished (First g) = closing unfinished ++ (numbered (codes "record") g ++ codes "graph 1\n")
+heading unfinished (First g) = record_heading unfinished g
 heading unfinished Second = codes "graph 2\n"
+
+-- a line of a word for each object of a place
+abbrev pub all_at : Store → Place → List ℕ → List ℕ
+all_at store p word = flat_map (numbered word) (list_at store p)
+
+-- what a first detection found: what was lost, and what of that was set aside
+abbrev pub sorted_text : Store → List ℕ
+sorted_text store = all_at store Cand (codes "lost") ++ (all_at store Legacy (codes "lost") ++ all_at store Legacy (codes "legacy"))
+
+-- what a second one found, and that the record ends
+abbrev pub final_text : Store → List ℕ
+final_text store = all_at store Cand (codes "lost") ++ codes "stop\n"
 
 -- what is written of a detection after its step
 abbrev pub findings : Store → Detection → List ℕ
-findings store (First g) = flat_map (numbered (codes "lost")) (list_at store Cand) ++ (flat_map (numbered (codes "lost")) (list_at store Legacy) ++ flat_map (numbered (codes "legacy")) (list_at store Legacy))
-findings store Second = flat_map (numbered (codes "lost")) (list_at store Cand) ++ codes "stop\n"
+findings store (First g) = sorted_text store
+findings store Second = final_text store
 
 -- The detections that are recorded: each first one, and the second one of an unfinished record.
 abbrev pub taken_while : Bool → Detection → Option Detection

@@ -1,5 +1,5 @@
 //! The graphs of records, as they are written from a heap.
-ghost use Rattle.std.specs.Prelude.{◌≡◌, ◌≤◌, ◌++◌, Some, length, flat_map, map, codes, OnOk, OnErr};
+ghost use Rattle.std.specs.Prelude.{◌≡◌, ◌≤◌, ◌+◌, ◌++◌, Some, length, flat_map, map, codes, OnOk, OnErr};
 ghost use Rattle.std.specs.Io.KnownBytes.{Appends};
 ghost use Rattle.cg_io.specs.Causes.{HasCause, AppendsFront};
 ghost use Rattle.cg_graph.specs.Value.{references, references_of_value};
@@ -7,7 +7,7 @@ ghost use Rattle.cg_graph.specs.Store.{IsLive, entries_of, list_at};
 ghost use Rattle.cg_arena.specs.Nodes.{IsPlace};
 ghost use Rattle.cg_heap.specs.Calls.{IsLiveValue};
 ghost use Rattle.cg_records.specs.Text.{numbered, member_text};
-ghost use Rattle.cg_interp.specs.Graphs.{is_candidate_at, among, member_in, members_text, generations_below, candidates_in, findings, IsOfGenerations};
+ghost use Rattle.cg_interp.specs.Graphs.{is_candidate_at, among, member_in, members_text, generations_below, candidates_in, sorted_text, final_text, findings, IsOfGenerations};
 
 use crate::record_lines::{write_member_line, write_numbered};
 use cg_arena::Near;
@@ -198,7 +198,28 @@ fn write_all_at<B: Kind, K: Sink>(
     Ok(())
 }
 
-/// Writes what the detection found, from the heap that its step left: what was lost, and what the first one set aside.
+/// Writes what a first detection found: what was lost, and what of that was set aside.
+fn write_sorted<B: Kind, K: Sink>(heap: &Heap<B>, sink: &mut K) -> Result<(), WriteFailed>
+    ensures ok { OnOk result (Appends (K.written sink.old) (K.written sink.new) (sorted_text heap.now)) }
+    ensures err { OnErr result (AppendsFront (K.written sink.old) (K.written sink.new) (sorted_text heap.now)) }
+    ensures cause { HasCause (K.faults sink.old) (K.faults sink.new) result }
+{
+    write_all_at(heap, Place::Cand, "lost", sink)?;
+    write_all_at(heap, Place::Legacy, "lost", sink)?;
+    write_all_at(heap, Place::Legacy, "legacy", sink)
+}
+
+/// Writes what a second detection found, and that the record ends.
+fn write_final<B: Kind, K: Sink>(heap: &Heap<B>, sink: &mut K) -> Result<(), WriteFailed>
+    ensures ok { OnOk result (Appends (K.written sink.old) (K.written sink.new) (final_text heap.now)) }
+    ensures err { OnErr result (AppendsFront (K.written sink.old) (K.written sink.new) (final_text heap.now)) }
+    ensures cause { HasCause (K.faults sink.old) (K.faults sink.new) result }
+{
+    write_all_at(heap, Place::Cand, "lost", sink)?;
+    sink.write(b"stop\n")
+}
+
+/// Writes what the detection found, from the heap that its step left.
 pub fn write_findings<B: Kind, K: Sink>(
     heap: &Heap<B>,
     detection: Detection,
@@ -208,12 +229,8 @@ pub fn write_findings<B: Kind, K: Sink>(
     ensures err { OnErr result (AppendsFront (K.written sink.old) (K.written sink.new) (findings heap.now detection)) }
     ensures cause { HasCause (K.faults sink.old) (K.faults sink.new) result }
 {
-    write_all_at(heap, Place::Cand, "lost", sink)?;
     match detection {
-        Detection::First { .. } => {
-            write_all_at(heap, Place::Legacy, "lost", sink)?;
-            write_all_at(heap, Place::Legacy, "legacy", sink)
-        }
-        Detection::Second => sink.write(b"stop\n"),
+        Detection::First { .. } => write_sorted(heap, sink),
+        Detection::Second => write_final(heap, sink),
     }
 }

@@ -2,7 +2,7 @@
 ghost use Rattle.std.specs.Prelude.{◌≡◌, ◌++◌, codes, cond, Some, None, OnOk, OnErr};
 ghost use Rattle.std.specs.Io.KnownBytes.{Appends};
 ghost use Rattle.cg_io.specs.Causes.{HasCause, AppendsFront};
-ghost use Rattle.cg_interp.specs.Graphs.{IsOfGenerations, AreOfGenerations, heading, begun_text, text_before, text_after, closing, taken, taken_while, unfinished_after, begins_record, detection_on, detection_by};
+ghost use Rattle.cg_interp.specs.Graphs.{IsOfGenerations, AreOfGenerations, record_heading, heading, begun_text, text_before, text_after, closing, taken, taken_while, unfinished_after, begins_record, detection_on, detection_by};
 ghost use Rattle.cg_collect.specs.Stages.{stage_of};
 
 use crate::activity::Activity;
@@ -82,7 +82,22 @@ pub fn is_unfinished_after(detection: Option<Detection>, unfinished: bool) -> bo
     }
 }
 
-/// Writes how the graph of a detection begins. A first one ends an unfinished record, and begins another.
+/// Writes how a record of a collection of this generation begins, and its first graph. An unfinished record ends.
+fn write_record<K: Sink>(
+    generation: u64,
+    unfinished: bool,
+    sink: &mut K,
+) -> Result<(), WriteFailed>
+    ensures ok { OnOk result (Appends (K.written sink.old) (K.written sink.new) (record_heading unfinished generation)) }
+    ensures err { OnErr result (AppendsFront (K.written sink.old) (K.written sink.new) (record_heading unfinished generation)) }
+    ensures cause { HasCause (K.faults sink.old) (K.faults sink.new) result }
+{
+    write_cut(unfinished, sink)?;
+    write_numbered("record", generation, sink)?;
+    sink.write(b"graph 1\n")
+}
+
+/// Writes how the graph of a detection begins.
 fn write_heading<K: Sink>(
     detection: Detection,
     unfinished: bool,
@@ -94,9 +109,7 @@ fn write_heading<K: Sink>(
 {
     match detection {
         Detection::First { generation } => {
-            write_cut(unfinished, sink)?;
-            write_numbered("record", u64::from(generation), sink)?;
-            sink.write(b"graph 1\n")
+            write_record(u64::from(generation), unfinished, sink)
         }
         Detection::Second => sink.write(b"graph 2\n"),
     }

@@ -8,9 +8,9 @@ use Rattle.cg_interp.proofs.graphs.write_all_at.Given as goal
 -- the objects so far were written
 abbrev pub invariant-objects : goal.invariant-objects
 invariant-objects g l = record {
-  so_far : WritesAlong l.heap l.place (numbered l.word) l.cursor (g.K.Sink.written l.fn.sink) (g.K.Sink.written l.sink);
+  so_far : WritesAlong l.heap l.fn.place (numbered l.word) l.cursor (g.K.Sink.written l.fn.sink) (g.K.Sink.written l.sink);
   later : g.K.Sink.faults l.fn.sink ≤ g.K.Sink.faults l.sink;
 }
 
 abbrev pub decreases-objects : goal.decreases-objects
-decreases-objects g l = length (ahead l.cursor (list_at l.heap l.place))
+decreases-objects g l = length (ahead l.cursor (list_at l.heap l.fn.place))

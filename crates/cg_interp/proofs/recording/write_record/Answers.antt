@@ -1,0 +1,12 @@
+use Rattle.cg_interp.proofs.GraphText.{given_err, on_err}
+use Rattle.cg_interp.proofs.LineByLine.{after_front, longer_front}
+use Rattle.cg_interp.proofs.recording.write_record.Goals as goal
+
+pub returns-in_err-write_cut-clause-err : goal.returns-in_err-write_cut-clause-err
+returns-in_err-write_cut-clause-err g c = given_err _ _ (longer_front _ _ _ _ c.in_err-write_cut.ensures.err)
+
+pub returns-in_err-write_numbered-clause-err : goal.returns-in_err-write_numbered-clause-err
+returns-in_err-write_numbered-clause-err g c = given_err _ _ (after_front _ _ _ _ _ c.in_ok-write_cut.ensures.ok (longer_front _ _ _ _ c.in_err-write_numbered.ensures.err))
+
+pub returns-clause-err : goal.returns-clause-err
+returns-clause-err g c = on_err _ _ _ (λ part. after_front _ _ _ _ _ c.in_ok-write_cut.ensures.ok (after_front _ _ _ _ _ c.in_ok-write_numbered.ensures.ok part)) c.write.ensures.err
