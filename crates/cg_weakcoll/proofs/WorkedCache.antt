@@ -1,5 +1,5 @@
 -- The worked script with a weak value map, by computation: the plain executor takes its steps.
-use Rattle.std.proofs.Common.{◌≡◌, ℕ, zero, suc, List, [], ◌∷◌, ◌++◌, refl, inl, inr}
+use Rattle.std.proofs.Common.{◌≡◌, ℕ, zero, suc, List, [], ◌∷◌, refl, inl, inr}
 use Rattle.cg_value.specs.declared.Val.TheVariants.{None as Nothing, Int, Ref}
 use Rattle.std.specs.Prelude.{pos}
 use Rattle.std.specs.Fmt.{digits}
@@ -13,10 +13,10 @@ use Rattle.cg_machine.specs.declared.event.Event.TheVariants.{Made, Refused}
 use Rattle.cg_machine.specs.World.{World, opening}
 use Rattle.cg_machine.specs.Run.{StepTaken}
 use Rattle.cg_machine.specs.Refusals.{◌>>=◌}
-use Rattle.cg_machine.proofs.Plain.{first_steps, first_steps_run, next}
+use Rattle.cg_machine.proofs.Plain.{first_steps_run, next}
 use Rattle.cg_weakcoll.specs.Expansion.{expansion}
 use Rattle.cg_weakcoll.specs.Maps.{Look, Store}
-use Rattle.cg_weakcoll.specs.Worked.{AnswersBoth, HasLookWith, a_cache, its_script}
+use Rattle.cg_weakcoll.specs.Worked.{HasLookWith, a_cache, its_script}
 
 -- the steps from a place on, and one of them
 abbrev start : World

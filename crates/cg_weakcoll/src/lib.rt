@@ -1,7 +1,7 @@
 //! Weak value maps and exit finalizers: extended scripts, which are expanded to scripts of the base language.
 //!
-//! `expand` is what the layer above uses: it answers the expansion of some bytes by `specs/Expansion`, or their first bad line. What weak value
-//! maps answer in every run of the machine is told by laws (`map_laws`).
+//! `expand` is what the layer above uses: it answers the expansion of some bytes by `specs/Expansion`, or their first bad line.
+//! Laws tell what weak value maps answer in every run of the machine.
 #![tactic(auto)]
 
 mod expander;
@@ -13,9 +13,11 @@ mod worked;
 mod write;
 
 pub use expander::expand;
-pub use map_laws::{expanded_looks_are_commands, expanded_stores_are_commands};
-pub use map_laws::{look_lines_are_commands, looks_answer, looks_find_referents, store_lines_are_commands, weak_maps_answer, weak_references_keep_their_referents};
-
+pub use map_laws::{
+    expanded_looks_are_commands, expanded_stores_are_commands, look_lines_are_commands,
+    looks_answer, looks_find_referents, store_lines_are_commands, weak_maps_answer,
+    weak_references_keep_their_referents,
+};
 pub use worked::a_cache_answers_both;
 
 #[cfg(test)]
