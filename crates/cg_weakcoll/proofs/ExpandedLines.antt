@@ -18,7 +18,7 @@ use Rattle.cg_graph.proofs.Members.{either, Includes-append_cases, Includes-map_
 use Rattle.cg_promises.proofs.ToldDeaths.{reversed_back}
 use Rattle.cg_weakcoll.specs.declared.form.Form.{Form}
 use Rattle.cg_weakcoll.specs.declared.form.Form.TheVariants.{MakeMap, Set, Get, Remove, Finalize}
-use Rattle.cg_weakcoll.specs.Expansion.{bad_or, call_line, call_lines, expanded_lines, expansion, fault_by, fault_of, final_lines, finalize_number, finalize_numbers_from, first_bad, first_bad_from, form_fault, form_lines, form_of, inside_after, is_finalize, name_fault, with_feeds, word_count, words_fit, written, written_by, written_from}
+use Rattle.cg_weakcoll.specs.Expansion.{bad_or, call_line, call_lines, expanded_lines, expansion, fault_by, fault_of, final_lines, finalize_number, finalize_numbers_from, first_bad, first_bad_from, form_fault, form_lines, form_of, inside_after, is_finalize, is_value_beside, name_fault, with_feeds, word_count, words_fit, written, written_by, written_from}
 use Rattle.cg_weakcoll.specs.MapLines.{ExpandedLooksAreCommands, HasLines}
 use Rattle.cg_weakcoll.proofs.LookLines.{look_lines}
 
@@ -312,6 +312,10 @@ sound_at [] place h low = absurd (omega (arith, low))
 sound_at (word ∷ words) zero h low = h.0
 sound_at (word ∷ words) (suc place) h low = sound_at words place h.1 (omega (arith, low))
 
+pub first_of_three : (a b c : Bool) → (a && b && c) ≡ true → a ≡ true
+first_of_three true b c e = refl
+first_of_three false b c e = absurd (cc)
+
 -- the lines of a `wget` line
 module _ (bytes : List ℕ) (fine : first_bad bytes ≡ None) (front : List (List ℕ)) (line : List ℕ) (back : List (List ℕ)) (all : lines_of bytes ≡ front ++ line ∷ back) (is : form_of (words_of line) ≡ Some Get) where
   abbrev words : List (List ℕ)
@@ -347,11 +351,7 @@ module _ (bytes : List ℕ) (fine : first_bad bytes ≡ None) (front : List (Lis
   }
 
   variable : is_variable x ≡ true
-  variable = first_of _ _ _ fits.fit
-    where
-      first_of : (a b c : Bool) → (a && b && c) ≡ true → a ≡ true
-      first_of true b c e = refl
-      first_of false b c e = absurd (cc)
+  variable = first_of_three (is_variable x) (is_value_beside x (word_at words 3)) (is_value_beside x (word_at words 4)) fits.fit
 
 pub expanded_looks : ExpandedLooksAreCommands
 expanded_looks bytes fine texts items e front line back all is =

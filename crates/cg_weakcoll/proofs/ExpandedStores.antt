@@ -11,12 +11,13 @@ use Rattle.cg_script.specs.Words.{atoms, begins_name, is_digit, is_identifier, i
 use Rattle.cg_script.specs.Forms.{bindings, openers}
 use Rattle.cg_script.specs.Canonical.{joined}
 use Rattle.cg_script.proofs.Ascii.{both}
+use Rattle.cg_graph.proofs.Members.{or_right}
 use Rattle.cg_script.proofs.Joined.{Graphic, and_both, sound_words, words_of-joined}
 use Rattle.cg_weakcoll.specs.declared.form.Form.TheVariants.{Set}
 use Rattle.cg_weakcoll.specs.Expansion.{expanded_lines, expansion, final_lines, first_bad, form_lines, form_of, weak_name, written_by, written_from}
 use Rattle.cg_weakcoll.specs.MapLines.{ExpandedStoresAreCommands, HasLines}
 use Rattle.cg_weakcoll.proofs.StoreLines.{store_lines}
-use Rattle.cg_weakcoll.proofs.ExpandedLines.{Fits, expansion_lines, fine_line, fits_of, graphic_by, sound_at, written-append}
+use Rattle.cg_weakcoll.proofs.ExpandedLines.{Fits, expansion_lines, fine_line, first_of_three, fits_of, graphic_by, sound_at, written-append}
 
 -- the digits of a number
 low_digits : (ds : List ℕ) → AllBelowBase 10 ds → list_all is_digit (map (λ d. 48 + d) ds) ≡ true
@@ -30,10 +31,6 @@ low_digits (d ∷ ds) h =
 number_digits : (l : ℕ) → l ≤ 400000 → list_all is_digit (decimal l) ≡ true
 number_digits zero low = ap (list_all is_digit) (decimal_digit 0 (omega arith))
 number_digits (suc l) low = ap (list_all is_digit) (decimal-digits_of (suc l) (omega arith) (omega (arith, low))) ∙ low_digits (digits_of 10 (suc l)) (all_below_base_digits_of 10 (suc l) (omega arith))
-
-or_right : (a b : Bool) → b ≡ true → (a || b) ≡ true
-or_right true b e = refl
-or_right false b e = e
 
 name_bytes : (ds : List ℕ) → list_all is_digit ds ≡ true → list_all is_name_byte ds ≡ true
 name_bytes [] e = refl
@@ -106,11 +103,7 @@ module _ (bytes : List ℕ) (fine : first_bad bytes ≡ None) (front : List (Lis
   }
 
   map_value : is_value (word_at words 1) ≡ true
-  map_value = first_of _ _ _ fits.fit
-    where
-      first_of : (a b c : Bool) → (a && b && c) ≡ true → a ≡ true
-      first_of true b c e = refl
-      first_of false b c e = absurd (cc)
+  map_value = first_of_three (is_value (word_at words 1)) (is_value (word_at words 2)) (is_value (word_at words 3)) fits.fit
 
 pub expanded_stores : ExpandedStoresAreCommands
 expanded_stores bytes fine texts items e front line back all is =
