@@ -13,3 +13,4 @@ pub mod StoreLines
 pub mod ExpandedLines
 pub mod ExpandedStores
 pub mod WorkedCache
+pub mod MissLaws
