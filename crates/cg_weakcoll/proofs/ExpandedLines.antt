@@ -1,19 +1,16 @@
 -- The lines of an expansion, and where the lines of a `wget` stand in them.
-use Rattle.std.proofs.Common.{◌≡◌, ℕ, zero, suc, ◌+◌, ◌≤◌, ◌<◌, List, [], ◌∷◌, ◌++◌, length, map, Bool, true, false, not, cond, ◌&&◌, ◌||◌, ◌==◌, Option, Some, None, refl, sym, ap, subst, ◌∙◌, arith, nat_le, nat_lt, inl, inr, ◌⊎◌, codes, filter, append_assoc}
-use Rattle.std.specs.Prelude.{decimal, flat_map, reverse, slice_index_or}
+use Rattle.std.proofs.Common.{◌≡◌, ℕ, zero, suc, ◌+◌, ◌≤◌, ◌<◌, List, [], ◌∷◌, ◌++◌, length, map, Bool, true, false, not, cond, ◌&&◌, ◌||◌, ◌==◌, Option, Some, None, refl, sym, ap, subst, ◌∙◌, arith, nat_le, nat_lt, inl, inr, codes, filter, append_assoc}
+use Rattle.std.specs.Prelude.{decimal, flat_map, reverse}
 use Rattle.std.specs.Option.{option_or}
-use Rattle.std.specs.List.{list_all, list_any}
-use Rattle.std.specs.Str.{bytes_eq}
+use Rattle.std.specs.List.{list_all}
 use Rattle.std.proofs.lemmas.Bool.Decides.{nat_tests}
 use Rattle.std.proofs.lemmas.Bool.{eqb-true}
 use Rattle.std.proofs.lemmas.Fmt.{decimal-digits_of, decimal_digit}
 use Rattle.std.proofs.lemmas.List.Folds.{list_all-append}
 use Rattle.std.specs.Int.Digits.{digits_of}
-use Rattle.cg_script.specs.declared.item.Item.{Item}
 use Rattle.cg_script.specs.Pieces.{pieces, onto, has_bytes, lines_of, words_of, word_at}
-use Rattle.cg_script.specs.Words.{is_printable, is_variable, is_value}
+use Rattle.cg_script.specs.Words.{is_printable, is_variable}
 use Rattle.cg_script.specs.Canonical.{behind_space, joined}
-use Rattle.cg_script.specs.Reading.{reading, spells}
 use Rattle.cg_script.proofs.Ascii.{both}
 use Rattle.cg_script.proofs.Joined.{EachSound, Graphic, sound_words, words_of-joined}
 use Rattle.cg_graph.specs.Member.{Includes}
@@ -21,8 +18,8 @@ use Rattle.cg_graph.proofs.Members.{either, Includes-append_cases, Includes-map_
 use Rattle.cg_promises.proofs.ToldDeaths.{reversed_back}
 use Rattle.cg_weakcoll.specs.declared.form.Form.{Form}
 use Rattle.cg_weakcoll.specs.declared.form.Form.TheVariants.{MakeMap, Set, Get, Remove, Finalize}
-use Rattle.cg_weakcoll.specs.Expansion.{bad_or, call_line, call_lines, exit_name, expanded_lines, expansion, fault_by, fault_of, final_lines, finalize_number, finalize_numbers_from, finalizes, first_bad, first_bad_from, form_fault, form_lines, form_of, inside_after, is_finalize, name_fault, function_name, object_name, proc_name, watch_name, weak_name, wget_lines, with_feed, with_feeds, word_count, words_fit, written, written_by, written_from}
-use Rattle.cg_weakcoll.specs.MapLines.{ExpandedLooksAreCommands, HasLines, HasLook}
+use Rattle.cg_weakcoll.specs.Expansion.{bad_or, call_line, call_lines, expanded_lines, expansion, fault_by, fault_of, final_lines, finalize_number, finalize_numbers_from, first_bad, first_bad_from, form_fault, form_lines, form_of, inside_after, is_finalize, is_value_beside, name_fault, with_feeds, word_count, words_fit, written, written_by, written_from}
+use Rattle.cg_weakcoll.specs.MapLines.{ExpandedLooksAreCommands, HasLines}
 use Rattle.cg_weakcoll.proofs.LookLines.{look_lines}
 
 -- bytes without a line feed
@@ -136,29 +133,65 @@ module _ (l : ℕ) (low : l ≤ 400000) (words : List (List ℕ)) (h : AreUnfed 
   named_unfed prefix k = unfed_both prefix (decimal l) k (number_unfed l low)
 
   form_unfed : (form : Form) → EachUnfed (form_lines form l words)
-  form_unfed MakeMap = ((word_unfed words 0 h, (refl, (refl, tt))),
-    tt)
-  form_unfed Set = ((named_unfed (codes "wv_") refl, (refl, (refl, (word_unfed words 3 h, tt)))),
-    ((refl, (word_unfed words 1 h, (word_unfed words 2 h, (named_unfed (codes "wv_") refl, tt)))),
-    ((refl, (named_unfed (codes "wv_") refl, tt)),
-    tt)))
-  form_unfed Get = ((word_unfed words 0 h, (refl, (refl, tt))),
-    ((word_unfed words 0 h, (refl, (refl, (word_unfed words 3 h, (word_unfed words 4 h, tt))))),
-    ((word_unfed words 0 h, (refl, (refl, (word_unfed words 0 h, tt)))),
-    tt)))
-  form_unfed Remove = ((refl, (word_unfed words 1 h, (word_unfed words 2 h, tt))),
-    tt)
-  form_unfed Finalize = ((refl, (named_unfed (codes "wv_p_") refl, tt)),
-    ((named_unfed (codes "wv_o_") refl, (refl, (refl, (named_unfed (codes "wv_w_") refl, tt)))),
-    ((refl, (named_unfed (codes "wv_o_") refl, tt)),
-    ((refl, (named_unfed (codes "wv_w_") refl, tt)),
-    ((refl, (named_unfed (codes "wv_o_") refl, tt)),
-    ((refl, (named_unfed (codes "wv_f_") refl, tt)),
-    ((refl, tt),
-    ((named_unfed (codes "wv_g_") refl, (refl, (refl, (named_unfed (codes "wv_p_") refl, tt)))),
-    ((named_unfed (codes "wv_f_") refl, (refl, (word_unfed words 2 h, tt))),
-    ((named_unfed (codes "wv_w_") refl, (refl, (refl, (word_unfed words 1 h, (named_unfed (codes "wv_f_") refl, tt))))),
-    tt))))))))))
+  form_unfed MakeMap = (
+    (word_unfed words 0 h, (refl, (refl, tt))),
+    tt,
+  )
+  form_unfed Set = (
+    (named_unfed (codes "wv_") refl, (refl, (refl, (word_unfed words 3 h, tt)))),
+    (
+      (refl, (word_unfed words 1 h, (word_unfed words 2 h, (named_unfed (codes "wv_") refl, tt)))),
+      (
+        (refl, (named_unfed (codes "wv_") refl, tt)),
+        tt,
+      ),
+    ),
+  )
+  form_unfed Get = (
+    (word_unfed words 0 h, (refl, (refl, tt))),
+    (
+      (word_unfed words 0 h, (refl, (refl, (word_unfed words 3 h, (word_unfed words 4 h, tt))))),
+      (
+        (word_unfed words 0 h, (refl, (refl, (word_unfed words 0 h, tt)))),
+        tt,
+      ),
+    ),
+  )
+  form_unfed Remove = (
+    (refl, (word_unfed words 1 h, (word_unfed words 2 h, tt))),
+    tt,
+  )
+  form_unfed Finalize = (
+    (refl, (named_unfed (codes "wv_p_") refl, tt)),
+    (
+      (named_unfed (codes "wv_o_") refl, (refl, (refl, (named_unfed (codes "wv_w_") refl, tt)))),
+      (
+        (refl, (named_unfed (codes "wv_o_") refl, tt)),
+        (
+          (refl, (named_unfed (codes "wv_w_") refl, tt)),
+          (
+            (refl, (named_unfed (codes "wv_o_") refl, tt)),
+            (
+              (refl, (named_unfed (codes "wv_f_") refl, tt)),
+              (
+                (refl, tt),
+                (
+                  (named_unfed (codes "wv_g_") refl, (refl, (refl, (named_unfed (codes "wv_p_") refl, tt)))),
+                  (
+                    (named_unfed (codes "wv_f_") refl, (refl, (word_unfed words 2 h, tt))),
+                    (
+                      (named_unfed (codes "wv_w_") refl, (refl, (refl, (word_unfed words 1 h, (named_unfed (codes "wv_f_") refl, tt))))),
+                      tt,
+                    ),
+                  ),
+                ),
+              ),
+            ),
+          ),
+        ),
+      ),
+    ),
+  )
 
 -- a line of a form that is not bad
 pub record Fits (form : Form) (l : ℕ) (line : List ℕ) (words : List (List ℕ)) : Type 0 where
@@ -279,6 +312,10 @@ sound_at [] place h low = absurd (omega (arith, low))
 sound_at (word ∷ words) zero h low = h.0
 sound_at (word ∷ words) (suc place) h low = sound_at words place h.1 (omega (arith, low))
 
+pub first_of_three : (a b c : Bool) → (a && b && c) ≡ true → a ≡ true
+first_of_three true b c e = refl
+first_of_three false b c e = absurd (cc)
+
 -- the lines of a `wget` line
 module _ (bytes : List ℕ) (fine : first_bad bytes ≡ None) (front : List (List ℕ)) (line : List ℕ) (back : List (List ℕ)) (all : lines_of bytes ≡ front ++ line ∷ back) (is : form_of (words_of line) ≡ Some Get) where
   abbrev words : List (List ℕ)
@@ -314,11 +351,7 @@ module _ (bytes : List ℕ) (fine : first_bad bytes ≡ None) (front : List (Lis
   }
 
   variable : is_variable x ≡ true
-  variable = first_of _ _ _ fits.fit
-    where
-      first_of : (a b c : Bool) → (a && b && c) ≡ true → a ≡ true
-      first_of true b c e = refl
-      first_of false b c e = absurd (cc)
+  variable = first_of_three (is_variable x) (is_value_beside x (word_at words 3)) (is_value_beside x (word_at words 4)) fits.fit
 
 pub expanded_looks : ExpandedLooksAreCommands
 expanded_looks bytes fine texts items e front line back all is =

@@ -1,23 +1,23 @@
 -- Where the lines of a `wset` stand in an expansion, and that the name which they bring is one of a variable.
-use Rattle.std.proofs.Common.{◌≡◌, ℕ, zero, suc, ◌+◌, ◌≤◌, ◌<◌, List, [], ◌∷◌, ◌++◌, length, length-append, map, Bool, true, false, not, ◌&&◌, ◌||◌, Some, None, refl, sym, ap, ◌∙◌, arith, nat_le, codes, append_assoc}
+use Rattle.std.proofs.Common.{◌≡◌, ℕ, zero, suc, ◌+◌, ◌≤◌, ◌<◌, List, [], ◌∷◌, ◌++◌, length, map, true, false, not, ◌&&◌, Some, None, refl, ap, ◌∙◌, arith, nat_le, codes, append_assoc}
 use Rattle.std.specs.Prelude.{decimal, slice_index}
 use Rattle.std.specs.List.{list_all}
 use Rattle.std.specs.Int.Digits.{AllBelowBase, digits_of}
 use Rattle.std.proofs.lemmas.Bool.Decides.{nat_tests}
 use Rattle.std.proofs.lemmas.Fmt.{decimal-digits_of, decimal_digit, length-decimal-le}
 use Rattle.std.proofs.lemmas.Int.Digits.{all_below_base_digits_of}
-use Rattle.std.proofs.lemmas.List.Folds.{list_all-append}
 use Rattle.cg_script.specs.Pieces.{lines_of, words_of, word_at}
 use Rattle.cg_script.specs.Words.{atoms, begins_name, is_digit, is_identifier, is_name_byte, is_reserved, is_value, is_variable}
 use Rattle.cg_script.specs.Forms.{bindings, openers}
 use Rattle.cg_script.specs.Canonical.{joined}
 use Rattle.cg_script.proofs.Ascii.{both}
+use Rattle.cg_graph.proofs.Members.{or_right}
 use Rattle.cg_script.proofs.Joined.{Graphic, and_both, sound_words, words_of-joined}
 use Rattle.cg_weakcoll.specs.declared.form.Form.TheVariants.{Set}
 use Rattle.cg_weakcoll.specs.Expansion.{expanded_lines, expansion, final_lines, first_bad, form_lines, form_of, weak_name, written_by, written_from}
 use Rattle.cg_weakcoll.specs.MapLines.{ExpandedStoresAreCommands, HasLines}
 use Rattle.cg_weakcoll.proofs.StoreLines.{store_lines}
-use Rattle.cg_weakcoll.proofs.ExpandedLines.{Fits, expansion_lines, fine_line, fits_of, graphic_by, sound_at, written-append}
+use Rattle.cg_weakcoll.proofs.ExpandedLines.{Fits, expansion_lines, fine_line, first_of_three, fits_of, graphic_by, sound_at, written-append}
 
 -- the digits of a number
 low_digits : (ds : List ℕ) → AllBelowBase 10 ds → list_all is_digit (map (λ d. 48 + d) ds) ≡ true
@@ -31,10 +31,6 @@ low_digits (d ∷ ds) h =
 number_digits : (l : ℕ) → l ≤ 400000 → list_all is_digit (decimal l) ≡ true
 number_digits zero low = ap (list_all is_digit) (decimal_digit 0 (omega arith))
 number_digits (suc l) low = ap (list_all is_digit) (decimal-digits_of (suc l) (omega arith) (omega (arith, low))) ∙ low_digits (digits_of 10 (suc l)) (all_below_base_digits_of 10 (suc l) (omega arith))
-
-or_right : (a b : Bool) → b ≡ true → (a || b) ≡ true
-or_right true b e = refl
-or_right false b e = e
 
 name_bytes : (ds : List ℕ) → list_all is_digit ds ≡ true → list_all is_name_byte ds ≡ true
 name_bytes [] e = refl
@@ -107,11 +103,7 @@ module _ (bytes : List ℕ) (fine : first_bad bytes ≡ None) (front : List (Lis
   }
 
   map_value : is_value (word_at words 1) ≡ true
-  map_value = first_of _ _ _ fits.fit
-    where
-      first_of : (a b c : Bool) → (a && b && c) ≡ true → a ≡ true
-      first_of true b c e = refl
-      first_of false b c e = absurd (cc)
+  map_value = first_of_three (is_value (word_at words 1)) (is_value (word_at words 2)) (is_value (word_at words 3)) fits.fit
 
 pub expanded_stores : ExpandedStoresAreCommands
 expanded_stores bytes fine texts items e front line back all is =

@@ -13,6 +13,7 @@ pub mod StoreLines
 pub mod ExpandedLines
 pub mod ExpandedStores
 pub mod WorkedCache
+pub mod MissLaws
 pub mod Acts
 pub mod ActsDeaths
 pub mod ActsCollections

@@ -46,7 +46,7 @@ weight_of_commands (Dying d) some = absurd (some refl)
 weight_of_commands (Collecting c) some = absurd (some refl)
 weight_of_commands (ShuttingDown started) some = absurd (some refl)
 
-count_append : (xs ys : List Event) → count_by is_enter (xs ++ ys) ≡ count_by is_enter xs + count_by is_enter ys
+pub count_append : (xs ys : List Event) → count_by is_enter (xs ++ ys) ≡ count_by is_enter xs + count_by is_enter ys
 count_append xs ys = sum_by-append (λ e. cond (is_enter e) 1 0) xs ys
 
 -- While no frame begins, what stood on top has its names, or has taken a command.

@@ -10,7 +10,7 @@ use Rattle.cg_script.specs.declared.Script.{Script}
 use Rattle.cg_script.specs.declared.Operand.{Operand}
 use Rattle.cg_script.specs.declared.Operand.TheVariants.{None as NoneWord, Int as IntWord, Str as StrWord, Name, SelfLocal, WeakLocal, Cell, Garbage}
 use Rattle.cg_script.specs.declared.Command.{Command}
-use Rattle.cg_script.specs.declared.Command.TheVariants.{MakeRef, Get, Deref}
+use Rattle.cg_script.specs.declared.Command.TheVariants.{MakeRef, Bind, Get, Deref}
 use Rattle.cg_graph.specs.Member.{Includes}
 use Rattle.cg_graph.specs.Value.{value_at}
 use Rattle.cg_graph.specs.Object.{Object, entries_of, object_at}
@@ -19,7 +19,7 @@ use Rattle.cg_machine.specs.declared.event.Event.TheVariants.{Made, Refused}
 use Rattle.cg_machine.specs.World.{World, Activity, TopLevel, Framed, Releasing, Dying, Collecting, ShuttingDown, Frame, push, with_stack}
 use Rattle.cg_machine.specs.Operands.{is_weak, object, object_of, tested, value_of}
 use Rattle.cg_machine.specs.Origins.{commands_on}
-use Rattle.cg_machine.specs.Refusals.{◌>>=◌, no_memory}
+use Rattle.cg_machine.specs.Refusals.{◌>>=◌, no_memory, no_name}
 use Rattle.cg_machine.specs.Effects.{Effect, Changes, bound, given_up_by, with_new}
 use Rattle.cg_machine.specs.Commands.{effect, refused, DoesEffect}
 use Rattle.cg_machine.specs.Frame.{Yields}
@@ -45,7 +45,14 @@ pub changes_so : (script : Script) (u : World) (wants_memory : Bool) (lines : Li
 changes_so script u wants_memory lines given_up next events after none (inl step) = (step.0, step.1)
 changes_so script u wants_memory lines given_up next events after none (inr step) = absurd (not_refused no_memory u events after none step.1)
 
--- what a step has done that took a command
+-- what a step does that takes a command
+pub record Took (script : Script) (w : World) (command : Command) (left : List Command) (below : List Activity) (step : StepTaken) : Type 0 where
+  pub top : Activity
+  pub commands : commands_on top ≡ left
+  pub values : (operand : Operand) → value_of (with_stack (top ∷ below) w) operand ≡ value_of w operand
+  pub does : DoesEffect script (with_stack (top ∷ below) w) (effect (with_stack (top ∷ below) w) command) step.events step.world
+
+-- where it is not refused
 pub record Done (script : Script) (w : World) (command : Command) (left : List Command) (below : List Activity) (step : StepTaken) : Type 0 where
   pub top : Activity
   pub commands : commands_on top ≡ left
@@ -76,31 +83,31 @@ frame_values f cs below w (Cell i) = refl
 frame_values f cs below w Garbage = refl
 
 module _ (script : Script) (w : World) (command : Command) (left : List Command) (below : List Activity) (step : StepTaken) where
-  done : (top : Activity) → commands_on top ≡ left → ((operand : Operand) → value_of (with_stack (top ∷ below) w) operand ≡ value_of w operand) → IsAccepted step.events
-      → DoesEffect script (with_stack (top ∷ below) w) (effect (with_stack (top ∷ below) w) command) step.events step.world → Done script w command left below step
-  done top commands values none does =
-      let r = accepts script (with_stack (top ∷ below) w) (effect (with_stack (top ∷ below) w) command) step.events step.world none does in
-      record { top = top; commands = commands; values = values; what = r.0; is = r.1; does = r.2 }
-
   same_world : (a : Activity) → w.stack ≡ a ∷ below → with_stack (a ∷ below) w ≡ w
   same_world a e = ap (λ (st : List Activity). with_stack st w) (sym e)
 
-  by_top : (a : Activity) → w.stack ≡ a ∷ below → commands_on a ≡ command ∷ left → due w ≡ None → IsAccepted step.events → StepOf script w (a ∷ below) step.events step.world → Done script w command left below step
-  by_top (TopLevel commands) e c d none s =
-      let taken = subst (λ (cs : List Command). TopLevelStep script w (due w) cs below step.events step.world) c s in
-      let does = subst (λ (m : Option ℕ). TopLevelStep script w m (command ∷ left) below step.events step.world) d taken in
-      done (TopLevel left) refl (λ operand. top_values left commands below w operand ∙ ap (λ (z : World). value_of z operand) (same_world (TopLevel commands) e)) none does
-  by_top (Framed f) e c d none s =
-      let taken = subst (λ (cs : List Command). FrameStep script w f cs below step.events step.world) c s in
-      let does = subst (λ (m : Option ℕ). CommandInFrame script w m f command left below step.events step.world) d taken in
-      done (Framed (record f { commands = left })) refl (λ operand. frame_values f left below w operand ∙ ap (λ (z : World). value_of z operand) (same_world (Framed f) e)) none does
-  by_top (Releasing references) e c d none s = absurd (let no : [] ≡ command ∷ left = c in cc)
-  by_top (Dying death) e c d none s = absurd (let no : [] ≡ command ∷ left = c in cc)
-  by_top (Collecting collection) e c d none s = absurd (let no : [] ≡ command ∷ left = c in cc)
-  by_top (ShuttingDown started) e c d none s = absurd (let no : [] ≡ command ∷ left = c in cc)
+  by_top : (a : Activity) → w.stack ≡ a ∷ below → commands_on a ≡ command ∷ left → due w ≡ None → StepOf script w (a ∷ below) step.events step.world → Took script w command left below step
+  by_top (TopLevel commands) e c d s =
+      let first = subst (λ (cs : List Command). TopLevelStep script w (due w) cs below step.events step.world) c s in
+      let does = subst (λ (m : Option ℕ). TopLevelStep script w m (command ∷ left) below step.events step.world) d first in
+      record { top = TopLevel left; commands = refl; values = λ operand. top_values left commands below w operand ∙ ap (λ (z : World). value_of z operand) (same_world (TopLevel commands) e); does = does }
+  by_top (Framed f) e c d s =
+      let first = subst (λ (cs : List Command). FrameStep script w f cs below step.events step.world) c s in
+      let does = subst (λ (m : Option ℕ). CommandInFrame script w m f command left below step.events step.world) d first in
+      record { top = Framed (record f { commands = left }); commands = refl; values = λ operand. frame_values f left below w operand ∙ ap (λ (z : World). value_of z operand) (same_world (Framed f) e); does = does }
+  by_top (Releasing references) e c d s = absurd (let no : [] ≡ command ∷ left = c in cc)
+  by_top (Dying death) e c d s = absurd (let no : [] ≡ command ∷ left = c in cc)
+  by_top (Collecting collection) e c d s = absurd (let no : [] ≡ command ∷ left = c in cc)
+  by_top (ShuttingDown started) e c d s = absurd (let no : [] ≡ command ∷ left = c in cc)
+
+  pub taken : (top : Activity) → w.stack ≡ top ∷ below → commands_on top ≡ command ∷ left → due w ≡ None → Step script w step.events step.world → Took script w command left below step
+  taken top stack commands not_due s = by_top top stack commands not_due (subst (λ (st : List Activity). StepOf script w st step.events step.world) stack s.step)
 
   pub taken_done : Step script w step.events step.world → Takes w (command ∷ left) below step → Done script w command left below step
-  taken_done s t = by_top t.top t.stack t.commands t.not_due t.accepted (subst (λ (st : List Activity). StepOf script w st step.events step.world) t.stack s.step)
+  taken_done s t =
+      let k = taken t.top t.stack t.commands t.not_due s in
+      let r = accepts script (with_stack (k.top ∷ below) w) (effect (with_stack (k.top ∷ below) w) command) step.events step.world t.accepted k.does in
+      record { top = k.top; commands = k.commands; values = k.values; what = r.0; is = r.1; does = r.2 }
 
 -- Checks in order, where the last one passes.
 then_ok : {A B : Type 0} (m : Result A ℕ) (f : A → Result B ℕ) (y : B) → (m >>= f) ≡ Ok y → (x : A) × (m ≡ Ok x) × (f x ≡ Ok y)
@@ -119,6 +126,9 @@ ok_tested test n y x h = go (test y) refl h
     go true t k = let same : y ≡ x = cc in (same, ap test (sym same) ∙ t)
     go false t k = absurd (let no : ◌≡◌ {A = Result Object ℕ} (Err n) (Ok x) = k in cc)
 
+unwrapped : (a b : Effect) → ◌≡◌ {A = Result Effect ℕ} (Ok a) (Ok b) → b ≡ a
+unwrapped a b i = cc
+
 -- an object, by the value that refers to it
 pub record IsObject (w : World) (v : Val) (x : Object) : Type 0 where
   pub serial : ℕ
@@ -136,6 +146,15 @@ ok_object w test n v x h =
     let a = then_ok (ok_or (object_of w v) n) (λ y. tested test n y) x h in
     let t = ok_tested test n a.0 x a.2 in
     (refers w v x (ok_found (object_of w v) n a.0 a.1 ∙ ap (λ z. Some z) t.0), t.1)
+
+-- `x = none`
+pub none_binds : (u : World) (x : ℕ) (e : Effect) → effect u (Bind x NoneWord) ≡ Ok e → e ≡ Changes false [] (given_up_by u x) (bound u x (Some Nothing))
+none_binds u x e h =
+    let v = then_ok _ _ e h in
+    unwrapped (Changes false [] (given_up_by u x) (bound u x (Some v.0))) e v.2 ∙ ap (λ (n : Val). Changes false [] (given_up_by u x) (bound u x (Some n))) (sym (inner v.0 (ok_found (Some Nothing) no_name v.0 v.1)))
+  where
+    inner : (n : Val) → Some Nothing ≡ Some n → Nothing ≡ n
+    inner n i = cc
 
 -- `x = get m k`
 pub record Gets (u : World) (x : ℕ) (map key : Operand) (e : Effect) : Type 0 where
@@ -164,9 +183,18 @@ get_gets u x map key e h =
       entry = ap (λ (m : Option Object). value_at (unwrap_or (option_map (λ (z : Object). z.entries) m) []) k.0) object.at ∙ ok_found (value_at o.0.entries k.0) _ v.0 v.1;
       is = unwrapped (Changes false [] (given_up_by u x) (bound u x (Some v.0))) e v.2;
     }
+
+-- a refused one binds nothing
+pub get_refused : (script : Script) (u : World) (x : ℕ) (map key : Operand) (events : List Event) (after : World) (n : ℕ) → DoesEffect script u (effect u (Get x map key)) events after → Includes events (Refused n) → after.names ≡ u.names
+get_refused script u x map key events after n does m = go (effect u (Get x map key)) refl does
   where
-    unwrapped : (a b : Effect) → ◌≡◌ {A = Result Effect ℕ} (Ok a) (Ok b) → b ≡ a
-    unwrapped a b i = cc
+    never : (v : Val) → DoesEffect script u (Ok (Changes false [] (given_up_by u x) (bound u x (Some v)))) events after → ⊥
+    never v (inl step) = subst (λ (es : List Event). Includes es (Refused n)) step.0 m
+    never v (inr step) = let no : false ≡ true = step.0 in cc
+
+    go : (r : Result Effect ℕ) → effect u (Get x map key) ≡ r → DoesEffect script u r events after → after.names ≡ u.names
+    go (Err k) e step = ap (λ (z : World). z.names) step.1
+    go (Ok e) is step = let g = get_gets u x map key e is in absurd (never g.val (subst (λ k. DoesEffect script u (Ok k) events after) g.is step))
 
 -- a weak reference
 weak_code : (k : KindCode) → elim k [ Weak ↦ true | _ ↦ false ] ≡ true → k ≡ Weak
@@ -206,9 +234,6 @@ deref_derefs u x word e h =
       code = weak_code o.0.code object.1;
       is = unwrapped (Changes false [] (given_up_by u x) (bound u x (Some (elim o.0.referent [ None ↦ Nothing | Some r ↦ Ref r ])))) e o.2 ∙ ap (λ r. Changes false [] (given_up_by u x) (bound u x (Some r))) (referent_is o.0.referent);
     }
-  where
-    unwrapped : (a b : Effect) → ◌≡◌ {A = Result Effect ℕ} (Ok a) (Ok b) → b ≡ a
-    unwrapped a b i = cc
 
 -- `x = ref v f`
 pub record Refs (u : World) (x : ℕ) (target : Operand) (e : Effect) : Type 0 where
@@ -233,6 +258,3 @@ ref_refs u x target callback e h =
       target_is = ok_found (value_of u target) _ v.0 v.1 ∙ ap (λ z. Some z) (object.value ∙ ap (λ n. Ref n) (sym found.1));
       is = unwrapped (Changes true (Made Weak u.next_serial ∷ []) (given_up_by u x) (bound (with_new u Weak None es.0 (Some o.0.serial)) x (Some (Ref u.next_serial)))) e second.2;
     }
-  where
-    unwrapped : (a b : Effect) → ◌≡◌ {A = Result Effect ℕ} (Ok a) (Ok b) → b ≡ a
-    unwrapped a b i = cc

@@ -1,8 +1,9 @@
 -- The worked script with a weak value map, by computation: the plain executor takes its steps.
-use Rattle.std.proofs.Common.{◌≡◌, ℕ, zero, suc, List, [], ◌∷◌, ◌++◌, refl, inl, inr}
+use Rattle.std.proofs.Common.{◌≡◌, ℕ, zero, suc, List, [], ◌∷◌, refl, inl, inr}
 use Rattle.cg_value.specs.declared.Val.TheVariants.{None as Nothing, Int, Ref}
 use Rattle.std.specs.Prelude.{pos}
 use Rattle.std.specs.Fmt.{digits}
+use Rattle.cg_script.specs.declared.Operand.TheVariants.{Int as IntWord, Name}
 use Rattle.cg_script.specs.Words.{atoms}
 use Rattle.cg_script.specs.Forms.{bindings, openers}
 use Rattle.cg_script.specs.Meanings.{meaning}
@@ -11,12 +12,12 @@ use Rattle.cg_value.specs.declared.KindCode.TheVariants.{Weak}
 use Rattle.cg_graph.specs.Member.{Includes}
 use Rattle.cg_machine.specs.declared.event.Event.TheVariants.{Made, Refused}
 use Rattle.cg_machine.specs.World.{World, opening}
-use Rattle.cg_machine.specs.Run.{StepTaken}
+use Rattle.cg_machine.specs.Run.{StepTaken, world_after}
 use Rattle.cg_machine.specs.Refusals.{◌>>=◌}
-use Rattle.cg_machine.proofs.Plain.{first_steps, first_steps_run, next}
+use Rattle.cg_machine.proofs.Plain.{first_steps_run, next}
 use Rattle.cg_weakcoll.specs.Expansion.{expansion}
-use Rattle.cg_weakcoll.specs.Maps.{Look, Store}
-use Rattle.cg_weakcoll.specs.Worked.{AnswersBoth, HasLookWith, a_cache, its_script}
+use Rattle.cg_weakcoll.specs.Maps.{Look, Store, Stores}
+use Rattle.cg_weakcoll.specs.Worked.{HasLookWith, a_cache, its_script}
 
 -- the steps from a place on, and one of them
 abbrev start : World
@@ -50,6 +51,18 @@ accepted_made : (n : ℕ) → Includes (Made Weak 4 ∷ []) (Refused n) → ⊥
 accepted_made n (inl e) = cc
 accepted_made n (inr m) = m
 
+stored : Stores (world_after its_script 100 (steps_at 0 4)) 3 (Name 1) (IntWord (pos 1)) (Name 2) the_store 4 3
+unfolding ◌>>=◌
+stored = record {
+  rest = _;
+  below = [];
+  makes = record { top = _; stack = refl; commands = refl; not_due = refl; accepted = λ n m. accepted_made n m };
+  target_is = refl;
+  line = refl;
+  puts = record { top = _; stack = refl; commands = refl; not_due = refl; accepted = λ n m. m };
+  put_is = refl;
+}
+
 pub alive : HasLookWith (Ref 3)
 unfolding ◌>>=◌
 alive = record {
@@ -58,15 +71,7 @@ alive = record {
   between = steps_at 7 4;
   look = first_look;
   run = first_steps_run its_script 16 start tt;
-  stores = record {
-    rest = _;
-    below = [];
-    makes = record { top = _; stack = refl; commands = refl; not_due = refl; accepted = λ n m. accepted_made n m };
-    target_is = refl;
-    line = refl;
-    puts = record { top = _; stack = refl; commands = refl; not_due = refl; accepted = λ n m. m };
-    put_is = refl;
-  };
+  stores = stored;
   looks = record {
     rest = _;
     below = [];
@@ -90,15 +95,7 @@ gone = record {
   between = steps_at 7 26;
   look = second_look;
   run = first_steps_run its_script 38 start tt;
-  stores = record {
-    rest = _;
-    below = [];
-    makes = record { top = _; stack = refl; commands = refl; not_due = refl; accepted = λ n m. accepted_made n m };
-    target_is = refl;
-    line = refl;
-    puts = record { top = _; stack = refl; commands = refl; not_due = refl; accepted = λ n m. m };
-    put_is = refl;
-  };
+  stores = stored;
   looks = record {
     rest = _;
     below = [];

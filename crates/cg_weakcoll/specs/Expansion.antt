@@ -2,7 +2,7 @@
 -- all others are copied. (Ours; after CPython's `weakref.WeakValueDictionary` and `weakref.finalize`.)
 --
 -- Lines and words are those of a script (cg_script `Pieces`). A line that is written is given by its words, or is a copy.
-use Rattle.std.specs.Prelude.{◌≡◌, ℕ, ◌+◌, List, [], ◌∷◌, ◌++◌, Bool, true, false, not, ◌&&◌, ◌||◌, length, map, flat_map, reverse, take, codes, decimal, ◌==◌, nat_lt, if◌then◌else◌, Option, None, Some, is_some}
+use Rattle.std.specs.Prelude.{◌≡◌, ℕ, ◌+◌, List, [], ◌∷◌, ◌++◌, Bool, true, false, not, ◌&&◌, ◌||◌, length, map, flat_map, reverse, codes, decimal, ◌==◌, nat_lt, if◌then◌else◌, Option, None, Some, is_some}
 use Rattle.std.specs.Option.{option_or}
 use Rattle.std.specs.List.{list_all, list_any}
 use Rattle.std.specs.Str.{bytes_eq}

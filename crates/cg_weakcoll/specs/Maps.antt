@@ -6,6 +6,7 @@ use Rattle.cg_value.specs.declared.Val.{Val}
 use Rattle.cg_value.specs.declared.Val.TheVariants.{None as Nothing, Ref}
 use Rattle.cg_value.specs.declared.KindCode.TheVariants.{Weak}
 use Rattle.cg_script.specs.declared.Script.{Script}
+use Rattle.cg_script.specs.Texts.{TextsAreKnown}
 use Rattle.cg_script.specs.declared.Operand.{Operand}
 use Rattle.cg_script.specs.declared.Operand.TheVariants.{None as NoneWord, Name}
 use Rattle.cg_script.specs.declared.Command.{Command}
@@ -90,6 +91,25 @@ pub record Looks (w : World) (x : ℕ) (map key : Operand) (look : Look) : Type 
   pub gets : Takes (before_second look) (Get x map key ∷ Deref x (Name x) ∷ rest) below look.second
   pub derefs : Takes (before_third look) (Deref x (Name x) ∷ rest) below look.third
   pub no_frame : count_by is_enter (events_of (look.second ∷ look.late)) ≡ 0
+
+-- From a world on these steps take the first two commands of `x = wget M k`: no frame begins from the first to the second, and that is refused, as it
+-- is where the map has no such key.
+pub record Misses (w : World) (x : ℕ) (map key : Operand) (first : StepTaken) (early : List StepTaken) (second : StepTaken) : Type 0 where
+  pub rest : List Command
+  pub below : List Activity
+  pub binds : Takes w (wget_commands x map key ++ rest) below first
+  pub no_frame : count_by is_enter (events_of (first ∷ early)) ≡ 0
+  pub top : Activity
+  pub stack : (last_world first.world early).stack ≡ top ∷ below
+  pub commands : commands_on top ≡ Get x map key ∷ Deref x (Name x) ∷ rest
+  pub not_due : due (last_world first.world early) ≡ None
+  pub number : ℕ
+  pub refused : Includes second.events (Refused number)
+
+-- The variable is none then.
+abbrev pub MissesLeaveNone : Type 0
+MissesLeaveNone = (script : Script) (budget : ℕ) (before : List StepTaken) (first : StepTaken) (early : List StepTaken) (second : StepTaken) → TextsAreKnown script → IsRun script budget (before ++ first ∷ early ++ second ∷ [])
+    → (x : ℕ) (map key : Operand) → Misses (world_after script budget before) x map key first early second → value_of second.world (Name x) ≡ Some Nothing
 
 -- in a world the value under the key of a map is this weak reference
 pub record IsUnder (w : World) (map key : Operand) (weak : ℕ) : Type 0 where

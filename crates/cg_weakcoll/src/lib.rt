@@ -15,9 +15,11 @@ mod write;
 
 pub use exit_laws::exits_begin_once;
 pub use expander::expand;
-pub use map_laws::{expanded_looks_are_commands, expanded_stores_are_commands};
-pub use map_laws::{look_lines_are_commands, looks_answer, looks_find_referents, store_lines_are_commands, weak_maps_answer, weak_references_keep_their_referents};
-
+pub use map_laws::{
+    expanded_looks_are_commands, expanded_stores_are_commands, look_lines_are_commands,
+    looks_answer, looks_find_referents, store_lines_are_commands, weak_maps_answer,
+    weak_references_keep_their_referents,
+};
 pub use worked::a_cache_answers_both;
 
 #[cfg(test)]
