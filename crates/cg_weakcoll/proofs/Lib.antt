@@ -14,3 +14,5 @@ pub mod HiddenKept
 pub mod StageSteps
 pub mod Names
 pub mod Watch
+pub mod WatchSteps
+pub mod WatchKept

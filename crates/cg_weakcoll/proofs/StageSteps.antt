@@ -214,13 +214,13 @@ module _ (script : Script) (budget : ℕ) (e : Exit) (ex : IsExit script e) (P :
   tame_taken command a b (FromTop commands) h = (h command (inl refl), λ c m. h c (inr m))
   tame_taken command a b (FromFrame f commands left) h = (h command (subst (λ cs. Includes cs command) (sym left) (inl refl)), λ c m. h c (subst (λ cs. Includes cs c) (sym left) (inr m)))
 
-  tame_call : (stack : List Activity) → AreTame e stack → is_call e.function (next_command stack) ≡ false
+  pub tame_call : (stack : List Activity) → AreTame e stack → is_call e.function (next_command stack) ≡ false
   tame_call [] h = refl
   tame_call (TopLevel commands ∷ below) h = others_call script budget e ex commands (h (TopLevel commands) (inl refl))
   tame_call (Framed f ∷ below) h = others_call script budget e ex f.commands (h (Framed f) (inl refl))
   tame_call (a ∷ below) h = refl
 
-  top_call : (done commands : List Command) → commands_of script.items ≡ done ++ commands → is_call e.function (first_of commands) ≡ false
+  pub top_call : (done commands : List Command) → commands_of script.items ≡ done ++ commands → is_call e.function (first_of commands) ≡ false
   top_call done [] at = refl
   top_call done (c ∷ commands) at = go (positioned script e ex done commands c at)
     where

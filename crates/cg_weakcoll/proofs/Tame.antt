@@ -234,7 +234,7 @@ module _ (script : Script) (budget : ℕ) (e : Exit) (ex : IsExit script e) wher
   pub same_top : (a b : Activity) (below under : List Activity) (stack : List Activity) → stack ≡ a ∷ below → stack ≡ b ∷ under → (a ≡ b) × (below ≡ under)
   same_top a b below under stack x y = let both : a ∷ below ≡ b ∷ under = sym x ∙ y in (let top : a ≡ b = cc in top, let rest : below ≡ under = cc in rest)
 
-  high_taken : (command : Command) (a b : Activity) → Takes command a b → IsHigh e a → IsOther e command × IsHigh e b
+  pub high_taken : (command : Command) (a b : Activity) → Takes command a b → IsHigh e a → IsOther e command × IsHigh e b
   high_taken command a b (FromTop commands) h = absurd h
   high_taken command a b (FromFrame f commands left) h = (h command (subst (λ cs. Includes cs command) (sym left) (inl refl)), λ c m. h c (subst (λ cs. Includes cs c) (sym left) (inr m)))
 
