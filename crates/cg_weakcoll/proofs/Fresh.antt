@@ -62,7 +62,7 @@ module _ (script : Script) (budget : ℕ) (w : World) (k : Known script budget w
   root_below = held_below 1 (Includes-append_left (name_holdings w.names ++ (1 ∷ []) ++ entry_holdings (graph_of w.objects)) (flat_map holds w.stack) 1
       (Includes-append_left (name_holdings w.names ++ (1 ∷ [])) (entry_holdings (graph_of w.objects)) 1 (Includes-append_right (name_holdings w.names) (1 ∷ []) 1 (inl refl))))
 
-  member_below : (x : Object) → Includes w.objects x → x.serial < w.next_serial
+  pub member_below : (x : Object) → Includes w.objects x → x.serial < w.next_serial
   member_below x m = lives_below x.serial (Includes-map (λ (z : Object). z.serial) w.objects x m)
 
   some_is : (m n : ℕ) → Some m ≡ Some n → m ≡ n

@@ -16,3 +16,4 @@ pub mod Names
 pub mod Watch
 pub mod WatchSteps
 pub mod WatchKept
+pub mod ExitRuns
