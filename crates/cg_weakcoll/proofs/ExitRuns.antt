@@ -1,47 +1,45 @@
 -- In every run the function of an exit finalizer begins at most once.
-use Rattle.std.proofs.Common.{◌≡◌, ◌≢◌, refl, sym, ◌∙◌, ap, subst, ℕ, zero, suc, ◌+◌, ◌<◌, ◌≤◌, Bool, true, false, cond, inl, inr, ◌⊎◌, List, [], ◌∷◌, ◌++◌, Option, Some, None, arith}
-use Rattle.std.specs.Prelude.{◌==◌, count_by, if◌then◌else◌, option_and_then, slice_get}
+use Rattle.std.proofs.Common.{◌≡◌, ◌≢◌, refl, sym, ◌∙◌, ap, subst, ℕ, ◌+◌, ◌<◌, ◌≤◌, false, cond, inl, inr, ◌⊎◌, List, [], ◌∷◌, ◌++◌, Option, Some, None, arith}
+use Rattle.std.specs.Prelude.{count_by, if◌then◌else◌, option_and_then, slice_get}
 use Rattle.std.proofs.lemmas.List.{append_assoc}
 use Rattle.std.proofs.lemmas.List.Sums.{sum_by-append}
-use Rattle.cg_value.specs.declared.KindCode.TheVariants.{List as ListKind, Func, Inst, Weak}
+use Rattle.cg_value.specs.declared.KindCode.TheVariants.{List as ListKind, Func, Weak}
 use Rattle.cg_value.specs.declared.Val.{Val}
 use Rattle.cg_value.specs.declared.Val.TheVariants.{None as Nothing, Int, Str, Ref}
-use Rattle.cg_value.specs.declared.Entry.{Entry}
 use Rattle.cg_script.specs.declared.Script.{Script}
 use Rattle.cg_script.specs.declared.Command.{Command}
-use Rattle.cg_script.specs.declared.Command.TheVariants.{Call, MakeRef}
+use Rattle.cg_script.specs.declared.Command.TheVariants.{Call}
 use Rattle.cg_script.specs.declared.Operand.TheVariants.{Name}
 use Rattle.cg_script.specs.Texts.{TextsAreKnown}
 use Rattle.cg_graph.specs.Member.{Includes}
 use Rattle.cg_graph.specs.Object.{Object, serials}
 use Rattle.cg_graph.specs.Value.{item, references, references_of_value}
-use Rattle.cg_graph.proofs.Members.{either, Includes-append_cases, Includes-map_cases}
+use Rattle.cg_graph.proofs.Members.{either, Includes-append_cases}
 use Rattle.cg_machine.specs.declared.event.Event.{Event}
-use Rattle.cg_machine.specs.declared.event.Event.TheVariants.{Enter, Made, Refused}
+use Rattle.cg_machine.specs.declared.event.Event.TheVariants.{Enter, Made}
 use Rattle.cg_machine.specs.declared.event.FrameSort.TheVariants.{Callback}
 use Rattle.cg_machine.specs.Program.{commands_of}
-use Rattle.cg_machine.specs.World.{World, Activity, TopLevel, Framed, Releasing, Dying, Collecting, ShuttingDown, Frame, opening, push, with_stack}
-use Rattle.cg_machine.specs.Effects.{bound, given_up_by, with_new}
+use Rattle.cg_machine.specs.World.{World, Activity, TopLevel, Framed, Releasing, Dying, Collecting, ShuttingDown, opening, with_stack}
+use Rattle.cg_machine.specs.Effects.{given_up_by}
 use Rattle.cg_machine.specs.Laws.{is_enter}
-use Rattle.cg_machine.specs.Operands.{object_of, value_of}
+use Rattle.cg_machine.specs.Operands.{value_of}
 use Rattle.cg_machine.specs.Origins.{commands_on}
 use Rattle.cg_machine.specs.Run.{IsRun, Run, Step, StepTaken, events_of, last_world, world_after}
 use Rattle.cg_machine.proofs.Ending.{Run-append, last_world-append}
 use Rattle.cg_machine.proofs.Forgotten.{lives_within}
 use Rattle.cg_machine.proofs.Fronts.{events_of-append}
-use Rattle.cg_machine.proofs.Invariants.{FromTop, Takes, on}
+use Rattle.cg_machine.proofs.Invariants.{FromTop, on}
 use Rattle.cg_promises.proofs.Told.{Says}
 use Rattle.cg_promises.proofs.ToldRuns.{run_back, run_front, step_goes}
-use Rattle.cg_weakcoll.specs.Exits.{AllOther, BeginsOnce, Exit, ExitsBeginOnce, IsExit, IsOther, MakesWatch, calls_from, first_of, is_call, is_callback_of, names_of, next_command, watch_command}
-use Rattle.cg_weakcoll.proofs.Acts.{Acts}
+use Rattle.cg_weakcoll.specs.Exits.{AllOther, Exit, ExitsBeginOnce, IsExit, IsOther, MakesWatch, calls_from, first_of, is_call, is_callback_of, names_of, next_command, watch_command}
 use Rattle.cg_weakcoll.proofs.Fresh.{Unborn, member_below, named_below, new_hidden, unborn, unborn_taken}
 use Rattle.cg_weakcoll.proofs.HiddenKept.{hidden_kept}
 use Rattle.cg_weakcoll.proofs.Names.{done_names, set_got}
 use Rattle.cg_weakcoll.proofs.Once.{Tells}
 use Rattle.cg_weakcoll.proofs.Own.{IsRef, ref_step}
-use Rattle.cg_weakcoll.proofs.Secret.{Hidden, held_by}
-use Rattle.cg_weakcoll.proofs.Stage.{After, AreTame, AtCall, AtDeref, AtObject, AtQuit, AtWatch, Before, During, InFirst, InLast, InOther, InSecond, InThird, IsTail, Position, Stage, heads, high_tame, positioned, stage_told, top_is}
-use Rattle.cg_weakcoll.proofs.StageSteps.{Advances, Rests, stage_step}
+use Rattle.cg_weakcoll.proofs.Secret.{Hidden}
+use Rattle.cg_weakcoll.proofs.Stage.{After, AreTame, AtCall, AtDeref, AtObject, AtQuit, AtWatch, Before, During, InFirst, InLast, InOther, InSecond, InThird, IsTail, Position, Stage, high_tame, positioned, stage_told, top_is}
+use Rattle.cg_weakcoll.proofs.StageSteps.{Rests, stage_step}
 use Rattle.cg_weakcoll.proofs.Tame.{AreHidden, IsHigh, high_taken, same_top}
 use Rattle.cg_weakcoll.proofs.Tell.{went_tells}
 use Rattle.cg_weakcoll.proofs.Watch.{Standing, StandsDeref, Watching, callbacks, none_counted, standing_rests}

@@ -1,8 +1,8 @@
 -- The functions of the procedure of an exit finalizer stay hidden.
-use Rattle.std.proofs.Common.{◌≡◌, ◌≢◌, refl, sym, ◌∙◌, ap, subst, ℕ, ◌+◌, ◌-◌, ◌<◌, ◌≤◌, Bool, true, false, inl, inr, ◌⊎◌, List, [], ◌∷◌, ◌++◌, Option, Some, None, arith}
-use Rattle.std.specs.Prelude.{◌==◌, if◌then◌else◌, slice_set}
+use Rattle.std.proofs.Common.{◌≡◌, ◌≢◌, refl, sym, ◌∙◌, ap, subst, ℕ, ◌-◌, Bool, true, false, inl, inr, ◌⊎◌, List, [], ◌∷◌, Option, Some, None}
+use Rattle.std.specs.Prelude.{◌==◌, if◌then◌else◌}
 use Rattle.cg_value.specs.declared.KindCode.{KindCode}
-use Rattle.cg_value.specs.declared.KindCode.TheVariants.{List as ListKind, Tuple, Dict, Func, Inst, Weak}
+use Rattle.cg_value.specs.declared.KindCode.TheVariants.{Func, Weak}
 use Rattle.cg_value.specs.declared.Val.TheVariants.{Ref}
 use Rattle.cg_script.specs.declared.Script.{Script}
 use Rattle.cg_script.specs.declared.Command.{Command}
@@ -17,26 +17,26 @@ use Rattle.cg_machine.specs.declared.event.Event.{Event}
 use Rattle.cg_machine.specs.declared.event.Event.TheVariants.{BudgetSpent, Enter, Made}
 use Rattle.cg_machine.specs.declared.event.FrameSort.TheVariants.{Call as CallFrame}
 use Rattle.cg_machine.specs.Program.{body_of}
-use Rattle.cg_machine.specs.World.{World, Activity, TopLevel, Framed, Releasing, Dying, Collecting, ShuttingDown, Frame, Ended, BudgetIsSpent, push, with_stack}
+use Rattle.cg_machine.specs.World.{World, Activity, TopLevel, Framed, Releasing, ShuttingDown, Frame, Ended, BudgetIsSpent, push, with_stack}
 use Rattle.cg_machine.specs.Frame.{Yields, procedure_of, start_frame}
 use Rattle.cg_machine.specs.Effects.{Changes, bound, given_up_by, with_new}
 use Rattle.cg_machine.specs.Commands.{CommandStep, new_collection, refused, stopped_frame}
 use Rattle.cg_machine.specs.Operands.{self_in, weak_in}
 use Rattle.cg_machine.specs.Run.{Step}
 use Rattle.cg_machine.proofs.Forgotten.{IsLater, later_refl}
-use Rattle.cg_machine.proofs.Invariants.{HasCommands, Takes, on}
+use Rattle.cg_machine.proofs.Invariants.{Takes, on}
 use Rattle.cg_machine.proofs.ShapeLaws.{shape_comes}
 use Rattle.cg_machine.proofs.Shapes.{ByDict, ByFunc, ByInst, ByList, ByRef, ByTuple, IsMadeBy}
-use Rattle.cg_weakcoll.specs.Exits.{Exit, IsExit}
+use Rattle.cg_weakcoll.specs.Exits.{Exit}
 use Rattle.cg_weakcoll.proofs.Acts.{Acts, all_to_call}
 use Rattle.cg_weakcoll.proofs.Fresh.{new_hidden, old_hidden, unborn, unborn_taken}
 use Rattle.cg_weakcoll.proofs.Once.{lost_referent}
-use Rattle.cg_weakcoll.proofs.Own.{IsCall, call_step, func_step}
-use Rattle.cg_weakcoll.proofs.Secret.{Hidden, held_by}
+use Rattle.cg_weakcoll.proofs.Own.{call_step, func_step}
+use Rattle.cg_weakcoll.proofs.Secret.{Hidden}
 use Rattle.cg_weakcoll.proofs.SecretSteps.{acted_hidden, called_hidden, done_hidden, pushed, restacked, set_free, taken_hidden}
 use Rattle.cg_weakcoll.proofs.Stage.{CallsIt, IsTold, MakesIt, Quiet}
 use Rattle.cg_weakcoll.proofs.Tame.{AreHidden}
-use Rattle.cg_weakcoll.proofs.Went.{Acted, Asked, Began, Bottomed, Changed, Commanded, Done, Due, GaveUp, Known, Lasted, Over, Stood, Stopped, Went, exactly, went}
+use Rattle.cg_weakcoll.proofs.Went.{Acted, Asked, Began, Bottomed, Changed, Commanded, Done, Due, GaveUp, Known, Lasted, Over, Stood, Stopped, Went, exactly}
 
 -- no frame of a stack has the object as a local
 abbrev pub HasLocals : ℕ → List Activity → Type 0

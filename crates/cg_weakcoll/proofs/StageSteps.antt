@@ -1,12 +1,12 @@
 -- Each step leads from a stage to a stage, and the calls are counted.
-use Rattle.std.proofs.Common.{◌≡◌, ◌≢◌, refl, sym, ◌∙◌, ap, subst, ℕ, ◌+◌, ◌-◌, ◌<◌, ◌≤◌, Bool, true, false, inl, inr, ◌⊎◌, List, [], ◌∷◌, ◌++◌, Option, Some, None, arith}
+use Rattle.std.proofs.Common.{◌≡◌, refl, sym, ◌∙◌, ap, subst, ℕ, ◌+◌, ◌-◌, ◌≤◌, Bool, true, false, inl, inr, ◌⊎◌, List, [], ◌∷◌, ◌++◌, Some, arith}
 use Rattle.std.specs.Prelude.{◌==◌, cond, count_by, if◌then◌else◌}
 use Rattle.std.proofs.lemmas.Bool.{eq-eqb, eqb-true, ne_eqb}
 use Rattle.std.proofs.lemmas.List.{append_assoc}
 use Rattle.std.proofs.lemmas.List.Sums.{sum_by-cons}
 use Rattle.cg_script.specs.declared.Script.{Script}
 use Rattle.cg_script.specs.declared.Command.{Command}
-use Rattle.cg_script.specs.declared.Command.TheVariants.{Bind, Call, Del, Deref, MakeFunc, MakeRef, Quit}
+use Rattle.cg_script.specs.declared.Command.TheVariants.{Bind, Call, MakeFunc}
 use Rattle.cg_script.specs.declared.Operand.TheVariants.{Name}
 use Rattle.cg_script.specs.Texts.{command_texts}
 use Rattle.cg_graph.specs.Member.{Includes}
@@ -15,7 +15,7 @@ use Rattle.cg_machine.specs.declared.event.Event.{Event}
 use Rattle.cg_machine.specs.declared.event.Event.TheVariants.{BudgetSpent, End, Enter, Left, Refused}
 use Rattle.cg_machine.specs.declared.event.FrameSort.TheVariants.{Call as CallFrame}
 use Rattle.cg_machine.specs.Program.{body_of, commands_of}
-use Rattle.cg_machine.specs.World.{World, Activity, TopLevel, Framed, Releasing, Dying, Collecting, ShuttingDown, Frame, BudgetIsSpent, push, with_stack}
+use Rattle.cg_machine.specs.World.{World, Activity, TopLevel, Framed, Releasing, ShuttingDown, Frame, BudgetIsSpent, with_stack}
 use Rattle.cg_machine.specs.Frame.{Yields, procedure_of, start_frame}
 use Rattle.cg_machine.specs.Commands.{CommandStep, new_collection, refused, stopped_frame}
 use Rattle.cg_machine.specs.Effects.{live}
@@ -24,10 +24,10 @@ use Rattle.cg_machine.specs.Origins.{commands_on}
 use Rattle.cg_machine.specs.Run.{Step}
 use Rattle.cg_machine.proofs.Invariants.{AreLast, FromFrame, FromTop, HasCommands, Takes, emptied, on}
 use Rattle.cg_weakcoll.specs.Exits.{AllOther, Exit, IsExit, IsOther, exit_body, first_of, is_call, next_command, watch_command}
-use Rattle.cg_weakcoll.proofs.Acts.{Acts, all_to_call}
-use Rattle.cg_weakcoll.proofs.Own.{IsCall, call_step, func_step}
-use Rattle.cg_weakcoll.proofs.Stage.{After, AreTame, AtCall, AtDeref, AtObject, AtQuit, AtWatch, Before, CallsIt, During, InFirst, InLast, InOther, InSecond, InThird, IsTail, IsTold, MakesIt, Position, Quiet, Stage, counted, frame_is, heads, high_tame, joined_tame, position_told, positioned, stage_told, tail_quiet, top_is}
-use Rattle.cg_weakcoll.proofs.Tame.{AllHigh, AreHidden, DoneStack, GoesOn, HighStep, IsEnded, IsHigh, call_stack, done_stack, high_call, high_step, other_call, other_exit, others_call, raised_high, same_top}
+use Rattle.cg_weakcoll.proofs.Acts.{all_to_call}
+use Rattle.cg_weakcoll.proofs.Own.{call_step, func_step}
+use Rattle.cg_weakcoll.proofs.Stage.{After, AreTame, AtCall, AtDeref, AtObject, AtQuit, AtWatch, Before, CallsIt, During, InFirst, InLast, InOther, InSecond, InThird, IsTail, IsTold, MakesIt, Position, Quiet, Stage, counted, frame_is, heads, joined_tame, position_told, positioned, tail_quiet, top_is}
+use Rattle.cg_weakcoll.proofs.Tame.{AllHigh, AreHidden, DoneStack, GoesOn, IsEnded, IsHigh, call_stack, done_stack, high_call, high_step, other_call, other_exit, others_call, raised_high, same_top}
 use Rattle.cg_weakcoll.proofs.Went.{Acted, Bottomed, Commanded, Done, Due, GaveUp, Known, Lasted, Over, Went, exactly}
 
 -- what a step does while another activity than the procedure's frame is on top, or where nothing is done

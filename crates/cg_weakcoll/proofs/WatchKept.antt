@@ -1,12 +1,11 @@
 -- Each step keeps what is known of the weak reference of an exit finalizer.
-use Rattle.std.proofs.Common.{◌≡◌, ◌≢◌, refl, sym, ◌∙◌, ap, subst, ℕ, zero, suc, ◌+◌, ◌<◌, ◌≤◌, Bool, true, false, inl, inr, ◌⊎◌, List, [], ◌∷◌, ◌++◌, Option, Some, None, arith}
-use Rattle.std.specs.Prelude.{◌==◌, count_by, flat_map, if◌then◌else◌, option_and_then, slice_get, slice_set}
-use Rattle.std.proofs.lemmas.Bool.{eqb-true}
+use Rattle.std.proofs.Common.{◌≡◌, refl, sym, ◌∙◌, ap, subst, ℕ, zero, suc, ◌+◌, true, false, inl, inr, ◌⊎◌, List, [], ◌∷◌, ◌++◌, Option, Some, None, arith}
+use Rattle.std.specs.Prelude.{count_by, option_and_then, slice_get, slice_set}
 use Rattle.cg_value.specs.declared.Val.{Val}
 use Rattle.cg_value.specs.declared.Val.TheVariants.{None as Nothing, Int, Str, Ref}
 use Rattle.cg_script.specs.declared.Script.{Script}
 use Rattle.cg_script.specs.declared.Command.{Command}
-use Rattle.cg_script.specs.declared.Command.TheVariants.{Call, Del, Deref, Quit}
+use Rattle.cg_script.specs.declared.Command.TheVariants.{Call, Del, Deref}
 use Rattle.cg_script.specs.declared.Operand.TheVariants.{Name}
 use Rattle.cg_script.specs.Texts.{command_texts}
 use Rattle.cg_graph.specs.Member.{Includes}
@@ -15,10 +14,10 @@ use Rattle.cg_graph.specs.Value.{references_of_value}
 use Rattle.cg_graph.proofs.Members.{either, Includes-append_cases}
 use Rattle.cg_machine.specs.declared.event.Event.{Event}
 use Rattle.cg_machine.specs.declared.event.Event.TheVariants.{Enter}
-use Rattle.cg_machine.specs.declared.event.FrameSort.TheVariants.{Callback, Call as CallFrame}
-use Rattle.cg_machine.specs.World.{World, Activity, TopLevel, Framed, Releasing, Dying, Collecting, ShuttingDown, Frame, Ended, push, with_stack}
+use Rattle.cg_machine.specs.declared.event.FrameSort.TheVariants.{Callback}
+use Rattle.cg_machine.specs.World.{World, Activity, TopLevel, Framed, Releasing, ShuttingDown, Frame, Ended, push, with_stack}
 use Rattle.cg_machine.specs.Frame.{procedure_of}
-use Rattle.cg_machine.specs.Effects.{Changes, bound, given_up_by}
+use Rattle.cg_machine.specs.Effects.{bound, given_up_by}
 use Rattle.cg_machine.specs.Commands.{CommandStep, new_collection}
 use Rattle.cg_machine.specs.Laws.{is_enter}
 use Rattle.cg_machine.specs.Operands.{object_of}
@@ -29,16 +28,16 @@ use Rattle.cg_machine.proofs.Invariants.{FromFrame, FromTop, HasCommands, Takes,
 use Rattle.cg_machine.proofs.Lookups.{found_at}
 use Rattle.cg_machine.proofs.ShapeLaws.{changes_leave}
 use Rattle.cg_weakcoll.specs.Exits.{AllOther, Exit, IsExit, IsOther, first_of, is_call, next_command}
-use Rattle.cg_weakcoll.proofs.Acts.{Acts, IsRaised, all_to_call}
-use Rattle.cg_weakcoll.proofs.HiddenKept.{bottom_hidden, dropped_hidden, hidden_kept, refused_hidden}
-use Rattle.cg_weakcoll.proofs.Names.{done_names, set_away, set_got}
+use Rattle.cg_weakcoll.proofs.Acts.{IsRaised, all_to_call}
+use Rattle.cg_weakcoll.proofs.HiddenKept.{bottom_hidden, dropped_hidden, refused_hidden}
+use Rattle.cg_weakcoll.proofs.Names.{done_names, set_away}
 use Rattle.cg_weakcoll.proofs.Once.{Spent, Tells, begun_spent, lost_referent, spent_stays}
-use Rattle.cg_weakcoll.proofs.Own.{IsDeref, IsRefused, del_step, deref_step, referent_value}
+use Rattle.cg_weakcoll.proofs.Own.{IsDeref, del_step, deref_step, referent_value}
 use Rattle.cg_weakcoll.proofs.Secret.{Hidden, held_by}
 use Rattle.cg_weakcoll.proofs.SecretSteps.{acted_hidden, done_hidden, pushed, restacked, set_free, taken_hidden}
-use Rattle.cg_weakcoll.proofs.Stage.{After, AreTame, AtCall, AtDeref, AtObject, AtQuit, AtWatch, Before, During, IsTail, Stage, counted, frame_is, heads, high_tame, top_is}
+use Rattle.cg_weakcoll.proofs.Stage.{After, AtCall, AtDeref, AtObject, AtQuit, AtWatch, Before, During, IsTail, Stage, counted, frame_is, heads, high_tame, top_is}
 use Rattle.cg_weakcoll.proofs.StageSteps.{step_calls, tame_call, top_call}
-use Rattle.cg_weakcoll.proofs.Tame.{AreHidden, IsHigh, call_stack, high_call, same_top}
+use Rattle.cg_weakcoll.proofs.Tame.{call_stack, high_call, same_top}
 use Rattle.cg_weakcoll.proofs.Tell.{went_tells}
 use Rattle.cg_weakcoll.proofs.Watch.{Standing, StandsCall, StandsDeref, StandsObject, StandsQuit, StandsWatch, Watching, callbacks, count_cases, none_counted, one_counted}
 use Rattle.cg_weakcoll.proofs.Went.{Acted, Asked, Began, Bottomed, Changed, Commanded, Done, Due, GaveUp, Known, Lasted, Over, Stood, Stopped, Went, exactly}

@@ -1,9 +1,9 @@
 -- The commands of the procedure: what is known when the next is to be done.
-use Rattle.std.proofs.Common.{◌≡◌, ◌≢◌, refl, sym, ◌∙◌, ap, subst, ℕ, zero, suc, ◌+◌, ◌<◌, ◌≤◌, Bool, true, false, inl, inr, ◌⊎◌, List, [], ◌∷◌, ◌++◌, length, Option, Some, None, arith}
+use Rattle.std.proofs.Common.{◌≡◌, ◌≢◌, refl, sym, ◌∙◌, ap, subst, ℕ, zero, suc, ◌+◌, Bool, true, false, inl, inr, ◌⊎◌, List, [], ◌∷◌, ◌++◌, length, Option, Some, None, arith}
 use Rattle.std.specs.Prelude.{◌==◌, flat_map, option_and_then, slice_get, slice_set}
 use Rattle.std.specs.List.{list_any}
 use Rattle.std.proofs.lemmas.Bool.{eq-eqb, eqb-true}
-use Rattle.cg_value.specs.declared.KindCode.TheVariants.{Func, Inst, Weak}
+use Rattle.cg_value.specs.declared.KindCode.TheVariants.{Func, Weak}
 use Rattle.cg_value.specs.declared.Place.{Place}
 use Rattle.cg_value.specs.declared.Place.TheVariants.{Cand, Seen, Legacy}
 use Rattle.cg_value.specs.declared.Val.{Val}
@@ -16,30 +16,27 @@ use Rattle.cg_graph.specs.Member.{Includes}
 use Rattle.cg_graph.specs.Holdings.{name_holdings}
 use Rattle.cg_graph.specs.Object.{Object, serials}
 use Rattle.cg_graph.specs.Value.{references_of_value}
-use Rattle.cg_graph.proofs.Members.{either, Includes-append_cases, Includes-append_left, Includes-append_right, Includes-map}
+use Rattle.cg_graph.proofs.Members.{either, Includes-append_cases, Includes-map}
 use Rattle.cg_machine.specs.declared.event.Event.{Event}
-use Rattle.cg_machine.specs.declared.event.Event.TheVariants.{Enter}
 use Rattle.cg_machine.specs.declared.event.FrameSort.{FrameSort}
 use Rattle.cg_machine.specs.declared.event.FrameSort.TheVariants.{Del as DelFrame, Legacy as LegacyFrame, Callback, Call as CallFrame}
 use Rattle.cg_machine.specs.World.{World, Activity, TopLevel, Framed, Releasing, Frame, push, with_stack}
 use Rattle.cg_machine.specs.Holdings.{call_holds, holds, is_collection, is_death_of}
-use Rattle.cg_machine.specs.Frame.{Yields}
 use Rattle.cg_machine.specs.Effects.{bound, given_up_by}
-use Rattle.cg_machine.specs.Commands.{CommandStep, new_collection, refused, stopped_frame}
-use Rattle.cg_machine.specs.Laws.{HasFunction, IsOfCollection}
+use Rattle.cg_machine.specs.Commands.{CommandStep, new_collection}
+use Rattle.cg_machine.specs.Laws.{IsOfCollection}
 use Rattle.cg_machine.specs.Operands.{object_of, value_of}
-use Rattle.cg_machine.specs.Weak.{is_function}
 use Rattle.cg_machine.specs.Run.{Step}
-use Rattle.cg_machine.proofs.Invariants.{FromFrame, Takes, on}
+use Rattle.cg_machine.proofs.Invariants.{FromFrame, on}
 use Rattle.cg_machine.proofs.Lookups.{found_at, same_object}
 use Rattle.cg_laws.specs.Apart.{IsFound}
 use Rattle.cg_promises.proofs.Minded.{IsFree}
-use Rattle.cg_weakcoll.specs.Exits.{Exit, IsExit, exit_body}
+use Rattle.cg_weakcoll.specs.Exits.{Exit, IsExit}
 use Rattle.cg_weakcoll.proofs.Acts.{all_to_call}
 use Rattle.cg_weakcoll.proofs.Names.{set_away, set_got}
-use Rattle.cg_weakcoll.proofs.Once.{Spent, Tells, lost_referent, spent_stays}
+use Rattle.cg_weakcoll.proofs.Once.{Spent, Tells, spent_stays}
 use Rattle.cg_weakcoll.proofs.Own.{IsDeref, IsRefused, Quitted, del_step, deref_step, quit_step, referent_value}
-use Rattle.cg_weakcoll.proofs.Secret.{Hidden, held_by}
+use Rattle.cg_weakcoll.proofs.Secret.{held_by}
 use Rattle.cg_weakcoll.proofs.Stage.{AtCall, AtDeref, AtObject, AtQuit, AtWatch, IsTail, heads}
 use Rattle.cg_weakcoll.proofs.StageSteps.{Advances}
 use Rattle.cg_weakcoll.proofs.Tame.{function_code}

@@ -1,23 +1,21 @@
 -- What is known of each world of a run, and what each step does, told once.
-use Rattle.std.proofs.Common.{◌≡◌, ◌≢◌, refl, sym, ap, subst, ℕ, ◌≤◌, Bool, true, false, inl, inr, ◌⊎◌, List, [], ◌∷◌, ◌++◌, length, Option, Some, None}
-use Rattle.std.specs.Prelude.{if◌then◌else◌}
+use Rattle.std.proofs.Common.{◌≡◌, refl, subst, ℕ, Bool, true, false, inl, inr, ◌⊎◌, List, [], ◌∷◌, length, Option, Some, None}
 use Rattle.cg_script.specs.declared.Script.{Script}
 use Rattle.cg_script.specs.declared.Command.{Command}
 use Rattle.cg_script.specs.Texts.{TextsAreKnown}
 use Rattle.cg_graph.specs.Object.{Object}
 use Rattle.cg_machine.specs.declared.event.Event.{Event}
 use Rattle.cg_machine.specs.declared.event.FrameSort.TheVariants.{Call as CallFrame}
-use Rattle.cg_machine.specs.World.{World, Activity, TopLevel, Framed, Releasing, ShuttingDown, Frame, Ended, opening, push, with_stack}
-use Rattle.cg_machine.specs.Frame.{Transition, Yields, procedure_of, start_frame}
+use Rattle.cg_machine.specs.World.{World, Activity, TopLevel, Framed, Releasing, ShuttingDown, Ended, opening, push, with_stack}
+use Rattle.cg_machine.specs.Frame.{Yields, procedure_of, start_frame}
 use Rattle.cg_machine.specs.Weak.{is_function}
 use Rattle.cg_machine.specs.Due.{due}
 use Rattle.cg_machine.specs.Effects.{Changes, bound, given_up_by}
 use Rattle.cg_machine.specs.Commands.{CommandStep, new_collection}
 use Rattle.cg_machine.specs.Lawful.{IsLawful}
-use Rattle.cg_machine.specs.Run.{CommandInFrame, FrameStep, IsRun, Step, StepOf, StepTaken, TopLevelStep, world_after}
+use Rattle.cg_machine.specs.Run.{CommandInFrame, FrameStep, IsRun, Step, StepTaken, TopLevelStep, world_after}
 use Rattle.cg_machine.proofs.Invariants.{AreAnswers, AreLast, CommandSteps, FromFrame, FromTop, HasCommands, Steps, Takes, any_step, emptied, on}
 use Rattle.cg_machine.proofs.Lawful.{lawful_after}
-use Rattle.cg_machine.proofs.Origins.{IsAllOfScript}
 use Rattle.cg_machine.proofs.OriginsOfRuns.{opening_origin}
 use Rattle.cg_machine.proofs.Serials.{Rises}
 use Rattle.cg_machine.proofs.Shapes.{HasObject, Shape}

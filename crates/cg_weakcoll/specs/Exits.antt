@@ -1,6 +1,6 @@
 -- Exit finalizers in a script, and what becomes of them in its runs. (Ours; after CPython's `weakref.finalize`: the function is
 -- called when the object dies, or at the end, newest first, and at most once.)
-use Rattle.std.specs.Prelude.{◌≡◌, ◌≢◌, ℕ, ◌+◌, ◌≤◌, Bool, true, false, ◌==◌, List, [], ◌∷◌, ◌++◌, Option, Some, None, count_by, if◌then◌else◌}
+use Rattle.std.specs.Prelude.{◌≡◌, ◌≢◌, ℕ, ◌+◌, ◌≤◌, Bool, false, ◌==◌, List, [], ◌∷◌, ◌++◌, Option, Some, None, count_by, if◌then◌else◌}
 use Rattle.cg_value.specs.declared.KindCode.TheVariants.{Weak}
 use Rattle.cg_script.specs.declared.Script.{Script}
 use Rattle.cg_script.specs.declared.ClassDef.{ClassDef}
