@@ -128,8 +128,8 @@ module _ (script : Script) (budget : ℕ) (e : Exit) (ex : IsExit script e) wher
     where
       go : Went script w events after → slice_get after.names n ≡ slice_get w.names n
       go (Acted a below top acts) = ap (λ ns. slice_get ns n) acts.names
-      go (Due g none is) = ap (λ (z : World). slice_get z.names n) is
-      go (Over a last is) = ap (λ (z : World). slice_get z.names n) is
+      go (Due g set none is) = ap (λ (z : World). slice_get z.names n) is
+      go (Over a under place last is) = ap (λ (z : World). slice_get z.names n) is
       go (Bottomed below top none is) = ap (λ (z : World). slice_get z.names n) is
       go (GaveUp name below top none is) = absurd (subst (IsHigh e) (same_top script budget e ex h.0 (ShuttingDown false) h.1 below w.stack h.2 top).0 h.3)
       go (Lasted below top none is) = ap (λ (z : World). slice_get z.names n) is

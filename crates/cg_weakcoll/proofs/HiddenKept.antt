@@ -154,8 +154,8 @@ module _ (script : Script) (budget : ℕ) (e : Exit) where
 
   pub hidden_kept : (w : World) (events : List Event) (after : World) → Known script budget w → AreHidden e w → ((command : Command) (a b : Activity) (below : List Activity) → w.stack ≡ a ∷ below → Takes command a b → IsTold e command) → Step script w events after → Went script w events after → AreHidden e after
   hidden_kept w events after k h told step (Acted a below top acts) = acted_kept w a below events after k top acts h
-  hidden_kept w events after k h told step (Due g none is) = due_kept g false w w after refl (λ o hid. hid) is h
-  hidden_kept w events after k h told step (Over a last is) = same_kept w after (ap (λ (z : World). z.objects) is) h (λ o hid. subst (Hidden e.exit o) (sym is) (restacked e.exit o w (record w { outcome = Ended }) refl refl refl hid.locals hid))
+  hidden_kept w events after k h told step (Due g set none is) = due_kept g false w w after refl (λ o hid. hid) is h
+  hidden_kept w events after k h told step (Over a under place last is) = same_kept w after (ap (λ (z : World). z.objects) is) h (λ o hid. subst (Hidden e.exit o) (sym is) (restacked e.exit o w (record w { outcome = Ended }) refl refl refl hid.locals hid))
   hidden_kept w events after k h told step (Bottomed below top none is) = same_kept w after (ap (λ (z : World). z.objects) is) h (λ o hid. subst (Hidden e.exit o) (sym is) (bottom_hidden e.exit o w (TopLevel []) (ShuttingDown false) below top (λ f i. cc) hid))
   hidden_kept w events after k h told step (GaveUp name below top none is) = same_kept w after (ap (λ (z : World). z.objects) is) h (λ o hid. subst (Hidden e.exit o) (sym is) (dropped_hidden e.exit o name w (given_up_by w name) hid))
   hidden_kept w events after k h told step (Lasted below top none is) = due_kept 2 false w (with_stack (ShuttingDown true ∷ below) w) after refl (λ o hid. bottom_hidden e.exit o w (ShuttingDown false) (ShuttingDown true) below top (λ f i. cc) hid) is h

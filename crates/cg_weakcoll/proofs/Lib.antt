@@ -17,3 +17,4 @@ pub mod Watch
 pub mod WatchSteps
 pub mod WatchKept
 pub mod ExitRuns
+pub mod Order

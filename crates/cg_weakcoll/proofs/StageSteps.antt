@@ -237,8 +237,8 @@ module _ (script : Script) (budget : ℕ) (e : Exit) (ex : IsExit script e) (P :
     top_step calls done commands top at none (Acted a below is acts) =
         let s = same_top script budget e ex (TopLevel commands) a [] below w.stack top is in
         to_stack calls (acts.tops ++ below) after.stack acts.stack (After (joined_tame e acts.tops below (λ c m. raised_high script budget e ex w c k h (acts.raised c m)) (subst (AreTame e) s.1 nothing_tame)) (omega (arith, none)))
-    top_step calls done commands top at none (Due g no_line is) = Before (new_collection g false w ∷ []) done commands (ap (λ (z : World). z.stack) is ∙ ap (λ st. new_collection g false w ∷ st) top) (λ a m. either m (λ i. subst (IsHigh e) i tt) (λ n. absurd n)) at none
-    top_step calls done commands top at none (Over a last is) = Before [] done commands (ap (λ (z : World). z.stack) is ∙ top) (λ a m. absurd m) at none
+    top_step calls done commands top at none (Due g set no_line is) = Before (new_collection g false w ∷ []) done commands (ap (λ (z : World). z.stack) is ∙ ap (λ st. new_collection g false w ∷ st) top) (λ a m. either m (λ i. subst (IsHigh e) i tt) (λ n. absurd n)) at none
+    top_step calls done commands top at none (Over a under place last is) = Before [] done commands (ap (λ (z : World). z.stack) is ∙ top) (λ a m. absurd m) at none
     top_step calls done commands top at none (Bottomed below under no_line is) =
         let s = same_top script budget e ex (TopLevel commands) (TopLevel []) [] below w.stack top under in
         to_stack calls (ShuttingDown false ∷ below) after.stack (ap (λ (z : World). z.stack) is) (After (subst (λ st. AreTame e (ShuttingDown false ∷ st)) s.1 (none_tame (ShuttingDown false) (λ c m. absurd m))) (omega (arith, none)))
@@ -253,9 +253,9 @@ module _ (script : Script) (budget : ℕ) (e : Exit) (ex : IsExit script e) (P :
     frame_step calls f commands top tail other q none (Acted a below is acts) =
         let s = same_top script budget e ex (Framed f) a (TopLevel commands ∷ []) below w.stack top is in
         to_stack (calls + step_calls w events) (acts.tops ++ below) after.stack acts.stack (After (joined_tame e acts.tops below (λ c m. raised_high script budget e ex w c k h (acts.raised c m)) (subst (AreTame e) s.1 (none_tame (TopLevel commands) other))) (few_calls w events after f commands top tail calls none step))
-    frame_step calls f commands top tail other q none (Due g no_line is) = During (new_collection g false w ∷ []) f commands (ap (λ (z : World). z.stack) is ∙ ap (λ st. new_collection g false w ∷ st) top) (λ a m. either m (λ i. subst (IsHigh e) i tt) (λ n. absurd n)) tail other (rests f.commands tail q (inr (ap (λ (z : World). z.objects) is, ap (λ (z : World). z.names) is, ap (λ (z : World). z.next_serial) is, ap (λ (z : World). all_to_call z.stack) is)))
+    frame_step calls f commands top tail other q none (Due g set no_line is) = During (new_collection g false w ∷ []) f commands (ap (λ (z : World). z.stack) is ∙ ap (λ st. new_collection g false w ∷ st) top) (λ a m. either m (λ i. subst (IsHigh e) i tt) (λ n. absurd n)) tail other (rests f.commands tail q (inr (ap (λ (z : World). z.objects) is, ap (λ (z : World). z.names) is, ap (λ (z : World). z.next_serial) is, ap (λ (z : World). all_to_call z.stack) is)))
         (uncounted w events calls none (ap (count_by is_enter) no_line))
-    frame_step calls f commands top tail other q none (Over a last is) = During [] f commands (ap (λ (z : World). z.stack) is ∙ top) (λ a m. absurd m) tail other (rests f.commands tail q (inr (ap (λ (z : World). z.objects) is, ap (λ (z : World). z.names) is, ap (λ (z : World). z.next_serial) is, ap (λ (z : World). all_to_call z.stack) is))) (uncounted w events calls none (last_enters w a events last))
+    frame_step calls f commands top tail other q none (Over a under place last is) = During [] f commands (ap (λ (z : World). z.stack) is ∙ top) (λ a m. absurd m) tail other (rests f.commands tail q (inr (ap (λ (z : World). z.objects) is, ap (λ (z : World). z.names) is, ap (λ (z : World). z.next_serial) is, ap (λ (z : World). all_to_call z.stack) is))) (uncounted w events calls none (last_enters w a events last))
     frame_step calls f commands top tail other q none (Bottomed below under no_line is) = absurd (let s = same_top script budget e ex (Framed f) (TopLevel []) (TopLevel commands ∷ []) below w.stack top under in let no : Framed f ≡ TopLevel [] = s.0 in cc)
     frame_step calls f commands top tail other q none (GaveUp name below under no_line is) = absurd (let s = same_top script budget e ex (Framed f) (ShuttingDown false) (TopLevel commands ∷ []) below w.stack top under in let no : Framed f ≡ ShuttingDown false = s.0 in cc)
     frame_step calls f commands top tail other q none (Lasted below under no_line is) = absurd (let s = same_top script budget e ex (Framed f) (ShuttingDown false) (TopLevel commands ∷ []) below w.stack top under in let no : Framed f ≡ ShuttingDown false = s.0 in cc)
@@ -289,8 +289,8 @@ module _ (script : Script) (budget : ℕ) (e : Exit) (ex : IsExit script e) (P :
     -- where commands of other lines alone are left
     after_step : (calls : ℕ) → AreTame e w.stack → calls ≤ 1 → Went script w events after → IsStage calls after.stack
     after_step calls tame few (Acted a below is acts) = to_stack calls (acts.tops ++ below) after.stack acts.stack (After (joined_tame e acts.tops below (λ c m. raised_high script budget e ex w c k h (acts.raised c m)) (λ c m. tame c (subst (λ st. Includes st c) (sym is) (inr m)))) few)
-    after_step calls tame few (Due g no_line is) = to_stack calls (new_collection g false w ∷ w.stack) after.stack (ap (λ (z : World). z.stack) is) (After (λ a m. either m (λ i. subst (λ (y : Activity). AllOther e (commands_on y)) i (λ c n. absurd n)) (tame a)) few)
-    after_step calls tame few (Over a last is) = to_stack calls w.stack after.stack (ap (λ (z : World). z.stack) is) (After tame few)
+    after_step calls tame few (Due g set no_line is) = to_stack calls (new_collection g false w ∷ w.stack) after.stack (ap (λ (z : World). z.stack) is) (After (λ a m. either m (λ i. subst (λ (y : Activity). AllOther e (commands_on y)) i (λ c n. absurd n)) (tame a)) few)
+    after_step calls tame few (Over a under place last is) = to_stack calls w.stack after.stack (ap (λ (z : World). z.stack) is) (After tame few)
     after_step calls tame few (Bottomed below under no_line is) = to_stack calls (ShuttingDown false ∷ below) after.stack (ap (λ (z : World). z.stack) is) (After (λ a m. either m (λ i. subst (λ (y : Activity). AllOther e (commands_on y)) i (λ c n. absurd n)) (λ i. tame a (subst (λ st. Includes st a) (sym under) (inr i)))) few)
     after_step calls tame few (GaveUp name below under no_line is) = to_stack calls (Releasing _ ∷ w.stack) after.stack (ap (λ (z : World). z.stack) is) (After (λ a m. either m (λ i. subst (λ (y : Activity). AllOther e (commands_on y)) i (λ c n. absurd n)) (tame a)) few)
     after_step calls tame few (Lasted below under no_line is) = to_stack calls (new_collection 2 false w ∷ ShuttingDown true ∷ below) after.stack (ap (λ (z : World). z.stack) is) (After (λ a m. either m (λ i. subst (λ (y : Activity). AllOther e (commands_on y)) i (λ c n. absurd n))

@@ -239,8 +239,8 @@ module _ (script : Script) (budget : ℕ) (e : Exit) (ex : IsExit script e) wher
   pub high_step : (w : World) (a : Activity) (below : List Activity) (events : List Event) (after : World) → Known script budget w → AreHidden e w → w.stack ≡ a ∷ below → IsHigh e a → Went script w events after → HighStep below after.stack
   high_step w a below events after k hidden top h (Acted b under is acts) = let s = same_top a b below under w.stack top is in
       record { tops = acts.tops; is = acts.stack ∙ ap (λ st. acts.tops ++ st) (sym s.1); high = λ c m. raised_high w c k hidden (acts.raised c m) }
-  high_step w a below events after k hidden top h (Due g none is) = record { tops = new_collection g false w ∷ a ∷ []; is = ap (λ (z : World). z.stack) is ∙ ap (λ st. new_collection g false w ∷ st) top; high = two_high (new_collection g false w) a tt h }
-  high_step w a below events after k hidden top h (Over b last is) = record { tops = a ∷ []; is = ap (λ (z : World). z.stack) is ∙ top; high = one_high a h }
+  high_step w a below events after k hidden top h (Due g set none is) = record { tops = new_collection g false w ∷ a ∷ []; is = ap (λ (z : World). z.stack) is ∙ ap (λ st. new_collection g false w ∷ st) top; high = two_high (new_collection g false w) a tt h }
+  high_step w a below events after k hidden top h (Over b at_top place last is) = record { tops = a ∷ []; is = ap (λ (z : World). z.stack) is ∙ top; high = one_high a h }
   high_step w a below events after k hidden top h (Bottomed under is none q) = absurd (subst (IsHigh e) (same_top a (TopLevel []) below under w.stack top is).0 h)
   high_step w a below events after k hidden top h (GaveUp name under is none q) = absurd (subst (IsHigh e) (same_top a (ShuttingDown false) below under w.stack top is).0 h)
   high_step w a below events after k hidden top h (Lasted under is none q) = absurd (subst (IsHigh e) (same_top a (ShuttingDown false) below under w.stack top is).0 h)

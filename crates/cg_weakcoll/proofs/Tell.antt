@@ -172,8 +172,8 @@ done_tells script s command a b below v events after low none hb (Asked g no_lin
 
 pub went_tells : (script : Script) (budget s : ℕ) (w : World) (events : List Event) (after : World) → Known script budget w → s < w.next_serial → Went script w events after → Tells s w events after
 went_tells script budget s w events after k low (Acted a below top acts) = acted_tells script budget s w a below events after k top acts
-went_tells script budget s w events after k low (Due g none is) = same_tells s w events after low (ap (λ (z : World). z.next_serial) is) (ap (λ (z : World). z.objects) is) (ap (λ (z : World). all_to_call z.stack) is) (none_events events none)
-went_tells script budget s w events after k low (Over a last is) = same_tells s w events after low (ap (λ (z : World). z.next_serial) is) (ap (λ (z : World). z.objects) is) (ap (λ (z : World). all_to_call z.stack) is) (last_quiet w a events last)
+went_tells script budget s w events after k low (Due g set none is) = same_tells s w events after low (ap (λ (z : World). z.next_serial) is) (ap (λ (z : World). z.objects) is) (ap (λ (z : World). all_to_call z.stack) is) (none_events events none)
+went_tells script budget s w events after k low (Over a under place last is) = same_tells s w events after low (ap (λ (z : World). z.next_serial) is) (ap (λ (z : World). z.objects) is) (ap (λ (z : World). all_to_call z.stack) is) (last_quiet w a events last)
 went_tells script budget s w events after k low (Bottomed below top none is) = same_tells s w events after low (ap (λ (z : World). z.next_serial) is) (ap (λ (z : World). z.objects) is) (ap (λ (z : World). all_to_call z.stack) is ∙ sym (ap all_to_call top)) (none_events events none)
 went_tells script budget s w events after k low (GaveUp name below top none is) = same_tells s w events after low (ap (λ (z : World). z.next_serial) is) (ap (λ (z : World). z.objects) is) (ap (λ (z : World). all_to_call z.stack) is) (none_events events none)
 went_tells script budget s w events after k low (Lasted below top none is) = same_tells s w events after low (ap (λ (z : World). z.next_serial) is) (ap (λ (z : World). z.objects) is) (ap (λ (z : World). all_to_call z.stack) is ∙ sym (ap all_to_call top)) (none_events events none)

@@ -178,8 +178,8 @@ module _ (script : Script) (budget : ℕ) (e : Exit) (ex : IsExit script e) wher
 
         go : Went script w events after → Hidden e.watch s after
         go (Acted a below top acts) = acted_hidden script budget e.watch s w a below events after k top acts uncalled hid
-        go (Due g none is) = due g is
-        go (Over a last is) = subst (Hidden e.watch s) (sym is) (restacked e.watch s w (record w { outcome = Ended }) refl refl refl hid.locals hid)
+        go (Due g set none is) = due g is
+        go (Over a under place last is) = subst (Hidden e.watch s) (sym is) (restacked e.watch s w (record w { outcome = Ended }) refl refl refl hid.locals hid)
         go (Bottomed below top none is) = subst (Hidden e.watch s) (sym is) (bottom_hidden script budget e e.watch s w (TopLevel []) (ShuttingDown false) below top (λ f i. cc) hid)
         go (GaveUp name below top none is) = subst (Hidden e.watch s) (sym is) (dropped_hidden script budget e e.watch s name w (given_up_by w name) hid)
         go (Lasted below top none is) = subst (Hidden e.watch s) (sym is) (pushed e.watch s (new_collection 2 false w) (with_stack (ShuttingDown true ∷ below) w) (λ f i. cc) (bottom_hidden script budget e e.watch s w (ShuttingDown false) (ShuttingDown true) below top (λ f i. cc) hid))
@@ -206,8 +206,8 @@ module _ (script : Script) (budget : ℕ) (e : Exit) (ex : IsExit script e) wher
 
         go : Went script w events after → Includes (held_by w.names e.watch) q
         go (Acted a below top acts) = same acts.names
-        go (Due g none is) = same (ap (λ (z : World). z.names) is)
-        go (Over a last is) = same (ap (λ (z : World). z.names) is)
+        go (Due g set none is) = same (ap (λ (z : World). z.names) is)
+        go (Over a under place last is) = same (ap (λ (z : World). z.names) is)
         go (Bottomed below top none is) = same (ap (λ (z : World). z.names) is)
         go (GaveUp name below top none is) = dropped w.names name e.watch q (subst (λ (z : World). Includes (held_by z.names e.watch) q) is m)
         go (Lasted below top none is) = same (ap (λ (z : World). z.names) is)
@@ -247,8 +247,8 @@ module _ (script : Script) (budget : ℕ) (e : Exit) (ex : IsExit script e) wher
 
         go : Went script w events after → IsOther e c ⊎ (c ≡ Call (Name e.exit))
         go (Acted a below top acts) = either (Includes-append_cases acts.tops below (TopLevel cs) (subst (λ st. Includes st (TopLevel cs)) acts.stack m)) (λ j. absurd (raised (TopLevel cs) (acts.raised (TopLevel cs) j) refl)) (λ j. below_w a below top j)
-        go (Due g none is) = either (subst (λ (z : World). Includes z.stack (TopLevel cs)) is m) (λ j. cc) in_w
-        go (Over a last is) = in_w (subst (λ (z : World). Includes z.stack (TopLevel cs)) is m)
+        go (Due g set none is) = either (subst (λ (z : World). Includes z.stack (TopLevel cs)) is m) (λ j. cc) in_w
+        go (Over a under place last is) = in_w (subst (λ (z : World). Includes z.stack (TopLevel cs)) is m)
         go (Bottomed below top none is) = either (subst (λ (z : World). Includes z.stack (TopLevel cs)) is m) (λ j. cc) (λ j. below_w (TopLevel []) below top j)
         go (GaveUp name below top none is) = either (subst (λ (z : World). Includes z.stack (TopLevel cs)) is m) (λ j. cc) in_w
         go (Lasted below top none is) = either (subst (λ (z : World). Includes z.stack (TopLevel cs)) is m) (λ j. cc) (λ j. either j (λ q. cc) (λ q. below_w (ShuttingDown false) below top q))

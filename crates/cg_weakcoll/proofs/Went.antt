@@ -54,8 +54,8 @@ pub data Done (script : Script) (command : Command) (u : World) (b : Activity) (
 -- a step
 pub data Went (script : Script) (w : World) (events : List Event) (after : World) : Type 0 where
   Acted : (a : Activity) (below : List Activity) → w.stack ≡ a ∷ below → Acts script w below events after → Went script w events after
-  Due : (g : ℕ) → events ≡ [] → after ≡ push (new_collection g false w) w → Went script w events after
-  Over : (a : Activity) → AreLast w a events → after ≡ record w { outcome = Ended } → Went script w events after
+  Due : (g : ℕ) → due w ≡ Some g → events ≡ [] → after ≡ push (new_collection g false w) w → Went script w events after
+  Over : (a : Activity) (below : List Activity) → w.stack ≡ a ∷ below → AreLast w a events → after ≡ record w { outcome = Ended } → Went script w events after
   Bottomed : (below : List Activity) → w.stack ≡ TopLevel [] ∷ below → events ≡ [] → after ≡ with_stack (ShuttingDown false ∷ below) w → Went script w events after
   GaveUp : (name : ℕ) (below : List Activity) → w.stack ≡ ShuttingDown false ∷ below → events ≡ [] → after ≡ push (Releasing (given_up_by w name)) (bound w name None) → Went script w events after
   Lasted : (below : List Activity) → w.stack ≡ ShuttingDown false ∷ below → events ≡ [] → after ≡ push (new_collection 2 false w) (with_stack (ShuttingDown true ∷ below) w) → Went script w events after
@@ -72,8 +72,8 @@ commanded script command a b below v takes hb = record {
 
 goes_steps : (script : Script) → Steps script (λ w. Rises 1 w.next_serial w.objects) (Went script)
 goes_steps script = record {
-  starts_due = λ a below v ha g e k. Due g refl refl;
-  ends = λ a lines below v last k. Over a last refl;
+  starts_due = λ a below v ha g e k. Due g e refl refl;
+  ends = λ a lines below v last k. Over a below refl last refl;
   shuts_down = λ below v k. Bottomed below refl refl refl;
   gives_up = λ name below v e k. GaveUp name below refl refl refl;
   collects_last = λ below v k. Lasted below refl refl refl;

@@ -1,6 +1,6 @@
 -- Exit finalizers in a script, and what becomes of them in its runs. (Ours; after CPython's `weakref.finalize`: the function is
 -- called when the object dies, or at the end, newest first, and at most once.)
-use Rattle.std.specs.Prelude.{◌≡◌, ◌≢◌, ℕ, ◌+◌, ◌≤◌, Bool, false, ◌==◌, List, [], ◌∷◌, ◌++◌, Option, Some, None, count_by, if◌then◌else◌}
+use Rattle.std.specs.Prelude.{◌≡◌, ◌≢◌, ℕ, ◌+◌, ◌≤◌, Bool, false, ◌==◌, List, [], ◌∷◌, ◌++◌, Option, Some, None, count_by, if◌then◌else◌, map, reverse}
 use Rattle.cg_value.specs.declared.KindCode.TheVariants.{Weak}
 use Rattle.cg_script.specs.declared.Script.{Script}
 use Rattle.cg_script.specs.declared.ClassDef.{ClassDef}
@@ -15,6 +15,7 @@ use Rattle.cg_machine.specs.declared.event.Event.TheVariants.{Enter, Made}
 use Rattle.cg_machine.specs.declared.event.FrameSort.TheVariants.{Callback}
 use Rattle.cg_machine.specs.Program.{body_of, classes, commands_of}
 use Rattle.cg_machine.specs.World.{World, Activity, TopLevel, Framed, opening}
+use Rattle.cg_machine.specs.Due.{due}
 use Rattle.cg_machine.specs.Run.{StepTaken, IsRun, events_of, world_after}
 use Rattle.cg_machine.specs.Laws.{is_enter}
 
@@ -123,3 +124,33 @@ pub record BeginsOnce (script : Script) (budget : ℕ) (steps : List StepTaken) 
 -- So it is in every run.
 abbrev pub ExitsBeginOnce : Type 0
 ExitsBeginOnce = (script : Script) (budget : ℕ) (steps : List StepTaken) → TextsAreKnown script → IsRun script budget steps → (e : Exit) → IsExit script e → BeginsOnce script budget steps e
+
+-- The exit finalizers of a script, in the order of their lines. Its last commands are the calls, the last finalizer's first; no
+-- other command is one of them.
+abbrev pub final_calls : List Exit → List Command
+final_calls exits = map (λ e. Call (Name e.exit)) (reverse exits)
+
+pub record AreExits (script : Script) (exits : List Exit) : Type 0 where
+  pub each : (e : Exit) → Includes exits e → IsExit script e
+  pub lines : List Command
+  pub commands : commands_of script.items ≡ lines ++ final_calls exits
+  pub others : (command : Command) → Includes lines command → ¬ Includes (final_calls exits) command
+
+-- the script's own command that the next step does, where no collection is due before it
+abbrev pub own_command : Option ℕ → List Activity → List Command
+own_command None (TopLevel (command ∷ commands) ∷ below) = command ∷ []
+own_command d stack = []
+
+-- all of those that a run from a world does, in their order
+abbrev pub own_commands : World → List StepTaken → List Command
+own_commands w [] = []
+own_commands w (step ∷ steps) = own_command (due w) w.stack ++ own_commands step.world steps
+
+-- A run does the script's own commands in their order: those up to the calls, and then the calls, the last finalizer's first.
+pub record CallsFall (script : Script) (budget : ℕ) (steps : List StepTaken) (lines : List Command) (exits : List Exit) : Type 0 where
+  pub undone : List Command
+  pub order : own_commands (opening script budget) steps ++ undone ≡ lines ++ final_calls exits
+
+-- So it is in every run.
+abbrev pub ExitsAreCalledLastFirst : Type 0
+ExitsAreCalledLastFirst = (script : Script) (budget : ℕ) (steps : List StepTaken) → TextsAreKnown script → IsRun script budget steps → (exits : List Exit) → (a : AreExits script exits) → CallsFall script budget steps a.lines exits
