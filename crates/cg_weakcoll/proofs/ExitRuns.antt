@@ -47,7 +47,7 @@ use Rattle.cg_weakcoll.proofs.WatchKept.{object_there, watching_step}
 use Rattle.cg_weakcoll.proofs.WatchSteps.{standing_advances}
 use Rattle.cg_weakcoll.proofs.Went.{Acted, Bottomed, Commanded, Due, GaveUp, Known, Lasted, Over, Went, exactly, known_after, went}
 
-sum_moved : (a b c : ℕ) → (a + b) + c ≡ a + (b + c)
+pub sum_moved : (a b c : ℕ) → (a + b) + c ≡ a + (b + c)
 sum_moved a b c = omega arith
 
 -- calls of two runs, one after the other
@@ -71,10 +71,10 @@ enters_old script budget w events after s k step m = either (step_goes script w 
     lives : (event : Event) → event ≡ Enter Callback s → Says w.objects after.objects event → Includes (serials w.objects) s
     lives event is says = subst (Says w.objects after.objects) is says
 
-abbrev AllKnown : Script → ℕ → World → Type 0
+abbrev pub AllKnown : Script → ℕ → World → Type 0
 AllKnown script budget w = (front : List StepTaken) → Run script w front → Known script budget (last_world w front)
 
-next_known : (script : Script) (budget : ℕ) (w : World) (step : StepTaken) → Step script w step.events step.world → AllKnown script budget w → AllKnown script budget step.world
+pub next_known : (script : Script) (budget : ℕ) (w : World) (step : StepTaken) → Step script w step.events step.world → AllKnown script budget w → AllKnown script budget step.world
 next_known script budget w step taken known front run = known (step ∷ front) (taken, run)
 
 -- serials rise in a run
@@ -99,30 +99,30 @@ module _ (script : Script) (budget : ℕ) (e : Exit) (ex : IsExit script e) wher
   Nothing_known commands = Unit {0}
 
   -- before the weak reference is made
-  record Early (calls : ℕ) (w : World) : Type 0 where
-    hidden : AreHidden e w
-    stage : Stage script e Nothing_known calls w.stack
+  pub record Early (calls : ℕ) (w : World) : Type 0 where
+    pub hidden : AreHidden e w
+    pub stage : Stage script e Nothing_known calls w.stack
 
-  early_step : (calls : ℕ) (w : World) (events : List Event) (after : World) → Known script budget w → Step script w events after → Early calls w → Early (calls + (if is_call e.function (next_command w.stack) then count_by is_enter events else 0)) after
+  pub early_step : (calls : ℕ) (w : World) (events : List Event) (after : World) → Known script budget w → Step script w events after → Early calls w → Early (calls + (if is_call e.function (next_command w.stack) then count_by is_enter events else 0)) after
   early_step calls w events after k step h = record {
     hidden = hidden_kept script budget e w events after k h.hidden (λ c a b below top takes. stage_told script budget e ex Nothing_known calls w.stack c a b below h.stage top takes) step (went script w events after k.fit.sound.rises step);
     stage = stage_step script budget e ex Nothing_known tt w events after k h.hidden step Nothing_known (λ cs t q r. tt) (λ cs t a q. tt) calls h.stage (went script w events after k.fit.sound.rises step);
   }
 
-  early_run : (calls : ℕ) (w : World) (steps : List StepTaken) → Run script w steps → AllKnown script budget w → Early calls w → Early (calls + calls_from e.function w steps) (last_world w steps)
+  pub early_run : (calls : ℕ) (w : World) (steps : List StepTaken) → Run script w steps → AllKnown script budget w → Early calls w → Early (calls + calls_from e.function w steps) (last_world w steps)
   early_run calls w [] run known h = let same : calls ≡ calls + 0 = omega arith in subst (λ n. Early n w) same h
   early_run calls w (step ∷ steps) run known h =
       let next = early_run (calls + (if is_call e.function (next_command w.stack) then count_by is_enter step.events else 0)) step.world steps run.1 (next_known script budget w step run.0 known) (early_step calls w step.events step.world (known [] tt) run.0 h) in
       subst (λ n. Early n (last_world step.world steps)) (sum_moved calls (if is_call e.function (next_command w.stack) then count_by is_enter step.events else 0) (calls_from e.function step.world steps)) next
 
-  early_opening : Early 0 (opening script budget)
+  pub early_opening : Early 0 (opening script budget)
   early_opening = record {
     hidden = λ x m code. absurd (either m (λ i. let no : ListKind ≡ Func = ap (λ (z : Object). z.code) i ∙ code in cc) (λ none. none));
     stage = Before [] [] (commands_of script.items) refl (λ a m. absurd m) refl refl;
   }
 
   -- names that others leave
-  rests_names : (w : World) (events : List Event) (after : World) (n : ℕ) → Includes (names_of e) n → Went script w events after → Rests e w after → slice_get after.names n ≡ slice_get w.names n
+  pub rests_names : (w : World) (events : List Event) (after : World) (n : ℕ) → Includes (names_of e) n → Went script w events after → Rests e w after → slice_get after.names n ≡ slice_get w.names n
   rests_names w events after n own x (inr same) = ap (λ ns. slice_get ns n) same.1
   rests_names w events after n own x (inl h) = go x
     where

@@ -18,3 +18,4 @@ pub mod WatchSteps
 pub mod WatchKept
 pub mod ExitRuns
 pub mod Order
+pub mod Alive

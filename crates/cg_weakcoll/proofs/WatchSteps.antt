@@ -49,7 +49,7 @@ named_by [] o m = absurd m
 named_by (v ∷ names) o m = either (Includes-append_cases (references_of_value v) (name_holdings names) o m) (λ i. (zero, i)) (λ i. let x = named_by names o i in (suc x.0, x.1))
 
 -- the value of a name
-name_value : (names : List (Option Val)) (x : ℕ) (v : Val) → option_and_then (λ u. u) (slice_get names x) ≡ Some v → slice_get names x ≡ Some (Some v)
+pub name_value : (names : List (Option Val)) (x : ℕ) (v : Val) → option_and_then (λ u. u) (slice_get names x) ≡ Some v → slice_get names x ≡ Some (Some v)
 name_value names x v e = go (slice_get names x) refl e
   where
     go : (m : Option (Option Val)) → slice_get names x ≡ m → option_and_then (λ u. u) m ≡ Some v → slice_get names x ≡ Some (Some v)

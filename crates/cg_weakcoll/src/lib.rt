@@ -3,4 +3,4 @@
 
 mod exit_laws;
 
-pub use exit_laws::{exits_are_called_last_first, exits_begin_once};
+pub use exit_laws::{exits_are_called_last_first, exits_begin_alive, exits_begin_once};
