@@ -1,5 +1,5 @@
 -- What the steps of collections do.
-use Rattle.std.proofs.Common.{◌≡◌, ◌≢◌, refl, sym, ◌∙◌, ap, subst, ℕ, ◌+◌, Bool, true, false, not, ◌&&◌, ◌||◌, inl, inr, ◌⊎◌, List, [], ◌∷◌, ◌++◌, map, length, Option, Some, None}
+use Rattle.std.proofs.Common.{◌≡◌, ◌≢◌, refl, sym, ◌∙◌, ap, subst, ℕ, ◌+◌, Bool, true, false, not, ◌&&◌, ◌||◌, inl, inr, List, [], ◌∷◌, ◌++◌, map, length, Option, Some, None}
 use Rattle.std.specs.Prelude.{◌==◌, if◌then◌else◌, filter, is_some, nat_le, option_and_then, option_map, unwrap_or}
 use Rattle.std.proofs.lemmas.Bool.{eqb-true}
 use Rattle.cg_value.specs.declared.Entry.{Entry}
@@ -8,7 +8,7 @@ use Rattle.cg_value.specs.declared.Place.TheVariants.{Untracked, Gen, Frozen, Ca
 use Rattle.cg_value.specs.declared.Val.TheVariants.{Ref}
 use Rattle.cg_script.specs.declared.Script.{Script}
 use Rattle.cg_graph.specs.Member.{Includes, includes}
-use Rattle.cg_graph.specs.Value.{entry_references, item, last_entry, references}
+use Rattle.cg_graph.specs.Value.{entry_references, item, last_entry}
 use Rattle.cg_graph.specs.Object.{Object, change, entries_of, is_at, is_in_map, is_tuple, marked, object_at, objects_at, same_place, serials, serials_at, with_entries, with_place}
 use Rattle.cg_graph.proofs.Members.{either, true_and, true_or, Includes-append_cases, Includes-append_left, Includes-filter, Includes-filter_cases, Includes-map, Includes-map_cases}
 use Rattle.cg_machine.specs.declared.event.Event.{Event}
@@ -20,12 +20,12 @@ use Rattle.cg_machine.specs.Frame.{Transition, procedure_of}
 use Rattle.cg_machine.specs.Weak.{AllLose, callback_of, loses_referent}
 use Rattle.cg_machine.specs.Dying.{finalizer_to_run}
 use Rattle.cg_machine.specs.Effects.{gens_line}
-use Rattle.cg_machine.specs.Collect.{EndStep, FinalizingStep, PhaseStep, SplitStep, StartStep, TurnsStep, WeakClearingStep, after_release, all_saved, calls_back, clears_one, collectable, collection_at, empties, get_older, has_flag, is_condemned, is_condemned_in, is_saved, lines_if, looks_at, loses_at_split, merged, merged_place, older, replaced_place, save_all, saved, sorted, stats, takes_turn, uncollectable, waits}
+use Rattle.cg_machine.specs.Collect.{EndStep, FinalizingStep, PhaseStep, SplitStep, StartStep, TurnsStep, WeakClearingStep, after_release, all_saved, calls_back, clears_one, collectable, collection_at, empties, get_older, has_flag, is_condemned, is_condemned_in, is_saved, lines_if, looks_at, merged, merged_place, older, replaced_place, save_all, saved, sorted, stats, takes_turn, uncollectable, waits}
 use Rattle.cg_machine.proofs.Lookups.{at_member, found_at, references-append, same_object}
 use Rattle.cg_machine.proofs.Serials.{Rises}
 use Rattle.cg_promises.proofs.ToldCollections.{same_lives}
 use Rattle.cg_laws.specs.Apart.{IsFound}
-use Rattle.cg_weakcoll.proofs.Acts.{Acts, Ages, Grows, IsAside, IsCollected, IsRaised, Loses, Waited, acts, ages_trans, all_to_call, either_acts, grows_if, grows_lost, grows_map, grows_place, grows_same, grows_trans, one_raised, same_ages, starts_acts, to_call_in, two_raised, yields_acts}
+use Rattle.cg_weakcoll.proofs.Acts.{Acts, Ages, Grows, IsAside, Loses, Waited, acts, all_to_call, either_acts, grows_if, grows_lost, grows_place, grows_same, grows_trans, one_raised, starts_acts, to_call_in, two_raised, yields_acts}
 use Rattle.cg_weakcoll.proofs.ActsDeaths.{shortened_grows, to_run_is}
 
 -- places that are told apart

@@ -1,20 +1,20 @@
 -- What the steps of frames that end, of releases and of deaths do.
-use Rattle.std.proofs.Common.{◌≡◌, ◌≢◌, refl, sym, ◌∙◌, ap, subst, ℕ, ◌-◌, Bool, true, false, not, ◌&&◌, inl, inr, List, [], ◌∷◌, ◌++◌, Option, Some, None, length}
-use Rattle.std.specs.Prelude.{◌==◌, if◌then◌else◌, filter, is_some, option_and_then, option_map, option_to_list, slice_get, unwrap_or}
+use Rattle.std.proofs.Common.{◌≡◌, refl, sym, ap, subst, ℕ, Bool, true, false, not, ◌&&◌, inl, inr, List, [], ◌∷◌, ◌++◌, Option, Some, None}
+use Rattle.std.specs.Prelude.{◌==◌, if◌then◌else◌, filter, is_some, option_and_then, option_map, option_to_list, unwrap_or}
 use Rattle.std.proofs.lemmas.Bool.{eqb-true}
 use Rattle.cg_value.specs.declared.Entry.{Entry}
 use Rattle.cg_value.specs.declared.Place.TheVariants.{Untracked, Gen}
 use Rattle.cg_script.specs.declared.Script.{Script}
 use Rattle.cg_graph.specs.Member.{Includes}
 use Rattle.cg_graph.specs.Value.{entry_references, last_entry, references, without_last}
-use Rattle.cg_graph.specs.Object.{Object, change, object_at, entries_of, marked, serials, with_entries, with_place, with_referent, without}
+use Rattle.cg_graph.specs.Object.{Object, change, object_at, entries_of, marked, serials, with_entries, with_place, with_referent}
 use Rattle.cg_graph.proofs.Members.{either, Includes-append_cases, Includes-append_left, Includes-filter_cases, Includes-map_cases}
 use Rattle.cg_machine.specs.declared.event.Event.{Event}
 use Rattle.cg_machine.specs.declared.event.Event.TheVariants.{Alive, Cleared, Enter, Free, Leave}
 use Rattle.cg_machine.specs.declared.event.FrameSort.{FrameSort}
 use Rattle.cg_machine.specs.declared.event.FrameSort.TheVariants.{Del, Legacy as LegacyFrame, Callback, Call as CallFrame}
 use Rattle.cg_machine.specs.Program.{finalizer_of, legacy_of}
-use Rattle.cg_machine.specs.World.{World, Activity, Framed, Releasing, Dying, Death, Frame, DyingPhase, Finalizer, AfterFinalizer, Clearing, Calling, AfterCall, LegacyFinalizer, AfterLegacy, Detaching, Emptying, with_stack, with_change}
+use Rattle.cg_machine.specs.World.{World, Activity, Framed, Releasing, Dying, Frame, DyingPhase, Finalizer, AfterFinalizer, Clearing, Calling, AfterCall, LegacyFinalizer, AfterLegacy, Detaching, Emptying, with_stack, with_change}
 use Rattle.cg_machine.specs.Holdings.{in_degree, is_dying}
 use Rattle.cg_machine.specs.Frame.{Transition, begin_death, frame_end, gives_up_function, procedure_of, released}
 use Rattle.cg_machine.specs.Weak.{callback_of, has_weak_references, loses_referent, is_reference_to, weak_references, weak_references_if}
@@ -25,7 +25,7 @@ use Rattle.cg_machine.proofs.Serials.{Rises}
 use Rattle.cg_promises.proofs.Moved.{entries_of_member}
 use Rattle.cg_promises.proofs.ToldDeaths.{reversed_back}
 use Rattle.cg_promises.proofs.Waited.{RefersNow}
-use Rattle.cg_weakcoll.proofs.Acts.{Acts, Ages, Grows, IsRaised, Loses, Waited, acts, ages_trans, all_to_call, either_acts, grows_if, grows_lost, grows_place, grows_same, grows_trans, one_raised, starts_acts, two_raised}
+use Rattle.cg_weakcoll.proofs.Acts.{Acts, Grows, Loses, Waited, acts, all_to_call, either_acts, grows_if, grows_lost, grows_place, grows_same, one_raised, starts_acts, two_raised}
 
 -- entries that are taken out
 pub shortened_grows : (w : World) (low high : ℕ) (objects : List Object) (o : ℕ) → Rises low high objects → Grows w objects (change (with_entries (without_last (entries_of objects o))) o objects)

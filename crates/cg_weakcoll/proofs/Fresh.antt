@@ -1,6 +1,6 @@
 -- An object that is made is held by the name that it is bound to alone.
-use Rattle.std.proofs.Common.{◌≡◌, ◌≢◌, refl, sym, ◌∙◌, ap, subst, ℕ, zero, suc, ◌+◌, ◌<◌, ◌≤◌, Bool, true, false, inl, inr, ◌⊎◌, List, [], ◌∷◌, ◌++◌, Option, Some, None, arith}
-use Rattle.std.specs.Prelude.{flat_map, option_and_then, option_to_list, slice_get, slice_set}
+use Rattle.std.proofs.Common.{◌≡◌, ◌≢◌, refl, sym, ◌∙◌, ap, subst, ℕ, zero, suc, ◌<◌, inl, List, [], ◌∷◌, ◌++◌, Option, Some, None, arith}
+use Rattle.std.specs.Prelude.{flat_map, slice_set}
 use Rattle.cg_value.specs.declared.KindCode.{KindCode}
 use Rattle.cg_value.specs.declared.KindCode.TheVariants.{List as ListKind, Tuple, Dict, Inst, Func, Weak}
 use Rattle.cg_value.specs.declared.Val.{Val}
@@ -15,7 +15,7 @@ use Rattle.cg_graph.specs.Value.{references, references_of_value}
 use Rattle.cg_graph.proofs.Members.{either, Includes-append_cases, Includes-append_left, Includes-append_right, Includes-map}
 use Rattle.cg_machine.specs.declared.event.FrameSort.{FrameSort}
 use Rattle.cg_machine.specs.declared.event.FrameSort.TheVariants.{Del, Legacy as LegacyFrame, Callback, Call as CallFrame}
-use Rattle.cg_machine.specs.World.{World, Activity, Framed, Frame, Releasing, push, with_stack}
+use Rattle.cg_machine.specs.World.{World, Activity, Framed, Frame, Releasing, push}
 use Rattle.cg_machine.specs.Holdings.{holdings, holds}
 use Rattle.cg_machine.specs.Effects.{bound, with_new}
 use Rattle.cg_machine.specs.Operands.{self_in, weak_in}
@@ -62,7 +62,7 @@ module _ (script : Script) (budget : ℕ) (w : World) (k : Known script budget w
   root_below = held_below 1 (Includes-append_left (name_holdings w.names ++ (1 ∷ []) ++ entry_holdings (graph_of w.objects)) (flat_map holds w.stack) 1
       (Includes-append_left (name_holdings w.names ++ (1 ∷ [])) (entry_holdings (graph_of w.objects)) 1 (Includes-append_right (name_holdings w.names) (1 ∷ []) 1 (inl refl))))
 
-  member_below : (x : Object) → Includes w.objects x → x.serial < w.next_serial
+  pub member_below : (x : Object) → Includes w.objects x → x.serial < w.next_serial
   member_below x m = lives_below x.serial (Includes-map (λ (z : Object). z.serial) w.objects x m)
 
   some_is : (m n : ℕ) → Some m ≡ Some n → m ≡ n

@@ -1,8 +1,8 @@
 -- The functions of the procedure of an exit finalizer stay hidden.
-use Rattle.std.proofs.Common.{◌≡◌, ◌≢◌, refl, sym, ◌∙◌, ap, subst, ℕ, ◌+◌, ◌-◌, ◌<◌, ◌≤◌, Bool, true, false, inl, inr, ◌⊎◌, List, [], ◌∷◌, ◌++◌, Option, Some, None, arith}
-use Rattle.std.specs.Prelude.{◌==◌, if◌then◌else◌, slice_set}
+use Rattle.std.proofs.Common.{◌≡◌, ◌≢◌, refl, sym, ◌∙◌, ap, subst, ℕ, ◌-◌, Bool, true, false, inl, inr, ◌⊎◌, List, [], ◌∷◌, Option, Some, None}
+use Rattle.std.specs.Prelude.{◌==◌, if◌then◌else◌}
 use Rattle.cg_value.specs.declared.KindCode.{KindCode}
-use Rattle.cg_value.specs.declared.KindCode.TheVariants.{List as ListKind, Tuple, Dict, Func, Inst, Weak}
+use Rattle.cg_value.specs.declared.KindCode.TheVariants.{Func, Weak}
 use Rattle.cg_value.specs.declared.Val.TheVariants.{Ref}
 use Rattle.cg_script.specs.declared.Script.{Script}
 use Rattle.cg_script.specs.declared.Command.{Command}
@@ -17,26 +17,26 @@ use Rattle.cg_machine.specs.declared.event.Event.{Event}
 use Rattle.cg_machine.specs.declared.event.Event.TheVariants.{BudgetSpent, Enter, Made}
 use Rattle.cg_machine.specs.declared.event.FrameSort.TheVariants.{Call as CallFrame}
 use Rattle.cg_machine.specs.Program.{body_of}
-use Rattle.cg_machine.specs.World.{World, Activity, TopLevel, Framed, Releasing, Dying, Collecting, ShuttingDown, Frame, Ended, BudgetIsSpent, push, with_stack}
+use Rattle.cg_machine.specs.World.{World, Activity, TopLevel, Framed, Releasing, ShuttingDown, Frame, Ended, BudgetIsSpent, push, with_stack}
 use Rattle.cg_machine.specs.Frame.{Yields, procedure_of, start_frame}
 use Rattle.cg_machine.specs.Effects.{Changes, bound, given_up_by, with_new}
 use Rattle.cg_machine.specs.Commands.{CommandStep, new_collection, refused, stopped_frame}
 use Rattle.cg_machine.specs.Operands.{self_in, weak_in}
 use Rattle.cg_machine.specs.Run.{Step}
 use Rattle.cg_machine.proofs.Forgotten.{IsLater, later_refl}
-use Rattle.cg_machine.proofs.Invariants.{HasCommands, Takes, on}
+use Rattle.cg_machine.proofs.Invariants.{Takes, on}
 use Rattle.cg_machine.proofs.ShapeLaws.{shape_comes}
 use Rattle.cg_machine.proofs.Shapes.{ByDict, ByFunc, ByInst, ByList, ByRef, ByTuple, IsMadeBy}
-use Rattle.cg_weakcoll.specs.Exits.{Exit, IsExit}
+use Rattle.cg_weakcoll.specs.Exits.{Exit}
 use Rattle.cg_weakcoll.proofs.Acts.{Acts, all_to_call}
 use Rattle.cg_weakcoll.proofs.Fresh.{new_hidden, old_hidden, unborn, unborn_taken}
 use Rattle.cg_weakcoll.proofs.Once.{lost_referent}
-use Rattle.cg_weakcoll.proofs.Own.{IsCall, call_step, func_step}
-use Rattle.cg_weakcoll.proofs.Secret.{Hidden, held_by}
+use Rattle.cg_weakcoll.proofs.Own.{call_step, func_step}
+use Rattle.cg_weakcoll.proofs.Secret.{Hidden}
 use Rattle.cg_weakcoll.proofs.SecretSteps.{acted_hidden, called_hidden, done_hidden, pushed, restacked, set_free, taken_hidden}
 use Rattle.cg_weakcoll.proofs.Stage.{CallsIt, IsTold, MakesIt, Quiet}
 use Rattle.cg_weakcoll.proofs.Tame.{AreHidden}
-use Rattle.cg_weakcoll.proofs.Went.{Acted, Asked, Began, Bottomed, Changed, Commanded, Done, Due, GaveUp, Known, Lasted, Over, Stood, Stopped, Went, exactly, went}
+use Rattle.cg_weakcoll.proofs.Went.{Acted, Asked, Began, Bottomed, Changed, Commanded, Done, Due, GaveUp, Known, Lasted, Over, Stood, Stopped, Went, exactly}
 
 -- no frame of a stack has the object as a local
 abbrev pub HasLocals : ℕ → List Activity → Type 0
@@ -154,8 +154,8 @@ module _ (script : Script) (budget : ℕ) (e : Exit) where
 
   pub hidden_kept : (w : World) (events : List Event) (after : World) → Known script budget w → AreHidden e w → ((command : Command) (a b : Activity) (below : List Activity) → w.stack ≡ a ∷ below → Takes command a b → IsTold e command) → Step script w events after → Went script w events after → AreHidden e after
   hidden_kept w events after k h told step (Acted a below top acts) = acted_kept w a below events after k top acts h
-  hidden_kept w events after k h told step (Due g none is) = due_kept g false w w after refl (λ o hid. hid) is h
-  hidden_kept w events after k h told step (Over a last is) = same_kept w after (ap (λ (z : World). z.objects) is) h (λ o hid. subst (Hidden e.exit o) (sym is) (restacked e.exit o w (record w { outcome = Ended }) refl refl refl hid.locals hid))
+  hidden_kept w events after k h told step (Due g set none is) = due_kept g false w w after refl (λ o hid. hid) is h
+  hidden_kept w events after k h told step (Over a under place last is) = same_kept w after (ap (λ (z : World). z.objects) is) h (λ o hid. subst (Hidden e.exit o) (sym is) (restacked e.exit o w (record w { outcome = Ended }) refl refl refl hid.locals hid))
   hidden_kept w events after k h told step (Bottomed below top none is) = same_kept w after (ap (λ (z : World). z.objects) is) h (λ o hid. subst (Hidden e.exit o) (sym is) (bottom_hidden e.exit o w (TopLevel []) (ShuttingDown false) below top (λ f i. cc) hid))
   hidden_kept w events after k h told step (GaveUp name below top none is) = same_kept w after (ap (λ (z : World). z.objects) is) h (λ o hid. subst (Hidden e.exit o) (sym is) (dropped_hidden e.exit o name w (given_up_by w name) hid))
   hidden_kept w events after k h told step (Lasted below top none is) = due_kept 2 false w (with_stack (ShuttingDown true ∷ below) w) after refl (λ o hid. bottom_hidden e.exit o w (ShuttingDown false) (ShuttingDown true) below top (λ f i. cc) hid) is h

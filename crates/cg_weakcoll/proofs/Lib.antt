@@ -30,3 +30,8 @@ pub mod HiddenKept
 pub mod StageSteps
 pub mod Names
 pub mod Watch
+pub mod WatchSteps
+pub mod WatchKept
+pub mod ExitRuns
+pub mod Order
+pub mod Alive

@@ -1,6 +1,6 @@
 -- What a step does to the names of an exit finalizer: other commands leave them.
-use Rattle.std.proofs.Common.{◌≡◌, ◌≢◌, refl, sym, ◌∙◌, ap, subst, ℕ, zero, suc, ◌-◌, Bool, true, false, inl, inr, ◌⊎◌, List, [], ◌∷◌, ◌++◌, Option, Some, None}
-use Rattle.std.specs.Prelude.{◌==◌, if◌then◌else◌, option_and_then, slice_get, slice_set}
+use Rattle.std.proofs.Common.{◌≡◌, ◌≢◌, refl, sym, ◌∙◌, ap, subst, ℕ, zero, suc, ◌-◌, Bool, true, false, List, [], ◌∷◌, Option, Some}
+use Rattle.std.specs.Prelude.{◌==◌, if◌then◌else◌, slice_get, slice_set}
 use Rattle.cg_value.specs.declared.Val.{Val}
 use Rattle.cg_value.specs.declared.Val.TheVariants.{Ref}
 use Rattle.cg_script.specs.declared.Script.{Script}
@@ -13,7 +13,7 @@ use Rattle.cg_machine.specs.declared.event.FrameSort.TheVariants.{Call as CallFr
 use Rattle.cg_machine.specs.Program.{body_of}
 use Rattle.cg_machine.specs.World.{World, Activity, Framed, BudgetIsSpent}
 use Rattle.cg_machine.specs.Frame.{Yields, procedure_of, start_frame}
-use Rattle.cg_machine.specs.Effects.{Changes, Effect, bound}
+use Rattle.cg_machine.specs.Effects.{Changes, Effect}
 use Rattle.cg_machine.proofs.Invariants.{on}
 use Rattle.cg_machine.proofs.Shapes.{AsksWhy, Binds, Edits, Ends, Freezes, Inspects, Makes, Puts, Sets, Shape, Shows, StartsCollection, StartsFrame, Stays, Tells, Unfreezes}
 use Rattle.cg_weakcoll.proofs.Went.{Asked, Began, Changed, Done, Stood, Stopped}

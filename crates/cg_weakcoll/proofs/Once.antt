@@ -1,25 +1,23 @@
 -- Weak references whose callbacks are still to come: they lost their referent. Each callback begins once.
-use Rattle.std.proofs.Common.{◌≡◌, ◌≢◌, refl, sym, ◌∙◌, ap, subst, ℕ, zero, suc, ◌+◌, ◌<◌, ◌≤◌, Bool, true, false, cond, inl, inr, ◌⊎◌, List, [], ◌∷◌, ◌++◌, Option, Some, None, arith}
-use Rattle.std.specs.Prelude.{◌==◌, flat_map, if◌then◌else◌, count_by}
+use Rattle.std.proofs.Common.{◌≡◌, refl, sym, ◌∙◌, ap, subst, ℕ, ◌<◌, ◌≤◌, true, false, cond, inl, inr, ◌⊎◌, List, [], ◌∷◌, ◌++◌, Some, None, arith}
+use Rattle.std.specs.Prelude.{◌==◌}
 use Rattle.std.proofs.lemmas.Bool.{eq-eqb}
 use Rattle.cg_script.specs.declared.Script.{Script}
-use Rattle.cg_script.specs.declared.Command.{Command}
 use Rattle.cg_graph.specs.Member.{Includes, includes}
 use Rattle.cg_graph.specs.Holdings.{occurrences}
 use Rattle.cg_graph.specs.Object.{Object}
 use Rattle.cg_graph.proofs.Members.{cases_of, either, includes-of, Includes-of, Includes-append_cases, Includes-append_left, Includes-append_right}
 use Rattle.cg_graph.proofs.Objects.{occurrences-append}
 use Rattle.cg_machine.specs.declared.event.Event.{Event}
-use Rattle.cg_machine.specs.declared.event.Event.TheVariants.{BudgetSpent, Enter}
-use Rattle.cg_machine.specs.declared.event.FrameSort.TheVariants.{Callback, Call as CallFrame}
-use Rattle.cg_machine.specs.World.{World, Activity, TopLevel, Framed, Releasing, Dying, Collecting, ShuttingDown, CollectPhase, Start, WeakClearing, WeakCalling, AfterCallback, AfterRelease}
-use Rattle.cg_machine.specs.Frame.{Yields, start_frame}
+use Rattle.cg_machine.specs.declared.event.Event.TheVariants.{Enter}
+use Rattle.cg_machine.specs.declared.event.FrameSort.TheVariants.{Callback}
+use Rattle.cg_machine.specs.World.{World, Activity, TopLevel, Framed, Releasing, Dying, Collecting, ShuttingDown, CollectPhase, WeakClearing, WeakCalling, AfterCallback, AfterRelease}
 use Rattle.cg_machine.specs.Laws.{IsWaiting, all_waits, collection_waits, waits_of}
 use Rattle.cg_machine.proofs.Condemned.{present}
 use Rattle.cg_machine.proofs.Forgotten.{IsLater, none_later}
 use Rattle.cg_machine.proofs.Releasing.{no_times}
 use Rattle.cg_machine.proofs.Saving.{count_cons}
-use Rattle.cg_weakcoll.proofs.Acts.{Acts, Called, IsAside, IsCollected, IsRaised, Loses, Waited, all_to_call, to_call, to_call_in}
+use Rattle.cg_weakcoll.proofs.Acts.{Acts, Called, IsAside, IsCollected, IsRaised, Waited, all_to_call, to_call, to_call_in}
 use Rattle.cg_laws.specs.Apart.{IsFound}
 use Rattle.cg_weakcoll.proofs.Went.{Known}
 

@@ -1,14 +1,13 @@
 -- What the commands of an exit finalizer do, each exactly.
-use Rattle.std.proofs.Common.{◌≡◌, ◌≢◌, refl, sym, ◌∙◌, ap, subst, ℕ, ◌+◌, Bool, true, false, inl, inr, ◌⊎◌, List, [], ◌∷◌, ◌++◌, length, Option, Some, None, Result, Ok, Err}
-use Rattle.std.specs.Prelude.{if◌then◌else◌, nat_le, nat_lt, ok_or, option_and_then, option_map, slice_get}
+use Rattle.std.proofs.Common.{◌≡◌, refl, ℕ, ◌+◌, Bool, true, false, inl, inr, ◌⊎◌, List, [], ◌∷◌, length, Option, Some, None, Result, Ok, Err}
+use Rattle.std.specs.Prelude.{if◌then◌else◌, nat_le, nat_lt, ok_or}
 use Rattle.cg_value.specs.declared.KindCode.{KindCode}
 use Rattle.cg_value.specs.declared.KindCode.TheVariants.{Func, Weak}
 use Rattle.cg_value.specs.declared.Val.{Val}
 use Rattle.cg_value.specs.declared.Val.TheVariants.{None as Nothing, Int, Str, Ref}
 use Rattle.cg_value.specs.declared.Entry.{Entry}
 use Rattle.cg_script.specs.declared.Script.{Script}
-use Rattle.cg_script.specs.declared.Command.{Command}
-use Rattle.cg_script.specs.declared.Command.TheVariants.{Bind, Call, Del, Deref, MakeFunc, MakeRef, Quit}
+use Rattle.cg_script.specs.declared.Command.TheVariants.{Call, Del, Deref, MakeFunc, MakeRef, Quit}
 use Rattle.cg_script.specs.declared.Operand.{Operand}
 use Rattle.cg_script.specs.declared.Operand.TheVariants.{Name}
 use Rattle.cg_graph.proofs.Members.{either}
@@ -21,9 +20,9 @@ use Rattle.cg_machine.specs.World.{World, Releasing, push, with_stack}
 use Rattle.cg_machine.specs.Frame.{Yields, procedure_of, start_frame}
 use Rattle.cg_machine.specs.Weak.{has_weak_references, is_function}
 use Rattle.cg_machine.specs.Refusals.{◌>>=◌, entry_limit, most_entries, most_objects, no_memory, no_name, not_callable, not_weak, object_limit, unless, wrong_kind}
-use Rattle.cg_machine.specs.Operands.{is_weak, object, object_of, tested, value, value_of}
-use Rattle.cg_machine.specs.Effects.{Calls, Changes, Effect, Quits, binds, bound, callback_entries, entry_count, given_up_by, live, makes, with_new}
-use Rattle.cg_machine.specs.Commands.{CommandStep, DoesEffect, effect, refused, without_commands}
+use Rattle.cg_machine.specs.Operands.{is_weak, object, object_of, tested, value_of}
+use Rattle.cg_machine.specs.Effects.{Changes, Effect, Quits, binds, bound, callback_entries, entry_count, given_up_by, live, makes, with_new}
+use Rattle.cg_machine.specs.Commands.{CommandStep, DoesEffect, refused, without_commands}
 
 module _ (script : Script) (u : World) (events : List Event) (after : World) where
   -- the command is refused

@@ -1,31 +1,24 @@
 -- An object that one name alone holds, of which no command reads that name: no command has it at hand.
-use Rattle.std.proofs.Common.{◌≡◌, ◌≢◌, refl, sym, ◌∙◌, ap, subst, ℕ, zero, suc, ◌+◌, ◌<◌, ◌≤◌, Bool, true, false, not, ◌&&◌, ◌||◌, inl, inr, ◌⊎◌, List, [], ◌∷◌, ◌++◌, map, length, Option, Some, None, arith}
-use Rattle.std.specs.Prelude.{◌==◌, if◌then◌else◌, filter, flat_map, option_and_then, option_map, option_to_list, slice_get, slice_set, unwrap_or}
-use Rattle.std.proofs.lemmas.Bool.{eqb-true}
-use Rattle.cg_value.specs.declared.KindCode.{KindCode}
-use Rattle.cg_value.specs.declared.KindCode.TheVariants.{List as ListKind, Tuple, Dict, Inst, Func, Weak}
-use Rattle.cg_value.specs.declared.Place.{Place}
-use Rattle.cg_value.specs.declared.Place.TheVariants.{Untracked, Gen, Frozen, Cand, Seen, Back, Legacy, Pend}
+use Rattle.std.proofs.Common.{◌≡◌, ◌≢◌, refl, sym, ◌∙◌, subst, ℕ, ◌<◌, inl, List, [], ◌∷◌, Option, Some, None}
+use Rattle.std.specs.Prelude.{option_and_then, option_map, option_to_list, slice_get, unwrap_or}
+use Rattle.cg_value.specs.declared.KindCode.TheVariants.{Inst}
 use Rattle.cg_value.specs.declared.Val.{Val}
 use Rattle.cg_value.specs.declared.Val.TheVariants.{None as Nothing, Int, Str, Ref}
 use Rattle.cg_value.specs.declared.Entry.{Entry}
-use Rattle.cg_script.specs.declared.Script.{Script}
 use Rattle.cg_script.specs.declared.Command.{Command}
 use Rattle.cg_script.specs.declared.Operand.{Operand}
 use Rattle.cg_script.specs.declared.Operand.TheVariants.{None as NoneWord, Int as IntWord, Str as StrWord, Name, SelfLocal, WeakLocal, Cell, Garbage}
 use Rattle.cg_script.specs.Texts.{command_texts, operand_texts}
 use Rattle.cg_graph.specs.Member.{Includes}
-use Rattle.cg_graph.specs.Object.{Object, change, entries_of, is_tracked, object_at, with_entries, with_place}
-use Rattle.cg_graph.specs.Value.{entry_references, put, reference_in, references, references_of_value}
-use Rattle.cg_graph.proofs.Members.{either, Includes-append_cases, Includes-append_left, Includes-append_right, Includes-map_cases}
-use Rattle.cg_machine.specs.declared.event.Event.{Event}
+use Rattle.cg_graph.specs.Object.{Object, entries_of, object_at}
+use Rattle.cg_graph.specs.Value.{reference_in, references, references_of_value}
+use Rattle.cg_graph.proofs.Members.{Includes-append_left, Includes-append_right}
 use Rattle.cg_machine.specs.declared.event.FrameSort.{FrameSort}
-use Rattle.cg_machine.specs.declared.event.FrameSort.TheVariants.{Del, Legacy as LegacyFrame, Callback, Call as CallFrame}
-use Rattle.cg_machine.specs.World.{World, Activity, Framed, Frame, with_stack}
+use Rattle.cg_machine.specs.World.{World, Activity, Framed, Frame}
 use Rattle.cg_machine.specs.Operands.{frame_on, self_in, weak_in, value_of}
-use Rattle.cg_machine.proofs.CommandRefs.{HoldNone, all_free, entry_free, got_free, option_free, option_held, put_free}
-use Rattle.cg_machine.proofs.Lookups.{found_at, references_of_member, slice_get_member}
-use Rattle.cg_machine.proofs.Shapes.{AreItems, IsAtHand, KeyIn, ReferentOf, Shape, ValueIn, Word}
+use Rattle.cg_machine.proofs.CommandRefs.{HoldNone, got_free, option_held}
+use Rattle.cg_machine.proofs.Lookups.{found_at, references_of_member}
+use Rattle.cg_machine.proofs.Shapes.{IsAtHand, KeyIn, ReferentOf, ValueIn, Word}
 use Rattle.cg_laws.specs.Apart.{IsFound}
 
 -- what a name stands for

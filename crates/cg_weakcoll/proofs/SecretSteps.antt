@@ -1,12 +1,11 @@
 -- A hidden object stays so, whatever steps are taken but those of the commands that speak of its name.
-use Rattle.std.proofs.Common.{◌≡◌, ◌≢◌, refl, sym, ◌∙◌, ap, subst, ℕ, zero, suc, ◌+◌, ◌-◌, ◌<◌, ◌≤◌, Bool, true, false, not, ◌&&◌, ◌||◌, inl, inr, ◌⊎◌, List, [], ◌∷◌, ◌++◌, map, length, Option, Some, None, arith}
-use Rattle.std.specs.Prelude.{◌==◌, if◌then◌else◌, filter, flat_map, nat_le, option_and_then, option_map, option_to_list, slice_get, slice_set, unwrap_or}
-use Rattle.std.specs.List.{list_any}
+use Rattle.std.proofs.Common.{◌≡◌, ◌≢◌, refl, sym, ◌∙◌, ap, subst, ℕ, zero, suc, ◌-◌, ◌<◌, ◌≤◌, Bool, true, false, not, ◌&&◌, ◌||◌, inl, inr, ◌⊎◌, List, [], ◌∷◌, ◌++◌, map, Option, Some, None, arith}
+use Rattle.std.specs.Prelude.{◌==◌, if◌then◌else◌, flat_map, slice_set}
 use Rattle.std.proofs.lemmas.Bool.{eqb-true}
 use Rattle.cg_value.specs.declared.KindCode.{KindCode}
 use Rattle.cg_value.specs.declared.KindCode.TheVariants.{List as ListKind, Tuple, Dict, Inst, Func, Weak}
 use Rattle.cg_value.specs.declared.Place.{Place}
-use Rattle.cg_value.specs.declared.Place.TheVariants.{Untracked, Gen, Frozen, Cand, Seen, Back, Legacy, Pend}
+use Rattle.cg_value.specs.declared.Place.TheVariants.{Untracked, Gen, Frozen}
 use Rattle.cg_value.specs.declared.Val.{Val}
 use Rattle.cg_value.specs.declared.Val.TheVariants.{None as Nothing, Ref}
 use Rattle.cg_value.specs.declared.Entry.{Entry}
@@ -17,35 +16,35 @@ use Rattle.cg_graph.specs.Member.{Includes, includes}
 use Rattle.cg_graph.specs.Object.{Object, change, is_at, is_tracked, objects_at, same_place, serials, with_entries, with_place}
 use Rattle.cg_graph.specs.Holdings.{Graph, entry_holdings, graph_of, name_holdings, occurrences}
 use Rattle.cg_graph.specs.Reach.{first}
-use Rattle.cg_graph.specs.Value.{entry_references, put, reference_in, references, references_of_value, value_at}
+use Rattle.cg_graph.specs.Value.{put, reference_in, references, references_of_value}
 use Rattle.cg_graph.proofs.Members.{cases_of, either, includes-of, Includes-of, Includes-append_cases, Includes-append_left, Includes-append_right, Includes-filter_cases, Includes-map, Includes-map_cases}
 use Rattle.cg_graph.proofs.Objects.{occurrences-append}
 use Rattle.cg_machine.specs.declared.event.Event.{Event}
 use Rattle.cg_machine.specs.declared.event.Event.TheVariants.{BudgetSpent, Enter}
 use Rattle.cg_machine.specs.declared.event.FrameSort.{FrameSort}
 use Rattle.cg_machine.specs.declared.event.FrameSort.TheVariants.{Del, Legacy as LegacyFrame, Callback, Call as CallFrame}
-use Rattle.cg_machine.specs.Program.{body_of, class_number, finalizer_of, legacy_of}
+use Rattle.cg_machine.specs.Program.{body_of, finalizer_of, legacy_of}
 use Rattle.cg_machine.specs.World.{World, Activity, TopLevel, Framed, Releasing, Dying, Death, Collecting, ShuttingDown, Frame, DyingPhase, AfterFinalizer, AfterLegacy, BudgetIsSpent, with_change, with_stack}
-use Rattle.cg_machine.specs.Holdings.{dying_holds, holdings, holds, is_death_of}
+use Rattle.cg_machine.specs.Holdings.{dying_holds, holdings, holds}
 use Rattle.cg_machine.specs.Frame.{Yields, procedure_of, start_frame}
 use Rattle.cg_machine.specs.Collect.{IsMemberOf, Survives, merged, merged_place}
-use Rattle.cg_machine.specs.Effects.{Changes, Effect, bound, frozen, given_up_by, may_track, replaced, tracked_by, unfrozen, with_new}
+use Rattle.cg_machine.specs.Effects.{Changes, Effect, bound, frozen, may_track, replaced, tracked_by, unfrozen, with_new}
 use Rattle.cg_machine.specs.Laws.{runs_own_frame}
 use Rattle.cg_machine.specs.Operands.{is_dict, self_in, weak_in}
 use Rattle.cg_machine.proofs.CommandRefs.{HoldNone, all_free, entry_free, option_free, put_free}
 use Rattle.cg_machine.proofs.Condemned.{present}
-use Rattle.cg_machine.proofs.Forgotten.{IsLater, some_later}
+use Rattle.cg_machine.proofs.Forgotten.{some_later}
 use Rattle.cg_machine.proofs.Lookups.{references_of_member, same_object}
-use Rattle.cg_machine.proofs.Invariants.{FromFrame, FromTop, HasCommands, Takes, emptied, on}
+use Rattle.cg_machine.proofs.Invariants.{FromFrame, FromTop, Takes, emptied, on}
 use Rattle.cg_machine.proofs.Serials.{Rises}
 use Rattle.cg_machine.proofs.ShapeLaws.{changes_leave}
-use Rattle.cg_machine.proofs.Shapes.{AreItems, AsksWhy, Binds, Edits, Ends, Freezes, HasObject, HasParts, Inspects, IsAtHand, IsEdit, Makes, Puts, Sets, Shape, Shows, StartsCollection, StartsFrame, Stays, Tells, Unfreezes}
+use Rattle.cg_machine.proofs.Shapes.{AsksWhy, Binds, Edits, Ends, Freezes, HasParts, Inspects, IsAtHand, IsEdit, Makes, Puts, Sets, Shape, Shows, StartsCollection, StartsFrame, Stays, Tells, Unfreezes}
 use Rattle.cg_machine.proofs.Unheld.{held_by_member}
 use Rattle.cg_laws.specs.Apart.{IsFound}
 use Rattle.cg_promises.proofs.Freed.{death_on}
 use Rattle.cg_promises.proofs.Minded.{IsFree}
 use Rattle.cg_promises.proofs.SealedStart.{less_held}
-use Rattle.cg_weakcoll.proofs.Acts.{Acts, BegunBy, IsAside, IsBegun, IsCollected, all_to_call}
+use Rattle.cg_weakcoll.proofs.Acts.{Acts, BegunBy, IsCollected, all_to_call}
 use Rattle.cg_weakcoll.proofs.Secret.{Hidden, hand_not, held_by}
 use Rattle.cg_weakcoll.proofs.Went.{Began, Changed, Asked, Done, Known, Stood, Stopped}
 

@@ -1,35 +1,21 @@
 -- How far a run is with an exit finalizer: its last call is to come, its procedure's frame stands on the script's own commands, or
 -- neither.
-use Rattle.std.proofs.Common.{◌≡◌, ◌≢◌, refl, sym, ◌∙◌, ap, subst, ℕ, ◌+◌, ◌-◌, ◌<◌, ◌≤◌, Bool, true, false, inl, inr, ◌⊎◌, List, [], ◌∷◌, ◌++◌, Option, Some, None, arith}
-use Rattle.std.specs.Prelude.{◌==◌, count_by, flat_map, if◌then◌else◌}
-use Rattle.std.proofs.lemmas.Bool.{eq-eqb, eqb-true}
-use Rattle.std.proofs.lemmas.List.{append_assoc}
-use Rattle.cg_value.specs.declared.KindCode.TheVariants.{Func, Inst, Weak}
+use Rattle.std.proofs.Common.{◌≡◌, ◌≢◌, refl, sym, ◌∙◌, ap, subst, ℕ, ◌+◌, ◌≤◌, Bool, true, false, inl, inr, ◌⊎◌, List, [], ◌∷◌, ◌++◌, arith}
+use Rattle.std.specs.Prelude.{if◌then◌else◌}
 use Rattle.cg_script.specs.declared.Script.{Script}
 use Rattle.cg_script.specs.declared.Command.{Command}
-use Rattle.cg_script.specs.declared.Command.TheVariants.{Bind, Call, Del, Deref, MakeFunc, MakeRef, Quit}
+use Rattle.cg_script.specs.declared.Command.TheVariants.{Bind, Call, Del, Deref, MakeFunc, Quit}
 use Rattle.cg_script.specs.declared.Operand.{Operand}
 use Rattle.cg_script.specs.declared.Operand.TheVariants.{Name}
 use Rattle.cg_script.specs.Texts.{command_texts, operand_texts}
 use Rattle.cg_graph.specs.Member.{Includes}
-use Rattle.cg_graph.specs.Object.{Object}
-use Rattle.cg_graph.proofs.Members.{cases_of, either, Includes-append_cases, Includes-append_left, Includes-append_right}
-use Rattle.cg_machine.specs.declared.event.Event.{Event}
-use Rattle.cg_machine.specs.declared.event.Event.TheVariants.{BudgetSpent, Enter, Refused}
-use Rattle.cg_machine.specs.declared.event.FrameSort.TheVariants.{Call as CallFrame}
-use Rattle.cg_machine.specs.Program.{body_of, commands_of}
-use Rattle.cg_machine.specs.World.{World, Activity, TopLevel, Framed, Releasing, Dying, Collecting, ShuttingDown, Frame, BudgetIsSpent, push, with_stack}
-use Rattle.cg_machine.specs.Frame.{Yields, procedure_of, start_frame}
-use Rattle.cg_machine.specs.Commands.{new_collection, refused, stopped_frame}
-use Rattle.cg_machine.specs.Laws.{is_enter}
+use Rattle.cg_graph.proofs.Members.{either, Includes-append_cases, Includes-append_right}
+use Rattle.cg_machine.specs.Program.{commands_of}
+use Rattle.cg_machine.specs.World.{Activity, TopLevel, Framed, Releasing, Dying, Collecting, ShuttingDown, Frame}
 use Rattle.cg_machine.specs.Origins.{commands_on}
-use Rattle.cg_machine.specs.Run.{Step}
-use Rattle.cg_machine.proofs.Invariants.{FromFrame, FromTop, HasCommands, Takes, emptied, on}
-use Rattle.cg_weakcoll.specs.Exits.{AllOther, AreOthers, Exit, IsExit, IsOther, exit_body, exit_commands, first_of, is_call, names_of, next_command, watch_command}
-use Rattle.cg_weakcoll.proofs.Acts.{Acts}
-use Rattle.cg_weakcoll.proofs.Own.{IsCall, call_step}
-use Rattle.cg_weakcoll.proofs.Tame.{AllHigh, AreHidden, DoneStack, GoesOn, HighStep, IsEnded, IsHigh, call_stack, done_stack, high_call, high_step, other_call, other_exit, raised_high, same_top}
-use Rattle.cg_weakcoll.proofs.Went.{Acted, Asked, Began, Bottomed, Changed, Commanded, Done, Due, Exactly, GaveUp, Known, Lasted, Over, Stood, Stopped, Went, exactly, went}
+use Rattle.cg_machine.proofs.Invariants.{FromFrame, FromTop, Takes}
+use Rattle.cg_weakcoll.specs.Exits.{AllOther, AreOthers, Exit, IsExit, IsOther, exit_commands, watch_command}
+use Rattle.cg_weakcoll.proofs.Tame.{AllHigh, IsHigh, other_exit, same_top}
 
 -- what is left of the procedure, before its last call is done
 pub data IsTail (e : Exit) : List Command → Type 0 where

@@ -1,12 +1,12 @@
 -- Each step leads from a stage to a stage, and the calls are counted.
-use Rattle.std.proofs.Common.{◌≡◌, ◌≢◌, refl, sym, ◌∙◌, ap, subst, ℕ, ◌+◌, ◌-◌, ◌<◌, ◌≤◌, Bool, true, false, inl, inr, ◌⊎◌, List, [], ◌∷◌, ◌++◌, Option, Some, None, arith}
+use Rattle.std.proofs.Common.{◌≡◌, refl, sym, ◌∙◌, ap, subst, ℕ, ◌+◌, ◌-◌, ◌≤◌, Bool, true, false, inl, inr, ◌⊎◌, List, [], ◌∷◌, ◌++◌, Some, arith}
 use Rattle.std.specs.Prelude.{◌==◌, cond, count_by, if◌then◌else◌}
 use Rattle.std.proofs.lemmas.Bool.{eq-eqb, eqb-true, ne_eqb}
 use Rattle.std.proofs.lemmas.List.{append_assoc}
 use Rattle.std.proofs.lemmas.List.Sums.{sum_by-cons}
 use Rattle.cg_script.specs.declared.Script.{Script}
 use Rattle.cg_script.specs.declared.Command.{Command}
-use Rattle.cg_script.specs.declared.Command.TheVariants.{Bind, Call, Del, Deref, MakeFunc, MakeRef, Quit}
+use Rattle.cg_script.specs.declared.Command.TheVariants.{Bind, Call, MakeFunc}
 use Rattle.cg_script.specs.declared.Operand.TheVariants.{Name}
 use Rattle.cg_script.specs.Texts.{command_texts}
 use Rattle.cg_graph.specs.Member.{Includes}
@@ -15,7 +15,7 @@ use Rattle.cg_machine.specs.declared.event.Event.{Event}
 use Rattle.cg_machine.specs.declared.event.Event.TheVariants.{BudgetSpent, End, Enter, Left, Refused}
 use Rattle.cg_machine.specs.declared.event.FrameSort.TheVariants.{Call as CallFrame}
 use Rattle.cg_machine.specs.Program.{body_of, commands_of}
-use Rattle.cg_machine.specs.World.{World, Activity, TopLevel, Framed, Releasing, Dying, Collecting, ShuttingDown, Frame, BudgetIsSpent, push, with_stack}
+use Rattle.cg_machine.specs.World.{World, Activity, TopLevel, Framed, Releasing, ShuttingDown, Frame, BudgetIsSpent, with_stack}
 use Rattle.cg_machine.specs.Frame.{Yields, procedure_of, start_frame}
 use Rattle.cg_machine.specs.Commands.{CommandStep, new_collection, refused, stopped_frame}
 use Rattle.cg_machine.specs.Effects.{live}
@@ -24,10 +24,10 @@ use Rattle.cg_machine.specs.Origins.{commands_on}
 use Rattle.cg_machine.specs.Run.{Step}
 use Rattle.cg_machine.proofs.Invariants.{AreLast, FromFrame, FromTop, HasCommands, Takes, emptied, on}
 use Rattle.cg_weakcoll.specs.Exits.{AllOther, Exit, IsExit, IsOther, exit_body, first_of, is_call, next_command, watch_command}
-use Rattle.cg_weakcoll.proofs.Acts.{Acts, all_to_call}
-use Rattle.cg_weakcoll.proofs.Own.{IsCall, call_step, func_step}
-use Rattle.cg_weakcoll.proofs.Stage.{After, AreTame, AtCall, AtDeref, AtObject, AtQuit, AtWatch, Before, CallsIt, During, InFirst, InLast, InOther, InSecond, InThird, IsTail, IsTold, MakesIt, Position, Quiet, Stage, counted, frame_is, heads, high_tame, joined_tame, position_told, positioned, stage_told, tail_quiet, top_is}
-use Rattle.cg_weakcoll.proofs.Tame.{AllHigh, AreHidden, DoneStack, GoesOn, HighStep, IsEnded, IsHigh, call_stack, done_stack, high_call, high_step, other_call, other_exit, others_call, raised_high, same_top}
+use Rattle.cg_weakcoll.proofs.Acts.{all_to_call}
+use Rattle.cg_weakcoll.proofs.Own.{call_step, func_step}
+use Rattle.cg_weakcoll.proofs.Stage.{After, AreTame, AtCall, AtDeref, AtObject, AtQuit, AtWatch, Before, CallsIt, During, InFirst, InLast, InOther, InSecond, InThird, IsTail, IsTold, MakesIt, Position, Quiet, Stage, counted, frame_is, heads, joined_tame, position_told, positioned, tail_quiet, top_is}
+use Rattle.cg_weakcoll.proofs.Tame.{AllHigh, AreHidden, DoneStack, GoesOn, IsEnded, IsHigh, call_stack, done_stack, high_call, high_step, other_call, other_exit, others_call, raised_high, same_top}
 use Rattle.cg_weakcoll.proofs.Went.{Acted, Bottomed, Commanded, Done, Due, GaveUp, Known, Lasted, Over, Went, exactly}
 
 -- what a step does while another activity than the procedure's frame is on top, or where nothing is done
@@ -214,13 +214,13 @@ module _ (script : Script) (budget : ℕ) (e : Exit) (ex : IsExit script e) (P :
   tame_taken command a b (FromTop commands) h = (h command (inl refl), λ c m. h c (inr m))
   tame_taken command a b (FromFrame f commands left) h = (h command (subst (λ cs. Includes cs command) (sym left) (inl refl)), λ c m. h c (subst (λ cs. Includes cs c) (sym left) (inr m)))
 
-  tame_call : (stack : List Activity) → AreTame e stack → is_call e.function (next_command stack) ≡ false
+  pub tame_call : (stack : List Activity) → AreTame e stack → is_call e.function (next_command stack) ≡ false
   tame_call [] h = refl
   tame_call (TopLevel commands ∷ below) h = others_call script budget e ex commands (h (TopLevel commands) (inl refl))
   tame_call (Framed f ∷ below) h = others_call script budget e ex f.commands (h (Framed f) (inl refl))
   tame_call (a ∷ below) h = refl
 
-  top_call : (done commands : List Command) → commands_of script.items ≡ done ++ commands → is_call e.function (first_of commands) ≡ false
+  pub top_call : (done commands : List Command) → commands_of script.items ≡ done ++ commands → is_call e.function (first_of commands) ≡ false
   top_call done [] at = refl
   top_call done (c ∷ commands) at = go (positioned script e ex done commands c at)
     where
@@ -237,8 +237,8 @@ module _ (script : Script) (budget : ℕ) (e : Exit) (ex : IsExit script e) (P :
     top_step calls done commands top at none (Acted a below is acts) =
         let s = same_top script budget e ex (TopLevel commands) a [] below w.stack top is in
         to_stack calls (acts.tops ++ below) after.stack acts.stack (After (joined_tame e acts.tops below (λ c m. raised_high script budget e ex w c k h (acts.raised c m)) (subst (AreTame e) s.1 nothing_tame)) (omega (arith, none)))
-    top_step calls done commands top at none (Due g no_line is) = Before (new_collection g false w ∷ []) done commands (ap (λ (z : World). z.stack) is ∙ ap (λ st. new_collection g false w ∷ st) top) (λ a m. either m (λ i. subst (IsHigh e) i tt) (λ n. absurd n)) at none
-    top_step calls done commands top at none (Over a last is) = Before [] done commands (ap (λ (z : World). z.stack) is ∙ top) (λ a m. absurd m) at none
+    top_step calls done commands top at none (Due g set no_line is) = Before (new_collection g false w ∷ []) done commands (ap (λ (z : World). z.stack) is ∙ ap (λ st. new_collection g false w ∷ st) top) (λ a m. either m (λ i. subst (IsHigh e) i tt) (λ n. absurd n)) at none
+    top_step calls done commands top at none (Over a under place last is) = Before [] done commands (ap (λ (z : World). z.stack) is ∙ top) (λ a m. absurd m) at none
     top_step calls done commands top at none (Bottomed below under no_line is) =
         let s = same_top script budget e ex (TopLevel commands) (TopLevel []) [] below w.stack top under in
         to_stack calls (ShuttingDown false ∷ below) after.stack (ap (λ (z : World). z.stack) is) (After (subst (λ st. AreTame e (ShuttingDown false ∷ st)) s.1 (none_tame (ShuttingDown false) (λ c m. absurd m))) (omega (arith, none)))
@@ -253,9 +253,9 @@ module _ (script : Script) (budget : ℕ) (e : Exit) (ex : IsExit script e) (P :
     frame_step calls f commands top tail other q none (Acted a below is acts) =
         let s = same_top script budget e ex (Framed f) a (TopLevel commands ∷ []) below w.stack top is in
         to_stack (calls + step_calls w events) (acts.tops ++ below) after.stack acts.stack (After (joined_tame e acts.tops below (λ c m. raised_high script budget e ex w c k h (acts.raised c m)) (subst (AreTame e) s.1 (none_tame (TopLevel commands) other))) (few_calls w events after f commands top tail calls none step))
-    frame_step calls f commands top tail other q none (Due g no_line is) = During (new_collection g false w ∷ []) f commands (ap (λ (z : World). z.stack) is ∙ ap (λ st. new_collection g false w ∷ st) top) (λ a m. either m (λ i. subst (IsHigh e) i tt) (λ n. absurd n)) tail other (rests f.commands tail q (inr (ap (λ (z : World). z.objects) is, ap (λ (z : World). z.names) is, ap (λ (z : World). z.next_serial) is, ap (λ (z : World). all_to_call z.stack) is)))
+    frame_step calls f commands top tail other q none (Due g set no_line is) = During (new_collection g false w ∷ []) f commands (ap (λ (z : World). z.stack) is ∙ ap (λ st. new_collection g false w ∷ st) top) (λ a m. either m (λ i. subst (IsHigh e) i tt) (λ n. absurd n)) tail other (rests f.commands tail q (inr (ap (λ (z : World). z.objects) is, ap (λ (z : World). z.names) is, ap (λ (z : World). z.next_serial) is, ap (λ (z : World). all_to_call z.stack) is)))
         (uncounted w events calls none (ap (count_by is_enter) no_line))
-    frame_step calls f commands top tail other q none (Over a last is) = During [] f commands (ap (λ (z : World). z.stack) is ∙ top) (λ a m. absurd m) tail other (rests f.commands tail q (inr (ap (λ (z : World). z.objects) is, ap (λ (z : World). z.names) is, ap (λ (z : World). z.next_serial) is, ap (λ (z : World). all_to_call z.stack) is))) (uncounted w events calls none (last_enters w a events last))
+    frame_step calls f commands top tail other q none (Over a under place last is) = During [] f commands (ap (λ (z : World). z.stack) is ∙ top) (λ a m. absurd m) tail other (rests f.commands tail q (inr (ap (λ (z : World). z.objects) is, ap (λ (z : World). z.names) is, ap (λ (z : World). z.next_serial) is, ap (λ (z : World). all_to_call z.stack) is))) (uncounted w events calls none (last_enters w a events last))
     frame_step calls f commands top tail other q none (Bottomed below under no_line is) = absurd (let s = same_top script budget e ex (Framed f) (TopLevel []) (TopLevel commands ∷ []) below w.stack top under in let no : Framed f ≡ TopLevel [] = s.0 in cc)
     frame_step calls f commands top tail other q none (GaveUp name below under no_line is) = absurd (let s = same_top script budget e ex (Framed f) (ShuttingDown false) (TopLevel commands ∷ []) below w.stack top under in let no : Framed f ≡ ShuttingDown false = s.0 in cc)
     frame_step calls f commands top tail other q none (Lasted below under no_line is) = absurd (let s = same_top script budget e ex (Framed f) (ShuttingDown false) (TopLevel commands ∷ []) below w.stack top under in let no : Framed f ≡ ShuttingDown false = s.0 in cc)
@@ -289,8 +289,8 @@ module _ (script : Script) (budget : ℕ) (e : Exit) (ex : IsExit script e) (P :
     -- where commands of other lines alone are left
     after_step : (calls : ℕ) → AreTame e w.stack → calls ≤ 1 → Went script w events after → IsStage calls after.stack
     after_step calls tame few (Acted a below is acts) = to_stack calls (acts.tops ++ below) after.stack acts.stack (After (joined_tame e acts.tops below (λ c m. raised_high script budget e ex w c k h (acts.raised c m)) (λ c m. tame c (subst (λ st. Includes st c) (sym is) (inr m)))) few)
-    after_step calls tame few (Due g no_line is) = to_stack calls (new_collection g false w ∷ w.stack) after.stack (ap (λ (z : World). z.stack) is) (After (λ a m. either m (λ i. subst (λ (y : Activity). AllOther e (commands_on y)) i (λ c n. absurd n)) (tame a)) few)
-    after_step calls tame few (Over a last is) = to_stack calls w.stack after.stack (ap (λ (z : World). z.stack) is) (After tame few)
+    after_step calls tame few (Due g set no_line is) = to_stack calls (new_collection g false w ∷ w.stack) after.stack (ap (λ (z : World). z.stack) is) (After (λ a m. either m (λ i. subst (λ (y : Activity). AllOther e (commands_on y)) i (λ c n. absurd n)) (tame a)) few)
+    after_step calls tame few (Over a under place last is) = to_stack calls w.stack after.stack (ap (λ (z : World). z.stack) is) (After tame few)
     after_step calls tame few (Bottomed below under no_line is) = to_stack calls (ShuttingDown false ∷ below) after.stack (ap (λ (z : World). z.stack) is) (After (λ a m. either m (λ i. subst (λ (y : Activity). AllOther e (commands_on y)) i (λ c n. absurd n)) (λ i. tame a (subst (λ st. Includes st a) (sym under) (inr i)))) few)
     after_step calls tame few (GaveUp name below under no_line is) = to_stack calls (Releasing _ ∷ w.stack) after.stack (ap (λ (z : World). z.stack) is) (After (λ a m. either m (λ i. subst (λ (y : Activity). AllOther e (commands_on y)) i (λ c n. absurd n)) (tame a)) few)
     after_step calls tame few (Lasted below under no_line is) = to_stack calls (new_collection 2 false w ∷ ShuttingDown true ∷ below) after.stack (ap (λ (z : World). z.stack) is) (After (λ a m. either m (λ i. subst (λ (y : Activity). AllOther e (commands_on y)) i (λ c n. absurd n))

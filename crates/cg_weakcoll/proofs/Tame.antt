@@ -1,38 +1,36 @@
 -- What a script with an exit finalizer may do elsewhere: frames of other procedures, commands of other lines.
-use Rattle.std.proofs.Common.{◌≡◌, ◌≢◌, refl, sym, ◌∙◌, ap, subst, ℕ, ◌+◌, ◌-◌, Bool, true, false, inl, inr, ◌⊎◌, List, [], ◌∷◌, ◌++◌, Option, Some, None, arith}
-use Rattle.std.specs.Prelude.{◌==◌, flat_map, if◌then◌else◌, option_and_then, option_map, slice_get, unwrap_or}
-use Rattle.std.proofs.lemmas.Bool.{eq-eqb, eqb-true, ne_eqb}
+use Rattle.std.proofs.Common.{◌≡◌, ◌≢◌, refl, sym, ◌∙◌, ap, subst, ℕ, ◌-◌, Bool, true, false, inl, inr, ◌⊎◌, List, [], ◌∷◌, ◌++◌, Option, Some, None}
+use Rattle.std.specs.Prelude.{◌==◌, flat_map, if◌then◌else◌, option_and_then, slice_get, unwrap_or}
+use Rattle.std.proofs.lemmas.Bool.{ne_eqb}
 use Rattle.cg_value.specs.declared.KindCode.{KindCode}
 use Rattle.cg_value.specs.declared.KindCode.TheVariants.{List as ListKind, Tuple, Dict, Inst, Func, Weak}
 use Rattle.cg_value.specs.declared.Val.TheVariants.{Ref}
 use Rattle.cg_script.specs.declared.Script.{Script}
 use Rattle.cg_script.specs.declared.ClassDef.{ClassDef}
 use Rattle.cg_script.specs.declared.Command.{Command}
-use Rattle.cg_script.specs.declared.Command.TheVariants.{Bind, Call, Del, Deref, MakeFunc, MakeRef, Quit}
-use Rattle.cg_script.specs.declared.Operand.{Operand}
+use Rattle.cg_script.specs.declared.Command.TheVariants.{Call}
 use Rattle.cg_script.specs.declared.Operand.TheVariants.{Name}
 use Rattle.cg_script.specs.Texts.{command_texts}
 use Rattle.cg_graph.specs.Member.{Includes}
-use Rattle.cg_graph.specs.Object.{Object, object_at, serials}
+use Rattle.cg_graph.specs.Object.{Object}
 use Rattle.cg_graph.specs.Value.{references}
-use Rattle.cg_graph.proofs.Members.{cases_of, either, Includes-append_cases, Includes-append_left, Includes-append_right, Includes-map_cases}
+use Rattle.cg_graph.proofs.Members.{either, Includes-append_cases, Includes-append_left, Includes-append_right, Includes-map_cases}
 use Rattle.cg_machine.specs.declared.event.Event.{Event}
 use Rattle.cg_machine.specs.declared.event.Event.TheVariants.{BudgetSpent, Enter}
 use Rattle.cg_machine.specs.declared.event.FrameSort.{FrameSort}
 use Rattle.cg_machine.specs.declared.event.FrameSort.TheVariants.{Del as DelFrame, Legacy as LegacyFrame, Callback, Call as CallFrame}
-use Rattle.cg_machine.specs.Program.{body_of, class_number, classes, finalizer_of, legacy_of}
-use Rattle.cg_machine.specs.World.{World, Activity, TopLevel, Framed, Releasing, Dying, Collecting, ShuttingDown, Frame, DyingPhase, Clearing, Calling, AfterCall, CollectPhase, WeakClearing, WeakCalling, AfterCallback, AfterRelease, BudgetIsSpent, push, with_stack}
-use Rattle.cg_machine.specs.Holdings.{collect_holds, dying_holds, holdings, holds}
+use Rattle.cg_machine.specs.Program.{body_of, class_number, classes}
+use Rattle.cg_machine.specs.World.{World, Activity, TopLevel, Framed, Releasing, Dying, Collecting, ShuttingDown, DyingPhase, Clearing, Calling, AfterCall, CollectPhase, WeakClearing, WeakCalling, AfterCallback, AfterRelease, BudgetIsSpent}
+use Rattle.cg_machine.specs.Holdings.{collect_holds, dying_holds, holds}
 use Rattle.cg_machine.specs.Frame.{Yields, procedure_of, start_frame}
 use Rattle.cg_machine.specs.Weak.{callback_in, callback_of, is_function}
 use Rattle.cg_machine.specs.Commands.{new_collection}
 use Rattle.cg_machine.specs.Represents.{death_waits}
-use Rattle.cg_machine.specs.Origins.{commands_on}
-use Rattle.cg_machine.proofs.Invariants.{FromFrame, FromTop, HasCommands, Takes, emptied, on}
+use Rattle.cg_machine.proofs.Invariants.{FromFrame, FromTop, Takes, emptied, on}
 use Rattle.cg_machine.proofs.Lookups.{at_member, callback_at, callback_first, slice_get_member}
 use Rattle.cg_machine.proofs.ShapeLaws.{changes_leave}
-use Rattle.cg_weakcoll.specs.Exits.{AllOther, AreOthers, Exit, IsExit, IsOther, exit_body, first_of, is_call, names_of, next_command}
-use Rattle.cg_weakcoll.proofs.Acts.{Acts, BegunBy, IsBegun, IsRaised, all_to_call, to_call, to_call_in}
+use Rattle.cg_weakcoll.specs.Exits.{AllOther, Exit, IsExit, IsOther, first_of, is_call, next_command}
+use Rattle.cg_weakcoll.proofs.Acts.{BegunBy, IsRaised, all_to_call, to_call, to_call_in}
 use Rattle.cg_weakcoll.proofs.Once.{lost_referent, to_call_of}
 use Rattle.cg_weakcoll.proofs.Secret.{Hidden, hand_not}
 use Rattle.cg_weakcoll.proofs.SecretSteps.{taken_hidden}
@@ -234,15 +232,15 @@ module _ (script : Script) (budget : ℕ) (e : Exit) (ex : IsExit script e) wher
   pub same_top : (a b : Activity) (below under : List Activity) (stack : List Activity) → stack ≡ a ∷ below → stack ≡ b ∷ under → (a ≡ b) × (below ≡ under)
   same_top a b below under stack x y = let both : a ∷ below ≡ b ∷ under = sym x ∙ y in (let top : a ≡ b = cc in top, let rest : below ≡ under = cc in rest)
 
-  high_taken : (command : Command) (a b : Activity) → Takes command a b → IsHigh e a → IsOther e command × IsHigh e b
+  pub high_taken : (command : Command) (a b : Activity) → Takes command a b → IsHigh e a → IsOther e command × IsHigh e b
   high_taken command a b (FromTop commands) h = absurd h
   high_taken command a b (FromFrame f commands left) h = (h command (subst (λ cs. Includes cs command) (sym left) (inl refl)), λ c m. h c (subst (λ cs. Includes cs c) (sym left) (inr m)))
 
   pub high_step : (w : World) (a : Activity) (below : List Activity) (events : List Event) (after : World) → Known script budget w → AreHidden e w → w.stack ≡ a ∷ below → IsHigh e a → Went script w events after → HighStep below after.stack
   high_step w a below events after k hidden top h (Acted b under is acts) = let s = same_top a b below under w.stack top is in
       record { tops = acts.tops; is = acts.stack ∙ ap (λ st. acts.tops ++ st) (sym s.1); high = λ c m. raised_high w c k hidden (acts.raised c m) }
-  high_step w a below events after k hidden top h (Due g none is) = record { tops = new_collection g false w ∷ a ∷ []; is = ap (λ (z : World). z.stack) is ∙ ap (λ st. new_collection g false w ∷ st) top; high = two_high (new_collection g false w) a tt h }
-  high_step w a below events after k hidden top h (Over b last is) = record { tops = a ∷ []; is = ap (λ (z : World). z.stack) is ∙ top; high = one_high a h }
+  high_step w a below events after k hidden top h (Due g set none is) = record { tops = new_collection g false w ∷ a ∷ []; is = ap (λ (z : World). z.stack) is ∙ ap (λ st. new_collection g false w ∷ st) top; high = two_high (new_collection g false w) a tt h }
+  high_step w a below events after k hidden top h (Over b at_top place last is) = record { tops = a ∷ []; is = ap (λ (z : World). z.stack) is ∙ top; high = one_high a h }
   high_step w a below events after k hidden top h (Bottomed under is none q) = absurd (subst (IsHigh e) (same_top a (TopLevel []) below under w.stack top is).0 h)
   high_step w a below events after k hidden top h (GaveUp name under is none q) = absurd (subst (IsHigh e) (same_top a (ShuttingDown false) below under w.stack top is).0 h)
   high_step w a below events after k hidden top h (Lasted under is none q) = absurd (subst (IsHigh e) (same_top a (ShuttingDown false) below under w.stack top is).0 h)

@@ -1,5 +1,5 @@
 -- What any step does for a weak reference that was made: it comes from what it was, and begins its callback where it waits for it.
-use Rattle.std.proofs.Common.{◌≡◌, ◌≢◌, refl, sym, ◌∙◌, ap, subst, ℕ, ◌+◌, ◌-◌, ◌<◌, ◌≤◌, Bool, true, false, not, ◌&&◌, ◌||◌, inl, inr, ◌⊎◌, List, [], ◌∷◌, ◌++◌, map, Option, Some, None, arith}
+use Rattle.std.proofs.Common.{◌≡◌, ◌≢◌, refl, sym, ◌∙◌, ap, subst, ℕ, ◌-◌, ◌<◌, ◌≤◌, Bool, true, false, not, ◌&&◌, ◌||◌, inl, inr, ◌⊎◌, List, [], ◌∷◌, ◌++◌, map, Some, arith}
 use Rattle.std.specs.Prelude.{◌==◌, if◌then◌else◌}
 use Rattle.cg_value.specs.declared.Val.{Val}
 use Rattle.cg_value.specs.declared.Val.TheVariants.{Ref}
@@ -7,24 +7,24 @@ use Rattle.cg_value.specs.declared.Place.TheVariants.{Gen}
 use Rattle.cg_script.specs.declared.Script.{Script}
 use Rattle.cg_script.specs.declared.Command.{Command}
 use Rattle.cg_graph.specs.Member.{Includes}
-use Rattle.cg_graph.specs.Object.{Object, change, is_tracked, with_entries, with_place}
+use Rattle.cg_graph.specs.Object.{Object, is_tracked, with_entries, with_place}
 use Rattle.cg_graph.specs.Value.{put}
 use Rattle.cg_graph.proofs.Members.{either, Includes-append_cases, Includes-map_cases}
 use Rattle.cg_machine.specs.declared.event.Event.{Event}
-use Rattle.cg_machine.specs.declared.event.Event.TheVariants.{BudgetSpent, Collected, End, Enter, Left, Made, Refused, Value}
+use Rattle.cg_machine.specs.declared.event.Event.TheVariants.{BudgetSpent, Collected, Enter, Made, Refused, Value}
 use Rattle.cg_machine.specs.declared.event.FrameSort.TheVariants.{Callback, Call as CallFrame}
 use Rattle.cg_machine.specs.Program.{body_of}
-use Rattle.cg_machine.specs.World.{World, Activity, TopLevel, Framed, Releasing, Dying, Collecting, ShuttingDown, BudgetIsSpent, with_change}
+use Rattle.cg_machine.specs.World.{World, Activity, TopLevel, Framed, ShuttingDown, BudgetIsSpent, with_change}
 use Rattle.cg_machine.specs.Frame.{Yields, procedure_of, start_frame}
 use Rattle.cg_machine.specs.Effects.{Changes, Effect, bound, frozen, may_track, replaced, tracked_by, unfrozen, with_new}
-use Rattle.cg_machine.proofs.Forgotten.{IsLater, change_alters, later_refl, map_alters, place_later}
-use Rattle.cg_machine.proofs.Inspecting.{AllTellThere, TellsThere}
+use Rattle.cg_machine.proofs.Forgotten.{IsLater, later_refl, place_later}
+use Rattle.cg_machine.proofs.Inspecting.{AllTellThere}
 use Rattle.cg_machine.proofs.Invariants.{AreAnswers, AreLast, FromFrame, FromTop, HasCommands, Takes, emptied, on}
 use Rattle.cg_machine.proofs.ShapeLaws.{changes_leave, put_later}
 use Rattle.cg_machine.proofs.Shapes.{AsksWhy, Binds, Edits, Ends, Freezes, Inspects, Makes, Puts, Sets, Shape, Shows, StartsCollection, StartsFrame, Stays, Tells as TellsOne, TellsNumbers, Unfreezes}
 use Rattle.cg_machine.specs.Operands.{is_dict}
 use Rattle.cg_laws.specs.Apart.{IsFound}
-use Rattle.cg_weakcoll.proofs.Acts.{Acts, all_to_call, to_call}
+use Rattle.cg_weakcoll.proofs.Acts.{all_to_call, to_call}
 use Rattle.cg_weakcoll.proofs.SecretSteps.{frozen_found, unfrozen_found}
 use Rattle.cg_weakcoll.proofs.Once.{Tells, acted_tells}
 use Rattle.cg_weakcoll.proofs.Went.{Acted, Asked, Began, Bottomed, Changed, Commanded, Done, Due, GaveUp, Known, Lasted, Over, Stood, Stopped, Went}
@@ -172,8 +172,8 @@ done_tells script s command a b below v events after low none hb (Asked g no_lin
 
 pub went_tells : (script : Script) (budget s : ℕ) (w : World) (events : List Event) (after : World) → Known script budget w → s < w.next_serial → Went script w events after → Tells s w events after
 went_tells script budget s w events after k low (Acted a below top acts) = acted_tells script budget s w a below events after k top acts
-went_tells script budget s w events after k low (Due g none is) = same_tells s w events after low (ap (λ (z : World). z.next_serial) is) (ap (λ (z : World). z.objects) is) (ap (λ (z : World). all_to_call z.stack) is) (none_events events none)
-went_tells script budget s w events after k low (Over a last is) = same_tells s w events after low (ap (λ (z : World). z.next_serial) is) (ap (λ (z : World). z.objects) is) (ap (λ (z : World). all_to_call z.stack) is) (last_quiet w a events last)
+went_tells script budget s w events after k low (Due g set none is) = same_tells s w events after low (ap (λ (z : World). z.next_serial) is) (ap (λ (z : World). z.objects) is) (ap (λ (z : World). all_to_call z.stack) is) (none_events events none)
+went_tells script budget s w events after k low (Over a under place last is) = same_tells s w events after low (ap (λ (z : World). z.next_serial) is) (ap (λ (z : World). z.objects) is) (ap (λ (z : World). all_to_call z.stack) is) (last_quiet w a events last)
 went_tells script budget s w events after k low (Bottomed below top none is) = same_tells s w events after low (ap (λ (z : World). z.next_serial) is) (ap (λ (z : World). z.objects) is) (ap (λ (z : World). all_to_call z.stack) is ∙ sym (ap all_to_call top)) (none_events events none)
 went_tells script budget s w events after k low (GaveUp name below top none is) = same_tells s w events after low (ap (λ (z : World). z.next_serial) is) (ap (λ (z : World). z.objects) is) (ap (λ (z : World). all_to_call z.stack) is) (none_events events none)
 went_tells script budget s w events after k low (Lasted below top none is) = same_tells s w events after low (ap (λ (z : World). z.next_serial) is) (ap (λ (z : World). z.objects) is) (ap (λ (z : World). all_to_call z.stack) is ∙ sym (ap all_to_call top)) (none_events events none)

@@ -1,43 +1,36 @@
 -- The weak reference of an exit finalizer: it is hidden until its callback begins or the procedure has called the function.
-use Rattle.std.proofs.Common.{◌≡◌, ◌≢◌, refl, sym, ◌∙◌, ap, subst, ℕ, zero, suc, ◌+◌, ◌-◌, ◌<◌, ◌≤◌, Bool, true, false, cond, inl, inr, ◌⊎◌, List, [], ◌∷◌, ◌++◌, length, Option, Some, None, arith}
-use Rattle.std.specs.Prelude.{◌==◌, count_by, flat_map, if◌then◌else◌, option_and_then, slice_get, slice_set}
-use Rattle.std.specs.List.{list_any}
+use Rattle.std.proofs.Common.{◌≡◌, refl, sym, ◌∙◌, ap, subst, ℕ, ◌+◌, ◌<◌, Bool, true, false, cond, inl, inr, ◌⊎◌, List, [], ◌∷◌, ◌++◌, Option, Some, None, arith}
+use Rattle.std.specs.Prelude.{◌==◌, count_by, flat_map, option_and_then, slice_get}
 use Rattle.std.proofs.lemmas.Bool.{eq-eqb, eqb-true}
 use Rattle.std.proofs.lemmas.List.Sums.{sum_by-cons}
-use Rattle.cg_value.specs.declared.KindCode.TheVariants.{Func, Inst, Weak}
 use Rattle.cg_value.specs.declared.Place.{Place}
 use Rattle.cg_value.specs.declared.Place.TheVariants.{Untracked, Gen, Frozen, Cand, Seen, Back, Legacy, Pend}
 use Rattle.cg_value.specs.declared.Val.{Val}
-use Rattle.cg_value.specs.declared.Val.TheVariants.{None as Nothing, Int, Str, Ref}
+use Rattle.cg_value.specs.declared.Val.TheVariants.{None as Nothing, Ref}
 use Rattle.cg_script.specs.declared.Script.{Script}
 use Rattle.cg_script.specs.declared.Command.{Command}
 use Rattle.cg_script.specs.declared.Command.TheVariants.{Call, Del, Deref, Quit}
 use Rattle.cg_script.specs.declared.Operand.TheVariants.{Name}
-use Rattle.cg_script.specs.Texts.{command_texts}
 use Rattle.cg_graph.specs.Member.{Includes}
 use Rattle.cg_graph.specs.Holdings.{name_holdings}
-use Rattle.cg_graph.specs.Object.{Object, serials}
-use Rattle.cg_graph.specs.Value.{references, references_of_value}
-use Rattle.cg_graph.proofs.Members.{either, Includes-append_left, Includes-append_right, Includes-map}
+use Rattle.cg_graph.specs.Object.{Object}
+use Rattle.cg_graph.specs.Value.{references_of_value}
+use Rattle.cg_graph.proofs.Members.{either, Includes-append_left}
 use Rattle.cg_machine.specs.declared.event.Event.{Event}
 use Rattle.cg_machine.specs.declared.event.Event.TheVariants.{Enter}
 use Rattle.cg_machine.specs.declared.event.FrameSort.{FrameSort}
 use Rattle.cg_machine.specs.declared.event.FrameSort.TheVariants.{Del as DelFrame, Legacy as LegacyFrame, Callback, Call as CallFrame}
-use Rattle.cg_machine.specs.World.{World, Activity, TopLevel, Framed, Releasing, Dying, Death, Collecting, ShuttingDown, Frame, Clearing, push, with_stack}
-use Rattle.cg_machine.specs.Holdings.{call_holds, holdings, holds, is_death_of}
+use Rattle.cg_machine.specs.World.{World, TopLevel}
+use Rattle.cg_machine.specs.Holdings.{holdings, holds}
 use Rattle.cg_machine.specs.Collect.{is_condemned}
-use Rattle.cg_machine.specs.Laws.{HasFunction, IsHeldInItsFramesAlone}
-use Rattle.cg_machine.specs.Operands.{object_of}
-use Rattle.cg_machine.specs.Run.{Step}
-use Rattle.cg_machine.proofs.Forgotten.{IsLater, none_later, some_later}
-use Rattle.cg_machine.proofs.Lookups.{found_at, same_object}
+use Rattle.cg_machine.specs.Laws.{IsHeldInItsFramesAlone}
+use Rattle.cg_machine.proofs.Forgotten.{IsLater, none_later}
 use Rattle.cg_machine.proofs.Releasing.{absent}
 use Rattle.cg_laws.specs.Apart.{IsFound}
-use Rattle.cg_promises.proofs.Minded.{IsFree}
-use Rattle.cg_weakcoll.specs.Exits.{Exit, IsExit, IsOther, is_callback_of}
-use Rattle.cg_weakcoll.proofs.Acts.{IsAside, IsCollected, Loses, Waited, all_to_call}
+use Rattle.cg_weakcoll.specs.Exits.{Exit, IsOther, is_callback_of}
+use Rattle.cg_weakcoll.proofs.Acts.{Loses, all_to_call}
 use Rattle.cg_weakcoll.proofs.Fresh.{held_named, named_below}
-use Rattle.cg_weakcoll.proofs.Once.{Spent, Tells, lost_referent, spent_stays}
+use Rattle.cg_weakcoll.proofs.Once.{Spent, Tells, spent_stays}
 use Rattle.cg_weakcoll.proofs.Secret.{Hidden, held_by}
 use Rattle.cg_weakcoll.proofs.SecretSteps.{held_survives, others_hold}
 use Rattle.cg_weakcoll.proofs.Went.{Known}

@@ -1,23 +1,21 @@
 -- What is known of each world of a run, and what each step does, told once.
-use Rattle.std.proofs.Common.{◌≡◌, ◌≢◌, refl, sym, ap, subst, ℕ, ◌≤◌, Bool, true, false, inl, inr, ◌⊎◌, List, [], ◌∷◌, ◌++◌, length, Option, Some, None}
-use Rattle.std.specs.Prelude.{if◌then◌else◌}
+use Rattle.std.proofs.Common.{◌≡◌, refl, subst, ℕ, Bool, true, false, inl, inr, ◌⊎◌, List, [], ◌∷◌, length, Option, Some, None}
 use Rattle.cg_script.specs.declared.Script.{Script}
 use Rattle.cg_script.specs.declared.Command.{Command}
 use Rattle.cg_script.specs.Texts.{TextsAreKnown}
 use Rattle.cg_graph.specs.Object.{Object}
 use Rattle.cg_machine.specs.declared.event.Event.{Event}
 use Rattle.cg_machine.specs.declared.event.FrameSort.TheVariants.{Call as CallFrame}
-use Rattle.cg_machine.specs.World.{World, Activity, TopLevel, Framed, Releasing, ShuttingDown, Frame, Ended, opening, push, with_stack}
-use Rattle.cg_machine.specs.Frame.{Transition, Yields, procedure_of, start_frame}
+use Rattle.cg_machine.specs.World.{World, Activity, TopLevel, Framed, Releasing, ShuttingDown, Ended, opening, push, with_stack}
+use Rattle.cg_machine.specs.Frame.{Yields, procedure_of, start_frame}
 use Rattle.cg_machine.specs.Weak.{is_function}
 use Rattle.cg_machine.specs.Due.{due}
 use Rattle.cg_machine.specs.Effects.{Changes, bound, given_up_by}
 use Rattle.cg_machine.specs.Commands.{CommandStep, new_collection}
 use Rattle.cg_machine.specs.Lawful.{IsLawful}
-use Rattle.cg_machine.specs.Run.{CommandInFrame, FrameStep, IsRun, Step, StepOf, StepTaken, TopLevelStep, world_after}
+use Rattle.cg_machine.specs.Run.{CommandInFrame, FrameStep, IsRun, Step, StepTaken, TopLevelStep, world_after}
 use Rattle.cg_machine.proofs.Invariants.{AreAnswers, AreLast, CommandSteps, FromFrame, FromTop, HasCommands, Steps, Takes, any_step, emptied, on}
 use Rattle.cg_machine.proofs.Lawful.{lawful_after}
-use Rattle.cg_machine.proofs.Origins.{IsAllOfScript}
 use Rattle.cg_machine.proofs.OriginsOfRuns.{opening_origin}
 use Rattle.cg_machine.proofs.Serials.{Rises}
 use Rattle.cg_machine.proofs.Shapes.{HasObject, Shape}
@@ -56,8 +54,8 @@ pub data Done (script : Script) (command : Command) (u : World) (b : Activity) (
 -- a step
 pub data Went (script : Script) (w : World) (events : List Event) (after : World) : Type 0 where
   Acted : (a : Activity) (below : List Activity) → w.stack ≡ a ∷ below → Acts script w below events after → Went script w events after
-  Due : (g : ℕ) → events ≡ [] → after ≡ push (new_collection g false w) w → Went script w events after
-  Over : (a : Activity) → AreLast w a events → after ≡ record w { outcome = Ended } → Went script w events after
+  Due : (g : ℕ) → due w ≡ Some g → events ≡ [] → after ≡ push (new_collection g false w) w → Went script w events after
+  Over : (a : Activity) (below : List Activity) → w.stack ≡ a ∷ below → AreLast w a events → after ≡ record w { outcome = Ended } → Went script w events after
   Bottomed : (below : List Activity) → w.stack ≡ TopLevel [] ∷ below → events ≡ [] → after ≡ with_stack (ShuttingDown false ∷ below) w → Went script w events after
   GaveUp : (name : ℕ) (below : List Activity) → w.stack ≡ ShuttingDown false ∷ below → events ≡ [] → after ≡ push (Releasing (given_up_by w name)) (bound w name None) → Went script w events after
   Lasted : (below : List Activity) → w.stack ≡ ShuttingDown false ∷ below → events ≡ [] → after ≡ push (new_collection 2 false w) (with_stack (ShuttingDown true ∷ below) w) → Went script w events after
@@ -74,8 +72,8 @@ commanded script command a b below v takes hb = record {
 
 goes_steps : (script : Script) → Steps script (λ w. Rises 1 w.next_serial w.objects) (Went script)
 goes_steps script = record {
-  starts_due = λ a below v ha g e k. Due g refl refl;
-  ends = λ a lines below v last k. Over a last refl;
+  starts_due = λ a below v ha g e k. Due g e refl refl;
+  ends = λ a lines below v last k. Over a below refl last refl;
   shuts_down = λ below v k. Bottomed below refl refl refl;
   gives_up = λ name below v e k. GaveUp name below refl refl refl;
   collects_last = λ below v k. Lasted below refl refl refl;

@@ -1,7 +1,8 @@
 -- Exit finalizers in a script, and what becomes of them in its runs. (Ours; after CPython's `weakref.finalize`: the function is
 -- called when the object dies, or at the end, newest first, and at most once.)
-use Rattle.std.specs.Prelude.{◌≡◌, ◌≢◌, ℕ, ◌+◌, ◌≤◌, Bool, true, false, ◌==◌, List, [], ◌∷◌, ◌++◌, Option, Some, None, count_by, if◌then◌else◌}
+use Rattle.std.specs.Prelude.{◌≡◌, ◌≢◌, ℕ, ◌+◌, ◌<◌, ◌≤◌, ◌⊎◌, Bool, true, false, ◌==◌, List, [], ◌∷◌, ◌++◌, Option, Some, None, count_by, if◌then◌else◌, map, reverse, slice_get}
 use Rattle.cg_value.specs.declared.KindCode.TheVariants.{Weak}
+use Rattle.cg_value.specs.declared.Val.TheVariants.{Ref}
 use Rattle.cg_script.specs.declared.Script.{Script}
 use Rattle.cg_script.specs.declared.ClassDef.{ClassDef}
 use Rattle.cg_script.specs.declared.Command.{Command}
@@ -10,12 +11,14 @@ use Rattle.cg_script.specs.declared.Operand.{Operand}
 use Rattle.cg_script.specs.declared.Operand.TheVariants.{Name}
 use Rattle.cg_script.specs.Texts.{TextsAreKnown, command_texts, operand_texts}
 use Rattle.cg_graph.specs.Member.{Includes}
+use Rattle.cg_graph.specs.Object.{Object}
 use Rattle.cg_machine.specs.declared.event.Event.{Event}
-use Rattle.cg_machine.specs.declared.event.Event.TheVariants.{Enter, Made}
+use Rattle.cg_machine.specs.declared.event.Event.TheVariants.{BudgetSpent, Enter, Made, Refused}
 use Rattle.cg_machine.specs.declared.event.FrameSort.TheVariants.{Callback}
 use Rattle.cg_machine.specs.Program.{body_of, classes, commands_of}
-use Rattle.cg_machine.specs.World.{World, Activity, TopLevel, Framed, opening}
-use Rattle.cg_machine.specs.Run.{StepTaken, IsRun, events_of, world_after}
+use Rattle.cg_machine.specs.World.{World, Activity, TopLevel, Framed, Frame, opening}
+use Rattle.cg_machine.specs.Due.{due}
+use Rattle.cg_machine.specs.Run.{StepTaken, IsRun, events_of, last_world, world_after}
 use Rattle.cg_machine.specs.Laws.{is_enter}
 
 -- One exit finalizer: the number of its procedure, and the numbers of its names: of the object that the procedure asks for, of the
@@ -123,3 +126,68 @@ pub record BeginsOnce (script : Script) (budget : ℕ) (steps : List StepTaken) 
 -- So it is in every run.
 abbrev pub ExitsBeginOnce : Type 0
 ExitsBeginOnce = (script : Script) (budget : ℕ) (steps : List StepTaken) → TextsAreKnown script → IsRun script budget steps → (e : Exit) → IsExit script e → BeginsOnce script budget steps e
+
+-- The exit finalizers of a script, in the order of their lines. Its last commands are the calls, the last finalizer's first; no
+-- other command is one of them.
+abbrev pub final_calls : List Exit → List Command
+final_calls exits = map (λ e. Call (Name e.exit)) (reverse exits)
+
+pub record AreExits (script : Script) (exits : List Exit) : Type 0 where
+  pub each : (e : Exit) → Includes exits e → IsExit script e
+  pub lines : List Command
+  pub commands : commands_of script.items ≡ lines ++ final_calls exits
+  pub others : (command : Command) → Includes lines command → ¬ Includes (final_calls exits) command
+
+-- the script's own command that the next step does, where no collection is due before it
+abbrev pub own_command : Option ℕ → List Activity → List Command
+own_command None (TopLevel (command ∷ commands) ∷ below) = command ∷ []
+own_command d stack = []
+
+-- all of those that a run from a world does, in their order
+abbrev pub own_commands : World → List StepTaken → List Command
+own_commands w [] = []
+own_commands w (step ∷ steps) = own_command (due w) w.stack ++ own_commands step.world steps
+
+-- A run does the script's own commands in their order: those up to the calls, and then the calls, the last finalizer's first.
+pub record CallsFall (script : Script) (budget : ℕ) (steps : List StepTaken) (lines : List Command) (exits : List Exit) : Type 0 where
+  pub undone : List Command
+  pub order : own_commands (opening script budget) steps ++ undone ≡ lines ++ final_calls exits
+
+-- So it is in every run.
+abbrev pub ExitsAreCalledLastFirst : Type 0
+ExitsAreCalledLastFirst = (script : Script) (budget : ℕ) (steps : List StepTaken) → TextsAreKnown script → IsRun script budget steps → (exits : List Exit) → (a : AreExits script exits) → CallsFall script budget steps a.lines exits
+
+-- The procedure's frame asks for its object now, which lives: the weak reference refers to it.
+pub record FindsAlive (e : Exit) (w : World) (frame : Frame) (below : List Activity) : Type 0 where
+  pub stack : w.stack ≡ Framed frame ∷ below
+  pub commands : frame.commands ≡ exit_body e
+  pub no_collection : due w ≡ None
+  pub weak : Object
+  pub member : Includes w.objects weak
+  pub named : slice_get w.names e.watch ≡ Some (Some (Ref weak.serial))
+  pub refers : weak.referent ≢ None
+
+-- a command is refused, or the budget is spent
+abbrev pub is_refusal : Event → Bool
+is_refusal (Refused n) = true
+is_refusal BudgetSpent = true
+is_refusal event = false
+
+-- that happens to no command of a frame on these activities
+abbrev pub NoneRefused : List Activity → World → List StepTaken → Type 0
+NoneRefused below w [] = Unit {0}
+NoneRefused below w (step ∷ steps) = ((frame : Frame) → w.stack ≡ Framed frame ∷ below → count_by is_refusal step.events ≡ 0) × NoneRefused below step.world steps
+
+-- a frame on these activities has commands left
+pub record IsUnderway (below stack : List Activity) : Type 0 where
+  pub tops : List Activity
+  pub frame : Frame
+  pub is : stack ≡ tops ++ Framed frame ∷ below
+  pub left : frame.commands ≢ []
+
+-- Where the procedure finds its object alive and none of its commands is refused, the function's frame begins before the
+-- procedure has no command left.
+abbrev pub ExitsBeginAlive : Type 0
+ExitsBeginAlive = (script : Script) (budget : ℕ) (before during : List StepTaken) → TextsAreKnown script → IsRun script budget (before ++ during) → (e : Exit) → IsExit script e
+    → (frame : Frame) (below : List Activity) → FindsAlive e (world_after script budget before) frame below → NoneRefused below (world_after script budget before) during
+    → IsUnderway below (last_world (world_after script budget before) during).stack ⊎ (0 < calls_from e.function (world_after script budget before) during)

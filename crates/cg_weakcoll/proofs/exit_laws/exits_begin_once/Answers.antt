@@ -1,8 +1,5 @@
-use Rattle.cg_weakcoll.proofs.HiddenKept.{hidden_kept}
-use Rattle.cg_weakcoll.proofs.StageSteps.{stage_step}
-use Rattle.cg_weakcoll.proofs.Watch.{standing_rests}
-use Rattle.cg_weakcoll.proofs.Names.{done_names}
+use Rattle.cg_weakcoll.proofs.ExitRuns.{exits_once}
 use Rattle.cg_weakcoll.proofs.exit_laws.exits_begin_once.Goals as goal
 
 pub returns : goal.returns
-returns c = let a = hidden_kept in let b = stage_step in let d = standing_rests in let e = done_names in ?
+returns c = exits_once
