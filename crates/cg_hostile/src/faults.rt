@@ -19,8 +19,8 @@ struct Call {
     text: &'static str,
 }
 
-/// Two callbacks, a shutdown, an inspection, a spent budget, a bad script, bad words, a summary.
-const CALLS: [Call; 7] = [
+/// Two callbacks, a shutdown, an inspection, a spent budget, a bad script, bad words, a summary, records, an expansion.
+const CALLS: [Call; 9] = [
     Call {
         words: "run",
         script: "def p; end; class C; f = func p; a = new C; u = ref a f; v = ref a f; del a",
@@ -69,6 +69,21 @@ const CALLS: [Call; 7] = [
         reads: 0,
         status: Status::Done,
         text: "summary 7 7 1 2 18",
+    },
+    Call {
+        words: "record",
+        script: "a = list; append a a; del a; collect 2",
+        reads: 2,
+        status: Status::Done,
+        text: "record 2; graph 1; m 2 1 0; r 2; lost 2; graph 2; m 2 1 0; r 2; lost 2; stop; end",
+    },
+    // An expansion is written at once, so here it has one line.
+    Call {
+        words: "expand",
+        script: "m = wmap",
+        reads: 2,
+        status: Status::Done,
+        text: "m = dict",
     },
 ];
 
