@@ -22,7 +22,11 @@ pub enum InputFault {
 ///
 /// Fewer than `most` bytes are all that the source had. `ReadFault` comes only where its faults rose, and `OutOfMemory` leaves
 /// it somewhere before its end.
-pub fn read_up_to<S: Source>(alloc: Global, source: &mut S, most: usize) -> Result<Vec<u8>, InputFault>
+pub fn read_up_to<S: Source>(
+    alloc: Global,
+    source: &mut S,
+    most: usize,
+) -> Result<Vec<u8>, InputFault>
     ensures bytes { IfOk result (λ b. Consumes (S.left source.old) (S.left source.new) b.items) }
     ensures size { IfOk result (λ b. length b.items ≤ most) }
     ensures end { IfOk result (λ b. length b.items < most → IsAtEnd (S.left source.new)) }
