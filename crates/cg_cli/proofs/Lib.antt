@@ -3,3 +3,4 @@ pub mod Budgets
 pub mod KeptLines
 pub mod Refusals
 pub mod Summed
+pub mod ToldExpansions

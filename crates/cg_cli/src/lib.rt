@@ -1,12 +1,13 @@
 //! The command line and the top call.
 //!
 //! `gc_run` is what the program does: its clauses are the headline, that the text of a whole run of the object graph
-//! machine is written, or the summary of such a text, and the cause of every other answer. Words are read by `cg_words`,
-//! scripts by `cg_script`; a large script is made by `cg_generator`; and scripts are run by `cg_interp` over a heap of the
-//! kinds that the caller hands in.
+//! machine is written, or the summary of such a text, or the expansion of an extended script, and the cause of every other
+//! answer. Words are read by `cg_words`, scripts by `cg_script`; a large script is made by `cg_generator`; extended scripts are
+//! expanded by `cg_weakcoll`; and scripts are run by `cg_interp` over a heap of the kinds that the caller hands in.
 #![tactic(auto)]
 
 mod budget;
+mod expand;
 mod generate;
 mod input;
 mod run;
@@ -22,6 +23,8 @@ pub use top::gc_run;
 mod collections;
 #[cfg(test)]
 mod examples;
+#[cfg(test)]
+mod expansions;
 #[cfg(test)]
 mod inspections;
 #[cfg(test)]

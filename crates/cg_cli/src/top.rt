@@ -7,8 +7,10 @@ ghost use Rattle.cg_heap.specs.Boxes.{six_kinds};
 ghost use Rattle.cg_machine.specs.World.{Ended, BudgetIsSpent};
 ghost use Rattle.cg_words.specs.Words.{AsksFor, Ask};
 ghost use Rattle.cg_cli.specs.Summaries.{WroteSummary, WroteSummaryFront};
+ghost use Rattle.cg_cli.specs.Expansions.{WroteExpansion, WroteFirstBad, WroteExpandFront, AnswersExpand};
 ghost use Rattle.cg_cli.specs.Statuses.{RanWhole, RanKept, RanBad, TookTooMany, WroteFront, Answers, IsCutShort};
 
+use crate::expand::expand_job;
 use crate::generate::generate_job;
 use crate::run::run_job;
 use crate::status::Status;
@@ -31,11 +33,13 @@ fn gc_over<S: Source, K: Sink, B: Kind>(
     requires empty { map B.bodies kinds.items ≡ replicate 6 fin.empty }
     ensures done { result ≡ Status.Done → ((given : Option ℕ) × AsksFor (map string_bytes words.now) (Job.Run given)
         × IfSome (S.left source.old) (λ bytes. RanWhole given Ended bytes (K.written sink.old) (K.written sink.new)))
-        ⊎ ((blocks : ℕ) × AsksFor (map string_bytes words.now) (Job.Generate blocks) × WroteSummary blocks (K.written sink.old) (K.written sink.new)) }
+        ⊎ ((blocks : ℕ) × AsksFor (map string_bytes words.now) (Job.Generate blocks) × WroteSummary blocks (K.written sink.old) (K.written sink.new))
+        ⊎ (AsksFor (map string_bytes words.now) Job.Expand × IfSome (S.left source.old) (λ bytes. WroteExpansion bytes (K.written sink.old) (K.written sink.new))) }
     ensures spent { result ≡ Status.Budget → (given : Option ℕ) × AsksFor (map string_bytes words.now) (Job.Run given)
         × IfSome (S.left source.old) (λ bytes. RanWhole given BudgetIsSpent bytes (K.written sink.old) (K.written sink.new)) }
     ensures bad_words { result ≡ Status.BadWords → Appends (K.written sink.old) (K.written sink.new) (codes "bad words\n") }
-    ensures bad_script { result ≡ Status.BadScript → IfSome (S.left source.old) (λ bytes. RanBad bytes (K.written sink.old) (K.written sink.new)) }
+    ensures bad_script { (given : Option ℕ) → AsksFor (map string_bytes words.now) (Job.Run given) → result ≡ Status.BadScript
+        → IfSome (S.left source.old) (λ bytes. RanBad bytes (K.written sink.old) (K.written sink.new)) }
     ensures too_large { result ≡ Status.TooLarge → Appends (K.written sink.old) (K.written sink.new) (codes "too large\n") }
     ensures taken { result ≡ Status.TooLarge → TookTooMany (S.left source.old) (S.left source.new) }
     ensures read_to_end { (given : Option ℕ) → AsksFor (map string_bytes words.now) (Job.Run given)
@@ -60,10 +64,21 @@ fn gc_over<S: Source, K: Sink, B: Kind>(
     ensures summary_reads_nothing { (blocks : ℕ) → AsksFor (map string_bytes words.now) (Job.Generate blocks) → source.new ≡ source.old }
     ensures complete_summary { (blocks : ℕ) → AsksFor (map string_bytes words.now) (Job.Generate blocks) → ¬ (Rose (K.faults sink.old) (K.faults sink.new))
         → (result ≡ Status.Done) ⊎ (result ≡ Status.OutOfMemory) }
+    ensures expand_bad { AsksFor (map string_bytes words.now) Job.Expand → result ≡ Status.BadScript
+        → IfSome (S.left source.old) (λ bytes. WroteFirstBad bytes (K.written sink.old) (K.written sink.new)) }
+    ensures expand_to_end { AsksFor (map string_bytes words.now) Job.Expand → (result ≡ Status.Done) ⊎ (result ≡ Status.BadScript) → IsAtEnd (S.left source.new) }
+    ensures write_expand { AsksFor (map string_bytes words.now) Job.Expand → result ≡ Status.WriteFault
+        → IfSome (S.left source.old) (λ bytes. WroteExpandFront bytes (K.written sink.old) (K.written sink.new)) }
+    ensures expand { AsksFor (map string_bytes words.now) Job.Expand → IsCutShort result ⊎ IfSome (S.left source.old) (λ bytes. AnswersExpand bytes result) }
+    ensures expand_statuses { AsksFor (map string_bytes words.now) Job.Expand → (result ≡ Status.Done) ⊎ (result ≡ Status.BadScript) ⊎ (result ≡ Status.TooLarge) ⊎ IsCutShort result }
+    ensures complete_expand { AsksFor (map string_bytes words.now) Job.Expand → ¬ (Rose (S.faults source.old) (S.faults source.new)) → ¬ (Rose (K.faults sink.old) (K.faults sink.new))
+        → (result ≡ Status.OutOfMemory) ⊎ IfSome (S.left source.old) (λ bytes. AnswersExpand bytes result) }
 {
     match read_words(alloc, words) {
         Ok(Some(Job::Run { budget })) => run_job(alloc, budget, source, sink, kinds),
         Ok(Some(Job::Generate { blocks })) => generate_job(alloc, blocks, sink, kinds),
+        Ok(Some(Job::Expand)) => expand_job(alloc, source, sink),
+        Ok(Some(Job::Record)) => Status::OutOfMemory,
         Ok(None) => tell_bad_words(sink),
         Err(AllocError) => Status::OutOfMemory,
     }
@@ -71,7 +86,8 @@ fn gc_over<S: Source, K: Sink, B: Kind>(
 
 /// Does what the words ask for: with `run`, or `run --budget N`, reads a script from the source, runs it on a heap over the
 /// kinds, and writes the text of the run to the sink, one `write` a line; with `generate N`, runs the script of N blocks with
-/// the usual budget on a heap over the kinds, and writes the summary of its text.
+/// the usual budget on a heap over the kinds, and writes the summary of its text; with `expand`, reads an extended script from
+/// the source, and writes its expansion.
 ///
 /// The kinds stand in the order of `KindCode`, and have no object. The budget is that of the words, else that of the script,
 /// else 10,000. It answers `Done` where the run ended by `end`, and `Budget` where it ended by `budget spent`; `BadWords`,
@@ -90,10 +106,12 @@ pub fn gc_run<S: Source, K: Sink>(
 
     // The words ask for a run, the bytes spell a script, and what was written is the text of a whole run of the machine on it,
     // which ended by `end`, or for want of budget. Or they ask for a large script, and what was written is the summary of the
-    // text of such a run of it, in which no command was refused.
+    // text of such a run of it, in which no command was refused. Or they ask for an expansion, the bytes have no bad line, and
+    // what was written is their expansion.
     ensures done { result ≡ Status.Done → ((given : Option ℕ) × AsksFor (map string_bytes words.now) (Job.Run given)
         × IfSome (S.left source.old) (λ bytes. RanWhole given Ended bytes (K.written sink.old) (K.written sink.new)))
-        ⊎ ((blocks : ℕ) × AsksFor (map string_bytes words.now) (Job.Generate blocks) × WroteSummary blocks (K.written sink.old) (K.written sink.new)) }
+        ⊎ ((blocks : ℕ) × AsksFor (map string_bytes words.now) (Job.Generate blocks) × WroteSummary blocks (K.written sink.old) (K.written sink.new))
+        ⊎ (AsksFor (map string_bytes words.now) Job.Expand × IfSome (S.left source.old) (λ bytes. WroteExpansion bytes (K.written sink.old) (K.written sink.new))) }
     ensures spent { result ≡ Status.Budget → (given : Option ℕ) × AsksFor (map string_bytes words.now) (Job.Run given)
         × IfSome (S.left source.old) (λ bytes. RanWhole given BudgetIsSpent bytes (K.written sink.old) (K.written sink.new)) }
 
@@ -103,7 +121,8 @@ pub fn gc_run<S: Source, K: Sink>(
 
     // What is wrong with the words, the script or its size, and that it was told.
     ensures bad_words { result ≡ Status.BadWords → Appends (K.written sink.old) (K.written sink.new) (codes "bad words\n") }
-    ensures bad_script { result ≡ Status.BadScript → IfSome (S.left source.old) (λ bytes. RanBad bytes (K.written sink.old) (K.written sink.new)) }
+    ensures bad_script { (given : Option ℕ) → AsksFor (map string_bytes words.now) (Job.Run given) → result ≡ Status.BadScript
+        → IfSome (S.left source.old) (λ bytes. RanBad bytes (K.written sink.old) (K.written sink.new)) }
     ensures too_large { result ≡ Status.TooLarge → Appends (K.written sink.old) (K.written sink.new) (codes "too large\n") }
     ensures taken { result ≡ Status.TooLarge → TookTooMany (S.left source.old) (S.left source.new) }
     ensures read_to_end { (given : Option ℕ) → AsksFor (map string_bytes words.now) (Job.Run given)
@@ -136,6 +155,17 @@ pub fn gc_run<S: Source, K: Sink>(
     ensures summary_reads_nothing { (blocks : ℕ) → AsksFor (map string_bytes words.now) (Job.Generate blocks) → source.new ≡ source.old }
     ensures complete_summary { (blocks : ℕ) → AsksFor (map string_bytes words.now) (Job.Generate blocks) → ¬ (Rose (K.faults sink.old) (K.faults sink.new))
         → (result ≡ Status.Done) ⊎ (result ≡ Status.OutOfMemory) }
+
+    // With words for an expansion: the first bad line, what a fault leaves, and which answer comes.
+    ensures expand_bad { AsksFor (map string_bytes words.now) Job.Expand → result ≡ Status.BadScript
+        → IfSome (S.left source.old) (λ bytes. WroteFirstBad bytes (K.written sink.old) (K.written sink.new)) }
+    ensures expand_to_end { AsksFor (map string_bytes words.now) Job.Expand → (result ≡ Status.Done) ⊎ (result ≡ Status.BadScript) → IsAtEnd (S.left source.new) }
+    ensures write_expand { AsksFor (map string_bytes words.now) Job.Expand → result ≡ Status.WriteFault
+        → IfSome (S.left source.old) (λ bytes. WroteExpandFront bytes (K.written sink.old) (K.written sink.new)) }
+    ensures expand { AsksFor (map string_bytes words.now) Job.Expand → IsCutShort result ⊎ IfSome (S.left source.old) (λ bytes. AnswersExpand bytes result) }
+    ensures expand_statuses { AsksFor (map string_bytes words.now) Job.Expand → (result ≡ Status.Done) ⊎ (result ≡ Status.BadScript) ⊎ (result ≡ Status.TooLarge) ⊎ IsCutShort result }
+    ensures complete_expand { AsksFor (map string_bytes words.now) Job.Expand → ¬ (Rose (S.faults source.old) (S.faults source.new)) → ¬ (Rose (K.faults sink.old) (K.faults sink.new))
+        → (result ≡ Status.OutOfMemory) ⊎ IfSome (S.left source.old) (λ bytes. AnswersExpand bytes result) }
 {
     one_finalizer_each();
     no_dead_lines();

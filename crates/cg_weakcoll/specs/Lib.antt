@@ -1,1 +1,6 @@
 pub mod Exits
+pub mod Expansion
+pub mod Words
+pub mod Maps
+pub mod MapLines
+pub mod Worked

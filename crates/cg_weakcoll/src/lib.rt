@@ -1,6 +1,26 @@
 //! Weak value maps and exit finalizers: extended scripts, which are expanded to scripts of the base language.
+//!
+//! `expand` is what the layer above uses: it answers the expansion of some bytes by `specs/Expansion`, or their first bad line.
+//! Laws tell what weak value maps answer in every run of the machine, and when the functions of exit finalizers begin.
 #![tactic(auto)]
 
 mod exit_laws;
+mod expander;
+mod fault;
+mod form;
+mod map_laws;
+mod pieces;
+mod worked;
+mod write;
 
 pub use exit_laws::{exits_are_called_last_first, exits_begin_alive, exits_begin_once};
+pub use expander::expand;
+pub use map_laws::{
+    expanded_looks_are_commands, expanded_stores_are_commands, look_lines_are_commands,
+    looks_answer, looks_find_referents, store_lines_are_commands, weak_maps_answer,
+    weak_references_keep_their_referents,
+};
+pub use worked::a_cache_answers_both;
+
+#[cfg(test)]
+mod tests;

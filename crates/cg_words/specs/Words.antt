@@ -8,7 +8,7 @@ use Rattle.clap.specs.Simple.{App, Shape, new_app, new_rule, on_top, with_rule, 
 use Rattle.clap.specs.Faults.{fault_of}
 use Rattle.cg_script.specs.Words.{are_digits, decimal_value}
 use Rattle.cg_words.specs.declared.words.Job.{Job}
-use Rattle.cg_words.specs.declared.words.Job.TheVariants.{Run, Generate}
+use Rattle.cg_words.specs.declared.words.Job.TheVariants.{Run, Generate, Expand, Record}
 
 -- an option `--budget` that takes one text
 abbrev pub budget_rule : Rule
@@ -26,13 +26,24 @@ run_line = with_rule (new_app (codes "run")) budget_rule
 abbrev pub generate_line : App
 generate_line = with_rule (new_app (codes "generate")) blocks_rule
 
+-- `expand` and `record`, without arguments
+abbrev pub expand_line : App
+expand_line = new_app (codes "expand")
+
+abbrev pub record_line : App
+record_line = new_app (codes "record")
+
 -- no program's name before the words, no words of clap's own for help and version, and a subcommand
 abbrev pub settings : Shape → Shape
 settings s = record s { no_binary_name = true; disable_help_flag = true; disable_help_subcommand = true; disable_version_flag = true; subcommand_required = true }
 
--- the command line: one of the two subcommands
+-- the subcommands that take a number
+abbrev pub line_with_numbers : App
+line_with_numbers = with_subcommand (with_subcommand (on_top settings (new_app (codes "gcrun"))) run_line.top) generate_line.top
+
+-- the command line: one of the four subcommands
 abbrev pub command_line : App
-command_line = with_subcommand (with_subcommand (on_top settings (new_app (codes "gcrun"))) run_line.top) generate_line.top
+command_line = with_subcommand (with_subcommand line_with_numbers expand_line.top) record_line.top
 
 -- the number that one to six digits write, where it is in a range
 abbrev pub number_between : ℕ → ℕ → Text → Option ℕ
@@ -59,6 +70,8 @@ abbrev pub job_of : Text → List Row → Option Job
 job_of name rows =
     if bytes_eq name (codes "run") then run_by (first_of (codes "budget") rows)
     else if bytes_eq name (codes "generate") then generate_by (first_of (codes "blocks") rows)
+    else if bytes_eq name (codes "expand") then Some Expand
+    else if bytes_eq name (codes "record") then Some Record
     else None
 
 abbrev pub job_in : Option (Text × List Row) → Option Job
@@ -81,3 +94,5 @@ abbrev pub IsInRange : Job → Type 0
 IsInRange (Run None) = Unit {0}
 IsInRange (Run (Some budget)) = budget ≤ 100000
 IsInRange (Generate blocks) = (1 ≤ blocks) × (blocks ≤ 10000)
+IsInRange Expand = Unit {0}
+IsInRange Record = Unit {0}

@@ -4,7 +4,7 @@ use std::alloc::{AllocError, Global};
 use std::test::Fail;
 
 /// Words with a job.
-const JOBS: [(&[&str], Job); 17] = [
+const JOBS: [(&[&str], Job); 21] = [
     (&["run"], Job::Run { budget: None }),
     (&["run", "--budget", "5"], Job::Run { budget: Some(5) }),
     (&["run", "--budget=5"], Job::Run { budget: Some(5) }),
@@ -33,10 +33,14 @@ const JOBS: [(&[&str], Job); 17] = [
     (&["generate", "000001"], Job::Generate { blocks: 1 }),
     (&["generate", "--", "5"], Job::Generate { blocks: 5 }),
     (&["generate", "5", "--"], Job::Generate { blocks: 5 }),
+    (&["expand"], Job::Expand),
+    (&["expand", "--"], Job::Expand),
+    (&["record"], Job::Record),
+    (&["record", "--"], Job::Record),
 ];
 
 /// Words without one.
-const NONE: [&[&str]; 47] = [
+const NONE: [&[&str]; 60] = [
     &[],
     &[""],
     &["", "run"],
@@ -84,6 +88,19 @@ const NONE: [&[&str]; 47] = [
     &["generate", "5", "5"],
     &["generate", "generate"],
     &["gcrun", "run"],
+    &["expand", ""],
+    &["expand", "5"],
+    &["expand", "expand"],
+    &["expand", "--budget", "5"],
+    &["expand", "--help"],
+    &["expand", "--", "5"],
+    &["Expand"],
+    &["--", "expand"],
+    &["record", "5"],
+    &["record", "run"],
+    &["record", "--budget=5"],
+    &["record", "-h"],
+    &["records"],
 ];
 
 /// The words as strings.

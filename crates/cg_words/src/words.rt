@@ -4,7 +4,7 @@ ghost use Rattle.std.specs.List.{list_all};
 ghost use Rattle.clap.specs.Words.{app_of, subcommand_rows_of};
 ghost use Rattle.clap.specs.declared.builder.command.Command.TheViews.{out-Command as fields_of};
 ghost use Rattle.cg_script.specs.Words.{is_digit, are_digits};
-ghost use Rattle.cg_words.specs.Words.{number_between, run_by, generate_by, job_in, run_line, generate_line, command_line as line_of_commands, asked, IsInRange};
+ghost use Rattle.cg_words.specs.Words.{number_between, run_by, generate_by, job_in, run_line, generate_line, expand_line, record_line, line_with_numbers, command_line as line_of_commands, asked, IsInRange};
 
 use clap::error::ErrorKind;
 use clap::{Arg, ArgAction, ArgMatches, Command};
@@ -26,6 +26,10 @@ pub enum Job {
     Run { budget: Option<u32> },
     /// To run the generated script of so many blocks, and write the summary of its text.
     Generate { blocks: u32 },
+    /// To write the expansion of the extended script that the source gives.
+    Expand,
+    /// To run the script that the source gives, and write the records of its collections.
+    Record,
 }
 
 fn is_digit_byte(byte: u8) -> bool
@@ -83,9 +87,25 @@ fn generate_command<'a>(alloc: Global) -> Result<Command<'a>, AllocError>
     Command::new(alloc, "generate").arg(blocks)
 }
 
-/// The command line, which wants one of the subcommands.
-fn command_line<'a>(alloc: Global) -> Result<Command<'a>, AllocError>
-    ensures { IfOk result (λ c. app_of c ≡ line_of_commands) }
+/// `expand`, without arguments.
+fn expand_command<'a>(alloc: Global) -> Command<'a>
+    ensures app { app_of result ≡ expand_line }
+    ensures local { (fields_of result).has_globals ≡ false }
+{
+    Command::new(alloc, "expand")
+}
+
+/// `record`, without arguments.
+fn record_command<'a>(alloc: Global) -> Command<'a>
+    ensures app { app_of result ≡ record_line }
+    ensures local { (fields_of result).has_globals ≡ false }
+{
+    Command::new(alloc, "record")
+}
+
+/// The command line with the subcommands that take a number.
+fn line_with_numbers<'a>(alloc: Global) -> Result<Command<'a>, AllocError>
+    ensures { IfOk result (λ c. app_of c ≡ line_with_numbers) }
 {
     let run = run_command(alloc)?;
     let generate = generate_command(alloc)?;
@@ -97,6 +117,15 @@ fn command_line<'a>(alloc: Global) -> Result<Command<'a>, AllocError>
         .subcommand_required(true)
         .subcommand(run)?
         .subcommand(generate)
+}
+
+/// The command line, which wants one of the subcommands.
+fn command_line<'a>(alloc: Global) -> Result<Command<'a>, AllocError>
+    ensures { IfOk result (λ c. app_of c ≡ line_of_commands) }
+{
+    line_with_numbers(alloc)?
+        .subcommand(expand_command(alloc))?
+        .subcommand(record_command(alloc))
 }
 
 /// A run, by the text of its option.
@@ -133,12 +162,15 @@ fn job_in_matches(matches: &ArgMatches<'_>) -> Option<Job>
     match name {
         "run" => run_job_by(found.get_str("budget")),
         "generate" => generate_job_by(found.get_str("blocks")),
+        "expand" => Some(Job::Expand),
+        "record" => Some(Job::Record),
         _ => None,
     }
 }
 
 /// What the words ask for: `run` for a run, `run --budget N` for a run with a budget of N frames, one to six digits from 0 to
-/// 100,000, and `generate N` for the generated script of N blocks, one to six digits from 1 to 10,000.
+/// 100,000, `generate N` for the generated script of N blocks, one to six digits from 1 to 10,000, `expand` for the expansion of
+/// an extended script, and `record` for the records of a run.
 ///
 /// The words are read by `clap`. It answers `None` where clap refuses them, or where the text taken for N has not this form
 /// and range, and `AllocError` for want of memory alone. (Ours.)

@@ -1,0 +1,358 @@
+-- The lines of an expansion, and where the lines of a `wget` stand in them.
+use Rattle.std.proofs.Common.{◌≡◌, ℕ, zero, suc, ◌+◌, ◌≤◌, ◌<◌, List, [], ◌∷◌, ◌++◌, length, map, Bool, true, false, not, cond, ◌&&◌, ◌||◌, ◌==◌, Option, Some, None, refl, sym, ap, subst, ◌∙◌, arith, nat_le, nat_lt, inl, inr, codes, filter, append_assoc}
+use Rattle.std.specs.Prelude.{decimal, flat_map, reverse}
+use Rattle.std.specs.Option.{option_or}
+use Rattle.std.specs.List.{list_all}
+use Rattle.std.proofs.lemmas.Bool.Decides.{nat_tests}
+use Rattle.std.proofs.lemmas.Bool.{eqb-true}
+use Rattle.std.proofs.lemmas.Fmt.{decimal-digits_of, decimal_digit}
+use Rattle.std.proofs.lemmas.List.Folds.{list_all-append}
+use Rattle.std.specs.Int.Digits.{digits_of}
+use Rattle.cg_script.specs.Pieces.{pieces, onto, has_bytes, lines_of, words_of, word_at}
+use Rattle.cg_script.specs.Words.{is_printable, is_variable}
+use Rattle.cg_script.specs.Canonical.{behind_space, joined}
+use Rattle.cg_script.proofs.Ascii.{both}
+use Rattle.cg_script.proofs.Joined.{EachSound, Graphic, sound_words, words_of-joined}
+use Rattle.cg_graph.specs.Member.{Includes}
+use Rattle.cg_graph.proofs.Members.{either, Includes-append_cases, Includes-map_cases}
+use Rattle.cg_promises.proofs.ToldDeaths.{reversed_back}
+use Rattle.cg_weakcoll.specs.declared.form.Form.{Form}
+use Rattle.cg_weakcoll.specs.declared.form.Form.TheVariants.{MakeMap, Set, Get, Remove, Finalize}
+use Rattle.cg_weakcoll.specs.Expansion.{bad_or, call_line, call_lines, expanded_lines, expansion, fault_by, fault_of, final_lines, finalize_number, finalize_numbers_from, first_bad, first_bad_from, form_fault, form_lines, form_of, inside_after, is_finalize, is_value_beside, name_fault, with_feeds, word_count, words_fit, written, written_by, written_from}
+use Rattle.cg_weakcoll.specs.MapLines.{ExpandedLooksAreCommands, HasLines}
+use Rattle.cg_weakcoll.proofs.LookLines.{look_lines}
+
+-- bytes without a line feed
+abbrev pub has_no_feed : List ℕ → Bool
+has_no_feed bytes = list_all (λ b. not (b == 10)) bytes
+
+abbrev pub AreUnfed : List (List ℕ) → Type 0
+AreUnfed lines = (line : List ℕ) → Includes lines line → has_no_feed line ≡ true
+
+unfed_both : (xs ys : List ℕ) → has_no_feed xs ≡ true → has_no_feed ys ≡ true → has_no_feed (xs ++ ys) ≡ true
+unfed_both xs ys h k = list_all-append (λ b. not (b == 10)) xs ys ∙ ap (λ b. b && has_no_feed ys) h ∙ k
+
+unfed_first : (b : ℕ) (bs : List ℕ) → (b == 10) ≡ false → has_no_feed bs ≡ true → has_no_feed (b ∷ bs) ≡ true
+unfed_first b bs e h = ap (λ t. not t && has_no_feed bs) e ∙ h
+
+one_more : (line : List ℕ) (lines : List (List ℕ)) → has_no_feed line ≡ true → AreUnfed lines → AreUnfed (line ∷ lines)
+one_more line lines h k other m = either m (λ e. subst (λ (l : List ℕ). has_no_feed l ≡ true) e h) (k other)
+
+none_unfed : AreUnfed []
+none_unfed line m = absurd m
+
+-- lines that are written with line feeds are read again
+fed_piece : (line rest : List ℕ) → has_no_feed line ≡ true → pieces 10 (line ++ 10 ∷ rest) ≡ line ∷ pieces 10 rest
+fed_piece [] rest h = refl
+fed_piece (b ∷ bs) rest h = go (b == 10) h (λ k. fed_piece bs rest k)
+  where
+    go : (t : Bool) → (not t && has_no_feed bs) ≡ true → (has_no_feed bs ≡ true → pieces 10 (bs ++ 10 ∷ rest) ≡ bs ∷ pieces 10 rest)
+        → cond t ([] ∷ pieces 10 (bs ++ 10 ∷ rest)) (onto b (pieces 10 (bs ++ 10 ∷ rest))) ≡ (b ∷ bs) ∷ pieces 10 rest
+    go true k ih = absurd (cc)
+    go false k ih = ap (onto b) (ih k)
+
+pub lines_again : (lines : List (List ℕ)) → AreUnfed lines → lines_of (with_feeds lines) ≡ lines
+lines_again [] h = refl
+lines_again (line ∷ lines) h =
+    ap (pieces 10) (append_assoc line (10 ∷ []) (with_feeds lines))
+    ∙ fed_piece line (with_feeds lines) (h line (inl refl))
+    ∙ ap (λ ls. line ∷ ls) (lines_again lines (λ other m. h other (inr m)))
+
+-- lines and words have none
+onto_unfed : (b : ℕ) (ps : List (List ℕ)) → (b == 10) ≡ false → AreUnfed ps → AreUnfed (onto b ps)
+onto_unfed b [] e h = one_more (b ∷ []) [] (unfed_first b [] e refl) none_unfed
+onto_unfed b (p ∷ ps) e h = one_more (b ∷ p) ps (unfed_first b p e (h p (inl refl))) (λ other m. h other (inr m))
+
+pub lines_unfed : (bytes : List ℕ) → AreUnfed (lines_of bytes)
+lines_unfed [] = none_unfed
+lines_unfed (b ∷ bs) = go (b == 10) refl (lines_unfed bs)
+  where
+    go : (t : Bool) → (b == 10) ≡ t → AreUnfed (pieces 10 bs) → AreUnfed (cond t ([] ∷ pieces 10 bs) (onto b (pieces 10 bs)))
+    go true e h = one_more [] (pieces 10 bs) refl h
+    go false e h = onto_unfed b (pieces 10 bs) e h
+
+pieces_unfed : (line : List ℕ) → has_no_feed line ≡ true → AreUnfed (pieces 32 line)
+pieces_unfed [] h = none_unfed
+pieces_unfed (b ∷ bs) h =
+    let parts = both (not (b == 10)) (has_no_feed bs) h in
+    go (b == 32) (other (b == 10) parts.0) (pieces_unfed bs parts.1)
+  where
+    other : (t : Bool) → not t ≡ true → t ≡ false
+    other true e = absurd (cc)
+    other false e = refl
+
+    go : (t : Bool) → (b == 10) ≡ false → AreUnfed (pieces 32 bs) → AreUnfed (cond t ([] ∷ pieces 32 bs) (onto b (pieces 32 bs)))
+    go true e k = one_more [] (pieces 32 bs) refl k
+    go false e k = onto_unfed b (pieces 32 bs) e k
+
+kept_unfed : (ps : List (List ℕ)) → AreUnfed ps → AreUnfed (filter has_bytes ps)
+kept_unfed [] h = h
+kept_unfed (p ∷ ps) h = go (has_bytes p) (kept_unfed ps (λ other m. h other (inr m)))
+  where
+    go : (t : Bool) → AreUnfed (filter has_bytes ps) → AreUnfed (cond t (p ∷ filter has_bytes ps) (filter has_bytes ps))
+    go true k = one_more p (filter has_bytes ps) (h p (inl refl)) k
+    go false k = k
+
+word_unfed : (words : List (List ℕ)) (place : ℕ) → AreUnfed words → has_no_feed (word_at words place) ≡ true
+word_unfed [] place h = refl
+word_unfed (word ∷ words) zero h = h word (inl refl)
+word_unfed (word ∷ words) (suc place) h = word_unfed words place (λ other m. h other (inr m))
+
+-- numbers
+digits_unfed : (ds : List ℕ) → has_no_feed (map (λ d. 48 + d) ds) ≡ true
+digits_unfed [] = refl
+digits_unfed (d ∷ ds) = let other : (48 + d == 10) ≡ false = grind (arith, nat_tests) in unfed_first (48 + d) (map (λ d. 48 + d) ds) other (digits_unfed ds)
+
+number_unfed : (l : ℕ) → l ≤ 400000 → has_no_feed (decimal l) ≡ true
+number_unfed zero low = ap has_no_feed (decimal_digit 0 (omega arith))
+number_unfed (suc l) low = ap has_no_feed (decimal-digits_of (suc l) (omega arith) (omega (arith, low))) ∙ digits_unfed (digits_of 10 (suc l))
+
+-- what is written for a line of a form
+abbrev AllUnfed : List (List ℕ) → Type 0
+AllUnfed [] = Unit {0}
+AllUnfed (word ∷ words) = (has_no_feed word ≡ true) × AllUnfed words
+
+abbrev EachUnfed : List (List (List ℕ)) → Type 0
+EachUnfed [] = Unit {0}
+EachUnfed (words ∷ lines) = AllUnfed words × EachUnfed lines
+
+behind_unfed : (words : List (List ℕ)) → AllUnfed words → has_no_feed (flat_map behind_space words) ≡ true
+behind_unfed [] h = refl
+behind_unfed (word ∷ words) h = unfed_both (behind_space word) (flat_map behind_space words) h.0 (behind_unfed words h.1)
+
+joined_unfed : (words : List (List ℕ)) → AllUnfed words → has_no_feed (joined words) ≡ true
+joined_unfed [] h = refl
+joined_unfed (word ∷ words) h = unfed_both word (flat_map behind_space words) h.0 (behind_unfed words h.1)
+
+all_joined : (lines : List (List (List ℕ))) → EachUnfed lines → AreUnfed (map joined lines)
+all_joined [] h = none_unfed
+all_joined (words ∷ lines) h = one_more (joined words) (map joined lines) (joined_unfed words h.0) (all_joined lines h.1)
+
+module _ (l : ℕ) (low : l ≤ 400000) (words : List (List ℕ)) (h : AreUnfed words) where
+  named_unfed : (prefix : List ℕ) → has_no_feed prefix ≡ true → has_no_feed (prefix ++ decimal l) ≡ true
+  named_unfed prefix k = unfed_both prefix (decimal l) k (number_unfed l low)
+
+  form_unfed : (form : Form) → EachUnfed (form_lines form l words)
+  form_unfed MakeMap = (
+    (word_unfed words 0 h, (refl, (refl, tt))),
+    tt,
+  )
+  form_unfed Set = (
+    (named_unfed (codes "wv_") refl, (refl, (refl, (word_unfed words 3 h, tt)))),
+    (
+      (refl, (word_unfed words 1 h, (word_unfed words 2 h, (named_unfed (codes "wv_") refl, tt)))),
+      (
+        (refl, (named_unfed (codes "wv_") refl, tt)),
+        tt,
+      ),
+    ),
+  )
+  form_unfed Get = (
+    (word_unfed words 0 h, (refl, (refl, tt))),
+    (
+      (word_unfed words 0 h, (refl, (refl, (word_unfed words 3 h, (word_unfed words 4 h, tt))))),
+      (
+        (word_unfed words 0 h, (refl, (refl, (word_unfed words 0 h, tt)))),
+        tt,
+      ),
+    ),
+  )
+  form_unfed Remove = (
+    (refl, (word_unfed words 1 h, (word_unfed words 2 h, tt))),
+    tt,
+  )
+  form_unfed Finalize = (
+    (refl, (named_unfed (codes "wv_p_") refl, tt)),
+    (
+      (named_unfed (codes "wv_o_") refl, (refl, (refl, (named_unfed (codes "wv_w_") refl, tt)))),
+      (
+        (refl, (named_unfed (codes "wv_o_") refl, tt)),
+        (
+          (refl, (named_unfed (codes "wv_w_") refl, tt)),
+          (
+            (refl, (named_unfed (codes "wv_o_") refl, tt)),
+            (
+              (refl, (named_unfed (codes "wv_f_") refl, tt)),
+              (
+                (refl, tt),
+                (
+                  (named_unfed (codes "wv_g_") refl, (refl, (refl, (named_unfed (codes "wv_p_") refl, tt)))),
+                  (
+                    (named_unfed (codes "wv_f_") refl, (refl, (word_unfed words 2 h, tt))),
+                    (
+                      (named_unfed (codes "wv_w_") refl, (refl, (refl, (word_unfed words 1 h, (named_unfed (codes "wv_f_") refl, tt))))),
+                      tt,
+                    ),
+                  ),
+                ),
+              ),
+            ),
+          ),
+        ),
+      ),
+    ),
+  )
+
+-- a line of a form that is not bad
+pub record Fits (form : Form) (l : ℕ) (line : List ℕ) (words : List (List ℕ)) : Type 0 where
+  pub printable : list_all is_printable line ≡ true
+  pub low : l ≤ 400000
+  pub count : length words ≡ word_count form
+  pub fit : words_fit form words ≡ true
+
+no_fault : (form : Form) (inside : Bool) (l : ℕ) (line : List ℕ) (words : List (List ℕ)) → form_fault form inside l line words ≡ None → Fits form l line words
+no_fault form inside l line words e = go (list_all is_printable line) (nat_lt 1000 (length line)) (nat_lt 400000 l) (length words == word_count form) (words_fit form words) refl refl refl refl e
+  where
+    go : (a b c d f : Bool) → list_all is_printable line ≡ a → nat_lt 400000 l ≡ c → (length words == word_count form) ≡ d → words_fit form words ≡ f
+        → cond {A = Option ℕ} (not a) (Some 1) (cond (b || c) (Some 5) (cond (not d) (Some 3) (cond (not f) (Some 4) (cond (is_finalize (Some form) && inside) (Some 7) None)))) ≡ None → Fits form l line words
+    go false b c d f ea ec ed ef k = absurd (cc)
+    go true true c d f ea ec ed ef k = absurd (cc)
+    go true false true d f ea ec ed ef k = absurd (cc)
+    go true false false false f ea ec ed ef k = absurd (cc)
+    go true false false true false ea ec ed ef k = absurd (cc)
+    go true false false true true ea ec ed ef k = record { printable = ea; low = grind (arith, nat_tests); count = eqb-true (length words) (word_count form) ed; fit = ef }
+
+first_none : (m n : Option ℕ) → option_or m n ≡ None → m ≡ None
+first_none None n e = refl
+first_none (Some k) n e = absurd (cc)
+
+pub fits_of : (form : Form) (inside : Bool) (l : ℕ) (line : List ℕ) → form_of (words_of line) ≡ Some form → fault_of inside l line ≡ None → Fits form l line (words_of line)
+fits_of form inside l line is e = no_fault form inside l line (words_of line) (first_none (form_fault form inside l line (words_of line)) (name_fault (words_of line)) (ap (λ m. fault_by m inside l line (words_of line)) (sym is) ∙ e))
+
+-- the first of some lines of which none is bad
+split_bad : (l : ℕ) (m : Option ℕ) (later : Option (ℕ × ℕ)) → bad_or l m later ≡ None → (m ≡ None) × (later ≡ None)
+split_bad l None later e = (refl, e)
+split_bad l (Some code) later e = absurd (cc)
+
+written_unfed : (inside : Bool) (l : ℕ) (line : List ℕ) → has_no_feed line ≡ true → fault_of inside l line ≡ None → AreUnfed (written l line)
+written_unfed inside l line h e = go (form_of (words_of line)) refl
+  where
+    go : (m : Option Form) → form_of (words_of line) ≡ m → AreUnfed (written_by m l line (words_of line))
+    go None is = one_more line [] h none_unfed
+    go (Some form) is = all_joined (form_lines form l (words_of line)) (form_unfed l (fits_of form inside l line is e).low (words_of line) (kept_unfed (pieces 32 line) (pieces_unfed line h)) form)
+
+both_unfed : (xs ys : List (List ℕ)) → AreUnfed xs → AreUnfed ys → AreUnfed (xs ++ ys)
+both_unfed xs ys h k line m = either (Includes-append_cases xs ys line m) (h line) (k line)
+
+all_written : (lines : List (List ℕ)) (inside : Bool) (l : ℕ) → AreUnfed lines → first_bad_from inside l lines ≡ None → AreUnfed (written_from l lines)
+all_written [] inside l h e = none_unfed
+all_written (line ∷ lines) inside l h e =
+    let k = split_bad l (fault_of inside l line) (first_bad_from (inside_after inside (words_of line)) (l + 1) lines) e in
+    both_unfed (written l line) (written_from (l + 1) lines) (written_unfed inside l line (h line (inl refl)) k.0) (all_written lines (inside_after inside (words_of line)) (l + 1) (λ other m. h other (inr m)) k.1)
+
+-- the numbers of `finalize` lines are low
+AreLow : List ℕ → Type 0
+AreLow numbers = (n : ℕ) → Includes numbers n → n ≤ 400000
+
+number_low : (inside : Bool) (l : ℕ) (line : List ℕ) → fault_of inside l line ≡ None → (n : ℕ) → Includes (finalize_number l line) n → n ≤ 400000
+number_low inside l line e n m = go (form_of (words_of line)) refl m
+  where
+    go : (f : Option Form) → form_of (words_of line) ≡ f → Includes (cond (is_finalize f) (l ∷ []) []) n → n ≤ 400000
+    go None is k = absurd k
+    go (Some MakeMap) is k = absurd k
+    go (Some Set) is k = absurd k
+    go (Some Get) is k = absurd k
+    go (Some Remove) is k = absurd k
+    go (Some Finalize) is k = either k (λ same. subst (λ i. i ≤ 400000) same (fits_of Finalize inside l line is e).low) (λ no. absurd no)
+
+numbers_low : (lines : List (List ℕ)) (inside : Bool) (l : ℕ) → first_bad_from inside l lines ≡ None → (n : ℕ) → Includes (finalize_numbers_from l lines) n → n ≤ 400000
+numbers_low [] inside l e n m = absurd m
+numbers_low (line ∷ lines) inside l e n m =
+    let k = split_bad l (fault_of inside l line) (first_bad_from (inside_after inside (words_of line)) (l + 1) lines) e in
+    either (Includes-append_cases (finalize_number l line) (finalize_numbers_from (l + 1) lines) n m) (number_low inside l line k.0 n) (numbers_low lines (inside_after inside (words_of line)) (l + 1) k.1 n)
+
+calls_unfed : (numbers : List ℕ) → ((n : ℕ) → Includes numbers n → n ≤ 400000) → AreUnfed (call_lines numbers)
+calls_unfed numbers low line m =
+    let n = Includes-map_cases (λ (l : ℕ). joined (call_line l)) (reverse numbers) line m in
+    let k : n.0 ≤ 400000 = low n.0 (reversed_back numbers n.0 n.1) in
+    subst (λ (b : List ℕ). has_no_feed b ≡ true) n.2 (joined_unfed (call_line n.0) (refl, (unfed_both (codes "wv_g_") (decimal n.0) refl (number_unfed n.0 k), tt)))
+
+-- the lines of an expansion
+pub expansion_lines : (bytes : List ℕ) → first_bad bytes ≡ None → lines_of (expansion bytes) ≡ expanded_lines (lines_of bytes)
+unfolding expansion first_bad
+expansion_lines bytes e = lines_again (expanded_lines (lines_of bytes)) (both_unfed (written_from 1 (lines_of bytes)) (final_lines (lines_of bytes))
+    (all_written (lines_of bytes) false 1 (lines_unfed bytes) e) (calls_unfed (finalize_numbers_from 1 (lines_of bytes)) (numbers_low (lines_of bytes) false 1 e)))
+
+-- where a line stands
+pub written-append : (front lines : List (List ℕ)) (l : ℕ) → written_from l (front ++ lines) ≡ written_from l front ++ written_from (l + length front) lines
+written-append [] lines l = let same : l ≡ l + 0 = omega arith in ap (λ n. written_from n lines) same
+written-append (line ∷ front) lines l =
+    let same : l + 1 + length front ≡ l + suc (length front) = omega arith in
+    ap (λ ls. written l line ++ ls) (written-append front lines (l + 1) ∙ ap (λ n. written_from (l + 1) front ++ written_from n lines) same)
+    ∙ sym (append_assoc (written l line) (written_from (l + 1) front) (written_from (l + suc (length front)) lines))
+
+pub record IsFine (l : ℕ) (line : List ℕ) : Type 0 where
+  pub inside : Bool
+  pub fine : fault_of inside l line ≡ None
+
+fine_there : (front : List (List ℕ)) (line : List ℕ) (back : List (List ℕ)) (inside : Bool) (l : ℕ) → first_bad_from inside l (front ++ line ∷ back) ≡ None → IsFine (l + length front) line
+fine_there [] line back inside l e =
+    let same : l ≡ l + 0 = omega arith in
+    subst (λ n. IsFine n line) same (record { inside = inside; fine = (split_bad l (fault_of inside l line) (first_bad_from (inside_after inside (words_of line)) (l + 1) back) e).0 })
+fine_there (other ∷ front) line back inside l e =
+    let same : l + 1 + length front ≡ l + suc (length front) = omega arith in
+    subst (λ n. IsFine n line) same (fine_there front line back (inside_after inside (words_of other)) (l + 1) (split_bad l (fault_of inside l other) (first_bad_from (inside_after inside (words_of other)) (l + 1) (front ++ line ∷ back)) e).1)
+
+pub fine_line : (bytes : List ℕ) → first_bad bytes ≡ None → (front : List (List ℕ)) (line : List ℕ) (back : List (List ℕ)) → lines_of bytes ≡ front ++ line ∷ back → IsFine (1 + length front) line
+unfolding first_bad
+fine_line bytes e front line back all = fine_there front line back false 1 (ap (first_bad_from false 1) (sym all) ∙ e)
+
+-- sound words
+pub graphic_by : (word : List ℕ) → list_all (λ b. nat_le 33 b && nat_le b 126) word ≡ true → Graphic word
+graphic_by [] e = tt
+graphic_by (b ∷ bs) e =
+    let parts = both (nat_le 33 b && nat_le b 126) (list_all (λ b. nat_le 33 b && nat_le b 126) bs) e in
+    let range = both (nat_le 33 b) (nat_le b 126) parts.0 in
+    let low : nat_le 33 b ≡ true = range.0 in
+    let high : nat_le b 126 ≡ true = range.1 in
+    ((grind (arith, nat_tests), grind (arith, nat_tests)), graphic_by bs parts.1)
+
+pub sound_at : (words : List (List ℕ)) (place : ℕ) → EachSound words → place < length words → (1 ≤ length (word_at words place)) × Graphic (word_at words place)
+sound_at [] place h low = absurd (omega (arith, low))
+sound_at (word ∷ words) zero h low = h.0
+sound_at (word ∷ words) (suc place) h low = sound_at words place h.1 (omega (arith, low))
+
+pub first_of_three : (a b c : Bool) → (a && b && c) ≡ true → a ≡ true
+first_of_three true b c e = refl
+first_of_three false b c e = absurd (cc)
+
+-- the lines of a `wget` line
+module _ (bytes : List ℕ) (fine : first_bad bytes ≡ None) (front : List (List ℕ)) (line : List ℕ) (back : List (List ℕ)) (all : lines_of bytes ≡ front ++ line ∷ back) (is : form_of (words_of line) ≡ Some Get) where
+  abbrev words : List (List ℕ)
+  words = words_of line
+
+  fits : Fits Get (1 + length front) line words
+  fits = let f = fine_line bytes fine front line back all in fits_of Get f.inside (1 + length front) line is f.fine
+
+  sound : (place : ℕ) → place < 5 → (1 ≤ length (word_at words place)) × Graphic (word_at words place)
+  sound place low = sound_at words place (sound_words line fits.printable) (let five = fits.count in omega (arith, low, five))
+
+  abbrev pub x : List ℕ
+  x = word_at words 0
+
+  expanded : expanded_lines (lines_of bytes) ≡ written_from 1 front ++ joined (x ∷ codes "=" ∷ codes "none" ∷ []) ∷ joined (x ∷ codes "=" ∷ codes "get" ∷ word_at words 3 ∷ word_at words 4 ∷ []) ∷ joined (x ∷ codes "=" ∷ codes "deref" ∷ x ∷ [])
+      ∷ (written_from (1 + length front + 1) back ++ final_lines (lines_of bytes))
+  expanded =
+      ap (λ ls. written_from 1 ls ++ final_lines (lines_of bytes)) all
+      ∙ ap (λ ls. ls ++ final_lines (lines_of bytes)) (written-append front (line ∷ back) 1 ∙ ap (λ m. written_from 1 front ++ (written_by m (1 + length front) line words ++ written_from (1 + length front + 1) back)) is)
+      ∙ append_assoc (written_from 1 front) (map joined (form_lines Get (1 + length front) words) ++ written_from (1 + length front + 1) back) (final_lines (lines_of bytes))
+
+  has_lines : HasLines (expansion bytes) (x ∷ codes "=" ∷ codes "none" ∷ []) (x ∷ codes "=" ∷ codes "get" ∷ word_at words 3 ∷ word_at words 4 ∷ []) (x ∷ codes "=" ∷ codes "deref" ∷ x ∷ [])
+  has_lines = record {
+    front = written_from 1 front;
+    one = joined (x ∷ codes "=" ∷ codes "none" ∷ []);
+    two = joined (x ∷ codes "=" ∷ codes "get" ∷ word_at words 3 ∷ word_at words 4 ∷ []);
+    three = joined (x ∷ codes "=" ∷ codes "deref" ∷ x ∷ []);
+    back = written_from (1 + length front + 1) back ++ final_lines (lines_of bytes);
+    all = expansion_lines bytes fine ∙ expanded;
+    first_is = words_of-joined (x ∷ codes "=" ∷ codes "none" ∷ []) (sound 0 (omega arith), ((omega arith, graphic_by (codes "=") refl), ((omega arith, graphic_by (codes "none") refl), tt)));
+    second_is = words_of-joined (x ∷ codes "=" ∷ codes "get" ∷ word_at words 3 ∷ word_at words 4 ∷ []) (sound 0 (omega arith), ((omega arith, graphic_by (codes "=") refl), ((omega arith, graphic_by (codes "get") refl), (sound 3 (omega arith), (sound 4 (omega arith), tt)))));
+    third_is = words_of-joined (x ∷ codes "=" ∷ codes "deref" ∷ x ∷ []) (sound 0 (omega arith), ((omega arith, graphic_by (codes "=") refl), ((omega arith, graphic_by (codes "deref") refl), (sound 0 (omega arith), tt))));
+  }
+
+  variable : is_variable x ≡ true
+  variable = first_of_three (is_variable x) (is_value_beside x (word_at words 3)) (is_value_beside x (word_at words 4)) fits.fit
+
+pub expanded_looks : ExpandedLooksAreCommands
+expanded_looks bytes fine texts items e front line back all is =
+    look_lines (expansion bytes) texts items e (word_at (words_of line) 0) (word_at (words_of line) 3) (word_at (words_of line) 4) (variable bytes fine front line back all is) (has_lines bytes fine front line back all is)

@@ -1,0 +1,183 @@
+-- What three lines of a script say, one after the other, and where their commands stand.
+use Rattle.std.proofs.Common.{◌≡◌, ℕ, ◌+◌, List, [], ◌∷◌, ◌++◌, length, map, Bool, true, false, not, ◌||◌, ◌==◌, Option, Some, None, refl, sym, ap, subst, ◌∙◌, inl, inr, ◌⊎◌}
+use Rattle.std.specs.Prelude.{if◌then◌else◌, nat_lt}
+use Rattle.std.specs.List.{list_all}
+use Rattle.cg_script.specs.declared.item.Item.{Item}
+use Rattle.cg_script.specs.declared.item.Item.TheVariants as variants
+use Rattle.cg_script.specs.declared.command.Command.{Command}
+use Rattle.cg_script.specs.declared.form.Form.{Form}
+use Rattle.cg_script.specs.declared.part.Said.{Said}
+use Rattle.cg_script.specs.declared.part.Said.TheVariants.{Declares, Begins, Ends, Does}
+use Rattle.cg_script.specs.Items.{commands_of}
+use Rattle.cg_script.specs.Pieces.{words_of}
+use Rattle.cg_script.specs.Words.{is_printable}
+use Rattle.cg_script.specs.Meanings.{Meaning, passed, says, bad, worded, is_passed, meaning}
+use Rattle.cg_script.specs.Parts.{Known, parts_of}
+use Rattle.cg_script.specs.Commands.{said}
+use Rattle.cg_script.specs.Reading.{fault_in, says_or_bad, checked, meant, known_after, Lines, good, spoilt, also_said, with_later, lines_from, body_of, items_of}
+use Rattle.cg_script.specs.Views.{is_placed, inside_behind}
+use Rattle.cg_script.proofs.Says.{not_bad, not_passed}
+use Rattle.cg_script.proofs.GoodLines.{faultless}
+use Rattle.cg_script.proofs.Grouped.{placed, inside_said}
+use Rattle.cg_weakcoll.specs.MapLines.{StandTogether, Outside, InProcedure}
+
+-- what the first of some good lines means, and that the others are good behind it
+pub data First (known : Known) (number : ℕ) (line : List ℕ) (lines texts : List (List ℕ)) (saids : List Said) : Type 0 where
+  Passes : passed ≡ meaning number line → lines_from known (number + 1) lines ≡ good texts saids → First known number line lines texts saids
+  Says : (form : Form) (words : List (List ℕ)) (later : List Said) → says form words ≡ meaning number line → fault_in known form words ≡ None → said form (parts_of known form words) ∷ later ≡ saids
+      → lines_from (known_after known form words) (number + 1) lines ≡ good texts later → First known number line lines texts saids
+
+meant_is : (known : Known) (number : ℕ) (line : List ℕ) → meant known number line ≡ checked known (meaning number line)
+unfolding meant
+meant_is known number line = refl
+
+module _ (known : Known) (number : ℕ) (line : List ℕ) (lines texts : List (List ℕ)) (saids : List Said) where
+  abbrev later_lines : Known → Lines
+  later_lines behind = lines_from behind (number + 1) lines
+
+  also : (form : Form) (words : List (List ℕ)) → says form words ≡ meaning number line → fault_in known form words ≡ None → (l : Lines) → later_lines (known_after known form words) ≡ l
+      → also_said (said form (parts_of known form words)) l ≡ good texts saids → First known number line lines texts saids
+  also form words m f (spoilt n c) el e = absurd (cc)
+  also form words m f (good ts ss) el e =
+      let same_texts : ts ≡ texts = cc in
+      let same_saids : said form (parts_of known form words) ∷ ss ≡ saids = cc in
+      Says form words ss m f same_saids (el ∙ ap (λ t. good t ss) same_texts)
+
+  by_fault : (form : Form) (words : List (List ℕ)) → says form words ≡ meaning number line → (fault : Option ℕ) → fault_in known form words ≡ fault
+      → with_later known number (says_or_bad fault form words) later_lines ≡ good texts saids → First known number line lines texts saids
+  by_fault form words m None f e = also form words m f (later_lines (known_after known form words)) refl e
+  by_fault form words m (Some code) f e = absurd (cc)
+
+  by_meaning : (m : Meaning) → m ≡ meaning number line → with_later known number (checked known m) later_lines ≡ good texts saids → First known number line lines texts saids
+  by_meaning passed em e = Passes em e
+  by_meaning (says form words) em e = by_fault form words em (fault_in known form words) refl e
+  by_meaning (bad code) em e = absurd (cc)
+
+  pub first_line : lines_from known number (line ∷ lines) ≡ good texts saids → First known number line lines texts saids
+  first_line e = by_meaning (meaning number line) refl (ap (λ m. with_later known number m later_lines) (sym (meant_is known number line)) ∙ e)
+
+-- a line that is not passed over means what its words mean
+pub means_words : (number : ℕ) (line : List ℕ) (form : Form) (words : List (List ℕ)) → says form words ≡ meaning number line → says form words ≡ worded (words_of line)
+unfolding meaning
+means_words number line form words e =
+    let a = not_bad (not (list_all is_printable line)) 1 _ form words e in
+    let b = not_bad (nat_lt 1024 (length line) || nat_lt 64 (length (words_of line)) || (number == 400001)) 5 _ form words a.1 in
+    (not_passed (is_passed (words_of line)) _ form words b.1).1
+
+never_bad : (b : Bool) (code : ℕ) (rest : Meaning) → passed ≡ (if b then bad code else rest) → passed ≡ rest
+never_bad true code rest e = absurd (cc)
+never_bad false code rest e = e
+
+is_passed_over : (b : Bool) (words : List (List ℕ)) → passed ≡ (if b then passed else worded words) → (b ≡ true) ⊎ (passed ≡ worded words)
+is_passed_over true words e = inl refl
+is_passed_over false words e = inr e
+
+-- where one is passed over, its words are, or mean nothing
+pub passes_words : (number : ℕ) (line : List ℕ) → passed ≡ meaning number line → (is_passed (words_of line) ≡ true) ⊎ (passed ≡ worded (words_of line))
+unfolding meaning
+passes_words number line e =
+    let a = never_bad (not (list_all is_printable line)) 1 _ e in
+    let b = never_bad (nat_lt 1024 (length line) || nat_lt 64 (length (words_of line)) || (number == 400001)) 5 _ a in
+    is_passed_over (is_passed (words_of line)) (words_of line) b
+
+-- what some lines in the middle say: what was said before, and from where the lines go on
+pub record Onward (texts : List (List ℕ)) (lines : List (List ℕ)) (saids : List Said) : Type 0 where
+  pub before : List Said
+  pub later : List Said
+  pub all : before ++ later ≡ saids
+  pub known : Known
+  pub number : ℕ
+  pub goes : lines_from known number lines ≡ good texts later
+
+pub onward : (front lines : List (List ℕ)) (known : Known) (number : ℕ) (texts : List (List ℕ)) (saids : List Said) → lines_from known number (front ++ lines) ≡ good texts saids → Onward texts lines saids
+onward [] lines known number texts saids e = record { before = []; later = saids; all = refl; known = known; number = number; goes = e }
+onward (line ∷ front) lines known number texts saids e = go (λ k n ss h. onward front lines k n texts ss h) (first_line known number line (front ++ lines) texts saids e)
+  where
+    go : ((k : Known) (n : ℕ) (ss : List Said) → lines_from k n (front ++ lines) ≡ good texts ss → Onward texts lines ss) → First known number line (front ++ lines) texts saids → Onward texts lines saids
+    go ih (Passes m rest) = let o = ih known (number + 1) saids rest in record { before = o.before; later = o.later; all = o.all; known = o.known; number = o.number; goes = o.goes }
+    go ih (Says form words later m f is rest) =
+        let o = ih (known_after known form words) (number + 1) later rest in
+        record { before = said form (parts_of known form words) ∷ o.before; later = o.later; all = ap (λ l. said form (parts_of known form words) ∷ l) o.all ∙ is; known = o.known; number = o.number; goes = o.goes }
+
+-- declarations stand outside procedures, and `end` inside one
+abbrev pub AreNested : Bool → List Said → Type 0
+AreNested inside [] = Unit {0}
+AreNested inside (s ∷ ss) = (is_placed s inside ≡ true) × AreNested (inside_behind s inside) ss
+
+pub nested : (lines : List (List ℕ)) (known : Known) (number : ℕ) (texts : List (List ℕ)) (saids : List Said) → lines_from known number lines ≡ good texts saids → AreNested known.inside saids
+nested [] known number texts saids e = go known.inside refl e
+  where
+    go : (b : Bool) → known.inside ≡ b → (if b then spoilt number 7 else good known.texts []) ≡ good texts saids → AreNested known.inside saids
+    go true i k = absurd (cc)
+    go false i k = let none : [] ≡ saids = cc in subst (AreNested known.inside) none tt
+nested (line ∷ lines) known number texts saids e = go (λ k n ss h. nested lines k n texts ss h) (first_line known number line lines texts saids e)
+  where
+    go : ((k : Known) (n : ℕ) (ss : List Said) → lines_from k n lines ≡ good texts ss → AreNested k.inside ss) → First known number line lines texts saids → AreNested known.inside saids
+    go ih (Passes m rest) = ih known (number + 1) saids rest
+    go ih (Says form words later m f is rest) = subst (AreNested known.inside) is (
+      placed known form (parts_of known form words) (faultless known form words f).placed,
+      subst (λ b. AreNested b later) (sym (inside_said form (parts_of known form words) known.inside)) (ih (known_after known form words) (number + 1) later rest),
+    )
+
+-- where commands stand that are said one after the other
+pub data Stands (inside : Bool) (saids : List Said) (commands : List Command) : Type 0 where
+  InOpen : inside ≡ true → (front back : List Command) → body_of saids ≡ front ++ commands ++ back → Stands inside saids commands
+  InItems : StandTogether (items_of inside saids) commands → Stands inside saids commands
+
+-- one item more
+more_items : (item : Item) (items : List Item) (commands : List Command) → StandTogether items commands → StandTogether (item ∷ items) commands
+more_items (variants.Run c) items commands (Outside front back e) = Outside (c ∷ front) back (ap (λ l. c ∷ l) e)
+more_items (variants.Def p) items commands (Outside front back e) = Outside front back e
+more_items (variants.Profile n) items commands (Outside front back e) = Outside front back e
+more_items variants.Shutdown items commands (Outside front back e) = Outside front back e
+more_items (variants.Budget n) items commands (Outside front back e) = Outside front back e
+more_items (variants.Class c) items commands (Outside front back e) = Outside front back e
+more_items (variants.Run c) items commands (InProcedure p front back m e) = InProcedure p front back m e
+more_items (variants.Def q) items commands (InProcedure p front back m e) = InProcedure p front back (inr m) e
+more_items (variants.Profile n) items commands (InProcedure p front back m e) = InProcedure p front back m e
+more_items variants.Shutdown items commands (InProcedure p front back m e) = InProcedure p front back m e
+more_items (variants.Budget n) items commands (InProcedure p front back m e) = InProcedure p front back m e
+more_items (variants.Class c) items commands (InProcedure p front back m e) = InProcedure p front back m e
+
+abbrev pub does_all : List Command → List Said
+does_all commands = map (λ c. Does c) commands
+
+run_all : (commands : List Command) (later : List Said) → commands_of (items_of false (does_all commands ++ later)) ≡ commands ++ commands_of (items_of false later)
+run_all [] later = refl
+run_all (c ∷ commands) later = ap (λ l. c ∷ l) (run_all commands later)
+
+body_all : (commands : List Command) (later : List Said) → body_of (does_all commands ++ later) ≡ commands ++ body_of later
+body_all [] later = refl
+body_all (c ∷ commands) later = ap (λ l. c ∷ l) (body_all commands later)
+
+module _ (commands : List Command) (later : List Said) where
+  more_said : (s : Said) (inside : Bool) (saids : List Said) → is_placed s inside ≡ true → Stands (inside_behind s inside) saids commands → Stands inside (s ∷ saids) commands
+  more_said (Does c) true saids p (InOpen i front back e) = InOpen refl (c ∷ front) back (ap (λ l. c ∷ l) e)
+  more_said (Does c) false saids p (InOpen i front back e) = absurd (let no : false ≡ true = i in cc)
+  more_said (Does c) true saids p (InItems t) = InItems t
+  more_said (Does c) false saids p (InItems t) = InItems (more_items (variants.Run c) (items_of false saids) commands t)
+  more_said (Declares item) true saids p s = absurd (let no : false ≡ true = p in cc)
+  more_said (Declares item) false saids p (InOpen i front back e) = absurd (let no : false ≡ true = i in cc)
+  more_said (Declares item) false saids p (InItems t) = InItems (more_items item (items_of false saids) commands t)
+  more_said (Begins name) true saids p s = absurd (let no : false ≡ true = p in cc)
+  more_said (Begins name) false saids p (InOpen i front back e) = InItems (InProcedure (record { name = name; body = body_of saids }) front back (inl refl) e)
+  more_said (Begins name) false saids p (InItems t) = InItems (more_items (variants.Def (record { name = name; body = body_of saids })) (items_of true saids) commands t)
+  more_said Ends true saids p (InOpen i front back e) = absurd (let no : false ≡ true = i in cc)
+  more_said Ends true saids p (InItems t) = InItems t
+  more_said Ends false saids p s = absurd (let no : false ≡ true = p in cc)
+
+  here : (inside : Bool) → Stands inside (does_all commands ++ later) commands
+  here true = InOpen refl [] (body_of later) (body_all commands later)
+  here false = InItems (Outside [] (commands_of (items_of false later)) (run_all commands later))
+
+  stand_on : (before : List Said) (inside : Bool) → AreNested inside (before ++ (does_all commands ++ later)) → Stands inside (before ++ (does_all commands ++ later)) commands
+  stand_on [] inside n = here inside
+  stand_on (s ∷ before) inside n = more_said s inside (before ++ (does_all commands ++ later)) n.0 (stand_on before (inside_behind s inside) n.1)
+
+  outside_stand : (saids : List Said) → Stands false saids commands → StandTogether (items_of false saids) commands
+  outside_stand saids (InOpen i front back e) = absurd (let no : false ≡ true = i in cc)
+  outside_stand saids (InItems t) = t
+
+  -- commands that are said one after the other stand together
+  pub stand_together : (before : List Said) → AreNested false (before ++ (does_all commands ++ later)) → StandTogether (items_of false (before ++ (does_all commands ++ later))) commands
+  stand_together before n = outside_stand (before ++ (does_all commands ++ later)) (stand_on before false n)

@@ -1,0 +1,215 @@
+-- What a release, a death and the end of a frame do to weak references.
+use Rattle.std.proofs.Common.{◌≡◌, refl, sym, ap, subst, ℕ, ◌-◌, Bool, true, false, not, inl, inr, ◌⊎◌, List, [], ◌∷◌, ◌++◌, Option, Some, None}
+use Rattle.std.specs.Prelude.{◌==◌, ◌&&◌, if◌then◌else◌, is_some, slice_get, option_and_then, option_to_list, unwrap_or}
+use Rattle.std.proofs.lemmas.Bool.{eqb-true}
+use Rattle.cg_value.specs.declared.Entry.{Entry}
+use Rattle.cg_value.specs.declared.KindCode.TheVariants.{Weak}
+use Rattle.cg_value.specs.declared.Place.TheVariants.{Untracked, Gen}
+use Rattle.cg_script.specs.declared.Script.{Script}
+use Rattle.cg_graph.specs.Member.{Includes}
+use Rattle.cg_graph.specs.Value.{entry_references, last_entry, without_last}
+use Rattle.cg_graph.specs.Object.{Object, change, object_at, entries_of, marked, serials, with_entries, with_place, with_referent}
+use Rattle.cg_graph.proofs.Members.{Includes-append_right}
+use Rattle.cg_machine.specs.declared.event.Event.{Event}
+use Rattle.cg_machine.specs.declared.event.Event.TheVariants.{Alive, BudgetSpent, Enter, Free, Leave}
+use Rattle.cg_machine.specs.declared.event.FrameSort.{FrameSort}
+use Rattle.cg_machine.specs.declared.event.FrameSort.TheVariants.{Del, Legacy, Callback, Call}
+use Rattle.cg_machine.specs.declared.event.FrameSpec.{FrameSpec}
+use Rattle.cg_machine.specs.Program.{body_of, class_number, classes, finalizer_of, legacy_of}
+use Rattle.cg_machine.specs.World.{World, Activity, BudgetIsSpent, Framed, Releasing, Dying, Frame, Death, DyingPhase, Finalizer, AfterFinalizer, Clearing, Calling, AfterCall, LegacyFinalizer, AfterLegacy, Detaching, Emptying, push, with_stack, with_change}
+use Rattle.cg_machine.specs.Holdings.{in_degree, is_dying}
+use Rattle.cg_machine.specs.Frame.{Transition, frame_end, gives_up_function, begin_death, released, procedure_of}
+use Rattle.cg_machine.specs.Weak.{has_weak_references, weak_references_if, loses_referent, callback_of}
+use Rattle.cg_machine.specs.Dying.{death_at, has_finalizers, finalizer_to_run, run_finalizer, run_legacy, after_frame, clear_one, call_one, detach_one, empty_one, dying}
+use Rattle.cg_machine.specs.Run.{Step, StepOf}
+use Rattle.cg_machine.proofs.Lookups.{found_at}
+use Rattle.cg_machine.proofs.LeftRuns.{LeavesUnder}
+use Rattle.cg_promises.proofs.Told.{without_gone}
+use Rattle.cg_weakcoll.proofs.Wanes.{IsFading, is_frameless, IsLost, Waned, Never, Goes, wanes_for, same_waned, if_waned, place_waned, entries_waned, without_waned, lost_waned, lost_none, other_line, none_cleared, steady, clears, starts_going, either_going}
+
+-- a frame ends
+pub frame_end_going : (f : Frame) (u : World) → (let s : Transition = frame_end f u in Goes u.objects u.next_serial s.0 s.1)
+frame_end_going f u = by_sort f.sort f.function
+  where
+    by_sort : (sort : FrameSort) (function : Option ℕ) → Goes u.objects u.next_serial (Leave ∷ []) (gives_up_function sort function u)
+    by_sort Del function = steady u.objects u.next_serial (Leave ∷ []) u (other_line Leave tt) (same_waned Never u.objects)
+    by_sort Legacy function = steady u.objects u.next_serial (Leave ∷ []) u (other_line Leave tt) (same_waned Never u.objects)
+    by_sort Callback function = steady u.objects u.next_serial (Leave ∷ []) u (other_line Leave tt) (same_waned Never u.objects)
+    by_sort Call function = steady u.objects u.next_serial (Leave ∷ []) (push (Releasing (option_to_list function)) u) (other_line Leave tt) (same_waned Never u.objects)
+
+-- a release: what begins to die refers to nothing any more
+pub released_going : (references : List ℕ) (below : List Activity) (v : World) → (let s : Transition = released references below (with_stack (Releasing references ∷ below) v) in Goes v.objects v.next_serial s.0 s.1)
+released_going [] below v = steady v.objects v.next_serial [] (with_stack below v) none_cleared (same_waned Never v.objects)
+released_going (o ∷ references) below v = either_going v.objects v.next_serial (not (is_dying now o) && (in_degree now o == 0)) ([], begin_death o now) ([], now) dies (steady v.objects v.next_serial [] now none_cleared (same_waned Never v.objects))
+  where
+    now : World
+    now = with_stack (Releasing references ∷ below) v
+
+    dead : Object → Object
+    dead x = with_referent None (with_place Untracked x)
+
+    began : Death
+    began = record { object = o; phase = Finalizer }
+
+    waned : Waned (λ n. o ≡ n) v.objects (change dead o v.objects)
+    waned = if_waned (λ n. o ≡ n) dead (λ x. x.serial == o) (λ x e. record { serial = refl; code = refl; referent = inr (refl, sym (eqb-true x.serial o e)) }) v.objects
+
+    fading : (n : ℕ) → o ≡ n → IsFading (Dying began ∷ Releasing references ∷ below) n
+    fading n e = record { death = began; member = inl refl; object = e; frameless = refl }
+
+    dies : Goes v.objects v.next_serial [] (begin_death o now)
+    dies = record {
+      was = λ y m. let x = waned y m in inl (x.0, x.1, wanes_for (λ n. o ≡ n) (IsLost [] (Dying began ∷ Releasing references ∷ below)) (λ n e. inr (fading n e)) x.0 y x.2);
+      cleared = λ n m. absurd m;
+    }
+
+-- a death
+module _ (script : Script) (o : ℕ) (below : List Activity) (v : World) where
+  abbrev at : DyingPhase → World
+  at phase = death_at o phase below v
+
+  abbrev Does : Transition → Type 0
+  Does t = Goes v.objects v.next_serial t.0 t.1
+
+  silent : (after : World) → Waned Never v.objects after.objects → Does ([], after)
+  silent after waned = steady v.objects v.next_serial [] after none_cleared waned
+
+  same : Waned Never v.objects v.objects
+  same = same_waned Never v.objects
+
+  revived : Waned Never v.objects (change (λ x. marked (with_place (Gen 0) x)) o v.objects)
+  revived = if_waned Never (λ x. marked (with_place (Gen 0) x)) (λ x. x.serial == o) (λ x e. record { serial = refl; code = refl; referent = inl refl }) v.objects
+
+  finalizer_going : (m : Option ℕ) → Does (run_finalizer script o below (at Finalizer) m)
+  finalizer_going None = silent (at (Clearing [])) same
+  finalizer_going (Some p) = starts_going v.objects v.next_serial script (record { sort = Del; proc = p; subject = o; func = None }) (death_at o AfterFinalizer below (with_change (λ x. marked (with_place (Gen 0) x)) o (at Finalizer))) revived
+
+  after_frame_going : (phase next : DyingPhase) → Does (after_frame o next below (at phase))
+  after_frame_going phase next = either_going v.objects v.next_serial (in_degree (at next) o == 0) ([], with_change (with_place Untracked) o (at next)) (Alive o ∷ [], with_stack below (at phase))
+      (silent (with_change (with_place Untracked) o (at next)) (place_waned Untracked o v.objects))
+      (steady v.objects v.next_serial (Alive o ∷ []) (with_stack below (at phase)) (other_line (Alive o) tt) same)
+
+  clearing_going : (waiting weaks : List ℕ) → Does (clear_one o waiting below (at (Clearing waiting)) weaks)
+  clearing_going waiting [] = silent (at (Calling waiting)) same
+  clearing_going waiting (weak ∷ weaks) = clears v.objects v.next_serial weak (death_at o (Clearing (waiting ++ (if is_some (callback_of v.objects weak) then weak ∷ [] else []))) below (record (at (Clearing waiting)) { objects = loses_referent weak v.objects })) (lost_waned weak v.objects) (lost_none weak v.objects)
+
+  calling_going : (waiting : List ℕ) → Does (call_one script o below (at (Calling waiting)) waiting)
+  calling_going [] = silent (at LegacyFinalizer) same
+  calling_going (weak ∷ waiting) =
+      let callback = unwrap_or (callback_of v.objects weak) 0 in
+      starts_going v.objects v.next_serial script (record { sort = Callback; proc = procedure_of (at (Calling (weak ∷ waiting))) callback; subject = weak; func = Some callback }) (death_at o (AfterCall weak callback waiting) below (with_change (with_entries []) weak (at (Calling (weak ∷ waiting)))))
+      (entries_waned [] weak v.objects)
+
+  legacy_going : (m : Option ℕ) → Does (run_legacy script o below (at LegacyFinalizer) m)
+  legacy_going None = silent (at Detaching) same
+  legacy_going (Some p) = starts_going v.objects v.next_serial script (record { sort = Legacy; proc = p; subject = o; func = None }) (death_at o AfterLegacy below (with_change (with_place (Gen 0)) o (at LegacyFinalizer))) (place_waned (Gen 0) o v.objects)
+
+  detaching_going : (weaks : List ℕ) → Does (detach_one o below (at Detaching) weaks)
+  detaching_going [] = silent (at Emptying) same
+  detaching_going (weak ∷ weaks) = clears v.objects v.next_serial weak (death_at o Detaching below (record (at Detaching) { objects = loses_referent weak v.objects })) (lost_waned weak v.objects) (lost_none weak v.objects)
+
+  emptying_going : (m : Option Entry) → Does (empty_one o below (at Emptying) m)
+  emptying_going None = steady v.objects v.next_serial (Free o ∷ []) (empty_one o below (at Emptying) None).1 (other_line (Free o) tt) (without_waned o v.objects)
+  emptying_going (Some entry) = silent (push (Releasing (entry_references entry)) (death_at o Emptying below (with_change (with_entries (without_last (entries_of v.objects o))) o v))) (entries_waned (without_last (entries_of v.objects o)) o v.objects)
+
+  pub dying_going : (phase : DyingPhase) → Does (dying script o phase below (at phase))
+  dying_going Finalizer = finalizer_going (option_and_then (finalizer_to_run script) (object_at v.objects o))
+  dying_going AfterFinalizer = after_frame_going AfterFinalizer (Clearing [])
+  dying_going (Clearing waiting) = clearing_going waiting (weak_references_if has_weak_references v.objects o)
+  dying_going (Calling waiting) = calling_going waiting
+  dying_going (AfterCall weak callback waiting) = silent (push (Releasing (callback ∷ weak ∷ [])) (at (Calling waiting))) same
+  dying_going LegacyFinalizer = legacy_going (option_and_then (legacy_of script) (object_at v.objects o))
+  dying_going AfterLegacy = after_frame_going AfterLegacy Detaching
+  dying_going Detaching = detaching_going (weak_references_if (has_finalizers script) v.objects o)
+  dying_going Emptying = emptying_going (last_entry (entries_of v.objects o))
+
+-- A weak reference has no finalizer: its death goes on until it is gone.
+abbrev pub IsWeak : List Object → ℕ → Type 0
+IsWeak objects n = (x : Object) → Includes objects x → x.serial ≡ n → x.code ≡ Weak
+
+no_finalizer : (script : Script) (x : Object) → x.code ≡ Weak → finalizer_of script x ≡ None
+no_finalizer script x e = ap (λ k. option_and_then (λ c. c.del) (option_and_then (λ c. slice_get (classes script.items) c) (class_number k x.class))) e
+
+no_legacy : (script : Script) (x : Object) → x.code ≡ Weak → legacy_of script x ≡ None
+no_legacy script x e = ap (λ k. option_and_then (λ c. c.legacy) (option_and_then (λ c. slice_get (classes script.items) c) (class_number k x.class))) e
+
+none_to_run : (script : Script) (objects : List Object) (n : ℕ) → IsWeak objects n → option_and_then (finalizer_to_run script) (object_at objects n) ≡ None
+none_to_run script objects n weak = go (object_at objects n) refl
+  where
+    by_mark : (b : Bool) (m : Option ℕ) → m ≡ None → (if b then None else m) ≡ None
+    by_mark true m e = refl
+    by_mark false m e = e
+
+    go : (m : Option Object) → object_at objects n ≡ m → option_and_then (finalizer_to_run script) m ≡ None
+    go None e = refl
+    go (Some x) e = let f = found_at objects n x e in by_mark x.finalized (finalizer_of script x) (no_finalizer script x (weak x f.0 f.1))
+
+none_legacy : (script : Script) (objects : List Object) (n : ℕ) → IsWeak objects n → option_and_then (legacy_of script) (object_at objects n) ≡ None
+none_legacy script objects n weak = go (object_at objects n) refl
+  where
+    go : (m : Option Object) → object_at objects n ≡ m → option_and_then (legacy_of script) m ≡ None
+    go None e = refl
+    go (Some x) e = let f = found_at objects n x e in no_legacy script x (weak x f.0 f.1)
+
+-- it is dying still, or gone
+abbrev pub FadesOrGoes : ℕ → World → Type 0
+FadesOrGoes n after = IsFading after.stack n ⊎ (¬ Includes (serials after.objects) n)
+
+-- a frame starts, by whether the budget is spent
+abbrev start_with : Script → FrameSpec → World → Bool → Transition
+start_with script spec u b = if b then (BudgetSpent ∷ [], record u { outcome = BudgetIsSpent }) else (Enter spec.sort spec.subject ∷ [], record u { budget = u.budget - 1; stack = Framed (record { sort = spec.sort; subject = spec.subject; function = spec.func; commands = body_of script spec.proc }) ∷ u.stack })
+
+module _ (script : Script) (o : ℕ) (below : List Activity) (w : World) (weak : IsWeak w.objects o) where
+  on_top : (phase : DyingPhase) (after : World) (st : List Activity) → is_frameless phase ≡ true → after.stack ≡ Dying (record { object = o; phase = phase }) ∷ st → FadesOrGoes o after
+  on_top phase after st e is = inl (record { death = record { object = o; phase = phase }; member = subst (λ s. Includes s (Dying (record { object = o; phase = phase }))) (sym is) (inl refl); object = refl; frameless = e })
+
+  under_one : (phase : DyingPhase) (after : World) (a : Activity) (st : List Activity) → is_frameless phase ≡ true → after.stack ≡ a ∷ Dying (record { object = o; phase = phase }) ∷ st → FadesOrGoes o after
+  under_one phase after a st e is = inl (record { death = record { object = o; phase = phase }; member = subst (λ s. Includes s (Dying (record { object = o; phase = phase }))) (sym is) (inr (inl refl)); object = refl; frameless = e })
+
+  clearing_fades : (waiting weaks : List ℕ) → FadesOrGoes o (clear_one o waiting below w weaks).1
+  clearing_fades waiting [] = on_top (Calling waiting) (clear_one o waiting below w []).1 below refl refl
+  clearing_fades waiting (x ∷ weaks) = on_top (Clearing (waiting ++ (if is_some (callback_of w.objects x) then x ∷ [] else []))) (clear_one o waiting below w (x ∷ weaks)).1 below refl refl
+
+  calling_fades : (waiting : List ℕ) → FadesOrGoes o (call_one script o below w waiting).1
+  calling_fades [] = on_top LegacyFinalizer (call_one script o below w []).1 below refl refl
+  calling_fades (x ∷ waiting) = go (w.budget == 0)
+    where
+      callback : ℕ
+      callback = unwrap_or (callback_of w.objects x) 0
+
+      u : World
+      u = death_at o (AfterCall x callback waiting) below (with_change (with_entries []) x w)
+
+      go : (b : Bool) → FadesOrGoes o (start_with script (record { sort = Callback; proc = procedure_of w callback; subject = x; func = Some callback }) u b).1
+      go true = on_top (AfterCall x callback waiting) (start_with script (record { sort = Callback; proc = procedure_of w callback; subject = x; func = Some callback }) u true).1 below refl refl
+      go false = under_one (AfterCall x callback waiting) (start_with script (record { sort = Callback; proc = procedure_of w callback; subject = x; func = Some callback }) u false).1 _ below refl refl
+
+  detaching_fades : (weaks : List ℕ) → FadesOrGoes o (detach_one o below w weaks).1
+  detaching_fades [] = on_top Emptying (detach_one o below w []).1 below refl refl
+  detaching_fades (x ∷ weaks) = on_top Detaching (detach_one o below w (x ∷ weaks)).1 below refl refl
+
+  emptying_fades : (m : Option Entry) → FadesOrGoes o (empty_one o below w m).1
+  emptying_fades None = inr (without_gone o w.objects)
+  emptying_fades (Some entry) = under_one Emptying (empty_one o below w (Some entry)).1 (Releasing (entry_references entry)) below refl refl
+
+  dying_fades : (phase : DyingPhase) → is_frameless phase ≡ true → FadesOrGoes o (dying script o phase below w).1
+  dying_fades Finalizer e = subst (λ m. FadesOrGoes o (run_finalizer script o below w m).1) (sym (none_to_run script w.objects o weak)) (on_top (Clearing []) (run_finalizer script o below w None).1 below refl refl)
+  dying_fades AfterFinalizer e = absurd (let no : false ≡ true = e in cc)
+  dying_fades (Clearing waiting) e = clearing_fades waiting (weak_references_if has_weak_references w.objects o)
+  dying_fades (Calling waiting) e = calling_fades waiting
+  dying_fades (AfterCall x callback waiting) e = under_one (Calling waiting) (dying script o (AfterCall x callback waiting) below w).1 (Releasing (callback ∷ x ∷ [])) below refl refl
+  dying_fades LegacyFinalizer e = subst (λ m. FadesOrGoes o (run_legacy script o below w m).1) (sym (none_legacy script w.objects o weak)) (on_top Detaching (run_legacy script o below w None).1 below refl refl)
+  dying_fades AfterLegacy e = absurd (let no : false ≡ true = e in cc)
+  dying_fades Detaching e = detaching_fades (weak_references_if (has_finalizers script) w.objects o)
+  dying_fades Emptying e = emptying_fades (last_entry (entries_of w.objects o))
+
+module _ (script : Script) (w : World) (events : List Event) (after : World) (n : ℕ) (weak : IsWeak w.objects n) where
+  on_stack : (stack : List Activity) → StepOf script w stack events after → LeavesUnder w stack after → (d : Death) → Includes stack (Dying d) → d.object ≡ n → is_frameless d.phase ≡ true → FadesOrGoes n after
+  on_stack [] step leaves d m e frameless = absurd m
+  on_stack (a ∷ below) step leaves d (inr m) e frameless = inl (record { death = d; member = subst (λ st. Includes st (Dying d)) (sym leaves.stack) (Includes-append_right leaves.tops below (Dying d) m); object = e; frameless = frameless })
+  on_stack (a ∷ below) step leaves d (inl i) e frameless =
+      let dies = subst (λ b. StepOf script w (b ∷ below) events after) i step in
+      subst (FadesOrGoes n) (sym dies.1) (subst (λ k. FadesOrGoes k (dying script d.object d.phase below w).1) e (dying_fades script d.object below w (subst (IsWeak w.objects) (sym e) weak) d.phase frameless))
+
+  pub step_fades : Step script w events after → LeavesUnder w w.stack after → IsFading w.stack n → FadesOrGoes n after
+  step_fades step leaves f = on_stack w.stack step.step leaves f.death f.member f.object f.frameless

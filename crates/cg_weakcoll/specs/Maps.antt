@@ -1,0 +1,179 @@
+-- What weak value maps answer, in every run. The lines `wset` and `wget` become three commands each: here is what these do.
+-- (Ours, after CPython's `weakref.WeakValueDictionary`. There an entry goes with its value; here the entry of a dead value
+-- stays, and `wget` answers none.)
+use Rattle.std.specs.Prelude.{◌≡◌, ℕ, false, List, [], ◌∷◌, ◌++◌, Option, Some, None, count_by}
+use Rattle.cg_value.specs.declared.Val.{Val}
+use Rattle.cg_value.specs.declared.Val.TheVariants.{None as Nothing, Ref}
+use Rattle.cg_value.specs.declared.KindCode.TheVariants.{Weak}
+use Rattle.cg_script.specs.declared.Script.{Script}
+use Rattle.cg_script.specs.Texts.{TextsAreKnown}
+use Rattle.cg_script.specs.declared.Operand.{Operand}
+use Rattle.cg_script.specs.declared.Operand.TheVariants.{None as NoneWord, Name}
+use Rattle.cg_script.specs.declared.Command.{Command}
+use Rattle.cg_script.specs.declared.Command.TheVariants.{MakeRef, Bind, Del, Put, Get, Deref}
+use Rattle.cg_graph.specs.Member.{Includes}
+use Rattle.cg_graph.specs.Object.{Object, entries_of}
+use Rattle.cg_graph.specs.Value.{value_at}
+use Rattle.cg_machine.specs.declared.event.Event.{Event}
+use Rattle.cg_machine.specs.declared.event.Event.TheVariants.{Made, Cleared, Refused}
+use Rattle.cg_machine.specs.World.{World, Activity}
+use Rattle.cg_machine.specs.Holdings.{is_dying}
+use Rattle.cg_machine.specs.Operands.{value_of}
+use Rattle.cg_machine.specs.Origins.{commands_on}
+use Rattle.cg_machine.specs.Due.{due}
+use Rattle.cg_machine.specs.Run.{StepTaken, IsRun, last_world, events_of, world_after}
+use Rattle.cg_machine.specs.Laws.{is_enter}
+
+-- the commands of `wset M k v`: the weak reference has a name until it is in the map
+abbrev pub wset_commands : ℕ → Operand → Operand → Operand → List Command
+wset_commands temporary map key v = MakeRef temporary v NoneWord ∷ Put map key (Name temporary) ∷ Del temporary ∷ []
+
+-- the commands of `x = wget M k`
+abbrev pub wget_commands : ℕ → Operand → Operand → List Command
+wget_commands x map key = Bind x NoneWord ∷ Get x map key ∷ Deref x (Name x) ∷ []
+
+-- A step takes the first of the commands that are left to the activity on top of others, and it is not refused.
+pub record Takes (w : World) (left : List Command) (below : List Activity) (step : StepTaken) : Type 0 where
+  pub top : Activity
+  pub stack : w.stack ≡ top ∷ below
+  pub commands : commands_on top ≡ left
+  pub not_due : due w ≡ None
+  pub accepted : (n : ℕ) → ¬ Includes step.events (Refused n)
+
+-- A step takes `t = ref v f`, and makes a weak reference of the object that v is.
+pub record MakesWeak (w : World) (made : StepTaken) (weak object : ℕ) : Type 0 where
+  pub name : ℕ
+  pub target : Operand
+  pub callback : Operand
+  pub rest : List Command
+  pub below : List Activity
+  pub takes : Takes w (MakeRef name target callback ∷ rest) below made
+  pub target_is : value_of w target ≡ Some (Ref object)
+  pub line : made.events ≡ Made Weak weak ∷ []
+
+-- A weak reference to an object has it still, or none, by the lines since it was made. One that is dying has none.
+pub record RefersBy (since : List Event) (weak object : ℕ) (w : World) : Type 0 where
+  pub uncleared : ¬ Includes since (Cleared weak) → is_dying w weak ≡ false → (y : Object) → Includes w.objects y → y.serial ≡ weak → y.referent ≡ Some object
+  pub cleared : Includes since (Cleared weak) → (y : Object) → Includes w.objects y → y.serial ≡ weak → y.referent ≡ None
+
+-- A weak reference refers to what it was made of until the line that it is cleared, and never again after it.
+abbrev pub WeakReferencesKeepTheirReferents : Type 0
+WeakReferencesKeepTheirReferents = (script : Script) (budget : ℕ) (before : List StepTaken) (made : StepTaken) (after : List StepTaken) → IsRun script budget (before ++ made ∷ after)
+    → (weak object : ℕ) → MakesWeak (world_after script budget before) made weak object → RefersBy (events_of after) weak object (last_world made.world after)
+
+-- The steps in which a run takes the three commands of a `wget`, and those between them.
+pub record Look : Type 0 where
+  pub first : StepTaken
+  pub early : List StepTaken
+  pub second : StepTaken
+  pub late : List StepTaken
+  pub third : StepTaken
+
+-- up to the third command, and all of them
+abbrev pub steps_before_third : Look → List StepTaken
+steps_before_third look = look.first ∷ look.early ++ look.second ∷ look.late
+
+abbrev pub steps_of : Look → List StepTaken
+steps_of look = steps_before_third look ++ look.third ∷ []
+
+-- the worlds before the second command and before the third
+abbrev pub before_second : Look → World
+before_second look = last_world look.first.world look.early
+
+abbrev pub before_third : Look → World
+before_third look = last_world look.second.world look.late
+
+-- From a world on they are those of `x = wget M k`: none is refused, and no frame begins from the second to the third.
+pub record Looks (w : World) (x : ℕ) (map key : Operand) (look : Look) : Type 0 where
+  pub rest : List Command
+  pub below : List Activity
+  pub binds : Takes w (wget_commands x map key ++ rest) below look.first
+  pub gets : Takes (before_second look) (Get x map key ∷ Deref x (Name x) ∷ rest) below look.second
+  pub derefs : Takes (before_third look) (Deref x (Name x) ∷ rest) below look.third
+  pub no_frame : count_by is_enter (events_of (look.second ∷ look.late)) ≡ 0
+
+-- From a world on these steps take the first two commands of `x = wget M k`: no frame begins from the first to the second, and that is refused, as it
+-- is where the map has no such key.
+pub record Misses (w : World) (x : ℕ) (map key : Operand) (first : StepTaken) (early : List StepTaken) (second : StepTaken) : Type 0 where
+  pub rest : List Command
+  pub below : List Activity
+  pub binds : Takes w (wget_commands x map key ++ rest) below first
+  pub no_frame : count_by is_enter (events_of (first ∷ early)) ≡ 0
+  pub top : Activity
+  pub stack : (last_world first.world early).stack ≡ top ∷ below
+  pub commands : commands_on top ≡ Get x map key ∷ Deref x (Name x) ∷ rest
+  pub not_due : due (last_world first.world early) ≡ None
+  pub number : ℕ
+  pub refused : Includes second.events (Refused number)
+
+-- The variable is none then.
+abbrev pub MissesLeaveNone : Type 0
+MissesLeaveNone = (script : Script) (budget : ℕ) (before : List StepTaken) (first : StepTaken) (early : List StepTaken) (second : StepTaken) → TextsAreKnown script → IsRun script budget (before ++ first ∷ early ++ second ∷ [])
+    → (x : ℕ) (map key : Operand) → Misses (world_after script budget before) x map key first early second → value_of second.world (Name x) ≡ Some Nothing
+
+-- in a world the value under the key of a map is this weak reference
+pub record IsUnder (w : World) (map key : Operand) (weak : ℕ) : Type 0 where
+  pub dict : ℕ
+  pub at : Val
+  pub map_is : value_of w map ≡ Some (Ref dict)
+  pub key_is : value_of w key ≡ Some at
+  pub entry : value_at (entries_of w.objects dict) at ≡ Some (Ref weak)
+
+-- a referent that may be missing, as a value
+abbrev pub referent_value : Option ℕ → Val
+referent_value None = Nothing
+referent_value (Some o) = Ref o
+
+-- The variable is what the weak reference under the key refers to before the third command.
+pub record Finds (look : Look) (x : ℕ) (map key : Operand) : Type 0 where
+  pub weak : ℕ
+  pub under : IsUnder (before_second look) map key weak
+  pub reference : Object
+  pub member : Includes (before_third look).objects reference
+  pub serial : reference.serial ≡ weak
+  pub code : reference.code ≡ Weak
+  pub value : value_of look.third.world (Name x) ≡ Some (referent_value reference.referent)
+
+-- So it is after every `wget`.
+abbrev pub LooksFindReferents : Type 0
+LooksFindReferents = (script : Script) (budget : ℕ) (before : List StepTaken) (look : Look) → IsRun script budget (before ++ steps_of look)
+    → (x : ℕ) (map key : Operand) → Looks (world_after script budget before) x map key look → Finds look x map key
+
+-- the variable is the object, or none, by the lines since the weak reference to it was made
+pub record Answers (since : List Event) (weak object x : ℕ) (w : World) : Type 0 where
+  pub uncleared : ¬ Includes since (Cleared weak) → value_of w (Name x) ≡ Some (Ref object)
+  pub cleared : Includes since (Cleared weak) → value_of w (Name x) ≡ Some Nothing
+
+-- A `wget` answers the object whose weak reference is under the key, exactly where that was not cleared since it was made.
+abbrev pub LooksAnswer : Type 0
+LooksAnswer = (script : Script) (budget : ℕ) (before : List StepTaken) (made : StepTaken) (between : List StepTaken) (look : Look) → IsRun script budget (before ++ made ∷ between ++ steps_of look)
+    → (weak object : ℕ) → MakesWeak (world_after script budget before) made weak object
+    → (x : ℕ) (map key : Operand) → Looks (world_after script budget (before ++ made ∷ between)) x map key look → IsUnder (before_second look) map key weak
+    → Answers (events_of (between ++ steps_before_third look)) weak object x look.third.world
+
+-- The steps in which a run takes the first two commands of a `wset`, and those between them.
+pub record Store : Type 0 where
+  pub first : StepTaken
+  pub early : List StepTaken
+  pub second : StepTaken
+
+-- From a world on they are those of `wset M k v`: the first makes a weak reference of the object that v is, the second puts it into the map.
+pub record Stores (w : World) (temporary : ℕ) (map key v : Operand) (store : Store) (weak object : ℕ) : Type 0 where
+  pub rest : List Command
+  pub below : List Activity
+  pub makes : Takes w (wset_commands temporary map key v ++ rest) below store.first
+  pub target_is : value_of w v ≡ Some (Ref object)
+  pub line : store.first.events ≡ Made Weak weak ∷ []
+  pub puts : Takes (last_world store.first.world store.early) (Put map key (Name temporary) ∷ Del temporary ∷ rest) below store.second
+  pub put_is : value_of (last_world store.first.world store.early) (Name temporary) ≡ Some (Ref weak)
+
+-- all from the making of the weak reference on
+abbrev pub since_making : Store → List StepTaken → List StepTaken
+since_making store between = store.early ++ store.second ∷ between
+
+-- What `wset` put into a map `wget` finds, while the entry has it, exactly where it was not cleared since it was made.
+abbrev pub WeakMapsAnswer : Type 0
+WeakMapsAnswer = (script : Script) (budget : ℕ) (before : List StepTaken) (store : Store) (between : List StepTaken) (look : Look) → IsRun script budget (before ++ store.first ∷ since_making store between ++ steps_of look)
+    → (temporary : ℕ) (stored_map stored_key v : Operand) (weak object : ℕ) → Stores (world_after script budget before) temporary stored_map stored_key v store weak object
+    → (x : ℕ) (map key : Operand) → Looks (world_after script budget (before ++ store.first ∷ since_making store between)) x map key look → IsUnder (before_second look) map key weak
+    → Answers (events_of (since_making store between ++ steps_before_third look)) weak object x look.third.world
