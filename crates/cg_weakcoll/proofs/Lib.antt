@@ -35,3 +35,4 @@ pub mod ExpandedLines
 pub mod ExpandedStores
 pub mod WorkedCache
 pub mod MissLaws
+pub mod WorkedFinalizers

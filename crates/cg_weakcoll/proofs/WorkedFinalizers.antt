@@ -68,7 +68,7 @@ all_told e (c ∷ commands) passes command (inl is) = subst (IsOther e) is (othe
 all_told e (c ∷ commands) passes command (inr m) = all_told e commands (true_and (other_passes e c) (all_pass e commands) passes).1 command m
 
 bodies_told : (e : Exit) (n : ℕ) (procs : List Proc) → bodies_pass e n procs ≡ true → (i : ℕ) → n + i ≢ e.proc → AllOther e (unwrap_or (option_map (λ (x : Proc). x.body) (slice_get procs i)) [])
-bodies_told e n [] passes i apart command m = absurd m
+bodies_told e n [] passes i apart = λ command m. absurd m
 bodies_told e n (p ∷ procs) passes zero apart = either (true_or (n == e.proc) (all_pass e p.body) (true_and (n == e.proc || all_pass e p.body) (bodies_pass e (n + 1) procs) passes).0) (λ t. absurd (apart (let same = eqb-true n e.proc t in omega (arith, same)))) (all_told e p.body)
 bodies_told e n (p ∷ procs) passes (suc i) apart = bodies_told e (n + 1) procs (true_and (n == e.proc || all_pass e p.body) (bodies_pass e (n + 1) procs) passes).1 i (λ same. apart (omega (arith, same)))
 
@@ -83,12 +83,12 @@ first_there = record {
   middle = MakeFunc 14 2 [] ∷ Bind 13 (Name 2) ∷ MakeRef 12 (Name 4) (Name 13) ∷ Del 3 ∷ Call (Name 14) ∷ [];
   back = [];
   commands = refl;
-  front_other = all_told the_first _ refl;
-  middle_other = all_told the_first _ refl;
-  back_other = all_told the_first _ refl;
+  front_other = all_told the_first (MakeFunc 2 0 [] ∷ MakeInst 3 0 ∷ MakeInst 4 0 ∷ []) refl;
+  middle_other = all_told the_first (MakeFunc 14 2 [] ∷ Bind 13 (Name 2) ∷ MakeRef 12 (Name 4) (Name 13) ∷ Del 3 ∷ Call (Name 14) ∷ []) refl;
+  back_other = all_told the_first [] refl;
   bodies_other = λ proc apart. bodies_told the_first 0 (procedures their_script.items) refl proc (λ same. apart (omega (arith, same)));
-  source_other = others_told the_first _ refl;
-  target_other = others_told the_first _ refl;
+  source_other = others_told the_first (operand_texts the_first.source) refl;
+  target_other = others_told the_first (operand_texts the_first.target) refl;
   classes_other = classes_told 1;
   watch_exit = λ i. omega (arith, i);
   watch_function = λ i. omega (arith, i);
@@ -105,12 +105,12 @@ second_there = record {
   middle = Del 3 ∷ [];
   back = Call (Name 9) ∷ [];
   commands = refl;
-  front_other = all_told the_second _ refl;
-  middle_other = all_told the_second _ refl;
-  back_other = all_told the_second _ refl;
+  front_other = all_told the_second (MakeFunc 2 0 [] ∷ MakeInst 3 0 ∷ MakeInst 4 0 ∷ MakeFunc 9 1 [] ∷ Bind 8 (Name 2) ∷ MakeRef 7 (Name 3) (Name 8) ∷ []) refl;
+  middle_other = all_told the_second (Del 3 ∷ []) refl;
+  back_other = all_told the_second (Call (Name 9) ∷ []) refl;
   bodies_other = λ proc apart. bodies_told the_second 0 (procedures their_script.items) refl proc (λ same. apart (omega (arith, same)));
-  source_other = others_told the_second _ refl;
-  target_other = others_told the_second _ refl;
+  source_other = others_told the_second (operand_texts the_second.source) refl;
+  target_other = others_told the_second (operand_texts the_second.target) refl;
   classes_other = classes_told 2;
   watch_exit = λ i. omega (arith, i);
   watch_function = λ i. omega (arith, i);

@@ -4,3 +4,4 @@ pub mod Words
 pub mod Maps
 pub mod MapLines
 pub mod Worked
+pub mod WorkedExits
