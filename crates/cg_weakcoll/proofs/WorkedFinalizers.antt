@@ -1,6 +1,6 @@
 -- The worked script with two exit finalizers, by computation.
-use Rattle.std.proofs.Common.{◌≡◌, ◌≢◌, refl, sym, ◌∙◌, ap, subst, ℕ, zero, suc, ◌+◌, Bool, true, false, not, ◌&&◌, ◌||◌, List, [], ◌∷◌, ◌++◌, Option, Some, None, inl, inr, arith}
-use Rattle.std.specs.Prelude.{◌==◌, option_map, slice_get, unwrap_or, map, reverse}
+use Rattle.std.proofs.Common.{◌≡◌, ◌≢◌, refl, sym, ◌∙◌, ap, subst, ℕ, zero, suc, ◌+◌, Bool, true, false, not, ◌&&◌, ◌||◌, List, [], ◌∷◌, Some, inl, inr, arith}
+use Rattle.std.specs.Prelude.{◌==◌, option_map, slice_get, unwrap_or}
 use Rattle.std.specs.Fmt.{digits}
 use Rattle.std.specs.List.{list_all}
 use Rattle.std.proofs.lemmas.Bool.{eq-eqb, eqb-true}
@@ -8,7 +8,6 @@ use Rattle.cg_script.specs.declared.ClassDef.{ClassDef}
 use Rattle.cg_script.specs.declared.Proc.{Proc}
 use Rattle.cg_script.specs.declared.Command.{Command}
 use Rattle.cg_script.specs.declared.Command.TheVariants.{Bind, Call, Del, MakeFunc, MakeInst, MakeRef}
-use Rattle.cg_script.specs.declared.Operand.{Operand}
 use Rattle.cg_script.specs.declared.Operand.TheVariants.{Name}
 use Rattle.cg_script.specs.Texts.{command_texts, operand_texts}
 use Rattle.cg_script.specs.Words.{atoms}
@@ -17,9 +16,9 @@ use Rattle.cg_script.specs.Meanings.{meaning}
 use Rattle.cg_script.specs.Reading.{meant, reading, spells}
 use Rattle.cg_graph.specs.Member.{Includes, includes}
 use Rattle.cg_graph.proofs.Members.{either, includes-of, true_and, true_or}
-use Rattle.cg_machine.specs.Program.{body_of, classes, commands_of, procedures}
+use Rattle.cg_machine.specs.Program.{classes, procedures}
 use Rattle.cg_weakcoll.specs.Expansion.{expansion}
-use Rattle.cg_weakcoll.specs.Exits.{AllOther, AreExits, AreOthers, Exit, IsExit, IsOther, final_calls, names_of}
+use Rattle.cg_weakcoll.specs.Exits.{AllOther, AreOthers, Exit, IsExit, IsOther, names_of}
 use Rattle.cg_weakcoll.specs.WorkedExits.{HasBoth, the_first, the_second, their_script, two_finalizers}
 
 spelled : reading (expansion two_finalizers) ≡ spells their_script.names their_script.items

@@ -1,9 +1,9 @@
 -- A worked script with two exit finalizers: what its expansion spells has them, as the laws of `Exits` ask. (Ours.)
-use Rattle.std.specs.Prelude.{◌≡◌, ℕ, pos, List, [], ◌∷◌, None, Some, codes}
+use Rattle.std.specs.Prelude.{◌≡◌, ℕ, pos, List, [], ◌∷◌, None, codes}
 use Rattle.cg_script.specs.declared.Script.{Script}
 use Rattle.cg_script.specs.declared.Operand.TheVariants.{Int as IntWord, Name}
 use Rattle.cg_script.specs.declared.Item.TheVariants.{Run as Line, Class, Def}
-use Rattle.cg_script.specs.declared.Command.TheVariants.{Bind, Call, Del, Deref, MakeFunc, MakeInst, MakeRef, Print, Quit}
+use Rattle.cg_script.specs.declared.Command.TheVariants.{Bind, Call, Del, MakeFunc, MakeInst, MakeRef, Print}
 use Rattle.cg_script.specs.Reading.{reading, spells}
 use Rattle.cg_weakcoll.specs.Expansion.{expansion}
 use Rattle.cg_weakcoll.specs.Exits.{AreExits, Exit, exit_body}

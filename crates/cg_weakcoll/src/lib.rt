@@ -13,7 +13,9 @@ mod pieces;
 mod worked;
 mod write;
 
-pub use exit_laws::{exits_are_called_last_first, exits_begin_alive, exits_begin_once, two_finalizers_are_there};
+pub use exit_laws::{
+    exits_are_called_last_first, exits_begin_alive, exits_begin_once, two_finalizers_are_there,
+};
 pub use expander::expand;
 pub use map_laws::{
     expanded_looks_are_commands, expanded_stores_are_commands, look_lines_are_commands,
