@@ -124,8 +124,11 @@ module _ (script : Script) (c : Collection) (below : List Activity) (v : World) 
         record {
           later = record { serial = refl; code = refl; class = refl; referent = inl refl };
           refers = λ n i. inl i;
-          place = λ f. inr (c.generation, Includes-map (λ (z : Object). z.serial) (objects_at (merged c.generation (at Start)).objects (Gen c.generation)) (in_merge x) there,
-              λ s. survivor_apart _ _ (subst IsFound (step.sorts.survivors (in_merge x) there s) f));
+          place = λ f. inr (
+            c.generation,
+            Includes-map (λ (z : Object). z.serial) (objects_at (merged c.generation (at Start)).objects (Gen c.generation)) (in_merge x) there,
+            λ s. survivor_apart _ _ (subst IsFound (step.sorts.survivors (in_merge x) there s) f),
+          );
         }
     one_started x m false t = record { later = record { serial = refl; code = refl; class = refl; referent = inl refl }; refers = λ n i. inl i; place = λ f. inl (merged_found c.generation x.place f) }
 
@@ -225,8 +228,8 @@ module _ (script : Script) (c : Collection) (below : List Activity) (v : World) 
   split_acts : (events : List Event) (after : World) → SplitStep c below (at Split) events after → Acts script (at Split) below events after
   split_acts events after step = to (at Split) after _ events step.world (goes Split (record c { collected = c.collected + length (serials_at step.objects Cand); phase = Turns }) events _ refl refl refl
       (grows_trans (at Split) v.objects (get_older c.generation step.alive v.objects) step.objects
-          (grows_if (at Split) (with_place (Gen (older c.generation))) (λ x. includes step.alive x.serial) v.objects (λ x m t. record { later = record { serial = refl; code = refl; class = refl; referent = inl refl }; refers = λ n i. inl i; place = λ f. absurd f }))
-          (all_lose_grows (at Split) _ step.cleared (get_older c.generation step.alive v.objects) step.objects step.lose))
+      (grows_if (at Split) (with_place (Gen (older c.generation))) (λ x. includes step.alive x.serial) v.objects (λ x m t. record { later = record { serial = refl; code = refl; class = refl; referent = inl refl }; refers = λ n i. inl i; place = λ f. absurd f }))
+      (all_lose_grows (at Split) _ step.cleared (get_older c.generation step.alive v.objects) step.objects step.lose))
       (λ weak m. absurd m) (λ n m. none_appended (map Alive step.alive) (map Cleared step.cleared) n (none_mapped Alive step.alive n (λ x e. cc)) (none_mapped Cleared step.cleared n (λ x e. cc)) (subst (λ (es : List Event). Includes es (Enter Callback n)) step.lines m)))
 
   -- what is saved is set aside

@@ -1,5 +1,5 @@
 -- Where the procedure of an exit finalizer finds its object alive, the function is called.
-use Rattle.std.proofs.Common.{◌≡◌, ◌≢◌, refl, sym, ◌∙◌, ap, subst, ℕ, zero, suc, ◌+◌, ◌-◌, ◌<◌, ◌≤◌, Bool, true, false, cond, inl, inr, ◌⊎◌, List, [], ◌∷◌, ◌++◌, length, Option, Some, None, arith}
+use Rattle.std.proofs.Common.{◌≡◌, ◌≢◌, refl, sym, ◌∙◌, ap, subst, ℕ, zero, suc, ◌+◌, ◌-◌, ◌<◌, Bool, true, false, cond, inl, inr, ◌⊎◌, List, [], ◌∷◌, ◌++◌, length, Option, Some, None, arith}
 use Rattle.std.specs.Prelude.{◌==◌, count_by, flat_map, if◌then◌else◌, option_and_then, slice_get, slice_set}
 use Rattle.std.proofs.lemmas.Bool.{eq-eqb}
 use Rattle.std.proofs.lemmas.List.Sums.{sum_by-cons}
@@ -10,7 +10,7 @@ use Rattle.cg_script.specs.declared.Script.{Script}
 use Rattle.cg_script.specs.declared.Command.{Command}
 use Rattle.cg_script.specs.declared.Command.TheVariants.{Call, Del, Deref, Quit}
 use Rattle.cg_script.specs.declared.Operand.TheVariants.{Name}
-use Rattle.cg_script.specs.Texts.{TextsAreKnown, command_texts}
+use Rattle.cg_script.specs.Texts.{TextsAreKnown}
 use Rattle.cg_graph.specs.Member.{Includes}
 use Rattle.cg_graph.specs.Object.{Object}
 use Rattle.cg_graph.proofs.Members.{either, Includes-append_cases, Includes-append_left}
@@ -18,13 +18,12 @@ use Rattle.cg_machine.specs.declared.event.Event.{Event}
 use Rattle.cg_machine.specs.declared.event.Event.TheVariants.{BudgetSpent, Enter, Refused}
 use Rattle.cg_machine.specs.declared.event.FrameSort.TheVariants.{Call as CallFrame}
 use Rattle.cg_machine.specs.Program.{body_of}
-use Rattle.cg_machine.specs.World.{World, Activity, Framed, Releasing, Frame, BudgetIsSpent, opening, push, with_stack}
+use Rattle.cg_machine.specs.World.{World, Activity, Framed, Releasing, Frame, BudgetIsSpent, opening, with_stack}
 use Rattle.cg_machine.specs.Frame.{Yields, procedure_of, start_frame}
-use Rattle.cg_machine.specs.Effects.{bound, given_up_by}
+use Rattle.cg_machine.specs.Effects.{given_up_by}
 use Rattle.cg_machine.specs.Commands.{CommandStep, new_collection}
-use Rattle.cg_machine.specs.Due.{due}
 use Rattle.cg_machine.specs.Laws.{is_enter}
-use Rattle.cg_machine.specs.Operands.{object_of, value_of}
+use Rattle.cg_machine.specs.Operands.{object_of}
 use Rattle.cg_machine.specs.Origins.{commands_on}
 use Rattle.cg_machine.specs.Run.{CommandInFrame, FrameStep, IsRun, Run, Step, StepOf, StepTaken, last_world, world_after}
 use Rattle.cg_machine.proofs.Ending.{Run-append, last_world-append}
@@ -35,7 +34,7 @@ use Rattle.cg_promises.proofs.ToldRuns.{run_back, run_front}
 use Rattle.cg_weakcoll.specs.Exits.{Exit, ExitsBeginAlive, FindsAlive, IsExit, IsUnderway, NoneRefused, calls_from, exit_body, first_of, is_call, is_refusal, next_command}
 use Rattle.cg_weakcoll.proofs.ExitRuns.{AllKnown, Early, early_opening, early_run, early_step, next_known, rests_names, sum_moved}
 use Rattle.cg_weakcoll.proofs.Names.{set_away}
-use Rattle.cg_weakcoll.proofs.Own.{IsCall, IsDeref, IsRefused, Quitted, call_step, del_step, deref_step, quit_step, referent_value}
+use Rattle.cg_weakcoll.proofs.Own.{IsDeref, Quitted, call_step, del_step, deref_step, quit_step, referent_value}
 use Rattle.cg_weakcoll.proofs.Stage.{AtCall, AtDeref, AtObject, AtQuit, AtWatch, IsTail}
 use Rattle.cg_weakcoll.proofs.Tame.{AllHigh, AreHidden, IsHigh, high_step}
 use Rattle.cg_weakcoll.proofs.WatchSteps.{name_value}
@@ -141,7 +140,7 @@ module _ (script : Script) (budget : ℕ) (e : Exit) (ex : IsExit script e) (bel
   alive_run calls early w [] run known h quiet alive = let same : calls ≡ calls + 0 = omega arith in subst (λ n. Alive n w) same alive
   alive_run calls early w (step ∷ steps) run known h quiet alive =
       let next = alive_run (calls + counts w step.events) (early + counts w step.events) step.world steps run.1 (next_known script budget w step run.0 known) (early_step script budget e ex early w step.events step.world (known [] tt) run.0 h) quiet.1
-          (alive_step w step.events step.world (known [] tt) h.hidden run.0 calls quiet.0 alive) in
+      (alive_step w step.events step.world (known [] tt) h.hidden run.0 calls quiet.0 alive) in
       subst (λ n. Alive n (last_world step.world steps)) (sum_moved calls (counts w step.events) (calls_from e.function step.world steps)) next
 
   tail_left : (cs : List Command) → IsTail e cs → cs ≢ []
@@ -170,7 +169,7 @@ module _ (script : Script) (budget : ℕ) (e : Exit) (ex : IsExit script e) (bel
     low : e.object < length w.names
     low =
         let member : Includes (flat_map commands_on w.stack) (Deref e.object (Name e.watch)) = subst (λ st. Includes (flat_map commands_on st) (Deref e.object (Name e.watch))) (sym finds.stack)
-            (Includes-append_left frame.commands (flat_map commands_on below) (Deref e.object (Name e.watch)) (subst (λ cs. Includes cs (Deref e.object (Name e.watch))) (sym finds.commands) (inl refl))) in
+        (Includes-append_left frame.commands (flat_map commands_on below) (Deref e.object (Name e.watch)) (subst (λ cs. Includes cs (Deref e.object (Name e.watch))) (sym finds.commands) (inl refl))) in
         let known = commands_name_texts script texts (Deref e.object (Name e.watch)) (k.lawful.origins.commands (Deref e.object (Name e.watch)) member) e.object (inl refl) in
         let count = k.minded.count in omega (arith, known, count)
 

@@ -128,7 +128,7 @@ module _ (script : Script) (budget : ℕ) (e : Exit) where
         (λ s. either (call_step script (on b below v) events after (Name e.exit) (subst (λ (c : Command). CommandStep script (on b below v) c events after) is s))
         (λ r. same_kept (on a below v) after (ap (λ (z : World). z.objects) r.1.1) h (λ o hid. refused_hidden e.exit o r.0 (on b below v) events after r.1 (turned o hid)))
         (λ c. same_kept (on a below v) after (called_objects script c.object.serial (procedure_of (on b below v) c.object.serial) (on b below v) events after c.begins) h
-            (λ o hid. called_hidden script e.exit o c.object.serial (procedure_of (on b below v) c.object.serial) (on b below v) events after c.begins (turned o hid))))
+        (λ o hid. called_hidden script e.exit o c.object.serial (procedure_of (on b below v) c.object.serial) (on b below v) events after c.begins (turned o hid))))
 
     told_kept : IsTold e command → Step script (on a below v) events after → Done script command (on b below v) b below events after → AreHidden e after
     told_kept (Quiet spoken makes) step done = quiet_kept spoken makes done

@@ -1,19 +1,3 @@
-mod Fed
-pub mod Wanes
-pub mod WanesDeaths
-pub mod WanesCollections
-pub mod WanesRuns
-pub mod Burns
-pub mod Taking
-pub mod MapRuns
-pub mod MapLaws
-pub mod ReadLines
-pub mod LookLines
-pub mod StoreLines
-pub mod ExpandedLines
-pub mod ExpandedStores
-pub mod WorkedCache
-pub mod MissLaws
 pub mod Acts
 pub mod ActsDeaths
 pub mod ActsCollections
@@ -35,3 +19,20 @@ pub mod WatchKept
 pub mod ExitRuns
 pub mod Order
 pub mod Alive
+mod Fed
+pub mod Wanes
+pub mod WanesDeaths
+pub mod WanesCollections
+pub mod WanesRuns
+pub mod Burns
+pub mod Taking
+pub mod MapRuns
+pub mod MapLaws
+pub mod ReadLines
+pub mod LookLines
+pub mod StoreLines
+pub mod ExpandedLines
+pub mod ExpandedStores
+pub mod WorkedCache
+pub mod MissLaws
+pub mod WorkedFinalizers

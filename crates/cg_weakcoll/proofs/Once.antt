@@ -115,11 +115,14 @@ acted_tells script budget s w a below events after k top acts = record {
 
 -- what is spent stays so
 pub spent_stays : (s : ℕ) (w : World) (events : List Event) (after : World) → Tells s w events after → Spent s w → Spent s after × ¬ Includes events (Enter Callback s)
-spent_stays s w events after t h = (record {
-  made = let m = h.made in let l = t.serial in omega (arith, m, l);
-  unreferred = λ y m e. let x = t.comes y m e in none_later x.0 y x.2 (h.unreferred x.0 x.1 (sym x.2.serial ∙ e));
-  uncalled = λ m. either (t.waits m) h.uncalled (λ l. let no : None ≡ Some l.referent = sym (h.unreferred l.object l.member l.same) ∙ l.refers in cc);
-}, λ m. h.uncalled (t.begins m).0)
+spent_stays s w events after t h = (
+  record {
+    made = let m = h.made in let l = t.serial in omega (arith, m, l);
+    unreferred = λ y m e. let x = t.comes y m e in none_later x.0 y x.2 (h.unreferred x.0 x.1 (sym x.2.serial ∙ e));
+    uncalled = λ m. either (t.waits m) h.uncalled (λ l. let no : None ≡ Some l.referent = sym (h.unreferred l.object l.member l.same) ∙ l.refers in cc);
+  },
+  λ m. h.uncalled (t.begins m).0,
+)
 
 -- a callback that begins is spent
 pub begun_spent : (script : Script) (budget s : ℕ) (w : World) (events : List Event) (after : World) → Known script budget w → Tells s w events after → s < w.next_serial → Includes events (Enter Callback s) → Spent s after

@@ -1,10 +1,9 @@
 -- The script's own commands are done in their order.
-use Rattle.std.proofs.Common.{◌≡◌, ◌≢◌, refl, sym, ◌∙◌, ap, subst, ℕ, ◌-◌, Bool, true, false, inl, inr, ◌⊎◌, List, [], ◌∷◌, ◌++◌, Option, Some, None}
+use Rattle.std.proofs.Common.{◌≡◌, refl, sym, ◌∙◌, ap, subst, ℕ, ◌-◌, Bool, true, false, inl, inr, List, [], ◌∷◌, ◌++◌, Option, Some, None}
 use Rattle.std.specs.Prelude.{◌==◌, if◌then◌else◌}
 use Rattle.std.proofs.lemmas.List.{append_assoc}
 use Rattle.cg_script.specs.declared.Script.{Script}
 use Rattle.cg_script.specs.declared.Command.{Command}
-use Rattle.cg_script.specs.Texts.{TextsAreKnown}
 use Rattle.cg_graph.specs.Member.{Includes}
 use Rattle.cg_graph.proofs.Members.{either, Includes-append_cases}
 use Rattle.cg_machine.specs.declared.event.Event.{Event}
@@ -15,14 +14,13 @@ use Rattle.cg_machine.specs.World.{World, Activity, TopLevel, Framed, Releasing,
 use Rattle.cg_machine.specs.Frame.{Yields, procedure_of, start_frame}
 use Rattle.cg_machine.specs.Commands.{new_collection}
 use Rattle.cg_machine.specs.Due.{due}
-use Rattle.cg_machine.specs.Run.{IsRun, Run, Step, StepOf, StepTaken, TopLevelStep, last_world, world_after}
-use Rattle.cg_machine.proofs.Ending.{last_world-append}
-use Rattle.cg_machine.proofs.Invariants.{AreLast, FromFrame, FromTop, HasCommands, Takes, emptied, on}
+use Rattle.cg_machine.specs.Run.{Run, Step, StepOf, StepTaken, TopLevelStep, last_world, world_after}
+use Rattle.cg_machine.proofs.Invariants.{AreLast, FromFrame, FromTop, Takes, emptied, on}
 use Rattle.cg_machine.proofs.Serials.{Rises}
 use Rattle.cg_machine.proofs.ShapeLaws.{changes_leave}
-use Rattle.cg_weakcoll.specs.Exits.{AreExits, CallsFall, Exit, ExitsAreCalledLastFirst, own_command, own_commands}
-use Rattle.cg_weakcoll.proofs.Acts.{Acts, IsRaised}
-use Rattle.cg_weakcoll.proofs.Went.{Acted, Asked, Began, Bottomed, Changed, Commanded, Done, Due, GaveUp, Known, Lasted, Over, Stood, Stopped, Went, exactly, known_after, went}
+use Rattle.cg_weakcoll.specs.Exits.{ExitsAreCalledLastFirst, own_command, own_commands}
+use Rattle.cg_weakcoll.proofs.Acts.{IsRaised}
+use Rattle.cg_weakcoll.proofs.Went.{Acted, Asked, Began, Bottomed, Changed, Commanded, Done, Due, GaveUp, Lasted, Over, Stood, Stopped, Went, known_after, went}
 
 -- an activity that is not the script's own
 abbrev IsAbove : Activity → Type 0

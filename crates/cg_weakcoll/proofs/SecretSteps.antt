@@ -299,7 +299,7 @@ module _ (n o : ℕ) (u : World) (command : Command) (h : Hidden n o u) (spoken 
       let same : made ≡ next = cc in
       let fresh : ¬ Includes (references_of_value (Some (Ref u.next_serial))) o = λ m. either m (λ i. let low = h.made in absurd (omega (arith, low, i))) (λ no. no) in
       subst (Hidden n o) same (changed_hidden n o u made (λ x apart. set_free u.names name x o (Some (Ref u.next_serial)) fresh (h.names x apart)) (omega arith) refl
-          (λ y m. either (Includes-append_cases u.objects (_ ∷ []) y m) (old y) (λ k. either k (λ i. new_unshown kind class entries referent y (ap (λ (z : Object). z.entries) (sym i)) (ap (λ (z : Object). z.referent) (sym i)) (ap (λ (z : Object). z.serial) (sym i)) parts) (λ no. absurd no))) h)
+      (λ y m. either (Includes-append_cases u.objects (_ ∷ []) y m) (old y) (λ k. either k (λ i. new_unshown kind class entries referent y (ap (λ (z : Object). z.entries) (sym i)) (ap (λ (z : Object). z.referent) (sym i)) (ap (λ (z : Object). z.serial) (sym i)) parts) (λ no. absurd no))) h)
   shape_hidden e (Edits wants_memory x entries given_up has mutable edit) wants lines given next is stack =
       let after : World = with_change (with_entries entries) x.serial u in
       let same : after ≡ next = cc in

@@ -162,8 +162,8 @@ done_tells script s command a b below v events after low none hb (Changed wants 
     let f = shape_follows (on b below v) command (Changes wants events given next) shape wants events given next refl in
     let stack = (changes_leave (on b below v) command wants events given next shape).stack in
     plainly s (on a below v) events after (let e = ap (λ (z : World). z.next_serial) is in let l = f.serial in omega (arith, e, l))
-        (λ o y m e under. either (f.comes y (subst (λ (z : World). Includes z.objects y) is m)) (λ x. x) (λ new. absurd (omega (arith, under, e, new)))) low
-        (ap (λ (z : World). all_to_call z.stack) is ∙ ap all_to_call stack ∙ ap (λ xs. xs ++ all_to_call below) (none_to_call b hb ∙ sym none)) f.quiet
+    (λ o y m e under. either (f.comes y (subst (λ (z : World). Includes z.objects y) is m)) (λ x. x) (λ new. absurd (omega (arith, under, e, new)))) low
+    (ap (λ (z : World). all_to_call z.stack) is ∙ ap all_to_call stack ∙ ap (λ xs. xs ++ all_to_call below) (none_to_call b hb ∙ sym none)) f.quiet
 done_tells script s command a b below v events after low none hb (Began f has step) =
     let q = call_quiet script f.serial (procedure_of (on b below v) f.serial) (on b below v) events after step in
     same_tells s (on a below v) events after low q.2 q.1 (q.3 ∙ ap (λ xs. xs ++ all_to_call below) (none_to_call b hb ∙ sym none)) q.0

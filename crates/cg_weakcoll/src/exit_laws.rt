@@ -1,5 +1,6 @@
 //! What becomes of exit finalizers in every run. Each law is the contract of a function that does nothing.
 ghost use Rattle.cg_weakcoll.specs.Exits.{ExitsAreCalledLastFirst, ExitsBeginAlive, ExitsBeginOnce};
+ghost use Rattle.cg_weakcoll.specs.WorkedExits.{HasBoth};
 
 /// In every run of a script with an exit finalizer, the callback frames of its weak reference and the frames that its procedure's
 /// call begins are together at most one.
@@ -16,4 +17,9 @@ pub fn exits_are_called_last_first()
 /// not spent there, the function's frame begins.
 pub fn exits_begin_alive()
     ensures { ExitsBeginAlive }
+{}
+
+/// The expansion of a worked script with two `finalize` lines spells a script that has both exit finalizers, as these laws ask.
+pub fn two_finalizers_are_there()
+    ensures { HasBoth }
 {}

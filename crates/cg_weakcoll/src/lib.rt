@@ -1,7 +1,7 @@
 //! Weak value maps and exit finalizers: extended scripts, which are expanded to scripts of the base language.
 //!
-//! `expand` is what the layer above uses: it answers the expansion of some bytes by `specs/Expansion`, or their first bad line. What weak value
-//! maps answer in every run of the machine, and how often an exit finalizer begins, is told by laws (`map_laws`, `exit_laws`).
+//! `expand` is what the layer above uses: it answers the expansion of some bytes by `specs/Expansion`, or their first bad line.
+//! Laws tell what weak value maps answer in every run of the machine, and when the functions of exit finalizers begin.
 #![tactic(auto)]
 
 mod exit_laws;
@@ -13,7 +13,9 @@ mod pieces;
 mod worked;
 mod write;
 
-pub use exit_laws::{exits_are_called_last_first, exits_begin_alive, exits_begin_once};
+pub use exit_laws::{
+    exits_are_called_last_first, exits_begin_alive, exits_begin_once, two_finalizers_are_there,
+};
 pub use expander::expand;
 pub use map_laws::{
     expanded_looks_are_commands, expanded_stores_are_commands, look_lines_are_commands,

@@ -1,0 +1,149 @@
+-- The worked script with two exit finalizers, by computation.
+use Rattle.std.proofs.Common.{◌≡◌, ◌≢◌, refl, sym, ◌∙◌, ap, subst, ℕ, zero, suc, ◌+◌, Bool, true, false, not, ◌&&◌, ◌||◌, List, [], ◌∷◌, Some, inl, inr, arith}
+use Rattle.std.specs.Prelude.{◌==◌, option_map, slice_get, unwrap_or}
+use Rattle.std.specs.Fmt.{digits}
+use Rattle.std.specs.List.{list_all}
+use Rattle.std.proofs.lemmas.Bool.{eq-eqb, eqb-true}
+use Rattle.cg_script.specs.declared.ClassDef.{ClassDef}
+use Rattle.cg_script.specs.declared.Proc.{Proc}
+use Rattle.cg_script.specs.declared.Command.{Command}
+use Rattle.cg_script.specs.declared.Command.TheVariants.{Bind, Call, Del, MakeFunc, MakeInst, MakeRef}
+use Rattle.cg_script.specs.declared.Operand.TheVariants.{Name}
+use Rattle.cg_script.specs.Texts.{command_texts, operand_texts}
+use Rattle.cg_script.specs.Words.{atoms}
+use Rattle.cg_script.specs.Forms.{bindings, openers}
+use Rattle.cg_script.specs.Meanings.{meaning}
+use Rattle.cg_script.specs.Reading.{meant, reading, spells}
+use Rattle.cg_graph.specs.Member.{Includes, includes}
+use Rattle.cg_graph.proofs.Members.{either, includes-of, true_and, true_or}
+use Rattle.cg_machine.specs.Program.{classes, procedures}
+use Rattle.cg_weakcoll.specs.Expansion.{expansion}
+use Rattle.cg_weakcoll.specs.Exits.{AllOther, AreOthers, Exit, IsExit, IsOther, names_of}
+use Rattle.cg_weakcoll.specs.WorkedExits.{HasBoth, the_first, the_second, their_script, two_finalizers}
+
+spelled : reading (expansion two_finalizers) ≡ spells their_script.names their_script.items
+unfolding digits expansion atoms openers bindings meaning meant
+spelled = refl
+
+-- tests that tell it
+abbrev makes_proc : ℕ → Command → Bool
+makes_proc p (MakeFunc name proc cells) = proc == p
+makes_proc p command = false
+
+abbrev others_pass : Exit → List ℕ → Bool
+others_pass e texts = list_all (λ t. not (includes (names_of e) t)) texts
+
+abbrev other_passes : Exit → Command → Bool
+other_passes e command = others_pass e (command_texts command) && not (makes_proc e.proc command)
+
+abbrev all_pass : Exit → List Command → Bool
+all_pass e [] = true
+all_pass e (command ∷ commands) = other_passes e command && all_pass e commands
+
+abbrev bodies_pass : Exit → ℕ → List Proc → Bool
+bodies_pass e n [] = true
+bodies_pass e n (p ∷ procs) = (n == e.proc || all_pass e p.body) && bodies_pass e (n + 1) procs
+
+not_true : (b : Bool) → not b ≡ true → b ≡ false
+not_true true i = cc
+not_true false i = refl
+
+others_told : (e : Exit) (texts : List ℕ) → others_pass e texts ≡ true → AreOthers e texts
+others_told e [] passes text m = absurd m
+others_told e (t ∷ texts) passes text (inl is) = λ own. let p = not_true (includes (names_of e) t) (true_and (not (includes (names_of e) t)) (others_pass e texts) passes).0 in let no : true ≡ false = sym (includes-of (names_of e) t (subst (Includes (names_of e)) (sym is) own)) ∙ p in cc
+others_told e (t ∷ texts) passes text (inr m) = others_told e texts (true_and (not (includes (names_of e) t)) (others_pass e texts) passes).1 text m
+
+other_told : (e : Exit) (command : Command) → other_passes e command ≡ true → IsOther e command
+other_told e command passes =
+    let both = true_and (others_pass e (command_texts command)) (not (makes_proc e.proc command)) passes in
+    record {
+      texts = others_told e (command_texts command) both.0;
+      makes = λ name cells is. let no : true ≡ false = sym (ap (makes_proc e.proc) is ∙ eq-eqb e.proc e.proc refl) ∙ not_true (makes_proc e.proc command) both.1 in cc;
+    }
+
+all_told : (e : Exit) (commands : List Command) → all_pass e commands ≡ true → AllOther e commands
+all_told e [] passes command m = absurd m
+all_told e (c ∷ commands) passes command (inl is) = subst (IsOther e) is (other_told e c (true_and (other_passes e c) (all_pass e commands) passes).0)
+all_told e (c ∷ commands) passes command (inr m) = all_told e commands (true_and (other_passes e c) (all_pass e commands) passes).1 command m
+
+bodies_told : (e : Exit) (n : ℕ) (procs : List Proc) → bodies_pass e n procs ≡ true → (i : ℕ) → n + i ≢ e.proc → AllOther e (unwrap_or (option_map (λ (x : Proc). x.body) (slice_get procs i)) [])
+bodies_told e n [] passes i apart = λ command m. absurd m
+bodies_told e n (p ∷ procs) passes zero apart = either (true_or (n == e.proc) (all_pass e p.body) (true_and (n == e.proc || all_pass e p.body) (bodies_pass e (n + 1) procs) passes).0) (λ t. absurd (apart (let same = eqb-true n e.proc t in omega (arith, same)))) (all_told e p.body)
+bodies_told e n (p ∷ procs) passes (suc i) apart = bodies_told e (n + 1) procs (true_and (n == e.proc || all_pass e p.body) (bodies_pass e (n + 1) procs) passes).1 i (λ same. apart (omega (arith, same)))
+
+classes_told : (p : ℕ) (class : ClassDef) → Includes (classes their_script.items) class → (class.del ≢ Some p) × (class.legacy ≢ Some p)
+classes_told p class (inl is) = subst (λ (c : ClassDef). (c.del ≢ Some p) × (c.legacy ≢ Some p)) is (λ i. cc, λ i. cc)
+classes_told p class (inr m) = absurd m
+
+first_there : IsExit their_script the_first
+first_there = record {
+  body = refl;
+  front = MakeFunc 2 0 [] ∷ MakeInst 3 0 ∷ MakeInst 4 0 ∷ [];
+  middle = MakeFunc 14 2 [] ∷ Bind 13 (Name 2) ∷ MakeRef 12 (Name 4) (Name 13) ∷ Del 3 ∷ Call (Name 14) ∷ [];
+  back = [];
+  commands = refl;
+  front_other = all_told the_first (MakeFunc 2 0 [] ∷ MakeInst 3 0 ∷ MakeInst 4 0 ∷ []) refl;
+  middle_other = all_told the_first (MakeFunc 14 2 [] ∷ Bind 13 (Name 2) ∷ MakeRef 12 (Name 4) (Name 13) ∷ Del 3 ∷ Call (Name 14) ∷ []) refl;
+  back_other = all_told the_first [] refl;
+  bodies_other = λ proc apart. bodies_told the_first 0 (procedures their_script.items) refl proc (λ same. apart (omega (arith, same)));
+  source_other = others_told the_first (operand_texts the_first.source) refl;
+  target_other = others_told the_first (operand_texts the_first.target) refl;
+  classes_other = classes_told 1;
+  watch_exit = λ i. omega (arith, i);
+  watch_function = λ i. omega (arith, i);
+  watch_object = λ i. omega (arith, i);
+  exit_function = λ i. omega (arith, i);
+  exit_object = λ i. omega (arith, i);
+  function_object = λ i. omega (arith, i);
+}
+
+second_there : IsExit their_script the_second
+second_there = record {
+  body = refl;
+  front = MakeFunc 2 0 [] ∷ MakeInst 3 0 ∷ MakeInst 4 0 ∷ MakeFunc 9 1 [] ∷ Bind 8 (Name 2) ∷ MakeRef 7 (Name 3) (Name 8) ∷ [];
+  middle = Del 3 ∷ [];
+  back = Call (Name 9) ∷ [];
+  commands = refl;
+  front_other = all_told the_second (MakeFunc 2 0 [] ∷ MakeInst 3 0 ∷ MakeInst 4 0 ∷ MakeFunc 9 1 [] ∷ Bind 8 (Name 2) ∷ MakeRef 7 (Name 3) (Name 8) ∷ []) refl;
+  middle_other = all_told the_second (Del 3 ∷ []) refl;
+  back_other = all_told the_second (Call (Name 9) ∷ []) refl;
+  bodies_other = λ proc apart. bodies_told the_second 0 (procedures their_script.items) refl proc (λ same. apart (omega (arith, same)));
+  source_other = others_told the_second (operand_texts the_second.source) refl;
+  target_other = others_told the_second (operand_texts the_second.target) refl;
+  classes_other = classes_told 2;
+  watch_exit = λ i. omega (arith, i);
+  watch_function = λ i. omega (arith, i);
+  watch_object = λ i. omega (arith, i);
+  exit_function = λ i. omega (arith, i);
+  exit_object = λ i. omega (arith, i);
+  function_object = λ i. omega (arith, i);
+}
+
+-- the calls are no other commands
+abbrev calls : Command → Bool
+calls (Call f) = true
+calls command = false
+
+abbrev none_calls : List Command → Bool
+none_calls [] = true
+none_calls (command ∷ commands) = not (calls command) && none_calls commands
+
+apart_told : (commands : List Command) → none_calls commands ≡ true → (command : Command) → Includes commands command → calls command ≡ true → ⊥
+apart_told [] passes command m t = m
+apart_told (c ∷ commands) passes command (inl is) t = let n = not_true (calls c) (true_and (not (calls c)) (none_calls commands) passes).0 in let no : true ≡ false = sym t ∙ ap calls (sym is) ∙ n in cc
+apart_told (c ∷ commands) passes command (inr m) t = apart_told commands (true_and (not (calls c)) (none_calls commands) passes).1 command m t
+
+the_lines : List Command
+the_lines = MakeFunc 2 0 [] ∷ MakeInst 3 0 ∷ MakeInst 4 0 ∷ MakeFunc 9 1 [] ∷ Bind 8 (Name 2) ∷ MakeRef 7 (Name 3) (Name 8) ∷ MakeFunc 14 2 [] ∷ Bind 13 (Name 2) ∷ MakeRef 12 (Name 4) (Name 13) ∷ Del 3 ∷ []
+
+pub both : HasBoth
+unfolding the_lines
+both = record {
+  spelled = spelled;
+  exits = record {
+    each = λ e m. either m (λ is. subst (IsExit their_script) is first_there) (λ k. either k (λ is. subst (IsExit their_script) is second_there) (λ none. absurd none));
+    lines = the_lines;
+    commands = refl;
+    others = λ command m call. apart_told the_lines refl command m (either call (λ is. ap calls (sym is)) (λ k. either k (λ is. ap calls (sym is)) (λ none. absurd none)));
+  };
+}
