@@ -1,5 +1,15 @@
+use Rattle.std.proofs.Common.{subst, List, ℕ, ◌∙◌}
+use Rattle.cg_io.specs.Causes.{AppendsFront}
+use Rattle.cg_weakcoll.specs.Expansion.{expansion}
 use Rattle.cg_cli.specs.Expansions.{expansion_text, first_bad_text}
 use Rattle.cg_cli.proofs.expand.expand_in_hand.Goals as goal
+
+pub returns-in-Ok-clause-write : goal.returns-in-Ok-clause-write
+returns-in-Ok-clause-write g c = λ e. record {
+  text = expansion c.args.bytes.now;
+  row = expansion_text c.requires.few c.in-Ok.ensures.good;
+  wrote = subst (λ (t : List ℕ). AppendsFront (g.K.Sink.written c.args.sink.now) (g.K.Sink.written c.tell_text.new.sink) t) (c.as_slice.ensures.value ∙ c.in-Ok.ensures.ok) (c.tell_text.ensures.write e);
+}
 
 pub returns-in-Err-Bad-clause-bad_script : goal.returns-in-Err-Bad-clause-bad_script
 returns-in-Err-Bad-clause-bad_script g c =
