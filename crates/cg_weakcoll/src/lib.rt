@@ -19,8 +19,8 @@ pub use exit_laws::{
 pub use expander::expand;
 pub use map_laws::{
     expanded_looks_are_commands, expanded_stores_are_commands, look_lines_are_commands,
-    looks_answer, looks_find_referents, store_lines_are_commands, weak_maps_answer,
-    weak_references_keep_their_referents,
+    looks_answer, looks_find_referents, misses_leave_none, store_lines_are_commands,
+    weak_maps_answer, weak_references_keep_their_referents,
 };
 pub use worked::a_cache_answers_both;
 
