@@ -33,7 +33,7 @@ use Rattle.cg_interp.specs.Graphs.{closing, text_before, unfinished_after, begin
 use Rattle.cg_interp.specs.Recorded.{Picture, picture, lost_at, legacy_at, Shows, HasRecords, records_of, wants_memory, WroteRecords, WroteRecordsPart}
 use Rattle.cg_interp.specs.Recording.{RecordsTurn, CutsFindings, CutsRecord, RecordedSo, told_after, recorded_next, text_of_turn, picture_text, text_if_taken, text_so_far, unfinished_so_far}
 use Rattle.cg_interp.proofs.LineByLine.{after_front}
-use Rattle.cg_interp.proofs.RunLemmas.{run_longer, ends_longer, lines_longer, ran_longer, ran_start, kept_so_far}
+use Rattle.cg_interp.proofs.RunLemmas.{ends_longer, lines_longer, kept_so_far}
 use Rattle.cg_interp.proofs.RecordText.{text_to_end, all_written, unfinished-append, text_so_far-append, front_of_all}
 use Rattle.cg_interp.proofs.Shown.{shows-append, some_shown, shows_first, graph_by}
 use Rattle.cg_interp.proofs.TurnGraphs.{TurnShows, shown_on, shown_end, taken_or_not, graph_with, begun_front}
@@ -46,7 +46,7 @@ use Rattle.cg_machine.proofs.Ending.{sound_after}
 
 -- nothing was recorded yet
 pub recorded_start : (script : Script) (budget : ℕ) (e : State) (before : Option (List ℕ)) → StandsFor script e (opening script budget) → RecordedSo script budget before e false before
-recorded_start script budget e before stands = record { ran = ran_start script budget e None stands; pictures = []; shows = refl; unrefused = refl; is = refl; written = Appends-nil before }
+recorded_start script budget e before stands = record { ran = record { steps = []; told = []; left = []; run = tt; lines = refl; stands = inl (stands, refl); written = tt }; pictures = []; shows = refl; unrefused = refl; is = refl; written = Appends-nil before }
 
 -- what is told of a turn that tells how the run stands
 told_some : (b : Bool) (s t : Standing) → cond b None (Some s) ≡ Some t → (b ≡ false) × (s ≡ t)
@@ -112,7 +112,7 @@ module _ (law : NoRunIsStuck) (script : Script) (budget : ℕ) (before : Option 
     abbrev pictures : List Picture
     pictures = so.pictures ++ t.pictures
 
-    longer : List StepTaken
+    abbrev longer : List StepTaken
     longer = so.ran.steps ++ goes.steps
 
     runs_longer : IsRun script budget longer
@@ -138,7 +138,15 @@ module _ (law : NoRunIsStuck) (script : Script) (budget : ℕ) (before : Option 
     so_longer : (tell still : List Event) → left ++ events ≡ tell ++ still → StandsWith script e' still after → list_any wants_memory tell ≡ false → (then : Bool) → then ≡ unfinished_after unfinished (recorded_next unfinished e)
         → Appends now now' (text_of_turn script e.store e'.store unfinished (recorded_next unfinished e)) → RecordedSo script budget before e' then now'
     so_longer tell still lines stands none then is wrote = record {
-      ran = ran_longer script budget None e None so.ran laws frames events tell still after goes lines e' None stands tt;
+      ran = record {
+        steps = longer;
+        told = so.ran.told ++ tell;
+        left = still;
+        run = runs_longer;
+        lines = lines_longer script budget None e None so.ran laws frames events tell still after goes lines;
+        stands = subst (StandsWith script e' still) (sym (ends_longer script budget None e None so.ran laws frames events tell still after goes lines)) stands;
+        written = tt;
+      };
       pictures = pictures;
       shows = shows_longer;
       unrefused = list_any-append wants_memory so.ran.told tell ∙ both_false (list_any wants_memory so.ran.told) (list_any wants_memory tell) so.unrefused none;
