@@ -1,5 +1,5 @@
 -- Where a collection stands towards its two detections. (Ours.)
-use Rattle.std.specs.Prelude.{◌≡◌, ◌⊎◌, Option, Some, None}
+use Rattle.std.specs.Prelude.{◌≡◌, ◌⊎◌, Bool, true, false, Option, Some, None}
 use Rattle.cg_collect.specs.declared.phase.Phase.{Phase}
 use Rattle.cg_collect.specs.declared.phase.Phase.TheVariants as phase_of
 use Rattle.cg_collect.specs.declared.stage.Stage.{Stage}
@@ -25,6 +25,12 @@ abbrev pub stage_at : Phase → Option Detection → Stage
 stage_at phase_of.Start detected = stage.BeforeFirst
 stage_at phase_of.Split detected = stage.BeforeSecond
 stage_at phase detected = stage_after detected
+
+-- whether the next step makes a detection
+abbrev pub is_before : Stage → Bool
+is_before stage.BeforeFirst = true
+is_before stage.BeforeSecond = true
+is_before now = false
 
 -- where a collection stands
 abbrev pub stage_of : Collection → Stage

@@ -26,6 +26,7 @@ mod CollectHolds
 mod CollectTurns
 mod CollectMoves
 mod CollectBegins
+mod Staging
 mod Telling
 mod UnderWay
 mod TurnLemmas
