@@ -4,7 +4,7 @@ use Rattle.std.specs.Prelude.{flat_map}
 use Rattle.std.specs.List.{list_any}
 use Rattle.std.proofs.lemmas.List.Folds.{list_any-append}
 use Rattle.std.proofs.KnownBytes.{Appends-trans, Appends-nil}
-use Rattle.std.specs.Io.KnownBytes.{Appends, Keeps}
+use Rattle.std.specs.Io.KnownBytes.{Appends}
 use Rattle.cg_io.specs.Causes.{AppendsFront}
 use Rattle.cg_script.specs.declared.Script.{Script}
 use Rattle.cg_heap.specs.Calls.{IsListed, IsSound}
@@ -84,13 +84,8 @@ all_front : (a b : Option (List ℕ)) (bs : List ℕ) → Appends a b bs → App
 all_front a b bs wrote = record { front = bs; rest = []; whole = sym (append-nil bs); appended = wrote }
 
 -- where nothing was written
-pub nothing_recorded : NoRunIsStuck → (script : Script) (budget : ℕ) (before now : Option (List ℕ)) → Keeps before now → WroteRecordsPart script budget before now
-nothing_recorded law script budget before now kept = part_so_far law script budget before now [] [] tt refl (all_front before now [] (appends_none before now kept))
-  where
-    appends_none : (a b : Option (List ℕ)) → Keeps a b → Appends a b []
-    appends_none None b kept = tt
-    appends_none (Some xs) None kept = absurd kept
-    appends_none (Some xs) (Some ys) kept = kept ∙ sym (append-nil xs)
+pub nothing_recorded : NoRunIsStuck → (script : Script) (budget : ℕ) (before now : Option (List ℕ)) → Appends before now [] → WroteRecordsPart script budget before now
+nothing_recorded law script budget before now kept = part_so_far law script budget before now [] [] tt refl (all_front before now [] kept)
 
 -- What was recorded so far, and the laws.
 module _ (law : NoRunIsStuck) (script : Script) (budget : ℕ) (before : Option (List ℕ)) (e : State) (unfinished : Bool) (now : Option (List ℕ)) (so : RecordedSo script budget before e unfinished now) (laws : HasLaws script budget) (frames : e.frames ≡ budget) where
