@@ -4,7 +4,7 @@ use Rattle.std.specs.Prelude.{flat_map}
 use Rattle.std.specs.List.{list_any}
 use Rattle.std.proofs.lemmas.List.Folds.{list_any-append}
 use Rattle.std.proofs.KnownBytes.{Appends-trans, Appends-nil}
-use Rattle.std.specs.Io.KnownBytes.{Appends, Keeps}
+use Rattle.std.specs.Io.KnownBytes.{Appends}
 use Rattle.cg_io.specs.Causes.{AppendsFront}
 use Rattle.cg_script.specs.declared.Script.{Script}
 use Rattle.cg_heap.specs.Calls.{IsListed, IsSound}
@@ -33,7 +33,7 @@ use Rattle.cg_interp.specs.Graphs.{closing, text_before, unfinished_after, begin
 use Rattle.cg_interp.specs.Recorded.{Picture, picture, lost_at, legacy_at, Shows, HasRecords, records_of, wants_memory, WroteRecords, WroteRecordsPart}
 use Rattle.cg_interp.specs.Recording.{RecordsTurn, CutsFindings, CutsRecord, RecordedSo, told_after, recorded_next, text_of_turn, picture_text, text_if_taken, text_so_far, unfinished_so_far}
 use Rattle.cg_interp.proofs.LineByLine.{after_front}
-use Rattle.cg_interp.proofs.RunLemmas.{run_longer, ends_longer, lines_longer, ran_longer, ran_start, kept_so_far}
+use Rattle.cg_interp.proofs.RunLemmas.{ends_longer, lines_longer, kept_so_far}
 use Rattle.cg_interp.proofs.RecordText.{text_to_end, all_written, unfinished-append, text_so_far-append, front_of_all}
 use Rattle.cg_interp.proofs.Shown.{shows-append, some_shown, shows_first, graph_by}
 use Rattle.cg_interp.proofs.TurnGraphs.{TurnShows, shown_on, shown_end, taken_or_not, graph_with, begun_front}
@@ -46,7 +46,7 @@ use Rattle.cg_machine.proofs.Ending.{sound_after}
 
 -- nothing was recorded yet
 pub recorded_start : (script : Script) (budget : ℕ) (e : State) (before : Option (List ℕ)) → StandsFor script e (opening script budget) → RecordedSo script budget before e false before
-recorded_start script budget e before stands = record { ran = ran_start script budget e None stands; pictures = []; shows = refl; unrefused = refl; is = refl; written = Appends-nil before }
+recorded_start script budget e before stands = record { ran = record { steps = []; told = []; left = []; run = tt; lines = refl; stands = inl (stands, refl); written = tt }; pictures = []; shows = refl; unrefused = refl; is = refl; written = Appends-nil before }
 
 -- what is told of a turn that tells how the run stands
 told_some : (b : Bool) (s t : Standing) → cond b None (Some s) ≡ Some t → (b ≡ false) × (s ≡ t)
@@ -84,13 +84,8 @@ all_front : (a b : Option (List ℕ)) (bs : List ℕ) → Appends a b bs → App
 all_front a b bs wrote = record { front = bs; rest = []; whole = sym (append-nil bs); appended = wrote }
 
 -- where nothing was written
-pub nothing_recorded : NoRunIsStuck → (script : Script) (budget : ℕ) (before now : Option (List ℕ)) → Keeps before now → WroteRecordsPart script budget before now
-nothing_recorded law script budget before now kept = part_so_far law script budget before now [] [] tt refl (all_front before now [] (appends_none before now kept))
-  where
-    appends_none : (a b : Option (List ℕ)) → Keeps a b → Appends a b []
-    appends_none None b kept = tt
-    appends_none (Some xs) None kept = absurd kept
-    appends_none (Some xs) (Some ys) kept = kept ∙ sym (append-nil xs)
+pub nothing_recorded : NoRunIsStuck → (script : Script) (budget : ℕ) (before now : Option (List ℕ)) → Appends before now [] → WroteRecordsPart script budget before now
+nothing_recorded law script budget before now kept = part_so_far law script budget before now [] [] tt refl (all_front before now [] kept)
 
 -- What was recorded so far, and the laws.
 module _ (law : NoRunIsStuck) (script : Script) (budget : ℕ) (before : Option (List ℕ)) (e : State) (unfinished : Bool) (now : Option (List ℕ)) (so : RecordedSo script budget before e unfinished now) (laws : HasLaws script budget) (frames : e.frames ≡ budget) where
@@ -112,7 +107,7 @@ module _ (law : NoRunIsStuck) (script : Script) (budget : ℕ) (before : Option 
     abbrev pictures : List Picture
     pictures = so.pictures ++ t.pictures
 
-    longer : List StepTaken
+    abbrev longer : List StepTaken
     longer = so.ran.steps ++ goes.steps
 
     runs_longer : IsRun script budget longer
@@ -138,7 +133,15 @@ module _ (law : NoRunIsStuck) (script : Script) (budget : ℕ) (before : Option 
     so_longer : (tell still : List Event) → left ++ events ≡ tell ++ still → StandsWith script e' still after → list_any wants_memory tell ≡ false → (then : Bool) → then ≡ unfinished_after unfinished (recorded_next unfinished e)
         → Appends now now' (text_of_turn script e.store e'.store unfinished (recorded_next unfinished e)) → RecordedSo script budget before e' then now'
     so_longer tell still lines stands none then is wrote = record {
-      ran = ran_longer script budget None e None so.ran laws frames events tell still after goes lines e' None stands tt;
+      ran = record {
+        steps = longer;
+        told = so.ran.told ++ tell;
+        left = still;
+        run = runs_longer;
+        lines = lines_longer script budget None e None so.ran laws frames events tell still after goes lines;
+        stands = subst (StandsWith script e' still) (sym (ends_longer script budget None e None so.ran laws frames events tell still after goes lines)) stands;
+        written = tt;
+      };
       pictures = pictures;
       shows = shows_longer;
       unrefused = list_any-append wants_memory so.ran.told tell ∙ both_false (list_any wants_memory so.ran.told) (list_any wants_memory tell) so.unrefused none;

@@ -114,7 +114,7 @@ module _ (script : Script) (budget : ℕ) (before : Option (List ℕ)) (e : Stat
     abbrev pub longer : List StepTaken
     longer = ran.steps ++ goes.steps
 
-    pub run_longer : IsRun script budget longer
+    run_longer : IsRun script budget longer
     run_longer = Run-append script (opening script budget) ran.steps goes.steps ran.run goes.run
 
     pub ends_longer : world_after script budget longer ≡ after
@@ -129,7 +129,7 @@ module _ (script : Script) (budget : ℕ) (before : Option (List ℕ)) (e : Stat
     wrote_longer : (now' : Option (List ℕ)) → Appends now now' (text tell) → Appends before now' (text (ran.told ++ tell))
     wrote_longer now' wrote = subst (Appends before now') (sym told_longer) (Appends-trans before now now' _ _ ran.written wrote)
 
-    pub ran_longer : (e' : State) (now' : Option (List ℕ)) → StandsWith script e' still after → Appends now now' (text tell) → Ran script budget before e' now'
+    ran_longer : (e' : State) (now' : Option (List ℕ)) → StandsWith script e' still after → Appends now now' (text tell) → Ran script budget before e' now'
     ran_longer e' now' stands wrote = record {
       steps = longer;
       told = ran.told ++ tell;

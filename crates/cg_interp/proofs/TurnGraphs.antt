@@ -1,5 +1,5 @@
 -- What a turn shows is what is recorded of it.
-use Rattle.std.proofs.Common.{◌≡◌, ◌≢◌, refl, sym, ◌∙◌, ap, subst, ℕ, Bool, true, false, inl, inr, List, [], ◌∷◌, ◌++◌, map, Option, None, Some, append_assoc, append-nil, codes}
+use Rattle.std.proofs.Common.{◌≡◌, ◌≢◌, refl, sym, ◌∙◌, ap, subst, ℕ, Bool, true, false, ◌⊎◌, inl, inr, List, [], ◌∷◌, ◌++◌, map, Option, None, Some, append_assoc, append-nil, codes}
 use Rattle.std.specs.Prelude.{flat_map}
 use Rattle.std.proofs.lemmas.Grind.{flat_map-append}
 use Rattle.cg_value.specs.declared.Place.{Place}

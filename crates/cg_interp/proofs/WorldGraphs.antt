@@ -3,6 +3,7 @@ use Rattle.std.proofs.Common.{◌≡◌, ◌≢◌, refl, sym, ◌∙◌, ap, su
 use Rattle.std.specs.Prelude.{filter, ◌↔◌, ◌==◌, nat_le, if◌then◌else◌, is_some, option_and_then}
 use Rattle.std.specs.FinMap as fin
 use Rattle.std.proofs.lemmas.Bool.{eqb-true, eq-eqb}
+use Rattle.std.proofs.lemmas.Bool.Decides.{nat_tests}
 use Rattle.cg_value.specs.declared.Place.{Place}
 use Rattle.cg_value.specs.declared.Place.TheVariants.{Untracked, Gen, Frozen, Cand, Seen, Back, Legacy, Pend}
 use Rattle.cg_script.specs.declared.Script.{Script}
@@ -64,8 +65,8 @@ same_gen g Untracked e = absurd (cc)
 same_gen g (Gen i) e = go (nat_le i g) refl
   where
     go : (b : Bool) → nat_le i g ≡ b → (j : ℕ) × (j ≤ g) × (Gen i ≡ Gen j)
-    go true le = (i, omega (arith, le), refl)
-    go false no = (i, (let same : i == g ≡ true = ap (λ b. same_place (if b then Gen g else Gen i) (Gen g)) (sym no) ∙ e in omega (arith, eqb-true i g same)), refl)
+    go true le = (i, grind (arith, nat_tests, le), refl)
+    go false above = (i, (let same : i == g ≡ true = ap (λ b. same_place (if b then Gen g else Gen i) (Gen g)) (sym above) ∙ e in omega (arith, eqb-true i g same)), refl)
 same_gen g Frozen e = absurd (cc)
 same_gen g Cand e = absurd (cc)
 same_gen g Seen e = absurd (cc)
@@ -74,7 +75,7 @@ same_gen g Legacy e = absurd (cc)
 same_gen g Pend e = absurd (cc)
 
 gen_same : (g i : ℕ) → i ≤ g → same_place (merged_place g (Gen i)) (Gen g) ≡ true
-gen_same g i le = let yes : nat_le i g ≡ true = omega (arith, le) in ap (λ b. same_place (if b then Gen g else Gen i) (Gen g)) yes ∙ eq-eqb g g refl
+gen_same g i le = let yes : nat_le i g ≡ true = grind (arith, nat_tests, le) in ap (λ b. same_place (if b then Gen g else Gen i) (Gen g)) yes ∙ eq-eqb g g refl
 
 module _ (store : Store) (listed : IsListed store) where
   -- who stands in the generations below one
@@ -87,25 +88,22 @@ module _ (store : Store) (listed : IsListed store) where
 
   at_below : (n o i : ℕ) → i < n → IsLive store o → place_of store o ≡ Gen i → Includes (generations_below store n) o
   at_below zero o i less live at = absurd (omega (arith, less))
-  at_below (suc n) o i less live at = go (cases_of (i == n))
+  at_below (suc n) o i less live at = go (cases_of (i == n)) (λ lower. at_below n o i lower live at)
     where
-      go : (i == n ≡ true) ⊎ (i == n ≡ false) → Includes (generations_below store n ++ list_at store (Gen n)) o
-      go (inl same) = Includes-append_right (generations_below store n) (list_at store (Gen n)) o (is_there store listed (Gen n) o live (at ∙ ap Gen (eqb-true i n same)))
-      go (inr other) = Includes-append_left (generations_below store n) (list_at store (Gen n)) o (at_below n o i (lower other) live at)
-        where
-          lower : i == n ≡ false → i < n
-          lower e = omega (arith, less, (λ (s : i ≡ n). let t : i == n ≡ true = eq-eqb i n s in let f : true ≡ false = sym t ∙ e in cc))
+      go : (i == n ≡ true) ⊎ (i == n ≡ false) → (i < n → Includes (generations_below store n) o) → Includes (generations_below store n ++ list_at store (Gen n)) o
+      go (inl same) rec = Includes-append_right (generations_below store n) (list_at store (Gen n)) o (is_there store listed (Gen n) o live (at ∙ ap Gen (eqb-true i n same)))
+      go (inr other) rec = Includes-append_left (generations_below store n) (list_at store (Gen n)) o (rec (grind (arith, nat_tests, less, other)))
 
   once_below : (n o : ℕ) → occurrences o (generations_below store n) ≤ 1
   once_below zero o = omega arith
-  once_below (suc n) o = go (none_or_some (occurrences o (list_at store (Gen n))))
+  once_below (suc n) o = go (none_or_some (occurrences o (list_at store (Gen n)))) (once_below n o)
     where
       sum : occurrences o (generations_below store (suc n)) ≡ occurrences o (generations_below store n) + occurrences o (list_at store (Gen n))
       sum = occurrences-append o (generations_below store n) (list_at store (Gen n))
 
-      go : (occurrences o (list_at store (Gen n)) ≡ 0) ⊎ (1 ≤ occurrences o (list_at store (Gen n))) → occurrences o (generations_below store (suc n)) ≤ 1
-      go (inl none) = omega (arith, sum, none, once_below n o)
-      go (inr some) =
+      go : (occurrences o (list_at store (Gen n)) ≡ 0) ⊎ (1 ≤ occurrences o (list_at store (Gen n))) → occurrences o (generations_below store n) ≤ 1 → occurrences o (generations_below store (suc n)) ≤ 1
+      go (inl none) once = omega (arith, sum, none, once)
+      go (inr some) once =
           let at = where_is store listed (Gen n) o (occurs_in (list_at store (Gen n)) o some) in
           elim (none_or_some (occurrences o (generations_below store n))) [
             | inl none ↦ omega (arith, sum, none, once_at store listed (Gen n) o)

@@ -73,12 +73,7 @@ fn wants_memory(event: &Event) -> bool
 fn any_wants_memory(events: &[Event]) -> bool
     ensures { result ≡ list_any wants_memory events.now }
 {
-    'events: for event in events.iter() {
-        if wants_memory(event) {
-            return true;
-        }
-    }
-    false
+    events.iter().any(|event| wants_memory(event))
 }
 
 /// What the turn of a death answers.
