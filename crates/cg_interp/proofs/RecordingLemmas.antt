@@ -29,7 +29,7 @@ use Rattle.cg_interp.specs.Telling.{TurnsWith, Advances, GoesOnTo}
 use Rattle.cg_interp.specs.Turns.{EndsWith}
 use Rattle.cg_interp.specs.Running.{Ran, HasLaws, events_told, standing_after}
 use Rattle.cg_laws.specs.Kept.{StaysKept}
-use Rattle.cg_interp.specs.Graphs.{closing, text_before, unfinished_after, begins_record, begun_text, candidates_in, detection_on, taken, taken_while}
+use Rattle.cg_interp.specs.Graphs.{closing, text_before, text_after, unfinished_after, begins_record, begun_text, candidates_in, detection_on, taken, taken_while}
 use Rattle.cg_interp.specs.Recorded.{Picture, picture, lost_at, legacy_at, Shows, HasRecords, records_of, wants_memory, WroteRecords, WroteRecordsPart}
 use Rattle.cg_interp.specs.Recording.{RecordsTurn, CutsFindings, CutsRecord, RecordedSo, told_after, recorded_next, text_of_turn, picture_text, text_if_taken, text_so_far, unfinished_so_far}
 use Rattle.cg_interp.proofs.LineByLine.{after_front}
@@ -86,6 +86,32 @@ all_front a b bs wrote = record { front = bs; rest = []; whole = sym (append-nil
 -- where nothing was written
 pub nothing_recorded : NoRunIsStuck → (script : Script) (budget : ℕ) (before now : Option (List ℕ)) → Appends before now [] → WroteRecordsPart script budget before now
 nothing_recorded law script budget before now kept = part_so_far law script budget before now [] [] tt refl (all_front before now [] kept)
+
+-- what is told of a turn, by whether a command was refused
+pub told_none : (b : Bool) (s : Standing) → b ≡ true → None ≡ cond b None (Some s)
+told_none b s e = ap (λ k. cond k None (Some s)) (sym e)
+
+pub told_known : (b : Bool) (s t : Standing) → b ≡ false → t ≡ s → Some t ≡ cond b None (Some s)
+told_known b s t e same = ap Some same ∙ ap (λ k. cond k None (Some s)) (sym e)
+
+-- a turn, with what was written before it and after it
+module _ (script : Script) (old : State) (unfinished : Bool) (w : World) (l : List Event) (e : State) (before mid now : Option (List ℕ)) (d : Option Detection) (is : d ≡ recorded_next unfinished old) (answer : Turned)
+    (turns : TurnsWith script (Advances old l e) w l e answer) (begun : Appends before mid (text_before script old.store unfinished d)) where
+  pub records_turn : (then : Bool) (told : Option Standing) → told ≡ told_after answer → then ≡ unfinished_after unfinished d → Appends mid now (text_after e.store d) → RecordsTurn script old unfinished w l e then told before now
+  records_turn then told tells still found = record {
+    answer = answer;
+    is = tells;
+    turns = turns;
+    still = still ∙ ap (unfinished_after unfinished) is;
+    written = subst (λ k. Appends before now (text_of_turn script old.store e.store unfinished k)) is (Appends-trans before mid now _ _ begun found);
+  }
+
+  pub cuts_findings : AppendsFront mid now (text_after e.store d) → CutsRecord script old unfinished w l e before now
+  cuts_findings part = inr (record {
+    answer = answer;
+    turns = turns;
+    written = subst (λ k. AppendsFront before now (text_of_turn script old.store e.store unfinished k)) is (after_front before mid now _ _ begun part);
+  })
 
 -- What was recorded so far, and the laws.
 module _ (law : NoRunIsStuck) (script : Script) (budget : ℕ) (before : Option (List ℕ)) (e : State) (unfinished : Bool) (now : Option (List ℕ)) (so : RecordedSo script budget before e unfinished now) (laws : HasLaws script budget) (frames : e.frames ≡ budget) where
