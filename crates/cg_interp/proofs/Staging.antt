@@ -16,7 +16,7 @@ use Rattle.cg_collect.specs.declared.phase.Phase.{Phase}
 use Rattle.cg_collect.specs.declared.phase.Phase.TheVariants as phase_of
 use Rattle.cg_collect.specs.declared.stage.Detection.{Detection}
 use Rattle.cg_collect.specs.declared.stage.Detection.TheVariants.{First, Second}
-use Rattle.cg_collect.specs.Stages.{stage_after, stage_at, is_before}
+use Rattle.cg_collect.specs.Stages.{stage_after, stage_at, stage_of, is_before}
 use Rattle.cg_collect.specs.Phases.{machine_phase, collecting, released_over}
 use Rattle.cg_collect.specs.Ready.{MayRun, GivesUpIn}
 use Rattle.cg_interp.specs.declared.activity.Activity.{Activity}
@@ -97,6 +97,10 @@ plain_stage script (activity.Releasing release ∷ activities) stack shows = ref
 plain_stage script (activity.Shutdown started ∷ activities) stack shows = refl
 plain_stage script (activity.Dying death ∷ activities) stack shows = refl
 plain_stage script (activity.Collecting asked c ∷ activities) stack shows = run_stage c.phase c.detected shows.shows.handing.runs
+
+-- a collection on top has the stage
+pub stage_is : (activities rest : List Activity) (top : Activity) (asked : Bool) (c : Collection) → activities ≡ top ∷ rest → top ≡ activity.Collecting asked c → stage_on_top activities ≡ stage_of c
+stage_is activities rest top asked c is same = ap stage_on_top is ∙ ap (λ a. stage_on_top (a ∷ rest)) same
 
 -- The next step of the machine is a detection exactly where the stage of the engine is one before a detection.
 pub detects_by_stage : (script : Script) (e : State) (left : List Event) (w : World) → StandsWith script e left w → detects w.stack ≡ is_before (stage_on_top e.activities)

@@ -12,7 +12,7 @@ use Rattle.cg_interp.proofs.engine.Engine.go_on_with.Goals as goal
 
 pub collect-requires-clause-stands : goal.collect-requires-clause-stands
 collect-requires-clause-stands g c =
-    let (script, spelled, fit, next, w, stands, kept) = c.requires.stands in
+    let (script, spelled, fit, next, (w, stands, kept)) = c.requires.stands in
     let is = sym c.in-Some.is ∙ c.due.ensures ∙ ap (λ (e : State). due_of e.policy) c.self.view_is in
     let step = frame_collects script c.args.self.now c.args.locals c.args.procedure c.args.next (Some c.args.after) c.args.command.now w stands next c.in-Some.generation
     (due_in script (under (activity_of.Frame c.args.locals c.args.procedure c.args.next) c.args.self.now) w (Some c.in-Some.generation) stands is) in
@@ -30,12 +30,12 @@ returns-in-Some-clause-fit g c = λ script fit. still_fit script c.args.self.now
 
 pub run-requires-clause-spelled : goal.run-requires-clause-spelled
 run-requires-clause-spelled g c =
-    let (script, spelled, fit, next, w, stands, kept) = c.requires.stands in
+    let (script, spelled, fit, next, (w, stands, kept)) = c.requires.stands in
     body_doable script spelled _ c.args.procedure fit.names c.args.command.now (is_there (body_of script c.args.procedure) _ c.args.next c.args.command.now next)
 
 pub run-requires-clause-stands : goal.run-requires-clause-stands
 run-requires-clause-stands g c =
-    let (script, spelled, fit, next, w, stands, kept) = c.requires.stands in
+    let (script, spelled, fit, next, (w, stands, kept)) = c.requires.stands in
     let none = none_due_in script (under (activity_of.Frame c.args.locals c.args.procedure c.args.next) c.args.self.now) w c.due.result stands (c.due.ensures ∙ ap (λ (e : State). due_of e.policy) c.self.view_is) c.in_default.not-Some in
     let world = frame_goes_on script c.args.self.now c.args.locals c.args.procedure c.args.next (Some c.args.after) c.args.command.now w stands next in (
       script,

@@ -15,12 +15,12 @@ give_up-requires-clause-name g c = greatest_below c.greatest_bound.new.self.stor
 
 pub collect-requires-clause-idle : goal.collect-requires-clause-idle
 collect-requires-clause-idle g c =
-    let (script, spelled, fit, w, stands, kept) = c.requires.stands in
+    let (script, spelled, fit, (w, stands, kept)) = c.requires.stands in
     ap (λ (e : State). e.policy.running) c.greatest_bound.ensures.same ∙ none_runs script c.args.self.now false w stands c.args.self.now.frames (kept [] tt).lawful
 
 pub collect-requires-clause-stands : goal.collect-requires-clause-stands
 collect-requires-clause-stands g c =
-    let (script, spelled, fit, w, stands, kept) = c.requires.stands in
+    let (script, spelled, fit, (w, stands, kept)) = c.requires.stands in
     let none = sym (sym c.in-None.is ∙ c.greatest_bound.ensures.greatest) in
     let last : World = starts_last script c.args.self.now w stands in
     subst (IsAtStart false 2 (activity_of.Shutdown true)) (sym c.greatest_bound.ensures.same) (

@@ -9,19 +9,19 @@ use Rattle.cg_interp.proofs.engine.Engine.turn_of_shutdown.Goals as goal
 
 pub shut_down-requires-clause-few : goal.shut_down-requires-clause-few
 shut_down-requires-clause-few g c =
-    let (script, spelled, fit, w, stands, kept) = c.requires.stands in
+    let (script, spelled, fit, (w, stands, kept)) = c.requires.stands in
     let sound = subst (λ e. IsSound e.store) c.self.view_is c.sound.ensures in
     few_holds script c.args.self.now.frames c.args.self.now.store w stands.represents (kept [] tt).lawful fit.frames (few_objects c.args.self.now.store sound.objects)
 
 pub shut_down-requires-clause-room : goal.shut_down-requires-clause-room
 shut_down-requires-clause-room g c =
-    let (script, spelled, fit, w, stands, kept) = c.requires.stands in
+    let (script, spelled, fit, (w, stands, kept)) = c.requires.stands in
     omega (arith, has_room script (activity_of.Shutdown c.args.started) c.args.self.now w stands (kept [] tt).lawful fit)
 
 pub shut_down-requires-clause-stands : goal.shut_down-requires-clause-stands
 shut_down-requires-clause-stands g c =
-    let (script, spelled, fit, w, stands, kept) = c.requires.stands in
-    (script, spelled, fit, w, subst (λ b. StandsFor script (under (activity_of.Shutdown b) c.args.self.now) w) c.if-started.false stands, kept)
+    let (script, spelled, fit, (w, stands, kept)) = c.requires.stands in
+    (script, spelled, fit, (w, subst (λ b. StandsFor script (under (activity_of.Shutdown b) c.args.self.now) w) c.if-started.false stands, kept))
 
 pub returns-then-started-clause-turns : goal.returns-then-started-clause-turns
 returns-then-started-clause-turns g c = λ script w stands kept.
