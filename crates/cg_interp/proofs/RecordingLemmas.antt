@@ -113,6 +113,12 @@ module _ (script : Script) (old : State) (unfinished : Bool) (w : World) (l : Li
     written = subst (λ k. AppendsFront before now (text_of_turn script old.store e.store unfinished k)) is (after_front before mid now _ _ begun part);
   })
 
+-- the same in every world that the engine stands for
+pub cuts_all : (script : Script) (old : State) (unfinished : Bool) (e : State) (before mid now : Option (List ℕ)) (d : Option Detection) → d ≡ recorded_next unfinished old → (answer : Turned)
+    → ((w : World) (l : List Event) → StandsWith script old l w → StaysKept script old.frames w → TurnsWith script (Advances old l e) w l e answer) → Appends before mid (text_before script old.store unfinished d) → AppendsFront mid now (text_after e.store d)
+    → (w : World) (l : List Event) → StandsWith script old l w → StaysKept script old.frames w → CutsRecord script old unfinished w l e before now
+cuts_all script old unfinished e before mid now d is answer turns begun part w l stands kept = cuts_findings script old unfinished w l e before mid now d is answer (turns w l stands kept) begun part
+
 -- What was recorded so far, and the laws.
 module _ (law : NoRunIsStuck) (script : Script) (budget : ℕ) (before : Option (List ℕ)) (e : State) (unfinished : Bool) (now : Option (List ℕ)) (so : RecordedSo script budget before e unfinished now) (laws : HasLaws script budget) (frames : e.frames ≡ budget) where
   abbrev so_far : World

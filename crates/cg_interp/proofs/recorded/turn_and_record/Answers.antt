@@ -1,15 +1,14 @@
 use Rattle.std.proofs.Common.{sym, ◌∙◌, ap}
 use Rattle.cg_interp.specs.Graphs.{taken}
 use Rattle.cg_interp.proofs.GraphText.{given_err}
-use Rattle.cg_interp.proofs.RecordingLemmas.{records_turn, cuts_findings, told_none, told_known}
+use Rattle.cg_interp.proofs.RecordingLemmas.{records_turn, cuts_all, told_none, told_known}
 use Rattle.cg_interp.proofs.recorded.turn_and_record.Goals as goal
 
 pub returns-in_err-write_after-clause-err : goal.returns-in_err-write_after-clause-err
 returns-in_err-write_after-clause-err g c =
     given_err _ _
-    (λ w left stands kept.
-        cuts_findings c.args.script.now c.args.engine.now c.args.unfinished.now w left _ _ _ _ _ (c.recorded_of-detection.ensures ∙ ap (taken c.args.unfinished.now) c.next_detection.ensures) c.turn-answer.result
-        (c.turn-answer.ensures.turns w left stands kept) c.in_ok-write_before.ensures.ok c.in_err-write_after.ensures.err)
+    (cuts_all c.args.script.now c.args.engine.now c.args.unfinished.now _ _ _ _ _ (c.recorded_of-detection.ensures ∙ ap (taken c.args.unfinished.now) c.next_detection.ensures) c.turn-answer.result c.turn-answer.ensures.turns
+      c.in_ok-write_before.ensures.ok c.in_err-write_after.ensures.err)
 
 pub returns-then-wants_memory-clause-ok : goal.returns-then-wants_memory-clause-ok
 returns-then-wants_memory-clause-ok g c = λ w left stands kept.
