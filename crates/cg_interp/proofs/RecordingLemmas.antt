@@ -238,16 +238,15 @@ module _ (law : NoRunIsStuck) (script : Script) (budget : ℕ) (before : Option 
             let g : Graph = graph_with script e.store so_far unfinished listed at.represents (lost_at d step.world) (legacy_at d step.world) d in
             let later = some_shown script step.world more in
             let front = begun_front script e.store so_far unfinished listed at.represents (lost_at d step.world) (legacy_at d step.world) d in
-            let tail : List ℕ = text_so_far (begins_record d) later.0 ++ (closing (unfinished_so_far (begins_record d) later.0) ++ codes "end\n") in
-            (
+            let tail : List ℕ = text_so_far (begins_record d) later.0 ++ (closing (unfinished_so_far (begins_record d) later.0) ++ codes "end\n") in (
               picture d g ∷ later.0,
               front.0 ++ tail,
               shows_first script so_far step more d (sym (same_next script e left so_far so.ran.stands) ∙ next) g (graph_by script d so_far step.world (candidates_in e.store d) (all_candidates script d e.store so_far listed at.represents)) later.0 later.1,
               ap (λ u. text_to_end u (picture d g ∷ later.0)) (sym so.is)
-              ∙ ap (λ (o : Option Detection). (text_if_taken unfinished o g ++ text_so_far (begins_record d) later.0) ++ (closing (unfinished_so_far (begins_record d) later.0) ++ codes "end\n")) is
-              ∙ append_assoc (picture_text unfinished d g) (text_so_far (begins_record d) later.0) (closing (unfinished_so_far (begins_record d) later.0) ++ codes "end\n")
-              ∙ ap (λ t. t ++ tail) front.1
-              ∙ append_assoc (begun_text script e.store unfinished d) front.0 tail,
+                  ∙ ap (λ (o : Option Detection). (text_if_taken unfinished o g ++ text_so_far (begins_record d) later.0) ++ (closing (unfinished_so_far (begins_record d) later.0) ++ codes "end\n")) is
+                  ∙ append_assoc (picture_text unfinished d g) (text_so_far (begins_record d) later.0) (closing (unfinished_so_far (begins_record d) later.0) ++ codes "end\n")
+                  ∙ ap (λ t. t ++ tail) front.1
+                  ∙ append_assoc (begun_text script e.store unfinished d) front.0 tail,
             )
 
     cut_before : AppendsFront now now' (text_before script e.store unfinished (recorded_next unfinished e)) → WroteRecordsPart script budget before now'

@@ -83,11 +83,7 @@ pub fn is_unfinished_after(detection: Option<Detection>, unfinished: bool) -> bo
 }
 
 /// Writes how a record of a collection of this generation begins, and its first graph. An unfinished record ends.
-fn write_record<K: Sink>(
-    generation: u64,
-    unfinished: bool,
-    sink: &mut K,
-) -> Result<(), WriteFailed>
+fn write_record<K: Sink>(generation: u64, unfinished: bool, sink: &mut K) -> Result<(), WriteFailed>
     ensures ok { OnOk result (Appends (K.written sink.old) (K.written sink.new) (record_heading unfinished generation)) }
     ensures err { OnErr result (AppendsFront (K.written sink.old) (K.written sink.new) (record_heading unfinished generation)) }
     ensures cause { HasCause (K.faults sink.old) (K.faults sink.new) result }
@@ -108,9 +104,7 @@ fn write_heading<K: Sink>(
     ensures cause { HasCause (K.faults sink.old) (K.faults sink.new) result }
 {
     match detection {
-        Detection::First { generation } => {
-            write_record(u64::from(generation), unfinished, sink)
-        }
+        Detection::First { generation } => { write_record(u64::from(generation), unfinished, sink) }
         Detection::Second => sink.write(b"graph 2\n"),
     }
 }

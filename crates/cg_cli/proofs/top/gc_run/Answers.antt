@@ -1,6 +1,6 @@
 use Rattle.std.proofs.Common.{◌≡◌, ◌∙◌, sym, inl, inr, Option, Some}
 use Rattle.cg_machine.specs.World.{Ended, BudgetIsSpent}
-use Rattle.cg_words.specs.declared.words.Job.TheVariants.{Run, Generate}
+use Rattle.cg_words.specs.declared.words.Job.TheVariants.{Run, Generate, Record}
 use Rattle.cg_cli.proofs.KeptLines.{told_kept}
 use Rattle.cg_cli.proofs.top.gc_run.Goals as goal
 
@@ -10,7 +10,11 @@ returns-clause-promises g c =
     λ given asks ended. elim ended [
       | inl is ↦ elim (c.gc_over.ensures.done is) [
         | inl ran ↦ kept ran.0 Ended _ _ _ ran.2
-        | inr large ↦ let one : Some (Run given) ≡ Some (Generate large.0) = sym asks ∙ large.1 in absurd (cc)
+        | inr (inl large) ↦ let one : Some (Run given) ≡ Some (Generate large.0) = sym asks ∙ large.1 in absurd (cc)
+        | inr (inr recorded) ↦ let one : Some (Run given) ≡ Some Record = sym asks ∙ recorded.0 in absurd (cc)
       ]
-      | inr is ↦ let ran = c.gc_over.ensures.spent is in kept ran.0 BudgetIsSpent _ _ _ ran.2
+      | inr is ↦ elim (c.gc_over.ensures.spent is) [
+        | inl ran ↦ kept ran.0 BudgetIsSpent _ _ _ ran.2
+        | inr recorded ↦ let one : Some (Run given) ≡ Some Record = sym asks ∙ recorded.0 in absurd (cc)
+      ]
     ]

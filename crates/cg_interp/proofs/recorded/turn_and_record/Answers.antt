@@ -8,7 +8,7 @@ pub returns-in_err-write_after-clause-err : goal.returns-in_err-write_after-clau
 returns-in_err-write_after-clause-err g c =
     given_err _ _
     (cuts_all c.args.script.now c.args.engine.now c.args.unfinished.now _ _ _ _ _ (c.recorded_of-detection.ensures ∙ ap (taken c.args.unfinished.now) c.next_detection.ensures) c.turn-answer.result c.turn-answer.ensures.turns
-      c.in_ok-write_before.ensures.ok c.in_err-write_after.ensures.err)
+    c.in_ok-write_before.ensures.ok c.in_err-write_after.ensures.err)
 
 pub returns-then-wants_memory-clause-ok : goal.returns-then-wants_memory-clause-ok
 returns-then-wants_memory-clause-ok g c = λ w left stands kept.
