@@ -81,12 +81,7 @@ fn record_in_hand<K: Sink, B: Kind>(
 }
 
 /// Records a run of what was read, or says that it is too large.
-fn record_read<K: Sink, B: Kind>(
-    alloc: Global,
-    bytes: &[u8],
-    sink: &mut K,
-    kinds: Vec<B>,
-) -> Status
+fn record_read<K: Sink, B: Kind>(alloc: Global, bytes: &[u8], sink: &mut K, kinds: Vec<B>) -> Status
     requires kinds { map B.kind kinds.items ≡ six_kinds }
     requires empty { map B.bodies kinds.items ≡ replicate 6 fin.empty }
     ensures done { result ≡ Status.Done → RecordedWhole Ended bytes.now (K.written sink.old) (K.written sink.new) }

@@ -12,23 +12,26 @@ use std::test::Fail;
 
 /// A list that holds itself and is thrown away: both detections find it.
 const RING: &str = "a = list; append a a; del a; collect 2";
+
 const RECORD_OF_RING: &str =
     "record 2; graph 1; m 2 1 0; r 2; lost 2; graph 2; m 2 1 0; r 2; lost 2; stop";
 
 /// One with a legacy finalizer: it is set aside.
 const LEGACY: &str =
     "def p; end; class C legacy=p; a = new C; setattr a me a; del a; collect 2; x = item garbage 0";
+
 const RECORDS_OF_LEGACY: &str =
     "record 2; graph 1; m 2 1 1; r 2; lost 2; legacy 2; graph 2; stop; end";
 
 /// What a finalizer brings back is not lost again.
-const BACK: &str =
-    "def d; x = self; end; class C del=d; a = new C; setattr a me a; del a; collect";
+const BACK: &str = "def d; x = self; end; class C del=d; a = new C; setattr a me a; del a; collect";
+
 const RECORDS_OF_BACK: &str =
     "record 2; graph 1; m 2 1 0; r 2; lost 2; graph 2; m 2 2 0; r 2; stop; end";
 
 /// A list in three collections: held, passed over, and lost.
 const THRICE: &str = "a = list; append a a; collect 0; del a; collect 0; collect 1";
+
 const RECORDS_OF_THRICE: &str =
     "record 0; graph 1; m 2 2 0; r 2; graph 2; stop; record 0; graph 1; graph 2; stop; record 1; graph 1; m 2 1 0; r 2; lost 2; graph 2; m 2 1 0; r 2; lost 2; stop; end";
 
@@ -119,7 +122,9 @@ fn two_members_stand_in_any_order(rt: HostRuntime) -> Result<(), Fail> {
         alloc,
         "record 0; graph 1; m 3 1 0; r 2; m 2 2 0; graph 2; stop; end",
     )?;
-    assert!(rt; found.text.as_slice() == one.as_slice() || found.text.as_slice() == other.as_slice());
+    assert!(rt;
+        found.text.as_slice() == one.as_slice() || found.text.as_slice() == other.as_slice()
+    );
     assert_eq!(rt; found.status, Status::Done);
     Ok(())
 }
@@ -140,8 +145,7 @@ fn refused_after(alloc: Global, script: &str, before: usize) -> Result<Answered,
 #[test]
 fn want_of_memory_ends_the_records(rt: HostRuntime) -> Result<(), Fail> {
     let alloc = rt.alloc();
-    let script =
-        "a = list; append a a; del a; collect 2; b = list; append b b; del b; collect 2";
+    let script = "a = list; append a a; del a; collect 2; b = list; append b b; del b; collect 2";
     // The garbage list, `a` and `b` are made by one call each.
     for (before, text) in [(0, None), (1, None), (2, Some(RECORD_OF_RING))] {
         let found = refused_after(alloc, script, before)?;
@@ -159,7 +163,10 @@ fn want_of_memory_ends_the_records(rt: HostRuntime) -> Result<(), Fail> {
 fn a_failed_write_leaves_a_front_of_the_records(rt: HostRuntime) -> Result<(), Fail> {
     let alloc = rt.alloc();
     let texts = [
-        "re", "record 2; gr", "record 2; graph 1; m ", "record 2; graph 1; m 2 1 0; r ",
+        "re",
+        "record 2; gr",
+        "record 2; graph 1; m ",
+        "record 2; graph 1; m 2 1 0; r ",
         "record 2; graph 1; m 2 1 0; r 2; lo",
         "record 2; graph 1; m 2 1 0; r 2; lost 2; gr",
         "record 2; graph 1; m 2 1 0; r 2; lost 2; graph 2; m ",
@@ -211,7 +218,13 @@ fn records_of_rows_are_right(rt: HostRuntime) -> Result<(), Fail> {
 #[test]
 fn other_causes_are_those_of_a_run(rt: HostRuntime) -> Result<(), Fail> {
     let alloc = rt.alloc();
-    check_record(&rt, alloc, "a = list; list = list", Status::BadScript, "bad script 2 4")?;
+    check_record(
+        &rt,
+        alloc,
+        "a = list; list = list",
+        Status::BadScript,
+        "bad script 2 4",
+    )?;
     let mut source = MemSource::new(lines(alloc, RING)?, vec![in alloc; 1]?);
     let found = answer_to(alloc, &["record"], &mut source)?;
     assert_eq!(rt; found.status, Status::ReadFault);

@@ -144,12 +144,11 @@ below_split store (suc n) i less = go (cases_of (i == n)) (below_split store n i
         let e : i ≡ n = eqb-true i n same in
         ([], subst (λ k. generations_below store (suc n) ≡ generations_below store k ++ (list_at store (Gen k) ++ [])) (sym e) (ap (λ l. generations_below store n ++ l) (sym (append-nil (list_at store (Gen n))))))
     go (inr other) rec =
-        let deeper = rec (lower other) in
-        (
+        let deeper = rec (lower other) in (
           deeper.0 ++ list_at store (Gen n),
           ap (λ l. l ++ list_at store (Gen n)) deeper.1
-          ∙ append_assoc (generations_below store i) (list_at store (Gen i) ++ deeper.0) (list_at store (Gen n))
-          ∙ ap (λ l. generations_below store i ++ l) (append_assoc (list_at store (Gen i)) deeper.0 (list_at store (Gen n))),
+              ∙ append_assoc (generations_below store i) (list_at store (Gen i) ++ deeper.0) (list_at store (Gen n))
+              ∙ ap (λ l. generations_below store i ++ l) (append_assoc (list_at store (Gen i)) deeper.0 (list_at store (Gen n))),
         )
 
 pub generations_cut : (f : ℕ → List ℕ) (store : Store) (n i : ℕ) → i < n → (a b c : Option (List ℕ)) → Appends a b (flat_map f (generations_below store i)) → AppendsFront b c (flat_map f (list_at store (Gen i))) → AppendsFront a c (flat_map f (generations_below store n))

@@ -29,7 +29,7 @@ use Rattle.cg_interp.specs.Telling.{TurnsWith, Advances, GoesOnTo}
 use Rattle.cg_interp.specs.Turns.{EndsWith}
 use Rattle.cg_interp.specs.Running.{Ran, HasLaws, events_told, standing_after}
 use Rattle.cg_laws.specs.Kept.{StaysKept}
-use Rattle.cg_interp.specs.Graphs.{closing, text_before, unfinished_after, begins_record, begun_text, candidates_in, detection_on, taken, taken_while}
+use Rattle.cg_interp.specs.Graphs.{closing, text_before, text_after, unfinished_after, begins_record, begun_text, candidates_in, detection_on, taken, taken_while}
 use Rattle.cg_interp.specs.Recorded.{Picture, picture, lost_at, legacy_at, Shows, HasRecords, records_of, wants_memory, WroteRecords, WroteRecordsPart}
 use Rattle.cg_interp.specs.Recording.{RecordsTurn, CutsFindings, CutsRecord, RecordedSo, told_after, recorded_next, text_of_turn, picture_text, text_if_taken, text_so_far, unfinished_so_far}
 use Rattle.cg_interp.proofs.LineByLine.{after_front}
@@ -86,6 +86,38 @@ all_front a b bs wrote = record { front = bs; rest = []; whole = sym (append-nil
 -- where nothing was written
 pub nothing_recorded : NoRunIsStuck → (script : Script) (budget : ℕ) (before now : Option (List ℕ)) → Appends before now [] → WroteRecordsPart script budget before now
 nothing_recorded law script budget before now kept = part_so_far law script budget before now [] [] tt refl (all_front before now [] kept)
+
+-- what is told of a turn, by whether a command was refused
+pub told_none : (b : Bool) (s : Standing) → b ≡ true → None ≡ cond b None (Some s)
+told_none b s e = ap (λ k. cond k None (Some s)) (sym e)
+
+pub told_known : (b : Bool) (s t : Standing) → b ≡ false → t ≡ s → Some t ≡ cond b None (Some s)
+told_known b s t e same = ap Some same ∙ ap (λ k. cond k None (Some s)) (sym e)
+
+-- a turn, with what was written before it and after it
+module _ (script : Script) (old : State) (unfinished : Bool) (w : World) (l : List Event) (e : State) (before mid now : Option (List ℕ)) (d : Option Detection) (is : d ≡ recorded_next unfinished old) (answer : Turned)
+    (turns : TurnsWith script (Advances old l e) w l e answer) (begun : Appends before mid (text_before script old.store unfinished d)) where
+  pub records_turn : (then : Bool) (told : Option Standing) → told ≡ told_after answer → then ≡ unfinished_after unfinished d → Appends mid now (text_after e.store d) → RecordsTurn script old unfinished w l e then told before now
+  records_turn then told tells still found = record {
+    answer = answer;
+    is = tells;
+    turns = turns;
+    still = still ∙ ap (unfinished_after unfinished) is;
+    written = subst (λ k. Appends before now (text_of_turn script old.store e.store unfinished k)) is (Appends-trans before mid now _ _ begun found);
+  }
+
+  pub cuts_findings : AppendsFront mid now (text_after e.store d) → CutsRecord script old unfinished w l e before now
+  cuts_findings part = inr (record {
+    answer = answer;
+    turns = turns;
+    written = subst (λ k. AppendsFront before now (text_of_turn script old.store e.store unfinished k)) is (after_front before mid now _ _ begun part);
+  })
+
+-- the same in every world that the engine stands for
+pub cuts_all : (script : Script) (old : State) (unfinished : Bool) (e : State) (before mid now : Option (List ℕ)) (d : Option Detection) → d ≡ recorded_next unfinished old → (answer : Turned)
+    → ((w : World) (l : List Event) → StandsWith script old l w → StaysKept script old.frames w → TurnsWith script (Advances old l e) w l e answer) → Appends before mid (text_before script old.store unfinished d) → AppendsFront mid now (text_after e.store d)
+    → (w : World) (l : List Event) → StandsWith script old l w → StaysKept script old.frames w → CutsRecord script old unfinished w l e before now
+cuts_all script old unfinished e before mid now d is answer turns begun part w l stands kept = cuts_findings script old unfinished w l e before mid now d is answer (turns w l stands kept) begun part
 
 -- What was recorded so far, and the laws.
 module _ (law : NoRunIsStuck) (script : Script) (budget : ℕ) (before : Option (List ℕ)) (e : State) (unfinished : Bool) (now : Option (List ℕ)) (so : RecordedSo script budget before e unfinished now) (laws : HasLaws script budget) (frames : e.frames ≡ budget) where
@@ -206,16 +238,15 @@ module _ (law : NoRunIsStuck) (script : Script) (budget : ℕ) (before : Option 
             let g : Graph = graph_with script e.store so_far unfinished listed at.represents (lost_at d step.world) (legacy_at d step.world) d in
             let later = some_shown script step.world more in
             let front = begun_front script e.store so_far unfinished listed at.represents (lost_at d step.world) (legacy_at d step.world) d in
-            let tail : List ℕ = text_so_far (begins_record d) later.0 ++ (closing (unfinished_so_far (begins_record d) later.0) ++ codes "end\n") in
-            (
+            let tail : List ℕ = text_so_far (begins_record d) later.0 ++ (closing (unfinished_so_far (begins_record d) later.0) ++ codes "end\n") in (
               picture d g ∷ later.0,
               front.0 ++ tail,
               shows_first script so_far step more d (sym (same_next script e left so_far so.ran.stands) ∙ next) g (graph_by script d so_far step.world (candidates_in e.store d) (all_candidates script d e.store so_far listed at.represents)) later.0 later.1,
               ap (λ u. text_to_end u (picture d g ∷ later.0)) (sym so.is)
-              ∙ ap (λ (o : Option Detection). (text_if_taken unfinished o g ++ text_so_far (begins_record d) later.0) ++ (closing (unfinished_so_far (begins_record d) later.0) ++ codes "end\n")) is
-              ∙ append_assoc (picture_text unfinished d g) (text_so_far (begins_record d) later.0) (closing (unfinished_so_far (begins_record d) later.0) ++ codes "end\n")
-              ∙ ap (λ t. t ++ tail) front.1
-              ∙ append_assoc (begun_text script e.store unfinished d) front.0 tail,
+                  ∙ ap (λ (o : Option Detection). (text_if_taken unfinished o g ++ text_so_far (begins_record d) later.0) ++ (closing (unfinished_so_far (begins_record d) later.0) ++ codes "end\n")) is
+                  ∙ append_assoc (picture_text unfinished d g) (text_so_far (begins_record d) later.0) (closing (unfinished_so_far (begins_record d) later.0) ++ codes "end\n")
+                  ∙ ap (λ t. t ++ tail) front.1
+                  ∙ append_assoc (begun_text script e.store unfinished d) front.0 tail,
             )
 
     cut_before : AppendsFront now now' (text_before script e.store unfinished (recorded_next unfinished e)) → WroteRecordsPart script budget before now'

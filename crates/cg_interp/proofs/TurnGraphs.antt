@@ -98,7 +98,7 @@ module _ (script : Script) (store now : Store) (unfinished : Bool) where
       ap (λ t. (heading unfinished (First g) ++ t) ++ findings now (First g)) (members_map script store (First g) (candidates_in store (First g)))
       ∙ assoc_graph (heading unfinished (First g)) (flat_map member_text (map (member_in script store (First g)) (candidates_in store (First g)))) (flat_map (numbered (codes "lost")) (list_at now Cand)) (flat_map (numbered (codes "lost")) (list_at now Legacy)) (flat_map (numbered (codes "legacy")) (list_at now Legacy))
       ∙ ap (λ t. heading unfinished (First g) ++ ((flat_map member_text (map (member_in script store (First g)) (candidates_in store (First g))) ++ t) ++ flat_map (numbered (codes "legacy")) (list_at now Legacy)))
-        (sym (flat_map-append (numbered (codes "lost")) (list_at now Cand) (list_at now Legacy)))
+      (sym (flat_map-append (numbered (codes "lost")) (list_at now Cand) (list_at now Legacy)))
   graph_written Second =
       ap (λ t. (heading unfinished Second ++ t) ++ findings now Second) (members_map script store Second (candidates_in store Second))
       ∙ assoc_second (heading unfinished Second) (flat_map member_text (map (member_in script store Second) (candidates_in store Second))) (flat_map (numbered (codes "lost")) (list_at now Cand)) (codes "stop\n")
@@ -133,12 +133,12 @@ module _ (script : Script) (store : Store) (w : World) (unfinished : Bool) (list
   begun_front (First g) = (
     flat_map (numbered (codes "lost")) lost ++ flat_map (numbered (codes "legacy")) legacy,
     assoc_begun (heading unfinished (First g)) (flat_map member_text (graph_with (First g)).members) (flat_map (numbered (codes "lost")) lost) (flat_map (numbered (codes "legacy")) legacy)
-    ∙ ap (λ t. (heading unfinished (First g) ++ t) ++ (flat_map (numbered (codes "lost")) lost ++ flat_map (numbered (codes "legacy")) legacy)) (members_here (First g)),
+        ∙ ap (λ t. (heading unfinished (First g) ++ t) ++ (flat_map (numbered (codes "lost")) lost ++ flat_map (numbered (codes "legacy")) legacy)) (members_here (First g)),
   )
   begun_front Second = (
     flat_map (numbered (codes "lost")) lost ++ codes "stop\n",
     assoc_begun (heading unfinished Second) (flat_map member_text (graph_with Second).members) (flat_map (numbered (codes "lost")) lost) (codes "stop\n")
-    ∙ ap (λ t. (heading unfinished Second ++ t) ++ (flat_map (numbered (codes "lost")) lost ++ codes "stop\n")) (members_here Second),
+        ∙ ap (λ t. (heading unfinished Second ++ t) ++ (flat_map (numbered (codes "lost")) lost ++ codes "stop\n")) (members_here Second),
   )
 
 -- What a turn shows: these graphs, which are written for it.
@@ -191,7 +191,7 @@ module _ (script : Script) (e e' : State) (unfinished : Bool) (left : List Event
           let at = at_detection script e left w d stands next in
           subst (λ (l : List StepTaken). TurnShows script w l e e' unfinished) (sym one.1)
           (shows_graph d one.0 next (subst (λ (v : World). IsGraphOf script d w v (graph_in script d e.store e'.store)) (sym ends)
-              (graph_is script d e.store w e'.store g.after listed at.represents (alike_now script e' g.still g.after g.stands listed'))))
+          (graph_is script d e.store w e'.store g.after listed at.represents (alike_now script e' g.still g.after g.stands listed'))))
 
   -- a turn that ends the run makes no detection
   pub shown_end : (lines : List Event) (outcome : Outcome) (k : EndsWith script w lines outcome) → w.outcome ≡ Running → outcome ≢ Running → TurnShows script w k.goes.steps e e' unfinished

@@ -22,9 +22,7 @@ use cg_value::{Place, Val};
 #[derive(Clone, Copy, Debug, PartialEq, Eq, Drop)]
 pub enum Detection {
     /// The first one, at the start of a collection of this generation.
-    First {
-        generation: u8,
-    },
+    First { generation: u8 },
     /// The second one, after the finalizers.
     Second,
 }

@@ -18,7 +18,7 @@ ghost use Rattle.cg_interp.specs.Recording.{RecordsTurn, CutsRecord};
 ghost use Rattle.cg_interp.specs.Running.{HasLaws};
 
 use crate::engine::Engine;
-use crate::recording::{is_unfinished_after, recorded_of, write_after, write_before, write_end};
+use crate::recording::{is_unfinished_after, recorded_of, write_end};
 use crate::run::RunEnd;
 use crate::turned::Standing;
 use cg_heap::{Heap, Steps};
@@ -59,10 +59,10 @@ fn turn_and_record<B: Kind, K: Sink, L: Ledger>(
     // No heap is large, and each object stands in the list of its place.
     engine.heap.sound();
     let detection = recorded_of(engine.next_detection(), *unfinished);
-    write_before(&engine.heap, script, detection, *unfinished, sink)?;
+    engine.write_before(script, detection, *unfinished, sink)?;
     let answer = engine.turn(script, steps);
     engine.heap.sound();
-    write_after(&engine.heap, detection, sink)?;
+    engine.write_after(detection, sink)?;
     *unfinished = is_unfinished_after(detection, *unfinished);
     if answer.wants_memory() {
         return Ok(None);

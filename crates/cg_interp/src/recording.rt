@@ -83,11 +83,7 @@ pub fn is_unfinished_after(detection: Option<Detection>, unfinished: bool) -> bo
 }
 
 /// Writes how a record of a collection of this generation begins, and its first graph. An unfinished record ends.
-fn write_record<K: Sink>(
-    generation: u64,
-    unfinished: bool,
-    sink: &mut K,
-) -> Result<(), WriteFailed>
+fn write_record<K: Sink>(generation: u64, unfinished: bool, sink: &mut K) -> Result<(), WriteFailed>
     ensures ok { OnOk result (Appends (K.written sink.old) (K.written sink.new) (record_heading unfinished generation)) }
     ensures err { OnErr result (AppendsFront (K.written sink.old) (K.written sink.new) (record_heading unfinished generation)) }
     ensures cause { HasCause (K.faults sink.old) (K.faults sink.new) result }
@@ -108,9 +104,7 @@ fn write_heading<K: Sink>(
     ensures cause { HasCause (K.faults sink.old) (K.faults sink.new) result }
 {
     match detection {
-        Detection::First { generation } => {
-            write_record(u64::from(generation), unfinished, sink)
-        }
+        Detection::First { generation } => { write_record(u64::from(generation), unfinished, sink) }
         Detection::Second => sink.write(b"graph 2\n"),
     }
 }
@@ -134,40 +128,42 @@ fn write_begun<B: Kind, K: Sink>(
     write_members(heap, script, detection, sink)
 }
 
-/// Writes what is recorded before a turn that makes this detection, or none.
-pub fn write_before<B: Kind, K: Sink>(
-    heap: &Heap<B>,
-    script: &Script,
-    detection: Option<Detection>,
-    unfinished: bool,
-    sink: &mut K,
-) -> Result<(), WriteFailed>
-    requires { AreOfGenerations detection }
-    ensures ok { OnOk result (Appends (K.written sink.old) (K.written sink.new)
-        (text_before script.now heap.now unfinished detection)) }
-    ensures err { OnErr result (AppendsFront (K.written sink.old) (K.written sink.new)
-        (text_before script.now heap.now unfinished detection)) }
-    ensures cause { HasCause (K.faults sink.old) (K.faults sink.new) result }
-{
-    match detection {
-        Some(made) => write_begun(heap, script, made, unfinished, sink),
-        None => Ok(()),
+impl<B: Kind> Engine<B> {
+    /// Writes what is recorded before a turn that makes this detection, or none.
+    pub fn write_before<K: Sink>(
+        &self,
+        script: &Script,
+        detection: Option<Detection>,
+        unfinished: bool,
+        sink: &mut K,
+    ) -> Result<(), WriteFailed>
+        requires { AreOfGenerations detection }
+        ensures ok { OnOk result (Appends (K.written sink.old) (K.written sink.new)
+            (text_before script.now self.now.store unfinished detection)) }
+        ensures err { OnErr result (AppendsFront (K.written sink.old) (K.written sink.new)
+            (text_before script.now self.now.store unfinished detection)) }
+        ensures cause { HasCause (K.faults sink.old) (K.faults sink.new) result }
+    {
+        match detection {
+            Some(made) => write_begun(&self.heap, script, made, unfinished, sink),
+            None => Ok(()),
+        }
     }
-}
 
-/// Writes what is recorded after it.
-pub fn write_after<B: Kind, K: Sink>(
-    heap: &Heap<B>,
-    detection: Option<Detection>,
-    sink: &mut K,
-) -> Result<(), WriteFailed>
-    ensures ok { OnOk result (Appends (K.written sink.old) (K.written sink.new) (text_after heap.now detection)) }
-    ensures err { OnErr result (AppendsFront (K.written sink.old) (K.written sink.new) (text_after heap.now detection)) }
-    ensures cause { HasCause (K.faults sink.old) (K.faults sink.new) result }
-{
-    match detection {
-        Some(made) => write_findings(heap, made, sink),
-        None => Ok(()),
+    /// Writes what is recorded after it.
+    pub fn write_after<K: Sink>(
+        &self,
+        detection: Option<Detection>,
+        sink: &mut K,
+    ) -> Result<(), WriteFailed>
+        ensures ok { OnOk result (Appends (K.written sink.old) (K.written sink.new) (text_after self.now.store detection)) }
+        ensures err { OnErr result (AppendsFront (K.written sink.old) (K.written sink.new) (text_after self.now.store detection)) }
+        ensures cause { HasCause (K.faults sink.old) (K.faults sink.new) result }
+    {
+        match detection {
+            Some(made) => write_findings(&self.heap, made, sink),
+            None => Ok(()),
+        }
     }
 }
 

@@ -10,13 +10,9 @@ returns-clause-promises g c =
     λ given asks ended. elim ended [
       | inl is ↦ elim (c.gc_over.ensures.done is) [
         | inl ran ↦ kept ran.0 Ended _ _ _ ran.2
-        | inr other ↦ elim other [
-          | inl large ↦ let one : Some (Run given) ≡ Some (Generate large.0) = sym asks ∙ large.1 in absurd (cc)
-          | inr others ↦ elim others [
-            | inl expanded ↦ let one : Some (Run given) ≡ Some Expand = sym asks ∙ expanded.0 in absurd (cc)
-            | inr recorded ↦ let one : Some (Run given) ≡ Some Record = sym asks ∙ recorded.0 in absurd (cc)
-          ]
-        ]
+        | inr (inl large) ↦ let one : Some (Run given) ≡ Some (Generate large.0) = sym asks ∙ large.1 in absurd (cc)
+        | inr (inr (inl expanded)) ↦ let one : Some (Run given) ≡ Some Expand = sym asks ∙ expanded.0 in absurd (cc)
+        | inr (inr (inr recorded)) ↦ let one : Some (Run given) ≡ Some Record = sym asks ∙ recorded.0 in absurd (cc)
       ]
       | inr is ↦ elim (c.gc_over.ensures.spent is) [
         | inl ran ↦ kept ran.0 BudgetIsSpent _ _ _ ran.2

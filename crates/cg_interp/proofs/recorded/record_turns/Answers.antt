@@ -38,12 +38,12 @@ returns-in-Ok-Some-Ended-clause-part g c = λ fault.
 pub returns-in-Ok-Some-Spent-clause-spent : goal.returns-in-Ok-Some-Spent-clause-spent
 returns-in-Ok-Some-Spent-clause-spent g c = λ spent.
     recorded_out c.no_run_is_stuck.ensures _ _ _ _ _ _ c.turns.invariant.so c.requires.laws c.turns.invariant.frames _ _ _ c.turn_and_record.ensures.was_sound.listed c.turn_and_record.ensures.sound.listed
-    _ (c.end_records.ensures.ok (λ fault. let same : Budget ≡ WriteFault = sym spent ∙ fault in cc)) _ (c.in-Ok-Some-Spent.field-0-is ∙ ap Some c.in-Ok-Some-Spent.field-0-0-is) c.in-Ok-Some-Spent.ensures.ok
+    _ (c.end_records-in-Ok-Some-Spent.ensures.ok (λ fault. let same : Budget ≡ WriteFault = sym spent ∙ fault in cc)) _ (c.in-Ok-Some-Spent.field-0-is ∙ ap Some c.in-Ok-Some-Spent.field-0-0-is) c.in-Ok-Some-Spent.ensures.ok
 
 pub returns-in-Ok-Some-Spent-clause-part : goal.returns-in-Ok-Some-Spent-clause-part
 returns-in-Ok-Some-Spent-clause-part g c = λ fault.
     recorded_end_cut c.no_run_is_stuck.ensures _ _ _ _ _ _ c.turns.invariant.so c.requires.laws c.turns.invariant.frames _ _ _ c.turn_and_record.ensures.was_sound.listed c.turn_and_record.ensures.sound.listed
-    _ _ (c.in-Ok-Some-Spent.field-0-is ∙ ap Some c.in-Ok-Some-Spent.field-0-0-is) (λ n. cc) c.in-Ok-Some-Spent.ensures.ok _ (c.end_records.ensures.part fault)
+    _ _ (c.in-Ok-Some-Spent.field-0-is ∙ ap Some c.in-Ok-Some-Spent.field-0-0-is) (λ n. cc) c.in-Ok-Some-Spent.ensures.ok _ (c.end_records-in-Ok-Some-Spent.ensures.part fault)
 
 pub returns-in-Ok-None-clause-memory : goal.returns-in-Ok-None-clause-memory
 returns-in-Ok-None-clause-memory g c = λ _.
