@@ -279,7 +279,7 @@ same_number script e left w (inr top) =
     let c : Collection = top.collection in
     let h = top.collects in
     let here : State = record e { activities = activity.Collecting top.asked c ∷ top.rest } in
-    same script here w (sym h.shows.represents.objects) (sym h.shows.represents.names ∙ names_after c.phase e.store) 
+    same script here w (sym h.shows.represents.objects) (sym h.shows.represents.names ∙ names_after c.phase e.store)
     (λ none. sym (h.shows.numbers ∙ begun_numbers top.asked c c.phase c.release (list_at e.store Pend) h.below c.generation w.numbers (ap (list_any is_starting) (sym h.shows.top) ∙ none))) h.budget h.running
     (λ f blind. same_on_top f blind script top.asked c (list_at e.store Pend) top.rest w.stack h.below h.shows.top h.over)
     ∙ ap (λ list. number_of script (world_from script (record e { activities = list }))) (sym top.top)

@@ -24,4 +24,3 @@ returns-in-Err-clause-does g c = λ script w command before was performed.
       makes = subst (λ n. Makes script (refused n w) c.refuse.new.self c.refuse.result) c.number.ensures
           (c.refuse.ensures.refuses script w (as_before script c.args.self.now c.args.top w command before was p.stood p.answers.heap.1 p.answers.policy));
     })
-

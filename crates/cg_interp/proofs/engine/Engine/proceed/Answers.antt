@@ -71,4 +71,3 @@ returns-in-Quits-clause-does g c = λ script w command before was performed.
       may = quit_may script w (effect w command) p.answers.heap.0;
       makes = c.quit.ensures.quits script w (as_before script c.args.self.now c.args.top w command before was p.stood p.answers.heap.1 p.answers.policy);
     })
-
