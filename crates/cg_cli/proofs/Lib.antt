@@ -4,3 +4,4 @@ pub mod KeptLines
 pub mod Refusals
 pub mod Summed
 pub mod ToldExpansions
+pub mod ToldRecords
