@@ -26,7 +26,6 @@ mod CollectHolds
 mod CollectTurns
 mod CollectMoves
 mod CollectBegins
-mod Staging
 mod Telling
 mod UnderWay
 mod TurnLemmas

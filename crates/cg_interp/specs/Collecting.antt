@@ -8,9 +8,6 @@ use Rattle.cg_collect.specs.declared.collection.Collection.{Collection}
 use Rattle.cg_collect.specs.Phases.{lines_left}
 use Rattle.cg_collect.specs.Answers.{Shows as CollectionShows}
 use Rattle.cg_collect.specs.Collections.{IsReady}
-use Rattle.cg_collect.specs.Stages.{stage_of}
-use Rattle.cg_collect.specs.declared.stage.Stage.{Stage}
-use Rattle.cg_collect.specs.declared.stage.Stage.TheVariants.{Between}
 use Rattle.cg_interp.specs.declared.activity.Activity.{Activity}
 use Rattle.cg_interp.specs.declared.activity.Activity.TheVariants as activity
 use Rattle.cg_interp.specs.Engines.{State, StandsFor, ShowsAll, any_collecting}
@@ -39,8 +36,3 @@ pub record CollectsOnTop (script : Script) (e : State) (left : List Event) (w : 
 -- last step, and there are none without one.
 abbrev pub StandsWith : Script → State → List Event → World → Type 0
 StandsWith script e left w = (StandsFor script e w × (left ≡ [])) ⊎ CollectsOnTop script e left w
-
--- where the collection on top stands towards its two detections; between without one there
-abbrev pub stage_on_top : List Activity → Stage
-stage_on_top (activity.Collecting asked collection ∷ activities) = stage_of collection
-stage_on_top activities = Between
