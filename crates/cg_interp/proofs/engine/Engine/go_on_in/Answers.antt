@@ -1,4 +1,4 @@
-use Rattle.std.proofs.Common.{sym, ◌∙◌, ap, subst, ◌≡◌, Some}
+use Rattle.std.proofs.Common.{sym, ◌∙◌, ap}
 use Rattle.cg_interp.specs.Engines.{commands_from}
 use Rattle.cg_interp.proofs.Keeping.{still_fit}
 use Rattle.cg_interp.proofs.Telling.{turns_plainly}

@@ -1,4 +1,4 @@
-use Rattle.std.proofs.Common.{◌≡◌, ◌∙◌, sym, ap, subst, [], Some, None, false, true}
+use Rattle.std.proofs.Common.{◌∙◌, sym, ap, subst, [], false, true}
 use Rattle.cg_machine.specs.World.{World, push}
 use Rattle.cg_machine.specs.Commands.{new_collection}
 use Rattle.cg_machine.specs.Shutdown.{greatest_from}

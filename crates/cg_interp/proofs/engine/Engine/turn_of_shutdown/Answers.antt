@@ -1,4 +1,4 @@
-use Rattle.std.proofs.Common.{subst, sym, arith, []}
+use Rattle.std.proofs.Common.{subst, arith, []}
 use Rattle.cg_heap.specs.Calls.{IsSound}
 use Rattle.cg_interp.specs.declared.activity.Activity.TheVariants as activity_of
 use Rattle.cg_interp.proofs.Lawfully.{has_room, few_holds, few_objects}
