@@ -1,8 +1,7 @@
 -- The lines that are written for other lines have none of the names of a `finalize` line.
-use Rattle.std.proofs.Common.{◌≡◌, ◌≢◌, ℕ, zero, suc, ◌+◌, ◌<◌, ◌≤◌, List, [], ◌∷◌, ◌++◌, length, map, Bool, true, false, not, cond, ◌&&◌, ◌||◌, Option, None, Some, refl, sym, ap, subst, ◌∙◌, inl, inr, ◌⊎◌, arith, codes}
+use Rattle.std.proofs.Common.{◌≡◌, ◌≢◌, ℕ, zero, suc, ◌+◌, ◌<◌, ◌≤◌, List, [], ◌∷◌, ◌++◌, length, map, Bool, true, false, not, cond, ◌&&◌, ◌||◌, Option, None, Some, refl, sym, ap, subst, ◌∙◌, arith, codes}
 use Rattle.std.specs.Option.{option_or}
 use Rattle.std.specs.List.{list_all, list_any}
-use Rattle.cg_graph.specs.Member.{Includes}
 use Rattle.cg_graph.proofs.Members.{either, Includes-append_cases}
 use Rattle.cg_script.specs.Canonical.{joined}
 use Rattle.cg_script.specs.Meanings.{is_passed}
@@ -11,10 +10,10 @@ use Rattle.cg_script.proofs.Ascii.{both}
 use Rattle.cg_script.proofs.Joined.{sound_words, words_of-joined}
 use Rattle.cg_script.proofs.Shown.{neither}
 use Rattle.cg_weakcoll.specs.declared.form.Form.{Form}
-use Rattle.cg_weakcoll.specs.Expansion.{bad_or, begins_with, fault_by, fault_of, first_bad_from, binding_form, form_fault, form_lines, form_of, inside_after, is_kept, name_fault, opening_form, word_count, written, written_by, written_from}
+use Rattle.cg_weakcoll.specs.Expansion.{bad_or, begins_with, fault_by, fault_of, first_bad_from, binding_form, form_fault, form_lines, form_of, inside_after, is_kept, name_fault, opening_form, written, written_by, written_from}
 use Rattle.cg_weakcoll.specs.ExpandedExits.{has_no_kept_string}
 use Rattle.cg_weakcoll.proofs.ExitNames.{EachLine, EachWord, IsElse, IsSound, clear_lines, clear_word, each_clear, each_sound, sound_lines}
-use Rattle.cg_weakcoll.proofs.ExpandedLines.{Fits, fits_of, sound_at, split_bad}
+use Rattle.cg_weakcoll.proofs.ExpandedLines.{fits_of, sound_at, split_bad}
 use Rattle.cg_weakcoll.proofs.FreeTexts.{AreClear, IsClear}
 use Rattle.cg_weakcoll.proofs.Passages.{AreClearLines}
 

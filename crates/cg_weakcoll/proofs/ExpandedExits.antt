@@ -1,5 +1,5 @@
--- The exit finalizers of an expansion.
-use Rattle.std.proofs.Common.{◌≡◌, ◌≢◌, ℕ, zero, suc, ◌+◌, ◌<◌, ◌≤◌, List, [], ◌∷◌, ◌++◌, length, map, Bool, true, false, not, cond, ◌&&◌, ◌||◌, Option, None, Some, refl, sym, ap, subst, ◌∙◌, inl, inr, ◌⊎◌, arith, codes, append_assoc, append-nil, length-append}
+-- The exit finalizers of an expansion: the lines in front of a `finalize` line's own, those, the lines behind them, and the calls.
+use Rattle.std.proofs.Common.{◌≡◌, ◌≢◌, ℕ, suc, ◌+◌, ◌<◌, ◌≤◌, List, [], ◌∷◌, ◌++◌, length, map, Bool, true, false, cond, ◌&&◌, Option, None, Some, refl, sym, ap, subst, ◌∙◌, inl, inr, arith, append_assoc, append-nil, length-append}
 use Rattle.std.specs.Prelude.{option_map, reverse, slice_get, slice_index_or, unwrap_or}
 use Rattle.std.specs.List.{list_all}
 use Rattle.std.proofs.lemmas.List.{append_cancel_right, length-map, map-append, reverse-append}
@@ -14,14 +14,13 @@ use Rattle.cg_script.specs.declared.item.Item.TheVariants as items
 use Rattle.cg_script.specs.declared.item.Proc.{Proc}
 use Rattle.cg_script.specs.declared.command.Command.{Command}
 use Rattle.cg_script.specs.declared.command.Command.TheVariants as commands
-use Rattle.cg_script.specs.declared.command.Operand.{Operand}
 use Rattle.cg_script.specs.declared.command.Operand.TheVariants as operands
 use Rattle.cg_script.specs.declared.part.Said.{Said}
-use Rattle.cg_script.specs.declared.part.Said.TheVariants.{Declares, Begins as BeginsProc, Ends, Does}
-use Rattle.cg_script.specs.Canonical.{joined, name_of, procs_in, text_of}
+use Rattle.cg_script.specs.declared.part.Said.TheVariants.{Declares, Does}
+use Rattle.cg_script.specs.Canonical.{joined, text_of}
 use Rattle.cg_script.specs.Items.{classes, commands_of, procedures}
 use Rattle.cg_script.specs.Pieces.{lines_of, words_of, word_at}
-use Rattle.cg_script.specs.Reading.{good, items_of, lines_from, nothing_known, reading, spells}
+use Rattle.cg_script.specs.Reading.{good, items_of, lines_from, nothing_known}
 use Rattle.cg_script.specs.Texts.{command_texts, operand_texts}
 use Rattle.cg_script.specs.Words.{is_value}
 use Rattle.cg_script.proofs.Ascii.{both}
@@ -30,8 +29,8 @@ use Rattle.cg_value.specs.Texts.{place_of}
 use Rattle.cg_machine.specs.Program.{body_of}
 use Rattle.cg_weakcoll.specs.declared.form.Form.{Form}
 use Rattle.cg_weakcoll.specs.declared.form.Form.TheVariants.{MakeMap, Set, Get, Remove, Finalize}
-use Rattle.cg_weakcoll.specs.Expansion.{call_line, call_lines, exit_name, expanded_lines, expansion, final_lines, finalize_lines, finalize_number, finalize_numbers_from, finalizes, first_bad, first_bad_from, form_lines, form_of, is_finalize, proc_name, written_by, written_from}
-use Rattle.cg_weakcoll.specs.Exits.{AllOther, AreExits, AreOthers, Exit, IsExit, IsOther, exit_body, exit_commands, final_calls, names_of}
+use Rattle.cg_weakcoll.specs.Expansion.{call_line, exit_name, expanded_lines, expansion, final_lines, finalize_lines, finalize_number, finalize_numbers_from, finalizes, first_bad, first_bad_from, form_of, is_finalize, proc_name, written_by, written_from}
+use Rattle.cg_weakcoll.specs.Exits.{AllOther, AreOthers, Exit, IsExit, IsOther, exit_body, exit_commands, final_calls, names_of}
 use Rattle.cg_weakcoll.specs.ExpandedExits.{AreExitsOf, ExpandedExitsAreThere, Finalizes, HasExitsOf, HasNoKeptStrings, IsExitOf, NoLine, Other, has_no_kept_string}
 use Rattle.cg_weakcoll.proofs.ClearLines.{Parted, clear_from, line_words, parted, unpassed_form, word_there}
 use Rattle.cg_weakcoll.proofs.ExitNames.{EachLine, IsElse, IsSound, other_text, own_apart, own_names, sound_call, sound_lines}
@@ -39,8 +38,9 @@ use Rattle.cg_weakcoll.proofs.ExpandedLines.{Fits, expansion_lines, fits_of, num
 use Rattle.cg_weakcoll.proofs.FinalizerLines.{Calls, Finalizer, calls, calls_of, exit_of, finalizer, finalizer_says}
 use Rattle.cg_weakcoll.proofs.FreeTexts.{AreClear, AreFree, IsClear}
 use Rattle.cg_weakcoll.proofs.LookLines.{ReadAs, read_as}
+use Rattle.cg_weakcoll.proofs.ReadLines.{does_all}
 use Rattle.cg_weakcoll.proofs.Passages.{IsFine, Passage, passage}
-use Rattle.cg_weakcoll.proofs.Stretches.{ArePlain, IsPlain, at_place, begun, begun_names, class_said, classes_split, command_said, commands_split, does_each, elsewhere, no_classes, no_procedures, procedure_said, procedures_split, run_each, through}
+use Rattle.cg_weakcoll.proofs.Stretches.{ArePlain, at_place, begun, begun_names, class_said, classes_split, command_said, commands_split, elsewhere, no_classes, no_procedures, procedure_said, procedures_split, run_each, through}
 
 -- numbers of `finalize` lines
 numbers-append : (front lines : List (List ℕ)) (l : ℕ) → finalize_numbers_from l (front ++ lines) ≡ finalize_numbers_from l front ++ finalize_numbers_from (l + length front) lines
@@ -210,7 +210,7 @@ module _ (bytes : List ℕ) (fine : first_bad bytes ≡ None) (kept : HasNoKeptS
     Y = pB.before
 
     abbrev Z : List Said
-    Z = does_each (calls_of all (reverse numbers))
+    Z = does_all (calls_of all (reverse numbers))
 
     abbrev F : List Said
     F = finalizer_says all l e (Y ++ Z)
@@ -411,7 +411,7 @@ module _ (bytes : List ℕ) (fine : first_bad bytes ≡ None) (kept : HasNoKeptS
     its_call_away : (ls : List Command) → commands_of its ≡ ls ++ calls_of all (reverse numbers) → ¬ Includes ls (commands.Call (operands.Name e.exit))
     its_call_away ls whole m =
         let same : ls ≡ commands_X ++ (exit_commands e ++ commands_Y) = append_cancel_right ls (commands_X ++ (exit_commands e ++ commands_Y)) (calls_of all (reverse numbers))
-            (sym whole ∙ commands_are ∙ ap (λ cs. commands_X ++ cs) (sym (append_assoc (exit_commands e) commands_Y (calls_of all (reverse numbers)))) ∙ sym (append_assoc commands_X (exit_commands e ++ commands_Y) (calls_of all (reverse numbers)))) in
+        (sym whole ∙ commands_are ∙ ap (λ cs. commands_X ++ cs) (sym (append_assoc (exit_commands e) commands_Y (calls_of all (reverse numbers)))) ∙ sym (append_assoc commands_X (exit_commands e ++ commands_Y) (calls_of all (reverse numbers)))) in
         either (Includes-append_cases commands_X (exit_commands e ++ commands_Y) (commands.Call (operands.Name e.exit)) (subst (λ cs. Includes cs (commands.Call (operands.Name e.exit))) same m))
         (λ k. (X_other (commands.Call (operands.Name e.exit)) k).texts e.exit (inl refl) (inr (inl refl)))
         behind
@@ -473,8 +473,8 @@ module _ (bytes : List ℕ) (fine : first_bad bytes ≡ None) (kept : HasNoKeptS
   whole_commands : commands_of its ≡ first_commands ++ calls_of all (reverse numbers)
   whole_commands =
       ap commands_of (sym (ap (items_of false) (ap (λ ss. whole_front.before ++ ss) (sym whole_last.is) ∙ whole_front.is) ∙ r.items_are))
-      ∙ commands_split whole_front.before (does_each (calls_of all (reverse numbers))) false
-      ∙ ap (λ b. first_commands ++ commands_of (items_of b (does_each (calls_of all (reverse numbers))))) (sym whole_front.inside ∙ whole_last.outside)
+      ∙ commands_split whole_front.before (does_all (calls_of all (reverse numbers))) false
+      ∙ ap (λ b. first_commands ++ commands_of (items_of b (does_all (calls_of all (reverse numbers))))) (sym whole_front.inside ∙ whole_last.outside)
       ∙ ap (λ cs. first_commands ++ cs) (run_each (calls_of all (reverse numbers)))
 
   built : Built first_commands 1 lines

@@ -1,10 +1,9 @@
 -- The ten lines that a `finalize` line becomes, read one after the other, and the calls at the end.
-use Rattle.std.proofs.Common.{◌≡◌, ◌≢◌, ℕ, zero, suc, ◌+◌, ◌<◌, ◌≤◌, List, [], ◌∷◌, ◌++◌, length, map, Bool, true, false, not, cond, ◌&&◌, ◌||◌, ◌==◌, nat_lt, Option, None, Some, refl, sym, ap, subst, ◌∙◌, inl, inr, arith, codes, length-append}
-use Rattle.std.specs.Prelude.{decimal, is_some, slice_index, unwrap_or}
+use Rattle.std.proofs.Common.{◌≡◌, ℕ, suc, ◌+◌, List, [], ◌∷◌, ◌++◌, length, map, Bool, true, false, not, cond, ◌&&◌, ◌||◌, nat_lt, Option, None, Some, refl, sym, ap, subst, ◌∙◌, inl, inr, arith, codes, length-append}
+use Rattle.std.specs.Prelude.{decimal, is_some, unwrap_or}
 use Rattle.std.specs.List.{position_or_len}
 use Rattle.std.specs.Str.{bytes_eq}
 use Rattle.std.proofs.lemmas.Bool.Decides.{nat_tests}
-use Rattle.std.proofs.lemmas.Slice.Eq.{bytes_eq-Decides}
 use Rattle.cg_value.specs.Texts.{has_text, place_of, with_text}
 use Rattle.cg_script.specs.declared.command.Command.{Command}
 use Rattle.cg_script.specs.declared.command.Command.TheVariants as commands
@@ -14,14 +13,13 @@ use Rattle.cg_script.specs.declared.form.Form.{Form}
 use Rattle.cg_script.specs.declared.form.Form.TheVariants as forms
 use Rattle.cg_script.specs.declared.part.Said.{Said}
 use Rattle.cg_script.specs.declared.part.Said.TheVariants.{Begins as BeginsProc, Ends, Does}
-use Rattle.cg_script.specs.Pieces.{words_of, word_is}
 use Rattle.cg_script.specs.Tables.{named}
-use Rattle.cg_script.specs.Words.{atoms, begins_name, is_identifier, is_quoted, is_reserved, is_value, is_variable}
+use Rattle.cg_script.specs.Words.{atoms, is_value}
 use Rattle.cg_script.specs.Forms.{bindings, openers, word_of}
 use Rattle.cg_script.specs.Meanings.{binding_form, formed, worded}
-use Rattle.cg_script.specs.Parts.{Known, numbered, operand_or, parts_of, place_in, texts_from, value_text, with_text_if}
+use Rattle.cg_script.specs.Parts.{Known, numbered, operand_or, parts_of, place_in, value_text, with_text_if}
 use Rattle.cg_script.specs.Commands.{count_or, said}
-use Rattle.cg_script.specs.Reading.{fault_in, good, known_after, lines_from, spoilt}
+use Rattle.cg_script.specs.Reading.{good, known_after, lines_from, spoilt}
 use Rattle.cg_script.specs.Texts.{operand_texts}
 use Rattle.cg_script.specs.Canonical.{joined, text_of}
 use Rattle.cg_script.proofs.GoodLines.{faultless}
@@ -36,7 +34,7 @@ use Rattle.cg_graph.specs.Member.{Includes}
 use Rattle.cg_graph.proofs.Members.{either}
 use Rattle.cg_weakcoll.proofs.FreeTexts.{AreFree, IsClear, value_free}
 use Rattle.cg_weakcoll.proofs.ReadLines.{does_all}
-use Rattle.cg_weakcoll.proofs.LookLines.{IsAt, IsName, Line, added, all_begin, name_stands, one_line, stands_for}
+use Rattle.cg_weakcoll.proofs.LookLines.{IsName, Line, added, all_begin, name_stands, one_line, same_text, stands_for}
 
 -- a text that is there has its place in all texts
 place_first : (xs more : List (List ℕ)) (text : List ℕ) → has_text xs text ≡ true → place_of (xs ++ more) text ≡ place_of xs text
@@ -53,9 +51,6 @@ placed all texts text begins =
     sym (ap (λ l. place_of l text) begins.is ∙ place_first (with_text texts text) begins.more text at.there ∙ at.place)
 
 -- a procedure that is new goes last
-same_text : (text : List ℕ) → bytes_eq text text ≡ true
-same_text text = (bytes_eq-Decides text text).1 refl
-
 last_place : (xs : List (List ℕ)) (text : List ℕ) → has_text xs text ≡ false → position_or_len (bytes_eq text) (xs ++ text ∷ []) ≡ length xs
 last_place [] text e = ap (λ b. cond (not b) 1 0) (same_text text)
 last_place (x ∷ xs) text e = go (bytes_eq text x) e (last_place xs text)

@@ -55,7 +55,7 @@ pub record IsAt (texts : List (List ℕ)) (text : List ℕ) (n : ℕ) : Type 0 w
   pub there : has_text texts text ≡ true
   pub place : place_of texts text ≡ n
 
-same_text : (text : List ℕ) → bytes_eq text text ≡ true
+pub same_text : (text : List ℕ) → bytes_eq text text ≡ true
 same_text text = (bytes_eq-Decides text text).1 refl
 
 or_true : (b : Bool) → (b || true) ≡ true

@@ -1,38 +1,35 @@
 -- What lines say whose words are free of some texts: no text and no procedure of these.
-use Rattle.std.proofs.Common.{◌≡◌, ◌≢◌, ℕ, zero, suc, ◌+◌, ◌<◌, ◌≤◌, List, [], ◌∷◌, ◌++◌, length, map, Bool, true, false, cond, Option, None, Some, refl, sym, ap, subst, ◌∙◌, inl, inr, ◌⊎◌, arith, codes, append_assoc, append-nil}
+use Rattle.std.proofs.Common.{◌≡◌, ℕ, ◌+◌, ◌≤◌, List, [], ◌∷◌, ◌++◌, length, map, Bool, true, false, cond, Option, None, Some, refl, sym, ap, subst, ◌∙◌, inl, inr, ◌⊎◌, arith, codes, append_assoc, append-nil}
 use Rattle.std.specs.Prelude.{slice_index_or}
 use Rattle.std.proofs.lemmas.List.{map-append}
-use Rattle.cg_value.specs.Texts.{has_text, place_of, with_text}
+use Rattle.cg_value.specs.Texts.{with_text}
 use Rattle.cg_graph.specs.Member.{Includes}
 use Rattle.cg_graph.proofs.Members.{either}
 use Rattle.cg_script.specs.declared.item.ClassDef.{ClassDef}
-use Rattle.cg_script.specs.declared.item.Proc.{Proc}
 use Rattle.cg_script.specs.declared.item.Item.TheVariants as items
-use Rattle.cg_script.specs.declared.command.Command.{Command}
 use Rattle.cg_script.specs.declared.command.Command.TheVariants as commands
 use Rattle.cg_script.specs.declared.command.Operand.{Operand}
 use Rattle.cg_script.specs.declared.form.Form.{Form}
 use Rattle.cg_script.specs.declared.form.Form.TheVariants as forms
 use Rattle.cg_script.specs.declared.part.Part.{Part}
 use Rattle.cg_script.specs.declared.part.Said.{Said}
-use Rattle.cg_script.specs.declared.part.Said.TheVariants.{Declares, Begins as BeginsProc, Ends, Does}
+use Rattle.cg_script.specs.declared.part.Said.TheVariants.{Declares, Does}
 use Rattle.cg_script.specs.Pieces.{words_of}
 use Rattle.cg_script.specs.Words.{after_prefix}
 use Rattle.cg_script.specs.Forms.{row}
-use Rattle.cg_script.specs.Meanings.{says, is_passed, meaning}
+use Rattle.cg_script.specs.Meanings.{is_passed}
 use Rattle.cg_script.specs.Parts.{Known, parts_of, parts_from, texts_from, numbered, place_in, finalizer, legacy, legacy_of, finalizer_of, is_unknown, has_unknown}
 use Rattle.cg_script.specs.Commands.{count_or, del_if, legacy_if, first_some, said}
-use Rattle.cg_script.specs.Reading.{fault_in, is_repeated, procs_after, inside_after, known_after, good, lines_from}
+use Rattle.cg_script.specs.Reading.{is_repeated, procs_after, known_after, good, lines_from}
 use Rattle.cg_script.specs.Canonical.{text_of}
-use Rattle.cg_script.specs.Views.{inside_behind}
 use Rattle.cg_script.proofs.Known.{said_texts}
 use Rattle.cg_script.proofs.Grouped.{inside_said}
-use Rattle.cg_script.proofs.GoodLines.{Good, faultless, good_line}
+use Rattle.cg_script.proofs.GoodLines.{faultless, good_line}
 use Rattle.cg_script.proofs.Says.{says_of_line}
 use Rattle.cg_script.proofs.Shown.{Begins, begins_along, begins_texts, name_found, neither, text_found}
 use Rattle.cg_weakcoll.proofs.ReadLines.{First, Passes, Says, first_line}
 use Rattle.cg_weakcoll.proofs.LookLines.{all_begin}
-use Rattle.cg_weakcoll.proofs.Stretches.{IsPlain, begun, begun-append, begun_by, through}
+use Rattle.cg_weakcoll.proofs.Stretches.{IsPlain, begun, begun_by, through}
 use Rattle.cg_weakcoll.proofs.FreeTexts.{AreClear, AreFree, IsClear, texts_free}
 
 abbrev is_whole : Said → Bool
@@ -224,10 +221,10 @@ module _ (all names : List (List ℕ)) (Free : List ℕ → Type 0) where
           let step = procs_begun all known form words words_good.enough fault.fresh begins in
           let named : known.procs ++ map (text_of all) (begun_by s ++ begun later) ≡ names = ap (λ (l : List Said). known.procs ++ map (text_of all) (begun l)) is ∙ whole in
           let whole_later : procs_after known.procs form words ++ map (text_of all) (begun later) ≡ names =
-              ap (λ l. l ++ map (text_of all) (begun later)) step
-              ∙ append_assoc known.procs (map (text_of all) (begun_by s)) (map (text_of all) (begun later))
-              ∙ ap (λ l. known.procs ++ l) (sym (map-append (text_of all) (begun_by s) (begun later)))
-              ∙ named in
+          ap (λ l. l ++ map (text_of all) (begun later)) step
+          ∙ append_assoc known.procs (map (text_of all) (begun_by s)) (map (text_of all) (begun later))
+          ∙ ap (λ l. known.procs ++ l) (sym (map-append (text_of all) (begun_by s) (begun later)))
+          ∙ named in
           let o = ih (known_after known form words) (number + 1) later more whole_later in
           let words_clear : AreClear Free words = subst (AreClear Free) (sym same) (clear line (inl refl) (ap is_passed (sym same) ∙ words_good.unpassed)) in
           let procs_begin : Begins known.procs names = record { more = map (text_of all) (begun_by s ++ begun later); is = sym named } in

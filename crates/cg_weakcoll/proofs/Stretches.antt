@@ -1,7 +1,6 @@
 -- The items of what some lines say and others behind them.
-use Rattle.std.proofs.Common.{◌≡◌, ◌≢◌, ℕ, zero, suc, ◌+◌, List, [], ◌∷◌, ◌++◌, length, map, Bool, true, false, Option, None, Some, refl, sym, ap, subst, ◌∙◌, inl, inr, ◌⊎◌, arith, append_assoc}
-use Rattle.std.specs.Prelude.{slice_get, slice_index_or}
-use Rattle.cg_script.specs.declared.item.Item.{Item}
+use Rattle.std.proofs.Common.{◌≡◌, ◌≢◌, ℕ, zero, suc, List, [], ◌∷◌, ◌++◌, length, map, Bool, true, false, Some, refl, sym, ap, subst, ◌∙◌, inl, inr, ◌⊎◌, append_assoc}
+use Rattle.std.specs.Prelude.{slice_get}
 use Rattle.cg_script.specs.declared.item.Item.TheVariants as items
 use Rattle.cg_script.specs.declared.item.Proc.{Proc}
 use Rattle.cg_script.specs.declared.item.ClassDef.{ClassDef}
@@ -13,6 +12,7 @@ use Rattle.cg_script.specs.Reading.{body_of, items_of}
 use Rattle.cg_script.specs.Views.{inside_behind}
 use Rattle.cg_graph.specs.Member.{Includes}
 use Rattle.cg_machine.proofs.Lookups.{slice_get_member}
+use Rattle.cg_weakcoll.proofs.ReadLines.{does_all}
 
 -- whether a procedure is open behind some lines
 abbrev pub through : Bool → List Said → Bool
@@ -50,18 +50,15 @@ classes_split (Does c ∷ xs) ys true = classes_split xs ys true
 classes_split (Does c ∷ xs) ys false = classes_split xs ys false
 
 -- commands alone
-abbrev pub does_each : List Command → List Said
-does_each commands = map (λ c. Does c) commands
-
-pub run_each : (commands : List Command) → commands_of (items_of false (does_each commands)) ≡ commands
+pub run_each : (commands : List Command) → commands_of (items_of false (does_all commands)) ≡ commands
 run_each [] = refl
 run_each (c ∷ commands) = ap (λ l. c ∷ l) (run_each commands)
 
-pub no_procedures : (commands : List Command) → procedures (items_of false (does_each commands)) ≡ []
+pub no_procedures : (commands : List Command) → procedures (items_of false (does_all commands)) ≡ []
 no_procedures [] = refl
 no_procedures (c ∷ commands) = no_procedures commands
 
-pub no_classes : (commands : List Command) → classes (items_of false (does_each commands)) ≡ []
+pub no_classes : (commands : List Command) → classes (items_of false (does_all commands)) ≡ []
 no_classes [] = refl
 no_classes (c ∷ commands) = no_classes commands
 
@@ -73,7 +70,7 @@ body_split (Begins name ∷ xs) ys e = refl
 body_split (Ends ∷ xs) ys e = refl
 body_split (Does c ∷ xs) ys e = ap (λ l. c ∷ l) (body_split xs ys e)
 
--- what follows an open body does not matter either where a procedure begins behind it
+-- the procedures of lines that leave none open, and of those behind them
 pub procedures_split : (xs ys : List Said) (inside : Bool) → through inside xs ≡ false → procedures (items_of inside (xs ++ ys)) ≡ procedures (items_of inside xs) ++ procedures (items_of false ys)
 procedures_split [] ys inside e = ap (λ b. procedures (items_of b ys)) e
 procedures_split (Declares (items.Profile n) ∷ xs) ys inside e = procedures_split xs ys inside e
