@@ -220,7 +220,7 @@ pub fits_of : (form : Form) (inside : Bool) (l : ℕ) (line : List ℕ) → form
 fits_of form inside l line is e = no_fault form inside l line (words_of line) (first_none (form_fault form inside l line (words_of line)) (name_fault (words_of line)) (ap (λ m. fault_by m inside l line (words_of line)) (sym is) ∙ e))
 
 -- the first of some lines of which none is bad
-split_bad : (l : ℕ) (m : Option ℕ) (later : Option (ℕ × ℕ)) → bad_or l m later ≡ None → (m ≡ None) × (later ≡ None)
+pub split_bad : (l : ℕ) (m : Option ℕ) (later : Option (ℕ × ℕ)) → bad_or l m later ≡ None → (m ≡ None) × (later ≡ None)
 split_bad l None later e = (refl, e)
 split_bad l (Some code) later e = absurd (cc)
 
@@ -255,7 +255,7 @@ number_low inside l line e n m = go (form_of (words_of line)) refl m
     go (Some Remove) is k = absurd k
     go (Some Finalize) is k = either k (λ same. subst (λ i. i ≤ 400000) same (fits_of Finalize inside l line is e).low) (λ no. absurd no)
 
-numbers_low : (lines : List (List ℕ)) (inside : Bool) (l : ℕ) → first_bad_from inside l lines ≡ None → (n : ℕ) → Includes (finalize_numbers_from l lines) n → n ≤ 400000
+pub numbers_low : (lines : List (List ℕ)) (inside : Bool) (l : ℕ) → first_bad_from inside l lines ≡ None → (n : ℕ) → Includes (finalize_numbers_from l lines) n → n ≤ 400000
 numbers_low [] inside l e n m = absurd m
 numbers_low (line ∷ lines) inside l e n m =
     let k = split_bad l (fault_of inside l line) (first_bad_from (inside_after inside (words_of line)) (l + 1) lines) e in

@@ -28,7 +28,7 @@ low_digits (d ∷ ds) h =
     let to : nat_le (48 + d) 57 ≡ true = grind (arith, nat_tests) in
     and_both (is_digit (48 + d)) (list_all is_digit (map (λ e. 48 + e) ds)) (and_both (nat_le 48 (48 + d)) (nat_le (48 + d) 57) from to) (low_digits ds h.1)
 
-number_digits : (l : ℕ) → l ≤ 400000 → list_all is_digit (decimal l) ≡ true
+pub number_digits : (l : ℕ) → l ≤ 400000 → list_all is_digit (decimal l) ≡ true
 number_digits zero low = ap (list_all is_digit) (decimal_digit 0 (omega arith))
 number_digits (suc l) low = ap (list_all is_digit) (decimal-digits_of (suc l) (omega arith) (omega (arith, low))) ∙ low_digits (digits_of 10 (suc l)) (all_below_base_digits_of 10 (suc l) (omega arith))
 
@@ -36,7 +36,7 @@ name_bytes : (ds : List ℕ) → list_all is_digit ds ≡ true → list_all is_n
 name_bytes [] e = refl
 name_bytes (d ∷ ds) e = let p = both (is_digit d) (list_all is_digit ds) e in and_both (is_name_byte d) (list_all is_name_byte ds) (or_right (begins_name d) (is_digit d) p.0) (name_bytes ds p.1)
 
-digits_graphic : (ds : List ℕ) → list_all is_digit ds ≡ true → list_all (λ b. nat_le 33 b && nat_le b 126) ds ≡ true
+pub digits_graphic : (ds : List ℕ) → list_all is_digit ds ≡ true → list_all (λ b. nat_le 33 b && nat_le b 126) ds ≡ true
 digits_graphic [] e = refl
 digits_graphic (d ∷ ds) e =
     let p = both (is_digit d) (list_all is_digit ds) e in

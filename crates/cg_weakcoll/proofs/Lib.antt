@@ -36,3 +36,10 @@ pub mod ExpandedStores
 pub mod WorkedCache
 pub mod MissLaws
 pub mod WorkedFinalizers
+pub mod FreeTexts
+pub mod Stretches
+pub mod Passages
+pub mod ExitNames
+pub mod FinalizerLines
+pub mod ClearLines
+pub mod ExpandedExits

@@ -22,7 +22,7 @@ use Rattle.cg_script.specs.Forms.{bindings, openers, row, sort_at}
 use Rattle.cg_script.specs.Meanings.{passed, says, bad, all_fit, repeats_finalizer, formed, worded, is_passed}
 use Rattle.cg_script.specs.Parts.{Known, parts_of, texts_from, text_in, with_text_if, value_text, operand_or}
 use Rattle.cg_script.specs.Commands.{said}
-use Rattle.cg_script.specs.Reading.{known_after, Lines, good, spoilt, lines_from, nothing_known, items_of, script_of, reading, spells}
+use Rattle.cg_script.specs.Reading.{fault_in, known_after, Lines, good, spoilt, lines_from, nothing_known, items_of, script_of, reading, spells}
 use Rattle.cg_script.proofs.Ascii.{both}
 use Rattle.cg_script.proofs.Says.{not_bad}
 use Rattle.cg_script.proofs.Shown.{Begins, begins_along, begins_self, begins_texts, text_found}
@@ -55,7 +55,7 @@ pub record IsAt (texts : List (List ℕ)) (text : List ℕ) (n : ℕ) : Type 0 w
   pub there : has_text texts text ≡ true
   pub place : place_of texts text ≡ n
 
-same_text : (text : List ℕ) → bytes_eq text text ≡ true
+pub same_text : (text : List ℕ) → bytes_eq text text ≡ true
 same_text text = (bytes_eq-Decides text text).1 refl
 
 or_true : (b : Bool) → (b || true) ≡ true
@@ -169,6 +169,7 @@ pub record Line (texts : List (List ℕ)) (known : Known) (number : ℕ) (form :
   pub later : List Said
   pub is : said form (parts_of known form words) ∷ later ≡ saids
   pub goes : lines_from (known_after known form words) (number + 1) lines ≡ good texts later
+  pub clean : fault_in known form words ≡ None
 
 pub one_line : (form : Form) (words : List (List ℕ)) (known : Known) (number : ℕ) (line : List ℕ) (lines texts : List (List ℕ)) (saids : List Said) → lines_from known number (line ∷ lines) ≡ good texts saids
     → words_of line ≡ words → is_passed words ≡ false → worded words ≡ formed form words → Line texts known number form words lines saids
@@ -186,6 +187,7 @@ one_line form words known number line lines texts saids e is_words goes_on meant
           later = later;
           is = ap (λ (l : List Said). l) (ap (λ (k : Form). said k (parts_of known k words) ∷ later) same.0 ∙ ap (λ (vs : List (List ℕ)). said f (parts_of known f vs) ∷ later) same.1 ∙ is);
           goes = ap (λ (k : Form). lines_from (known_after known k words) (number + 1) lines) same.0 ∙ ap (λ (vs : List (List ℕ)). lines_from (known_after known f vs) (number + 1) lines) same.1 ∙ rest;
+          clean = ap (λ (k : Form). fault_in known k words) same.0 ∙ ap (λ (vs : List (List ℕ)). fault_in known f vs) same.1 ∙ fault;
         }
 
 -- the lines of a script, with what they say

@@ -5,3 +5,4 @@ pub mod Maps
 pub mod MapLines
 pub mod Worked
 pub mod WorkedExits
+pub mod ExpandedExits

@@ -1,5 +1,6 @@
 //! What becomes of exit finalizers in every run. Each law is the contract of a function that does nothing.
 ghost use Rattle.cg_weakcoll.specs.Exits.{ExitsAreCalledLastFirst, ExitsBeginAlive, ExitsBeginOnce};
+ghost use Rattle.cg_weakcoll.specs.ExpandedExits.{ExpandedExitsAreThere};
 ghost use Rattle.cg_weakcoll.specs.WorkedExits.{HasBoth};
 
 /// In every run of a script with an exit finalizer, the callback frames of its weak reference and the frames that its procedure's
@@ -22,4 +23,10 @@ pub fn exits_begin_alive()
 /// The expansion of a worked script with two `finalize` lines spells a script that has both exit finalizers, as these laws ask.
 pub fn two_finalizers_are_there()
     ensures { HasBoth }
+{}
+
+/// In the script that an expansion spells each `finalize` line of the extended script has its exit finalizer, as these laws ask,
+/// where no string of the extended script is written like a name that expansions bring.
+pub fn expanded_exits_are_there()
+    ensures { ExpandedExitsAreThere }
 {}

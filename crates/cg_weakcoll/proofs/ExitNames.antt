@@ -1,0 +1,243 @@
+-- The names that a `finalize` line brings: other words are none of them.
+use Rattle.std.proofs.Common.{◌≡◌, ◌≢◌, ℕ, ◌<◌, ◌≤◌, List, [], ◌∷◌, ◌++◌, length, take, drop, Bool, true, false, not, cond, ◌&&◌, ◌||◌, nat_le, None, Some, refl, sym, ap, subst, ◌∙◌, inl, inr, arith, codes}
+use Rattle.std.specs.Prelude.{decimal, slice_index}
+use Rattle.std.specs.List.{list_all}
+use Rattle.std.specs.Str.{bytes_eq}
+use Rattle.std.proofs.lemmas.Bool.Decides.{nat_tests}
+use Rattle.std.proofs.lemmas.Fmt.{decimal_injective}
+use Rattle.std.proofs.lemmas.List.{take-append-drop}
+use Rattle.std.proofs.lemmas.Slice.Eq.{bytes_eq-Decides}
+use Rattle.cg_graph.specs.Member.{Includes}
+use Rattle.cg_script.specs.Words.{after_prefix, is_digit, is_quoted, string_text}
+use Rattle.cg_script.proofs.Joined.{EachSound, Graphic}
+use Rattle.cg_script.proofs.Shown.{neither}
+use Rattle.cg_weakcoll.specs.declared.form.Form.{Form}
+use Rattle.cg_weakcoll.specs.declared.form.Form.TheVariants.{MakeMap, Set, Get, Remove, Finalize}
+use Rattle.cg_script.specs.Pieces.{word_at}
+use Rattle.cg_weakcoll.specs.Expansion.{begins_with, exit_name, form_lines, function_name, is_kept, object_name, proc_name, watch_name, weak_name, word_count}
+use Rattle.cg_weakcoll.proofs.ExpandedLines.{graphic_by}
+use Rattle.cg_weakcoll.proofs.ExpandedStores.{digits_graphic, number_digits}
+use Rattle.cg_weakcoll.proofs.FreeTexts.{AreClear, IsClear}
+
+-- the names of line l
+abbrev pub own_names : ℕ → List (List ℕ)
+own_names l = proc_name l ∷ object_name l ∷ exit_name l ∷ function_name l ∷ watch_name l ∷ []
+
+-- a text that is none of them
+abbrev pub IsElse : ℕ → List ℕ → Type 0
+IsElse l text = Includes (own_names l) text → ⊥
+
+-- Each of them begins so, and so do the words that have one behind a quote or the word of a finalizer.
+own_kept : (l : ℕ) (prefix text : List ℕ) → ((rest : List ℕ) → begins_with (prefix ++ codes "wv_") (prefix ++ (codes "wv_" ++ rest)) ≡ true) → Includes (own_names l) text → begins_with (prefix ++ codes "wv_") (prefix ++ text) ≡ true
+own_kept l prefix text told (inl e) = subst (λ t. begins_with (prefix ++ codes "wv_") (prefix ++ t) ≡ true) e (told (codes "p_" ++ decimal l))
+own_kept l prefix text told (inr (inl e)) = subst (λ t. begins_with (prefix ++ codes "wv_") (prefix ++ t) ≡ true) e (told (codes "o_" ++ decimal l))
+own_kept l prefix text told (inr (inr (inl e))) = subst (λ t. begins_with (prefix ++ codes "wv_") (prefix ++ t) ≡ true) e (told (codes "g_" ++ decimal l))
+own_kept l prefix text told (inr (inr (inr (inl e)))) = subst (λ t. begins_with (prefix ++ codes "wv_") (prefix ++ t) ≡ true) e (told (codes "f_" ++ decimal l))
+own_kept l prefix text told (inr (inr (inr (inr (inl e))))) = subst (λ t. begins_with (prefix ++ codes "wv_") (prefix ++ t) ≡ true) e (told (codes "w_" ++ decimal l))
+own_kept l prefix text told (inr (inr (inr (inr (inr none))))) = absurd none
+
+differs : (prefix word : List ℕ) → begins_with prefix word ≡ true → begins_with prefix word ≡ false → ⊥
+differs prefix word t f = let no : true ≡ false = sym t ∙ f in cc
+
+-- what stands behind some bytes
+behind_prefix : (prefix word name : List ℕ) → after_prefix prefix word ≡ Some name → word ≡ prefix ++ name
+behind_prefix prefix word name e = go (bytes_eq (take (length prefix) word) prefix) refl e
+  where
+    go : (b : Bool) → bytes_eq (take (length prefix) word) prefix ≡ b → cond b (Some (drop (length prefix) word)) None ≡ Some name → word ≡ prefix ++ name
+    go false is h = absurd (cc)
+    go true is h =
+        let rest : drop (length prefix) word ≡ name = cc in
+        sym (take-append-drop (length prefix) word) ∙ ap (λ (t : List ℕ). t ++ drop (length prefix) word) ((bytes_eq-Decides (take (length prefix) word) prefix).0 is) ∙ ap (λ (t : List ℕ). prefix ++ t) rest
+
+quoted_again : (w : List ℕ) → is_quoted w ≡ true → 39 ∷ string_text w ≡ w
+quoted_again [] e = absurd (grind (arith, nat_tests))
+quoted_again (b ∷ bs) e = let first : b ≡ 39 = grind (arith, nat_tests) in ap (λ (c : ℕ). c ∷ bs) (sym first)
+
+-- a word that is not kept, and is no string that is written like one
+pub clear_word : (l : ℕ) (word : List ℕ) → is_kept word ≡ false → begins_with (codes "'wv_") word ≡ false → IsClear (IsElse l) word
+clear_word l word kept quoted =
+    let first = neither (begins_with (codes "wv_") word || begins_with (codes "del=wv_") word) (begins_with (codes "legacy=wv_") word) kept in
+    let second = neither (begins_with (codes "wv_") word) (begins_with (codes "del=wv_") word) first.0 in
+    record {
+      itself = λ own. differs (codes "wv_") word (own_kept l [] word (λ rest. refl) own) second.0;
+      string = λ q own. differs (codes "'wv_") word (ap (begins_with (codes "'wv_")) (sym (quoted_again word q)) ∙ own_kept l (codes "'") (string_text word) (λ rest. refl) own) quoted;
+      finalizer = λ name e own. differs (codes "del=wv_") word (ap (begins_with (codes "del=wv_")) (behind_prefix (codes "del=") word name e) ∙ own_kept l (codes "del=") name (λ rest. refl) own) second.1;
+      legacy = λ name e own. differs (codes "legacy=wv_") word (ap (begins_with (codes "legacy=wv_")) (behind_prefix (codes "legacy=") word name e) ∙ own_kept l (codes "legacy=") name (λ rest. refl) own) first.1;
+    }
+
+-- a name of an expansion that is none of them
+clear_name : (l : ℕ) (rest : List ℕ) → IsElse l (codes "wv_" ++ rest) → IsClear (IsElse l) (codes "wv_" ++ rest)
+clear_name l rest other = record {
+  itself = other;
+  string = λ q. absurd (let no : false ≡ true = q in cc);
+  finalizer = λ name e. absurd (let no : None ≡ Some name = e in cc);
+  legacy = λ name e. absurd (let no : None ≡ Some name = e in cc);
+}
+
+-- names of two lines differ
+number_differs : (c : ℕ) (m l : ℕ) → m ≤ 400000 → l ≤ 400000 → m ≢ l → codes "wv_" ++ c ∷ 95 ∷ decimal l ≢ codes "wv_" ++ c ∷ 95 ∷ decimal m
+number_differs c m l low low2 apart e =
+    let same : decimal l ≡ decimal m = ap (λ (t : List ℕ). drop 5 t) e in
+    apart (sym (decimal_injective l m (omega (arith, low2)) (omega (arith, low)) same))
+
+pub other_text : (c m l : ℕ) → m ≤ 400000 → l ≤ 400000 → m ≢ l → IsElse l (codes "wv_" ++ c ∷ 95 ∷ decimal m)
+other_text c m l low low2 apart own = go own
+  where
+    by : (d : ℕ) → codes "wv_" ++ d ∷ 95 ∷ decimal l ≡ codes "wv_" ++ c ∷ 95 ∷ decimal m → ⊥
+    by d e =
+        let letter : d ≡ c = ap (λ (t : List ℕ). slice_index t 3) e in
+        number_differs c m l low low2 apart (subst (λ i. codes "wv_" ++ i ∷ 95 ∷ decimal l ≡ codes "wv_" ++ c ∷ 95 ∷ decimal m) letter e)
+
+    go : Includes (own_names l) (codes "wv_" ++ c ∷ 95 ∷ decimal m) → ⊥
+    go (inl e) = by 112 e
+    go (inr (inl e)) = by 111 e
+    go (inr (inr (inl e))) = by 103 e
+    go (inr (inr (inr (inl e)))) = by 102 e
+    go (inr (inr (inr (inr (inl e))))) = by 119 e
+    go (inr (inr (inr (inr (inr none))))) = none
+
+weak_text : (m l : ℕ) → m ≤ 400000 → IsElse l (weak_name m)
+weak_text m l low own = go own
+  where
+    by : (d : ℕ) → is_digit d ≡ false → codes "wv_" ++ d ∷ 95 ∷ decimal l ≡ weak_name m → ⊥
+    by d letter e =
+        let same : d ∷ 95 ∷ decimal l ≡ decimal m = ap (λ (t : List ℕ). drop 3 t) e in
+        let no : true ≡ false = sym (number_digits m low) ∙ ap (list_all is_digit) (sym same) ∙ ap (λ b. b && list_all is_digit (95 ∷ decimal l)) letter in
+        cc
+
+    go : Includes (own_names l) (weak_name m) → ⊥
+    go (inl e) = by 112 refl e
+    go (inr (inl e)) = by 111 refl e
+    go (inr (inr (inl e))) = by 103 refl e
+    go (inr (inr (inr (inl e)))) = by 102 refl e
+    go (inr (inr (inr (inr (inl e))))) = by 119 refl e
+    go (inr (inr (inr (inr (inr none))))) = none
+
+-- A fact on each word that is written for a line.
+abbrev pub EachWord : (List ℕ → Type 0) → List (List ℕ) → Type 0
+EachWord Q [] = Unit {0}
+EachWord Q (word ∷ words) = Q word × EachWord Q words
+
+abbrev pub EachLine : (List ℕ → Type 0) → List (List (List ℕ)) → Type 0
+EachLine Q [] = Unit {0}
+EachLine Q (words ∷ lines) = EachWord Q words × EachLine Q lines
+
+-- the words that expansions write of themselves
+abbrev is_plain : List ℕ → Bool
+is_plain word = nat_le 1 (length word) && list_all (λ b. nat_le 33 b && nat_le b 126) word && not (is_kept word) && not (begins_with (codes "'wv_") word)
+
+module _ (Q : List ℕ → Type 0) (m : ℕ) (words : List (List ℕ)) (plain : (word : List ℕ) → is_plain word ≡ true → Q word) (weak : Q (weak_name m)) (letter : (c : ℕ) → (nat_le 33 c && nat_le c 126) ≡ true → Q (codes "wv_" ++ c ∷ 95 ∷ decimal m)) where
+  pub each_written : (form : Form) → ((place : ℕ) → place < word_count form → Q (word_at words place)) → EachLine Q (form_lines form m words)
+  each_written MakeMap at = (
+    (at 0 (omega arith), (plain (codes "=") refl, (plain (codes "dict") refl, tt))),
+    tt,
+  )
+  each_written Set at = (
+    (weak, (plain (codes "=") refl, (plain (codes "ref") refl, (at 3 (omega arith), tt)))),
+    (
+      (plain (codes "put") refl, (at 1 (omega arith), (at 2 (omega arith), (weak, tt)))),
+      (
+        (plain (codes "del") refl, (weak, tt)),
+        tt,
+      ),
+    ),
+  )
+  each_written Get at = (
+    (at 0 (omega arith), (plain (codes "=") refl, (plain (codes "none") refl, tt))),
+    (
+      (at 0 (omega arith), (plain (codes "=") refl, (plain (codes "get") refl, (at 3 (omega arith), (at 4 (omega arith), tt))))),
+      (
+        (at 0 (omega arith), (plain (codes "=") refl, (plain (codes "deref") refl, (at 0 (omega arith), tt)))),
+        tt,
+      ),
+    ),
+  )
+  each_written Remove at = (
+    (plain (codes "drop") refl, (at 1 (omega arith), (at 2 (omega arith), tt))),
+    tt,
+  )
+  each_written Finalize at = (
+    (plain (codes "def") refl, (letter 112 refl, tt)),
+    (
+      (letter 111 refl, (plain (codes "=") refl, (plain (codes "deref") refl, (letter 119 refl, tt)))),
+      (
+        (plain (codes "quit") refl, (letter 111 refl, tt)),
+        (
+          (plain (codes "del") refl, (letter 119 refl, tt)),
+          (
+            (plain (codes "del") refl, (letter 111 refl, tt)),
+            (
+              (plain (codes "call") refl, (letter 102 refl, tt)),
+              (
+                (plain (codes "end") refl, tt),
+                (
+                  (letter 103 refl, (plain (codes "=") refl, (plain (codes "func") refl, (letter 112 refl, tt)))),
+                  (
+                    (letter 102 refl, (plain (codes "=") refl, (at 2 (omega arith), tt))),
+                    (
+                      (letter 119 refl, (plain (codes "=") refl, (plain (codes "ref") refl, (at 1 (omega arith), (letter 102 refl, tt))))),
+                      tt,
+                    ),
+                  ),
+                ),
+              ),
+            ),
+          ),
+        ),
+      ),
+    ),
+  )
+
+  pub call_written : EachWord Q (codes "call" ∷ exit_name m ∷ [])
+  call_written = (plain (codes "call") refl, (letter 103 refl, tt))
+
+-- they are sound
+abbrev pub IsSound : List ℕ → Type 0
+IsSound word = (1 ≤ length word) × Graphic word
+
+plain_parts : (word : List ℕ) → is_plain word ≡ true → (nat_le 1 (length word) ≡ true) × (list_all (λ b. nat_le 33 b && nat_le b 126) word ≡ true) × (is_kept word ≡ false) × (begins_with (codes "'wv_") word ≡ false)
+plain_parts word e = go (nat_le 1 (length word)) (list_all (λ b. nat_le 33 b && nat_le b 126) word) (is_kept word) (begins_with (codes "'wv_") word) e
+  where
+    go : (a b c d : Bool) → (a && b && not c && not d) ≡ true → (a ≡ true) × (b ≡ true) × (c ≡ false) × (d ≡ false)
+    go true true false false h = (refl, refl, refl, refl)
+    go false b c d h = absurd (cc)
+    go true false c d h = absurd (cc)
+    go true true true d h = absurd (cc)
+    go true true false true h = absurd (cc)
+
+pub plain_sound : (word : List ℕ) → is_plain word ≡ true → IsSound word
+plain_sound word e = let p = plain_parts word e in let some : nat_le 1 (length word) ≡ true = p.0 in (grind (arith, nat_tests), graphic_by word p.1)
+
+pub plain_clear : (l : ℕ) (word : List ℕ) → is_plain word ≡ true → IsClear (IsElse l) word
+plain_clear l word e = let p = plain_parts word e in clear_word l word p.2 p.3
+
+letter_sound : (m : ℕ) → m ≤ 400000 → (c : ℕ) → (nat_le 33 c && nat_le c 126) ≡ true → IsSound (codes "wv_" ++ c ∷ 95 ∷ decimal m)
+letter_sound m low c e = (omega arith, graphic_by (codes "wv_" ++ c ∷ 95 ∷ decimal m) (ap (λ b. b && list_all (λ b. nat_le 33 b && nat_le b 126) (95 ∷ decimal m)) e ∙ digits_graphic (decimal m) (number_digits m low)))
+
+weak_is_sound : (m : ℕ) → m ≤ 400000 → IsSound (weak_name m)
+weak_is_sound m low = (omega arith, graphic_by (weak_name m) (digits_graphic (decimal m) (number_digits m low)))
+
+pub sound_lines : (m : ℕ) → m ≤ 400000 → (words : List (List ℕ)) (form : Form) → ((place : ℕ) → place < word_count form → IsSound (word_at words place)) → EachLine IsSound (form_lines form m words)
+sound_lines m low words form at = each_written IsSound m words plain_sound (weak_is_sound m low) (letter_sound m low) form at
+
+pub sound_call : (m : ℕ) → m ≤ 400000 → EachWord IsSound (codes "call" ∷ exit_name m ∷ [])
+sound_call m low = call_written IsSound m [] plain_sound (weak_is_sound m low) (letter_sound m low)
+
+-- of another line they are none of the names
+pub clear_lines : (m l : ℕ) → m ≤ 400000 → l ≤ 400000 → m ≢ l → (words : List (List ℕ)) (form : Form) → ((place : ℕ) → place < word_count form → IsClear (IsElse l) (word_at words place)) → EachLine (IsClear (IsElse l)) (form_lines form m words)
+clear_lines m l low low2 apart words form at = each_written (IsClear (IsElse l)) m words (plain_clear l) (clear_name l (decimal m) (weak_text m l low)) (λ c e. clear_name l (c ∷ 95 ∷ decimal m) (other_text c m l low low2 apart)) form at
+
+pub clear_call : (m l : ℕ) → m ≤ 400000 → l ≤ 400000 → m ≢ l → EachWord (IsClear (IsElse l)) (codes "call" ∷ exit_name m ∷ [])
+clear_call m l low low2 apart = call_written (IsClear (IsElse l)) m [] (plain_clear l) (clear_name l (decimal m) (weak_text m l low)) (λ c e. clear_name l (c ∷ 95 ∷ decimal m) (other_text c m l low low2 apart))
+
+pub each_sound : (words : List (List ℕ)) → EachWord IsSound words → EachSound words
+each_sound [] h = tt
+each_sound (word ∷ words) h = (h.0, each_sound words h.1)
+
+pub each_clear : (Free : List ℕ → Type 0) (words : List (List ℕ)) → EachWord (IsClear Free) words → AreClear Free words
+each_clear Free [] h = tt
+each_clear Free (word ∷ words) h = (h.0, each_clear Free words h.1)
+
+-- they differ from each other
+pub own_apart : (c d l : ℕ) → c ≢ d → codes "wv_" ++ c ∷ 95 ∷ decimal l ≢ codes "wv_" ++ d ∷ 95 ∷ decimal l
+own_apart c d l apart e = let same : c ≡ d = ap (λ (t : List ℕ). slice_index t 3) e in apart same
