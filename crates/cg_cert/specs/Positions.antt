@@ -19,10 +19,6 @@ use Rattle.cg_cert.specs.declared.graph.Located.{Located}
 abbrev pub Locates : List ℕ → BTreeMap ℕ ℕ → Type 0
 Locates names table = (o i : ℕ) → (get nat_cmp table o ≡ Some i) ↔ (slice_get names i ≡ Some o)
 
--- each position of the table is below a number
-abbrev pub AreWithin : ℕ → BTreeMap ℕ ℕ → Type 0
-AreWithin n table = (o i : ℕ) → get nat_cmp table o ≡ Some i → i < n
-
 -- no name stands at two positions
 abbrev pub ArePlacedOnce : List ℕ → Type 0
 ArePlacedOnce names = (o i j : ℕ) → slice_get names i ≡ Some o → slice_get names j ≡ Some o → i ≡ j

@@ -33,10 +33,10 @@ fn locate(alloc: Global, graph: &Graph) -> Result<Option<Located>, AllocError>
     let Some(rows) = rows_of(alloc, &table, members)? else {
         return Ok(None);
     };
-    let Some(lost) = marks_of(alloc, &table, members.len(), graph.lost.as_slice())? else {
+    let Some(lost) = marks_of(alloc, &table, members, graph.lost.as_slice())? else {
         return Ok(None);
     };
-    let Some(legacy) = marks_of(alloc, &table, members.len(), graph.legacy.as_slice())? else {
+    let Some(legacy) = marks_of(alloc, &table, members, graph.legacy.as_slice())? else {
         return Ok(None);
     };
     Ok(Some(Located { rows, lost, legacy }))
