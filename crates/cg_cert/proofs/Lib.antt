@@ -1,4 +1,5 @@
 pub mod Places
+pub mod Ascending
 pub mod Named
 pub mod Visited
 pub mod Left

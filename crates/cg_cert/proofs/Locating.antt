@@ -3,26 +3,19 @@ use Rattle.std.proofs.Common.{◌≡◌, sym, ◌∙◌, ap, subst, ℕ, ◌<◌
 use Rattle.std.specs.Prelude.{◌↔◌}
 use Rattle.std.specs.List.{concat}
 use Rattle.std.specs.Global.{Vec}
-use Rattle.std.specs.BTreeMap.{BTreeMap}
-use Rattle.std.proofs.lemmas.List.{length-map}
-use Rattle.std.proofs.lemmas.Option.{slice_get_within}
 use Rattle.cg_graph.specs.Member.{Includes}
 use Rattle.cg_records.specs.declared.graph.Member.{Member}
 use Rattle.cg_records.specs.declared.graph.Graph.{Graph}
 use Rattle.cg_cert.specs.declared.graph.Located.{Located}
+use Rattle.cg_cert.specs.declared.table.Places.{Places}
 use Rattle.cg_cert.specs.Judged.{serials_of, references_of, IsWellNamed, CoversReferences, FindsLost, FindsSetAside, IsRight, HasFault, too_low, loses, sets_aside, part}
-use Rattle.cg_cert.specs.Positions.{Locates, AreWithin, AreNames, IsSetOf, AreRowsOf, MarksAll, IsLocated, Leaves, IsTooLow, degrees_of, rows_in}
-use Rattle.cg_cert.proofs.Named.{placed_once}
+use Rattle.cg_cert.specs.Positions.{Tells, AreNames, IsSetOf, AreRowsOf, MarksAll, IsLocated, Leaves, IsTooLow, degrees_of, rows_in}
+use Rattle.cg_cert.proofs.Ascending.{told_once}
 use Rattle.cg_cert.proofs.Places.{once_from_placed, includes_at}
 use Rattle.cg_cert.proofs.Judging.{targets_within, covers, covers_not, named_row, rows_joined}
 
 pub differs : ◌≡◌ {A = Bool} false true → ⊥
 differs e = absurd (cc)
-
--- each position is below the number of members
-pub located_within : (g : Graph) (members : List Member) (table : BTreeMap ℕ ℕ) → members ≡ g.members → Locates (serials_of g.members) table → AreWithin (length members) table
-located_within g members table e locates o i found =
-    omega (arith, slice_get_within (serials_of g.members) i o ((locates o i).0 found), length-map g.members (λ (m : Member). m.serial), ap length e)
 
 -- the sets of a graph whose names are right
 pub lost_set : (g : Graph) → IsWellNamed g → IsSetOf (serials_of g.members) g.lost
@@ -38,10 +31,10 @@ names_of_rows g rows are o h =
     includes_at (serials_of g.members) j o at
 
 -- the graph by positions
-pub located_all : (g : Graph) (table : BTreeMap ℕ ℕ) (l : Located) → Locates (serials_of g.members) table → AreRowsOf (serials_of g.members) g.members (rows_in l.rows.items) → MarksAll (serials_of g.members) g.lost l.lost.items
+pub located_all : (g : Graph) (places : Places) (l : Located) → Tells (serials_of g.members) places → AreRowsOf (serials_of g.members) g.members (rows_in l.rows.items) → MarksAll (serials_of g.members) g.lost l.lost.items
     → IsSetOf (serials_of g.members) g.lost → MarksAll (serials_of g.members) g.legacy l.legacy.items → IsSetOf (serials_of g.members) g.legacy → IsLocated g l
-located_all g table l locates rows lost lost_is legacy legacy_is =
-    let once = placed_once (serials_of g.members) table locates in
+located_all g places l tells rows lost lost_is legacy legacy_is =
+    let once = told_once (serials_of g.members) places tells in
     record {
       names = record {
         members = once_from_placed (serials_of g.members) once;

@@ -13,7 +13,7 @@ use Rattle.cg_graph.specs.Holdings.{occurrences}
 use Rattle.cg_graph.proofs.Members.{either, Includes-append_left, Includes-append_right}
 use Rattle.cg_records.specs.declared.graph.Member.{Member}
 use Rattle.cg_cert.specs.Judged.{IsOnceEach, serials_of, references_of}
-use Rattle.cg_cert.specs.Positions.{Locates, ArePlacedOnce, AreNames, IsSetOf, names_in, IsRowOf, AreRowsOf, MarksAll, rows_in}
+use Rattle.cg_cert.specs.Positions.{Locates, IsPositionOf, AreNames, IsSetOf, names_in, IsRowOf, AreRowsOf, MarksAll, rows_in}
 use Rattle.cg_cert.proofs.Places.{snoc_cases, snoc_old, snoc_new, includes_at, place_in, twice, includes_more, includes_first, includes_last, slice_get-set_same, slice_get-set_other, unmarked, occurs_in, occurrences-append, occurrences-same, occurrences-other}
 
 -- one more name
@@ -55,13 +55,13 @@ located_before members at d table j within locates found once =
     twice (serials_of members) at s (omega (arith, within, length-map members (λ (m : Member). m.serial)))
     (subst (λ o. Includes (take at (serials_of members)) o) (sym here) (subst (λ (ns : List ℕ). Includes ns s) (sym (take-map (λ m. m.serial) at members)) (includes_at (serials_of (take at members)) j s ((locates s j).0 found)))) once
 
--- each name is placed once
-pub placed_once : (names : List ℕ) (table : BTreeMap ℕ ℕ) → Locates names table → ArePlacedOnce names
-placed_once names table locates o i j a b = same_Some i j (sym ((locates o i).1 a) ∙ (locates o j).1 b)
+-- a position that is known
+pub position_some : (names : List ℕ) (o : ℕ) (told : Option ℕ) (i : ℕ) → told ≡ Some i → IsPositionOf names o told → IsPositionOf names o (Some i)
+position_some names o told i e is = subst (λ at. IsPositionOf names o at) e is
 
 -- what has no position is no name
-pub no_name : (names : List ℕ) (table : BTreeMap ℕ ℕ) (o : ℕ) → Locates names table → get nat_cmp table o ≡ None → Includes names o → ⊥
-no_name names table o locates none h = let found = place_in names o h in none-some found.0 (sym none ∙ (locates o found.0).1 found.1)
+pub no_name : (names : List ℕ) (o : ℕ) (told : Option ℕ) → IsPositionOf names o told → told ≡ None → Includes names o → ⊥
+no_name names o told is none h = let found = place_in names o h in none-some found.0 (sym none ∙ (is found.0).1 found.1)
 
 -- one more position in a row
 pub row_more : (names serials row : List ℕ) (k at d : ℕ) → k < length serials → slice_get names at ≡ Some (get_or serials k d) → IsRowOf names (take k serials) row → IsRowOf names (take (k + 1) serials) (row ++ at ∷ [])
@@ -98,79 +98,81 @@ references_among (k ∷ members) m o (inl e) r = Includes-append_left k.refs (re
 references_among (k ∷ members) m o (inr h) r = Includes-append_right k.refs (references_of members) o (references_among members m o h r)
 
 -- How far marks have come: those of the first serials are made.
-pub record MarksFirst (members : ℕ) (table : BTreeMap ℕ ℕ) (done : List ℕ) (marks : List Bool) : Type 0 where
-  pub len : length marks ≡ members
-  pub marked : (names : List ℕ) → Locates names table → members ≡ length names → MarksAll names done marks
-  pub set : (names : List ℕ) → Locates names table → members ≡ length names → IsSetOf names done
+pub record MarksFirst (names done : List ℕ) (marks : List Bool) : Type 0 where
+  pub marked : MarksAll names done marks
+  pub set : IsSetOf names done
 
 -- none is made
-pub marks_none : (members : ℕ) (table : BTreeMap ℕ ℕ) (marks : List Bool) → marks ≡ replicate members false → MarksFirst members table [] marks
-marks_none members table marks is = record {
-  len = ap length is ∙ length-replicate members false;
-  marked = λ names locates long. record {
+pub marks_none : (names : List ℕ) (members : ℕ) (marks : List Bool) → members ≡ length names → marks ≡ replicate members false → MarksFirst names [] marks
+marks_none names members marks long is = record {
+  marked = record {
     len = ap length is ∙ length-replicate members false ∙ long;
     marked = λ i o at. (λ h. absurd (unmarked members i (ap (λ ms. slice_get ms i) (sym is) ∙ h)), λ h. absurd h);
   };
-  set = λ names locates long. record { once = λ o. omega arith; named = λ o h. absurd h };
+  set = record { once = λ o. omega arith; named = λ o h. absurd h };
 }
 
 -- a serial with a mark stands there already
-pub marked_before : (members : ℕ) (table : BTreeMap ℕ ℕ) (serials : List ℕ) (k d at : ℕ) (marks : List Bool) → k < length serials → MarksFirst members table (take k serials) marks → get nat_cmp table (get_or serials k d) ≡ Some at
-    → slice_get marks at ≡ Some true → (names : List ℕ) → Locates names table → members ≡ length names → IsSetOf names serials → ⊥
-marked_before members table serials k d at marks within so found mark names locates long set =
-    twice serials k d within (((so.marked names locates long).marked at (get_or serials k d) ((locates (get_or serials k d) at).0 found)).0 mark) set.once
+pub marked_before : (names serials : List ℕ) (k d at : ℕ) (marks : List Bool) → k < length serials → MarksFirst names (take k serials) marks → IsPositionOf names (get_or serials k d) (Some at) → slice_get marks at ≡ Some true → IsSetOf names serials → ⊥
+marked_before names serials k d at marks within so is mark set = twice serials k d within (((so.marked.marked at (get_or serials k d) ((is at).0 refl)).0 mark)) set.once
+
+-- the position of a name has a mark
+pub mark_there : (names done : List ℕ) (s at : ℕ) (marks : List Bool) → MarksFirst names done marks → IsPositionOf names s (Some at) → at < length marks
+mark_there names done s at marks so is = omega (arith, slice_get_within names at s ((is at).0 refl), so.marked.len)
 
 -- what is read at a place
 pub at_place : (marks : List Bool) (at : ℕ) (b x : Bool) → at < length marks → x ≡ get_or marks at x → x ≡ b → slice_get marks at ≡ Some b
 at_place marks at b x within read is = slice_get_read marks (length marks) at x refl within read ∙ ap Some is
 
 -- one more is made
-pub marks_more : (members : ℕ) (table : BTreeMap ℕ ℕ) (serials : List ℕ) (k d at : ℕ) (marks : List Bool) → k < length serials → MarksFirst members table (take k serials) marks → get nat_cmp table (get_or serials k d) ≡ Some at
-    → slice_get marks at ≡ Some false → MarksFirst members table (take (k + 1) serials) (set marks at true)
-marks_more members table serials k d at marks within so found mark = record {
-  len = omega (arith, so.len, length-set marks at true);
-  marked = λ names locates long. record { len = omega (arith, so.len, long, length-set marks at true); marked = λ i o at_i. (there names locates long i o at_i, back names locates long i o at_i) };
-  set = λ names locates long. record { once = once names locates long; named = λ o h. named names locates long o (includes_more serials k d o within h) };
+pub marks_more : (names serials : List ℕ) (k d at : ℕ) (marks : List Bool) → k < length serials → MarksFirst names (take k serials) marks → IsPositionOf names (get_or serials k d) (Some at) → slice_get marks at ≡ Some false
+    → MarksFirst names (take (k + 1) serials) (set marks at true)
+marks_more names serials k d at marks within so is mark = record {
+  marked = record { len = omega (arith, so.marked.len, length-set marks at true); marked = λ i o at_i. (there i o at_i, back i o at_i) };
+  set = record { once = once; named = λ o h. named o (includes_more serials k d o within h) };
 }
   where
     s : ℕ
     s = get_or serials k d
 
+    named_s : slice_get names at ≡ Some s
+    named_s = (is at).0 refl
+
     here : at < length marks
     here = slice_get_within marks at false mark
 
-    there : (names : List ℕ) → Locates names table → members ≡ length names → (i o : ℕ) → slice_get names i ≡ Some o → slice_get (set marks at true) i ≡ Some true → Includes (take (k + 1) serials) o
-    there names locates long i o at_i h = either (cases_eq i at)
-        (λ same. let e : s ≡ o = same_Some s o (sym ((locates s at).0 found) ∙ ap (slice_get names) (sym same) ∙ at_i) in
+    there : (i o : ℕ) → slice_get names i ≡ Some o → slice_get (set marks at true) i ≡ Some true → Includes (take (k + 1) serials) o
+    there i o at_i h = either (cases_eq i at)
+        (λ same. let e : s ≡ o = same_Some s o (sym named_s ∙ ap (slice_get names) (sym same) ∙ at_i) in
         subst (λ p. Includes (take (k + 1) serials) p) e (includes_last serials k d within))
-        (λ differs. includes_first serials k d o within (((so.marked names locates long).marked i o at_i).0 (sym (slice_get-set_other marks at i true differs) ∙ h)))
+        (λ differs. includes_first serials k d o within ((so.marked.marked i o at_i).0 (sym (slice_get-set_other marks at i true differs) ∙ h)))
 
-    back : (names : List ℕ) → Locates names table → members ≡ length names → (i o : ℕ) → slice_get names i ≡ Some o → Includes (take (k + 1) serials) o → slice_get (set marks at true) i ≡ Some true
-    back names locates long i o at_i h = either (cases_eq i at)
+    back : (i o : ℕ) → slice_get names i ≡ Some o → Includes (take (k + 1) serials) o → slice_get (set marks at true) i ≡ Some true
+    back i o at_i h = either (cases_eq i at)
         (λ same. ap (slice_get (set marks at true)) same ∙ slice_get-set_same marks at true here)
         (λ differs. slice_get-set_other marks at i true differs ∙ either (includes_more serials k d o within h)
-        (λ before. ((so.marked names locates long).marked i o at_i).1 before)
-        (λ e. absurd (differs (same_Some i at (sym ((locates o i).1 at_i) ∙ ap (get nat_cmp table) (sym e) ∙ found)))))
+        (λ before. (so.marked.marked i o at_i).1 before)
+        (λ e. absurd (differs (sym (same_Some at i ((is i).1 (at_i ∙ ap Some (sym e))))))))
 
-    fresh : (names : List ℕ) → Locates names table → members ≡ length names → Includes (take k serials) s → ⊥
-    fresh names locates long h =
-        let yes = ((so.marked names locates long).marked at s ((locates s at).0 found)).1 h in
+    fresh : Includes (take k serials) s → ⊥
+    fresh h =
+        let yes = (so.marked.marked at s named_s).1 h in
         absurd (cc)
 
-    once : (names : List ℕ) → Locates names table → members ≡ length names → IsOnceEach (take (k + 1) serials)
-    once names locates long o =
+    once : IsOnceEach (take (k + 1) serials)
+    once o =
         let sum : occurrences o (take (k + 1) serials) ≡ occurrences o (take k serials) + occurrences o (s ∷ []) = ap (occurrences o) (take_more serials k d within) ∙ occurrences-append o (take k serials) (s ∷ []) in
         either (cases_eq s o)
         (λ same. go (occurrences o (take k serials)) refl same sum)
-        (λ differs. omega (arith, sum, (so.set names locates long).once o, occurrences-other o s [] differs))
+        (λ differs. omega (arith, sum, so.set.once o, occurrences-other o s [] differs))
       where
         go : (n : ℕ) → occurrences o (take k serials) ≡ n → s ≡ o → occurrences o (take (k + 1) serials) ≡ occurrences o (take k serials) + occurrences o (s ∷ []) → occurrences o (take (k + 1) serials) < 2
-        go zero is same sum = omega (arith, is, sum, occurrences-same o s [] same)
-        go (suc n) is same sum = absurd (fresh names locates long (subst (λ p. Includes (take k serials) p) (sym same) (occurs_in (take k serials) o (omega (arith, is)))))
+        go zero none same sum = omega (arith, none, sum, occurrences-same o s [] same)
+        go (suc n) some same sum = absurd (fresh (subst (λ p. Includes (take k serials) p) (sym same) (occurs_in (take k serials) o (omega (arith, some)))))
 
-    named : (names : List ℕ) → Locates names table → members ≡ length names → (o : ℕ) → Includes (take k serials) o ⊎ (s ≡ o) → Includes names o
-    named names locates long o (inl h) = (so.set names locates long).named o h
-    named names locates long o (inr e) = subst (λ p. Includes names p) e (includes_at names at s ((locates s at).0 found))
+    named : (o : ℕ) → Includes (take k serials) o ⊎ (s ≡ o) → Includes names o
+    named o (inl h) = so.set.named o h
+    named o (inr e) = subst (λ p. Includes names p) e (includes_at names at s named_s)
 
 -- none is named by more serials than name members
 pub named_by_more : (names xs : List ℕ) (members : List Member) (m : Member) → Includes members m → xs ≡ m.refs → AreNames names (references_of members) → AreNames names xs

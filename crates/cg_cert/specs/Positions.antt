@@ -2,6 +2,7 @@
 -- paths by rows lead to. (Ours.)
 use Rattle.std.specs.Prelude.{◌≡◌, ℕ, ◌+◌, ◌<◌, Bool, true, not, List, length, map, count_by, Option, Some, ◌↔◌, ◌⊎◌, slice_get, slice_index_or}
 use Rattle.std.specs.List.{All}
+use Rattle.std.specs.List.Sorted.{IsStrictlyIncreasing}
 use Rattle.std.specs.Ordering.{nat_cmp}
 use Rattle.std.specs.BTreeMap.{BTreeMap, get}
 use Rattle.std.specs.Global.{Vec}
@@ -14,14 +15,21 @@ use Rattle.cg_cert.specs.Judged.{serials_of, IsOnceEach, IsWellNamed, IsRight, I
 use Rattle.cg_cert.specs.declared.check.Verdict.{Verdict}
 use Rattle.cg_cert.specs.declared.check.Verdict.TheVariants.{Yes, No}
 use Rattle.cg_cert.specs.declared.graph.Located.{Located}
+use Rattle.cg_cert.specs.declared.table.Places.{Places}
+use Rattle.cg_cert.specs.declared.table.Places.TheVariants.{Ascending, Listed}
 
 -- the table has the position of each name, and nothing else
 abbrev pub Locates : List ℕ → BTreeMap ℕ ℕ → Type 0
 Locates names table = (o i : ℕ) → (get nat_cmp table o ≡ Some i) ↔ (slice_get names i ≡ Some o)
 
--- each position of the table is below a number
-abbrev pub AreWithin : ℕ → BTreeMap ℕ ℕ → Type 0
-AreWithin n table = (o i : ℕ) → get nat_cmp table o ≡ Some i → i < n
+-- the places tell the position of each name: the names ascend, or a table has it
+abbrev pub Tells : List ℕ → Places → Type 0
+Tells names Ascending = IsStrictlyIncreasing names
+Tells names (Listed table) = Locates names table
+
+-- the position of a name, or none where there is no such name
+abbrev pub IsPositionOf : List ℕ → ℕ → Option ℕ → Type 0
+IsPositionOf names o at = (i : ℕ) → (at ≡ Some i) ↔ (slice_get names i ≡ Some o)
 
 -- no name stands at two positions
 abbrev pub ArePlacedOnce : List ℕ → Type 0

@@ -6,7 +6,7 @@ ghost use Rattle.cg_cert.specs.Positions.{IsLocated, Leaves, degrees_of, rows_in
 
 use crate::degrees::outside_degrees;
 use crate::search::search;
-use crate::table::{marks_of, positions_of, rows_of};
+use crate::table::{marks_of, places_of, rows_of};
 use cg_records::{Graph, Member};
 use std::alloc::{AllocError, Global};
 
@@ -27,16 +27,16 @@ fn locate(alloc: Global, graph: &Graph) -> Result<Option<Located>, AllocError>
     ensures none { IfOk result (λ named. IfNone named (IsWellNamed graph.now → ⊥)) }
 {
     let members = graph.members.as_slice();
-    let Some(table) = positions_of(alloc, members)? else {
+    let Some(places) = places_of(alloc, members)? else {
         return Ok(None);
     };
-    let Some(rows) = rows_of(alloc, &table, members)? else {
+    let Some(rows) = rows_of(alloc, &places, members)? else {
         return Ok(None);
     };
-    let Some(lost) = marks_of(alloc, &table, members.len(), graph.lost.as_slice())? else {
+    let Some(lost) = marks_of(alloc, &places, members, graph.lost.as_slice())? else {
         return Ok(None);
     };
-    let Some(legacy) = marks_of(alloc, &table, members.len(), graph.legacy.as_slice())? else {
+    let Some(legacy) = marks_of(alloc, &places, members, graph.legacy.as_slice())? else {
         return Ok(None);
     };
     Ok(Some(Located { rows, lost, legacy }))

@@ -1,14 +1,36 @@
 //! Serials as positions of members.
-ghost use Rattle.std.specs.Prelude.{◌≡◌, ◌<◌, ℕ, List, length, map, Some, IfOk, IfSome, IfNone};
+ghost use Rattle.std.specs.Prelude.{◌≡◌, true, Some, IfOk, IfSome, IfNone, slice_get};
+ghost use Rattle.std.specs.List.Sorted.{IsStrictlyIncreasing};
 ghost use Rattle.cg_cert.specs.Judged.{serials_of, references_of, IsOnceEach};
-ghost use Rattle.cg_cert.specs.Positions.{Locates, AreNames, IsSetOf, IsRowOf, MarksAll, AreRowsOf, rows_in, AreWithin};
+ghost use Rattle.cg_cert.specs.Positions.{Locates, Tells, IsPositionOf, AreNames, IsSetOf, IsRowOf, MarksAll, AreRowsOf, rows_in};
 
 use cg_records::Member;
 use std::alloc::{AllocError, Global};
 use std::collections::BTreeMap;
 
+/// What tells the positions of the members' serials.
+#[derive(Drop)]
+pub(crate) enum Places {
+    /// They ascend, as where members stand by age, and a search by halves tells them.
+    Ascending,
+    /// A table of them.
+    Listed(BTreeMap<u64, usize>),
+}
+
+/// Whether the serials of members ascend.
+fn ascend(members: &[Member]) -> bool
+    ensures { result ≡ true → IsStrictlyIncreasing (serials_of members.now) }
+{
+    'members: for at in 1..members.len() {
+        if members[at].serial <= members[at - 1].serial {
+            return false;
+        }
+    }
+    true
+}
+
 /// The position of each member, by serial; `None` where two members share one.
-pub(crate) fn positions_of(
+fn positions_of(
     alloc: Global,
     members: &[Member],
 ) -> Result<Option<BTreeMap<u64, usize>>, AllocError>
@@ -24,19 +46,95 @@ pub(crate) fn positions_of(
     Ok(Some(table))
 }
 
-/// The positions of serials, in order; `None` where one names no member.
+/// What tells the positions of members; `None` where two members share a serial.
+pub(crate) fn places_of(alloc: Global, members: &[Member]) -> Result<Option<Places>, AllocError>
+    ensures found { IfOk result (λ told. IfSome told (λ places. Tells (serials_of members.now) places)) }
+    ensures none { IfOk result (λ told. IfNone told (IsOnceEach (serials_of members.now) → ⊥)) }
+{
+    if ascend(members) {
+        return Ok(Some(Places::Ascending));
+    }
+    match positions_of(alloc, members)? {
+        Some(table) => Ok(Some(Places::Listed(table))),
+        None => Ok(None),
+    }
+}
+
+/// The position of a serial among those that ascend.
+fn position_by_halves(members: &[Member], serial: u64) -> Option<usize>
+    requires { IsStrictlyIncreasing (serials_of members.now) }
+    ensures { IsPositionOf (serials_of members.now) serial result }
+{
+    match members.binary_search_by_key(&serial, |member| member.serial) {
+        Ok(at) => Some(at),
+        Err(_) => None,
+    }
+}
+
+/// Whether the member at a position has this serial.
+fn is_at(members: &[Member], at: usize, serial: u64) -> bool
+    ensures { result ≡ true → slice_get (serials_of members.now) at ≡ Some serial }
+{
+    at < members.len() && members[at].serial == serial
+}
+
+/// The position of a serial. A guess spares the search where it is right.
+fn position_at(places: &Places, members: &[Member], guess: usize, serial: u64) -> Option<usize>
+    requires { Tells (serials_of members.now) places.now }
+    ensures { IsPositionOf (serials_of members.now) serial result }
+{
+    if is_at(members, guess, serial) {
+        return Some(guess);
+    }
+    match places {
+        Places::Ascending => position_by_halves(members, serial),
+        Places::Listed(table) => table.get(&serial).copied(),
+    }
+}
+
+/// The position of a serial that the member at `at` refers to. References mostly lead to a neighbour, or to the one
+/// after the `last` that was found.
+fn position_near(
+    places: &Places,
+    members: &[Member],
+    at: usize,
+    last: usize,
+    serial: u64,
+) -> Option<usize>
+    requires { Tells (serials_of members.now) places.now }
+    ensures { IsPositionOf (serials_of members.now) serial result }
+{
+    let next = last.wrapping_add(1);
+    if is_at(members, next, serial) {
+        return Some(next);
+    }
+    let after = at.wrapping_add(1);
+    if is_at(members, after, serial) {
+        return Some(after);
+    }
+    position_at(places, members, at.wrapping_sub(1), serial)
+}
+
+/// The positions of the serials that the member at `at` refers to, in order; `None` where one names no member.
 pub(crate) fn row_of(
     alloc: Global,
-    table: &BTreeMap<u64, usize>,
+    places: &Places,
+    members: &[Member],
+    at: usize,
     serials: &[u64],
 ) -> Result<Option<Vec<usize>>, AllocError>
-    ensures found { (names : List ℕ) → Locates names table.now → IfOk result (λ named. IfSome named (λ row. IsRowOf names serials.now row.items)) }
-    ensures none { (names : List ℕ) → Locates names table.now → IfOk result (λ named. IfNone named (AreNames names serials.now → ⊥)) }
+    requires { Tells (serials_of members.now) places.now }
+    ensures found { IfOk result (λ named. IfSome named (λ row. IsRowOf (serials_of members.now) serials.now row.items)) }
+    ensures none { IfOk result (λ named. IfNone named (AreNames (serials_of members.now) serials.now → ⊥)) }
 {
-    let mut row = Vec::new(alloc);
+    let mut row = Vec::with_capacity(alloc, serials.len())?;
+    let mut last = at;
     'serials: for serial in serials {
-        match table.get(serial) {
-            Some(at) => row.push(*at)?,
+        match position_near(places, members, at, last, *serial) {
+            Some(found) => {
+                row.push(found)?;
+                last = found;
+            }
             None => return Ok(None),
         }
     }
@@ -46,15 +144,16 @@ pub(crate) fn row_of(
 /// The row of each member: the positions of its references, in order; `None` where one names no member.
 pub(crate) fn rows_of(
     alloc: Global,
-    table: &BTreeMap<u64, usize>,
+    places: &Places,
     members: &[Member],
 ) -> Result<Option<Vec<Vec<usize>>>, AllocError>
-    ensures found { (names : List ℕ) → Locates names table.now → IfOk result (λ named. IfSome named (λ rows. AreRowsOf names members.now (rows_in rows.items))) }
-    ensures none { (names : List ℕ) → Locates names table.now → IfOk result (λ named. IfNone named (AreNames names (references_of members.now) → ⊥)) }
+    requires { Tells (serials_of members.now) places.now }
+    ensures found { IfOk result (λ named. IfSome named (λ rows. AreRowsOf (serials_of members.now) members.now (rows_in rows.items))) }
+    ensures none { IfOk result (λ named. IfNone named (AreNames (serials_of members.now) (references_of members.now) → ⊥)) }
 {
-    let mut rows = Vec::new(alloc);
-    'members: for member in members {
-        match row_of(alloc, table, member.refs.as_slice())? {
+    let mut rows = Vec::with_capacity(alloc, members.len())?;
+    'members: for at in 0..members.len() {
+        match row_of(alloc, places, members, at, members[at].refs.as_slice())? {
             Some(row) => rows.push(row)?,
             None => return Ok(None),
         }
@@ -65,24 +164,26 @@ pub(crate) fn rows_of(
 /// Marks the positions of serials; `None` where one names no member, or stands twice.
 pub(crate) fn marks_of(
     alloc: Global,
-    table: &BTreeMap<u64, usize>,
-    members: usize,
+    places: &Places,
+    members: &[Member],
     serials: &[u64],
 ) -> Result<Option<Vec<bool>>, AllocError>
-    requires { AreWithin members table.now }
-    ensures found { (names : List ℕ) → Locates names table.now → members ≡ length names → IfOk result (λ named. IfSome named (λ marks. MarksAll names serials.now marks.items)) }
-    ensures sets { (names : List ℕ) → Locates names table.now → members ≡ length names → IfOk result (λ named. IfSome named (λ marks. IsSetOf names serials.now)) }
-    ensures none { (names : List ℕ) → Locates names table.now → members ≡ length names → IfOk result (λ named. IfNone named (IsSetOf names serials.now → ⊥)) }
+    requires { Tells (serials_of members.now) places.now }
+    ensures found { IfOk result (λ named. IfSome named (λ marks. MarksAll (serials_of members.now) serials.now marks.items)) }
+    ensures sets { IfOk result (λ named. IfSome named (λ marks. IsSetOf (serials_of members.now) serials.now)) }
+    ensures none { IfOk result (λ named. IfNone named (IsSetOf (serials_of members.now) serials.now → ⊥)) }
 {
-    let mut marks = Vec::from_elem(alloc, false, members)?;
+    let mut marks = Vec::from_elem(alloc, false, members.len())?;
+    let mut guess = 0;
     'serials: for serial in serials {
-        let Some(at) = table.get(serial) else {
+        let Some(at) = position_at(places, members, guess, *serial) else {
             return Ok(None);
         };
-        if marks[*at] {
+        if marks[at] {
             return Ok(None);
         }
-        marks[*at] = true;
+        marks[at] = true;
+        guess = at.wrapping_add(1);
     }
     Ok(Some(marks))
 }
