@@ -2,7 +2,7 @@
 //! out by hand.
 use crate::kinds::six_refusing;
 use crate::rows::{check, lines};
-use crate::tests::{Answered, answer_to, answer_with_faults, words_of};
+use crate::tests::{Answered, answer_to, words_of};
 use crate::{Status, gc_run};
 use cg_cert::{Verdict, check_records};
 use cg_io::{MemSink, MemSource, PlainSource};
@@ -155,36 +155,6 @@ fn want_of_memory_ends_the_records(rt: HostRuntime) -> Result<(), Fail> {
         };
         assert_eq!(rt; found.status, Status::OutOfMemory, "at {before}");
         assert_eq!(rt; found.text.as_slice(), wanted.as_slice(), "at {before}");
-    }
-    Ok(())
-}
-
-#[test]
-fn a_failed_write_leaves_a_front_of_the_records(rt: HostRuntime) -> Result<(), Fail> {
-    let alloc = rt.alloc();
-    let texts = [
-        "re",
-        "record 2; gr",
-        "record 2; graph 1; m ",
-        "record 2; graph 1; m 2 1 0; r ",
-        "record 2; graph 1; m 2 1 0; r 2; lo",
-        "record 2; graph 1; m 2 1 0; r 2; lost 2; gr",
-        "record 2; graph 1; m 2 1 0; r 2; lost 2; graph 2; m ",
-        "record 2; graph 1; m 2 1 0; r 2; lost 2; graph 2; m 2 1 0; r ",
-        "record 2; graph 1; m 2 1 0; r 2; lost 2; graph 2; m 2 1 0; r 2; lo",
-        "record 2; graph 1; m 2 1 0; r 2; lost 2; graph 2; m 2 1 0; r 2; lost 2; st",
-        "record 2; graph 1; m 2 1 0; r 2; lost 2; graph 2; m 2 1 0; r 2; lost 2; stop; en",
-    ];
-    let mut number = 0u64;
-    for text in texts {
-        number += 1;
-        let mut source = PlainSource::new(lines(alloc, RING)?);
-        let found = answer_with_faults(alloc, &["record"], &mut source, vec![in alloc; number]?)?;
-        // The last line of a front has no line feed.
-        let mut wanted = lines(alloc, text)?;
-        wanted.pop();
-        assert_eq!(rt; found.status, Status::WriteFault, "at {number}");
-        assert_eq!(rt; found.text.as_slice(), wanted.as_slice(), "at {number}");
     }
     Ok(())
 }
