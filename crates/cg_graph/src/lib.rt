@@ -6,10 +6,12 @@
 //! says; tests compare with it.
 #![tactic(auto)]
 
+mod limits;
 mod reach;
 #[cfg(test)]
 mod tests;
 
+pub use limits::{MOST_ENTRIES, MOST_OBJECTS};
 pub use reach::reach_plain;
 
 /// A reference from one object to another, both by serial.

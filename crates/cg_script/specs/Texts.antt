@@ -24,45 +24,59 @@ operand_texts Garbage = []
 abbrev pub operands_texts : List Operand → List ℕ
 operands_texts operands = flat_map operand_texts operands
 
--- the texts of a command, in the order in which they stand in its line; classes and procedures have numbers of their own
+-- The number of the name that an operand is, if it is a variable. A string may have the same number: it is no name.
+abbrev pub operand_names : Operand → List ℕ
+operand_names (Name x) = x ∷ []
+operand_names operand = []
+
+-- What the words of a command come to, in the order in which they stand in its line: a name that it binds is a word as in an operand,
+-- and an attribute is a string; classes and procedures have numbers of their own.
+abbrev pub words_by : (Operand → List ℕ) → Command → List ℕ
+words_by of (MakeList name items) = of (Name name) ++ flat_map of items
+words_by of (MakeTuple name items) = of (Name name) ++ flat_map of items
+words_by of (MakeDict name) = of (Name name)
+words_by of (MakeInst name class) = of (Name name)
+words_by of (MakeFunc name proc cells) = of (Name name) ++ flat_map of cells
+words_by of (MakeRef name target callback) = of (Name name) ++ (of target ++ of callback)
+words_by of (Bind name value) = of (Name name) ++ of value
+words_by of (Del name) = of (Name name)
+words_by of (Append list value) = of list ++ of value
+words_by of (SetItem list index value) = of list ++ of value
+words_by of (DelItem list index) = of list
+words_by of (Put dict key value) = of dict ++ of key ++ of value
+words_by of (Remove dict key) = of dict ++ of key
+words_by of (SetAttr object attr value) = of object ++ (of (Str attr) ++ of value)
+words_by of (DelAttr object attr) = of object ++ of (Str attr)
+words_by of (ItemOf name list index) = of (Name name) ++ of list
+words_by of (Get name dict key) = of (Name name) ++ (of dict ++ of key)
+words_by of (Attr name object attr) = of (Name name) ++ (of object ++ of (Str attr))
+words_by of (Deref name weak) = of (Name name) ++ of weak
+words_by of (Call func) = of func
+words_by of (Quit value) = of value
+words_by of (Collect generation) = []
+words_by of Enable = []
+words_by of Disable = []
+words_by of (Threshold first second third) = []
+words_by of (Flags bits) = []
+words_by of Freeze = []
+words_by of Unfreeze = []
+words_by of (Print value) = of value
+words_by of (Refs value) = of value
+words_by of (Tracked value) = of value
+words_by of (Finalized value) = of value
+words_by of (Referents value) = of value
+words_by of (Referrers value) = of value
+words_by of (Why name) = of (Name name)
+words_by of Count = []
+words_by of Gens = []
+
+-- the texts of a command
 abbrev pub command_texts : Command → List ℕ
-command_texts (MakeList name items) = name ∷ operands_texts items
-command_texts (MakeTuple name items) = name ∷ operands_texts items
-command_texts (MakeDict name) = name ∷ []
-command_texts (MakeInst name class) = name ∷ []
-command_texts (MakeFunc name proc cells) = name ∷ operands_texts cells
-command_texts (MakeRef name target callback) = name ∷ (operand_texts target ++ operand_texts callback)
-command_texts (Bind name value) = name ∷ operand_texts value
-command_texts (Del name) = name ∷ []
-command_texts (Append list value) = operand_texts list ++ operand_texts value
-command_texts (SetItem list index value) = operand_texts list ++ operand_texts value
-command_texts (DelItem list index) = operand_texts list
-command_texts (Put dict key value) = operand_texts dict ++ operand_texts key ++ operand_texts value
-command_texts (Remove dict key) = operand_texts dict ++ operand_texts key
-command_texts (SetAttr object attr value) = operand_texts object ++ attr ∷ operand_texts value
-command_texts (DelAttr object attr) = operand_texts object ++ attr ∷ []
-command_texts (ItemOf name list index) = name ∷ operand_texts list
-command_texts (Get name dict key) = name ∷ (operand_texts dict ++ operand_texts key)
-command_texts (Attr name object attr) = name ∷ (operand_texts object ++ attr ∷ [])
-command_texts (Deref name weak) = name ∷ operand_texts weak
-command_texts (Call func) = operand_texts func
-command_texts (Quit value) = operand_texts value
-command_texts (Collect generation) = []
-command_texts Enable = []
-command_texts Disable = []
-command_texts (Threshold first second third) = []
-command_texts (Flags bits) = []
-command_texts Freeze = []
-command_texts Unfreeze = []
-command_texts (Print value) = operand_texts value
-command_texts (Refs value) = operand_texts value
-command_texts (Tracked value) = operand_texts value
-command_texts (Finalized value) = operand_texts value
-command_texts (Referents value) = operand_texts value
-command_texts (Referrers value) = operand_texts value
-command_texts (Why name) = name ∷ []
-command_texts Count = []
-command_texts Gens = []
+command_texts command = words_by operand_texts command
+
+-- the names that it speaks of
+abbrev pub command_names : Command → List ℕ
+command_names command = words_by operand_names command
 
 -- the texts of a declaration or a command
 abbrev pub item_texts : Item → List ℕ
