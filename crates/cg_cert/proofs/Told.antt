@@ -2,7 +2,8 @@
 use Rattle.std.proofs.Common.{◌≡◌, ◌⊎◌, inl, inr, ◌<◌, ℕ, ◌≤◌, List, ◌++◌, length, length-append, append-nil, Option, None, Some, IfSome, sym, ap, subst, ◌∙◌, arith}
 use Rattle.std.proofs.lemmas.Bool.{cases_lt}
 use Rattle.std.specs.Io.KnownBytes.{Consumes, IsAtEnd}
-use Rattle.cg_cert.specs.Statuses.{ToldVerdict, ToldFront, RowText, verdict_row, large_row, Answers, limit, IsCutShort, status_of}
+use Rattle.cg_cert.specs.Statuses.{ToldVerdict, ToldFront, RowText, verdict_row, large_row, Answers, IsCutShort, status_of}
+use Rattle.cg_cert.specs.declared.run.TheConstants.{LIMIT}
 use Rattle.cg_cert.specs.Judged.{Judges}
 use Rattle.cg_cert.specs.declared.check.Verdict.{Verdict}
 use Rattle.cg_cert.specs.declared.check.Verdict.TheVariants as verdicts
@@ -10,14 +11,14 @@ use Rattle.cg_cert.specs.declared.status.CheckStatus.{CheckStatus}
 use Rattle.cg_cert.specs.declared.status.CheckStatus.TheVariants as status
 
 -- What holds of the bytes that were read holds of those that the source told: either these are all, or they are too many.
-module _ (left after : Option (List ℕ)) (bytes : List ℕ) (took : Consumes left after bytes) (ends : length bytes < limit → IsAtEnd after) where
-  told : (P : List ℕ → Type 0) → P bytes → ((more : List ℕ) → limit ≤ length bytes → P bytes → P (bytes ++ more)) → IfSome left P
+module _ (left after : Option (List ℕ)) (bytes : List ℕ) (took : Consumes left after bytes) (ends : length bytes < LIMIT → IsAtEnd after) where
+  told : (P : List ℕ → Type 0) → P bytes → ((more : List ℕ) → LIMIT ≤ length bytes → P bytes → P (bytes ++ more)) → IfSome left P
   told P here longer = by left after took ends
     where
-      by : (l a : Option (List ℕ)) → Consumes l a bytes → (length bytes < limit → IsAtEnd a) → IfSome l P
+      by : (l a : Option (List ℕ)) → Consumes l a bytes → (length bytes < LIMIT → IsAtEnd a) → IfSome l P
       by None a t e = tt
       by (Some xs) None t e = absurd t
-      by (Some xs) (Some ys) t e = elim (cases_lt (length bytes) limit) [
+      by (Some xs) (Some ys) t e = elim (cases_lt (length bytes) LIMIT) [
         | inl few ↦ subst P (sym (t ∙ ap (λ l. bytes ++ l) (e few) ∙ append-nil bytes)) here
         | inr many ↦ subst P (sym t) (longer ys many here)
       ]
@@ -25,7 +26,7 @@ module _ (left after : Option (List ℕ)) (bytes : List ℕ) (took : Consumes le
   pub told_verdict : (answer : CheckStatus) (before now : Option (List ℕ)) → ToldVerdict answer bytes before now → IfSome left (λ bs. ToldVerdict answer bs before now)
   told_verdict answer before now h = told (λ bs. ToldVerdict answer bs before now) h (λ more many r. absurd (omega (arith, many, r.few)))
 
-  longer_row : (more text : List ℕ) → limit ≤ length bytes → RowText bytes text → RowText (bytes ++ more) text
+  longer_row : (more text : List ℕ) → LIMIT ≤ length bytes → RowText bytes text → RowText (bytes ++ more) text
   longer_row more _ many (verdict_row verdict few judges) = absurd (omega (arith, many, few))
   longer_row more _ many (large_row large) = large_row (omega (arith, many, length-append bytes more))
 
@@ -45,7 +46,7 @@ complete answer SourceRose SinkRose Told read write (inl (inr (inl e))) no_sourc
 complete answer SourceRose SinkRose Told read write (inl (inr (inr e))) no_source no_sink = inl e
 
 -- the answer of a verdict
-pub answers_of : (bytes : List ℕ) (answer : CheckStatus) (v : Verdict) → length bytes < limit → Judges bytes v → answer ≡ status_of v → Answers bytes answer
+pub answers_of : (bytes : List ℕ) (answer : CheckStatus) (v : Verdict) → length bytes < LIMIT → Judges bytes v → answer ≡ status_of v → Answers bytes answer
 answers_of bytes answer v short judges is = (λ few. record { verdict = v; judges = judges; status_is = is }, λ many. absurd (omega (arith, short, many)))
 
 -- a verdict is told as one of two statuses

@@ -7,10 +7,7 @@ use Rattle.cg_cert.specs.declared.check.Verdict.{Verdict}
 use Rattle.cg_cert.specs.declared.check.Verdict.TheVariants as verdicts
 use Rattle.cg_cert.specs.declared.status.CheckStatus.{CheckStatus}
 use Rattle.cg_cert.specs.declared.status.CheckStatus.TheVariants.{Yes, No, TooLarge, ReadFault, WriteFault, OutOfMemory}
-
--- one more byte than records may have
-abbrev pub limit : ℕ
-limit = 67108865
+use Rattle.cg_cert.specs.declared.run.TheConstants.{LIMIT}
 
 -- the line of a verdict
 abbrev pub verdict_text : Verdict → List ℕ
@@ -24,7 +21,7 @@ status_of (verdicts.No graph code) = No
 
 -- The bytes have a verdict, with this status, and its line was written.
 pub record ToldVerdict (status : CheckStatus) (bytes : List ℕ) (before now : Option (List ℕ)) : Type 0 where
-  pub few : length bytes < limit
+  pub few : length bytes < LIMIT
   pub verdict : Verdict
   pub judges : Judges bytes verdict
   pub status_is : status ≡ status_of verdict
@@ -33,13 +30,13 @@ pub record ToldVerdict (status : CheckStatus) (bytes : List ℕ) (before now : O
 -- As many bytes as show that there are too many were taken, and no more.
 pub record TookTooMany (left after : Option (List ℕ)) : Type 0 where
   pub bytes : List ℕ
-  pub number : length bytes ≡ limit
+  pub number : length bytes ≡ LIMIT
   pub taken : Consumes left after bytes
 
 -- what is written of these bytes: the line of their verdict, or that they are too many
 pub data RowText (bytes : List ℕ) : List ℕ → Type 0 where
-  verdict_row : (verdict : Verdict) → length bytes < limit → Judges bytes verdict → RowText bytes (verdict_text verdict)
-  large_row : limit ≤ length bytes → RowText bytes (codes "too large\n")
+  verdict_row : (verdict : Verdict) → length bytes < LIMIT → Judges bytes verdict → RowText bytes (verdict_text verdict)
+  large_row : LIMIT ≤ length bytes → RowText bytes (codes "too large\n")
 
 -- A front of that was written.
 pub record ToldFront (bytes : List ℕ) (before now : Option (List ℕ)) : Type 0 where
@@ -56,7 +53,7 @@ pub record AnswersVerdict (bytes : List ℕ) (status : CheckStatus) : Type 0 whe
 -- The answer to these bytes where neither source nor sink failed and memory was there: up to the limit that of their
 -- verdict, and beyond it that they are too many.
 abbrev pub Answers : List ℕ → CheckStatus → Type 0
-Answers bytes status = (length bytes < limit → AnswersVerdict bytes status) × (limit ≤ length bytes → status ≡ TooLarge)
+Answers bytes status = (length bytes < LIMIT → AnswersVerdict bytes status) × (LIMIT ≤ length bytes → status ≡ TooLarge)
 
 -- a fault of the source or of the sink, or want of memory
 abbrev pub IsCutShort : CheckStatus → Type 0

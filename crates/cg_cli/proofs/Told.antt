@@ -3,19 +3,20 @@ use Rattle.std.proofs.Common.{◌≡◌, ◌⊎◌, inl, inr, ◌<◌, ℕ, ◌�
 use Rattle.std.proofs.lemmas.Bool.{cases_lt}
 use Rattle.std.specs.Io.KnownBytes.{Consumes, IsAtEnd}
 use Rattle.cg_machine.specs.World.{Outcome}
-use Rattle.cg_cli.specs.Statuses.{WroteFront, RowText, run_text, bad_text, large_text, RanWhole, RanBad, Answers, limit, IsCutShort}
+use Rattle.cg_cli.specs.Statuses.{WroteFront, RowText, run_text, bad_text, large_text, RanWhole, RanBad, Answers, IsCutShort}
+use Rattle.cg_cli.specs.declared.input.TheConstants.{LIMIT}
 use Rattle.cg_cli.specs.declared.status.Status.{Status}
 use Rattle.cg_cli.specs.declared.status.Status.TheVariants as status
 
 -- What holds of the bytes that were read holds of those that the source told: either these are all, or they are too many.
-module _ (left after : Option (List ℕ)) (bytes : List ℕ) (took : Consumes left after bytes) (ends : length bytes < limit → IsAtEnd after) where
-  pub told : (P : List ℕ → Type 0) → P bytes → ((more : List ℕ) → limit ≤ length bytes → P bytes → P (bytes ++ more)) → IfSome left P
+module _ (left after : Option (List ℕ)) (bytes : List ℕ) (took : Consumes left after bytes) (ends : length bytes < LIMIT → IsAtEnd after) where
+  pub told : (P : List ℕ → Type 0) → P bytes → ((more : List ℕ) → LIMIT ≤ length bytes → P bytes → P (bytes ++ more)) → IfSome left P
   told P here longer = by left after took ends
     where
-      by : (l a : Option (List ℕ)) → Consumes l a bytes → (length bytes < limit → IsAtEnd a) → IfSome l P
+      by : (l a : Option (List ℕ)) → Consumes l a bytes → (length bytes < LIMIT → IsAtEnd a) → IfSome l P
       by None a t e = tt
       by (Some xs) None t e = absurd t
-      by (Some xs) (Some ys) t e = elim (cases_lt (length bytes) limit) [
+      by (Some xs) (Some ys) t e = elim (cases_lt (length bytes) LIMIT) [
         | inl few ↦ subst P (sym (t ∙ ap (λ l. bytes ++ l) (e few) ∙ append-nil bytes)) here
         | inr many ↦ subst P (sym t) (longer ys many here)
       ]
@@ -26,7 +27,7 @@ module _ (left after : Option (List ℕ)) (bytes : List ℕ) (took : Consumes le
   pub told_bad : (before now : Option (List ℕ)) → RanBad bytes before now → IfSome left (λ bs. RanBad bs before now)
   told_bad before now ran = told (λ bs. RanBad bs before now) ran (λ more many r. absurd (omega (arith, many, ran.few)))
 
-  longer_row : (given : Option ℕ) (more text : List ℕ) → limit ≤ length bytes → RowText given bytes text → RowText given (bytes ++ more) text
+  longer_row : (given : Option ℕ) (more text : List ℕ) → LIMIT ≤ length bytes → RowText given bytes text → RowText given (bytes ++ more) text
   longer_row given more _ many (run_text script outcome steps few spelled whole) = absurd (omega (arith, many, few))
   longer_row given more _ many (bad_text number code few fault) = absurd (omega (arith, many, few))
   longer_row given more _ many (large_text large) = large_text (omega (arith, many, length-append bytes more))

@@ -3,19 +3,20 @@ use Rattle.std.specs.Prelude.{◌≡◌, ◌<◌, ◌≤◌, ℕ, List, length, 
 use Rattle.std.specs.Io.KnownBytes.{Appends}
 use Rattle.cg_io.specs.Causes.{AppendsFront}
 use Rattle.cg_weakcoll.specs.Expansion.{expansion, first_bad}
-use Rattle.cg_cli.specs.Statuses.{limit, bad_script_text}
+use Rattle.cg_cli.specs.Statuses.{bad_script_text}
+use Rattle.cg_cli.specs.declared.input.TheConstants.{LIMIT}
 use Rattle.cg_cli.specs.declared.status.Status.{Status}
 use Rattle.cg_cli.specs.declared.status.Status.TheVariants.{Done, BadScript, TooLarge}
 
 -- The bytes have no bad line, and their expansion was written.
 pub record WroteExpansion (bytes : List ℕ) (before now : Option (List ℕ)) : Type 0 where
-  pub few : length bytes < limit
+  pub few : length bytes < LIMIT
   pub good : first_bad bytes ≡ None
   pub wrote : Appends before now (expansion bytes)
 
 -- The bytes have a first bad line, and that was written.
 pub record WroteFirstBad (bytes : List ℕ) (before now : Option (List ℕ)) : Type 0 where
-  pub few : length bytes < limit
+  pub few : length bytes < LIMIT
   pub number : ℕ
   pub code : ℕ
   pub fault : first_bad bytes ≡ Some (number, code)
@@ -23,9 +24,9 @@ pub record WroteFirstBad (bytes : List ℕ) (before now : Option (List ℕ)) : T
 
 -- What such a job writes on these bytes: their expansion, or the first bad line, or that they are too many.
 pub data ExpandText (bytes : List ℕ) : List ℕ → Type 0 where
-  expansion_text : length bytes < limit → first_bad bytes ≡ None → ExpandText bytes (expansion bytes)
-  first_bad_text : (number code : ℕ) → length bytes < limit → first_bad bytes ≡ Some (number, code) → ExpandText bytes (bad_script_text number code)
-  too_large_text : limit ≤ length bytes → ExpandText bytes (codes "too large\n")
+  expansion_text : length bytes < LIMIT → first_bad bytes ≡ None → ExpandText bytes (expansion bytes)
+  first_bad_text : (number code : ℕ) → length bytes < LIMIT → first_bad bytes ≡ Some (number, code) → ExpandText bytes (bad_script_text number code)
+  too_large_text : LIMIT ≤ length bytes → ExpandText bytes (codes "too large\n")
 
 -- A front of that was written.
 pub record WroteExpandFront (bytes : List ℕ) (before now : Option (List ℕ)) : Type 0 where
@@ -40,4 +41,4 @@ AnswersFirstBad (Some bad) status = status ≡ BadScript
 
 -- up to the limit by the first bad line, and beyond it that the bytes are too many
 abbrev pub AnswersExpand : List ℕ → Status → Type 0
-AnswersExpand bytes status = (length bytes < limit → AnswersFirstBad (first_bad bytes) status) × (limit ≤ length bytes → status ≡ TooLarge)
+AnswersExpand bytes status = (length bytes < LIMIT → AnswersFirstBad (first_bad bytes) status) × (LIMIT ≤ length bytes → status ≡ TooLarge)

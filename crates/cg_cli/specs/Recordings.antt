@@ -9,19 +9,20 @@ use Rattle.cg_machine.specs.Run.{StepTaken, IsWholeRun}
 use Rattle.cg_records.specs.declared.graph.Rec.{Rec}
 use Rattle.cg_records.specs.Text.{text}
 use Rattle.cg_interp.specs.Recorded.{HasRecords, WroteRecords, WroteRecordsPart}
-use Rattle.cg_cli.specs.Statuses.{limit, Spells, budget_of, bad_script_text}
+use Rattle.cg_cli.specs.Statuses.{Spells, budget_of, bad_script_text}
+use Rattle.cg_cli.specs.declared.input.TheConstants.{LIMIT}
 
 -- The bytes spell a script, and the text of the records of a whole run of it was written. The run ended so, and in it no command
 -- was refused for want of memory.
 pub record RecordedWhole (outcome : Outcome) (bytes : List ℕ) (before now : Option (List ℕ)) : Type 0 where
-  pub few : length bytes < limit
+  pub few : length bytes < LIMIT
   pub script : Script
   pub spelled : Spells bytes script
   pub wrote : WroteRecords script (budget_of None script) outcome before now
 
 -- The bytes spell a script, and a front of the text of the records of a whole run of it was written.
 pub record RecordedPart (bytes : List ℕ) (before now : Option (List ℕ)) : Type 0 where
-  pub few : length bytes < limit
+  pub few : length bytes < LIMIT
   pub script : Script
   pub spelled : Spells bytes script
   pub wrote : WroteRecordsPart script (budget_of None script) before now
@@ -34,5 +35,5 @@ RecordedSome bytes before now = Keeps before now ⊎ RecordedPart bytes before n
 -- too many.
 pub data RecordedFront (bytes : List ℕ) (before now : Option (List ℕ)) : Type 0 where
   records_front : RecordedPart bytes before now → RecordedFront bytes before now
-  bad_front : (number code : ℕ) → length bytes < limit → reading bytes ≡ faulty number code → AppendsFront before now (bad_script_text number code) → RecordedFront bytes before now
-  large_front : limit ≤ length bytes → AppendsFront before now (codes "too large\n") → RecordedFront bytes before now
+  bad_front : (number code : ℕ) → length bytes < LIMIT → reading bytes ≡ faulty number code → AppendsFront before now (bad_script_text number code) → RecordedFront bytes before now
+  large_front : LIMIT ≤ length bytes → AppendsFront before now (codes "too large\n") → RecordedFront bytes before now

@@ -14,10 +14,7 @@ use Rattle.cg_script.specs.Reading.{Reading, reading, spells, faulty}
 use Rattle.cg_interp.specs.Written.{WroteRun}
 use Rattle.cg_cli.specs.declared.status.Status.{Status}
 use Rattle.cg_cli.specs.declared.status.Status.TheVariants.{Done, BadScript, TooLarge, ReadFault, WriteFault, OutOfMemory, Budget}
-
--- one more byte than a script may have
-abbrev pub limit : ℕ
-limit = 16777217
+use Rattle.cg_cli.specs.declared.input.TheConstants.{LIMIT}
 
 -- the budget that a script sets
 abbrev pub budget_in : List Item → Option ℕ
@@ -39,7 +36,7 @@ Spells bytes script = reading bytes ≡ spells script.names script.items
 
 -- The bytes spell a script, and the text of a whole run of it was written, which ended so.
 pub record RanWhole (given : Option ℕ) (outcome : Outcome) (bytes : List ℕ) (before now : Option (List ℕ)) : Type 0 where
-  pub few : length bytes < limit
+  pub few : length bytes < LIMIT
   pub script : Script
   pub spelled : Spells bytes script
   pub wrote : WroteRun script (budget_of given script) outcome before now
@@ -58,7 +55,7 @@ bad_script_text number code = codes "bad script " ++ decimal number ++ codes " "
 
 -- The bytes have a first bad line, and that was written.
 pub record RanBad (bytes : List ℕ) (before now : Option (List ℕ)) : Type 0 where
-  pub few : length bytes < limit
+  pub few : length bytes < LIMIT
   pub number : ℕ
   pub code : ℕ
   pub fault : reading bytes ≡ faulty number code
@@ -67,14 +64,14 @@ pub record RanBad (bytes : List ℕ) (before now : Option (List ℕ)) : Type 0 w
 -- As many bytes as show that there are too many were taken, and no more.
 pub record TookTooMany (left after : Option (List ℕ)) : Type 0 where
   pub bytes : List ℕ
-  pub number : length bytes ≡ limit
+  pub number : length bytes ≡ LIMIT
   pub taken : Consumes left after bytes
 
 -- What a run job writes on these bytes: the text of a whole run, or the first bad line, or that they are too many.
 pub data RowText (given : Option ℕ) (bytes : List ℕ) : List ℕ → Type 0 where
-  run_text : (script : Script) (outcome : Outcome) (steps : List StepTaken) → length bytes < limit → Spells bytes script → IsWholeRun script (budget_of given script) outcome steps → RowText given bytes (text_of script steps)
-  bad_text : (number code : ℕ) → length bytes < limit → reading bytes ≡ faulty number code → RowText given bytes (bad_script_text number code)
-  large_text : limit ≤ length bytes → RowText given bytes (codes "too large\n")
+  run_text : (script : Script) (outcome : Outcome) (steps : List StepTaken) → length bytes < LIMIT → Spells bytes script → IsWholeRun script (budget_of given script) outcome steps → RowText given bytes (text_of script steps)
+  bad_text : (number code : ℕ) → length bytes < LIMIT → reading bytes ≡ faulty number code → RowText given bytes (bad_script_text number code)
+  large_text : LIMIT ≤ length bytes → RowText given bytes (codes "too large\n")
 
 -- A front of that was written.
 pub record WroteFront (given : Option ℕ) (bytes : List ℕ) (before now : Option (List ℕ)) : Type 0 where
@@ -90,7 +87,7 @@ AnswersReading (faulty number code) status = status ≡ BadScript
 
 -- up to the limit by what the bytes are read as, and beyond it that they are too many
 abbrev pub Answers : List ℕ → Status → Type 0
-Answers bytes status = (length bytes < limit → AnswersReading (reading bytes) status) × (limit ≤ length bytes → status ≡ TooLarge)
+Answers bytes status = (length bytes < LIMIT → AnswersReading (reading bytes) status) × (LIMIT ≤ length bytes → status ≡ TooLarge)
 
 -- a fault of the source or of the sink, or want of memory
 abbrev pub IsCutShort : Status → Type 0

@@ -1,5 +1,6 @@
 //! The budget of a run.
 ghost use Rattle.std.specs.Prelude.{◌≡◌, ◌≤◌, IfSome};
+ghost use Rattle.cg_script.specs.declared.limits.TheConstants.{MOST_BUDGET};
 ghost use Rattle.cg_script.specs.Spelled.{IsSpelled};
 ghost use Rattle.cg_cli.specs.Statuses.{budget_in as set_in, budget_of};
 
@@ -23,9 +24,9 @@ fn budget_in(items: &[Item]) -> Option<u32>
 /// The budget of a run of a script: the one given, else that of the script, else 10,000.
 pub fn budget_for(given: Option<u32>, script: &Script) -> u32
     requires spelled { IsSpelled script.now }
-    requires given { IfSome given (λ n. n ≤ 100000) }
+    requires given { IfSome given (λ n. n ≤ MOST_BUDGET) }
     ensures budget { result ≡ budget_of given script.now }
-    ensures few { result ≤ 100000 }
+    ensures few { result ≤ MOST_BUDGET }
 {
     given.unwrap_or(budget_in(script.items.as_slice()).unwrap_or(USUAL))
 }

@@ -5,6 +5,7 @@ ghost use Rattle.std.specs.Io.KnownBytes.{Appends, Keeps, IsAtEnd};
 ghost use Rattle.cg_io.specs.Causes.{AppendsFront, Rose};
 ghost use Rattle.cg_heap.specs.Boxes.{six_kinds};
 ghost use Rattle.cg_machine.specs.World.{Ended, BudgetIsSpent};
+ghost use Rattle.cg_script.specs.declared.limits.TheConstants.{MOST_BUDGET};
 ghost use Rattle.cg_script.specs.Spelled.{IsSpelled};
 ghost use Rattle.cg_script.specs.Texts.{TextsAreKnown};
 ghost use Rattle.cg_script.specs.Reading.{reading};
@@ -32,7 +33,7 @@ fn run_parsed<K: Sink, B: Kind>(
 ) -> Status
     requires spelled { IsSpelled script.now }
     requires known { TextsAreKnown script.now }
-    requires given { IfSome given (λ n. n ≤ 100000) }
+    requires given { IfSome given (λ n. n ≤ MOST_BUDGET) }
     requires kinds { map B.kind kinds.items ≡ six_kinds }
     requires empty { map B.bodies kinds.items ≡ replicate 6 fin.empty }
     ensures done { result ≡ Status.Done → WroteRun script.now (budget_of given script.now) Ended (K.written sink.old) (K.written sink.new) }
@@ -63,7 +64,7 @@ fn run_in_hand<K: Sink, B: Kind>(
     kinds: Vec<B>,
 ) -> Status
     requires few { length bytes.now < LIMIT }
-    requires given { IfSome given (λ n. n ≤ 100000) }
+    requires given { IfSome given (λ n. n ≤ MOST_BUDGET) }
     requires kinds { map B.kind kinds.items ≡ six_kinds }
     requires empty { map B.bodies kinds.items ≡ replicate 6 fin.empty }
     ensures done { result ≡ Status.Done → RanWhole given Ended bytes.now (K.written sink.old) (K.written sink.new) }
@@ -89,7 +90,7 @@ fn run_read<K: Sink, B: Kind>(
     sink: &mut K,
     kinds: Vec<B>,
 ) -> Status
-    requires given { IfSome given (λ n. n ≤ 100000) }
+    requires given { IfSome given (λ n. n ≤ MOST_BUDGET) }
     requires kinds { map B.kind kinds.items ≡ six_kinds }
     requires empty { map B.bodies kinds.items ≡ replicate 6 fin.empty }
     ensures done { result ≡ Status.Done → RanWhole given Ended bytes.now (K.written sink.old) (K.written sink.new) }
@@ -116,7 +117,7 @@ pub fn run_job<S: Source, K: Sink, B: Kind>(
     sink: &mut K,
     kinds: Vec<B>,
 ) -> Status
-    requires given { IfSome given (λ n. n ≤ 100000) }
+    requires given { IfSome given (λ n. n ≤ MOST_BUDGET) }
     requires kinds { map B.kind kinds.items ≡ six_kinds }
     requires empty { map B.bodies kinds.items ≡ replicate 6 fin.empty }
     ensures done { result ≡ Status.Done → IfSome (S.left source.old) (λ bytes. RanWhole given Ended bytes (K.written sink.old) (K.written sink.new)) }

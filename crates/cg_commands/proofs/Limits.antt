@@ -17,7 +17,8 @@ use Rattle.cg_heap.specs.Calls.{IsSound, object_number, entry_number}
 use Rattle.cg_machine.specs.declared.event.Event.{Event}
 use Rattle.cg_machine.specs.World.{World}
 use Rattle.cg_machine.specs.Effects.{Changes, live, entry_count, has_room}
-use Rattle.cg_machine.specs.Refusals.{◌>>=◌, unless, most_entries, entry_limit}
+use Rattle.cg_graph.specs.declared.limits.TheConstants.{MOST_ENTRIES}
+use Rattle.cg_machine.specs.Refusals.{◌>>=◌, unless, entry_limit}
 use Rattle.cg_machine.specs.Represents.{Represents}
 use Rattle.cg_commands.specs.declared.locals.Locals.{Locals}
 use Rattle.cg_commands.specs.Refusals.{refusal_by}
@@ -66,14 +67,14 @@ entries-number store w r =
 
 -- there is room for so many entries more, or there is not
 pub room : (store : Store) (w : World) → Represents store w → (n : ℕ) → entry_number store + n ≤ 4000000 → has_room w n ≡ Ok tt
-room store w r n fits = known (nat_le (entry_count w + n) most_entries) (leb_tells (entry_count w + n) most_entries)
+room store w r n fits = known (nat_le (entry_count w + n) MOST_ENTRIES) (leb_tells (entry_count w + n) MOST_ENTRIES)
   where
     known : (b : Bool) → ((b ≡ true) × (entry_count w + n ≤ 4000000)) ⊎ ((b ≡ false) × (4000000 < entry_count w + n)) → unless b entry_limit ≡ Ok tt
     known b (inl h) = ap (λ b. unless b entry_limit) h.0
     known b (inr h) = absurd (omega (arith, h.1, fits, entries-number store w r))
 
 pub no_room : (store : Store) (w : World) → Represents store w → (n : ℕ) → 4000000 < entry_number store + n → has_room w n ≡ Err entry_limit
-no_room store w r n full = known (nat_le (entry_count w + n) most_entries) (leb_tells (entry_count w + n) most_entries)
+no_room store w r n full = known (nat_le (entry_count w + n) MOST_ENTRIES) (leb_tells (entry_count w + n) MOST_ENTRIES)
   where
     known : (b : Bool) → ((b ≡ true) × (entry_count w + n ≤ 4000000)) ⊎ ((b ≡ false) × (4000000 < entry_count w + n)) → unless b entry_limit ≡ Err entry_limit
     known b (inl h) = absurd (omega (arith, h.1, full, entries-number store w r))

@@ -21,7 +21,8 @@ use Rattle.std.proofs.lemmas.Bool.{eq-eqb}
 use Rattle.cg_machine.specs.declared.event.Event.TheVariants.{Made}
 use Rattle.cg_machine.specs.World.{World}
 use Rattle.cg_machine.specs.Effects.{Effect, Changes, makes, with_new, bound, given_up_by, live, has_room}
-use Rattle.cg_machine.specs.Refusals.{◌>>=◌, unless, most_objects, object_limit}
+use Rattle.cg_graph.specs.declared.limits.TheConstants.{MOST_OBJECTS}
+use Rattle.cg_machine.specs.Refusals.{◌>>=◌, unless, object_limit}
 use Rattle.cg_machine.specs.Represents.{Represents}
 use Rattle.cg_commands.specs.declared.done.Done.TheVariants.{Changed}
 use Rattle.cg_commands.specs.declared.locals.Locals.{Locals}
@@ -33,15 +34,15 @@ use Rattle.cg_commands.proofs.Limits.{room, no_room, live-number}
 use Rattle.cg_commands.proofs.NewObjects.{represents-new}
 
 -- one object more may live, or not
-few : (store : Store) (w : World) → Represents store w → IsSound store → object_number store < 1000000 → unless (nat_lt (live w) most_objects) object_limit ≡ Ok tt
-few store w r sound fits = known (nat_lt (live w) most_objects) (leb_tells (suc (live w)) most_objects)
+few : (store : Store) (w : World) → Represents store w → IsSound store → object_number store < 1000000 → unless (nat_lt (live w) MOST_OBJECTS) object_limit ≡ Ok tt
+few store w r sound fits = known (nat_lt (live w) MOST_OBJECTS) (leb_tells (suc (live w)) MOST_OBJECTS)
   where
     known : (b : Bool) → ((b ≡ true) × (suc (live w) ≤ 1000000)) ⊎ ((b ≡ false) × (1000000 < suc (live w))) → unless b object_limit ≡ Ok tt
     known b (inl h) = ap (λ b. unless b object_limit) h.0
     known b (inr h) = absurd (omega (arith, h.1, fits, live-number store w r sound))
 
-full : (store : Store) (w : World) → Represents store w → IsSound store → 1000000 ≤ object_number store → unless (nat_lt (live w) most_objects) object_limit ≡ Err object_limit
-full store w r sound at = known (nat_lt (live w) most_objects) (leb_tells (suc (live w)) most_objects)
+full : (store : Store) (w : World) → Represents store w → IsSound store → 1000000 ≤ object_number store → unless (nat_lt (live w) MOST_OBJECTS) object_limit ≡ Err object_limit
+full store w r sound at = known (nat_lt (live w) MOST_OBJECTS) (leb_tells (suc (live w)) MOST_OBJECTS)
   where
     known : (b : Bool) → ((b ≡ true) × (suc (live w) ≤ 1000000)) ⊎ ((b ≡ false) × (1000000 < suc (live w))) → unless b object_limit ≡ Err object_limit
     known b (inl h) = absurd (omega (arith, h.1, at, live-number store w r sound))

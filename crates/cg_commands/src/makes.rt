@@ -24,6 +24,7 @@ use crate::done::{Done, Refusal, refusal_by};
 use crate::locals::Locals;
 use crate::operands::{Wanted, object, value};
 use crate::parts::{callback_parts, gather};
+use cg_graph::{MOST_ENTRIES, MOST_OBJECTS};
 use cg_heap::{Heap, HeapFault};
 use cg_kind::Kind;
 use cg_machine::Event;
@@ -301,9 +302,9 @@ fn make_where_room<B: Kind>(
     ensures ok { OnOk result (heap.new ≡
         attached (heap.old.last + 1) referent (made code class parts.now heap.old)) }
     ensures room { OnOk result (room ≡ true) }
-    ensures object_limit { (result ≡ Err fault.ObjectLimit) ↔ (1000000 ≤ object_number heap.old) }
+    ensures object_limit { (result ≡ Err fault.ObjectLimit) ↔ (MOST_OBJECTS ≤ object_number heap.old) }
     ensures entry_limit { (result ≡ Err fault.EntryLimit)
-        ↔ ((object_number heap.old < 1000000) × (4000000 < entry_number heap.old + length parts.now)) }
+        ↔ ((object_number heap.old < MOST_OBJECTS) × (MOST_ENTRIES < entry_number heap.old + length parts.now)) }
     ensures err { OnErr result (heap.new ≡ heap.old) }
 {
     if room {
@@ -315,14 +316,14 @@ fn make_where_room<B: Kind>(
 
 /// Why an object with so many entries is not made, where there is no room for one more.
 fn fault_without_room<B: Kind>(heap: &Heap<B>, parts: usize) -> HeapFault
-    ensures object_limit { (result ≡ fault.ObjectLimit) ↔ (1000000 ≤ object_number heap.now) }
+    ensures object_limit { (result ≡ fault.ObjectLimit) ↔ (MOST_OBJECTS ≤ object_number heap.now) }
     ensures entry_limit { (result ≡ fault.EntryLimit)
-        ↔ ((object_number heap.now < 1000000) × (4000000 < entry_number heap.now + parts)) }
+        ↔ ((object_number heap.now < MOST_OBJECTS) × (MOST_ENTRIES < entry_number heap.now + parts)) }
 {
     heap.sound();
-    if heap.live() >= 1_000_000 {
+    if heap.live() >= MOST_OBJECTS {
         HeapFault::ObjectLimit
-    } else if parts as u64 > 4_000_000 - heap.entries() {
+    } else if parts as u64 > MOST_ENTRIES - heap.entries() {
         HeapFault::EntryLimit
     } else {
         HeapFault::OutOfMemory

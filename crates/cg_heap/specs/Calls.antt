@@ -15,6 +15,7 @@ use Rattle.cg_graph.specs.Holdings.{occurrences}
 use Rattle.cg_graph.specs.Places.{place_number, list_of, merge_lists}
 use Rattle.cg_graph.specs.Store.{Store, Node, IsLive, HasCode, entries_of, inner, count_of}
 use Rattle.cg_graph.specs.Changes.{held, rewritten, moved, with_place}
+use Rattle.cg_graph.specs.declared.limits.TheConstants.{MOST_ENTRIES, MOST_OBJECTS}
 use Rattle.cg_arena.specs.Nodes.{count_in_list, number_lowered}
 use Rattle.cg_heap.specs.Keeps.{size, one, IsWellMadeAt, IsGarbage, outside_total}
 use Rattle.cg_heap.specs.Weak.{AreRows}
@@ -162,5 +163,5 @@ pub record IsSound (store : Store) : Type 0 where
   pub root : HasCode store 1 ListKind  -- the garbage list lives
   pub garbage : IsGarbage (entries_of store 1)
   pub rows : AreRows store
-  pub objects : object_number store ≤ 1000000
-  pub entries : entry_number store ≤ 4000000
+  pub objects : object_number store ≤ MOST_OBJECTS
+  pub entries : entry_number store ≤ MOST_ENTRIES

@@ -9,6 +9,7 @@ use Rattle.cg_kind.specs.Bodies.{Bodies}
 use Rattle.cg_kind.specs.Calls.{AreItems}
 use Rattle.cg_graph.specs.Maps.{mapped, total}
 use Rattle.cg_graph.specs.Rows.{Row}
+use Rattle.cg_graph.specs.declared.limits.TheConstants.{MOST_ENTRIES, MOST_OBJECTS}
 use Rattle.cg_graph.specs.Store.{Store, Node, held_within, count_of, IsLive, entries_of}
 use Rattle.cg_arena.specs.Nodes.{ArenaNode, Nodes, count_in}
 use Rattle.cg_heap.specs.Boxes.{HasBody, entries_in_box, spare_in_box}
@@ -110,11 +111,11 @@ pub record Keeps (all : List Bodies) (nodes : fin.FinMap nat_cmp ArenaNode) (obj
   pub well : (s : ℕ) → IsWellMadeAt (fin.get store.nodes s)
   pub numbered : total one store.nodes ≡ objects + 1
   pub sized : total size store.nodes ≡ entries + length (entries_of store 1)
-  pub object_limit : objects ≤ 1000000
-  pub entry_limit : entries ≤ 4000000
+  pub object_limit : objects ≤ MOST_OBJECTS
+  pub entry_limit : entries ≤ MOST_ENTRIES
   pub saves : IsGarbage (entries_of store 1)
   pub root : HasRoomToSave all nodes objects store
-  pub garbage : length (entries_of store 1) ≤ 1000000
+  pub garbage : length (entries_of store 1) ≤ MOST_OBJECTS
   pub names : length store.names < 1073741824
 
 -- the number of outside holds of all objects together

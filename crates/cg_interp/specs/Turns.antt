@@ -1,6 +1,7 @@
 -- What a turn of an engine answers: what the machine does. (Ours.)
 use Rattle.std.specs.Prelude.{◌≡◌, ◌≢◌, ℕ, ◌+◌, ◌*◌, ◌≤◌, length, List, [], ◌∷◌, ◌⊎◌, Option, None, Some, count_by}
 use Rattle.cg_script.specs.declared.Script.{Script}
+use Rattle.cg_script.specs.declared.limits.TheConstants.{MOST_BUDGET}
 use Rattle.cg_machine.specs.declared.event.Event.{Event}
 use Rattle.cg_machine.specs.declared.event.Event.TheVariants.{End, BudgetSpent, Left}
 use Rattle.cg_machine.specs.World as machine
@@ -105,7 +106,7 @@ HasRoom e = e.frames + 2 * length (objects_of e.store) + 8 ≤ length e.activiti
 -- what an engine keeps to from turn to turn
 pub record IsFit (script : Script) (e : State) : Type 0 where
   pub names : length e.store.names ≡ length script.names
-  pub frames : e.frames ≤ 100000
+  pub frames : e.frames ≤ MOST_BUDGET
   pub room : HasRoom e
 
 -- room besides for the death of one more object

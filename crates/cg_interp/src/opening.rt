@@ -1,5 +1,6 @@
 //! The opening of a run.
 ghost use Rattle.std.specs.Prelude.{◌≡◌, ◌≤◌, length, IfOk};
+ghost use Rattle.cg_script.specs.declared.limits.TheConstants.{MOST_BUDGET};
 ghost use Rattle.cg_graph.specs.Changes.{opening_store};
 ghost use Rattle.cg_machine.specs.World.{opening};
 ghost use Rattle.cg_interp.specs.Engines.{StandsFor};
@@ -24,7 +25,7 @@ impl<B: Kind> Engine<B> {
         budget: u32,
     ) -> Result<Engine<B>, AllocError>
         requires heap { heap ≡ opening_store (length script.now.names) }
-        requires budget { budget ≤ 100000 }
+        requires budget { budget ≤ MOST_BUDGET }
         ensures stands { IfOk result (λ e. StandsFor script.now e (opening script.now budget)) }
         ensures fit { IfOk result (λ e. IsFit script.now e) }
         ensures frames { IfOk result (λ e. e.frames ≡ budget) }

@@ -2,6 +2,7 @@
 ghost use Rattle.std.specs.Prelude.{◌≡◌, ◌≢◌, ◌<◌, ◌≤◌, ◌⊎◌, ◌++◌, List, length, codes, IfOk, OnErr};
 ghost use Rattle.std.specs.Io.KnownBytes.{Appends};
 ghost use Rattle.cg_io.specs.Causes.{Rose, HasCause, AppendsFront};
+ghost use Rattle.cg_script.specs.declared.limits.TheConstants.{MOST_BUDGET};
 ghost use Rattle.cg_script.specs.Spelled.{IsSpelled};
 ghost use Rattle.cg_script.specs.Texts.{TextsAreKnown};
 ghost use Rattle.cg_graph.specs.Changes.{opening_store};
@@ -135,7 +136,7 @@ fn open_and_record<B: Kind, K: Sink, L: Ledger>(
     requires spelled { IsSpelled script.now }
     requires known { TextsAreKnown script.now }
     requires heap { heap ≡ opening_store (length script.now.names) }
-    requires budget { budget ≤ 100000 }
+    requires budget { budget ≤ MOST_BUDGET }
     requires name { blank.name ≡ L.name }
     requires parts { blank.parts ≡ L.parts }
     requires some { 0 < blank.parts }
@@ -172,7 +173,7 @@ pub fn run_recorded<B: Kind, K: Sink>(
     requires spelled { IsSpelled script.now }
     requires known { TextsAreKnown script.now }
     requires heap { heap ≡ opening_store (length script.now.names) }
-    requires budget { budget ≤ 100000 }
+    requires budget { budget ≤ MOST_BUDGET }
 
     // The text of the records of a whole run, in which no command was refused for want of memory.
     ensures done { result ≡ RunEnd.Done → WroteRecords script.now budget Ended (K.written sink.old) (K.written sink.new) }

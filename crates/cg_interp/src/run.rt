@@ -2,6 +2,7 @@
 ghost use Rattle.std.specs.Prelude.{◌≡◌, ◌≢◌, ◌<◌, ◌≤◌, List, length, IfOk, OnErr};
 ghost use Rattle.std.specs.Io.KnownBytes.{Keeps};
 ghost use Rattle.cg_io.specs.Causes.{Rose, HasCause};
+ghost use Rattle.cg_script.specs.declared.limits.TheConstants.{MOST_BUDGET};
 ghost use Rattle.cg_script.specs.Spelled.{IsSpelled};
 ghost use Rattle.cg_script.specs.Texts.{TextsAreKnown};
 ghost use Rattle.cg_graph.specs.Changes.{opening_store};
@@ -119,7 +120,7 @@ fn open_and_run<B: Kind, K: Sink, L: Ledger>(
     requires spelled { IsSpelled script.now }
     requires known { TextsAreKnown script.now }
     requires heap { heap ≡ opening_store (length script.now.names) }
-    requires budget { budget ≤ 100000 }
+    requires budget { budget ≤ MOST_BUDGET }
     requires name { blank.name ≡ L.name }
     requires parts { blank.parts ≡ L.parts }
     requires some { 0 < blank.parts }
@@ -155,7 +156,7 @@ pub fn run_script<B: Kind, K: Sink>(
     requires spelled { IsSpelled script.now }
     requires known { TextsAreKnown script.now }
     requires heap { heap ≡ opening_store (length script.now.names) }
-    requires budget { budget ≤ 100000 }
+    requires budget { budget ≤ MOST_BUDGET }
     ensures done { result ≡ RunEnd.Done → WroteRun script.now budget Ended (K.written sink.old) (K.written sink.new) }
     ensures spent { result ≡ RunEnd.Budget → WroteRun script.now budget BudgetIsSpent (K.written sink.old) (K.written sink.new) }
     ensures part { result ≡ RunEnd.WriteFault → WrotePart script.now budget (K.written sink.old) (K.written sink.new) }

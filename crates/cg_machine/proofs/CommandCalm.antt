@@ -28,7 +28,7 @@ use Rattle.cg_machine.proofs.DyingOrderly.{false_true}
 use Rattle.cg_machine.proofs.Forgotten.{IsQuiet, AreQuiet, Forgotten, Mortal, HasFinalizers, AreReferred, IsLater, later_refl, Alters, mortal_after, finalizers_after, change_alters, map_alters, place_later, map_quiet, test_quiet, entries_quiet, entries_alter, referred_after, still_forgotten, lives_within}
 use Rattle.cg_machine.proofs.Unheld.{AreOver}
 use Rattle.cg_machine.proofs.CommandRefs.{all_free, HoldNone, option_free, entry_val, entry_key, entry_free, put_free, old_value_free, name_free, bound_free, IsKnown, operand_known}
-use Rattle.cg_machine.proofs.Shapes.{IsAtHand, Word, ValueIn, KeyIn, ReferentOf, HasObject, IsMutable, IsEdit, Shape, Binds, Makes, Edits, Puts, Shows, Tells, Stays, Sets, Freezes, Unfreezes, StartsFrame, StartsCollection, Ends, Inspects, AsksWhy}
+use Rattle.cg_machine.proofs.Shapes.{IsAtHand, NoneThere, Word, ValueIn, KeyIn, ReferentOf, HasObject, IsMutable, IsEdit, Shape, Binds, Makes, Edits, Puts, Shows, Tells, Stays, Sets, Freezes, Unfreezes, StartsFrame, StartsCollection, Ends, Inspects, AsksWhy}
 
 -- what is changed by a command is no weak reference
 mutable_code : (x : Object) → IsMutable x.code → x.code ≢ Weak
@@ -247,6 +247,7 @@ module _ (script : Script) (w : World) (rises : Rises 1 w.next_serial w.objects)
 
   -- What is at hand is not forgotten.
   pub hand_known : (command : Command) (v : Val) → IsAtHand w command v → IsKnown w over v
+  hand_known command v NoneThere = λ o f k. let no : None ≡ Some o = k in cc
   hand_known command v (Word operand u own e) = operand_known w over operand u e
   hand_known command v (ValueIn x e m h k) = λ o f. entry_val e o (λ i. own_free x m o f (references_of_member x.entries e o k i))
   hand_known command v (KeyIn x e m h k) = λ o f. entry_key e o (λ i. own_free x m o f (references_of_member x.entries e o k i))

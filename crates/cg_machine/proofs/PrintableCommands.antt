@@ -23,7 +23,7 @@ use Rattle.cg_machine.specs.World.{World, Frame, Numbers, with_change}
 use Rattle.cg_machine.specs.Operands.{frame_on, is_dict, self_in, value_of, weak_in}
 use Rattle.cg_machine.specs.Effects.{Effect, Changes, Calls, Collects, Explains, Quits, bound, with_new, frozen, may_track, replaced, tracked_by, unfrozen}
 use Rattle.cg_machine.specs.Lines.{IsPrintable}
-use Rattle.cg_machine.proofs.Shapes.{IsAtHand, Word, ValueIn, KeyIn, ReferentOf, TellsNumbers, Shape, Binds, Makes, Edits, Puts, Shows, Tells, Stays, Sets, Freezes, Unfreezes, StartsFrame, StartsCollection, Ends, Inspects, AsksWhy}
+use Rattle.cg_machine.proofs.Shapes.{IsAtHand, NoneThere, Word, ValueIn, KeyIn, ReferentOf, TellsNumbers, Shape, Binds, Makes, Edits, Puts, Shows, Tells, Stays, Sets, Freezes, Unfreezes, StartsFrame, StartsCollection, Ends, Inspects, AsksWhy}
 use Rattle.cg_machine.proofs.Lookups.{slice_get_member}
 use Rattle.cg_machine.proofs.PrintableTexts.{HasText, EntryHasTexts, HaveTexts, WorldHasTexts, KeepsTexts, NamesTexts, set_member, text_printable, entries_put, entries_texts, mapped_texts, changed_texts}
 use Rattle.cg_machine.proofs.PrintableSteps.{Prints, silent, says}
@@ -86,7 +86,8 @@ module _ (texts : List (List ℕ)) (short : All (λ text. length text ≤ 1024) 
 
   -- What is at hand has a known text.
   hand_known : (command : Command) → NamesTexts (length texts) command → (v : Val) → IsAtHand w command v → IsKnown v
-  hand_known command named v (Word operand u own e) = operand_known operand u (λ t m. named t (own t m)) e
+  hand_known command named v NoneThere = tt
+  hand_known command named v (Word operand u own e) = operand_known operand u (λ t m. named t (own operand_texts t m)) e
   hand_known command named v (ValueIn x e m h k) = (known.objects x m e k).val
   hand_known command named v (KeyIn x e m h k) = (known.objects x m e k).key
   hand_known command named v (ReferentOf x r m h e) = tt

@@ -12,7 +12,6 @@ use Rattle.cg_graph.proofs.Members.{either, Includes-append_cases}
 use Rattle.cg_machine.specs.declared.event.Event.{Event}
 use Rattle.cg_value.specs.declared.Val.TheVariants.{None as Nothing, Int, Str, Ref}
 use Rattle.cg_script.specs.declared.Operand.TheVariants.{Name}
-use Rattle.cg_script.specs.Texts.{command_texts}
 use Rattle.cg_machine.specs.declared.event.Event.TheVariants.{Made, Value, RefCount, Tracked as TrackedLine, Finalized as FinalizedLine, Referent, Referrer, Listed, Held, Via, Unreachable, Count as CountLine, Gens as GensLine}
 use Rattle.cg_machine.specs.Laws.{named}
 use Rattle.cg_machine.specs.Holdings.{is_collecting}
@@ -26,7 +25,7 @@ use Rattle.cg_machine.proofs.Serials.{Rises-map, Rises-change, Rises-new}
 use Rattle.cg_machine.proofs.CommandLaws.{Each, Leaves, LeavesStack}
 use Rattle.cg_machine.proofs.Forgotten.{IsLater, later_refl, change_alters, map_alters, place_later}
 use Rattle.cg_machine.proofs.Rooms.{few_option, few_entry}
-use Rattle.cg_machine.proofs.Shapes.{IsMadeBy, IsEdit, Shape, Binds, Makes, Edits, Puts, Shows, Tells, Stays, Sets, Freezes, Unfreezes, StartsFrame, StartsCollection, Ends, Inspects, AsksWhy, effect_shaped, Word, ValueIn, KeyIn, TellsNumbers, value_at_member, IsAtHand}
+use Rattle.cg_machine.proofs.Shapes.{IsMadeBy, IsWordOf, IsEdit, Shape, Binds, Makes, Edits, Puts, Shows, Tells, Stays, Sets, Freezes, Unfreezes, StartsFrame, StartsCollection, Ends, Inspects, AsksWhy, effect_shaped, Word, ValueIn, KeyIn, TellsNumbers, value_at_member, IsAtHand}
 
 -- from the shapes of effects to a law on effects
 each_implies : {A : Type 0} (P Q : A → Type 0) → ((x : A) → P x → Q x) → (r : Result A ℕ) → Each P r → Each Q r
@@ -146,12 +145,12 @@ held_ref (Str s) o k = absurd k
 held_ref (Ref p) o k = either k (λ e. ap (λ n. Ref n) e) (λ n. absurd n)
 
 module _ (w : World) (command : Command) where
-  name_given : (name : ℕ) → Includes (command_texts command) name → (o : ℕ) → Includes (given_up_by w name) o → IsAtHand w command (Ref o)
+  name_given : (name : ℕ) → IsWordOf command (Name name) → (o : ℕ) → Includes (given_up_by w name) o → IsAtHand w command (Ref o)
   name_given name own o m = go (value_of w (Name name)) refl m
     where
       go : (v : Option Val) → value_of w (Name name) ≡ v → Includes (references_of_value v) o → IsAtHand w command (Ref o)
       go None e k = absurd k
-      go (Some v) e k = subst (IsAtHand w command) (held_ref v o k) (Word (Name name) v (λ t i. either i (λ s. subst (Includes (command_texts command)) s own) (λ n. absurd n)) e)
+      go (Some v) e k = subst (IsAtHand w command) (held_ref v o k) (Word (Name name) v own e)
 
   entry_given : (x : Object) (e : Entry) → Includes w.objects x → IsAtHand w command (Ref x.serial) → Includes x.entries e → (o : ℕ) → Includes (entry_references e) o → IsAtHand w command (Ref o)
   entry_given x e m hand k o i = either (Includes-append_cases (option_to_list (reference_in e.val)) (option_to_list (reference_in e.key)) o i)

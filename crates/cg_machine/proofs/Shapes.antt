@@ -1,6 +1,6 @@
 -- What the effect of a command can be, in a dozen forms. What it binds, puts, gives up, calls or prints is at hand.
 use Rattle.std.proofs.Common.{◌≡◌, ◌≢◌, refl, sym, ◌∙◌, ap, subst, ℕ, zero, suc, ◌+◌, ◌≤◌, Bool, true, false, not, inl, inr, ◌⊎◌, List, [], ◌∷◌, ◌++◌, map, length, length-append, Option, Some, None, Result, Ok, Err, arith}
-use Rattle.std.specs.Prelude.{ℤ, pos, negsuc, ◌==◌, ◌||◌, nat_le, nat_lt, if◌then◌else◌, is_some, is_none, ok_or, option_and_then, option_to_list, slice_set, slice_get, remove}
+use Rattle.std.specs.Prelude.{ℤ, pos, negsuc, flat_map, ◌==◌, ◌||◌, nat_le, nat_lt, if◌then◌else◌, is_some, is_none, ok_or, option_and_then, option_to_list, slice_set, slice_get, remove}
 use Rattle.std.proofs.lemmas.List.{length-set}
 use Rattle.std.proofs.lemmas.Bool.{eq-eqb, leb-true, ltb-true}
 use Rattle.cg_value.specs.declared.Val.{Val}
@@ -12,7 +12,7 @@ use Rattle.cg_script.specs.declared.Operand.{Operand}
 use Rattle.cg_script.specs.declared.Operand.TheVariants.{None as NoneWord, Str as StrWord, Name}
 use Rattle.cg_script.specs.declared.Command.{Command}
 use Rattle.cg_script.specs.declared.Command.TheVariants.{MakeList, MakeTuple, MakeDict, MakeInst, MakeFunc, MakeRef, Bind, Del, Append, SetItem, DelItem, Put, Remove, SetAttr, DelAttr, Item, Get, Attr, Deref, Call, Quit, Collect, Enable, Disable, Threshold, Flags, Freeze, Unfreeze, Print, Refs, Tracked, Finalized, Referents, Referrers, Why, Count, Gens}
-use Rattle.cg_script.specs.Texts.{operand_texts, operands_texts, command_texts}
+use Rattle.cg_script.specs.Texts.{words_by}
 use Rattle.cg_graph.specs.Member.{Includes}
 use Rattle.cg_graph.specs.Object.{Object, object_at, with_entries}
 use Rattle.cg_graph.specs.Value.{reference_in, references, references_of_value, entry_references, value_at, entry_at, item, put, without_key, same_value}
@@ -22,7 +22,8 @@ use Rattle.cg_machine.specs.declared.event.Event.TheVariants.{Made, Value, RefCo
 use Rattle.cg_machine.specs.World.{World, Numbers, with_change}
 use Rattle.cg_machine.specs.Effects.{Effect, Changes, Calls, Collects, Explains, Quits, makes, puts, has_room, live, entry_count, place_of_index, replaced, frozen, unfrozen, tracked_by, given_up_by, bound, with_new, callback_entries}
 use Rattle.cg_machine.specs.Commands.{effect}
-use Rattle.cg_machine.specs.Refusals.{◌>>=◌, unless, in_collection, most_objects, most_entries, object_limit, entry_limit, no_name, no_index, no_key, no_attribute, bad_generation, not_callable, not_weak, wrong_kind}
+use Rattle.cg_graph.specs.declared.limits.TheConstants.{MOST_ENTRIES, MOST_OBJECTS}
+use Rattle.cg_machine.specs.Refusals.{◌>>=◌, unless, in_collection, object_limit, entry_limit, no_name, no_index, no_key, no_attribute, bad_generation, not_callable, not_weak, wrong_kind}
 use Rattle.cg_machine.specs.Operands.{any_object, is_dict, is_list, is_script_list, is_sequence, is_weak, object_of, tested, object, value_of, value, values}
 use Rattle.cg_machine.specs.Weak.{is_instance, is_function, has_weak_references}
 use Rattle.cg_machine.specs.Laws.{HasFunction}
@@ -34,10 +35,15 @@ use Rattle.cg_machine.proofs.PrintableTexts.{removed_member, set_member}
 use Rattle.cg_machine.proofs.Moves.{AtMostOne, Goes, appended_goes, removed_goes, set_goes, without_key_goes}
 use Rattle.cg_machine.proofs.Inspecting.{AllTellThere, referents_there, referrers_there}
 
--- A value that a command has at hand: what a word of it stands for (`#1`, the value of a name or of a local), or what is in
+-- A word of a command: what it comes to is among what the command's words come to, whatever that is.
+abbrev pub IsWordOf : Command → Operand → Type 0
+IsWordOf command operand = (of : Operand → List ℕ) (t : ℕ) → Includes (of operand) t → Includes (words_by of command) t
+
+-- A value that a command has at hand: none, what a word of it stands for (`#1`, the value of a name or of a local), or what is in
 -- an entry, or is the referent, of an object that it has at hand.
 pub data IsAtHand (w : World) (command : Command) : Val → Type 0 where
-  Word : (operand : Operand) (v : Val) → ((t : ℕ) → Includes (operand_texts operand) t → Includes (command_texts command) t) → value_of w operand ≡ Some v → IsAtHand w command v
+  NoneThere : IsAtHand w command Nothing
+  Word : (operand : Operand) (v : Val) → IsWordOf command operand → value_of w operand ≡ Some v → IsAtHand w command v
   ValueIn : (x : Object) (e : Entry) → Includes w.objects x → IsAtHand w command (Ref x.serial) → Includes x.entries e → IsAtHand w command e.val
   KeyIn : (x : Object) (e : Entry) → Includes w.objects x → IsAtHand w command (Ref x.serial) → Includes x.entries e → IsAtHand w command e.key
   ReferentOf : (x : Object) (r : ℕ) → Includes w.objects x → IsAtHand w command (Ref x.serial) → x.referent ≡ Some r → IsAtHand w command (Ref r)
@@ -63,7 +69,7 @@ pub data IsMadeBy : Command → KindCode → Option ℕ → Type 0 where
 
 -- the parts of a new object
 pub record HasParts (w : World) (command : Command) (kind : KindCode) (class : Option ℕ) (entries : List Entry) (referent : Option ℕ) : Type 0 where
-  pub room : nat_lt (live w) most_objects ≡ true
+  pub room : nat_lt (live w) MOST_OBJECTS ≡ true
   pub entry_room : entry_count w + length entries ≤ 4000000
   pub by : IsMadeBy command kind class
   pub items : AreItems w command entries
@@ -117,8 +123,8 @@ SetsNumbers command = ⊥
 
 -- What an effect can be. A refused command has none.
 pub data Shape (w : World) (command : Command) : Effect → Type 0 where
-  Binds : (name : ℕ) (v : Option Val) → Includes (command_texts command) name → ((u : Val) → v ≡ Some u → IsAtHand w command u) → Shape w command (Changes false [] (given_up_by w name) (bound w name v))
-  Makes : (name : ℕ) (kind : KindCode) (class : Option ℕ) (entries : List Entry) (referent : Option ℕ) → Includes (command_texts command) name → HasParts w command kind class entries referent
+  Binds : (name : ℕ) (v : Option Val) → IsWordOf command (Name name) → ((u : Val) → v ≡ Some u → IsAtHand w command u) → Shape w command (Changes false [] (given_up_by w name) (bound w name v))
+  Makes : (name : ℕ) (kind : KindCode) (class : Option ℕ) (entries : List Entry) (referent : Option ℕ) → IsWordOf command (Name name) → HasParts w command kind class entries referent
       → Shape w command (Changes true (Made kind w.next_serial ∷ []) (given_up_by w name) (bound (with_new w kind class entries referent) name (Some (Ref w.next_serial))))
   Edits : (wants_memory : Bool) (x : Object) (entries : List Entry) (given_up : List ℕ) → HasObject w command (λ y. true) x → IsMutable x.code → IsEdit w command x entries given_up
       → Shape w command (Changes wants_memory [] given_up (with_change (with_entries entries) x.serial w))
@@ -183,11 +189,11 @@ removed_shorter (x ∷ xs) zero e at = omega arith
 removed_shorter (x ∷ xs) (suc i) e at = omega (arith, removed_shorter xs i e at)
 
 module _ (w : World) (command : Command) where
-  -- the words of the command
-  abbrev IsOwn : List ℕ → Type 0
-  IsOwn texts = (t : ℕ) → Includes texts t → Includes (command_texts command) t
+  -- words of the command
+  abbrev AreWords : List Operand → Type 0
+  AreWords operands = (of : Operand → List ℕ) (t : ℕ) → Includes (flat_map of operands) t → Includes (words_by of command) t
 
-  value_shaped : (operand : Operand) → IsOwn (operand_texts operand) → Each (IsAtHand w command) (value w operand)
+  value_shaped : (operand : Operand) → IsWordOf command operand → Each (IsAtHand w command) (value w operand)
   value_shaped operand own = each_weaker (value_of w operand) refl
     where
       each_weaker : (m : Option Val) → value_of w operand ≡ m → Each (IsAtHand w command) (ok_or m no_name)
@@ -197,11 +203,11 @@ module _ (w : World) (command : Command) where
   abbrev AreAtHand : List Val → Type 0
   AreAtHand vs = (v : Val) → Includes vs v → IsAtHand w command v
 
-  values_shaped : (operands : List Operand) → IsOwn (operands_texts operands) → Each AreAtHand (values w operands)
+  values_shaped : (operands : List Operand) → AreWords operands → Each AreAtHand (values w operands)
   values_shaped [] own = λ v m. absurd m
   values_shaped (operand ∷ operands) own =
-      let rest = values_shaped operands (λ t m. own t (Includes-append_right (operand_texts operand) (operands_texts operands) t m)) in
-      each_then (IsAtHand w command) AreAtHand (value w operand) _ (value_shaped operand (λ t m. own t (Includes-append_left (operand_texts operand) (operands_texts operands) t m)))
+      let rest = values_shaped operands (λ of t m. own of t (Includes-append_right (of operand) (flat_map of operands) t m)) in
+      each_then (IsAtHand w command) AreAtHand (value w operand) _ (value_shaped operand (λ of t m. own of t (Includes-append_left (of operand) (flat_map of operands) t m)))
       (λ v k. each_then AreAtHand AreAtHand (values w operands) _ rest (λ vs are u m. either m (λ e. subst (IsAtHand w command) e k) (are u)))
 
   object_shaped : (test : Object → Bool) (refusal : ℕ) (v : Val) → IsAtHand w command v → Each (λ x. HasObject w command test x × (reference_in v ≡ Some x.serial)) (object w test refusal v)
@@ -219,10 +225,10 @@ module _ (w : World) (command : Command) where
   abbrev S : Result Effect ℕ → Type 0
   S r = Each (Shape w command) r
 
-  valued : (f : Val → Result Effect ℕ) (operand : Operand) → IsOwn (operand_texts operand) → ((v : Val) → IsAtHand w command v → S (f v)) → S (value w operand >>= f)
+  valued : (f : Val → Result Effect ℕ) (operand : Operand) → IsWordOf command operand → ((v : Val) → IsAtHand w command v → S (f v)) → S (value w operand >>= f)
   valued f operand own h = each_then (IsAtHand w command) (Shape w command) (value w operand) f (value_shaped operand own) h
 
-  all_valued : (f : List Val → Result Effect ℕ) (operands : List Operand) → IsOwn (operands_texts operands) → ((vs : List Val) → AreAtHand vs → S (f vs)) → S (values w operands >>= f)
+  all_valued : (f : List Val → Result Effect ℕ) (operands : List Operand) → AreWords operands → ((vs : List Val) → AreAtHand vs → S (f vs)) → S (values w operands >>= f)
   all_valued f operands own h = each_then AreAtHand (Shape w command) (values w operands) f (values_shaped operands own) h
 
   is_found : {B : Type 0} (P : B → Type 0) (f : Object → Result B ℕ) (test : Object → Bool) (refusal : ℕ) (v : Val) → IsAtHand w command v → ((x : Object) → HasObject w command test x → reference_in v ≡ Some x.serial → Each P (f x)) → Each P (object w test refusal v >>= f)
@@ -238,14 +244,14 @@ module _ (w : World) (command : Command) where
   any f m h = checked (Shape w command) m f h
 
   -- the forms
-  binds_shaped : (name : ℕ) (v : Val) → Includes (command_texts command) name → IsAtHand w command v → Shape w command (Changes false [] (given_up_by w name) (bound w name (Some v)))
+  binds_shaped : (name : ℕ) (v : Val) → IsWordOf command (Name name) → IsAtHand w command v → Shape w command (Changes false [] (given_up_by w name) (bound w name (Some v)))
   binds_shaped name v own hand = Binds name (Some v) own (λ u e. let same : v ≡ u = cc in subst (IsAtHand w command) same hand)
 
-  makes_shaped : (name : ℕ) (kind : KindCode) (class : Option ℕ) (entries : List Entry) (referent : Option ℕ) → Includes (command_texts command) name → IsMadeBy command kind class → AreItems w command entries → (kind ≡ Dict → entries ≡ [])
+  makes_shaped : (name : ℕ) (kind : KindCode) (class : Option ℕ) (entries : List Entry) (referent : Option ℕ) → IsWordOf command (Name name) → IsMadeBy command kind class → AreItems w command entries → (kind ≡ Dict → entries ≡ [])
       → ((r : ℕ) → referent ≡ Some r → (kind ≡ Weak) × ((z : Object) × HasObject w command has_weak_references z × (z.serial ≡ r)))
       → (kind ≡ Weak → AtMostOne entries × ((f : ℕ) → Includes (references entries) f → HasFunction w.objects f)) → S (makes w name kind class entries referent)
-  makes_shaped name kind class entries referent own by items bare refers callbacks = each_then (λ u. nat_lt (live w) most_objects ≡ true) (Shape w command) (unless (nat_lt (live w) most_objects) object_limit) _ (each_unless (nat_lt (live w) most_objects) object_limit) (λ u room.
-      each_then (λ u. nat_le (entry_count w + length entries) most_entries ≡ true) (Shape w command) (has_room w (length entries)) _ (each_unless (nat_le (entry_count w + length entries) most_entries) entry_limit) (λ u fits.
+  makes_shaped name kind class entries referent own by items bare refers callbacks = each_then (λ u. nat_lt (live w) MOST_OBJECTS ≡ true) (Shape w command) (unless (nat_lt (live w) MOST_OBJECTS) object_limit) _ (each_unless (nat_lt (live w) MOST_OBJECTS) object_limit) (λ u room.
+      each_then (λ u. nat_le (entry_count w + length entries) MOST_ENTRIES ≡ true) (Shape w command) (has_room w (length entries)) _ (each_unless (nat_le (entry_count w + length entries) MOST_ENTRIES) entry_limit) (λ u fits.
       Makes name kind class entries referent own (record { room = room; entry_room = leb-true (entry_count w + length entries) 4000000 fits; by = by; items = items; bare = bare; refers = refers; callbacks = callbacks })))
 
   no_referent : (kind : KindCode) (r : ℕ) → None ≡ Some r → (kind ≡ Weak) × ((z : Object) × HasObject w command has_weak_references z × (z.serial ≡ r))
@@ -262,13 +268,13 @@ module _ (w : World) (command : Command) where
   puts_shaped : (x : Object) (key v : Val) → HasObject w command (λ y. is_dict y || is_instance y) x → IsMutable x.code → IsAtHand w command key → IsAtHand w command v → S (puts w x key v)
   puts_shaped x key v h mutable hand_key hand_v = each_then (λ u. (is_some (value_at x.entries key) ≡ true) ⊎ (entry_count w + 1 ≤ 4000000)) (Shape w command) (if is_some (value_at x.entries key) then Ok tt else has_room w 1) _ (room (is_some (value_at x.entries key)) refl) (λ u fits. Puts x key v h mutable hand_key hand_v fits)
     where
-      new_room : (b : Bool) → nat_le (entry_count w + 1) most_entries ≡ b → Each (λ u. (is_some (value_at x.entries key) ≡ true) ⊎ (entry_count w + 1 ≤ 4000000)) (unless b entry_limit)
+      new_room : (b : Bool) → nat_le (entry_count w + 1) MOST_ENTRIES ≡ b → Each (λ u. (is_some (value_at x.entries key) ≡ true) ⊎ (entry_count w + 1 ≤ 4000000)) (unless b entry_limit)
       new_room true e = inr (leb-true (entry_count w + 1) 4000000 e)
       new_room false e = tt
 
       room : (b : Bool) → is_some (value_at x.entries key) ≡ b → Each (λ u. (is_some (value_at x.entries key) ≡ true) ⊎ (entry_count w + 1 ≤ 4000000)) (if b then Ok tt else has_room w 1)
       room true e = inl e
-      room false e = new_room (nat_le (entry_count w + 1) most_entries) refl
+      room false e = new_room (nat_le (entry_count w + 1) MOST_ENTRIES) refl
 
   edits : (wants_memory : Bool) (test : Object → Bool) (x : Object) (entries : List Entry) (given_up : List ℕ) → HasObject w command test x → IsMutable x.code → IsEdit w command x entries given_up → Shape w command (Changes wants_memory [] given_up (with_change (with_entries entries) x.serial w))
   edits wants_memory test x entries given_up h mutable edit = Edits wants_memory x entries given_up (any_object_at test x h) mutable edit
@@ -319,14 +325,11 @@ module _ (w : World) (command : Command) where
   got_key : (x : Object) (key v : Val) → Includes w.objects x → IsAtHand w command (Ref x.serial) → value_at x.entries key ≡ Some v → IsAtHand w command v
   got_key x key v m hand at = let e = value_at_member x.entries key v at in subst (IsAtHand w command) e.2 (ValueIn x e.0 m hand e.1)
 
-  nothing_shaped : IsAtHand w command Nothing
-  nothing_shaped = Word NoneWord Nothing (λ t m. absurd m) refl
-
   referent_shaped : (x : Object) → Includes w.objects x → IsAtHand w command (Ref x.serial) → IsAtHand w command (elim x.referent [ None ↦ Nothing | Some o ↦ Ref o ])
   referent_shaped x m hand = go x.referent refl
     where
       go : (r : Option ℕ) → x.referent ≡ r → IsAtHand w command (elim r [ None ↦ Nothing | Some o ↦ Ref o ])
-      go None e = nothing_shaped
+      go None e = NoneThere
       go (Some o) e = ReferentOf x o m hand e
 
   quit_shaped : (v : Val) → Shape w command (elim v [ Nothing ↦ Quits | _ ↦ Changes false [] [] w ])
@@ -410,8 +413,8 @@ keyed : (w : World) (command : Command) (test : Object → Bool) (x : Object) �
 keyed w command test x h passes = record { member = h.member; hand = h.hand; passes = passes }
 
 -- the word of an attribute
-attribute : (w : World) (command : Command) (name : ℕ) → Includes (command_texts command) name → IsAtHand w command (Str name)
-attribute w command name own = Word (StrWord name) (Str name) (λ t m. either m (λ e. subst (Includes (command_texts command)) e own) (λ n. absurd n)) refl
+attribute : (w : World) (command : Command) (name : ℕ) → IsWordOf command (StrWord name) → IsAtHand w command (Str name)
+attribute w command name own = Word (StrWord name) (Str name) own refl
 
 -- numbers that commands set
 sets_shaped : (w : World) (command : Command) (first second third flags : ℕ) (enabled : Bool) → SetsNumbers command → Shape w command (Changes false [] [] (record w { numbers = record w.numbers { zero_threshold = first; one_threshold = second; two_threshold = third; flags = flags; enabled = enabled } }))
@@ -423,7 +426,7 @@ not_collecting false e = refl
 not_collecting true e = absurd (let no : false ≡ true = e in cc)
 
 -- an object that is inspected, while no collection is under way
-inspected : (w : World) (command : Command) (operand : Operand) → ((t : ℕ) → Includes (operand_texts operand) t → Includes (command_texts command) t)
+inspected : (w : World) (command : Command) (operand : Operand) → IsWordOf command operand
     → (e : Object → Result Effect ℕ) → ((x : Object) → HasObject w command any_object x → is_collecting w ≡ false → Each (Shape w command) (e x))
     → Each (Shape w command) (value w operand >>= λ v. object w any_object wrong_kind v >>= λ x. unless (not (is_collecting w)) in_collection >>= λ u. e x)
 inspected w command operand own e h = valued w command _ operand own (λ v hand. found w command _ any_object wrong_kind v hand (λ x there.
@@ -431,34 +434,34 @@ inspected w command operand own e h = valued w command _ operand own (λ v hand.
 
 -- The effect of each command in each world has a shape.
 pub effect_shaped : (w : World) (command : Command) → Each (Shape w command) (effect w command)
-effect_shaped w (MakeList name items) = all_valued w _ _ items (λ t m. inr m) (λ vs hand. makes_shaped w _ name ListKind None (map item vs) None (inl refl) (ByList name items) (items_of w _ vs hand) (λ e. absurd (cc)) (no_referent w _ ListKind) (λ e. absurd (cc)))
-effect_shaped w (MakeTuple name items) = all_valued w _ _ items (λ t m. inr m) (λ vs hand. makes_shaped w _ name Tuple None (map item vs) None (inl refl) (ByTuple name items) (items_of w _ vs hand) (λ e. absurd (cc)) (no_referent w _ Tuple) (λ e. absurd (cc)))
-effect_shaped w (MakeDict name) = makes_shaped w _ name Dict None [] None (inl refl) (ByDict name) (λ e m. absurd m) (λ e. refl) (no_referent w _ Dict) (λ e. absurd (cc))
-effect_shaped w (MakeInst name class) = makes_shaped w _ name Inst (Some class) [] None (inl refl) (ByInst name class) (λ e m. absurd m) (λ e. refl) (no_referent w _ Inst) (λ e. absurd (cc))
-effect_shaped w (MakeFunc name proc cells) = all_valued w _ _ cells (λ t m. inr m) (λ vs hand. makes_shaped w _ name Func (Some proc) (map item vs) None (inl refl) (ByFunc name proc cells) (items_of w _ vs hand) (λ e. absurd (cc)) (no_referent w _ Func) (λ e. absurd (cc)))
-effect_shaped w (MakeRef name target callback) = valued w _ _ target (λ t m. inr (Includes-append_left (operand_texts target) (operand_texts callback) t m)) (λ v hand. valued w _ _ callback (λ t m. inr (Includes-append_right (operand_texts target) (operand_texts callback) t m)) (λ c hand_c. found w _ _ has_weak_references wrong_kind v hand (λ x h.
-    each_then (IsCallback w (MakeRef name target callback)) (Shape w (MakeRef name target callback)) (callback_entries w c) _ (callback_shaped w (MakeRef name target callback) c hand_c) (λ entries k. makes_shaped w _ name Weak None entries (Some x.serial) (inl refl) (ByRef name target callback) k.items (λ e. absurd (cc)) (λ r e. (refl, (x, h, let same : x.serial ≡ r = cc in same))) (λ e. (k.single, k.functions))))))
-effect_shaped w (Bind name operand) = valued w _ _ operand (λ t m. inr m) (λ v hand. binds_shaped w _ name v (inl refl) hand)
-effect_shaped w (Del name) = any w _ _ _ (λ v. Binds name None (inl refl) (λ u e. absurd (let no : None ≡ Some u = e in cc)))
-effect_shaped w (Append list operand) = valued w _ _ list (Includes-append_left (operand_texts list) (operand_texts operand)) (λ l hand_l. valued w _ _ operand (Includes-append_right (operand_texts list) (operand_texts operand)) (λ v hand. found w _ _ is_script_list wrong_kind l hand_l (λ x h.
-    each_then (λ u. nat_le (entry_count w + 1) most_entries ≡ true) (Shape w (Append list operand)) (has_room w 1) _ (each_unless (nat_le (entry_count w + 1) most_entries) entry_limit) (λ u fits.
+effect_shaped w (MakeList name items) = all_valued w _ _ items (λ of. Includes-append_right (of (Name name)) (flat_map of items)) (λ vs hand. makes_shaped w _ name ListKind None (map item vs) None (λ of. Includes-append_left (of (Name name)) (flat_map of items)) (ByList name items) (items_of w _ vs hand) (λ e. absurd (cc)) (no_referent w _ ListKind) (λ e. absurd (cc)))
+effect_shaped w (MakeTuple name items) = all_valued w _ _ items (λ of. Includes-append_right (of (Name name)) (flat_map of items)) (λ vs hand. makes_shaped w _ name Tuple None (map item vs) None (λ of. Includes-append_left (of (Name name)) (flat_map of items)) (ByTuple name items) (items_of w _ vs hand) (λ e. absurd (cc)) (no_referent w _ Tuple) (λ e. absurd (cc)))
+effect_shaped w (MakeDict name) = makes_shaped w _ name Dict None [] None (λ of t m. m) (ByDict name) (λ e m. absurd m) (λ e. refl) (no_referent w _ Dict) (λ e. absurd (cc))
+effect_shaped w (MakeInst name class) = makes_shaped w _ name Inst (Some class) [] None (λ of t m. m) (ByInst name class) (λ e m. absurd m) (λ e. refl) (no_referent w _ Inst) (λ e. absurd (cc))
+effect_shaped w (MakeFunc name proc cells) = all_valued w _ _ cells (λ of. Includes-append_right (of (Name name)) (flat_map of cells)) (λ vs hand. makes_shaped w _ name Func (Some proc) (map item vs) None (λ of. Includes-append_left (of (Name name)) (flat_map of cells)) (ByFunc name proc cells) (items_of w _ vs hand) (λ e. absurd (cc)) (no_referent w _ Func) (λ e. absurd (cc)))
+effect_shaped w (MakeRef name target callback) = valued w _ _ target (λ of t m. Includes-append_right (of (Name name)) (of target ++ of callback) t (Includes-append_left (of target) (of callback) t m)) (λ v hand. valued w _ _ callback (λ of t m. Includes-append_right (of (Name name)) (of target ++ of callback) t (Includes-append_right (of target) (of callback) t m)) (λ c hand_c. found w _ _ has_weak_references wrong_kind v hand (λ x h.
+    each_then (IsCallback w (MakeRef name target callback)) (Shape w (MakeRef name target callback)) (callback_entries w c) _ (callback_shaped w (MakeRef name target callback) c hand_c) (λ entries k. makes_shaped w _ name Weak None entries (Some x.serial) (λ of. Includes-append_left (of (Name name)) (of target ++ of callback)) (ByRef name target callback) k.items (λ e. absurd (cc)) (λ r e. (refl, (x, h, let same : x.serial ≡ r = cc in same))) (λ e. (k.single, k.functions))))))
+effect_shaped w (Bind name operand) = valued w _ _ operand (λ of. Includes-append_right (of (Name name)) (of operand)) (λ v hand. binds_shaped w _ name v (λ of. Includes-append_left (of (Name name)) (of operand)) hand)
+effect_shaped w (Del name) = any w _ _ _ (λ v. Binds name None (λ of t m. m) (λ u e. absurd (let no : None ≡ Some u = e in cc)))
+effect_shaped w (Append list operand) = valued w _ _ list (λ of. Includes-append_left (of list) (of operand)) (λ l hand_l. valued w _ _ operand (λ of. Includes-append_right (of list) (of operand)) (λ v hand. found w _ _ is_script_list wrong_kind l hand_l (λ x h.
+    each_then (λ u. nat_le (entry_count w + 1) MOST_ENTRIES ≡ true) (Shape w (Append list operand)) (has_room w 1) _ (each_unless (nat_le (entry_count w + 1) MOST_ENTRIES) entry_limit) (λ u fits.
     let is = script_list_is x h.passes in edits w _ true is_script_list x (x.entries ++ item v ∷ []) [] h (list_mutable x.code is.0) (appended w _ x v (list_code x.code is.0) is.1 hand (leb-true (entry_count w + 1) 4000000 fits))))))
-effect_shaped w (SetItem list index operand) = valued w _ _ list (Includes-append_left (operand_texts list) (operand_texts operand)) (λ l hand_l. valued w _ _ operand (Includes-append_right (operand_texts list) (operand_texts operand)) (λ v hand. found w _ _ is_script_list wrong_kind l hand_l (λ x h.
+effect_shaped w (SetItem list index operand) = valued w _ _ list (λ of. Includes-append_left (of list) (of operand)) (λ l hand_l. valued w _ _ operand (λ of. Includes-append_right (of list) (of operand)) (λ v hand. found w _ _ is_script_list wrong_kind l hand_l (λ x h.
     any w _ _ _ (λ i. there w _ _ (slice_get x.entries i) no_index (λ e at. let is = script_list_is x h.passes in edits w _ false is_script_list x (slice_set x.entries i (item v)) (entry_references e) h (list_mutable x.code is.0) (replaced_at w _ x i e v (list_code x.code is.0) is.1 hand at))))))
-effect_shaped w (DelItem list index) = valued w _ _ list (λ t m. m) (λ l hand. found w _ _ is_list wrong_kind l hand (λ x h. any w _ _ _ (λ i. there w _ _ (slice_get x.entries i) no_index (λ e at. edits w _ false is_list x (remove x.entries i) (entry_references e) h (list_mutable x.code h.passes) (removed_at w _ x i e at)))))
-effect_shaped w (Put dict key operand) = valued w _ _ dict (λ t m. Includes-append_left (operand_texts dict ++ operand_texts key) (operand_texts operand) t (Includes-append_left (operand_texts dict) (operand_texts key) t m)) (λ d hand_d. valued w _ _ key (λ t m. Includes-append_left (operand_texts dict ++ operand_texts key) (operand_texts operand) t (Includes-append_right (operand_texts dict) (operand_texts key) t m)) (λ k hand_k.
-    valued w _ _ operand (Includes-append_right (operand_texts dict ++ operand_texts key) (operand_texts operand)) (λ v hand. found w _ _ is_dict wrong_kind d hand_d (λ x h. any w _ _ _ (λ u. puts_shaped w _ x k v (keyed w _ is_dict x h (or_left (is_dict x) (is_instance x) h.passes)) (dict_mutable x.code h.passes) hand_k hand)))))
-effect_shaped w (Remove dict key) = valued w _ _ dict (Includes-append_left (operand_texts dict) (operand_texts key)) (λ d hand_d. valued w _ _ key (Includes-append_right (operand_texts dict) (operand_texts key)) (λ k hand_k. found w _ _ is_dict wrong_kind d hand_d (λ x h. any w _ _ _ (λ u.
+effect_shaped w (DelItem list index) = valued w _ _ list (λ of t m. m) (λ l hand. found w _ _ is_list wrong_kind l hand (λ x h. any w _ _ _ (λ i. there w _ _ (slice_get x.entries i) no_index (λ e at. edits w _ false is_list x (remove x.entries i) (entry_references e) h (list_mutable x.code h.passes) (removed_at w _ x i e at)))))
+effect_shaped w (Put dict key operand) = valued w _ _ dict (λ of t m. Includes-append_left (of dict ++ of key) (of operand) t (Includes-append_left (of dict) (of key) t m)) (λ d hand_d. valued w _ _ key (λ of t m. Includes-append_left (of dict ++ of key) (of operand) t (Includes-append_right (of dict) (of key) t m)) (λ k hand_k.
+    valued w _ _ operand (λ of. Includes-append_right (of dict ++ of key) (of operand)) (λ v hand. found w _ _ is_dict wrong_kind d hand_d (λ x h. any w _ _ _ (λ u. puts_shaped w _ x k v (keyed w _ is_dict x h (or_left (is_dict x) (is_instance x) h.passes)) (dict_mutable x.code h.passes) hand_k hand)))))
+effect_shaped w (Remove dict key) = valued w _ _ dict (λ of. Includes-append_left (of dict) (of key)) (λ d hand_d. valued w _ _ key (λ of. Includes-append_right (of dict) (of key)) (λ k hand_k. found w _ _ is_dict wrong_kind d hand_d (λ x h. any w _ _ _ (λ u.
     there w _ _ (entry_at x.entries k) no_key (λ e at. edits w _ false is_dict x (without_key x.entries k) (entry_references e) h (dict_mutable x.code h.passes) (removed_key w _ x k e at))))))
-effect_shaped w (SetAttr instance name operand) = valued w _ _ instance (Includes-append_left (operand_texts instance) (name ∷ operand_texts operand)) (λ o hand_o. valued w _ _ operand (λ t m. Includes-append_right (operand_texts instance) (name ∷ operand_texts operand) t (inr m)) (λ v hand. found w _ _ is_instance wrong_kind o hand_o (λ x h.
-    puts_shaped w _ x (Str name) v (keyed w _ is_instance x h (or_right (is_dict x) (is_instance x) h.passes)) (instance_mutable x.code h.passes) (attribute w _ name (Includes-append_right (operand_texts instance) (name ∷ operand_texts operand) name (inl refl))) hand)))
-effect_shaped w (DelAttr instance name) = valued w _ _ instance (Includes-append_left (operand_texts instance) (name ∷ [])) (λ o hand_o. found w _ _ is_instance wrong_kind o hand_o (λ x h. there w _ _ (entry_at x.entries (Str name)) no_attribute (λ e at. edits w _ false is_instance x (without_key x.entries (Str name)) (entry_references e) h (instance_mutable x.code h.passes) (removed_key w _ x (Str name) e at))))
-effect_shaped w (Item name list index) = valued w _ _ list (λ t m. inr m) (λ l hand. found w _ _ is_sequence wrong_kind l hand (λ x h. any w _ _ _ (λ i. there w _ _ (slice_get x.entries i) no_index (λ e at. binds_shaped w _ name e.val (inl refl) (got w _ x i e h.member h.hand at)))))
-effect_shaped w (Get name dict key) = valued w _ _ dict (λ t m. inr (Includes-append_left (operand_texts dict) (operand_texts key) t m)) (λ d hand_d. valued w _ _ key (λ t m. inr (Includes-append_right (operand_texts dict) (operand_texts key) t m)) (λ k hand_k. found w _ _ is_dict wrong_kind d hand_d (λ x h. any w _ _ _ (λ u.
-    there w _ _ (value_at x.entries k) no_key (λ v at. binds_shaped w _ name v (inl refl) (got_key w _ x k v h.member h.hand at))))))
-effect_shaped w (Attr name instance attr) = valued w _ _ instance (λ t m. inr (Includes-append_left (operand_texts instance) (attr ∷ []) t m)) (λ o hand_o. found w _ _ is_instance wrong_kind o hand_o (λ x h. there w _ _ (value_at x.entries (Str attr)) no_attribute (λ v at. binds_shaped w _ name v (inl refl) (got_key w _ x (Str attr) v h.member h.hand at))))
-effect_shaped w (Deref name weak) = valued w _ _ weak (λ t m. inr m) (λ v hand. found w _ _ is_weak not_weak v hand (λ x h. binds_shaped w _ name (elim x.referent [ None ↦ Nothing | Some o ↦ Ref o ]) (inl refl) (referent_shaped w _ x h.member h.hand)))
-effect_shaped w (Call function) = valued w _ _ function (λ t m. m) (λ v hand. found w _ _ is_function not_callable v hand (λ x h. StartsFrame x h))
+effect_shaped w (SetAttr instance name operand) = valued w _ _ instance (λ of. Includes-append_left (of instance) (of (StrWord name) ++ of operand)) (λ o hand_o. valued w _ _ operand (λ of t m. Includes-append_right (of instance) (of (StrWord name) ++ of operand) t (Includes-append_right (of (StrWord name)) (of operand) t m)) (λ v hand. found w _ _ is_instance wrong_kind o hand_o (λ x h.
+    puts_shaped w _ x (Str name) v (keyed w _ is_instance x h (or_right (is_dict x) (is_instance x) h.passes)) (instance_mutable x.code h.passes) (attribute w _ name (λ of t m. Includes-append_right (of instance) (of (StrWord name) ++ of operand) t (Includes-append_left (of (StrWord name)) (of operand) t m))) hand)))
+effect_shaped w (DelAttr instance name) = valued w _ _ instance (λ of. Includes-append_left (of instance) (of (StrWord name))) (λ o hand_o. found w _ _ is_instance wrong_kind o hand_o (λ x h. there w _ _ (entry_at x.entries (Str name)) no_attribute (λ e at. edits w _ false is_instance x (without_key x.entries (Str name)) (entry_references e) h (instance_mutable x.code h.passes) (removed_key w _ x (Str name) e at))))
+effect_shaped w (Item name list index) = valued w _ _ list (λ of. Includes-append_right (of (Name name)) (of list)) (λ l hand. found w _ _ is_sequence wrong_kind l hand (λ x h. any w _ _ _ (λ i. there w _ _ (slice_get x.entries i) no_index (λ e at. binds_shaped w _ name e.val (λ of. Includes-append_left (of (Name name)) (of list)) (got w _ x i e h.member h.hand at)))))
+effect_shaped w (Get name dict key) = valued w _ _ dict (λ of t m. Includes-append_right (of (Name name)) (of dict ++ of key) t (Includes-append_left (of dict) (of key) t m)) (λ d hand_d. valued w _ _ key (λ of t m. Includes-append_right (of (Name name)) (of dict ++ of key) t (Includes-append_right (of dict) (of key) t m)) (λ k hand_k. found w _ _ is_dict wrong_kind d hand_d (λ x h. any w _ _ _ (λ u.
+    there w _ _ (value_at x.entries k) no_key (λ v at. binds_shaped w _ name v (λ of. Includes-append_left (of (Name name)) (of dict ++ of key)) (got_key w _ x k v h.member h.hand at))))))
+effect_shaped w (Attr name instance attr) = valued w _ _ instance (λ of t m. Includes-append_right (of (Name name)) (of instance ++ of (StrWord attr)) t (Includes-append_left (of instance) (of (StrWord attr)) t m)) (λ o hand_o. found w _ _ is_instance wrong_kind o hand_o (λ x h. there w _ _ (value_at x.entries (Str attr)) no_attribute (λ v at. binds_shaped w _ name v (λ of. Includes-append_left (of (Name name)) (of instance ++ of (StrWord attr))) (got_key w _ x (Str attr) v h.member h.hand at))))
+effect_shaped w (Deref name weak) = valued w _ _ weak (λ of. Includes-append_right (of (Name name)) (of weak)) (λ v hand. found w _ _ is_weak not_weak v hand (λ x h. binds_shaped w _ name (elim x.referent [ None ↦ Nothing | Some o ↦ Ref o ]) (λ of. Includes-append_left (of (Name name)) (of weak)) (referent_shaped w _ x h.member h.hand)))
+effect_shaped w (Call function) = valued w _ _ function (λ of t m. m) (λ v hand. found w _ _ is_function not_callable v hand (λ x h. StartsFrame x h))
 effect_shaped w (Quit operand) = any w _ _ _ (λ v. quit_shaped w _ v)
 effect_shaped w (Collect generation) = there w _ _ (place_of_index generation 3) bad_generation (λ g at. StartsCollection g (generation_low generation g at))
 effect_shaped w Enable = sets_shaped w Enable _ _ _ _ _ tt
@@ -467,12 +470,12 @@ effect_shaped w (Threshold first second third) = sets_shaped w (Threshold first 
 effect_shaped w (Flags bits) = sets_shaped w (Flags bits) _ _ _ _ _ tt
 effect_shaped w Freeze = Freezes refl
 effect_shaped w Unfreeze = Unfreezes refl
-effect_shaped w (Print operand) = valued w _ _ operand (λ t m. m) (λ v hand. Shows v hand)
+effect_shaped w (Print operand) = valued w _ _ operand (λ of t m. m) (λ v hand. Shows v hand)
 effect_shaped w (Refs operand) = any w _ _ _ (λ v. any w _ _ _ (λ x. Tells _ tt))
 effect_shaped w (Tracked operand) = any w _ _ _ (λ v. Tells _ tt)
 effect_shaped w (Finalized operand) = any w _ _ _ (λ v. Tells _ tt)
-effect_shaped w (Referents operand) = inspected w _ operand (λ t m. m) _ (λ x h calm. Inspects _ calm (referents_there w x _ h.member))
-effect_shaped w (Referrers operand) = inspected w _ operand (λ t m. m) _ (λ x h calm. Inspects _ calm (referrers_there w x.serial _))
-effect_shaped w (Why name) = inspected w _ (Name name) (λ t m. m) _ (λ x h calm. AsksWhy x h calm)
+effect_shaped w (Referents operand) = inspected w _ operand (λ of t m. m) _ (λ x h calm. Inspects _ calm (referents_there w x _ h.member))
+effect_shaped w (Referrers operand) = inspected w _ operand (λ of t m. m) _ (λ x h calm. Inspects _ calm (referrers_there w x.serial _))
+effect_shaped w (Why name) = inspected w _ (Name name) (λ of t m. m) _ (λ x h calm. AsksWhy x h calm)
 effect_shaped w Count = Tells _ tt
 effect_shaped w Gens = Tells _ tt

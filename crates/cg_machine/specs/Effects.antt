@@ -12,7 +12,8 @@ use Rattle.cg_graph.specs.Path.{refers_to}
 use Rattle.cg_machine.specs.declared.event.Event.{Event}
 use Rattle.cg_machine.specs.declared.event.Event.TheVariants.{Made, Listed, Gens as GensLine}
 use Rattle.cg_machine.specs.World.{World, Numbers, with_change}
-use Rattle.cg_machine.specs.Refusals.{entry_limit, most_entries, most_objects, not_callable, object_limit, unless, ◌>>=◌}
+use Rattle.cg_graph.specs.declared.limits.TheConstants.{MOST_ENTRIES, MOST_OBJECTS}
+use Rattle.cg_machine.specs.Refusals.{entry_limit, not_callable, object_limit, unless, ◌>>=◌}
 use Rattle.cg_machine.specs.Operands.{is_dict, object, object_of}
 use Rattle.cg_machine.specs.Weak.{has_weak_references, is_function}
 
@@ -48,7 +49,7 @@ entry_count w = sum_by (λ x. if x.serial == 1 then 0 else length x.entries) w.o
 
 -- refused where so many entries more would pass the limit
 abbrev pub has_room : World → ℕ → Result (Unit {0}) ℕ
-has_room w n = unless (nat_le (entry_count w + n) most_entries) entry_limit
+has_room w n = unless (nat_le (entry_count w + n) MOST_ENTRIES) entry_limit
 
 -- a name gets a value, or loses its own; what it had is given up
 abbrev pub bound : World → ℕ → Option Val → World
@@ -73,7 +74,7 @@ with_new w kind class entries referent = record w {
 -- a new object is bound to a name
 abbrev pub makes : World → ℕ → KindCode → Option ℕ → List Entry → Option ℕ → Result Effect ℕ
 makes w name kind class entries referent = do
-  _ ← unless (nat_lt (live w) most_objects) object_limit
+  _ ← unless (nat_lt (live w) MOST_OBJECTS) object_limit
   _ ← has_room w (length entries)
   Ok (Changes true (Made kind w.next_serial ∷ []) (given_up_by w name) (bound (with_new w kind class entries referent) name (Some (Ref w.next_serial))))
 

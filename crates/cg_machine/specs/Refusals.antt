@@ -54,14 +54,6 @@ entry_limit = 12
 abbrev pub in_collection : ℕ
 in_collection = 13
 
--- the numbers of live objects and of entries that no run passes
-abbrev pub most_objects : ℕ
-most_objects = 1000000
-
--- of all live objects together
-abbrev pub most_entries : ℕ
-most_entries = 4000000
-
 -- Checks in order: the first refusal that holds is given.
 infixl 10 ◌>>=◌
 unfoldable pub ◌>>=◌ : {A B : Type 0} → Result A ℕ → (A → Result B ℕ) → Result B ℕ

@@ -10,7 +10,7 @@ use Rattle.cg_value.specs.declared.Place.TheVariants.{Gen}
 use Rattle.cg_value.specs.declared.KindCode.{KindCode}
 use Rattle.cg_value.specs.declared.KindCode.TheVariants.{List as ListKind, Tuple, Dict, Inst, Weak}
 use Rattle.cg_script.specs.declared.Command.{Command}
-use Rattle.cg_script.specs.Texts.{command_texts}
+use Rattle.cg_script.specs.Texts.{command_texts, operand_texts}
 use Rattle.cg_graph.specs.Member.{Includes}
 use Rattle.cg_graph.specs.Value.{entry_references, put, reference_in, references, references_of_value, value_at}
 use Rattle.cg_graph.specs.Object.{Object, change, first_place, is_tracked, serials, with_entries, with_place}
@@ -152,7 +152,7 @@ module _ (w : World) (rises : Rises 1 w.next_serial w.objects) where
 
   pub shape_shifts : (command : Command) → IsHandMade command → ((t : ℕ) → Includes (command_texts command) t → t < length w.names) → (e : Effect) → Shape w command e → Shifting w e
   shape_shifts command made fits e (Binds name v own hand) = binds_shift name v
-  shape_shifts command made fits e (Makes name kind class entries referent own parts) = made_shifts name kind class entries referent (fits name own) (λ e. (parts.callbacks e).0, λ e. items_made command made entries parts.items)
+  shape_shifts command made fits e (Makes name kind class entries referent own parts) = made_shifts name kind class entries referent (fits name (own operand_texts name (inl refl))) (λ e. (parts.callbacks e).0, λ e. items_made command made entries parts.items)
   shape_shifts command made fits e (Edits wants x entries given h mutable edit) = sets_shift x entries given h.member (mutable_apart x.code mutable) edit.keeps
   shape_shifts command made fits e (Puts x key v h mutable hand_key hand room) = put_shifts x key v h.member (mutable_apart x.code mutable)
   shape_shifts command made fits e (Shows v hand) = unchanged _

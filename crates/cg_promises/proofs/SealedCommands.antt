@@ -30,7 +30,7 @@ use Rattle.cg_machine.specs.Laws.{is_stop, named}
 use Rattle.cg_machine.proofs.CommandRefs.{HoldNone, IsNotTo, all_free, bound_free, entry_free, entry_key, entry_val, got_free, name_free, option_free, option_held, put_free}
 use Rattle.cg_machine.proofs.Forgotten.{later_refl}
 use Rattle.cg_machine.proofs.Lookups.{found_at, references_of_member}
-use Rattle.cg_machine.proofs.Shapes.{IsAtHand, Word, ValueIn, KeyIn, ReferentOf, HasObject, IsEdit, Shape, Binds, Makes, Edits, Puts, Shows, Tells, Stays, Sets, Freezes, Unfreezes, StartsFrame, StartsCollection, Ends, Inspects, AsksWhy, TellsNumbers}
+use Rattle.cg_machine.proofs.Shapes.{IsAtHand, NoneThere, Word, ValueIn, KeyIn, ReferentOf, HasObject, IsEdit, Shape, Binds, Makes, Edits, Puts, Shows, Tells, Stays, Sets, Freezes, Unfreezes, StartsFrame, StartsCollection, Ends, Inspects, AsksWhy, TellsNumbers}
 use Rattle.cg_promises.proofs.Sealed.{Comes, IsClean, IsLesser, Sealed, TellsStill, none_out, one_still}
 
 -- places of a collection stay
@@ -131,6 +131,7 @@ module _ (script : Script) (members : List ℕ) (w : World) (h : Sealed script m
 
   -- what is at hand refers to none, and an object at hand is none
   hand_out : (command : Command) (v : Val) → IsAtHand w command v → IsOut v
+  hand_out command v NoneThere = plain_out Nothing Nothing refl refl
   hand_out command v (Word operand u own e) = operand_out operand u e
   hand_out command v (ValueIn x e m hand k) = λ o i. entry_val e o (λ r. clean x m (λ q. hand_out command (Ref x.serial) hand x.serial q refl) o i (references_of_member x.entries e o k r))
   hand_out command v (KeyIn x e m hand k) = λ o i. entry_key e o (λ r. clean x m (λ q. hand_out command (Ref x.serial) hand x.serial q refl) o i (references_of_member x.entries e o k r))

@@ -19,7 +19,8 @@ use Rattle.cg_machine.specs.declared.event.FrameSort.TheVariants.{Call as CallFr
 use Rattle.cg_machine.specs.World.{World, Releasing, push, with_stack}
 use Rattle.cg_machine.specs.Frame.{Yields, procedure_of, start_frame}
 use Rattle.cg_machine.specs.Weak.{has_weak_references, is_function}
-use Rattle.cg_machine.specs.Refusals.{◌>>=◌, entry_limit, most_entries, most_objects, no_memory, no_name, not_callable, not_weak, object_limit, unless, wrong_kind}
+use Rattle.cg_graph.specs.declared.limits.TheConstants.{MOST_ENTRIES, MOST_OBJECTS}
+use Rattle.cg_machine.specs.Refusals.{◌>>=◌, entry_limit, no_memory, no_name, not_callable, not_weak, object_limit, unless, wrong_kind}
 use Rattle.cg_machine.specs.Operands.{is_weak, object, object_of, tested, value_of}
 use Rattle.cg_machine.specs.Effects.{Changes, Effect, Quits, binds, bound, callback_entries, entry_count, given_up_by, live, makes, with_new}
 use Rattle.cg_machine.specs.Commands.{CommandStep, DoesEffect, refused, without_commands}
@@ -106,7 +107,7 @@ module _ (script : Script) (u : World) (events : List Event) (after : World) whe
   -- a new object
   makes_step : (name : ℕ) (kind : KindCode) (class : Option ℕ) (entries : List Entry) (referent : Option ℕ) → DoesEffect script u (makes u name kind class entries referent) events after
       → IsRefused ⊎ Yields (Made kind u.next_serial ∷ [], push (Releasing (given_up_by u name)) (bound (with_new u kind class entries referent) name (Some (Ref u.next_serial)))) events after
-  makes_step name kind class entries referent step = either (checks (nat_lt (live u) most_objects) object_limit _ step) (λ r. inl r) (λ k. either (checks (nat_le (entry_count u + length entries) most_entries) entry_limit _ k) (λ r. inl r)
+  makes_step name kind class entries referent step = either (checks (nat_lt (live u) MOST_OBJECTS) object_limit _ step) (λ r. inl r) (λ k. either (checks (nat_le (entry_count u + length entries) MOST_ENTRIES) entry_limit _ k) (λ r. inl r)
       (λ d. either d (λ y. inr y) (λ r. inl (no_memory, r.1))))
 
   -- `x = func P`

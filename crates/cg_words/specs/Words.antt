@@ -6,6 +6,7 @@ use Rattle.clap.specs.declared.builder.action.ArgAction.TheVariants.{Set}
 use Rattle.clap.specs.Walk.{Text, Row, Rule, first_of, is_empty}
 use Rattle.clap.specs.Simple.{App, Shape, new_app, new_rule, on_top, with_rule, with_subcommand, subcommand_of}
 use Rattle.clap.specs.Faults.{fault_of}
+use Rattle.cg_script.specs.declared.limits.TheConstants.{MOST_BUDGET}
 use Rattle.cg_script.specs.Words.{are_digits, decimal_value}
 use Rattle.cg_words.specs.declared.words.Job.{Job}
 use Rattle.cg_words.specs.declared.words.Job.TheVariants.{Run, Generate, Expand, Record}
@@ -51,7 +52,7 @@ number_between least most word = if are_digits 6 word && (nat_le least (decimal_
 
 -- the budget that a text writes, and the blocks
 abbrev pub budget_in : Text → Option ℕ
-budget_in word = number_between 0 100000 word
+budget_in word = number_between 0 MOST_BUDGET word
 
 abbrev pub blocks_in : Text → Option ℕ
 blocks_in word = number_between 1 10000 word
@@ -92,7 +93,7 @@ Ask words = (job : Job) × AsksFor words job
 -- what is true of each job that words ask for
 abbrev pub IsInRange : Job → Type 0
 IsInRange (Run None) = Unit {0}
-IsInRange (Run (Some budget)) = budget ≤ 100000
+IsInRange (Run (Some budget)) = budget ≤ MOST_BUDGET
 IsInRange (Generate blocks) = (1 ≤ blocks) × (blocks ≤ 10000)
 IsInRange Expand = Unit {0}
 IsInRange Record = Unit {0}

@@ -6,15 +6,13 @@ ghost use Rattle.clap.specs.declared.builder.command.Command.TheViews.{out-Comma
 ghost use Rattle.cg_script.specs.Words.{is_digit, are_digits};
 ghost use Rattle.cg_words.specs.Words.{number_between, run_by, generate_by, job_in, run_line, generate_line, expand_line, record_line, line_with_numbers, command_line as line_of_commands, asked, IsInRange};
 
+use cg_script::MOST_BUDGET;
 use clap::error::ErrorKind;
 use clap::{Arg, ArgAction, ArgMatches, Command};
 use std::alloc::{AllocError, Global};
 
 /// The most digits of a number.
 const MOST_DIGITS: usize = 6;
-
-/// The most frames that a budget may allow.
-const MOST_FRAMES: u32 = 100_000;
 
 /// The most blocks of a generated script.
 const MOST_BLOCKS: u32 = 10_000;
@@ -136,7 +134,7 @@ fn run_job_by(budget: Option<&str>) -> Option<Job>
     match budget {
         None => Some(Job::Run { budget: None }),
         Some(word) => {
-            let budget = number_in(word, 0, MOST_FRAMES)?;
+            let budget = number_in(word, 0, MOST_BUDGET)?;
             Some(Job::Run {
                 budget: Some(budget),
             })

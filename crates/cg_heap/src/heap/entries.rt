@@ -12,6 +12,7 @@ ghost use Rattle.cg_heap.specs.Calls.{HasFewHolds, IsLiveValue, CanTake, CanPutI
 use super::Heap;
 use crate::counts::{count_in, fewer, seat_of};
 use crate::fault::HeapFault;
+use cg_graph::MOST_ENTRIES;
 use cg_kind::Kind;
 use cg_value::{Entry, KindCode, Place, Val};
 
@@ -64,11 +65,11 @@ impl<B: Kind> Heap<B> {
         requires live { IsLiveValue self.old val }
         ensures ok { OnOk result (self.new ≡
             rewritten list (entries_of self.old list ++ item val ∷ []) self.old) }
-        ensures limit { (result ≡ Err fault.EntryLimit) ↔ (4000000 ≤ entry_number self.old) }
+        ensures limit { (result ≡ Err fault.EntryLimit) ↔ (MOST_ENTRIES ≤ entry_number self.old) }
         ensures objects { result ≢ Err fault.ObjectLimit }
         ensures err { OnErr result (self.new ≡ self.old) }
     {
-        if self.entries >= 4_000_000 {
+        if self.entries >= MOST_ENTRIES {
             return Err(HeapFault::EntryLimit);
         }
         let seat = seat_of(&self.arena, list);
@@ -102,7 +103,7 @@ impl<B: Kind> Heap<B> {
         ensures replaced { IfOk result (λ was. was ≡ value_in self.old object key) }
         ensures present { IsSome (value_in self.old object key) → IsOk result }
         ensures limit { (result ≡ Err fault.EntryLimit)
-            ↔ ((value_in self.old object key ≡ None) × (4000000 ≤ entry_number self.old)) }
+            ↔ ((value_in self.old object key ≡ None) × (MOST_ENTRIES ≤ entry_number self.old)) }
         ensures objects { result ≢ Err fault.ObjectLimit }
         ensures err { OnErr result (self.new ≡ self.old) }
     {
@@ -127,7 +128,7 @@ impl<B: Kind> Heap<B> {
         ensures replaced { IfOk result (λ was. was ≡ value_in self.old object key) }
         ensures present { IsSome (value_in self.old object key) → IsOk result }
         ensures limit { (result ≡ Err fault.EntryLimit)
-            ↔ ((value_in self.old object key ≡ None) × (4000000 ≤ entry_number self.old)) }
+            ↔ ((value_in self.old object key ≡ None) × (MOST_ENTRIES ≤ entry_number self.old)) }
         ensures objects { result ≢ Err fault.ObjectLimit }
         ensures err { OnErr result (self.new ≡ self.old) }
     {
@@ -174,11 +175,11 @@ impl<B: Kind> Heap<B> {
         requires live_key { IsLiveValue self.old key }
         requires live_val { IsLiveValue self.old val }
         ensures ok { OnOk result (self.new ≡ with_put self.old object key val) }
-        ensures limit { (result ≡ Err fault.EntryLimit) ↔ (4000000 ≤ entry_number self.old) }
+        ensures limit { (result ≡ Err fault.EntryLimit) ↔ (MOST_ENTRIES ≤ entry_number self.old) }
         ensures objects { result ≢ Err fault.ObjectLimit }
         ensures err { OnErr result (self.new ≡ self.old) }
     {
-        if self.entries >= 4_000_000 {
+        if self.entries >= MOST_ENTRIES {
             return Err(HeapFault::EntryLimit);
         }
         let seat = seat_of(&self.arena, object);

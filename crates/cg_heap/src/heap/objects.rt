@@ -16,6 +16,7 @@ ghost use Rattle.cg_heap.specs.Weak.{HasReferent, IsInNoRow, attached, with_new_
 use super::Heap;
 use crate::counts::{add_object, drop_seat};
 use crate::fault::HeapFault;
+use cg_graph::{MOST_ENTRIES, MOST_OBJECTS};
 use cg_kind::Kind;
 use cg_value::{Entry, KindCode, Val};
 use cg_weak::WeakTable;
@@ -47,15 +48,15 @@ impl<B: Kind> Heap<B> {
         ensures serial { IfOk result (λ s. s ≡ self.old.last + 1) }
         ensures ok { OnOk result (self.new ≡
             attached (self.old.last + 1) referent (made code class parts.now self.old)) }
-        ensures object_limit { (result ≡ Err fault.ObjectLimit) ↔ (1000000 ≤ object_number self.old) }
+        ensures object_limit { (result ≡ Err fault.ObjectLimit) ↔ (MOST_OBJECTS ≤ object_number self.old) }
         ensures entry_limit { (result ≡ Err fault.EntryLimit)
-            ↔ ((object_number self.old < 1000000) × (4000000 < entry_number self.old + length parts.now)) }
+            ↔ ((object_number self.old < MOST_OBJECTS) × (MOST_ENTRIES < entry_number self.old + length parts.now)) }
         ensures err { OnErr result (self.new ≡ self.old) }
     {
-        if self.objects >= 1_000_000 {
+        if self.objects >= MOST_OBJECTS {
             return Err(HeapFault::ObjectLimit);
         }
-        if parts.len() as u64 > 4_000_000 - self.entries {
+        if parts.len() as u64 > MOST_ENTRIES - self.entries {
             return Err(HeapFault::EntryLimit);
         }
         match self.make_within(code, class, parts, referent) {
@@ -79,8 +80,8 @@ impl<B: Kind> Heap<B> {
         requires live_referent { IfSome referent (λ s. IsLive self.old s) }
         requires few { HasFewHolds self.old }
         requires last { self.old.last < 9223372036854775808 }
-        requires objects { object_number self.old < 1000000 }
-        requires entries { entry_number self.old + length parts.now ≤ 4000000 }
+        requires objects { object_number self.old < MOST_OBJECTS }
+        requires entries { entry_number self.old + length parts.now ≤ MOST_ENTRIES }
         ensures serial { IfOk result (λ s. s ≡ self.old.last + 1) }
         ensures ok { OnOk result (self.new ≡
             attached (self.old.last + 1) referent (made code class parts.now self.old)) }
