@@ -26,10 +26,10 @@ pub count_in-requires-in-Ok-clause-room : goal.count_in-requires-in-Ok-clause-ro
 count_in-requires-in-Ok-clause-room g c = λ s e. count_fits_after (stands c.self.inside.boxes c.self.inside.arena c.self.inside.names c.self.inside.last c.self.inside.weak.rows c.self.inside.objects c.self.inside.entries _ c.self.invariant c.self.view_is) c.args.val _ c.count_in.ensures s
 
 pub invariant_of-self : goal.invariant_of-self
-invariant_of-self g c = (after_adding (stands c.self.inside.boxes c.self.inside.arena c.self.inside.names c.self.inside.last c.self.inside.weak.rows c.self.inside.objects c.self.inside.entries _ c.self.invariant c.self.view_is) c.args.object _ _ c.seat_of-seat.ensures c.args.key c.args.val c.requires.can c.requires.new _ _ c.in-Ok.ensures.ok c.requires.other c.requires.live_key c.requires.live_val (omega (arith, c.if-self-ge4000000.false)) _ _ c.count_in.ensures c.count_in-in-Ok.ensures).keeps
+invariant_of-self g c = (after_adding (stands c.self.inside.boxes c.self.inside.arena c.self.inside.names c.self.inside.last c.self.inside.weak.rows c.self.inside.objects c.self.inside.entries _ c.self.invariant c.self.view_is) c.args.object _ _ c.seat_of-seat.ensures c.args.key c.args.val c.requires.can c.requires.new _ _ c.in-Ok.ensures.ok c.requires.other c.requires.live_key c.requires.live_val (omega (arith, c.if-self-ge-MOST_ENTRIES.false)) _ _ c.count_in.ensures c.count_in-in-Ok.ensures).keeps
 
 pub returns-in-Ok-clause-ok : goal.returns-in-Ok-clause-ok
-returns-in-Ok-clause-ok g c = (after_adding (stands c.self.inside.boxes c.self.inside.arena c.self.inside.names c.self.inside.last c.self.inside.weak.rows c.self.inside.objects c.self.inside.entries _ c.self.invariant c.self.view_is) c.args.object _ _ c.seat_of-seat.ensures c.args.key c.args.val c.requires.can c.requires.new _ _ c.in-Ok.ensures.ok c.requires.other c.requires.live_key c.requires.live_val (omega (arith, c.if-self-ge4000000.false)) _ _ c.count_in.ensures c.count_in-in-Ok.ensures).is
+returns-in-Ok-clause-ok g c = (after_adding (stands c.self.inside.boxes c.self.inside.arena c.self.inside.names c.self.inside.last c.self.inside.weak.rows c.self.inside.objects c.self.inside.entries _ c.self.invariant c.self.view_is) c.args.object _ _ c.seat_of-seat.ensures c.args.key c.args.val c.requires.can c.requires.new _ _ c.in-Ok.ensures.ok c.requires.other c.requires.live_key c.requires.live_val (omega (arith, c.if-self-ge-MOST_ENTRIES.false)) _ _ c.count_in.ensures c.count_in-in-Ok.ensures).is
 
 pub invariant_of-self-in-Err : goal.invariant_of-self-in-Err
 invariant_of-self-in-Err g c = (as_before (stands c.self.inside.boxes c.self.inside.arena c.self.inside.names c.self.inside.last c.self.inside.weak.rows c.self.inside.objects c.self.inside.entries _ c.self.invariant c.self.view_is) _ c.in-Err.ensures.err).keeps
