@@ -49,7 +49,7 @@ emptied a = a
 
 -- giving up a name is what `del` does
 pub del_shaped : (w : World) (name : ℕ) → Shape w (Del name) (Changes false [] (given_up_by w name) (bound w name None))
-del_shaped w name = Binds name None (inl refl) (λ u e. absurd (let no : None ≡ Some u = e in cc))
+del_shaped w name = Binds name None (λ of t m. m) (λ u e. absurd (let no : None ≡ Some u = e in cc))
 
 -- what is printed where a command does nothing
 abbrev pub AreAnswers : List Event → Type 0
