@@ -1,6 +1,6 @@
 -- What was done is what the machine may do for the command.
-use Rattle.std.proofs.Common.{◌≡◌, refl, sym, ◌∙◌, ap, subst, cond, ℕ, Bool, true, false, List, [], ◌∷◌, Option, Some, inl, inr, Result, Ok, Err}
-use Rattle.std.specs.Prelude.{◌==◌, if◌then◌else◌, is_some}
+use Rattle.std.proofs.Common.{◌≡◌, refl, sym, ◌∙◌, ap, subst, cond, ℕ, Bool, true, false, List, [], ◌∷◌, Option, None, Some, inl, inr, Result, Ok, Err}
+use Rattle.std.specs.Prelude.{◌==◌, if◌then◌else◌, is_some, option_to_list}
 use Rattle.std.proofs.lemmas.Bool.{eq-eqb}
 use Rattle.cg_value.specs.declared.Entry.{Entry}
 use Rattle.cg_script.specs.declared.Script.{Script}
@@ -29,13 +29,17 @@ use Rattle.cg_commands.specs.Refusals.{number_of}
 use Rattle.cg_commands.specs.Answers.{Refuses, policy_after, ChangesByMemory, HasChanged}
 use Rattle.cg_interp.specs.declared.activity.Activity.{Activity as Own}
 use Rattle.cg_interp.specs.Engines.{State, StandsFor, ShowsAll, under}
-use Rattle.cg_interp.specs.Callers.{Changes, call_of, IsPerformed}
+use Rattle.cg_interp.specs.declared.activity.Activity.TheVariants as activity
+use Rattle.cg_interp.specs.declared.turned.Turned.{Turned}
+use Rattle.cg_death.specs.declared.release.Release.{Release}
+use Rattle.cg_death.specs.Activities.{references_left}
+use Rattle.cg_interp.specs.Callers.{Changes, releasing, call_of, GivesUp, RunsTo, IsPerformed}
 use Rattle.cg_interp.proofs.CallerLemmas.{same_engine}
 use Rattle.cg_interp.proofs.UnderWay.{under_way}
 use Rattle.cg_commands.specs.Reasons.{Explained}
 use Rattle.cg_commands.proofs.Explaining.{explanation}
 use Rattle.cg_commands.proofs.Bridges.{released-none}
-use Rattle.cg_graph.specs.Value.{item}
+use Rattle.cg_graph.specs.Value.{item, entry_references}
 use Rattle.cg_value.specs.declared.Val.TheVariants as val_of
 use Rattle.cg_graph.proofs.Members.{either}
 
@@ -121,6 +125,24 @@ shape_there w command e (StartsFrame f h) = member_at w.objects f h.member
 shape_there w command e (StartsCollection g low) = tt
 shape_there w command e Ends = tt
 shape_there w command e s = tt
+
+-- the release of what was given up stands on top
+pub change_stands : (script : Script) (top : Own) (e : State) (given_up : Entry) (release : Release) (after : World) → references_left release ≡ entry_references given_up → Changes script top e given_up after
+    → StandsFor script (under (activity.Releasing release) (under top e)) (releasing given_up after)
+change_stands script top e given_up release after is changes = record {
+  represents = changes.represents;
+  shows = record { tops = Releasing (entry_references given_up) ∷ []; below = after.stack; shows = ap (λ l. Releasing l ∷ []) (sym is); some = λ n. absurd (cc); over = changes.shows; is = refl };
+  budget = changes.budget;
+  running = changes.running;
+  numbers = changes.numbers;
+  collecting = changes.collecting;
+}
+
+-- what a change comes to once it has given up what it gives up
+pub runs_to : (script : Script) (w : World) (command : Command) (top : Own) (e : State) (line : Option Event) (changed : World) → CommandStep script w command (option_to_list line) changed
+    → (result : Option Turned) → GivesUp script changed top e line result → RunsTo script w command top e result
+runs_to script w command top e line changed may None (none, comes) = record { changed = changed; may = subst (λ l. CommandStep script w command (option_to_list l) changed) none may; comes = comes }
+runs_to script w command top e line changed may (Some answer) (is, comes) = inr (inr (record { line = line; is = is; changes = record { changed = changed; may = may; comes = comes } }))
 
 -- A command tells lines, and the machine may tell them: its world is as before, with nothing to be given up on top.
 pub record Told (script : Script) (top : Own) (e : State) (w : World) (command : Command) (lines : List Event) : Type 0 where

@@ -18,7 +18,9 @@ use Rattle.cg_interp.specs.declared.activity.Activity.TheVariants as activity
 use Rattle.cg_interp.specs.declared.turned.Turned.TheVariants as turned
 use Rattle.cg_policy.specs.Policy.{Policy}
 use Rattle.cg_interp.specs.Engines.{State, StandsFor, Shows, ShowsAll, commands_from, frame_of, under, is_collecting, any_collecting}
-use Rattle.cg_interp.specs.Callers.{IsCaller, without_rest, without_rest_in_frame}
+use Rattle.cg_interp.specs.declared.caller.Caller.{Caller}
+use Rattle.cg_interp.specs.declared.caller.Caller.TheVariants as caller_of
+use Rattle.cg_interp.specs.Callers.{caller_activity, without_rest, without_rest_in_frame}
 use Rattle.cg_interp.specs.Turns.{Makes}
 use Rattle.cg_interp.proofs.Standing.{IsPlain, plain_frame, plain_script, replaced, spelled}
 
@@ -52,40 +54,32 @@ module _ (script : Script) (old new : State) (top top_after : Own) (a b : Activi
 
 module _ (script : Script) (old new : State) (w : World) where
   -- a command is refused
-  pub refuses : (top : Own) (number : ℕ) → IsCaller top → StandsFor script (under top old) w → new.store ≡ old.store → new.policy ≡ old.policy → new.activities ≡ without_rest_in_frame top ∷ old.activities → new.budget ≡ old.budget
+  pub refuses : (caller : Caller) (number : ℕ) → StandsFor script (under (caller_activity caller) old) w → new.store ≡ old.store → new.policy ≡ old.policy → new.activities ≡ caller_activity (without_rest_in_frame caller) ∷ old.activities → new.budget ≡ old.budget
       → Makes script (refused number w) new (turned.Line (Refused number))
-  refuses (activity.Script next) number caller stands store policy is budget = (
+  refuses (caller_of.Script next) number stands store policy is budget = (
     refl,
     retopped script old new (activity.Script next) (activity.Script next) (TopLevel (commands_from next (commands_of script.items))) (TopLevel (commands_from next (commands_of script.items))) stopped_frame w
         (plain_script _) (plain_script _) refl (λ below. refl) (λ tops e. e) refl refl stands store policy is budget,
   )
-  refuses (activity.Frame locals procedure next) number caller stands store policy is budget = (
+  refuses (caller_of.Frame locals procedure next) number stands store policy is budget = (
     refl,
     retopped script old new (activity.Frame locals procedure next) (activity.Frame locals procedure None) (Framed (frame_of script locals procedure next)) (Framed (frame_of script locals procedure None)) stopped_frame w
         (plain_frame _) (plain_frame _) refl (λ below. refl) (λ tops e. e) refl refl stands store policy is budget,
   )
-  refuses (activity.Releasing release) number caller stands store policy is budget = absurd caller
-  refuses (activity.Shutdown started) number caller stands store policy is budget = absurd caller
-  refuses (activity.Dying death) number caller stands store policy is budget = absurd caller
-  refuses (activity.Collecting asked collection) number caller stands store policy is budget = absurd caller
 
   -- a command ends what it stands in
-  pub quits : (top : Own) → IsCaller top → StandsFor script (under top old) w → new.store ≡ old.store → new.policy ≡ old.policy → new.activities ≡ without_rest top ∷ old.activities → new.budget ≡ old.budget
+  pub quits : (caller : Caller) → StandsFor script (under (caller_activity caller) old) w → new.store ≡ old.store → new.policy ≡ old.policy → new.activities ≡ caller_activity (without_rest caller) ∷ old.activities → new.budget ≡ old.budget
       → Makes script ([], with_stack (without_commands w.stack) w) new turned.Quiet
-  quits (activity.Script next) caller stands store policy is budget = (
+  quits (caller_of.Script next) stands store policy is budget = (
     refl,
     retopped script old new (activity.Script next) (activity.Script None) (TopLevel (commands_from next (commands_of script.items))) (TopLevel []) without_commands w
         (plain_script _) (plain_script _) refl (λ below. refl) (λ tops e. e) refl refl stands store policy is budget,
   )
-  quits (activity.Frame locals procedure next) caller stands store policy is budget = (
+  quits (caller_of.Frame locals procedure next) stands store policy is budget = (
     refl,
     retopped script old new (activity.Frame locals procedure next) (activity.Frame locals procedure None) (Framed (frame_of script locals procedure next)) (Framed (frame_of script locals procedure None)) without_commands w
         (plain_frame _) (plain_frame _) refl (λ below. refl) (λ tops e. e) refl refl stands store policy is budget,
   )
-  quits (activity.Releasing release) caller stands store policy is budget = absurd caller
-  quits (activity.Shutdown started) caller stands store policy is budget = absurd caller
-  quits (activity.Dying death) caller stands store policy is budget = absurd caller
-  quits (activity.Collecting asked collection) caller stands store policy is budget = absurd caller
 
 -- the procedure of a function, which the heap keeps beside it
 pub procedure_known : (store : Store) (w : World) (f : ℕ) (class : Option ℕ) → Represents store w → IsLive store f → IfSome (fin.get store.nodes f) (λ n. class ≡ n.class) → procedure_of w f ≡ unwrap_or class 0

@@ -27,6 +27,8 @@ mod CollectTurns
 mod CollectMoves
 mod CollectBegins
 mod Telling
+mod Quietly
+mod GivingUp
 mod UnderWay
 mod TurnLemmas
 mod KeptLines

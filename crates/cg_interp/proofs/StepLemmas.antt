@@ -1,5 +1,6 @@
 -- A step of the script or of a frame: the next command, or a collection that is due before it.
-use Rattle.std.proofs.Common.{◌≡◌, refl, sym, ◌∙◌, ap, subst, ℕ, true, false, List, [], ◌∷◌, ◌++◌, Option, None, Some, inl, take, drop, Bool}
+use Rattle.std.proofs.Common.{◌≡◌, refl, sym, ◌∙◌, ap, subst, ℕ, true, false, List, [], ◌∷◌, ◌++◌, Option, None, Some, inl, take, drop, Bool, length, arith}
+use Rattle.std.specs.Prelude.{option_to_list}
 use Rattle.std.proofs.lemmas.List.{take-append-drop}
 use Rattle.cg_script.specs.declared.Script.{Script}
 use Rattle.cg_script.specs.declared.Command.{Command}
@@ -8,26 +9,39 @@ use Rattle.cg_graph.proofs.Members.{Includes-append_right, either}
 use Rattle.cg_machine.specs.declared.event.Event.{Event}
 use Rattle.cg_machine.specs.declared.event.Event.TheVariants.{End, BudgetSpent, Left}
 use Rattle.cg_machine.specs.Program.{commands_of, body_of, declares_shutdown}
-use Rattle.cg_machine.specs.World.{World, TopLevel, Framed, Frame, Running, Ended, push, with_stack, ShuttingDown}
+use Rattle.cg_machine.specs.World.{World, TopLevel, Framed, Frame, Running, push, with_stack, ShuttingDown}
 use Rattle.cg_machine.specs.Frame.{Transition, Yields}
 use Rattle.cg_machine.specs.Commands.{CommandStep, new_collection}
 use Rattle.cg_machine.specs.Due.{due}
 use Rattle.cg_machine.specs.Run.{StepOf, TopLevelStep, FrameStep, CommandInFrame}
-use Rattle.cg_machine.specs.Represents.{Represents}
+use Rattle.cg_machine.specs.Lawful.{IsLawful}
+use Rattle.cg_machine.specs.Represents.{Represents, detects}
 use Rattle.cg_policy.specs.Policy.{due_of, Policy}
-use Rattle.cg_laws.specs.Kept.{StaysKept}
+use Rattle.cg_laws.specs.Kept.{IsKept, StaysKept}
+use Rattle.cg_script.specs.Spelled.{IsSpelled, IsSpelledCommand}
+use Rattle.cg_heap.specs.Calls.{IsSound}
+use Rattle.cg_collect.specs.Numbers.{AreSmall}
 use Rattle.cg_commands.specs.declared.locals.Locals.{Locals}
-use Rattle.cg_commands.specs.Stands.{HasLocals}
+use Rattle.cg_commands.specs.Stands.{HasLocals, LocalsLive}
+use Rattle.cg_interp.specs.declared.activity.Activity.{Activity as Own}
 use Rattle.cg_interp.specs.declared.activity.Activity.TheVariants as activity
 use Rattle.cg_interp.specs.declared.turned.Turned.{Turned}
 use Rattle.cg_interp.specs.declared.turned.Turned.TheVariants as turned
 use Rattle.cg_interp.specs.Engines.{State, StandsFor, commands_from, frame_of, under, ShowsAll, any_collecting}
-use Rattle.cg_interp.specs.Callers.{Does, StartsCollection, DoesAny, StaysKeptAfter, ComesNext}
+use Rattle.cg_interp.specs.declared.caller.Caller.{Caller}
+use Rattle.cg_interp.specs.declared.caller.Caller.TheVariants as caller_of
+use Rattle.cg_interp.specs.Callers.{caller_activity, caller_locals, caller_at, told, MayCommand, Does, StartsCollection, ChangesOn, TellsChange, DoesAny, RunsTo, StaysKeptAfter, IsAtCommand, ComesNext, StepsFrom}
+use Rattle.cg_interp.specs.Quietly.{ComesTo}
 use Rattle.cg_interp.specs.Collecting.{StandsWith}
 use Rattle.cg_interp.specs.Telling.{TurnsWith}
-use Rattle.cg_interp.specs.Turns.{Makes, Turns}
+use Rattle.cg_interp.specs.Turns.{Makes, Turns, GoesTo, IsFit}
 use Rattle.cg_interp.proofs.Standing.{plain_frame, plain_script, replaced, spelled, one_step, plain_shutdown}
 use Rattle.cg_interp.proofs.Telling.{turns_plainly}
+use Rattle.cg_interp.proofs.Quietly.{quietly, first_then, first_moves}
+use Rattle.cg_interp.proofs.Lawfully.{has_room, few_holds, few_objects}
+use Rattle.cg_interp.proofs.CollectBegins.{idle_in}
+use Rattle.cg_interp.proofs.SmallNumbers.{small_numbers}
+use Rattle.cg_interp.proofs.SpelledLemmas.{script_doable, body_doable, low_serials, locals_are_live}
 use Rattle.cg_interp.proofs.UnderWay.{policy_is}
 use Rattle.cg_machine.specs.Shutdown.{after_commands}
 
@@ -66,14 +80,37 @@ module _ (script : Script) (w mid : World) (running : w.outcome ≡ Running) whe
     stands = stands;
   }
 
--- A command is done from the world without it: what the machine may do for the command is its step.
-module _ (script : Script) (w without : World) (c : Command) (running : w.outcome ≡ Running) (step : (events : List Event) (after : World) → CommandStep script without c events after → StepOf script w w.stack events after) where
+-- A command is done from the world without it: what the machine may do for the command is its step. That makes no detection.
+module _ (script : Script) (w without : World) (c : Command) (running : w.outcome ≡ Running) (plain : detects w.stack ≡ false)
+    (step : (events : List Event) (after : World) → CommandStep script without c events after → StepOf script w w.stack events after) where
+  -- what it gives up is given up in the same turn
+  goes_to : (lines : List Event) (e : State) → ChangesOn script without c lines e → GoesTo script w lines e
+  goes_to lines e changes =
+      let own = step lines changes.changed changes.may in
+      record {
+        after = changes.comes.after;
+        goes = first_then script w changes.changed changes.comes.after lines running plain own changes.comes.goes;
+        moves = first_moves script w changes.changed changes.comes.after lines running plain own changes.comes.goes;
+        stands = changes.comes.stands;
+      }
+
+  told_turns : (line : Option Event) (e : State) → ChangesOn script without c (option_to_list line) e → Turns script w e (told line)
+  told_turns None e changes = goes_to [] e changes
+  told_turns (Some event) e changes = goes_to (event ∷ []) e changes
+
   pub command_turns : (e : State) (answer : Turned) → DoesAny script without c e answer → TurnsWith script (λ still. ⊥) w [] e answer
   command_turns e answer does = either does
       (λ (done : Does script without c e answer). turns_plainly script w e answer (turns script w e done.transition answer running (step done.transition.0 done.transition.1 done.may) done.makes))
+      (λ rest. either rest
       (λ (starts : StartsCollection script without c e answer).
       let begun = push (new_collection starts.generation true without) without in
       subst (TurnsWith script (λ still. ⊥) w [] e) (sym starts.quiet) (begins_collection script w begun running e (step [] begun starts.may) starts.stands))
+      (λ (tells : TellsChange script without c e answer).
+      subst (TurnsWith script (λ still. ⊥) w [] e) (sym tells.is) (turns_plainly script w e (told tells.line) (told_turns tells.line e tells.changes))))
+
+  -- where its caller is to go on
+  pub command_comes : (e : State) → ChangesOn script without c [] e → ComesTo script w e
+  command_comes e changes = let to = goes_to [] e changes in record { after = to.after; goes = quietly script w to.after plain to.goes; stands = to.stands }
 
   pub command_keeps : (budget : ℕ) → StaysKept script budget w → StaysKeptAfter script budget without c
   command_keeps budget kept events after may = kept_after script w after running budget events (step events after may) kept
@@ -87,8 +124,8 @@ is_there commands rest None c is = absurd (cc)
 is_there commands rest (Some n) c is = still_there n commands c (subst (λ l. Includes l c) (sym is) (inl refl))
 
 -- the command that has the turn in the body of a procedure
-pub comes_next : (script : Script) (procedure : ℕ) (next : Option ℕ) (c : Command) (after : ℕ) (body : List Command) → body ≡ body_of script procedure → commands_from next body ≡ c ∷ commands_from (Some after) body → ComesNext script procedure next c after
-comes_next script procedure next c after body is turn = subst (λ l. commands_from next l ≡ c ∷ commands_from (Some after) l) is turn
+pub comes_next : (script : Script) (locals : Locals) (procedure : ℕ) (next : Option ℕ) (c : Command) (after : ℕ) (body : List Command) → body ≡ body_of script procedure → commands_from next body ≡ c ∷ commands_from (Some after) body → ComesNext script (caller_of.Frame locals procedure next) c after
+comes_next script locals procedure next c after body is turn = subst (λ l. commands_from next l ≡ c ∷ commands_from (Some after) l) is turn
 
 -- The script is on top.
 module _ (script : Script) (e : State) (next : Option ℕ) (w : World) (stands : StandsFor script (under (activity.Script next) e) w) where
@@ -204,3 +241,92 @@ module _ (script : Script) (e : State) (locals : Locals) (procedure : ℕ) (next
   pub frame_does : due w ≡ None → (events : List Event) (done : World) → CommandStep script frame_goes_on c events done → StepOf script w w.stack events done
   unfolding frame_goes_on
   frame_does none events done may = frame_steps None events done none may
+
+-- The world without the next command, which is done from there. Where no collection is due it is the step of the machine.
+pub record Without (script : Script) (caller : Caller) (after : ℕ) (c : Command) (e : State) (w : World) : Type 0 where
+  pub world : World
+  pub stands : StandsFor script (under (caller_activity (caller_at after caller)) e) world
+  pub locals : HasLocals (caller_locals (caller_at after caller)) world
+  pub does : due w ≡ None → (events : List Event) (done : World) → CommandStep script world c events done → StepOf script w w.stack events done
+
+-- A caller is on top.
+module _ (script : Script) (e : State) (w : World) where
+  pub caller_detects_none : (caller : Caller) → StandsFor script (under (caller_activity caller) e) w → detects w.stack ≡ false
+  caller_detects_none (caller_of.Script next) stands = ap detects (stands.shows.is ∙ ap (λ l. l ++ stands.shows.below) stands.shows.shows)
+  caller_detects_none (caller_of.Frame locals procedure next) stands = ap detects (stands.shows.is ∙ ap (λ l. l ++ stands.shows.below) stands.shows.shows)
+
+  -- its next command is known
+  module _ (after : ℕ) (c : Command) where
+    pub without_command : (caller : Caller) → ComesNext script caller c after → StandsFor script (under (caller_activity caller) e) w → Without script caller after c e w
+    without_command (caller_of.Script next) is stands = record {
+      world = script_goes_on script e next w stands (Some after) c is;
+      stands = script_stands script e next w stands (Some after) c is;
+      locals = script_locals script e next w stands (Some after) c is;
+      does = script_does script e next w stands (Some after) c is;
+    }
+    without_command (caller_of.Frame locals procedure next) is stands = record {
+      world = frame_goes_on script e locals procedure next (Some after) c w stands is;
+      stands = frame_stands script e locals procedure next (Some after) c w stands is;
+      locals = frame_locals script e locals procedure next (Some after) c w stands is;
+      does = frame_does script e locals procedure next (Some after) c w stands is;
+    }
+
+    -- a collection is due
+    pub caller_collects : (caller : Caller) → ComesNext script caller c after → StandsFor script (under (caller_activity caller) e) w → (g : ℕ) → due w ≡ Some g → StepOf script w w.stack [] (push (new_collection g false w) w)
+    caller_collects (caller_of.Script next) is stands = script_collects script e next w stands
+    caller_collects (caller_of.Frame locals procedure next) is stands = frame_collects script e locals procedure next (Some after) c w stands is
+
+    -- the command is one of a script that some bytes spell
+    pub caller_doable : IsSpelled script → (names : ℕ) → names ≡ length script.names → (caller : Caller) → ComesNext script caller c after → IsSpelledCommand names c
+    caller_doable spelled names same (caller_of.Script next) is = script_doable script spelled names same c (is_there (commands_of script.items) _ next c is)
+    caller_doable spelled names same (caller_of.Frame locals procedure next) is = body_doable script spelled names procedure same c (is_there (body_of script procedure) _ next c is)
+
+  -- its locals live
+  pub caller_live : (budget after : ℕ) (caller : Caller) → StandsFor script (under (caller_activity caller) e) w → IsLawful script budget w → LocalsLive e.store (caller_locals (caller_at after caller))
+  caller_live budget after (caller_of.Script next) stands lawful = tt
+  caller_live budget after (caller_of.Frame locals procedure next) stands lawful = locals_are_live script budget e locals procedure next w stands lawful
+
+  -- what a command may rest on
+  pub may_command : (top : Own) → StandsFor script (under top e) w → IsKept script e.frames w → IsSound e.store → IsSpelled script → IsFit script e → MayCommand e
+  may_command top stands kept sound spelled fit = record {
+    few = few_holds script e.frames e.store w stands.represents kept.lawful fit.frames (few_objects e.store sound.objects);
+    last = low_serials script spelled e.frames e.store w stands.represents kept.lawful fit.frames;
+    small = subst AreSmall (sym stands.numbers) (small_numbers script e.frames w spelled kept.few fit.frames);
+    idle = idle_in script e.frames top e w stands sound kept;
+    room = omega (arith, has_room script top e w stands kept.lawful fit);
+  }
+
+-- The next command of a caller was done.
+module _ (script : Script) (caller : Caller) (after : ℕ) (c : Command) (old new : State) (next : ComesNext script caller c after) (w : World) (stands : StandsFor script (under (caller_activity caller) old) w) (kept : StaysKept script old.frames w) (none : due w ≡ None) where
+  without : Without script caller after c old w
+  without = without_command script old w after c caller next stands
+
+  -- the world that it is done from
+  pub at_command : (world : World) × IsAtCommand script (caller_at after caller) old world c
+  at_command = (
+    without.world,
+    record {
+      stands = without.stands;
+      locals = without.locals;
+      kept = command_keeps script w without.world c stands.running (caller_detects_none script old w caller stands) (without.does none) old.frames kept;
+    },
+  )
+
+  abbrev top_after : Own
+  top_after = caller_activity (caller_at after caller)
+
+  -- what it came to is what the step of its caller comes to
+  pub comes : RunsTo script at_command.0 c top_after new None → ComesTo script w (under top_after new)
+  unfolding without at_command
+  comes changes = command_comes script w without.world c stands.running (caller_detects_none script old w caller stands) (without.does none) (under top_after new) changes
+
+  pub answers : (answer : Turned) → RunsTo script at_command.0 c top_after new (Some answer) → TurnsWith script (λ still. ⊥) w [] new answer
+  unfolding without at_command
+  answers answer does = command_turns script w without.world c stands.running (caller_detects_none script old w caller stands) (without.does none) new answer does
+
+pub steps_from : (script : Script) (caller : Caller) (after : ℕ) (c : Command) (old new : State) → ComesNext script caller c after → ((w : World) → StandsFor script (under (caller_activity caller) old) w → due w ≡ None)
+    → (result : Option Turned) → ((w : World) → IsAtCommand script (caller_at after caller) old w c → RunsTo script w c (caller_activity (caller_at after caller)) new result) → StepsFrom script caller after old new result
+steps_from script caller after c old new next none None does = λ w stands kept.
+    let at = at_command script caller after c old new next w stands kept (none w stands) in comes script caller after c old new next w stands kept (none w stands) (does at.0 at.1)
+steps_from script caller after c old new next none (Some answer) does = λ w stands kept.
+    let at = at_command script caller after c old new next w stands kept (none w stands) in answers script caller after c old new next w stands kept (none w stands) answer (does at.0 at.1)

@@ -1,10 +1,10 @@
 -- The activities that have commands, and what a command leaves. (Ours.)
-use Rattle.std.specs.Prelude.{◌≡◌, ℕ, true, ◌⊎◌, List, [], ◌∷◌, Option, None, Some, Result}
+use Rattle.std.specs.Prelude.{◌≡◌, ◌<◌, ℕ, true, false, ◌⊎◌, List, [], ◌∷◌, Option, None, Some, Result, option_to_list}
 use Rattle.cg_value.specs.declared.Entry.{Entry}
 use Rattle.cg_script.specs.declared.Script.{Script}
 use Rattle.cg_graph.specs.Value.{entry_references}
 use Rattle.cg_machine.specs.declared.event.Event.{Event}
-use Rattle.cg_machine.specs.Program.{body_of}
+use Rattle.cg_machine.specs.Program.{body_of, commands_of}
 use Rattle.cg_machine.specs.World.{World, Releasing, Running, push}
 use Rattle.cg_machine.specs.Frame.{Transition, procedure_of}
 use Rattle.cg_machine.specs.Commands.{CommandStep, new_collection, effect}
@@ -27,34 +27,54 @@ use Rattle.cg_interp.specs.Collecting.{StandsWith}
 use Rattle.cg_machine.specs.Represents.{Represents}
 use Rattle.cg_interp.specs.declared.activity.Activity.{Activity}
 use Rattle.cg_interp.specs.declared.activity.Activity.TheVariants as activity
+use Rattle.cg_interp.specs.declared.caller.Caller.{Caller}
+use Rattle.cg_interp.specs.declared.caller.Caller.TheVariants as caller_of
+use Rattle.cg_commands.specs.declared.locals.Locals.{Locals}
+use Rattle.cg_commands.specs.Stands.{HasLocals}
+use Rattle.cg_inspect.specs.Inspection.{IsIdle}
+use Rattle.cg_collect.specs.Numbers.{AreSmall}
+use Rattle.cg_interp.specs.Telling.{TurnsFrom}
+use Rattle.cg_interp.specs.Quietly.{ComesTo, ComesFrom}
 use Rattle.cg_interp.specs.Engines.{State, StandsFor, ShowsAll, under, any_collecting, commands_from}
 
--- the script, or a frame
-abbrev pub IsCaller : Activity → Type 0
-IsCaller (activity.Script next) = Unit {0}
-IsCaller (activity.Frame locals procedure next) = Unit {0}
-IsCaller (activity.Releasing release) = ⊥
-IsCaller (activity.Shutdown started) = ⊥
-IsCaller (activity.Dying death) = ⊥
-IsCaller (activity.Collecting asked collection) = ⊥
+-- the activity that a caller is
+abbrev pub caller_activity : Caller → Activity
+caller_activity (caller_of.Script next) = activity.Script next
+caller_activity (caller_of.Frame locals procedure next) = activity.Frame locals procedure next
+
+-- the locals of a frame
+abbrev pub caller_locals : Caller → Option Locals
+caller_locals (caller_of.Script next) = None
+caller_locals (caller_of.Frame locals procedure next) = Some locals
+
+-- the commands that it has left
+abbrev pub commands_left : Script → Caller → List Command
+commands_left script (caller_of.Script next) = commands_from next (commands_of script.items)
+commands_left script (caller_of.Frame locals procedure next) = commands_from next (body_of script procedure)
+
+-- the same caller where the command with this number comes next
+abbrev pub caller_at : ℕ → Caller → Caller
+caller_at number (caller_of.Script next) = caller_of.Script (Some number)
+caller_at number (caller_of.Frame locals procedure next) = caller_of.Frame locals procedure (Some number)
 
 -- a frame that has no command left
-abbrev pub without_rest_in_frame : Activity → Activity
-without_rest_in_frame (activity.Script next) = activity.Script next
-without_rest_in_frame (activity.Frame locals procedure next) = activity.Frame locals procedure None
-without_rest_in_frame (activity.Releasing release) = activity.Releasing release
-without_rest_in_frame (activity.Shutdown started) = activity.Shutdown started
-without_rest_in_frame (activity.Dying death) = activity.Dying death
-without_rest_in_frame (activity.Collecting asked collection) = activity.Collecting asked collection
+abbrev pub without_rest_in_frame : Caller → Caller
+without_rest_in_frame (caller_of.Script next) = caller_of.Script next
+without_rest_in_frame (caller_of.Frame locals procedure next) = caller_of.Frame locals procedure None
 
 -- the same of the script too
-abbrev pub without_rest : Activity → Activity
-without_rest (activity.Script next) = activity.Script None
-without_rest (activity.Frame locals procedure next) = activity.Frame locals procedure None
-without_rest (activity.Releasing release) = activity.Releasing release
-without_rest (activity.Shutdown started) = activity.Shutdown started
-without_rest (activity.Dying death) = activity.Dying death
-without_rest (activity.Collecting asked collection) = activity.Collecting asked collection
+abbrev pub without_rest : Caller → Caller
+without_rest (caller_of.Script next) = caller_of.Script None
+without_rest (caller_of.Frame locals procedure next) = caller_of.Frame locals procedure None
+
+-- What a command may rest on: few references are held from outside, few objects were made, nothing stands in the places of a
+-- collection where none runs, and there is room for a caller, a release and a death.
+pub record MayCommand (e : State) : Type 0 where
+  pub few : HasFewHolds e.store
+  pub last : e.store.last < 9223372036854775808
+  pub small : AreSmall e.policy.numbers
+  pub idle : e.policy.running ≡ false → IsIdle e.store
+  pub room : 2 < e.room
 
 -- A command left this world: the heap stands for it with the release of what was given up on top, the policy has its numbers,
 -- and the activities stand for the rest of its stack.
@@ -66,9 +86,13 @@ pub record Changes (script : Script) (top : Activity) (e : State) (given_up : En
   pub numbers : e.policy.numbers ≡ after.numbers
   pub collecting : e.policy.running ≡ any_collecting (top ∷ e.activities)
 
+-- with that release
+abbrev pub releasing : Entry → World → World
+releasing given_up after = push (Releasing (entry_references given_up)) after
+
 -- its lines, and that world
 abbrev pub transition_of_change : List Event → Entry → World → Transition
-transition_of_change lines given_up after = (lines, push (Releasing (entry_references given_up)) after)
+transition_of_change lines given_up after = (lines, releasing given_up after)
 
 -- the frame of a call
 abbrev pub call_of : ℕ → World → FrameSpec
@@ -87,13 +111,46 @@ pub record StartsCollection (script : Script) (w : World) (command : Command) (e
   pub quiet : answer ≡ turned.Quiet
   pub stands : StandsWith script e [] (push (new_collection generation true w) w)
 
+-- what a turn answers with this line due, or none
+abbrev pub told : Option Event → Turned
+told None = turned.Quiet
+told (Some event) = turned.Line event
+
+-- A command was done, and what it gives up was given up: the machine made its step, with these lines, and went on quietly.
+pub record ChangesOn (script : Script) (w : World) (command : Command) (lines : List Event) (e : State) : Type 0 where
+  pub changed : World
+  pub may : CommandStep script w command lines changed
+  pub comes : ComesTo script changed e
+
+-- the same where a line at most is due
+pub record TellsChange (script : Script) (w : World) (command : Command) (e : State) (answer : Turned) : Type 0 where
+  pub line : Option Event
+  pub is : answer ≡ told line
+  pub changes : ChangesOn script w command (option_to_list line) e
+
 -- what is done for any command
 abbrev pub DoesAny : Script → World → Command → State → Turned → Type 0
-DoesAny script w command e answer = Does script w command e answer ⊎ StartsCollection script w command e answer
+DoesAny script w command e answer = Does script w command e answer ⊎ (StartsCollection script w command e answer ⊎ TellsChange script w command e answer)
+
+-- What a command comes to: with no answer, no line is due and its caller is to go on; else the turn is over.
+abbrev pub RunsTo : Script → World → Command → Activity → State → Option Turned → Type 0
+RunsTo script w command top e None = ChangesOn script w command [] (under top e)
+RunsTo script w command top e (Some answer) = DoesAny script w command e answer
+
+-- What was given up after a change with this line, or none: with no answer no line is due, and its caller is to go on.
+abbrev pub GivesUp : Script → World → Activity → State → Option Event → Option Turned → Type 0
+GivesUp script w top e line None = (line ≡ None) × ComesTo script w (under top e)
+GivesUp script w top e line (Some answer) = (answer ≡ told line) × ComesTo script w e
 
 -- Each world that a command may leave is kept.
 abbrev pub StaysKeptAfter : Script → ℕ → World → Command → Type 0
 StaysKeptAfter script budget w command = (events : List Event) (after : World) → CommandStep script w command events after → StaysKept script budget after
+
+-- A caller has gone on to the command after this one, which is to be done: the engine stands for the world without it.
+pub record IsAtCommand (script : Script) (caller : Caller) (e : State) (w : World) (command : Command) : Type 0 where
+  pub stands : StandsFor script (under (caller_activity caller) e) w
+  pub locals : HasLocals (caller_locals caller) w
+  pub kept : StaysKeptAfter script e.frames w command
 
 -- A command was performed in this world, for which the engine stood with the heap and the policy of before.
 pub record IsPerformed (script : Script) (top : Activity) (e : State) (w : World) (command : Command) (before : Store) (was : Policy) (answer : Result Done Refusal) : Type 0 where
@@ -110,9 +167,14 @@ pub record HasPerformed (script : Script) (top : Activity) (e : State) (answer :
   pub few : HasFewHolds before
   pub performed : IsPerformed script top e world command before was answer
 
--- In a procedure this command has the turn, and the one with that number comes after it.
-abbrev pub ComesNext : Script → ℕ → Option ℕ → Command → ℕ → Type 0
-ComesNext script procedure next command after = commands_from next (body_of script procedure) ≡ command ∷ commands_from (Some after) (body_of script procedure)
+-- This command has the turn, and the one with that number comes after it.
+abbrev pub ComesNext : Script → Caller → Command → ℕ → Type 0
+ComesNext script caller command after = commands_left script caller ≡ command ∷ commands_left script (caller_at after caller)
+
+-- what the next command of a caller comes to, which was on top
+abbrev pub StepsFrom : Script → Caller → ℕ → State → State → Option Turned → Type 0
+StepsFrom script caller after old new None = ComesFrom script (caller_activity caller) old (caller_activity (caller_at after caller)) new
+StepsFrom script caller after old new (Some answer) = TurnsFrom script (caller_activity caller) old new answer
 
 -- Each of these commands is spelled by a script with so many texts.
 abbrev pub AreDoable : ℕ → List Command → Type 0

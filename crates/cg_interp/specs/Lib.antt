@@ -4,6 +4,7 @@ pub mod Releases
 pub mod Turns
 pub mod Collecting
 pub mod Telling
+pub mod Quietly
 pub mod Callers
 pub mod Written
 pub mod Running

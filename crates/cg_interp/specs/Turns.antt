@@ -1,5 +1,5 @@
 -- What a turn of an engine answers: what the machine does. (Ours.)
-use Rattle.std.specs.Prelude.{◌≡◌, ◌≢◌, ℕ, ◌+◌, ◌*◌, ◌≤◌, length, List, [], ◌∷◌, ◌⊎◌, Option, None, Some, count_by}
+use Rattle.std.specs.Prelude.{◌≡◌, ◌≢◌, ℕ, ◌+◌, ◌*◌, ◌≤◌, length, List, [], ◌∷◌, ◌⊎◌, count_by}
 use Rattle.cg_script.specs.declared.Script.{Script}
 use Rattle.cg_script.specs.declared.limits.TheConstants.{MOST_BUDGET}
 use Rattle.cg_machine.specs.declared.event.Event.{Event}
@@ -62,11 +62,6 @@ pub record GivesDeath (script : Script) (w : World) (o : ℕ) (e : State) : Type
   pub goes : Goes script w [] (begin_death o before)
   pub moves : goes.steps ≢ []
   pub stands : StandsFor script e before
-
--- what a release answers: the object whose death is to begin, if there is one
-abbrev pub Releases : Script → World → State → Option ℕ → Type 0
-Releases script w e None = GoesTo script w [] e
-Releases script w e (Some o) = GivesDeath script w o e
 
 -- What holds of the deaths of every run: a dying object is held by nothing but its own death, and is dying once.
 pub record DyingIsSound (w : World) : Type 0 where

@@ -1,5 +1,5 @@
 //! What the engine does once a command has been performed.
-ghost use Rattle.std.specs.Prelude.{◌≡◌, ◌<◌, ◌≤◌, [], Ok, option_to_list};
+ghost use Rattle.std.specs.Prelude.{◌≡◌, ◌<◌, ◌≤◌, [], Ok};
 ghost use Rattle.cg_value.specs.declared.Val.TheVariants as val_of;
 ghost use Rattle.cg_graph.specs.Value.{item};
 ghost use Rattle.cg_graph.specs.Store.{IsLive, Store};
@@ -15,11 +15,14 @@ ghost use Rattle.cg_machine.specs.Commands.{refused, without_commands, effect};
 ghost use Rattle.cg_machine.specs.Effects.{Collects};
 ghost use Rattle.cg_policy.specs.Policy.{Policy as AnyPolicy};
 ghost use Rattle.cg_interp.specs.Engines.{StandsFor, under};
-ghost use Rattle.cg_interp.specs.Callers.{IsCaller, without_rest, without_rest_in_frame, Changes, transition_of_change, call_of, DoesAny, IsPerformed, HasPerformed, StaysKeptAfter};
-ghost use Rattle.cg_interp.specs.Turns.{Makes, Keeps, IsFit};
+ghost use Rattle.cg_interp.specs.Quietly.{ComesTo};
+ghost use Rattle.cg_interp.specs.Callers.{caller_activity, Changes, releasing, transition_of_change, call_of, told, GivesUp, DoesAny, RunsTo, IsPerformed, HasPerformed, StaysKeptAfter};
+ghost use Rattle.cg_interp.specs.Turns.{Makes, Keeps, IsFit, StaysSound};
 
 use crate::activity::Activity;
+use crate::caller::Caller;
 use crate::engine::Engine;
+use crate::releases::give_up;
 use crate::turned::Turned;
 use cg_commands::{Done, Lines, Refusal};
 use cg_death::Release;
@@ -29,107 +32,129 @@ use cg_machine::{Event, FrameSort, FrameSpec};
 use cg_value::{Entry, Val};
 
 impl<B: Kind> Engine<B> {
-    /// What the engine does once the command of the activity that was on top has been performed.
+    /// What the engine does once the command of the caller that was on top has been performed. Nothing is answered where no line
+    /// is due and the caller is to go on: it is not put back.
     #[inline(always)]
-    pub fn answer(&mut self, top: Activity, done: Result<Done, Refusal>) -> Turned
-        requires caller { IsCaller top }
+    pub fn answer(&mut self, caller: Caller, done: Result<Done, Refusal>) -> Option<Turned>
         requires room { 2 < self.old.room }
         requires performed { (script : AnyScript) × IsSpelled script × IsFit script self.old
-            × HasPerformed script top self.old done }
+            × HasPerformed script (caller_activity caller) self.old done }
         ensures does { (script : AnyScript) (w : World) (command : AnyCommand) (before : Store) (was : AnyPolicy)
-            → IsPerformed script top self.old w command before was done → DoesAny script w command self.new result }
+            → IsPerformed script (caller_activity caller) self.old w command before was done
+            → RunsTo script w command (caller_activity caller) self.new result }
         ensures keeps { Keeps self.old self.new }
     {
         match done {
-            Ok(done) => self.proceed(top, done),
-            Err(refusal) => self.refuse(top, refusal.number()),
+            Ok(done) => self.proceed(caller, done),
+            Err(refusal) => Some(self.refuse(caller, refusal.number())),
         }
     }
 
     /// The same once it has been done.
     #[inline(always)]
-    fn proceed(&mut self, top: Activity, done: Done) -> Turned
-        requires caller { IsCaller top }
+    fn proceed(&mut self, caller: Caller, done: Done) -> Option<Turned>
         requires room { 2 < self.old.room }
         requires performed { (script : AnyScript) × IsSpelled script × IsFit script self.old
-            × HasPerformed script top self.old (Ok done) }
+            × HasPerformed script (caller_activity caller) self.old (Ok done) }
         ensures does { (script : AnyScript) (w : World) (command : AnyCommand) (before : Store) (was : AnyPolicy)
-            → IsPerformed script top self.old w command before was (Ok done) → DoesAny script w command self.new result }
+            → IsPerformed script (caller_activity caller) self.old w command before was (Ok done)
+            → RunsTo script w command (caller_activity caller) self.new result }
         ensures keeps { Keeps self.old self.new }
     {
         match done {
-            Done::Changed { line, given_up } => self.change(top, line, given_up),
-            Done::Calls(function) => self.call(top, function),
-            Done::Collects(generation) => self.collect_if_idle(top, generation),
-            Done::Quits => self.quit(top),
-            Done::Tells(lines) => self.tell(top, lines),
+            Done::Changed { line, given_up } => self.change(caller, line, given_up),
+            Done::Calls(function) => Some(self.call(caller, function)),
+            Done::Collects(generation) => Some(self.collect_if_idle(caller, generation)),
+            Done::Quits => Some(self.quit(caller)),
+            Done::Tells(lines) => Some(self.tell(caller, lines)),
         }
     }
 
     /// A command was refused, which also ends the frame that it stood in.
-    fn refuse(&mut self, top: Activity, number: u8) -> Turned
-        requires caller { IsCaller top }
+    fn refuse(&mut self, caller: Caller, number: u8) -> Turned
         requires room { 0 < self.old.room }
-        ensures refuses { (script : AnyScript) (w : World) → StandsFor script (under top self.old) w
+        ensures refuses { (script : AnyScript) (w : World) → StandsFor script (under (caller_activity caller) self.old) w
             → Makes script (refused number w) self.new result }
         ensures keeps { Keeps self.old self.new }
     {
-        self.stack.push(stopped_frame(top));
+        self.stack.push(caller.stopped_frame().activity());
         Turned::Line(Event::Refused(number))
     }
 
-    /// A command changed what it had to, and references are to be given up.
+    /// A command changed what it had to, and references are given up. The death of an object that nothing holds any more
+    /// begins.
     #[inline(always)]
-    fn change(&mut self, top: Activity, line: Option<Event>, given_up: Entry) -> Turned
-        requires room { 1 < self.old.room }
-        ensures changes { (script : AnyScript) (after : World) → Changes script top self.old given_up after
-            → Makes script (transition_of_change (option_to_list line) given_up after) self.new result }
+    fn change(&mut self, caller: Caller, line: Option<Event>, given_up: Entry) -> Option<Turned>
+        requires room { 2 < self.old.room }
+        requires stands { (script : AnyScript) × (after : World) × Changes script (caller_activity caller) self.old given_up after
+            × StaysSound script (releasing given_up after) }
+        ensures gives_up { (script : AnyScript) (after : World) → Changes script (caller_activity caller) self.old given_up after
+            → StaysSound script (releasing given_up after)
+            → GivesUp script (releasing given_up after) (caller_activity caller) self.new line result }
         ensures keeps { Keeps self.old self.new }
     {
-        self.stack.push(top);
-        self.stack.push(Activity::Releasing(Release::new(given_up)));
+        let mut release = Release::new(given_up);
+        match give_up(&mut self.heap, &mut release) {
+            Some(object) => {
+                self.stack.push(caller.activity());
+                self.die_in(release, object);
+                Some(told(line))
+            }
+            None => self.tell_line(caller, line),
+        }
+    }
+
+    /// A line ends the turn, if one is due. Then the caller is put back.
+    #[inline(always)]
+    fn tell_line(&mut self, caller: Caller, line: Option<Event>) -> Option<Turned>
+        requires room { 0 < self.old.room }
+        ensures tells { (script : AnyScript) (w : World) → ComesTo script w (under (caller_activity caller) self.old)
+            → GivesUp script w (caller_activity caller) self.new line result }
+        ensures keeps { Keeps self.old self.new }
+    {
         match line {
-            Some(event) => Turned::Line(event),
-            None => Turned::Quiet,
+            Some(event) => {
+                self.stack.push(caller.activity());
+                Some(Turned::Line(event))
+            }
+            None => None,
         }
     }
 
     /// A command tells lines. Nothing is to be given up.
-    #[inline(always)]
-    fn tell(&mut self, top: Activity, lines: Lines) -> Turned
+    fn tell(&mut self, caller: Caller, lines: Lines) -> Turned
         requires room { 1 < self.old.room }
-        ensures tells { (script : AnyScript) (after : World) → Changes script top self.old (item val_of.None) after
+        ensures tells { (script : AnyScript) (after : World) → Changes script (caller_activity caller) self.old (item val_of.None) after
             → Makes script (transition_of_change lines (item val_of.None) after) self.new result }
         ensures keeps { Keeps self.old self.new }
     {
-        self.stack.push(top);
+        self.stack.push(caller.activity());
         self.stack.push(Activity::Releasing(nothing()));
         Turned::Lines(lines)
     }
 
     /// A command ends the frame that it stands in, or the script.
-    fn quit(&mut self, top: Activity) -> Turned
-        requires caller { IsCaller top }
+    fn quit(&mut self, caller: Caller) -> Turned
         requires room { 0 < self.old.room }
-        ensures quits { (script : AnyScript) (w : World) → StandsFor script (under top self.old) w
+        ensures quits { (script : AnyScript) (w : World) → StandsFor script (under (caller_activity caller) self.old) w
             → Makes script ([], with_stack (without_commands w.stack) w) self.new result }
         ensures keeps { Keeps self.old self.new }
     {
-        self.stack.push(stopped(top));
+        self.stack.push(caller.stopped().activity());
         Turned::Quiet
     }
 
     /// A command calls a function.
-    fn call(&mut self, top: Activity, function: u64) -> Turned
+    fn call(&mut self, caller: Caller, function: u64) -> Turned
         requires few { HasFewHolds self.old.store }
         requires live { IsLive self.old.store function }
         requires room { 1 < self.old.room }
-        ensures calls { (script : AnyScript) (w : World) → StandsFor script (under top self.old) w
+        ensures calls { (script : AnyScript) (w : World) → StandsFor script (under (caller_activity caller) self.old) w
             → Makes script (start_frame script (call_of function w) w) self.new result }
         ensures keeps { Keeps self.old self.new }
     {
         let proc = procedure_of(&self.heap, function);
-        self.stack.push(top);
+        self.stack.push(caller.activity());
         self.start(FrameSpec {
             sort: FrameSort::Call,
             proc,
@@ -139,23 +164,33 @@ impl<B: Kind> Engine<B> {
     }
 
     /// Starts the collection that a command asks for. Where one is running, none starts, and the answer is 0.
-    fn collect_if_idle(&mut self, top: Activity, generation: u8) -> Turned
+    fn collect_if_idle(&mut self, caller: Caller, generation: u8) -> Turned
         requires generation { generation ≤ 2 }
         requires room { 2 < self.old.room }
         requires stands { (script : AnyScript) × IsSpelled script × IsFit script self.old
-            × (command : AnyCommand) × (w : World) × StandsFor script (under top self.old) w
+            × (command : AnyCommand) × (w : World) × StandsFor script (under (caller_activity caller) self.old) w
             × (effect w command ≡ Ok (Collects generation)) × StaysKeptAfter script self.old.frames w command }
-        ensures does { (script : AnyScript) (command : AnyCommand) (w : World) → StandsFor script (under top self.old) w
+        ensures does { (script : AnyScript) (command : AnyCommand) (w : World) → StandsFor script (under (caller_activity caller) self.old) w
             → effect w command ≡ Ok (Collects generation) → DoesAny script w command self.new result }
         ensures keeps { Keeps self.old self.new }
     {
         if self.policy.running() {
-            self.stack.push(top);
+            self.stack.push(caller.activity());
             Turned::Line(Event::Collected(0))
         } else {
-            self.collect(top, true, generation);
+            self.collect(caller.activity(), true, generation);
             Turned::Quiet
         }
+    }
+}
+
+/// What is answered with this line due, or none.
+fn told(line: Option<Event>) -> Turned
+    ensures { result ≡ told line }
+{
+    match line {
+        Some(event) => Turned::Line(event),
+        None => Turned::Quiet,
     }
 }
 
@@ -175,32 +210,4 @@ fn procedure_of<B: Kind>(heap: &Heap<B>, function: u64) -> u32
     ensures { (w : World) → Represents heap.now w → procedure_of w function ≡ result }
 {
     heap.class_of(function).unwrap_or(0)
-}
-
-/// An activity that has no command left, if it is a frame.
-fn stopped_frame(activity: Activity) -> Activity
-    ensures { result ≡ without_rest_in_frame activity }
-{
-    match activity {
-        Activity::Frame {
-            locals,
-            procedure,
-            ..
-        } => Activity::Frame {
-            locals,
-            procedure,
-            next: None,
-        },
-        other => other,
-    }
-}
-
-/// An activity that has no command left.
-fn stopped(activity: Activity) -> Activity
-    ensures { result ≡ without_rest activity }
-{
-    match activity {
-        Activity::Script { .. } => Activity::Script { next: None },
-        other => stopped_frame(other),
-    }
 }

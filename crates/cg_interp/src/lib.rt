@@ -2,6 +2,7 @@
 #![tactic(auto)]
 
 mod activity;
+mod caller;
 mod callers;
 mod collecting;
 mod commands;

@@ -1,54 +1,27 @@
 //! A release on top.
-ghost use Rattle.std.specs.Prelude.{◌≡◌, ◌<◌, ◌≤◌, ◌+◌, IfSome};
+ghost use Rattle.std.specs.Prelude.{◌≡◌, ◌<◌, IfSome};
 ghost use Rattle.cg_script.specs.declared.Script.{Script as AnyScript};
 ghost use Rattle.cg_machine.specs.World.{World};
-ghost use Rattle.cg_death.specs.Activities.{references_left, HasHolds, IsUnheld};
+ghost use Rattle.cg_machine.specs.Frame.{begin_death};
+ghost use Rattle.cg_death.specs.Activities.{IsUnheld};
+ghost use Rattle.cg_death.specs.Answers.{MakesNone};
 ghost use Rattle.cg_interp.specs.declared.activity.Activity.TheVariants as activity_of;
-ghost use Rattle.cg_interp.specs.Engines.{StandsFor, under};
-ghost use Rattle.cg_interp.specs.Turns.{Releases, Turns, DyingIsSound, StaysSound, Keeps};
+ghost use Rattle.cg_interp.specs.Engines.{State, StandsFor, under, over};
+ghost use Rattle.cg_interp.specs.Quietly.{Released};
+ghost use Rattle.cg_interp.specs.Turns.{Turns, DyingIsSound, StaysSound, Keeps};
 
 use crate::activity::Activity;
 use crate::engine::Engine;
 use crate::turned::Turned;
 use cg_death::{DeathStep, Release};
+use cg_heap::Heap;
 use cg_kind::Kind;
 
 impl<B: Kind> Engine<B> {
-    /// Gives up the next reference of a release, which was on top. It answers the object whose death is to begin, if
-    /// there is one.
-    #[inline(always)]
-    pub fn release(&mut self, release: Release) -> Option<u64>
-        requires holds { HasHolds self.old.store (references_left release) }
-        requires room { 0 < self.old.room }
-        requires stands { (script : AnyScript) × (w : World)
-            × StandsFor script (under (activity_of.Releasing release) self.old) w × DyingIsSound w }
-        ensures releases { (script : AnyScript) (w : World) → StandsFor script (under (activity_of.Releasing release) self.old) w
-            → DyingIsSound w → Releases script w self.new result }
-
-        ensures unheld { IfSome result (λ o. IsUnheld self.new.store o) }
-        ensures room { self.old.room ≤ self.new.room + 1 }
-        ensures keeps { Keeps self.old self.new }
-    {
-        let mut release = release;
-        match release.step(&mut self.heap) {
-            DeathStep::Continue => {
-                self.stack.push(Activity::Releasing(release));
-                None
-            }
-            DeathStep::Died(object) => {
-                self.stack.push(Activity::Releasing(release));
-                Some(object)
-            }
-            DeathStep::Gone => None,
-            _ => unreachable!(),
-        }
-    }
-
-    /// Goes on with a release, which was on top: it gives up its next reference, and the object's death begins where
-    /// nothing holds it any more.
+    /// Goes on with a release, which was on top: its references are given up, up to one whose object nothing holds any more.
+    /// The death of that one begins.
     #[inline(always)]
     pub fn go_on_releasing(&mut self, release: Release) -> Turned
-        requires holds { HasHolds self.old.store (references_left release) }
         requires room { 1 < self.old.room }
         requires stands { (script : AnyScript) × (w : World)
             × StandsFor script (under (activity_of.Releasing release) self.old) w × StaysSound script w }
@@ -56,12 +29,48 @@ impl<B: Kind> Engine<B> {
             → StaysSound script w → Turns script w self.new result }
         ensures keeps { Keeps self.old self.new }
     {
-        match self.release(release) {
+        let mut release = release;
+        match give_up(&mut self.heap, &mut release) {
             Some(object) => {
-                self.die(object);
+                self.die_in(release, object);
                 Turned::Quiet
             }
             None => Turned::Quiet,
+        }
+    }
+
+    /// The death of an object begins that a release hands out, which was on top.
+    pub fn die_in(&mut self, release: Release, object: u64)
+        requires unheld { IsUnheld self.old.store object }
+        requires room { 1 < self.old.room }
+        requires stands { (script : AnyScript) × (w : World)
+            × StandsFor script (under (activity_of.Releasing release) self.old) w × DyingIsSound (begin_death object w) }
+        ensures begins { (script : AnyScript) (w : World) → StandsFor script (under (activity_of.Releasing release) self.old) w
+            → StandsFor script self.new (begin_death object w) }
+        ensures keeps { Keeps self.old self.new }
+    {
+        self.stack.push(Activity::Releasing(release));
+        self.die(object);
+    }
+}
+
+/// Gives up the references of a release one after the other, up to one whose object nothing holds any more. It answers that
+/// object, if there is one: its death is to begin.
+pub fn give_up<B: Kind>(heap: &mut Heap<B>, release: &mut Release) -> Option<u64>
+    requires stands { (script : AnyScript) × (e : State) × (w : World)
+        × StandsFor script (under (activity_of.Releasing release.old) (over heap.old e)) w × StaysSound script w }
+    ensures releases { (script : AnyScript) (e : State) (w : World)
+        → StandsFor script (under (activity_of.Releasing release.old) (over heap.old e)) w → StaysSound script w
+        → Released script w (over heap.new e) release.new result }
+    ensures unheld { IfSome result (λ o. IsUnheld heap.new o) }
+    ensures objects { MakesNone heap.old heap.new }
+{
+    'references: loop {
+        match release.step(heap) {
+            DeathStep::Continue => {}
+            DeathStep::Died(object) => return Some(object),
+            DeathStep::Gone => return None,
+            _ => unreachable!(),
         }
     }
 }

@@ -9,9 +9,7 @@ ghost use Rattle.cg_interp.specs.Telling.{IsAtTurn, TurnsFrom, IsAtAnyTurn, Turn
 
 use crate::activity::Activity;
 use crate::engine::Engine;
-use crate::next::body_of;
 use crate::turned::{Dies, Turned};
-use cg_commands::Locals;
 use cg_death::{Death, Release};
 use cg_heap::Steps;
 use cg_kind::Kind;
@@ -45,12 +43,12 @@ impl<B: Kind> Engine<B> {
         ensures frames { self.new.frames ≡ self.old.frames }
     {
         match top {
-            Activity::Script { next } => self.turn_of_script(script, next),
+            Activity::Script { next } => self.go_on(script, next),
             Activity::Frame {
                 locals,
                 procedure,
                 next,
-            } => self.turn_of_frame(script, locals, procedure, next),
+            } => self.go_on_in(script, locals, procedure, next),
             Activity::Releasing(release) => self.turn_of_release(release),
             Activity::Shutdown { started } => self.turn_of_shutdown(started),
             Activity::Dying(death) => self.turn_of_death(script, death),
@@ -58,41 +56,6 @@ impl<B: Kind> Engine<B> {
                 self.turn_of_collection(asked, collection, script, steps)
             }
         }
-    }
-
-    /// A turn of the script, which was on top.
-    #[inline(always)]
-    fn turn_of_script(&mut self, script: &Script, next: Option<usize>) -> Turned
-        requires spelled { IsSpelled script.now }
-        requires fit { IsFit script.now self.old }
-        requires stands { IsAtTurn script.now (activity_of.Script next) self.old }
-        ensures turns { TurnsFrom script.now (activity_of.Script next) self.old self.new result }
-        ensures fit { IsFit script.now self.new }
-        ensures frames { self.new.frames ≡ self.old.frames }
-    {
-        self.heap.sound();
-        self.go_on(script, next)
-    }
-
-    /// A turn of a frame, which was on top.
-    #[inline(always)]
-    fn turn_of_frame(
-        &mut self,
-        script: &Script,
-        locals: Locals,
-        procedure: u32,
-        next: Option<usize>,
-    ) -> Turned
-        requires spelled { IsSpelled script.now }
-        requires fit { IsFit script.now self.old }
-        requires stands { IsAtTurn script.now (activity_of.Frame locals procedure next) self.old }
-        ensures turns { TurnsFrom script.now (activity_of.Frame locals procedure next) self.old
-            self.new result }
-        ensures fit { IsFit script.now self.new }
-        ensures frames { self.new.frames ≡ self.old.frames }
-    {
-        self.heap.sound();
-        self.go_on_in(body_of(script, procedure), locals, procedure, next)
     }
 
     /// A turn of a release, which was on top.

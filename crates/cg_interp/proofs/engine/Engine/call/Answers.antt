@@ -1,8 +1,9 @@
-use Rattle.std.proofs.Common.{sym, subst, Some, refl}
+use Rattle.std.proofs.Common.{sym, subst, ap, ◌∙◌, ◌∷◌, Some, refl}
 use Rattle.cg_machine.specs.declared.event.FrameSort.TheVariants as sort_of
 use Rattle.cg_machine.specs.Frame.{start_frame}
 use Rattle.cg_machine.specs.Represents.{Represents}
 use Rattle.cg_interp.specs.Engines.{StandsFor, under}
+use Rattle.cg_interp.specs.Callers.{caller_activity}
 use Rattle.cg_interp.specs.Turns.{Makes}
 use Rattle.cg_interp.proofs.CallerLemmas.{same_engine}
 use Rattle.cg_interp.proofs.engine.Engine.call.Goals as goal
@@ -12,4 +13,4 @@ returns-clause-calls g c =
     λ script w stands.
     subst (λ p. Makes script (start_frame script (record { sort = sort_of.Call; proc = p; subject = c.args.function; func = Some c.args.function }) w) c.start.new.self c.start.result)
     (sym (c.procedure_of-proc.ensures w (subst (λ e. Represents e.store w) (sym c.self.view_is) stands.represents)))
-    (c.start.ensures.starts script w (same_engine script _ _ w (subst (λ e. StandsFor script (under c.args.top e) w) (sym c.self.view_is) stands) refl refl c.push.ensures.top refl))
+    (c.start.ensures.starts script w (same_engine script _ _ w (subst (λ e. StandsFor script (under (caller_activity c.args.caller) e) w) (sym c.self.view_is) stands) refl refl (c.push.ensures.top ∙ ap (λ a. a ∷ c.self.inside.stack.activities) c.activity.ensures) refl))

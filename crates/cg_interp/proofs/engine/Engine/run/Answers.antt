@@ -1,29 +1,33 @@
 use Rattle.std.proofs.Common.{sym, ap, subst, ◌∷◌}
 use Rattle.cg_interp.specs.Engines.{under}
-use Rattle.cg_interp.specs.Callers.{StaysKeptAfter}
+use Rattle.cg_interp.specs.Callers.{caller_activity, StaysKeptAfter}
 use Rattle.cg_interp.proofs.CallerLemmas.{same_engine}
 use Rattle.cg_interp.proofs.Keeping.{still_fits}
 use Rattle.cg_interp.proofs.engine.Engine.run.Goals as goal
 
 pub carry_out-requires-clause-stands : goal.carry_out-requires-clause-stands
 carry_out-requires-clause-stands g c =
-    let (script, spelled, fit, w, stands, locals, kept) = c.requires.stands in
+    let (script, spelled, fit, w, at) = c.requires.stands in
     let room = c.make_room-room.ensures in (
       script,
       spelled,
       still_fits script c.args.self.now c.make_room-room.new.self room.store room.activities room.frames room.more fit,
       w,
-      same_engine script (under c.args.top c.args.self.now) (under c.args.top c.make_room-room.new.self) w stands room.store room.policy (ap (λ l. c.args.top ∷ l) room.activities) room.budget,
-      locals,
-      subst (λ n. StaysKeptAfter script n w c.args.command.now) (sym room.frames) kept,
+      record {
+        stands = same_engine script (under (caller_activity c.args.caller) c.args.self.now) (under (caller_activity c.args.caller) c.make_room-room.new.self) w at.stands room.store room.policy (ap (λ l. caller_activity c.args.caller ∷ l) room.activities) room.budget;
+        locals = at.locals;
+        kept = subst (λ n. StaysKeptAfter script n w c.args.command.now) (sym room.frames) at.kept;
+      },
     )
 
 pub returns-clause-does : goal.returns-clause-does
-returns-clause-does g c = λ script w stands locals kept.
+returns-clause-does g c = λ script w at.
     let room = c.make_room-room.ensures in
-    c.carry_out.ensures.does script w
-    (same_engine script (under c.args.top c.args.self.now) (under c.args.top c.make_room-room.new.self) w stands room.store room.policy (ap (λ l. c.args.top ∷ l) room.activities) room.budget)
-    locals (subst (λ n. StaysKeptAfter script n w c.args.command.now) (sym room.frames) kept)
+    c.carry_out.ensures.does script w (record {
+      stands = same_engine script (under (caller_activity c.args.caller) c.args.self.now) (under (caller_activity c.args.caller) c.make_room-room.new.self) w at.stands room.store room.policy (ap (λ l. caller_activity c.args.caller ∷ l) room.activities) room.budget;
+      locals = at.locals;
+      kept = subst (λ n. StaysKeptAfter script n w c.args.command.now) (sym room.frames) at.kept;
+    })
 
 pub returns-clause-fit : goal.returns-clause-fit
 returns-clause-fit g c = λ script fit.

@@ -7,13 +7,13 @@ use Rattle.cg_interp.proofs.engine.Engine.turn_of.Goals as goal
 
 pub returns-in-Script-clause-turns : goal.returns-in-Script-clause-turns
 returns-in-Script-clause-turns g c =
-    subst (λ top. TurnsAny c.args.script.now (under top c.args.self.now) c.turn_of_script.new.self c.turn_of_script.result) (sym c.in-Script.is)
-    (turns_any c.args.script.now (activity_of.Script c.in-Script.next) c.args.self.now c.turn_of_script.new.self c.turn_of_script.result refl c.turn_of_script.ensures.turns)
+    subst (λ top. TurnsAny c.args.script.now (under top c.args.self.now) c.go_on.new.self c.go_on.result) (sym c.in-Script.is)
+    (turns_any c.args.script.now (activity_of.Script c.in-Script.next) c.args.self.now c.go_on.new.self c.go_on.result refl c.go_on.ensures.turns)
 
 pub returns-in-Frame-clause-turns : goal.returns-in-Frame-clause-turns
 returns-in-Frame-clause-turns g c =
-    subst (λ top. TurnsAny c.args.script.now (under top c.args.self.now) c.turn_of_frame.new.self c.turn_of_frame.result) (sym c.in-Frame.is)
-    (turns_any c.args.script.now (activity_of.Frame c.in-Frame.locals c.in-Frame.procedure c.in-Frame.next) c.args.self.now c.turn_of_frame.new.self c.turn_of_frame.result refl c.turn_of_frame.ensures.turns)
+    subst (λ top. TurnsAny c.args.script.now (under top c.args.self.now) c.go_on_in.new.self c.go_on_in.result) (sym c.in-Frame.is)
+    (turns_any c.args.script.now (activity_of.Frame c.in-Frame.locals c.in-Frame.procedure c.in-Frame.next) c.args.self.now c.go_on_in.new.self c.go_on_in.result refl c.go_on_in.ensures.turns)
 
 pub returns-in-Releasing-clause-turns : goal.returns-in-Releasing-clause-turns
 returns-in-Releasing-clause-turns g c =

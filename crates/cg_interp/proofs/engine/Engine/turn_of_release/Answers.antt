@@ -1,13 +1,9 @@
 use Rattle.std.proofs.Common.{arith, []}
 use Rattle.cg_interp.proofs.Lawfully.{has_room, stays_sound}
-use Rattle.cg_interp.proofs.ArmLemmas.{release_held}
 use Rattle.cg_interp.proofs.Keeping.{still_fit}
 use Rattle.cg_interp.proofs.Telling.{turns_plainly}
 use Rattle.cg_interp.specs.declared.activity.Activity.TheVariants as activity_of
 use Rattle.cg_interp.proofs.engine.Engine.turn_of_release.Goals as goal
-
-pub go_on_releasing-requires-clause-holds : goal.go_on_releasing-requires-clause-holds
-go_on_releasing-requires-clause-holds g c = let s = c.requires.stands in release_held s.0 c.args.self.now c.args.release s.2.0 s.2.1
 
 pub go_on_releasing-requires-clause-room : goal.go_on_releasing-requires-clause-room
 go_on_releasing-requires-clause-room g c =

@@ -1,0 +1,18 @@
+use Rattle.std.proofs.Common.{◌≡◌, length}
+use Rattle.cg_machine.specs.Program.{commands_of}
+use Rattle.cg_interp.specs.declared.activity.Activity.TheVariants as activity_of
+use Rattle.cg_interp.specs.Engines.{commands_from}
+use Rattle.cg_interp.specs.Turns.{IsFit}
+use Rattle.cg_interp.specs.Quietly.{ComesFrom}
+use Rattle.cg_interp.proofs.engine.Engine.go_on.Given as goal
+
+-- the commands so far were done quietly, and the next one has the turn
+abbrev pub invariant-commands : goal.invariant-commands
+invariant-commands g l = record {
+  comes : ComesFrom l.script (activity_of.Script l.fn.next) l.fn.self (activity_of.Script l.next) l.self;
+  fit : IsFit l.script l.self;
+  frames : l.self.frames ≡ l.fn.self.frames;
+}
+
+abbrev pub decreases-commands : goal.decreases-commands
+decreases-commands g l = length (commands_from l.next (commands_of l.script.items))

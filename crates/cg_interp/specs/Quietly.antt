@@ -1,0 +1,36 @@
+-- What the machine does without a line and without a detection, so that a turn may go on with the next step. (Ours.)
+use Rattle.std.specs.Prelude.{◌≡◌, ℕ, List, [], Option, None, Some}
+use Rattle.cg_script.specs.declared.Script.{Script}
+use Rattle.cg_machine.specs.World.{World}
+use Rattle.cg_machine.specs.Run.{StepTaken, Run, events_of, last_world}
+use Rattle.cg_machine.specs.Represents.{MakesNoDetection}
+use Rattle.cg_laws.specs.Kept.{StaysKept}
+use Rattle.cg_death.specs.declared.release.Release.{Release}
+use Rattle.cg_interp.specs.declared.activity.Activity.{Activity}
+use Rattle.cg_interp.specs.declared.activity.Activity.TheVariants as activity
+use Rattle.cg_interp.specs.Engines.{State, StandsFor, under}
+use Rattle.cg_interp.specs.Turns.{GoesTo, GivesDeath}
+
+-- The machine goes from one world to another in some steps, perhaps none. It prints no line and makes no detection.
+pub record GoesQuietly (script : Script) (w after : World) : Type 0 where
+  pub steps : List StepTaken
+  pub run : Run script w steps
+  pub silent : events_of steps ≡ []
+  pub ends : last_world w steps ≡ after
+  pub none : MakesNoDetection w steps
+
+-- So it comes to a world for which the engine stands.
+pub record ComesTo (script : Script) (w : World) (e : State) : Type 0 where
+  pub after : World
+  pub goes : GoesQuietly script w after
+  pub stands : StandsFor script e after
+
+-- From each world of a run for which an engine stood with one activity on top it comes to one for which an engine stands
+-- with another.
+abbrev pub ComesFrom : Script → Activity → State → Activity → State → Type 0
+ComesFrom script top old top_now new = (w : World) → StandsFor script (under top old) w → StaysKept script old.frames w → ComesTo script w (under top_now new)
+
+-- What becomes of a release: all its references are given up, or it hands out an object whose death is to begin.
+abbrev pub Released : Script → World → State → Release → Option ℕ → Type 0
+Released script w e release None = GoesTo script w [] e
+Released script w e release (Some o) = GivesDeath script w o (under (activity.Releasing release) e)
