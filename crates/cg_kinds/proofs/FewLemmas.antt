@@ -1,13 +1,11 @@
--- Entries in two parts: a few, which are searched in turn, and more behind them.
-use Rattle.std.proofs.Common.{◌≡◌, ◌≢◌, ℕ, ◌+◌, ◌-◌, ◌<◌, ◌≤◌, Bool, true, false, List, [], ◌∷◌, ◌++◌, Option, Some, None, cond, refl, sym, ap, ◌∙◌, subst, length, drop, get_or, set, arith, length-append, option_map, IsSome, IfSome, take}
-use Rattle.std.specs.Prelude.{position}
+-- Entries that are searched one after the other: what a search finds, and what a put leaves.
+use Rattle.std.proofs.Common.{◌≡◌, ℕ, ◌+◌, ◌-◌, ◌<◌, ◌≤◌, Bool, true, false, List, [], ◌∷◌, ◌++◌, Some, None, cond, refl, sym, ap, ◌∙◌, subst, length, drop, get_or, set, arith, length-append}
 use Rattle.std.specs.List.{position_from}
-use Rattle.std.proofs.lemmas.Iterator.Adapters.{position_from-zero}
-use Rattle.std.proofs.lemmas.List.{drop_more, append_assoc}
-use Rattle.std.proofs.Math.Seq.{set-append_seam, get_or-append_seam, take-append_seam}
+use Rattle.std.proofs.lemmas.List.{drop_more, append-nil}
+use Rattle.std.proofs.Math.Seq.{set-append_seam, get_or-append_seam}
 use Rattle.cg_value.specs.declared.Val.{Val}
 use Rattle.cg_value.specs.declared.Entry.{Entry}
-use Rattle.cg_graph.specs.Value.{same_value, value_at, put, without_last}
+use Rattle.cg_graph.specs.Value.{same_value, value_at, put}
 use Rattle.cg_kind.specs.Calls.{has_key}
 
 module _ (key : Val) where
@@ -73,50 +71,7 @@ module _ (key : Val) where
             },
           )
 
-  -- what the entries before say of the whole: a key that they have stands there
-  pub front_position : (i : ℕ) (xs ys : List Entry) (k : ℕ) → position_from (has_key key) i xs ≡ Some k → position_from (has_key key) i (xs ++ ys) ≡ Some k
-  front_position i [] ys k some = absurd (cc)
-  front_position i (e ∷ xs) ys k some = by (same_value e.key key) some (front_position (i + 1) xs ys k)
-    where
-      by : (b : Bool) → cond b (Some i) (position_from (has_key key) (i + 1) xs) ≡ Some k → (position_from (has_key key) (i + 1) xs ≡ Some k → position_from (has_key key) (i + 1) (xs ++ ys) ≡ Some k) → cond b (Some i) (position_from (has_key key) (i + 1) (xs ++ ys)) ≡ Some k
-      by true h again = h
-      by false h again = again h
-
-  -- and one that they have not stands behind them, if anywhere
-  pub back_position : (i : ℕ) (xs ys : List Entry) → position_from (has_key key) i xs ≡ None → position_from (has_key key) i (xs ++ ys) ≡ position_from (has_key key) (length xs + i) ys
-  back_position i [] ys none = let n : i ≡ 0 + i = omega arith in ap (λ m. position_from (has_key key) m ys) n
-  back_position i (e ∷ xs) ys none = by (same_value e.key key) none (back_position (i + 1) xs ys)
-    where
-      by : (b : Bool) → cond b (Some i) (position_from (has_key key) (i + 1) xs) ≡ None → (position_from (has_key key) (i + 1) xs ≡ None → position_from (has_key key) (i + 1) (xs ++ ys) ≡ position_from (has_key key) (length xs + (i + 1)) ys) → cond b (Some i) (position_from (has_key key) (i + 1) (xs ++ ys)) ≡ position_from (has_key key) (length (e ∷ xs) + i) ys
-      by true h again = absurd (cc)
-      by false h again =
-          let n : length xs + (i + 1) ≡ length (e ∷ xs) + i = omega arith in
-          again h ∙ ap (λ m. position_from (has_key key) m ys) n
-
-  pub front_value : (xs ys : List Entry) → IsSome (value_at xs key) → value_at (xs ++ ys) key ≡ value_at xs key
-  front_value [] ys some = absurd (cc)
-  front_value (e ∷ xs) ys some = by (same_value e.key key) some (front_value xs ys)
-    where
-      by : (b : Bool) → IsSome (cond b (Some e.val) (value_at xs key)) → (IsSome (value_at xs key) → value_at (xs ++ ys) key ≡ value_at xs key) → cond b (Some e.val) (value_at (xs ++ ys) key) ≡ cond b (Some e.val) (value_at xs key)
-      by true h again = refl
-      by false h again = again h
-
-  pub back_value : (xs ys : List Entry) → value_at xs key ≡ None → value_at (xs ++ ys) key ≡ value_at ys key
-  back_value [] ys none = refl
-  back_value (e ∷ xs) ys none = by (same_value e.key key) none (back_value xs ys)
-    where
-      by : (b : Bool) → cond b (Some e.val) (value_at xs key) ≡ None → (value_at xs key ≡ None → value_at (xs ++ ys) key ≡ value_at ys key) → cond b (Some e.val) (value_at (xs ++ ys) key) ≡ value_at ys key
-      by true h again = absurd (cc)
-      by false h again = again h
-
-  pub front_put : (val : Val) (xs ys : List Entry) → IsSome (value_at xs key) → put (xs ++ ys) key val ≡ put xs key val ++ ys
-  front_put val [] ys some = absurd (cc)
-  front_put val (e ∷ xs) ys some = by (same_value e.key key) some (front_put val xs ys)
-    where
-      by : (b : Bool) → IsSome (cond b (Some e.val) (value_at xs key)) → (IsSome (value_at xs key) → put (xs ++ ys) key val ≡ put xs key val ++ ys) → cond b (record { key = e.key; val = val } ∷ xs ++ ys) (e ∷ put (xs ++ ys) key val) ≡ cond b (record { key = e.key; val = val } ∷ xs) (e ∷ put xs key val) ++ ys
-      by true h again = refl
-      by false h again = ap (λ l. e ∷ l) (again h)
-
+  -- a put among entries that have not the key is one behind them
   pub back_put : (val : Val) (xs ys : List Entry) → value_at xs key ≡ None → put (xs ++ ys) key val ≡ xs ++ put ys key val
   back_put val [] ys none = refl
   back_put val (e ∷ xs) ys none = by (same_value e.key key) none (back_put val xs ys)
@@ -148,58 +103,6 @@ module _ (key : Val) where
       ∙ set-append_seam f.front f.entry f.back (record { key = f.entry.key; val = val })
       ∙ sym (f.putting val)
 
-  -- a search that starts at a greater number answers one greater by as much
-  shifted : (n i : ℕ) (ys : List Entry) → position_from (has_key key) (n + i) ys ≡ option_map (λ j. n + j) (position_from (has_key key) i ys)
-  shifted n i [] = refl
-  shifted n i (e ∷ ys) = by (same_value e.key key) (shifted n (i + 1) ys)
-    where
-      by : (b : Bool) → position_from (has_key key) (n + (i + 1)) ys ≡ option_map (λ j. n + j) (position_from (has_key key) (i + 1) ys) → cond b (Some (n + i)) (position_from (has_key key) (n + i + 1) ys) ≡ option_map (λ j. n + j) (cond b (Some i) (position_from (has_key key) (i + 1) ys))
-      by true again = refl
-      by false again = let m : n + i + 1 ≡ n + (i + 1) = omega arith in ap (λ k. position_from (has_key key) k ys) m ∙ again
-
-  -- the place of a key that the few have
-  pub place_few : (xs ys : List Entry) (k : ℕ) → position_from (has_key key) 0 xs ≡ Some k → position (has_key key) (xs ++ ys) ≡ Some k
-  place_few xs ys k some = position_from-zero (has_key key) (xs ++ ys) ∙ front_position 0 xs ys k some
-
-  -- and of one that they have not
-  pub place_more : (xs ys : List Entry) → position_from (has_key key) 0 xs ≡ None → position (has_key key) (xs ++ ys) ≡ option_map (λ j. length xs + j) (position (has_key key) ys)
-  place_more xs ys none =
-      position_from-zero (has_key key) (xs ++ ys)
-      ∙ back_position 0 xs ys none
-      ∙ shifted (length xs) 0 ys
-      ∙ ap (option_map (λ j. length xs + j)) (sym (position_from-zero (has_key key) ys))
-
--- a position that was found lies within
-pub position_within : (t : Entry → Bool) (i k : ℕ) (es : List Entry) → position_from t i es ≡ Some k → k < i + length es
-position_within t i k [] some = absurd (cc)
-position_within t i k (e ∷ es) some = by (t e) some (position_within t (i + 1) k es)
-  where
-    by : (b : Bool) → cond b (Some i) (position_from t (i + 1) es) ≡ Some k → (position_from t (i + 1) es ≡ Some k → k < i + 1 + length es) → k < i + length (e ∷ es)
-    by true h again = let here : i ≡ k = cc in omega (arith, here)
-    by false h again = let rest = again h in omega (arith, rest)
-
-pub within_of : (t : Entry → Bool) (r : Option ℕ) (es : List Entry) (n : ℕ) → r ≡ position t es → n ≡ length es → IfSome r (λ i. i < n)
-within_of t None es n is count = tt
-within_of t (Some k) es n is count = let within = position_within t 0 k es (sym (position_from-zero t es) ∙ sym is) in omega (arith, within, count)
-
-pub empty_of : (es : List Entry) → length es ≡ 0 → es ≡ []
-empty_of [] none = refl
-empty_of (e ∷ es) none = absurd (omega (arith, none))
-
-pub some_of : (x : Val) (r : Option Val) → r ≡ Some x → IsSome r
-some_of x None is = absurd (cc)
-some_of x (Some y) is = refl
-
--- the last of more entries is the last of all
-pub last_behind : (xs ys zs : List Entry) (e : Entry) → ys ≡ zs ++ e ∷ [] → xs ++ ys ≡ without_last (xs ++ ys) ++ e ∷ []
-last_behind xs ys zs e is =
-    let whole : xs ++ ys ≡ (xs ++ zs) ++ e ∷ [] = ap (λ l. xs ++ l) is ∙ sym (append_assoc xs zs (e ∷ [])) in
-    let n : length (xs ++ ys) ≡ length ((xs ++ zs) ++ e ∷ []) = ap length whole in
-    let m : length (xs ++ ys) - 1 ≡ length (xs ++ zs) = omega (arith, n, length-append (xs ++ zs) (e ∷ [])) in
-    whole ∙ ap (λ l. l ++ e ∷ []) (sym (ap (λ k. take k (xs ++ ys)) m ∙ ap (take (length (xs ++ zs))) whole ∙ take-append_seam (xs ++ zs) (e ∷ [])))
-
-pub not_empty_behind : (xs ys zs : List Entry) (e : Entry) → ys ≡ zs ++ e ∷ [] → xs ++ ys ≡ [] → ⊥
-not_empty_behind xs ys zs e is none =
-    let a : length (xs ++ ys) ≡ 0 = ap length none in
-    let b : length ys ≡ length (zs ++ e ∷ []) = ap length is in
-    omega (arith, a, b, length-append xs ys, length-append zs (e ∷ []))
+-- a new key goes last
+pub put_new : (es : List Entry) (key val : Val) → value_at es key ≡ None → put es key val ≡ es ++ record { key = key; val = val } ∷ []
+put_new es key val none = ap (λ l. put l key val) (sym (append-nil es)) ∙ back_put key val es [] none

@@ -4,6 +4,7 @@ mod ItemLemmas
 mod PairLemmas
 mod TestLemmas
 mod FewLemmas
+mod KeysOnce
 mod SlotLemmas
 mod OrderLemmas
 mod TableLemmas

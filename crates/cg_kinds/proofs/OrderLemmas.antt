@@ -1,7 +1,7 @@
 -- What slots and homes say of each other, and what that leaves of the order once an index is taken or comes last.
-use Rattle.std.proofs.Common.{◌≡◌, ◌≢◌, ℕ, zero, suc, ◌+◌, ◌*◌, ◌-◌, ◌<◌, ◌≤◌, ◌/◌, ◌^◌, ◌==◌, List, [], ◌∷◌, ◌++◌, Option, Some, None, refl, sym, ap, ◌∙◌, subst, length, take, drop, get_or, set, map, arith, length-append, IsSome, inl, inr, cond, eqb, true, false, Bool, ◌⊎◌}
+use Rattle.std.proofs.Common.{◌≡◌, ◌≢◌, ℕ, zero, suc, ◌+◌, ◌*◌, ◌-◌, ◌<◌, ◌≤◌, ◌^◌, List, [], ◌∷◌, ◌++◌, Option, Some, None, refl, sym, ap, ◌∙◌, subst, length, take, get_or, set, map, arith, length-append, inl, inr, ◌⊎◌}
 use Rattle.std.specs.Prelude.{slice_get, remove, All}
-use Rattle.std.specs.List.{flat_map, filter, range_with_len}
+use Rattle.std.specs.List.{filter, range_with_len}
 use Rattle.std.proofs.lemmas.Option.{slice_get-get_or}
 use Rattle.std.specs.Option.{is_some}
 use Rattle.std.specs.Option.{option_to_list}
@@ -9,7 +9,7 @@ use Rattle.std.proofs.lemmas.Bool.{cases_lt, cases_eq}
 use Rattle.std.proofs.lemmas.Bool.Decides.{nat_tests}
 use Rattle.std.proofs.lemmas.List.{length-set, get_or-set_same, get_or-set_other, get_or_append_left, get_or_push, get_or_past, length_push, length-map, take-append-le}
 use Rattle.std.proofs.lemmas.Grind.{flat_map-append}
-use Rattle.cg_kinds.specs.Order.{indexes, pairs_before, renamed, AreHomes, AreStarts, AreClosed, HasPlace, IsSound}
+use Rattle.cg_kinds.specs.Order.{indexes, pairs_before, renamed, AreHomes, AreStarts, AreClosed, IsSound}
 use Rattle.cg_kinds.proofs.SlotLemmas.{pair_within, gap_later, before_all, few_pairs}
 
 some_is : (a b : ℕ) → Some a ≡ Some b → a ≡ b

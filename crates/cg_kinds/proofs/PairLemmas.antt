@@ -1,22 +1,15 @@
 -- The pairs of a map as the entries of a dictionary or an instance.
-use Rattle.std.proofs.Common.{◌≡◌, ℕ, ◌+◌, Bool, true, false, List, [], ◌∷◌, Some, cond, refl, sym, ap, ◌∙◌, subst, inl, inr, map}
+use Rattle.std.proofs.Common.{◌≡◌, ℕ, ◌+◌, Bool, true, false, List, [], ◌∷◌, Some, cond, refl, sym, ap, ◌∙◌, map}
 use Rattle.std.specs.Prelude.{position}
 use Rattle.std.specs.List.{position_from}
 use Rattle.std.specs.Map.{lookup, keys_of}
 use Rattle.std.proofs.lemmas.Iterator.Adapters.{position_from-zero}
 use Rattle.indexmap.specs.IndexMap.{insert_entry}
 use Rattle.cg_value.specs.declared.Val.{Val}
-use Rattle.cg_value.specs.declared.KindCode.{KindCode}
-use Rattle.cg_value.specs.declared.KindCode.TheVariants as code
 use Rattle.cg_graph.specs.Value.{same_value, value_at, put}
 use Rattle.cg_kind.specs.Calls.{has_key}
-use Rattle.cg_kinds.specs.Pairs.{IsKeyed, pair_entry}
+use Rattle.cg_kinds.specs.Pairs.{pair_entry}
 use Rattle.cg_kinds.proofs.KeyLemmas.{equal, equal-same_value}
-
--- what is true of dictionaries and of instances is true of a kind whose objects hold values under keys
-pub keyed_by : (kind : KindCode) → IsKeyed kind → (P : KindCode → Type 0) → P code.Dict → P code.Inst → P kind
-keyed_by kind (inl is) P dict inst = subst P (sym is) dict
-keyed_by kind (inr is) P dict inst = subst P (sym is) inst
 
 map-choice : {X Y : Type 0} (f : X → Y) (b : Bool) (xs ys : List X) → map f (cond b xs ys) ≡ cond b (map f xs) (map f ys)
 map-choice f true xs ys = refl

@@ -1,5 +1,5 @@
 -- Entries at the indexes of an order: what a search finds among them, and what a put or a take leaves.
-use Rattle.std.proofs.Common.{◌≡◌, ◌≢◌, ℕ, zero, suc, ◌+◌, ◌-◌, ◌<◌, ◌≤◌, Bool, true, false, List, [], ◌∷◌, ◌++◌, Option, Some, None, cond, refl, sym, ap, ◌∙◌, subst, length, take, get_or, set, map, arith, length-append, IsSome, inl, inr, true≢false, option_map, Result, Ok, Err, OnErr}
+use Rattle.std.proofs.Common.{◌≡◌, ℕ, zero, suc, ◌+◌, ◌-◌, ◌<◌, Bool, true, false, List, [], ◌∷◌, ◌++◌, Option, Some, None, cond, refl, sym, ap, ◌∙◌, length, take, get_or, set, map, arith, IsSome, inl, inr, true≢false, option_map, Result, Ok, Err, OnErr}
 use Rattle.std.specs.Prelude.{position, slice_get, remove, swap_remove, All}
 use Rattle.std.specs.List.{position_from, range_with_len, IsDistinct}
 use Rattle.std.specs.Map.{keys_of, lookup}
@@ -22,7 +22,7 @@ use Rattle.cg_kind.specs.Calls.{has_key}
 use Rattle.cg_kinds.specs.Order.{renamed, IsSound}
 use Rattle.cg_kinds.specs.Pairs.{pair_entry, pairs_of, nothing, picked, ordered, IsOrderOf, IsSoundOrder}
 use Rattle.cg_kinds.proofs.KeyLemmas.{equal, equal-same_value, same_is}
-use Rattle.cg_kinds.proofs.FewLemmas.{IsFound, found_first, found_entry, found_put, value_none, back_put}
+use Rattle.cg_kinds.proofs.FewLemmas.{found_first, found_entry, found_put, value_none, put_new}
 use Rattle.cg_kinds.proofs.OrderLemmas.{IsOther, renamed_other, renamed_last}
 
 -- where a test passes first
@@ -79,7 +79,7 @@ pub value_absent : (key : Val) (es : List Entry) → position (has_key key) es �
 value_absent key es none = value_none key 0 es (sym (position_from-zero (has_key key) es) ∙ none)
 
 pub put_absent : (key val : Val) (es : List Entry) → position (has_key key) es ≡ None → put es key val ≡ es ++ record { key = key; val = val } ∷ []
-put_absent key val es none = ap (λ l. put l key val) (sym (append-nil es)) ∙ back_put key val es [] (value_absent key es none)
+put_absent key val es none = put_new es key val (value_absent key es none)
 
 module _ (es : List Entry) (order : List ℕ) (within : All (λ index. index < length es) order) where
   index_within : (i : ℕ) → i < length order → get_or order i 0 < length es

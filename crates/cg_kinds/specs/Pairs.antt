@@ -1,13 +1,12 @@
--- The body of a dictionary or an instance. (Ours.)
-use Rattle.std.specs.Prelude.{◌≡◌, ◌⊎◌, ◌++◌, ◌<◌, ℕ, map, length, slice_index_or, List, [], Option, Some, None, Box}
-use Rattle.std.proofs.Common.{Global}
+-- The pairs of a dictionary or an instance, and how a map keeps them. (Ours.)
+use Rattle.std.specs.Prelude.{◌≡◌, ◌⊎◌, ℕ, map, length, slice_index_or, List, [], ◌∷◌, Option, Some, None}
 use Rattle.cg_value.specs.declared.Val.{Val}
 use Rattle.cg_value.specs.declared.Val.TheVariants as val
 use Rattle.cg_value.specs.declared.Entry.{Entry}
 use Rattle.cg_value.specs.declared.KindCode.{KindCode}
 use Rattle.cg_value.specs.declared.KindCode.TheVariants as code
+use Rattle.cg_graph.specs.Value.{value_at}
 use Rattle.cg_kinds.specs.Order.{IsSound}
-use Rattle.cg_kind.specs.Bodies.{Body, body_of}
 
 -- dictionaries and instances hold values under keys
 abbrev pub IsKeyed : KindCode → Type 0
@@ -43,11 +42,7 @@ abbrev pub IsSoundOrder : Option (List ℕ) → Type 0
 IsSoundOrder None = Unit {0}
 IsSoundOrder (Some order) = IsSound order
 
--- the pairs of a table that may be there
-abbrev pub entries_in : Option (Box (List Entry) Global) → List Entry
-entries_in None = []
-entries_in (Some b) = b.value
-
--- these few entries, and more behind them
-abbrev pub pairs_body : List Entry → List Entry → Body
-pairs_body few more = body_of (few ++ more) 0
+-- no two entries have one key
+abbrev pub AreKeysOnce : List Entry → Type 0
+AreKeysOnce [] = Unit {0}
+AreKeysOnce (e ∷ es) = (value_at es e.key ≡ None) × AreKeysOnce es

@@ -114,7 +114,7 @@ fn a_hundred_thousand_keys_come_and_go_in_turn(rt: HostRuntime) -> Result<(), Fa
 }
 
 /// Puts a value under a key of a plain list of entries.
-fn put_plainly(entries: &mut Vec<Entry>, key: Val, val: Val) -> Result<(), AllocError> {
+pub fn put_plainly(entries: &mut Vec<Entry>, key: Val, val: Val) -> Result<(), AllocError> {
     'entries: for i in 0..entries.len() {
         if entries[i].key == key {
             entries[i] = Entry { key, val };
@@ -157,7 +157,7 @@ fn step(
 }
 
 /// The next number at random.
-fn next(draw: u64) -> u64 {
+pub fn next(draw: u64) -> u64 {
     draw.wrapping_mul(6_364_136_223_846_793_005)
         .wrapping_add(1_442_695_040_888_963_407)
 }

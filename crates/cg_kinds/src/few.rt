@@ -1,11 +1,37 @@
 //! A few pairs, which are searched one after the other.
-ghost use Rattle.std.specs.Prelude.{◌≡◌, ◌++◌, ◌∷◌, [], Some, None, IfSome, OnSome, IfNone, OnOk, OnErr, option_map, slice_get, slice_set};
+ghost use Rattle.std.specs.Prelude.{◌≡◌, ◌<◌, ◌≤◌, ◌↔◌, ◌++◌, ◌∷◌, [], length, IsTrue, None, IfOk, IfNone, IsNone, OnOk, OnErr, OnSome, option_to_list, position, slice_get, remove};
 ghost use Rattle.std.specs.List.{position_from};
-ghost use Rattle.cg_graph.specs.Value.{same_value, value_at, put};
+ghost use Rattle.cg_graph.specs.Value.{value_at, put};
 ghost use Rattle.cg_kind.specs.Calls.{has_key};
+ghost use Rattle.cg_kinds.specs.Pairs.{AreKeysOnce};
 
+use crate::table::Table;
 use cg_value::{Entry, Val};
-use std::alloc::AllocError;
+use std::alloc::{AllocError, Global};
+use std::marker::Model;
+
+/// So many pairs are at most kept in a list.
+const FEW: usize = 8;
+
+/// Pairs in the order in which their keys came, no two with one key.
+///
+/// They take the room of those pairs, and nothing is hashed for them.
+#[derive(Drop)]
+pub struct Few {
+    pairs: Vec<Entry>,
+}
+
+impl Model for Few {
+    ghost use Rattle.std.specs.Prelude.{List};
+    ghost use Rattle.cg_value.specs.declared.Entry.{Entry};
+    ghost use Rattle.cg_kinds.specs.Pairs.{AreKeysOnce};
+
+    ghost Value = { List Entry };
+
+    ghost view = { λ f. f.pairs.items };
+
+    ghost invariant = { λ f. AreKeysOnce f.pairs.items };
+}
 
 /// Whether an entry has a key.
 #[tactic(auto, using(crate::proofs::KeyLemmas::equal_is))]
@@ -16,7 +42,7 @@ fn is_under(entry: Entry, key: Val) -> bool
 }
 
 /// The first place of a key.
-pub fn place_in(pairs: &[Entry], key: Val) -> Option<usize>
+fn place_in(pairs: &[Entry], key: Val) -> Option<usize>
     ensures { result ≡ position_from (has_key key) 0 pairs.now }
 {
     'pairs: for at in 0..pairs.len() {
@@ -28,10 +54,9 @@ pub fn place_in(pairs: &[Entry], key: Val) -> Option<usize>
 }
 
 /// Another value for a key, where it is there; it answers the one that the key had.
-pub fn replace_in(pairs: &mut Vec<Entry>, key: Val, val: Val) -> Option<Val>
+fn replace_in(pairs: &mut Vec<Entry>, key: Val, val: Val) -> Option<Val>
     ensures replaced { result ≡ value_at pairs.old.items key }
     ensures put { OnSome result (pairs.new.items ≡ put pairs.old.items key val) }
-    ensures absent { IfNone result (position_from (has_key key) 0 pairs.old.items ≡ None) }
     ensures stays { IfNone result (pairs.new.items ≡ pairs.old.items) }
 {
     match place_in(pairs.as_slice(), key) {
@@ -45,7 +70,7 @@ pub fn replace_in(pairs: &mut Vec<Entry>, key: Val, val: Val) -> Option<Val>
 }
 
 /// One more pair. The first takes the room of one alone.
-pub fn push_to(pairs: &mut Vec<Entry>, pair: Entry) -> Result<(), AllocError>
+fn push_to(pairs: &mut Vec<Entry>, pair: Entry) -> Result<(), AllocError>
     ensures ok { OnOk result (pairs.new.items ≡ pairs.old.items ++ pair ∷ []) }
     ensures err { OnErr result (pairs.new.items ≡ pairs.old.items) }
 {
@@ -54,4 +79,104 @@ pub fn push_to(pairs: &mut Vec<Entry>, pair: Entry) -> Result<(), AllocError>
     }
     pairs.push(pair)?;
     Ok(())
+}
+
+/// The pairs in a map, in the same order, with room for at least one more.
+fn table_of(alloc: Global, pairs: &[Entry]) -> Result<Table, AllocError>
+    requires { AreKeysOnce pairs.now }
+    ensures { IfOk result (λ table. table ≡ pairs.now) }
+{
+    let mut table = Table::with_room(alloc, pairs.len() + 1)?;
+    'moved: for at in 0..pairs.len() {
+        let _ = table.put(pairs[at].key, pairs[at].val)?;
+    }
+    Ok(table)
+}
+
+impl Few {
+    /// No pairs.
+    pub fn new(alloc: Global) -> Few
+        ensures { result ≡ [] }
+    {
+        Few {
+            pairs: Vec::new(alloc),
+        }
+    }
+
+    /// The number of pairs.
+    pub fn len(&self) -> usize
+        ensures { result ≡ length self.now }
+    {
+        self.pairs.len()
+    }
+
+    /// Whether another pair would be one too many.
+    pub fn is_full(&self) -> bool
+        ensures { IsTrue result ↔ (FEW ≤ length self.now) }
+    {
+        self.pairs.len() >= FEW
+    }
+
+    /// The pair at a position.
+    pub fn entry_at(&self, i: usize) -> Entry
+        requires { i < length self.now }
+        ensures { slice_get self.now i ≡ Some result }
+    {
+        self.pairs[i]
+    }
+
+    /// The position of a key.
+    pub fn find(&self, key: Val) -> Option<usize>
+        ensures { result ≡ position (has_key key) self.now }
+    {
+        place_in(self.pairs.as_slice(), key)
+    }
+
+    /// Another value for a key, where it is there; it answers the one that the key had.
+    pub fn replace(&mut self, key: Val, val: Val) -> Option<Val>
+        ensures replaced { result ≡ value_at self.old key }
+        ensures put { OnSome result (self.new ≡ put self.old key val) }
+        ensures stays { IfNone result (self.new ≡ self.old) }
+    {
+        let replaced = replace_in(&mut self.pairs, key, val);
+        replaced
+    }
+
+    /// A pair under a new key goes last.
+    pub fn push(&mut self, key: Val, val: Val) -> Result<(), AllocError>
+        requires new { value_at self.old key ≡ None }
+        ensures ok { OnOk result (self.new ≡ put self.old key val) }
+        ensures err { OnErr result (self.new ≡ self.old) }
+    {
+        push_to(&mut self.pairs, Entry { key, val })?;
+        Ok(())
+    }
+
+    /// Takes the pair at a position; those behind it move down by one.
+    pub fn take(&mut self, i: usize) -> Entry
+        requires { i < length self.old }
+        ensures entry { slice_get self.old i ≡ Some result }
+        ensures rest { self.new ≡ remove self.old i }
+    {
+        self.pairs.remove(i)
+    }
+
+    /// Takes the last pair, if there is one.
+    pub fn detach(&mut self) -> Option<Entry>
+        ensures pairs { self.old ≡ self.new ++ option_to_list result }
+        ensures empty { IsNone result → self.old ≡ [] }
+    {
+        self.pairs.pop()
+    }
+
+    /// The pairs in a map, and another under a new key behind them. These pairs stay as they are.
+    pub fn table_with(&self, key: Val, val: Val) -> Result<Box<Table>, AllocError>
+        ensures { IfOk result (λ table. table.value ≡ put self.now key val) }
+    {
+        let alloc = *self.pairs.allocator();
+        let mut table = table_of(alloc, self.pairs.as_slice())?;
+        let _ = table.put(key, val)?;
+        let boxed = Box::new(alloc, table)?;
+        Ok(boxed)
+    }
 }

@@ -6,7 +6,7 @@
 //! - `body_slab`: the slab, once for all six kinds.
 //! - `contents`: what one object holds, as the slab sees it.
 //! - `items`: what lists, tuples, functions and weak references share; `list`, `tuple`, `func` and `weak`: these four.
-//! - `pairs`: dictionaries and instances: `few` in a list, `more` in a box.
+//! - `pairs`: dictionaries and instances; `held`: their pairs, a `few` in a list or any number in a table.
 //! - `table`: pairs in a map, in the order in which their keys came; `order`: that order, once the map has another; `slots`: its slots and gaps.
 #![tactic(auto)]
 
@@ -16,9 +16,11 @@ mod contents;
 mod drop_tests;
 mod few;
 mod func;
+mod held;
 mod items;
 mod list;
-mod more;
+#[cfg(test)]
+mod ninth_tests;
 mod order;
 mod pairs;
 mod slots;

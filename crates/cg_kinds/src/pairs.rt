@@ -1,13 +1,13 @@
 //! Dictionaries and instances, which differ only in their code.
-ghost use Rattle.std.specs.Prelude.{◌≡◌, ◌+◌, ◌<◌, ◌^◌, IfSome, option_map};
+ghost use Rattle.std.specs.Prelude.{◌≡◌};
 ghost use Rattle.cg_value.specs.declared.KindCode.{KindCode};
 ghost use Rattle.cg_value.specs.declared.KindCode.TheVariants as code;
-ghost use Rattle.cg_kinds.specs.Pairs.{IsKeyed, pairs_body};
+ghost use Rattle.cg_kinds.specs.Pairs.{IsKeyed};
+ghost use Rattle.cg_kinds.specs.Held.{entries_held};
 
 use crate::body_slab::BodySlab;
 use crate::contents::Contents;
-use crate::few::{place_in, push_to, replace_in};
-use crate::more::More;
+use crate::held::Held;
 use cg_value::{Entry, KindCode, Val};
 use std::alloc::{AllocError, Global};
 use std::marker::PhantomData;
@@ -62,36 +62,19 @@ impl Keyed for Instance {
     }
 }
 
-/// So many pairs are kept in a list, and searched one after the other.
-const FEW: usize = 8;
-
-/// Keys and their values, in the order in which the keys came: a few, and more behind them.
-///
-/// An object with few keys takes the room of those, and nothing is hashed for it.
+/// Keys and their values, in the order in which the keys came.
 #[derive(Drop)]
 pub struct Pairs<K> {
-    few: Vec<Entry>,
-    more: More,
+    held: Held,
     of: PhantomData<K>,
 }
 
-/// A place behind so many others.
-fn behind(few: usize, more: usize, place: Option<usize>) -> Option<usize>
-    requires few { few < 2 ^ 63 }
-    requires more { more < 2 ^ 63 }
-    requires within { IfSome place (λ i. i < more) }
-    ensures { result ≡ option_map (λ i. few + i) place }
-{
-    match place {
-        Some(i) => Some(few + i),
-        None => None,
-    }
-}
-
 impl<K: Keyed> Contents for Pairs<K> {
+    ghost use Rattle.cg_kind.specs.Bodies.{body_of};
+
     ghost kind = { K.kind };
 
-    ghost body = { λ p. pairs_body p.few.items p.more };
+    ghost body = { λ p. body_of (entries_held p.held) 0 };
 
     fn code() -> KindCode {
         K::code()
@@ -100,60 +83,34 @@ impl<K: Keyed> Contents for Pairs<K> {
     fn make(alloc: Global, parts: &[Entry]) -> Result<Self, AllocError> {
         let _ = parts;
         Ok(Pairs {
-            few: Vec::new(alloc),
-            more: More::new(),
+            held: Held::new(alloc),
             of: PhantomData,
         })
     }
 
     fn len(&self) -> usize {
-        self.few.len() + self.more.len()
+        self.held.len()
     }
 
     fn entry_at(&self, i: usize) -> Entry {
-        if i < self.few.len() {
-            self.few[i]
-        } else {
-            self.more.entry_at(i - self.few.len())
-        }
+        self.held.entry_at(i)
     }
 
     fn find(&self, key: Val) -> Option<usize> {
-        match place_in(self.few.as_slice(), key) {
-            Some(i) => Some(i),
-            None => behind(self.few.len(), self.more.len(), self.more.find(key)),
-        }
+        self.held.find(key)
     }
 
     fn put(&mut self, key: Val, val: Val) -> Result<Option<Val>, AllocError> {
-        match replace_in(&mut self.few, key, val) {
-            Some(was) => Ok(Some(was)),
-            None => {
-                if self.few.len() < FEW && self.more.len() == 0 {
-                    push_to(&mut self.few, Entry { key, val })?;
-                    Ok(None)
-                } else {
-                    let replaced = self.more.put(*self.few.allocator(), key, val)?;
-                    Ok(replaced)
-                }
-            }
-        }
+        let replaced = self.held.put(key, val)?;
+        Ok(replaced)
     }
 
     fn take(&mut self, i: usize) -> Entry {
-        let few = self.few.as_slice().len();
-        if i < few {
-            self.few.remove(i)
-        } else {
-            self.more.take(i - few)
-        }
+        self.held.take(i)
     }
 
     fn detach(&mut self) -> Option<Entry> {
-        match self.more.detach() {
-            Some(entry) => Some(entry),
-            None => self.few.pop(),
-        }
+        self.held.detach()
     }
 
     fn reserve(&mut self, n: usize) -> Result<(), AllocError> {

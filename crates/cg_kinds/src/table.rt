@@ -112,6 +112,14 @@ impl Table {
         }
     }
 
+    /// No pairs, and room for so many.
+    pub fn with_room(alloc: Global, count: usize) -> Result<Table, AllocError>
+        ensures { IfOk result (λ table. table ≡ []) }
+    {
+        let map = IndexMap::with_capacity(alloc, count)?;
+        Ok(Table { map, order: None })
+    }
+
     /// The number of pairs.
     pub fn len(&self) -> usize
         ensures count { result ≡ length self.now }

@@ -115,7 +115,8 @@ fn advance<K: Kind>(kind: &mut K, at: usize, step: Step) -> Result<Answer, Alloc
     }
 }
 
-fn entries<K: Kind>(alloc: Global, kind: &K, at: usize) -> Result<Vec<Entry>, AllocError>
+/// The entries of an object.
+pub fn entries<K: Kind>(alloc: Global, kind: &K, at: usize) -> Result<Vec<Entry>, AllocError>
     requires { Holds (K.bodies kind.now) at }
 {
     let mut entries = Vec::new(alloc);

@@ -1,6 +1,5 @@
-use Rattle.std.proofs.Common.{refl, ◌∙◌, sym}
-use Rattle.std.proofs.lemmas.List.{drop_all}
-use Rattle.cg_kinds.proofs.FewLemmas.{found_here, found_later}
+use Rattle.std.proofs.Common.{◌∙◌, sym}
+use Rattle.cg_kinds.proofs.FewLemmas.{found_later}
 use Rattle.cg_kinds.proofs.few.place_in.Goals as goal
 
 pub pairs-preserved : goal.pairs-preserved

@@ -1,4 +1,4 @@
-use Rattle.std.proofs.Common.{◌≡◌, ◌≢◌, ◌∙◌, ◌+◌, ◌<◌, ℕ, arith, ap, sym, length, get_or, Some, None}
+use Rattle.std.proofs.Common.{◌≢◌, ◌∙◌, arith, ap, sym, get_or, None}
 use Rattle.cg_kinds.proofs.OrderLemmas.{closed_within, settled_more, settled_all}
 use Rattle.cg_kinds.proofs.order.settle.Goals as goal
 use Rattle.cg_kinds.proofs.order.settle.Goals.{in-Some, in_default}

@@ -1,7 +1,6 @@
-use Rattle.std.proofs.Common.{◌≡◌, ℕ, ◌+◌, ◌-◌, ◌∙◌, ap, sym, subst, arith, length, map, set, None, Some, get_or}
+use Rattle.std.proofs.Common.{◌≡◌, ◌-◌, ◌∙◌, ap, sym, length, map, set, None}
 use Rattle.std.specs.Prelude.{remove}
-use Rattle.std.proofs.lemmas.List.{get_or-set_other}
-use Rattle.cg_kinds.specs.Order.{indexes, pairs_before, renamed, AreHomes}
+use Rattle.cg_kinds.specs.Order.{indexes, pairs_before, renamed}
 use Rattle.cg_kinds.proofs.SlotLemmas.{pair_within}
 use Rattle.cg_kinds.proofs.OrderLemmas.{still_there, last_there, taken_last, taken_other, refilled_before, indexes-gap, indexes-refilled, renamed-itself, one_slot, left_there, last_is}
 use Rattle.cg_kinds.proofs.order.take_index.Goals as goal

@@ -1,4 +1,4 @@
-use Rattle.std.proofs.Common.{◌≡◌, ◌+◌, ◌-◌, ◌∙◌, arith, get_or}
+use Rattle.std.proofs.Common.{◌-◌, ◌∙◌, arith, get_or}
 use Rattle.cg_kinds.proofs.SlotLemmas.{block_within, block_before, full_block}
 use Rattle.cg_kinds.proofs.slots.slot_of.Goals as goal
 

@@ -1,7 +1,6 @@
-use Rattle.std.proofs.Common.{◌≡◌, ◌∙◌, ◌<◌, ◌≤◌, ◌*◌, ◌+◌, ℕ, ap, sym, Some, None, get_or, length, arith, subst, ◌-◌, ◌/◌, min}
+use Rattle.std.proofs.Common.{◌≡◌, ◌∙◌, ◌+◌, ap, sym, length, arith, subst, ◌-◌, ◌/◌, min}
 use Rattle.std.proofs.lemmas.List.{with_items_is, length-take}
-use Rattle.std.specs.Vec.{with_items}
-use Rattle.cg_kinds.specs.Order.{indexes, pairs_before, AreHomes, AreStarts}
+use Rattle.cg_kinds.specs.Order.{indexes, AreHomes, AreStarts}
 use Rattle.cg_kinds.proofs.SlotLemmas.{few_pairs}
 use Rattle.cg_kinds.proofs.OrderLemmas.{length-closed, closed_starts, same_order}
 use Rattle.cg_kinds.proofs.order.Order.close.Goals as goal

@@ -1,4 +1,4 @@
-use Rattle.std.proofs.Common.{◌≡◌, ◌∙◌, ap, sym, Some, None, get_or, arith, length, ◌<◌}
+use Rattle.std.proofs.Common.{◌≡◌, ◌∙◌, ap, sym, Some, None, get_or, arith, length}
 use Rattle.std.proofs.lemmas.List.{get_or_default}
 use Rattle.cg_kinds.proofs.SlotLemmas.{pair_of}
 use Rattle.std.specs.Prelude.{slice_get}

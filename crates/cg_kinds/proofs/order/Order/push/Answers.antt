@@ -1,4 +1,4 @@
-use Rattle.std.proofs.Common.{◌≡◌, ◌∙◌, ◌++◌, ◌∷◌, [], ap, sym, Some, None, length, arith, subst}
+use Rattle.std.proofs.Common.{◌≡◌, ◌∙◌, ◌++◌, ◌∷◌, [], ap, sym, Some, length, arith, subst}
 use Rattle.std.proofs.lemmas.Int.{ints}
 use Rattle.cg_kinds.specs.Order.{AreHomes, AreStarts}
 use Rattle.cg_kinds.proofs.OrderLemmas.{few_homes, pushed_homes, pushed_starts}

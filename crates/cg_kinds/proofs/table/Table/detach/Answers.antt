@@ -1,4 +1,4 @@
-use Rattle.std.proofs.Common.{◌≡◌, ◌∙◌, ◌+◌, ◌-◌, ◌++◌, ◌∷◌, [], ap, sym, length, arith}
+use Rattle.std.proofs.Common.{◌≡◌, ◌∙◌, ◌-◌, ◌++◌, ◌∷◌, [], ap, sym, length, arith}
 use Rattle.cg_kinds.proofs.TableLemmas.{last_taken, length-ordered}
 use Rattle.cg_kinds.proofs.table.Table.detach.Goals as goal
 

@@ -1,4 +1,4 @@
-use Rattle.std.proofs.Common.{◌≡◌, ◌∙◌, ap, sym, Some, None, length, subst}
+use Rattle.std.proofs.Common.{◌∙◌, ap, sym, length, subst}
 use Rattle.std.specs.Prelude.{position}
 use Rattle.cg_kind.specs.Calls.{has_key}
 use Rattle.cg_kinds.specs.Pairs.{ordered, IsOrderOf, IsSoundOrder}

@@ -1,8 +1,6 @@
-use Rattle.std.proofs.Common.{◌≡◌, ◌∙◌, ap, sym, Some, None, IsSome, subst, length, take, ◌-◌, option_map, ◌++◌, ◌∷◌, []}
-use Rattle.std.specs.Prelude.{position}
+use Rattle.std.proofs.Common.{◌≡◌, ◌∙◌, ap, sym, None, IsSome, subst}
 use Rattle.std.specs.Map.{lookup}
 use Rattle.cg_graph.specs.Value.{value_at, put}
-use Rattle.cg_kind.specs.Calls.{has_key}
 use Rattle.cg_kinds.specs.Pairs.{pairs_of, ordered}
 use Rattle.cg_kinds.proofs.KeyLemmas.{equal}
 use Rattle.cg_kinds.proofs.PairLemmas.{lookup-pairs, insert-pairs}

@@ -1,9 +1,8 @@
-use Rattle.std.proofs.Common.{◌≡◌, ◌∙◌, ◌-◌, ap, sym, Some, None, length, subst, arith, map}
+use Rattle.std.proofs.Common.{◌≡◌, ◌∙◌, ◌-◌, ap, sym, Some, length, subst, arith}
 use Rattle.std.specs.Prelude.{slice_get, remove}
 use Rattle.std.proofs.lemmas.List.{length-map}
 use Rattle.std.proofs.lemmas.Option.{slice_get-get_or, slice_get_within}
 use Rattle.cg_kinds.specs.Pairs.{pairs_of, pair_entry, ordered, picked, nothing, IsOrderOf}
-use Rattle.cg_kinds.specs.Order.{renamed}
 use Rattle.cg_kinds.proofs.TableLemmas.{picked_slice, picked_take, length-taken, length-swapped}
 use Rattle.cg_kinds.proofs.table.Table.take.Goals as goal
 

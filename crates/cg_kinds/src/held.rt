@@ -1,0 +1,126 @@
+//! The pairs of a dictionary or an instance: a few in a list, or any number in a map.
+ghost use Rattle.std.specs.Prelude.{◌≡◌, ◌<◌, ◌++◌, [], length, IfOk, IsOk, IsNone, IsSome, OnOk, OnErr, option_to_list, position, slice_get, remove};
+ghost use Rattle.cg_graph.specs.Value.{value_at, put};
+ghost use Rattle.cg_kind.specs.Calls.{has_key};
+ghost use Rattle.cg_kinds.specs.Held.{entries_held};
+
+use crate::few::Few;
+use crate::table::Table;
+use cg_value::{Entry, Val};
+use std::alloc::{AllocError, Global};
+
+/// Pairs in the order in which their keys came.
+///
+/// Where they become too many for a list all go into a map, and stay in it however many leave. So a search goes over a
+/// few pairs and hashes nothing, or it hashes once and goes over none.
+#[derive(Drop)]
+pub enum Held {
+    Few(Few),
+    Many(Box<Table>),
+}
+
+impl Held {
+    /// No pairs.
+    pub fn new(alloc: Global) -> Held
+        ensures { entries_held result ≡ [] }
+    {
+        Held::Few(Few::new(alloc))
+    }
+
+    /// The number of pairs.
+    pub fn len(&self) -> usize
+        ensures { result ≡ length (entries_held self.now) }
+    {
+        match self {
+            Held::Few(few) => few.len(),
+            Held::Many(table) => table.len(),
+        }
+    }
+
+    /// The pair at a position.
+    pub fn entry_at(&self, i: usize) -> Entry
+        requires { i < length (entries_held self.now) }
+        ensures { slice_get (entries_held self.now) i ≡ Some result }
+    {
+        match self {
+            Held::Few(few) => few.entry_at(i),
+            Held::Many(table) => table.entry_at(i),
+        }
+    }
+
+    /// The position of a key.
+    pub fn find(&self, key: Val) -> Option<usize>
+        ensures { result ≡ position (has_key key) (entries_held self.now) }
+    {
+        match self {
+            Held::Few(few) => few.find(key),
+            Held::Many(table) => table.find(key),
+        }
+    }
+
+    /// A present key gets the value, and a new one goes last. It answers the value that the key had.
+    pub fn put(&mut self, key: Val, val: Val) -> Result<Option<Val>, AllocError>
+        ensures ok { OnOk result (entries_held self.new ≡ put (entries_held self.old) key val) }
+        ensures replaced { IfOk result (λ was. was ≡ value_at (entries_held self.old) key) }
+        ensures present { IsSome (value_at (entries_held self.old) key) → IsOk result }
+        ensures err { OnErr result (entries_held self.new ≡ entries_held self.old) }
+    {
+        match self {
+            Held::Few(few) => match few.replace(key, val) {
+                Some(was) => Ok(Some(was)),
+                None => {
+                    self.add(key, val)?;
+                    Ok(None)
+                }
+            },
+            Held::Many(table) => {
+                let replaced = table.put(key, val)?;
+                Ok(replaced)
+            }
+        }
+    }
+
+    /// A new key goes last. The map stands whole before the list goes, so that a refusal leaves the list.
+    fn add(&mut self, key: Val, val: Val) -> Result<(), AllocError>
+        requires new { value_at (entries_held self.old) key ≡ None }
+        ensures ok { OnOk result (entries_held self.new ≡ put (entries_held self.old) key val) }
+        ensures err { OnErr result (entries_held self.new ≡ entries_held self.old) }
+    {
+        match self {
+            Held::Few(few) => {
+                if few.is_full() {
+                    *self = Held::Many(few.table_with(key, val)?);
+                } else {
+                    few.push(key, val)?;
+                }
+            }
+            Held::Many(table) => {
+                let _ = table.put(key, val)?;
+            }
+        }
+        Ok(())
+    }
+
+    /// Takes the pair at a position; those behind it move down by one.
+    pub fn take(&mut self, i: usize) -> Entry
+        requires { i < length (entries_held self.old) }
+        ensures entry { slice_get (entries_held self.old) i ≡ Some result }
+        ensures rest { entries_held self.new ≡ remove (entries_held self.old) i }
+    {
+        match self {
+            Held::Few(few) => few.take(i),
+            Held::Many(table) => table.take(i),
+        }
+    }
+
+    /// Takes the last pair, if there is one.
+    pub fn detach(&mut self) -> Option<Entry>
+        ensures pairs { entries_held self.old ≡ entries_held self.new ++ option_to_list result }
+        ensures empty { IsNone result → entries_held self.old ≡ [] }
+    {
+        match self {
+            Held::Few(few) => few.detach(),
+            Held::Many(table) => table.detach(),
+        }
+    }
+}

@@ -1,0 +1,134 @@
+//! Dictionaries about the size at which their pairs leave the list for the map. What they answer is what a plain list in
+//! order of insertion would.
+ghost use Rattle.std.specs.Prelude.{[]};
+ghost use Rattle.cg_kind.specs.Bodies.{Holds};
+ghost use Rattle.cg_kind.specs.Calls.{IsParts};
+
+use crate::drop_tests::{next, put_plainly};
+use crate::tests::{entries, make, put, take};
+use crate::{DictKind, InstKind};
+use cg_kind::Kind;
+use cg_value::{Entry, Val};
+use std::alloc::Global;
+use std::process::Abort;
+use std::test::Fail;
+
+/// An object has these entries, and finds the key of each.
+fn assert_has<K: Kind>(
+    rt: &impl Abort,
+    alloc: Global,
+    kind: &K,
+    at: usize,
+    expected: &[Entry],
+) -> Result<(), Fail>
+    requires { Holds (K.bodies kind.now) at }
+{
+    assert_eq!(rt; entries(alloc, kind, at)?.as_slice(), expected);
+    'expected: for i in 0..expected.len() {
+        assert_eq!(rt; kind.find(at, expected[i].key), Some(i));
+    }
+    Ok(())
+}
+
+/// Puts a value under a key of an object and of a plain list. A refusal leaves the object as it was, and then the put is
+/// done again.
+fn put_both<K: Kind>(
+    rt: &impl Abort,
+    alloc: Global,
+    kind: &mut K,
+    at: usize,
+    plain: &mut Vec<Entry>,
+    key: i64,
+    val: i64,
+) -> Result<(), Fail>
+    requires { Holds (K.bodies kind.old) at }
+    ensures { Holds (K.bodies kind.new) at }
+{
+    match put(kind, at, Val::Int(key), val) {
+        Ok(_) => {}
+        Err(_) => {
+            assert_has(rt, alloc, kind, at, plain.as_slice())?;
+            put(kind, at, Val::Int(key), val)?;
+        }
+    }
+    put_plainly(plain, Val::Int(key), Val::Int(val))?;
+    Ok(())
+}
+
+/// Takes the entry at a place out of an object and out of a plain list, where there is one.
+fn take_both<K: Kind>(kind: &mut K, at: usize, plain: &mut Vec<Entry>, place: usize)
+    requires { Holds (K.bodies kind.old) at }
+    ensures { Holds (K.bodies kind.new) at }
+{
+    if place < plain.len() {
+        let _ = take(kind, at, place);
+        let _ = plain.remove(place);
+    }
+}
+
+/// So many keys are put, a value is replaced, the first key goes and comes again.
+fn go_over<K: Kind>(rt: &impl Abort, alloc: Global, kind: &mut K, count: i64) -> Result<(), Fail>
+    requires { IsParts (K.kind kind.old) [] }
+{
+    let at = make(kind, &[])?;
+    let mut plain = Vec::new(alloc);
+    'keys: for key in 0..count {
+        put_both(rt, alloc, kind, at, &mut plain, key, 10)?;
+        assert_has(rt, alloc, kind, at, plain.as_slice())?;
+    }
+    put_both(rt, alloc, kind, at, &mut plain, 3, 30)?;
+    assert_has(rt, alloc, kind, at, plain.as_slice())?;
+    take_both(kind, at, &mut plain, 0);
+    assert_eq!(rt; kind.find(at, Val::Int(0)), None);
+    put_both(rt, alloc, kind, at, &mut plain, 0, 40)?;
+    assert_has(rt, alloc, kind, at, plain.as_slice())
+}
+
+#[test]
+fn a_ninth_key_keeps_the_order(rt: HostRuntime) -> Result<(), Fail> {
+    let alloc = rt.alloc();
+    let mut dicts = DictKind::new(alloc);
+    'counts: for count in 7..=11 {
+        go_over(&rt, alloc, &mut dicts, count)?;
+    }
+    go_over(&rt, alloc, &mut InstKind::new(alloc), 9)
+}
+
+/// Steps at random, of a dictionary and of a plain list, over a few more keys than a list takes.
+fn walk<K: Kind>(
+    rt: &impl Abort,
+    alloc: Global,
+    kind: &mut K,
+    at: usize,
+    first: u64,
+) -> Result<(), Fail>
+    requires { Holds (K.bodies kind.old) at }
+    ensures { Holds (K.bodies kind.new) at }
+{
+    let mut plain = Vec::new(alloc);
+    let mut draw = first;
+    'steps: for _ in 0..60 {
+        draw = next(draw);
+        let number = draw >> 20;
+        if number % 3 == 0 {
+            take_both(kind, at, &mut plain, (number / 3 % 12) as usize);
+        } else {
+            let key = (number / 3 % 12) as i64;
+            let val = (number % 1000) as i64;
+            put_both(rt, alloc, kind, at, &mut plain, key, val)?;
+        }
+        assert_has(rt, alloc, kind, at, plain.as_slice())?;
+    }
+    Ok(())
+}
+
+#[test]
+fn steps_about_the_ninth_key_are_those_of_a_plain_list(rt: HostRuntime) -> Result<(), Fail> {
+    let alloc = rt.alloc();
+    let mut kind = DictKind::new(alloc);
+    'walks: for first in 1..=40 {
+        let at = make(&mut kind, &[])?;
+        walk(&rt, alloc, &mut kind, at, first)?;
+    }
+    Ok(())
+}
