@@ -2,7 +2,7 @@
 use Rattle.std.proofs.Common.{◌≡◌, ◌⊎◌, inl, inr, ◌<◌, ℕ, ◌≤◌, List, ◌++◌, length, length-append, append-nil, Option, None, Some, IfSome, sym, ap, subst, ◌∙◌, arith}
 use Rattle.std.proofs.lemmas.Bool.{cases_lt}
 use Rattle.std.specs.Io.KnownBytes.{Consumes, IsAtEnd}
-use Rattle.cg_cert.specs.Statuses.{ToldVerdict, ToldFront, RowText, verdict_row, large_row, Answers, IsCutShort, status_of}
+use Rattle.cg_cert.specs.Statuses.{ToldVerdict, ToldFront, RowText, verdict_row, large_row, AnswersRecords, IsCutShort, status_of}
 use Rattle.cg_cert.specs.declared.run.TheConstants.{LIMIT}
 use Rattle.cg_cert.specs.Judged.{Judges}
 use Rattle.cg_cert.specs.declared.check.Verdict.{Verdict}
@@ -33,9 +33,9 @@ module _ (left after : Option (List ℕ)) (bytes : List ℕ) (took : Consumes le
   pub told_front : (before now : Option (List ℕ)) → ToldFront bytes before now → IfSome left (λ bs. ToldFront bs before now)
   told_front before now wrote = told (λ bs. ToldFront bs before now) wrote (λ more many w. record { text = w.text; row = longer_row more w.text many w.row; wrote = w.wrote })
 
-  pub told_answers : (answer : CheckStatus) → Answers bytes answer → IfSome left (λ bs. Answers bs answer)
+  pub told_answers : (answer : CheckStatus) → AnswersRecords bytes answer → IfSome left (λ bs. AnswersRecords bs answer)
   told_answers answer says =
-      told (λ bs. Answers bs answer) says (λ more many s. (λ few. absurd (omega (arith, many, few, length-append bytes more)), λ large. s.1 many))
+      told (λ bs. AnswersRecords bs answer) says (λ more many s. (λ few. absurd (omega (arith, many, few, length-append bytes more)), λ large. s.1 many))
 
 -- where neither source nor sink failed, only memory cuts a check short
 pub complete : (answer : CheckStatus) (SourceRose SinkRose Told : Type 0) → (answer ≡ status.ReadFault → SourceRose) → (answer ≡ status.WriteFault → SinkRose) → IsCutShort answer ⊎ Told
@@ -46,7 +46,7 @@ complete answer SourceRose SinkRose Told read write (inl (inr (inl e))) no_sourc
 complete answer SourceRose SinkRose Told read write (inl (inr (inr e))) no_source no_sink = inl e
 
 -- the answer of a verdict
-pub answers_of : (bytes : List ℕ) (answer : CheckStatus) (v : Verdict) → length bytes < LIMIT → Judges bytes v → answer ≡ status_of v → Answers bytes answer
+pub answers_of : (bytes : List ℕ) (answer : CheckStatus) (v : Verdict) → length bytes < LIMIT → Judges bytes v → answer ≡ status_of v → AnswersRecords bytes answer
 answers_of bytes answer v short judges is = (λ few. record { verdict = v; judges = judges; status_is = is }, λ many. absurd (omega (arith, short, many)))
 
 -- a verdict is told as one of two statuses

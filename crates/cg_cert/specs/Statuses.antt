@@ -52,8 +52,8 @@ pub record AnswersVerdict (bytes : List ℕ) (status : CheckStatus) : Type 0 whe
 
 -- The answer to these bytes where neither source nor sink failed and memory was there: up to the limit that of their
 -- verdict, and beyond it that they are too many.
-abbrev pub Answers : List ℕ → CheckStatus → Type 0
-Answers bytes status = (length bytes < LIMIT → AnswersVerdict bytes status) × (LIMIT ≤ length bytes → status ≡ TooLarge)
+abbrev pub AnswersRecords : List ℕ → CheckStatus → Type 0
+AnswersRecords bytes status = (length bytes < LIMIT → AnswersVerdict bytes status) × (LIMIT ≤ length bytes → status ≡ TooLarge)
 
 -- a fault of the source or of the sink, or want of memory
 abbrev pub IsCutShort : CheckStatus → Type 0

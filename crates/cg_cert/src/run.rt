@@ -2,7 +2,7 @@
 ghost use Rattle.std.specs.Prelude.{◌≡◌, ◌≢◌, ◌≤◌, ◌⊎◌, [], length, codes, IfSome};
 ghost use Rattle.std.specs.Io.KnownBytes.{Appends, Keeps, IsAtEnd};
 ghost use Rattle.cg_io.specs.Causes.{AppendsFront, Rose};
-ghost use Rattle.cg_cert.specs.Statuses.{ToldVerdict, ToldFront, TookTooMany, Answers, IsCutShort};
+ghost use Rattle.cg_cert.specs.Statuses.{ToldVerdict, ToldFront, TookTooMany, AnswersRecords, IsCutShort};
 
 use crate::check::check_records;
 use crate::status::CheckStatus;
@@ -21,7 +21,7 @@ fn check_read<K: Sink>(alloc: Global, bytes: &[u8], sink: &mut K) -> CheckStatus
     ensures write { result ≡ CheckStatus.WriteFault → ToldFront bytes.now (K.written sink.old) (K.written sink.new) }
     ensures cause { result ≡ CheckStatus.WriteFault → Rose (K.faults sink.old) (K.faults sink.new) }
     ensures memory { result ≡ CheckStatus.OutOfMemory → Keeps (K.written sink.old) (K.written sink.new) }
-    ensures only { Answers bytes.now result ⊎ (result ≡ CheckStatus.WriteFault) ⊎ (result ≡ CheckStatus.OutOfMemory) }
+    ensures only { AnswersRecords bytes.now result ⊎ (result ≡ CheckStatus.WriteFault) ⊎ (result ≡ CheckStatus.OutOfMemory) }
     ensures which { (result ≡ CheckStatus.Yes) ⊎ (result ≡ CheckStatus.No) ⊎ (result ≡ CheckStatus.TooLarge) ⊎ (result ≡ CheckStatus.WriteFault) ⊎ (result ≡ CheckStatus.OutOfMemory) }
 {
     if bytes.len() >= LIMIT {
@@ -44,7 +44,7 @@ fn check_source<S: Source, K: Sink>(alloc: Global, source: &mut S, sink: &mut K)
     ensures write_cause { result ≡ CheckStatus.WriteFault → Rose (K.faults sink.old) (K.faults sink.new) }
     ensures write { result ≡ CheckStatus.WriteFault → IfSome (S.left source.old) (λ bytes. ToldFront bytes (K.written sink.old) (K.written sink.new)) }
     ensures memory { result ≡ CheckStatus.OutOfMemory → Keeps (K.written sink.old) (K.written sink.new) }
-    ensures only { IsCutShort result ⊎ IfSome (S.left source.old) (λ bytes. Answers bytes result) }
+    ensures only { IsCutShort result ⊎ IfSome (S.left source.old) (λ bytes. AnswersRecords bytes result) }
     ensures words { result ≢ CheckStatus.BadWords }
 {
     match read_up_to(alloc, source, LIMIT) {
@@ -84,14 +84,14 @@ pub fn check_run<S: Source, K: Sink>(
     ensures memory { result ≡ CheckStatus.OutOfMemory → Keeps (K.written sink.old) (K.written sink.new) }
 
     // Which answer comes: by the words and the bytes alone, but for faults and want of memory.
-    ensures answers { words.now ≡ [] → IsCutShort result ⊎ IfSome (S.left source.old) (λ bytes. Answers bytes result) }
+    ensures answers { words.now ≡ [] → IsCutShort result ⊎ IfSome (S.left source.old) (λ bytes. AnswersRecords bytes result) }
     ensures no_words { words.now ≡ [] → result ≢ CheckStatus.BadWords }
     ensures words { words.now ≢ [] → (result ≡ CheckStatus.BadWords) ⊎ (result ≡ CheckStatus.WriteFault) }
     ensures nothing_read { words.now ≢ [] → source.new ≡ source.old }
 
     // Where nothing fails, the answer goes by the bytes, want of memory aside.
     ensures complete { words.now ≡ [] → ¬ (Rose (S.faults source.old) (S.faults source.new)) → ¬ (Rose (K.faults sink.old) (K.faults sink.new))
-        → (result ≡ CheckStatus.OutOfMemory) ⊎ IfSome (S.left source.old) (λ bytes. Answers bytes result) }
+        → (result ≡ CheckStatus.OutOfMemory) ⊎ IfSome (S.left source.old) (λ bytes. AnswersRecords bytes result) }
 {
     if !words.is_empty() {
         return tell_bad_words(sink);

@@ -8,7 +8,7 @@ use Rattle.cg_script.specs.declared.form.Sort.TheVariants.{Key, Variable, Name, 
 
 -- What a form asks for: its word, whether no variable may be that word, the sorts of its first places, and the least and the
 -- greatest number of its words. Each place past the first ones asks for a value.
-pub record Row : Type 0 where
+pub record FormRow : Type 0 where
   pub word : List ℕ
   pub reserved : Bool
   pub places : List Sort
@@ -16,15 +16,15 @@ pub record Row : Type 0 where
   pub most : ℕ
 
 -- a row, with its number of words from and to
-abbrev pub asks : List ℕ → Bool → List Sort → ℕ → ℕ → Row
+abbrev pub asks : List ℕ → Bool → List Sort → ℕ → ℕ → FormRow
 asks word reserved places fewest most = record { word = word; reserved = reserved; places = places; fewest = fewest; most = most }
 
 -- that of a form whose word is reserved
-abbrev pub takes : List ℕ → List Sort → ℕ → ℕ → Row
+abbrev pub takes : List ℕ → List Sort → ℕ → ℕ → FormRow
 takes word places fewest most = asks word true places fewest most
 
 -- one row for each form; a line `x = v` has no word
-abbrev pub row : Form → Row
+abbrev pub row : Form → FormRow
 row forms.MakeList = takes (codes "list") (Variable ∷ Key ∷ Key ∷ []) 3 64
 row forms.MakeTuple = takes (codes "tuple") (Variable ∷ Key ∷ Key ∷ []) 4 64
 row forms.MakeDict = takes (codes "dict") (Variable ∷ Key ∷ Key ∷ []) 3 3

@@ -79,7 +79,7 @@ pub enum Sort {
 
 /// What a form asks for.
 #[derive(Clone, Copy)]
-pub(crate) struct Row {
+pub(crate) struct FormRow {
     /// The word that picks it; none for `x = v`.
     pub word: &'static [u8],
     /// Whether no variable may be that word.
@@ -98,14 +98,14 @@ fn asks(
     places: &'static [Sort],
     fewest: usize,
     most: usize,
-) -> Row
+) -> FormRow
     ensures word { result.word.now ≡ word.now }
     ensures reserved { result.reserved ≡ reserved }
     ensures places { result.places.now ≡ places.now }
     ensures fewest { result.fewest ≡ fewest }
     ensures most { result.most ≡ most }
 {
-    Row {
+    FormRow {
         word,
         reserved,
         places,
@@ -115,7 +115,7 @@ fn asks(
 }
 
 /// The row of a form whose word is reserved.
-fn takes(word: &'static [u8], places: &'static [Sort], fewest: usize, most: usize) -> Row
+fn takes(word: &'static [u8], places: &'static [Sort], fewest: usize, most: usize) -> FormRow
     ensures word { result.word.now ≡ word.now }
     ensures reserved { result.reserved ≡ true }
     ensures places { result.places.now ≡ places.now }
@@ -126,7 +126,7 @@ fn takes(word: &'static [u8], places: &'static [Sort], fewest: usize, most: usiz
 }
 
 /// What a form asks for.
-pub(crate) fn row_for(form: Form) -> Row
+pub(crate) fn row_for(form: Form) -> FormRow
     ensures word { result.word.now ≡ (row_of form).word }
     ensures reserved { result.reserved ≡ (row_of form).reserved }
     ensures places { result.places.now ≡ (row_of form).places }

@@ -8,7 +8,7 @@ use Rattle.std.proofs.lemmas.Fmt.{decimal_injective}
 use Rattle.std.proofs.lemmas.List.{take-append-drop}
 use Rattle.std.proofs.lemmas.Slice.Eq.{bytes_eq-Decides}
 use Rattle.cg_graph.specs.Member.{Includes}
-use Rattle.cg_script.specs.Words.{after_prefix, is_digit, is_quoted, string_text}
+use Rattle.cg_script.specs.Words.{after_prefix, is_digit}
 use Rattle.cg_script.proofs.Joined.{EachSound, Graphic}
 use Rattle.cg_script.proofs.Shown.{neither}
 use Rattle.cg_weakcoll.specs.declared.form.Form.{Form}
@@ -17,7 +17,7 @@ use Rattle.cg_script.specs.Pieces.{word_at}
 use Rattle.cg_weakcoll.specs.Expansion.{begins_with, exit_name, form_lines, function_name, is_kept, object_name, proc_name, watch_name, weak_name, word_count}
 use Rattle.cg_weakcoll.proofs.ExpandedLines.{graphic_by}
 use Rattle.cg_weakcoll.proofs.ExpandedStores.{digits_graphic, number_digits}
-use Rattle.cg_weakcoll.proofs.FreeTexts.{AreClear, IsClear}
+use Rattle.cg_weakcoll.proofs.FreeNames.{AreClear, IsClear}
 
 -- the names of line l
 abbrev pub own_names : ℕ → List (List ℕ)
@@ -27,7 +27,7 @@ own_names l = proc_name l ∷ object_name l ∷ exit_name l ∷ function_name l 
 abbrev pub IsElse : ℕ → List ℕ → Type 0
 IsElse l text = Includes (own_names l) text → ⊥
 
--- Each of them begins so, and so do the words that have one behind a quote or the word of a finalizer.
+-- Each of them begins so, and so do the words that have one behind the word of a finalizer.
 own_kept : (l : ℕ) (prefix text : List ℕ) → ((rest : List ℕ) → begins_with (prefix ++ codes "wv_") (prefix ++ (codes "wv_" ++ rest)) ≡ true) → Includes (own_names l) text → begins_with (prefix ++ codes "wv_") (prefix ++ text) ≡ true
 own_kept l prefix text told (inl e) = subst (λ t. begins_with (prefix ++ codes "wv_") (prefix ++ t) ≡ true) e (told (codes "p_" ++ decimal l))
 own_kept l prefix text told (inr (inl e)) = subst (λ t. begins_with (prefix ++ codes "wv_") (prefix ++ t) ≡ true) e (told (codes "o_" ++ decimal l))
@@ -49,18 +49,13 @@ behind_prefix prefix word name e = go (bytes_eq (take (length prefix) word) pref
         let rest : drop (length prefix) word ≡ name = cc in
         sym (take-append-drop (length prefix) word) ∙ ap (λ (t : List ℕ). t ++ drop (length prefix) word) ((bytes_eq-Decides (take (length prefix) word) prefix).0 is) ∙ ap (λ (t : List ℕ). prefix ++ t) rest
 
-quoted_again : (w : List ℕ) → is_quoted w ≡ true → 39 ∷ string_text w ≡ w
-quoted_again [] e = absurd (grind (arith, nat_tests))
-quoted_again (b ∷ bs) e = let first : b ≡ 39 = grind (arith, nat_tests) in ap (λ (c : ℕ). c ∷ bs) (sym first)
-
--- a word that is not kept, and is no string that is written like one
-pub clear_word : (l : ℕ) (word : List ℕ) → is_kept word ≡ false → begins_with (codes "'wv_") word ≡ false → IsClear (IsElse l) word
-clear_word l word kept quoted =
+-- a word that is not kept
+pub clear_word : (l : ℕ) (word : List ℕ) → is_kept word ≡ false → IsClear (IsElse l) word
+clear_word l word kept =
     let first = neither (begins_with (codes "wv_") word || begins_with (codes "del=wv_") word) (begins_with (codes "legacy=wv_") word) kept in
     let second = neither (begins_with (codes "wv_") word) (begins_with (codes "del=wv_") word) first.0 in
     record {
       itself = λ own. differs (codes "wv_") word (own_kept l [] word (λ rest. refl) own) second.0;
-      string = λ q own. differs (codes "'wv_") word (ap (begins_with (codes "'wv_")) (sym (quoted_again word q)) ∙ own_kept l (codes "'") (string_text word) (λ rest. refl) own) quoted;
       finalizer = λ name e own. differs (codes "del=wv_") word (ap (begins_with (codes "del=wv_")) (behind_prefix (codes "del=") word name e) ∙ own_kept l (codes "del=") name (λ rest. refl) own) second.1;
       legacy = λ name e own. differs (codes "legacy=wv_") word (ap (begins_with (codes "legacy=wv_")) (behind_prefix (codes "legacy=") word name e) ∙ own_kept l (codes "legacy=") name (λ rest. refl) own) first.1;
     }
@@ -69,7 +64,6 @@ clear_word l word kept quoted =
 clear_name : (l : ℕ) (rest : List ℕ) → IsElse l (codes "wv_" ++ rest) → IsClear (IsElse l) (codes "wv_" ++ rest)
 clear_name l rest other = record {
   itself = other;
-  string = λ q. absurd (let no : false ≡ true = q in cc);
   finalizer = λ name e. absurd (let no : None ≡ Some name = e in cc);
   legacy = λ name e. absurd (let no : None ≡ Some name = e in cc);
 }
@@ -124,7 +118,7 @@ EachLine Q (words ∷ lines) = EachWord Q words × EachLine Q lines
 
 -- the words that expansions write of themselves
 abbrev is_plain : List ℕ → Bool
-is_plain word = nat_le 1 (length word) && list_all (λ b. nat_le 33 b && nat_le b 126) word && not (is_kept word) && not (begins_with (codes "'wv_") word)
+is_plain word = nat_le 1 (length word) && list_all (λ b. nat_le 33 b && nat_le b 126) word && not (is_kept word)
 
 module _ (Q : List ℕ → Type 0) (m : ℕ) (words : List (List ℕ)) (plain : (word : List ℕ) → is_plain word ≡ true → Q word) (weak : Q (weak_name m)) (letter : (c : ℕ) → (nat_le 33 c && nat_le c 126) ≡ true → Q (codes "wv_" ++ c ∷ 95 ∷ decimal m)) where
   pub each_written : (form : Form) → ((place : ℕ) → place < word_count form → Q (word_at words place)) → EachLine Q (form_lines form m words)
@@ -195,21 +189,20 @@ module _ (Q : List ℕ → Type 0) (m : ℕ) (words : List (List ℕ)) (plain : 
 abbrev pub IsSound : List ℕ → Type 0
 IsSound word = (1 ≤ length word) × Graphic word
 
-plain_parts : (word : List ℕ) → is_plain word ≡ true → (nat_le 1 (length word) ≡ true) × (list_all (λ b. nat_le 33 b && nat_le b 126) word ≡ true) × (is_kept word ≡ false) × (begins_with (codes "'wv_") word ≡ false)
-plain_parts word e = go (nat_le 1 (length word)) (list_all (λ b. nat_le 33 b && nat_le b 126) word) (is_kept word) (begins_with (codes "'wv_") word) e
+plain_parts : (word : List ℕ) → is_plain word ≡ true → (nat_le 1 (length word) ≡ true) × (list_all (λ b. nat_le 33 b && nat_le b 126) word ≡ true) × (is_kept word ≡ false)
+plain_parts word e = go (nat_le 1 (length word)) (list_all (λ b. nat_le 33 b && nat_le b 126) word) (is_kept word) e
   where
-    go : (a b c d : Bool) → (a && b && not c && not d) ≡ true → (a ≡ true) × (b ≡ true) × (c ≡ false) × (d ≡ false)
-    go true true false false h = (refl, refl, refl, refl)
-    go false b c d h = absurd (cc)
-    go true false c d h = absurd (cc)
-    go true true true d h = absurd (cc)
-    go true true false true h = absurd (cc)
+    go : (a b c : Bool) → (a && b && not c) ≡ true → (a ≡ true) × (b ≡ true) × (c ≡ false)
+    go true true false h = (refl, refl, refl)
+    go false b c h = absurd (cc)
+    go true false c h = absurd (cc)
+    go true true true h = absurd (cc)
 
 pub plain_sound : (word : List ℕ) → is_plain word ≡ true → IsSound word
 plain_sound word e = let p = plain_parts word e in let some : nat_le 1 (length word) ≡ true = p.0 in (grind (arith, nat_tests), graphic_by word p.1)
 
 pub plain_clear : (l : ℕ) (word : List ℕ) → is_plain word ≡ true → IsClear (IsElse l) word
-plain_clear l word e = let p = plain_parts word e in clear_word l word p.2 p.3
+plain_clear l word e = let p = plain_parts word e in clear_word l word p.2
 
 letter_sound : (m : ℕ) → m ≤ 400000 → (c : ℕ) → (nat_le 33 c && nat_le c 126) ≡ true → IsSound (codes "wv_" ++ c ∷ 95 ∷ decimal m)
 letter_sound m low c e = (omega arith, graphic_by (codes "wv_" ++ c ∷ 95 ∷ decimal m) (ap (λ b. b && list_all (λ b. nat_le 33 b && nat_le b 126) (95 ∷ decimal m)) e ∙ digits_graphic (decimal m) (number_digits m low)))

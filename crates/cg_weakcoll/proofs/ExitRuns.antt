@@ -135,7 +135,7 @@ module _ (script : Script) (budget : ℕ) (e : Exit) (ex : IsExit script e) wher
       go (Lasted below top none is) = ap (λ (z : World). slice_get z.names n) is
       go (Commanded command a b below v is takes hb done) =
           let t = high_taken script budget e ex command a b takes (subst (IsHigh e) (same_top script budget e ex h.0 a h.1 below w.stack h.2 (ap (λ (z : World). z.stack) is)).0 h.3) in
-          done_names script n command b below v events after (λ m. t.0.texts n m own) done ∙ ap (λ (z : World). slice_get z.names n) (sym is)
+          done_names script n command b below v events after (λ m. t.0.names n m own) done ∙ ap (λ (z : World). slice_get z.names n) (sym is)
 
   -- after it was made
   record Late (s n calls : ℕ) (w : World) : Type 0 where
@@ -169,7 +169,7 @@ module _ (script : Script) (budget : ℕ) (e : Exit) (ex : IsExit script e) wher
 
   -- where the weak reference is made
   not_other : IsOther e (watch_command e) → ⊥
-  not_other h = h.texts e.watch (inl refl) (inr (inr (inr (inl refl))))
+  not_other h = h.names e.watch (inl refl) (inr (inr (inr (inl refl))))
 
   first_includes : (commands : List Command) (c : Command) → first_of commands ≡ Some c → Includes commands c
   first_includes [] c is = absurd (cc)

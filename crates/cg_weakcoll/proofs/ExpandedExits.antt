@@ -1,9 +1,7 @@
 -- The exit finalizers of an expansion: the lines in front of a `finalize` line's own, those, the lines behind them, and the calls.
-use Rattle.std.proofs.Common.{◌≡◌, ◌≢◌, ℕ, suc, ◌+◌, ◌<◌, ◌≤◌, List, [], ◌∷◌, ◌++◌, length, map, Bool, true, false, cond, ◌&&◌, Option, None, Some, refl, sym, ap, subst, ◌∙◌, inl, inr, arith, append_assoc, append-nil, length-append}
+use Rattle.std.proofs.Common.{◌≡◌, ◌≢◌, ℕ, suc, ◌+◌, ◌<◌, ◌≤◌, List, [], ◌∷◌, ◌++◌, length, map, Bool, true, false, cond, Option, None, Some, refl, sym, ap, subst, ◌∙◌, inl, inr, arith, append_assoc, append-nil, length-append}
 use Rattle.std.specs.Prelude.{option_map, reverse, slice_get, slice_index_or, unwrap_or}
-use Rattle.std.specs.List.{list_all}
 use Rattle.std.proofs.lemmas.List.{append_cancel_right, length-map, map-append, reverse-append}
-use Rattle.std.proofs.lemmas.List.Folds.{list_all-append}
 use Rattle.cg_graph.specs.Member.{Includes}
 use Rattle.cg_graph.proofs.Members.{either, Includes-append_cases, Includes-append_left, Includes-append_right, Includes-map_cases}
 use Rattle.cg_promises.proofs.ToldDeaths.{reversed_back}
@@ -21,7 +19,7 @@ use Rattle.cg_script.specs.Canonical.{joined, text_of}
 use Rattle.cg_script.specs.Items.{classes, commands_of, procedures}
 use Rattle.cg_script.specs.Pieces.{lines_of, words_of, word_at}
 use Rattle.cg_script.specs.Reading.{good, items_of, lines_from, nothing_known}
-use Rattle.cg_script.specs.Texts.{command_texts, operand_texts}
+use Rattle.cg_script.specs.Texts.{command_names, operand_names}
 use Rattle.cg_script.specs.Words.{is_value}
 use Rattle.cg_script.proofs.Ascii.{both}
 use Rattle.cg_script.proofs.Joined.{sound_words}
@@ -31,12 +29,12 @@ use Rattle.cg_weakcoll.specs.declared.form.Form.{Form}
 use Rattle.cg_weakcoll.specs.declared.form.Form.TheVariants.{MakeMap, Set, Get, Remove, Finalize}
 use Rattle.cg_weakcoll.specs.Expansion.{call_line, exit_name, expanded_lines, expansion, final_lines, finalize_lines, finalize_number, finalize_numbers_from, finalizes, first_bad, first_bad_from, form_of, is_finalize, proc_name, written_by, written_from}
 use Rattle.cg_weakcoll.specs.Exits.{AllOther, AreOthers, Exit, IsExit, IsOther, exit_body, exit_commands, final_calls, names_of}
-use Rattle.cg_weakcoll.specs.ExpandedExits.{AreExitsOf, ExpandedExitsAreThere, Finalizes, HasExitsOf, HasNoKeptStrings, IsExitOf, NoLine, Other, has_no_kept_string}
+use Rattle.cg_weakcoll.specs.ExpandedExits.{AreExitsOf, ExpandedExitsAreThere, Finalizes, HasExitsOf, IsExitOf, NoLine, Other}
 use Rattle.cg_weakcoll.proofs.ClearLines.{Parted, clear_from, line_words, parted, unpassed_form, word_there}
 use Rattle.cg_weakcoll.proofs.ExitNames.{EachLine, IsElse, IsSound, other_text, own_apart, own_names, sound_call, sound_lines}
 use Rattle.cg_weakcoll.proofs.ExpandedLines.{Fits, expansion_lines, fits_of, numbers_low, sound_at, written-append}
 use Rattle.cg_weakcoll.proofs.FinalizerLines.{Calls, Finalizer, calls, calls_of, exit_of, finalizer, finalizer_says}
-use Rattle.cg_weakcoll.proofs.FreeTexts.{AreClear, AreFree, IsClear}
+use Rattle.cg_weakcoll.proofs.FreeNames.{AreClear, AreFree, IsClear}
 use Rattle.cg_weakcoll.proofs.LookLines.{ReadAs, read_as}
 use Rattle.cg_weakcoll.proofs.ReadLines.{does_all}
 use Rattle.cg_weakcoll.proofs.Passages.{IsFine, Passage, passage}
@@ -92,7 +90,7 @@ seam_map : {X : Type 0} (f : X → ℕ) (all : List (List ℕ)) (xs ys : List X)
 seam_map f all [] ys y = refl
 seam_map f all (x ∷ xs) ys y = seam_map f all xs ys y
 
-module _ (bytes : List ℕ) (fine : first_bad bytes ≡ None) (kept : HasNoKeptStrings bytes) (all : List (List ℕ)) (its : List Item) (r : ReadAs (expansion bytes) all its) where
+module _ (bytes : List ℕ) (fine : first_bad bytes ≡ None) (all : List (List ℕ)) (its : List Item) (r : ReadAs (expansion bytes) all its) where
   abbrev lines : List (List ℕ)
   lines = lines_of bytes
 
@@ -138,19 +136,13 @@ module _ (bytes : List ℕ) (fine : first_bad bytes ≡ None) (kept : HasNoKeptS
     fits : Fits Finalize l line words
     fits = fits_of Finalize halves.1.inside l line form halves.1.here
 
-    kept_halves : (list_all has_no_kept_string front ≡ true) × ((has_no_kept_string line && list_all has_no_kept_string back) ≡ true)
-    kept_halves = both (list_all has_no_kept_string front) (has_no_kept_string line && list_all has_no_kept_string back) (sym (list_all-append has_no_kept_string front (line ∷ back)) ∙ ap (list_all has_no_kept_string) (sym parts) ∙ kept)
-
-    kept_behind : (has_no_kept_string line ≡ true) × (list_all has_no_kept_string back ≡ true)
-    kept_behind = both (has_no_kept_string line) (list_all has_no_kept_string back) kept_halves.1
-
     abbrev Free : List ℕ → Type 0
     Free = IsElse l
 
     clear_word_at : (place : ℕ) → place < 3 → IsClear Free (word_at words place)
     clear_word_at place low =
         let count = fits.count in
-        word_there (IsClear Free) words place (line_words l halves.1.inside l line halves.1.here kept_behind.0 (unpassed_form words Finalize form)) (omega (arith, low, count))
+        word_there (IsClear Free) words place (line_words l halves.1.inside l line halves.1.here (unpassed_form words Finalize form)) (omega (arith, low, count))
 
     sound : EachLine IsSound (finalize_lines l y f)
     sound = sound_lines l fits.low words Finalize (λ place low. let count = fits.count in sound_at words place (sound_words line fits.printable) (omega (arith, low, count)))
@@ -176,7 +168,7 @@ module _ (bytes : List ℕ) (fine : first_bad bytes ≡ None) (kept : HasNoKeptS
 
     pA : Passage all names Free nothing_known (map joined (finalize_lines l y f) ++ (lines_back ++ lines_last)) r.saids
     pA = passage all names Free lines_front (map joined (finalize_lines l y f) ++ (lines_back ++ lines_last)) nothing_known 1 r.saids
-        (clear_from all names l fits.low front false 1 halves.0 kept_halves.0 (λ m from to same. omega (arith, from, to, same)))
+        (clear_from all names l fits.low front false 1 halves.0 (λ m from to same. omega (arith, from, to, same)))
         (ap (λ ls. lines_from nothing_known 1 ls) (sym expanded) ∙ start) refl
 
     its_lines : Finalizer all Free pA.known (lines_back ++ lines_last) pA.later l y f
@@ -196,7 +188,7 @@ module _ (bytes : List ℕ) (fine : first_bad bytes ≡ None) (kept : HasNoKeptS
 
     pB : Passage all names Free its_lines.known lines_last its_lines.later
     pB = passage all names Free lines_back lines_last its_lines.known its_lines.number its_lines.later
-        (clear_from all names l fits.low back halves.1.inside_behind (l + 1) halves.1.behind kept_behind.1 (λ m from to same. omega (arith, from, to, same)))
+        (clear_from all names l fits.low back halves.1.inside_behind (l + 1) halves.1.behind (λ m from to same. omega (arith, from, to, same)))
         its_lines.goes
         (ap (λ ps. ps ++ map (text_of all) (begun its_lines.later)) its_lines.procs ∙ append_assoc pA.known.procs (proc_name l ∷ []) (map (text_of all) (begun its_lines.later)) ∙ begun_behind)
 
@@ -238,21 +230,21 @@ module _ (bytes : List ℕ) (fine : first_bad bytes ≡ None) (kept : HasNoKeptS
     own_text n (inr (inr (inr (inl same)))) = inr (inr (inr (inr (inl (sym its_lines.watch_is ∙ ap (text_of all) same)))))
     own_text n (inr (inr (inr (inr none)))) = absurd none
 
-    others : (texts : List ℕ) → AreFree all Free texts → AreOthers e texts
-    others texts free n m own = free n m (own_text n own)
+    others : (spoken : List ℕ) → AreFree all Free spoken → AreOthers e spoken
+    others spoken free n m own = free n m (own_text n own)
 
     own_proc : Includes (own_names l) (slice_index_or names proc [])
     own_proc = inl (sym (ap (λ ns. slice_index_or ns proc []) (sym begun_behind) ∙ seam pA.known.procs (map (text_of all) (begun its_lines.later)) (proc_name l)))
 
     other_command : (c : Command) → IsFine all names Free (Does c) → IsOther e c
     other_command c h = record {
-      texts = others (command_texts c) h.texts;
+      names = others (command_names c) h.names_are;
       makes = λ name cells same. h.makes name proc cells (ap Does same) own_proc;
     }
 
     other_call : (m : ℕ) → Includes numbers m → m ≢ l → IsOther e (commands.Call (operands.Name (place_of all (exit_name m))))
     other_call m k apart = record {
-      texts = λ n there own. either there
+      names = λ n there own. either there
           (λ same. other_text 103 m l (low_number m k) fits.low apart (subst (Includes (own_names l)) (ap (text_of all) (sym same) ∙ last.texts m (Includes-reversed numbers m k)) (own_text n own)))
           (λ none. absurd none);
       makes = λ name cells same. cc;
@@ -381,8 +373,8 @@ module _ (bytes : List ℕ) (fine : first_bad bytes ≡ None) (kept : HasNoKeptS
       middle_other = λ c m. either (Includes-append_cases commands_Y (calls_of all (reverse after)) c m) (Y_other c) (calls_other (reverse after) after_apart c);
       back_other = calls_other (reverse before) before_apart;
       bodies_other = bodies_other;
-      source_other = others (operand_texts its_lines.source) its_lines.source_free;
-      target_other = others (operand_texts its_lines.target) its_lines.target_free;
+      source_other = others (operand_names its_lines.source) its_lines.source_free;
+      target_other = others (operand_names its_lines.target) its_lines.target_free;
       classes_other = classes_other;
       watch_exit = λ same. own_apart 119 103 l (λ i. omega (arith, i)) (sym its_lines.watch_is ∙ ap (text_of all) same ∙ its_lines.exit_is);
       watch_function = λ same. own_apart 119 102 l (λ i. omega (arith, i)) (sym its_lines.watch_is ∙ ap (text_of all) same ∙ its_lines.function_is);
@@ -413,14 +405,14 @@ module _ (bytes : List ℕ) (fine : first_bad bytes ≡ None) (kept : HasNoKeptS
         let same : ls ≡ commands_X ++ (exit_commands e ++ commands_Y) = append_cancel_right ls (commands_X ++ (exit_commands e ++ commands_Y)) (calls_of all (reverse numbers))
         (sym whole ∙ commands_are ∙ ap (λ cs. commands_X ++ cs) (sym (append_assoc (exit_commands e) commands_Y (calls_of all (reverse numbers)))) ∙ sym (append_assoc commands_X (exit_commands e ++ commands_Y) (calls_of all (reverse numbers)))) in
         either (Includes-append_cases commands_X (exit_commands e ++ commands_Y) (commands.Call (operands.Name e.exit)) (subst (λ cs. Includes cs (commands.Call (operands.Name e.exit))) same m))
-        (λ k. (X_other (commands.Call (operands.Name e.exit)) k).texts e.exit (inl refl) (inr (inl refl)))
+        (λ k. (X_other (commands.Call (operands.Name e.exit)) k).names e.exit (inl refl) (inr (inl refl)))
         behind
       where
         behind : Includes (exit_commands e ++ commands_Y) (commands.Call (operands.Name e.exit)) → ⊥
         behind (inl i) = cc
         behind (inr (inl i)) = cc
         behind (inr (inr (inl i))) = cc
-        behind (inr (inr (inr k))) = (Y_other (commands.Call (operands.Name e.exit)) k).texts e.exit (inl refl) (inr (inl refl))
+        behind (inr (inr (inr k))) = (Y_other (commands.Call (operands.Name e.exit)) k).names e.exit (inl refl) (inr (inl refl))
 
   -- the exits of some lines
   record Built (ls : List Command) (k : ℕ) (rest : List (List ℕ)) : Type 0 where
@@ -459,7 +451,7 @@ module _ (bytes : List ℕ) (fine : first_bad bytes ≡ None) (kept : HasNoKeptS
 
   clear_any : (words : List (List ℕ)) → AreClear Any words
   clear_any [] = tt
-  clear_any (word ∷ words) = (record { itself = tt; string = λ q. tt; finalizer = λ name i. tt; legacy = λ name i. tt }, clear_any words)
+  clear_any (word ∷ words) = (record { itself = tt; finalizer = λ name i. tt; legacy = λ name i. tt }, clear_any words)
 
   whole_front : Passage all names Any nothing_known (final_lines lines) r.saids
   whole_front = passage all names Any (written_from 1 lines) (final_lines lines) nothing_known 1 r.saids (λ line m unpassed. clear_any (words_of line)) start refl
@@ -501,4 +493,4 @@ module _ (bytes : List ℕ) (fine : first_bad bytes ≡ None) (kept : HasNoKeptS
   }
 
 pub expanded_exits : ExpandedExitsAreThere
-expanded_exits bytes fine kept texts its e = exits_there bytes fine kept texts its (read_as (expansion bytes) texts its e)
+expanded_exits bytes fine texts its e = exits_there bytes fine texts its (read_as (expansion bytes) texts its e)

@@ -20,7 +20,7 @@ use Rattle.cg_script.specs.Meanings.{binding_form, formed, worded}
 use Rattle.cg_script.specs.Parts.{Known, numbered, operand_or, parts_of, place_in, value_text, with_text_if}
 use Rattle.cg_script.specs.Commands.{count_or, said}
 use Rattle.cg_script.specs.Reading.{good, known_after, lines_from, spoilt}
-use Rattle.cg_script.specs.Texts.{operand_texts}
+use Rattle.cg_script.specs.Texts.{operand_names}
 use Rattle.cg_script.specs.Canonical.{joined, text_of}
 use Rattle.cg_script.proofs.GoodLines.{faultless}
 use Rattle.cg_script.proofs.Joined.{words_of-joined}
@@ -32,7 +32,7 @@ use Rattle.cg_weakcoll.specs.MapLines.{StandsFor}
 use Rattle.cg_weakcoll.proofs.ExitNames.{EachLine, EachWord, IsSound, each_sound}
 use Rattle.cg_graph.specs.Member.{Includes}
 use Rattle.cg_graph.proofs.Members.{either}
-use Rattle.cg_weakcoll.proofs.FreeTexts.{AreFree, IsClear, value_free}
+use Rattle.cg_weakcoll.proofs.FreeNames.{AreFree, IsClear, value_free}
 use Rattle.cg_weakcoll.proofs.ReadLines.{does_all}
 use Rattle.cg_weakcoll.proofs.LookLines.{IsName, Line, added, all_begin, name_stands, one_line, same_text, stands_for}
 
@@ -166,8 +166,8 @@ pub record Finalizer (all : List (List ℕ)) (Free : List ℕ → Type 0) (known
   pub target : Operand
   pub source_is : StandsFor all f source
   pub target_is : StandsFor all y target
-  pub source_free : AreFree all Free (operand_texts source)
-  pub target_free : AreFree all Free (operand_texts target)
+  pub source_free : AreFree all Free (operand_names source)
+  pub target_free : AreFree all Free (operand_names target)
   pub later : List Said
   pub known : Known
   pub number : ℕ

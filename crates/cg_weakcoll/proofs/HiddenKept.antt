@@ -9,7 +9,7 @@ use Rattle.cg_script.specs.declared.Command.{Command}
 use Rattle.cg_script.specs.declared.Command.TheVariants.{Call, MakeFunc}
 use Rattle.cg_script.specs.declared.Operand.{Operand}
 use Rattle.cg_script.specs.declared.Operand.TheVariants.{Name}
-use Rattle.cg_script.specs.Texts.{command_texts}
+use Rattle.cg_script.specs.Texts.{command_names}
 use Rattle.cg_graph.specs.Member.{Includes}
 use Rattle.cg_graph.specs.Object.{Object}
 use Rattle.cg_graph.proofs.Members.{either, Includes-append_cases}
@@ -99,7 +99,7 @@ module _ (script : Script) (budget : ℕ) (e : Exit) where
     turned : (o : ℕ) → Hidden e.exit o (on a below v) → Hidden e.exit o (on b below v)
     turned o hid = taken_hidden e.exit o command a b below v takes hid
 
-    quiet_kept : ¬ Includes (command_texts command) e.exit → ((name : ℕ) (cells : List Operand) → command ≢ MakeFunc name e.proc cells) → Done script command (on b below v) b below events after → AreHidden e after
+    quiet_kept : ¬ Includes (command_names command) e.exit → ((name : ℕ) (cells : List Operand) → command ≢ MakeFunc name e.proc cells) → Done script command (on b below v) b below events after → AreHidden e after
     quiet_kept spoken makes done y m code class = either (done_comes script command b below v events after done y m)
         (λ x. later_kept (on a below v) after h (λ z i c hid. done_hidden script e.exit z.serial command b below v events after spoken done (turned z.serial hid)) x.0 y x.1 x.2 code class)
         (λ made. let c = made_func command y.code y.class e.proc made code class in absurd (makes c.0 c.1 c.2))

@@ -36,7 +36,7 @@ pub mod ExpandedStores
 pub mod WorkedCache
 pub mod MissLaws
 pub mod WorkedFinalizers
-pub mod FreeTexts
+pub mod FreeNames
 pub mod Stretches
 pub mod Passages
 pub mod ExitNames

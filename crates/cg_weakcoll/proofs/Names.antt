@@ -1,11 +1,12 @@
 -- What a step does to the names of an exit finalizer: other commands leave them.
-use Rattle.std.proofs.Common.{◌≡◌, ◌≢◌, refl, sym, ◌∙◌, ap, subst, ℕ, zero, suc, ◌-◌, Bool, true, false, List, [], ◌∷◌, Option, Some}
+use Rattle.std.proofs.Common.{◌≡◌, ◌≢◌, refl, sym, ◌∙◌, ap, subst, ℕ, zero, suc, ◌-◌, Bool, true, false, inl, List, [], ◌∷◌, Option, Some}
 use Rattle.std.specs.Prelude.{◌==◌, if◌then◌else◌, slice_get, slice_set}
 use Rattle.cg_value.specs.declared.Val.{Val}
 use Rattle.cg_value.specs.declared.Val.TheVariants.{Ref}
 use Rattle.cg_script.specs.declared.Script.{Script}
 use Rattle.cg_script.specs.declared.Command.{Command}
-use Rattle.cg_script.specs.Texts.{command_texts}
+use Rattle.cg_script.specs.declared.Operand.TheVariants.{Name}
+use Rattle.cg_script.specs.Texts.{command_names, operand_names}
 use Rattle.cg_graph.specs.Member.{Includes}
 use Rattle.cg_machine.specs.declared.event.Event.{Event}
 use Rattle.cg_machine.specs.declared.event.Event.TheVariants.{BudgetSpent, Enter}
@@ -15,7 +16,7 @@ use Rattle.cg_machine.specs.World.{World, Activity, Framed, BudgetIsSpent}
 use Rattle.cg_machine.specs.Frame.{Yields, procedure_of, start_frame}
 use Rattle.cg_machine.specs.Effects.{Changes, Effect}
 use Rattle.cg_machine.proofs.Invariants.{on}
-use Rattle.cg_machine.proofs.Shapes.{AsksWhy, Binds, Edits, Ends, Freezes, Inspects, Makes, Puts, Sets, Shape, Shows, StartsCollection, StartsFrame, Stays, Tells, Unfreezes}
+use Rattle.cg_machine.proofs.Shapes.{AsksWhy, Binds, Edits, Ends, Freezes, Inspects, IsWordOf, Makes, Puts, Sets, Shape, Shows, StartsCollection, StartsFrame, Stays, Tells, Unfreezes}
 use Rattle.cg_weakcoll.proofs.Went.{Asked, Began, Changed, Done, Stood, Stopped}
 
 -- another name is bound
@@ -32,9 +33,9 @@ set_got [] x v u e = absurd (cc)
 set_got (n ∷ names) zero v u e = let same : v ≡ u = cc in sym same
 set_got (n ∷ names) (suc x) v u e = set_got names x v u e
 
-module _ (u : World) (command : Command) (n : ℕ) (spoken : ¬ Includes (command_texts command) n) where
-  own_apart : (name : ℕ) → Includes (command_texts command) name → n ≢ name
-  own_apart name own e = spoken (subst (Includes (command_texts command)) (sym e) own)
+module _ (u : World) (command : Command) (n : ℕ) (spoken : ¬ Includes (command_names command) n) where
+  own_apart : (name : ℕ) → IsWordOf command (Name name) → n ≢ name
+  own_apart name own e = spoken (subst (Includes (command_names command)) (sym e) (own operand_names name (inl refl)))
 
   to_next : (told lines : List Event) (given_up given : List ℕ) (wanted wants : Bool) (after next : World) → slice_get after.names n ≡ slice_get u.names n → Changes wanted told given_up after ≡ Changes wants lines given next → slice_get next.names n ≡ slice_get u.names n
   to_next told lines given_up given wanted wants after next h e = let same : after ≡ next = cc in subst (λ (z : World). slice_get z.names n ≡ slice_get u.names n) same h
@@ -64,7 +65,7 @@ call_names script f p u events after step = go (u.budget == 0) step
     go false y = ap (λ (z : World). z.names) y.1
 
 -- a command that does not speak of a name leaves it
-pub done_names : (script : Script) (n : ℕ) (command : Command) (b : Activity) (below : List Activity) (v : World) (events : List Event) (after : World) → ¬ Includes (command_texts command) n → Done script command (on b below v) b below events after → slice_get after.names n ≡ slice_get v.names n
+pub done_names : (script : Script) (n : ℕ) (command : Command) (b : Activity) (below : List Activity) (v : World) (events : List Event) (after : World) → ¬ Includes (command_names command) n → Done script command (on b below v) b below events after → slice_get after.names n ≡ slice_get v.names n
 done_names script n command b below v events after spoken (Stood answers is) = ap (λ (z : World). slice_get z.names n) is
 done_names script n command b below v events after spoken (Stopped answers is) = ap (λ (z : World). slice_get z.names n) is
 done_names script n command b below v events after spoken (Changed wants given next is shape) = ap (λ (z : World). slice_get z.names n) is ∙ shape_names (on b below v) command n spoken (Changes wants events given next) shape wants events given next refl

@@ -1,4 +1,4 @@
--- What lines say whose words are free of some texts: no text and no procedure of these.
+-- What lines say whose words are free of some names: nothing of these, nor of a procedure of such a name.
 use Rattle.std.proofs.Common.{◌≡◌, ℕ, ◌+◌, ◌≤◌, List, [], ◌∷◌, ◌++◌, length, map, Bool, true, false, cond, Option, None, Some, refl, sym, ap, subst, ◌∙◌, inl, inr, ◌⊎◌, arith, codes, append_assoc, append-nil}
 use Rattle.std.specs.Prelude.{slice_index_or}
 use Rattle.std.proofs.lemmas.List.{map-append}
@@ -22,7 +22,6 @@ use Rattle.cg_script.specs.Parts.{Known, parts_of, parts_from, texts_from, numbe
 use Rattle.cg_script.specs.Commands.{count_or, del_if, legacy_if, first_some, said}
 use Rattle.cg_script.specs.Reading.{is_repeated, procs_after, known_after, good, lines_from}
 use Rattle.cg_script.specs.Canonical.{text_of}
-use Rattle.cg_script.proofs.Known.{said_texts}
 use Rattle.cg_script.proofs.Grouped.{inside_said}
 use Rattle.cg_script.proofs.GoodLines.{faultless, good_line}
 use Rattle.cg_script.proofs.Says.{says_of_line}
@@ -30,7 +29,7 @@ use Rattle.cg_script.proofs.Shown.{Begins, begins_along, begins_texts, name_foun
 use Rattle.cg_weakcoll.proofs.ReadLines.{First, Passes, Says, first_line}
 use Rattle.cg_weakcoll.proofs.LookLines.{all_begin}
 use Rattle.cg_weakcoll.proofs.Stretches.{IsPlain, begun, begun_by, through}
-use Rattle.cg_weakcoll.proofs.FreeTexts.{AreClear, AreFree, IsClear, texts_free}
+use Rattle.cg_weakcoll.proofs.FreeNames.{AreClear, AreFree, IsClear, names_free, said_names}
 
 abbrev is_whole : Said → Bool
 is_whole (Declares (items.Run c)) = true
@@ -63,10 +62,10 @@ module _ (all names : List (List ℕ)) (Free : List ℕ → Type 0) where
   abbrev pub NameFree : ℕ → Type 0
   NameFree k = Free (slice_index_or names k [])
 
-  -- A line says nothing of these texts and procedures.
+  -- A line says nothing of these names, nor of procedures of these.
   pub record IsFine (s : Said) : Type 0 where
     pub plain : IsPlain s
-    pub texts : AreFree all Free (said_texts s)
+    pub names_are : AreFree all Free (said_names s)
     pub makes : (name k : ℕ) (cells : List Operand) → s ≡ Does (commands.MakeFunc name k cells) → NameFree k
     pub finalizer : (c : ClassDef) (k : ℕ) → s ≡ Declares (items.Class c) → c.del ≡ Some k → NameFree k
     pub legacy : (c : ClassDef) (k : ℕ) → s ≡ Declares (items.Class c) → c.legacy ≡ Some k → NameFree k
@@ -170,7 +169,7 @@ module _ (all names : List (List ℕ)) (Free : List ℕ → Type 0) where
       → IsFine (said form (parts_of known form words))
   line_fine known form words procs clear enough there begins = record {
     plain = no_whole form (parts_of known form words);
-    texts = texts_free all Free known.procs known.classes form words known.texts clear enough begins;
+    names_are = names_free all Free known.procs known.classes form words known.texts clear enough begins;
     makes = makes_free known.procs known.classes form words known.texts procs clear enough there;
     finalizer = class_del known.procs known.classes form words known.texts procs clear;
     legacy = class_legacy known.procs known.classes form words known.texts procs clear;

@@ -8,7 +8,7 @@ use Rattle.cg_value.specs.declared.Entry.{Entry}
 use Rattle.cg_script.specs.declared.Command.{Command}
 use Rattle.cg_script.specs.declared.Operand.{Operand}
 use Rattle.cg_script.specs.declared.Operand.TheVariants.{None as NoneWord, Int as IntWord, Str as StrWord, Name, SelfLocal, WeakLocal, Cell, Garbage}
-use Rattle.cg_script.specs.Texts.{command_texts, operand_texts}
+use Rattle.cg_script.specs.Texts.{command_names, operand_names}
 use Rattle.cg_graph.specs.Member.{Includes}
 use Rattle.cg_graph.specs.Object.{Object, entries_of, object_at}
 use Rattle.cg_graph.specs.Value.{reference_in, references, references_of_value}
@@ -18,7 +18,7 @@ use Rattle.cg_machine.specs.World.{World, Activity, Framed, Frame}
 use Rattle.cg_machine.specs.Operands.{frame_on, self_in, weak_in, value_of}
 use Rattle.cg_machine.proofs.CommandRefs.{HoldNone, got_free, option_held}
 use Rattle.cg_machine.proofs.Lookups.{found_at, references_of_member}
-use Rattle.cg_machine.proofs.Shapes.{IsAtHand, KeyIn, ReferentOf, ValueIn, Word}
+use Rattle.cg_machine.proofs.Shapes.{IsAtHand, KeyIn, NoneThere, ReferentOf, ValueIn, Word}
 use Rattle.cg_laws.specs.Apart.{IsFound}
 
 -- what a name stands for
@@ -76,7 +76,7 @@ module _ (n o : ℕ) (w : World) (h : Hidden n o w) where
       go None k = none_not v k
       go (Some s) k = entry_not s i v k
 
-  pub operand_not : (operand : Operand) (v : Val) → ¬ Includes (operand_texts operand) n → value_of w operand ≡ Some v → IsNot v
+  pub operand_not : (operand : Operand) (v : Val) → ¬ Includes (operand_names operand) n → value_of w operand ≡ Some v → IsNot v
   operand_not NoneWord v own e = same_not Nothing v e (λ r. let no : None ≡ Some o = r in cc)
   operand_not (IntWord i) v own e = same_not (Int i) v e (λ r. let no : None ≡ Some o = r in cc)
   operand_not (StrWord s) v own e = same_not (Str s) v e (λ r. let no : None ≡ Some o = r in cc)
@@ -86,8 +86,9 @@ module _ (n o : ℕ) (w : World) (h : Hidden n o w) where
   operand_not (Cell i) v own e = cell_not (frame_on w.stack) i v e
   operand_not Garbage v own e = same_not (Ref 1) v e (λ r. let same : 1 ≡ o = cc in h.root (sym same))
 
-  pub hand_not : (command : Command) (v : Val) → ¬ Includes (command_texts command) n → IsAtHand w command v → IsNot v
-  hand_not command v apart (Word operand u own e) = operand_not operand v (λ m. apart (own n m)) e
+  pub hand_not : (command : Command) (v : Val) → ¬ Includes (command_names command) n → IsAtHand w command v → IsNot v
+  hand_not command v apart NoneThere = λ r. let no : None ≡ Some o = r in cc
+  hand_not command v apart (Word operand u own e) = operand_not operand v (λ m. apart (own operand_names n m)) e
   hand_not command v apart (ValueIn x e m hand i) = λ r. h.entries x m (references_of_member x.entries e o i (Includes-append_left (option_to_list (reference_in e.val)) (option_to_list (reference_in e.key)) o (option_held (reference_in e.val) o r)))
   hand_not command v apart (KeyIn x e m hand i) = λ r. h.entries x m (references_of_member x.entries e o i (Includes-append_right (option_to_list (reference_in e.val)) (option_to_list (reference_in e.key)) o (option_held (reference_in e.key) o r)))
   hand_not command v apart (ReferentOf x q m hand e) = λ r. h.referents x m (e ∙ r)

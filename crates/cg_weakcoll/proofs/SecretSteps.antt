@@ -11,7 +11,7 @@ use Rattle.cg_value.specs.declared.Val.TheVariants.{None as Nothing, Ref}
 use Rattle.cg_value.specs.declared.Entry.{Entry}
 use Rattle.cg_script.specs.declared.Script.{Script}
 use Rattle.cg_script.specs.declared.Command.{Command}
-use Rattle.cg_script.specs.Texts.{command_texts}
+use Rattle.cg_script.specs.Texts.{command_names}
 use Rattle.cg_graph.specs.Member.{Includes, includes}
 use Rattle.cg_graph.specs.Object.{Object, change, is_at, is_tracked, objects_at, same_place, serials, with_entries, with_place}
 use Rattle.cg_graph.specs.Holdings.{Graph, entry_holdings, graph_of, name_holdings, occurrences}
@@ -238,7 +238,7 @@ pub unfrozen_found : (p : Place) → IsFound (unfrozen p) → IsFound p
 unfrozen_found Frozen f = f
 unfrozen_found p f = f
 
-module _ (n o : ℕ) (u : World) (command : Command) (h : Hidden n o u) (spoken : ¬ Includes (command_texts command) n) where
+module _ (n o : ℕ) (u : World) (command : Command) (h : Hidden n o u) (spoken : ¬ Includes (command_names command) n) where
   -- an object that was there
   abbrev Unshown : Object → Type 0
   Unshown y = (¬ Includes (references y.entries) o) × (y.referent ≢ Some o) × (y.serial ≡ o → (¬ IsFound y.place) × (y.code ≢ Inst))
@@ -347,7 +347,7 @@ called_hidden script n o f p u events after step h = go (u.budget == 0) step
     go false s = subst (Hidden n o) (sym s.1) (restacked n o u _ refl refl refl (λ g m. locals g (either m (λ e. inl (frame_is g e)) (λ i. inr i))) h)
 
 -- a command that does not speak of the name
-pub done_hidden : (script : Script) (n o : ℕ) (command : Command) (b : Activity) (below : List Activity) (v : World) (events : List Event) (after : World) → ¬ Includes (command_texts command) n → Done script command (on b below v) b below events after → Hidden n o (on b below v) → Hidden n o after
+pub done_hidden : (script : Script) (n o : ℕ) (command : Command) (b : Activity) (below : List Activity) (v : World) (events : List Event) (after : World) → ¬ Includes (command_names command) n → Done script command (on b below v) b below events after → Hidden n o (on b below v) → Hidden n o after
 done_hidden script n o command b below v events after spoken (Stood answers is) h = subst (Hidden n o) (sym is) h
 done_hidden script n o command b below v events after spoken (Stopped answers is) h = subst (Hidden n o) (sym is) (emptied_hidden n o b below v h)
 done_hidden script n o command b below v events after spoken (Changed wants given next is shape) h = subst (Hidden n o) (sym is)

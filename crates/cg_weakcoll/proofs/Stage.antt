@@ -7,7 +7,7 @@ use Rattle.cg_script.specs.declared.Command.{Command}
 use Rattle.cg_script.specs.declared.Command.TheVariants.{Bind, Call, Del, Deref, MakeFunc, Quit}
 use Rattle.cg_script.specs.declared.Operand.{Operand}
 use Rattle.cg_script.specs.declared.Operand.TheVariants.{Name}
-use Rattle.cg_script.specs.Texts.{command_texts, operand_texts}
+use Rattle.cg_script.specs.Texts.{command_names, operand_names}
 use Rattle.cg_graph.specs.Member.{Includes}
 use Rattle.cg_graph.proofs.Members.{either, Includes-append_cases, Includes-append_right}
 use Rattle.cg_machine.specs.Program.{commands_of}
@@ -74,7 +74,7 @@ pub data Stage (script : Script) (e : Exit) (Q : List Command → Type 0) (calls
 
 -- what a command that is taken may be
 pub data IsTold (e : Exit) (command : Command) : Type 0 where
-  Quiet : ¬ Includes (command_texts command) e.exit → ((name : ℕ) (cells : List Operand) → command ≢ MakeFunc name e.proc cells) → IsTold e command
+  Quiet : ¬ Includes (command_names command) e.exit → ((name : ℕ) (cells : List Operand) → command ≢ MakeFunc name e.proc cells) → IsTold e command
   MakesIt : command ≡ MakeFunc e.exit e.proc [] → IsTold e command
   CallsIt : command ≡ Call (Name e.exit) → IsTold e command
 
@@ -102,7 +102,7 @@ top_is xs ys is = cc
 module _ (script : Script) (budget : ℕ) (e : Exit) (ex : IsExit script e) where
   -- the commands of the procedure
   abbrev pub IsQuiet : Command → Type 0
-  IsQuiet c = (¬ Includes (command_texts c) e.exit) × ((name : ℕ) (cells : List Operand) → c ≢ MakeFunc name e.proc cells)
+  IsQuiet c = (¬ Includes (command_names c) e.exit) × ((name : ℕ) (cells : List Operand) → c ≢ MakeFunc name e.proc cells)
 
   pub tail_quiet : (commands rest : List Command) (c : Command) → IsTail e commands → commands ≡ c ∷ rest → IsQuiet c × (IsTail e rest ⊎ (rest ≡ []))
   tail_quiet commands rest c AtDeref is = let h = heads _ c _ rest is in (subst IsQuiet h.0 (λ m. either m (λ i. ex.exit_object (sym i)) (λ k. either k (λ i. ex.watch_exit i) (λ none. none)), λ n cs i. cc), inl (subst (IsTail e) h.1 AtQuit))
@@ -114,14 +114,14 @@ module _ (script : Script) (budget : ℕ) (e : Exit) (ex : IsExit script e) wher
   other_told : (c : Command) → IsOther e c → IsTold e c
   other_told c h = Quiet (other_exit script budget e ex c h) h.makes
 
-  not_exit : (texts : List ℕ) → AreOthers e texts → ¬ Includes texts e.exit
-  not_exit texts h m = h e.exit m (inr (inl refl))
+  not_exit : (names : List ℕ) → AreOthers e names → ¬ Includes names e.exit
+  not_exit names h m = h e.exit m (inr (inl refl))
 
   pub position_told : (c : Command) (rest : List Command) → Position script e ex c rest → IsTold e c
   position_told c rest (InOther h) = other_told c h
   position_told c rest (InFirst is) = MakesIt is
-  position_told c rest (InSecond is) = subst (IsTold e) (sym is) (Quiet (λ m. either m (λ i. ex.exit_function (sym i)) (not_exit (operand_texts e.source) ex.source_other)) (λ n cs i. cc))
-  position_told c rest (InThird is at) = subst (IsTold e) (sym is) (Quiet (λ m. either m (λ i. ex.watch_exit i) (λ k. either (Includes-append_cases (operand_texts e.target) (e.function ∷ []) e.exit k) (not_exit (operand_texts e.target) ex.target_other) (λ l. either l (λ i. ex.exit_function (sym i)) (λ none. none)))) (λ n cs i. cc))
+  position_told c rest (InSecond is) = subst (IsTold e) (sym is) (Quiet (λ m. either m (λ i. ex.exit_function (sym i)) (not_exit (operand_names e.source) ex.source_other)) (λ n cs i. cc))
+  position_told c rest (InThird is at) = subst (IsTold e) (sym is) (Quiet (λ m. either m (λ i. ex.watch_exit i) (λ k. either (Includes-append_cases (operand_names e.target) (e.function ∷ []) e.exit k) (not_exit (operand_names e.target) ex.target_other) (λ l. either l (λ i. ex.exit_function (sym i)) (λ none. none)))) (λ n cs i. cc))
   position_told c rest (InLast is at) = CallsIt is
 
   high_told : (c : Command) (a b : Activity) → Takes c a b → AllOther e (commands_on a) → IsTold e c

@@ -8,7 +8,7 @@ use Rattle.cg_script.specs.declared.Script.{Script}
 use Rattle.cg_script.specs.declared.Command.{Command}
 use Rattle.cg_script.specs.declared.Command.TheVariants.{Bind, Call, MakeFunc}
 use Rattle.cg_script.specs.declared.Operand.TheVariants.{Name}
-use Rattle.cg_script.specs.Texts.{command_texts}
+use Rattle.cg_script.specs.Texts.{command_names}
 use Rattle.cg_graph.specs.Member.{Includes}
 use Rattle.cg_graph.proofs.Members.{cases_of, either, Includes-append_cases}
 use Rattle.cg_machine.specs.declared.event.Event.{Event}
@@ -113,7 +113,7 @@ module _ (script : Script) (budget : ℕ) (e : Exit) (ex : IsExit script e) (P :
       (λ y. called_before calls (procedure_of (on (TopLevel commands) [] v) y.object.serial) y.object.serial done commands c (on (TopLevel commands) [] v) events after none at refl (rest_other (positioned script e ex done commands c at)) y.begins))
     where
       rest_other : Position script e ex c commands → AllOther e commands
-      rest_other (InOther o) = absurd (o.texts e.exit (subst (λ (x : Command). Includes (command_texts x) e.exit) (sym is) (inl refl)) (inr (inl refl)))
+      rest_other (InOther o) = absurd (o.names e.exit (subst (λ (x : Command). Includes (command_names x) e.exit) (sym is) (inl refl)) (inr (inl refl)))
       rest_other (InFirst i) = absurd (let no : MakeFunc e.exit e.proc [] ≡ Call (Name e.exit) = sym i ∙ is in cc)
       rest_other (InSecond i) = absurd (let no : Bind e.function e.source ≡ Call (Name e.exit) = sym i ∙ is in cc)
       rest_other (InThird i at) = absurd (let no : watch_command e ≡ Call (Name e.exit) = sym i ∙ is in cc)
@@ -277,7 +277,7 @@ module _ (script : Script) (budget : ℕ) (e : Exit) (ex : IsExit script e) (P :
             (λ i. subst (λ (y : Activity). AllOther e (commands_on y)) (sym is_frame ∙ i) (λ y n. absurd (subst (λ ys. Includes ys y) end n))) (own x))) few)
         goes g c same is_frame hc t zero known (IsEnded st) = to_stack _ (emptied c ∷ below) after.stack st (After (emptied_tame c below hc own) few)
 
-        taken_frame : (c : Command) (x y : Activity) → Takes c x y → HasCommands y → Framed f ≡ x → ((¬ Includes (command_texts c) e.exit) → DoneStack script budget e ex y below after.stack) → IsStage (calls + step_calls w events) after.stack
+        taken_frame : (c : Command) (x y : Activity) → Takes c x y → HasCommands y → Framed f ≡ x → ((¬ Includes (command_names c) e.exit) → DoneStack script budget e ex y below after.stack) → IsStage (calls + step_calls w events) after.stack
         taken_frame c x y (FromTop cs) hy is_f dones = absurd (cc)
         taken_frame c x y (FromFrame g cs left) hy is_f dones =
             let s = same_top script budget e ex (Framed f) a (TopLevel commands ∷ []) below w.stack top (ap (λ (z : World). z.stack) is) in

@@ -10,7 +10,7 @@ use Rattle.cg_script.specs.declared.ClassDef.{ClassDef}
 use Rattle.cg_script.specs.declared.Command.{Command}
 use Rattle.cg_script.specs.declared.Command.TheVariants.{Call}
 use Rattle.cg_script.specs.declared.Operand.TheVariants.{Name}
-use Rattle.cg_script.specs.Texts.{command_texts}
+use Rattle.cg_script.specs.Texts.{command_names}
 use Rattle.cg_graph.specs.Member.{Includes}
 use Rattle.cg_graph.specs.Object.{Object}
 use Rattle.cg_graph.specs.Value.{references}
@@ -172,7 +172,7 @@ module _ (script : Script) (budget : ℕ) (e : Exit) (ex : IsExit script e) wher
       go true y = inl (ap (λ (z : World). z.stack) y.1)
       go false y = inr (ap (λ (z : World). z.stack) y.1)
 
-  pub done_stack : (command : Command) (a b : Activity) (below : List Activity) (v : World) (events : List Event) (after : World) → Takes command a b → Known script budget (on a below v) → AreHidden e (on a below v) → ¬ Includes (command_texts command) e.exit
+  pub done_stack : (command : Command) (a b : Activity) (below : List Activity) (v : World) (events : List Event) (after : World) → Takes command a b → Known script budget (on a below v) → AreHidden e (on a below v) → ¬ Includes (command_names command) e.exit
       → Done script command (on b below v) b below events after → DoneStack b below after.stack
   done_stack command a b below v events after takes k hidden spoken (Stood answers is) = GoesOn [] (ap (λ (z : World). z.stack) is) (λ c m. absurd m)
   done_stack command a b below v events after takes k hidden spoken (Stopped answers is) = IsEnded (ap (λ (z : World). z.stack) is)
@@ -185,11 +185,11 @@ module _ (script : Script) (budget : ℕ) (e : Exit) (ex : IsExit script e) wher
   done_stack command a b below v events after takes k hidden spoken (Asked g none is) = GoesOn (new_collection g true (on b below v) ∷ []) (ap (λ (z : World). z.stack) is) (one_high (new_collection g true (on b below v)) tt)
 
   -- another line's command calls nothing of these
-  pub other_exit : (command : Command) → IsOther e command → ¬ Includes (command_texts command) e.exit
-  other_exit command h m = h.texts e.exit m (inr (inl refl))
+  pub other_exit : (command : Command) → IsOther e command → ¬ Includes (command_names command) e.exit
+  other_exit command h m = h.names e.exit m (inr (inl refl))
 
   pub other_call : (command : Command) → IsOther e command → is_call e.function (Some command) ≡ false
-  other_call (Call (Name x)) h = ne_eqb x e.function (λ i. h.texts x (inl refl) (inr (inr (inl (sym i)))))
+  other_call (Call (Name x)) h = ne_eqb x e.function (λ i. h.names x (inl refl) (inr (inr (inl (sym i)))))
   other_call command h = refl
 
   pub others_call : (commands : List Command) → AllOther e commands → is_call e.function (first_of commands) ≡ false

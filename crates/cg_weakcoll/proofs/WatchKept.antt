@@ -7,7 +7,7 @@ use Rattle.cg_script.specs.declared.Script.{Script}
 use Rattle.cg_script.specs.declared.Command.{Command}
 use Rattle.cg_script.specs.declared.Command.TheVariants.{Call, Del, Deref}
 use Rattle.cg_script.specs.declared.Operand.TheVariants.{Name}
-use Rattle.cg_script.specs.Texts.{command_texts}
+use Rattle.cg_script.specs.Texts.{command_names}
 use Rattle.cg_graph.specs.Member.{Includes}
 use Rattle.cg_graph.specs.Object.{Object}
 use Rattle.cg_graph.specs.Value.{references_of_value}
@@ -44,7 +44,7 @@ use Rattle.cg_weakcoll.proofs.Went.{Acted, Asked, Began, Bottomed, Changed, Comm
 
 -- what a command that is taken may be to the weak reference's name
 pub data Minds (e : Exit) (command : Command) : Type 0 where
-  Quiet : ¬ Includes (command_texts command) e.watch → Minds e command
+  Quiet : ¬ Includes (command_names command) e.watch → Minds e command
   DerefIt : command ≡ Deref e.object (Name e.watch) → Minds e command
   DelIt : command ≡ Del e.watch → Minds e command
 
@@ -64,7 +64,7 @@ object_there u (Str i) x at = absurd (cc)
 
 module _ (script : Script) (budget : ℕ) (e : Exit) (ex : IsExit script e) where
   other_minds : (c : Command) → IsOther e c → Minds e c
-  other_minds c h = Quiet (λ m. h.texts e.watch m (inr (inr (inr (inl refl)))))
+  other_minds c h = Quiet (λ m. h.names e.watch m (inr (inr (inr (inl refl)))))
 
   tail_minds : (fs cs : List Command) (c : Command) → IsTail e fs → fs ≡ c ∷ cs → Minds e c
   tail_minds fs cs c AtDeref is = DerefIt (sym (heads _ c _ cs is).0)

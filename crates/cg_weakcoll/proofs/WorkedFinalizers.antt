@@ -1,4 +1,4 @@
--- The worked script with two exit finalizers, by computation.
+-- The worked script with two exit finalizers and a string that is written like a name of one, by computation.
 use Rattle.std.proofs.Common.{◌≡◌, ◌≢◌, refl, sym, ◌∙◌, ap, subst, ℕ, zero, suc, ◌+◌, Bool, true, false, not, ◌&&◌, ◌||◌, List, [], ◌∷◌, Some, inl, inr, arith}
 use Rattle.std.specs.Prelude.{◌==◌, option_map, slice_get, unwrap_or}
 use Rattle.std.specs.Fmt.{digits}
@@ -7,9 +7,9 @@ use Rattle.std.proofs.lemmas.Bool.{eq-eqb, eqb-true}
 use Rattle.cg_script.specs.declared.ClassDef.{ClassDef}
 use Rattle.cg_script.specs.declared.Proc.{Proc}
 use Rattle.cg_script.specs.declared.Command.{Command}
-use Rattle.cg_script.specs.declared.Command.TheVariants.{Bind, Call, Del, MakeFunc, MakeInst, MakeRef}
-use Rattle.cg_script.specs.declared.Operand.TheVariants.{Name}
-use Rattle.cg_script.specs.Texts.{command_texts, operand_texts}
+use Rattle.cg_script.specs.declared.Command.TheVariants.{Bind, Call, Del, MakeFunc, MakeInst, MakeRef, Print}
+use Rattle.cg_script.specs.declared.Operand.TheVariants.{Name, Str as StrWord}
+use Rattle.cg_script.specs.Texts.{command_names, operand_names}
 use Rattle.cg_script.specs.Words.{atoms}
 use Rattle.cg_script.specs.Forms.{bindings, openers}
 use Rattle.cg_script.specs.Meanings.{meaning}
@@ -31,10 +31,10 @@ makes_proc p (MakeFunc name proc cells) = proc == p
 makes_proc p command = false
 
 abbrev others_pass : Exit → List ℕ → Bool
-others_pass e texts = list_all (λ t. not (includes (names_of e) t)) texts
+others_pass e names = list_all (λ t. not (includes (names_of e) t)) names
 
 abbrev other_passes : Exit → Command → Bool
-other_passes e command = others_pass e (command_texts command) && not (makes_proc e.proc command)
+other_passes e command = others_pass e (command_names command) && not (makes_proc e.proc command)
 
 abbrev all_pass : Exit → List Command → Bool
 all_pass e [] = true
@@ -48,16 +48,16 @@ not_true : (b : Bool) → not b ≡ true → b ≡ false
 not_true true i = cc
 not_true false i = refl
 
-others_told : (e : Exit) (texts : List ℕ) → others_pass e texts ≡ true → AreOthers e texts
-others_told e [] passes text m = absurd m
-others_told e (t ∷ texts) passes text (inl is) = λ own. let p = not_true (includes (names_of e) t) (true_and (not (includes (names_of e) t)) (others_pass e texts) passes).0 in let no : true ≡ false = sym (includes-of (names_of e) t (subst (Includes (names_of e)) (sym is) own)) ∙ p in cc
-others_told e (t ∷ texts) passes text (inr m) = others_told e texts (true_and (not (includes (names_of e) t)) (others_pass e texts) passes).1 text m
+others_told : (e : Exit) (names : List ℕ) → others_pass e names ≡ true → AreOthers e names
+others_told e [] passes name m = absurd m
+others_told e (t ∷ names) passes name (inl is) = λ own. let p = not_true (includes (names_of e) t) (true_and (not (includes (names_of e) t)) (others_pass e names) passes).0 in let no : true ≡ false = sym (includes-of (names_of e) t (subst (Includes (names_of e)) (sym is) own)) ∙ p in cc
+others_told e (t ∷ names) passes name (inr m) = others_told e names (true_and (not (includes (names_of e) t)) (others_pass e names) passes).1 name m
 
 other_told : (e : Exit) (command : Command) → other_passes e command ≡ true → IsOther e command
 other_told e command passes =
-    let both = true_and (others_pass e (command_texts command)) (not (makes_proc e.proc command)) passes in
+    let both = true_and (others_pass e (command_names command)) (not (makes_proc e.proc command)) passes in
     record {
-      texts = others_told e (command_texts command) both.0;
+      names = others_told e (command_names command) both.0;
       makes = λ name cells is. let no : true ≡ false = sym (ap (makes_proc e.proc) is ∙ eq-eqb e.proc e.proc refl) ∙ not_true (makes_proc e.proc command) both.1 in cc;
     }
 
@@ -79,15 +79,15 @@ first_there : IsExit their_script the_first
 first_there = record {
   body = refl;
   front = MakeFunc 2 0 [] ∷ MakeInst 3 0 ∷ MakeInst 4 0 ∷ [];
-  middle = MakeFunc 14 2 [] ∷ Bind 13 (Name 2) ∷ MakeRef 12 (Name 4) (Name 13) ∷ Del 3 ∷ Call (Name 14) ∷ [];
+  middle = MakeFunc 14 2 [] ∷ Bind 13 (Name 2) ∷ MakeRef 12 (Name 4) (Name 13) ∷ Del 3 ∷ Print (StrWord 6) ∷ Call (Name 14) ∷ [];
   back = [];
   commands = refl;
   front_other = all_told the_first (MakeFunc 2 0 [] ∷ MakeInst 3 0 ∷ MakeInst 4 0 ∷ []) refl;
-  middle_other = all_told the_first (MakeFunc 14 2 [] ∷ Bind 13 (Name 2) ∷ MakeRef 12 (Name 4) (Name 13) ∷ Del 3 ∷ Call (Name 14) ∷ []) refl;
+  middle_other = all_told the_first (MakeFunc 14 2 [] ∷ Bind 13 (Name 2) ∷ MakeRef 12 (Name 4) (Name 13) ∷ Del 3 ∷ Print (StrWord 6) ∷ Call (Name 14) ∷ []) refl;
   back_other = all_told the_first [] refl;
   bodies_other = λ proc apart. bodies_told the_first 0 (procedures their_script.items) refl proc (λ same. apart (omega (arith, same)));
-  source_other = others_told the_first (operand_texts the_first.source) refl;
-  target_other = others_told the_first (operand_texts the_first.target) refl;
+  source_other = others_told the_first (operand_names the_first.source) refl;
+  target_other = others_told the_first (operand_names the_first.target) refl;
   classes_other = classes_told 1;
   watch_exit = λ i. omega (arith, i);
   watch_function = λ i. omega (arith, i);
@@ -101,15 +101,15 @@ second_there : IsExit their_script the_second
 second_there = record {
   body = refl;
   front = MakeFunc 2 0 [] ∷ MakeInst 3 0 ∷ MakeInst 4 0 ∷ MakeFunc 9 1 [] ∷ Bind 8 (Name 2) ∷ MakeRef 7 (Name 3) (Name 8) ∷ [];
-  middle = Del 3 ∷ [];
+  middle = Del 3 ∷ Print (StrWord 6) ∷ [];
   back = Call (Name 9) ∷ [];
   commands = refl;
   front_other = all_told the_second (MakeFunc 2 0 [] ∷ MakeInst 3 0 ∷ MakeInst 4 0 ∷ MakeFunc 9 1 [] ∷ Bind 8 (Name 2) ∷ MakeRef 7 (Name 3) (Name 8) ∷ []) refl;
-  middle_other = all_told the_second (Del 3 ∷ []) refl;
+  middle_other = all_told the_second (Del 3 ∷ Print (StrWord 6) ∷ []) refl;
   back_other = all_told the_second (Call (Name 9) ∷ []) refl;
   bodies_other = λ proc apart. bodies_told the_second 0 (procedures their_script.items) refl proc (λ same. apart (omega (arith, same)));
-  source_other = others_told the_second (operand_texts the_second.source) refl;
-  target_other = others_told the_second (operand_texts the_second.target) refl;
+  source_other = others_told the_second (operand_names the_second.source) refl;
+  target_other = others_told the_second (operand_names the_second.target) refl;
   classes_other = classes_told 2;
   watch_exit = λ i. omega (arith, i);
   watch_function = λ i. omega (arith, i);
@@ -134,7 +134,7 @@ apart_told (c ∷ commands) passes command (inl is) t = let n = not_true (calls 
 apart_told (c ∷ commands) passes command (inr m) t = apart_told commands (true_and (not (calls c)) (none_calls commands) passes).1 command m t
 
 the_lines : List Command
-the_lines = MakeFunc 2 0 [] ∷ MakeInst 3 0 ∷ MakeInst 4 0 ∷ MakeFunc 9 1 [] ∷ Bind 8 (Name 2) ∷ MakeRef 7 (Name 3) (Name 8) ∷ MakeFunc 14 2 [] ∷ Bind 13 (Name 2) ∷ MakeRef 12 (Name 4) (Name 13) ∷ Del 3 ∷ []
+the_lines = MakeFunc 2 0 [] ∷ MakeInst 3 0 ∷ MakeInst 4 0 ∷ MakeFunc 9 1 [] ∷ Bind 8 (Name 2) ∷ MakeRef 7 (Name 3) (Name 8) ∷ MakeFunc 14 2 [] ∷ Bind 13 (Name 2) ∷ MakeRef 12 (Name 4) (Name 13) ∷ Del 3 ∷ Print (StrWord 6) ∷ []
 
 pub both : HasBoth
 unfolding the_lines

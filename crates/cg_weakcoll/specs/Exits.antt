@@ -9,7 +9,7 @@ use Rattle.cg_script.specs.declared.Command.{Command}
 use Rattle.cg_script.specs.declared.Command.TheVariants.{Bind, Call, Del, Deref, MakeFunc, MakeRef, Quit}
 use Rattle.cg_script.specs.declared.Operand.{Operand}
 use Rattle.cg_script.specs.declared.Operand.TheVariants.{Name}
-use Rattle.cg_script.specs.Texts.{TextsAreKnown, command_texts, operand_texts}
+use Rattle.cg_script.specs.Texts.{TextsAreKnown, command_names, operand_names}
 use Rattle.cg_graph.specs.Member.{Includes}
 use Rattle.cg_graph.specs.Object.{Object}
 use Rattle.cg_machine.specs.declared.event.Event.{Event}
@@ -48,13 +48,14 @@ watch_command e = MakeRef e.watch e.target (Name e.function)
 abbrev pub exit_commands : Exit → List Command
 exit_commands e = MakeFunc e.exit e.proc [] ∷ Bind e.function e.source ∷ watch_command e ∷ []
 
--- texts of other lines: none is a name of the finalizer
+-- names of other lines: none is a name of the finalizer
 abbrev pub AreOthers : Exit → List ℕ → Type 0
-AreOthers e texts = (text : ℕ) → Includes texts text → ¬ Includes (names_of e) text
+AreOthers e names = (name : ℕ) → Includes names name → ¬ Includes (names_of e) name
 
--- a command of another line: it names none of these, and makes no function of the procedure
+-- A command of another line: it names none of these, and makes no function of the procedure. A string or an attribute may be written
+-- like one of them: it is no name.
 pub record IsOther (e : Exit) (command : Command) : Type 0 where
-  pub texts : AreOthers e (command_texts command)
+  pub names : AreOthers e (command_names command)
   pub makes : (name : ℕ) (cells : List Operand) → command ≢ MakeFunc name e.proc cells
 
 -- all of some commands
@@ -72,8 +73,8 @@ pub record IsExit (script : Script) (e : Exit) : Type 0 where
   pub middle_other : AllOther e middle
   pub back_other : AllOther e back
   pub bodies_other : (proc : ℕ) → proc ≢ e.proc → AllOther e (body_of script proc)
-  pub source_other : AreOthers e (operand_texts e.source)
-  pub target_other : AreOthers e (operand_texts e.target)
+  pub source_other : AreOthers e (operand_names e.source)
+  pub target_other : AreOthers e (operand_names e.target)
   pub classes_other : (class : ClassDef) → Includes (classes script.items) class → (class.del ≢ Some e.proc) × (class.legacy ≢ Some e.proc)
   pub watch_exit : e.watch ≢ e.exit
   pub watch_function : e.watch ≢ e.function

@@ -1,22 +1,12 @@
 -- What the `finalize` lines of an extended script are once its expansion is read: exit finalizers of the script that it spells. (Ours.)
-use Rattle.std.specs.Prelude.{◌≡◌, ℕ, ◌+◌, Bool, true, false, not, ◌||◌, List, [], ◌∷◌, None, codes}
-use Rattle.std.specs.List.{list_all, list_any}
+use Rattle.std.specs.Prelude.{◌≡◌, ℕ, ◌+◌, true, false, List, [], ◌∷◌, None}
 use Rattle.cg_script.specs.declared.item.Item.{Item}
 use Rattle.cg_script.specs.Canonical.{name_of, procs_in, text_of}
-use Rattle.cg_script.specs.Meanings.{is_passed}
 use Rattle.cg_script.specs.Pieces.{lines_of, words_of, word_at}
 use Rattle.cg_script.specs.Reading.{reading, spells}
-use Rattle.cg_weakcoll.specs.Expansion.{begins_with, exit_name, expansion, finalizes, first_bad, function_name, object_name, proc_name, watch_name}
+use Rattle.cg_weakcoll.specs.Expansion.{exit_name, expansion, finalizes, first_bad, function_name, object_name, proc_name, watch_name}
 use Rattle.cg_weakcoll.specs.Exits.{AreExits, Exit}
 use Rattle.cg_weakcoll.specs.MapLines.{StandsFor}
-
--- A string and a variable that are written alike have one text, so a string may be written like a name that an expansion brings. A line has
--- no such string.
-abbrev pub has_no_kept_string : List ℕ → Bool
-has_no_kept_string line = is_passed (words_of line) || not (list_any (begins_with (codes "'wv_")) (words_of line))
-
-abbrev pub HasNoKeptStrings : List ℕ → Type 0
-HasNoKeptStrings bytes = list_all has_no_kept_string (lines_of bytes) ≡ true
 
 -- an exit finalizer is that of the `finalize` line of this number
 pub record IsExitOf (texts : List (List ℕ)) (items : List Item) (l : ℕ) (line : List ℕ) (e : Exit) : Type 0 where
@@ -42,5 +32,5 @@ pub record HasExitsOf (texts : List (List ℕ)) (items : List Item) (lines : Lis
 
 -- In the script that an expansion spells each `finalize` line has its exit finalizer.
 abbrev pub ExpandedExitsAreThere : Type 0
-ExpandedExitsAreThere = (bytes : List ℕ) → first_bad bytes ≡ None → HasNoKeptStrings bytes → (texts : List (List ℕ)) (items : List Item) → reading (expansion bytes) ≡ spells texts items
+ExpandedExitsAreThere = (bytes : List ℕ) → first_bad bytes ≡ None → (texts : List (List ℕ)) (items : List Item) → reading (expansion bytes) ≡ spells texts items
     → HasExitsOf texts items (lines_of bytes)

@@ -1,7 +1,8 @@
--- A worked script with two exit finalizers: what its expansion spells has them, as the laws of `Exits` ask. (Ours.)
+-- A worked script with two exit finalizers: what its expansion spells has them, as the laws of `Exits` ask, though a string of it is
+-- written like a name of the first one. (Ours.)
 use Rattle.std.specs.Prelude.{◌≡◌, ℕ, pos, List, [], ◌∷◌, None, codes}
 use Rattle.cg_script.specs.declared.Script.{Script}
-use Rattle.cg_script.specs.declared.Operand.TheVariants.{Int as IntWord, Name}
+use Rattle.cg_script.specs.declared.Operand.TheVariants.{Int as IntWord, Name, Str as StrWord}
 use Rattle.cg_script.specs.declared.Item.TheVariants.{Run as Line, Class, Def}
 use Rattle.cg_script.specs.declared.Command.TheVariants.{Bind, Call, Del, MakeFunc, MakeInst, MakeRef, Print}
 use Rattle.cg_script.specs.Reading.{reading, spells}
@@ -10,7 +11,7 @@ use Rattle.cg_weakcoll.specs.Exits.{AreExits, Exit, exit_body}
 
 -- the extended script
 abbrev pub two_finalizers : List ℕ
-two_finalizers = codes "def p\nprint 5\nend\nclass C\nf = func p\na = new C\nb = new C\nfinalize a f\nfinalize b f\ndel a\n"
+two_finalizers = codes "def p\nprint 5\nend\nclass C\nf = func p\na = new C\nb = new C\nfinalize a f\nfinalize b f\ndel a\nprint 'wv_o_8\n"
 
 -- its two exit finalizers
 abbrev pub the_first : Exit
@@ -19,14 +20,14 @@ the_first = record { proc = 1; object = 6; exit = 9; function = 8; watch = 7; so
 abbrev pub the_second : Exit
 the_second = record { proc = 2; object = 11; exit = 14; function = 13; watch = 12; source = Name 2; target = Name 4 }
 
--- what its expansion spells
+-- what its expansion spells: the string has the number 6, as the name has
 abbrev pub their_script : Script
 their_script = record {
   names = codes "p" ∷ codes "C" ∷ codes "f" ∷ codes "a" ∷ codes "b" ∷ codes "wv_p_8" ∷ codes "wv_o_8" ∷ codes "wv_w_8" ∷ codes "wv_f_8" ∷ codes "wv_g_8" ∷ codes "wv_p_9" ∷ codes "wv_o_9" ∷ codes "wv_w_9" ∷ codes "wv_f_9" ∷ codes "wv_g_9" ∷ [];
   items = Def (record { name = 0; body = Print (IntWord (pos 5)) ∷ [] }) ∷ Class (record { name = 1; del = None; legacy = None }) ∷ Line (MakeFunc 2 0 []) ∷ Line (MakeInst 3 0) ∷ Line (MakeInst 4 0)
       ∷ Def (record { name = 5; body = exit_body the_first }) ∷ Line (MakeFunc 9 1 []) ∷ Line (Bind 8 (Name 2)) ∷ Line (MakeRef 7 (Name 3) (Name 8))
       ∷ Def (record { name = 10; body = exit_body the_second }) ∷ Line (MakeFunc 14 2 []) ∷ Line (Bind 13 (Name 2)) ∷ Line (MakeRef 12 (Name 4) (Name 13))
-      ∷ Line (Del 3) ∷ Line (Call (Name 14)) ∷ Line (Call (Name 9)) ∷ [];
+      ∷ Line (Del 3) ∷ Line (Print (StrWord 6)) ∷ Line (Call (Name 14)) ∷ Line (Call (Name 9)) ∷ [];
 }
 
 -- The expansion spells the script, and these are its exit finalizers.

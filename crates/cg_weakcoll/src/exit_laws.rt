@@ -25,8 +25,7 @@ pub fn two_finalizers_are_there()
     ensures { HasBoth }
 {}
 
-/// In the script that an expansion spells each `finalize` line of the extended script has its exit finalizer, as these laws ask,
-/// where no string of the extended script is written like a name that expansions bring.
+/// In the script that an expansion spells each `finalize` line of the extended script has its exit finalizer, as these laws ask.
 pub fn expanded_exits_are_there()
     ensures { ExpandedExitsAreThere }
 {}

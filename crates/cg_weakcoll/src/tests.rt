@@ -65,6 +65,11 @@ fn lines_with_a_form_are_replaced(rt: HostRuntime) -> Result<(), Fail> {
             "def p; print 5; end; class C; f = func p; a = new C; b = new C; finalize a f; finalize b f; del a",
             "def p; print 5; end; class C; f = func p; a = new C; b = new C; def wv_p_8; wv_o_8 = deref wv_w_8; quit wv_o_8; del wv_w_8; del wv_o_8; call wv_f_8; end; wv_g_8 = func wv_p_8; wv_f_8 = f; wv_w_8 = ref a wv_f_8; def wv_p_9; wv_o_9 = deref wv_w_9; quit wv_o_9; del wv_w_9; del wv_o_9; call wv_f_9; end; wv_g_9 = func wv_p_9; wv_f_9 = f; wv_w_9 = ref b wv_f_9; del a; call wv_g_9; call wv_g_8",
         ),
+        // A string may be written like a name that the expansion brings.
+        (
+            "class C; def p; end; f = func p; a = new C; m = dict; put m 'wv_o_8 'wv_p_8; finalize a f; print 'wv_g_8",
+            "class C; def p; end; f = func p; a = new C; m = dict; put m 'wv_o_8 'wv_p_8; def wv_p_8; wv_o_8 = deref wv_w_8; quit wv_o_8; del wv_w_8; del wv_o_8; call wv_f_8; end; wv_g_8 = func wv_p_8; wv_f_8 = f; wv_w_8 = ref a wv_f_8; print 'wv_g_8; call wv_g_8",
+        ),
         // The words of forms are variables too, and several spaces are one.
         ("  wset  =   wmap  ", "wset = dict"),
         (

@@ -5,7 +5,8 @@ use mir.Val.{to_z, of_z}
 use Rattle.std.proofs.Math.Facts.{to_z-of_z, sfits_lit}
 use Rattle.std.specs.Int.Signed.{mag}
 use Rattle.std.specs.List.{All}
-use Rattle.std.specs.Prelude.{ℤ}
+use Rattle.std.proofs.lemmas.List.Elements.{All-head}
+use Rattle.std.specs.Prelude.{ℤ, []}
 use Rattle.std.proofs.lemmas.Bool.{lt-ltb}
 use Rattle.cg_script.specs.Texts.{command_texts, operands_texts}
 use Rattle.cg_script.specs.Spelled.{HasFewWords}
@@ -288,3 +289,7 @@ pub returns-in-Why : goal.returns-in-Why
 returns-in-Why g c =
     inspects c.args.heap.now c.args.policy.now c.args.locals c.args.room c.args.command.now _ c.in-Why.is tt refl c.why.result
     (subst (λ b. Inspects c.args.heap.now b c.args.locals (λ w. effect w (command.Why c.in-Why.name)) c.why.result) c.running-in-Why.ensures c.why.ensures)
+
+pub why-requires-clause-known : goal.why-requires-clause-known
+why-requires-clause-known g c =
+    All-head (λ n. n < length c.args.heap.now.names) c.in-Why.name [] (subst (λ cmd. All (λ n. n < length c.args.heap.now.names) (command_texts cmd)) c.in-Why.is c.requires.spelled.known)

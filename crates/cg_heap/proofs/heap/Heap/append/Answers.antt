@@ -18,10 +18,10 @@ pub count_in-requires-clause-room : goal.count_in-requires-clause-room
 count_in-requires-clause-room g c = λ s e. count_fits (stands c.self.inside.boxes c.self.inside.arena c.self.inside.names c.self.inside.last c.self.inside.weak.rows c.self.inside.objects c.self.inside.entries _ c.self.invariant c.self.view_is) s
 
 pub invariant_of-self : goal.invariant_of-self
-invariant_of-self g c = (after_appending (stands c.self.inside.boxes c.self.inside.arena c.self.inside.names c.self.inside.last c.self.inside.weak.rows c.self.inside.objects c.self.inside.entries _ c.self.invariant c.self.view_is) c.args.list _ _ c.seat_of-seat.ensures c.requires.list c.args.val _ _ c.in-Ok.ensures.ok c.requires.other c.requires.live (omega (arith, c.if-self-ge4000000.false)) _ c.count_in.ensures).keeps
+invariant_of-self g c = (after_appending (stands c.self.inside.boxes c.self.inside.arena c.self.inside.names c.self.inside.last c.self.inside.weak.rows c.self.inside.objects c.self.inside.entries _ c.self.invariant c.self.view_is) c.args.list _ _ c.seat_of-seat.ensures c.requires.list c.args.val _ _ c.in-Ok.ensures.ok c.requires.other c.requires.live (omega (arith, c.if-self-ge-MOST_ENTRIES.false)) _ c.count_in.ensures).keeps
 
 pub returns-in-Ok-clause-ok : goal.returns-in-Ok-clause-ok
-returns-in-Ok-clause-ok g c = (after_appending (stands c.self.inside.boxes c.self.inside.arena c.self.inside.names c.self.inside.last c.self.inside.weak.rows c.self.inside.objects c.self.inside.entries _ c.self.invariant c.self.view_is) c.args.list _ _ c.seat_of-seat.ensures c.requires.list c.args.val _ _ c.in-Ok.ensures.ok c.requires.other c.requires.live (omega (arith, c.if-self-ge4000000.false)) _ c.count_in.ensures).is
+returns-in-Ok-clause-ok g c = (after_appending (stands c.self.inside.boxes c.self.inside.arena c.self.inside.names c.self.inside.last c.self.inside.weak.rows c.self.inside.objects c.self.inside.entries _ c.self.invariant c.self.view_is) c.args.list _ _ c.seat_of-seat.ensures c.requires.list c.args.val _ _ c.in-Ok.ensures.ok c.requires.other c.requires.live (omega (arith, c.if-self-ge-MOST_ENTRIES.false)) _ c.count_in.ensures).is
 
 pub invariant_of-self-in-Err : goal.invariant_of-self-in-Err
 invariant_of-self-in-Err g c = (as_before (stands c.self.inside.boxes c.self.inside.arena c.self.inside.names c.self.inside.last c.self.inside.weak.rows c.self.inside.objects c.self.inside.entries _ c.self.invariant c.self.view_is) _ c.in-Err.ensures.err).keeps

@@ -1,6 +1,6 @@
--- What a line says names texts that its words write, and procedures that they name.
+-- What a line says speaks of names that its words write. A word that is a string writes none.
 use Rattle.std.proofs.Common.{◌≡◌, ℕ, zero, suc, ◌+◌, ◌<◌, ◌≤◌, List, [], ◌∷◌, ◌++◌, length, map, drop, Bool, true, false, cond, Option, None, Some, refl, sym, ap, subst, ◌∙◌, arith, codes}
-use Rattle.std.specs.Prelude.{slice_index}
+use Rattle.std.specs.Prelude.{flat_map, slice_index}
 use Rattle.std.specs.Str.{bytes_eq}
 use Rattle.cg_value.specs.Texts.{place_of}
 use Rattle.cg_graph.specs.Member.{Includes}
@@ -13,20 +13,21 @@ use Rattle.cg_script.specs.declared.form.Sort.{Sort}
 use Rattle.cg_script.specs.declared.form.Sort.TheVariants.{Key, Variable, Name, Class, Proc, Finalizer, Value, Number, Profile, Budget, Count, Flag}
 use Rattle.cg_script.specs.declared.part.Part.{Part}
 use Rattle.cg_script.specs.declared.part.Part.TheVariants as parts
-use Rattle.cg_script.specs.Texts.{operand_texts, operands_texts}
+use Rattle.cg_script.specs.declared.part.Said.{Said}
+use Rattle.cg_script.specs.declared.part.Said.TheVariants.{Does}
+use Rattle.cg_script.specs.Texts.{command_names, operand_names}
 use Rattle.cg_script.specs.Tables.{named}
 use Rattle.cg_script.specs.Words.{begins_name, is_quoted, string_text, number_of, after_prefix, atoms}
 use Rattle.cg_script.specs.Forms.{row, sort_at}
 use Rattle.cg_script.specs.Parts.{with_text_if, text_in, value_text, operand_or, numbered, place_in, finalizer, legacy, legacy_of, finalizer_of, part_of, parts_from, texts_from}
 use Rattle.cg_script.specs.Commands.{text_or, value_or, text_at, value_at, values_from, said}
 use Rattle.cg_script.specs.Canonical.{text_of}
-use Rattle.cg_script.proofs.Known.{is_text, said_texts}
+use Rattle.cg_script.proofs.Known.{is_text}
 use Rattle.cg_script.proofs.Shown.{Begins, begins_along, begins_texts, text_found}
 
--- a word is free of some texts: it is none of them, and is not behind a quote or the word of a finalizer
+-- a word is free of some names: it is none of them, nor has it one behind the word of a finalizer
 pub record IsClear (Free : List ℕ → Type 0) (word : List ℕ) : Type 0 where
   pub itself : Free word
-  pub string : is_quoted word ≡ true → Free (string_text word)
   pub finalizer : (name : List ℕ) → after_prefix (codes "del=") word ≡ Some name → Free name
   pub legacy : (name : List ℕ) → after_prefix (codes "legacy=") word ≡ Some name → Free name
 
@@ -34,26 +35,31 @@ abbrev pub AreClear : (List ℕ → Type 0) → List (List ℕ) → Type 0
 AreClear Free [] = Unit {0}
 AreClear Free (word ∷ words) = IsClear Free word × AreClear Free words
 
--- values with a word of their own have no text
-NoTexts : List (List ℕ × Operand) → Type 0
-NoTexts [] = Unit {0}
-NoTexts (row ∷ rows) = (operand_texts row.1 ≡ []) × NoTexts rows
+-- the names that a line speaks of by what it says
+abbrev pub said_names : Said → List ℕ
+said_names (Does command) = command_names command
+said_names other = []
 
-named_without : (rows : List (List ℕ × Operand)) (word : List ℕ) (operand : Operand) → NoTexts rows → named rows word ≡ Some operand → operand_texts operand ≡ []
-unfolding NoTexts
+-- values with a word of their own are no names
+NoNames : List (List ℕ × Operand) → Type 0
+NoNames [] = Unit {0}
+NoNames (row ∷ rows) = (operand_names row.1 ≡ []) × NoNames rows
+
+named_without : (rows : List (List ℕ × Operand)) (word : List ℕ) (operand : Operand) → NoNames rows → named rows word ≡ Some operand → operand_names operand ≡ []
+unfolding NoNames
 named_without [] word operand none e = absurd (cc)
 named_without (row ∷ rows) word operand none e = go (bytes_eq word row.0) e (named_without rows word operand none.1)
   where
-    go : (b : Bool) → cond b (Some row.1) (named rows word) ≡ Some operand → (named rows word ≡ Some operand → operand_texts operand ≡ []) → operand_texts operand ≡ []
-    go true k ih = let s : row.1 ≡ operand = cc in ap operand_texts (sym s) ∙ none.0
+    go : (b : Bool) → cond b (Some row.1) (named rows word) ≡ Some operand → (named rows word ≡ Some operand → operand_names operand ≡ []) → operand_names operand ≡ []
+    go true k ih = let s : row.1 ≡ operand = cc in ap operand_names (sym s) ∙ none.0
     go false k ih = ih k
 
-atoms_without : NoTexts atoms
-unfolding NoTexts atoms
+atoms_without : NoNames atoms
+unfolding NoNames atoms
 atoms_without = (refl, (refl, (refl, (refl, (refl, (refl, (refl, (refl, (refl, (refl, (refl, (refl, tt))))))))))))
 
 module _ (all : List (List ℕ)) (Free : List ℕ → Type 0) where
-  -- the texts of these numbers are free
+  -- the names of these numbers are free
   abbrev pub AreFree : List ℕ → Type 0
   AreFree numbers = (n : ℕ) → Includes numbers n → Free (text_of all n)
 
@@ -68,7 +74,7 @@ module _ (all : List (List ℕ)) (Free : List ℕ → Type 0) where
 
   abbrev PartFree : Part → Type 0
   PartFree (parts.Text k) = Free (text_of all k)
-  PartFree (parts.Value operand) = AreFree (operand_texts operand)
+  PartFree (parts.Value operand) = AreFree (operand_names operand)
   PartFree parts.Bare = Unit {0}
   PartFree (parts.Number k) = Unit {0}
   PartFree (parts.Count k) = Unit {0}
@@ -83,15 +89,15 @@ module _ (all : List (List ℕ)) (Free : List ℕ → Type 0) where
   placed_free : (texts : List (List ℕ)) (text : List ℕ) → Free text → Begins (with_text_if texts (Some text)) all → Free (text_of all (place_of texts text))
   placed_free texts text free begins = subst Free (sym (text_found all texts text begins)) free
 
-  pub value_free : (texts : List (List ℕ)) (word : List ℕ) (found : Option Operand) → named atoms word ≡ found → IsClear Free word → Begins (with_text_if texts (value_text found word)) all → AreFree (operand_texts (operand_or found texts word))
+  pub value_free : (texts : List (List ℕ)) (word : List ℕ) (found : Option Operand) → named atoms word ≡ found → IsClear Free word → Begins (with_text_if texts (value_text found word)) all → AreFree (operand_names (operand_or found texts word))
   value_free texts word (Some operand) e clear begins = subst AreFree (sym (named_without atoms word operand atoms_without e)) none_free
-  value_free texts word None e clear begins = by (is_quoted word) (begins_name (slice_index word 0)) refl begins
+  value_free texts word None e clear begins = by (is_quoted word) (begins_name (slice_index word 0)) begins
     where
-      by : (q b : Bool) → is_quoted word ≡ q → Begins (with_text_if texts (cond q (Some (string_text word)) (cond b (Some word) None))) all
-          → AreFree (operand_texts (cond q (operands.Str (place_of texts (string_text word))) (cond b (operands.Name (place_of texts word)) (operands.Int (number_of word)))))
-      by true b eq h = free_more (place_of texts (string_text word)) [] (placed_free texts (string_text word) (clear.string eq) h) none_free
-      by false true eq h = free_more (place_of texts word) [] (placed_free texts word clear.itself h) none_free
-      by false false eq h = none_free
+      by : (q b : Bool) → Begins (with_text_if texts (cond q (Some (string_text word)) (cond b (Some word) None))) all
+          → AreFree (operand_names (cond q (operands.Str (place_of texts (string_text word))) (cond b (operands.Name (place_of texts word)) (operands.Int (number_of word)))))
+      by true b h = none_free
+      by false true h = free_more (place_of texts word) [] (placed_free texts word clear.itself h) none_free
+      by false false h = none_free
 
   numbered_free : (found : Option ℕ) → PartFree (numbered found)
   numbered_free None = tt
@@ -135,7 +141,7 @@ module _ (all : List (List ℕ)) (Free : List ℕ → Type 0) where
         parts_free procs classes form words more (place + 1) clear.1 begins,
       )
 
-  value_of_free : (p : Part) → PartFree p → AreFree (operand_texts (value_or (Some p)))
+  value_of_free : (p : Part) → PartFree p → AreFree (operand_names (value_or (Some p)))
   value_of_free (parts.Value operand) b = b
   value_of_free (parts.Text k) b = none_free
   value_of_free parts.Bare b = none_free
@@ -145,21 +151,21 @@ module _ (all : List (List ℕ)) (Free : List ℕ → Type 0) where
   value_of_free (parts.Legacy k) b = none_free
   value_of_free parts.Unknown b = none_free
 
-  value_at_free : (ps : List Part) (i : ℕ) → EachPart ps → AreFree (operand_texts (value_at ps i))
+  value_at_free : (ps : List Part) (i : ℕ) → EachPart ps → AreFree (operand_names (value_at ps i))
   value_at_free [] i e = none_free
   value_at_free (p ∷ ps) zero e = value_of_free p e.0
   value_at_free (p ∷ ps) (suc i) e = value_at_free ps i e.1
 
-  all_values_free : (ps : List Part) → EachPart ps → AreFree (operands_texts (map (λ part. value_or (Some part)) ps))
+  all_values_free : (ps : List Part) → EachPart ps → AreFree (flat_map operand_names (map (λ part. value_or (Some part)) ps))
   all_values_free [] e = none_free
-  all_values_free (p ∷ ps) e = free_both (operand_texts (value_or (Some p))) (operands_texts (map (λ part. value_or (Some part)) ps)) (value_of_free p e.0) (all_values_free ps e.1)
+  all_values_free (p ∷ ps) e = free_both (operand_names (value_or (Some p))) (flat_map operand_names (map (λ part. value_or (Some part)) ps)) (value_of_free p e.0) (all_values_free ps e.1)
 
   drop_each : (ps : List Part) (i : ℕ) → EachPart ps → EachPart (drop i ps)
   drop_each ps zero e = e
   drop_each [] (suc i) e = tt
   drop_each (p ∷ ps) (suc i) e = drop_each ps i e.1
 
-  values_free : (ps : List Part) (i : ℕ) → EachPart ps → AreFree (operands_texts (values_from ps i))
+  values_free : (ps : List Part) (i : ℕ) → EachPart ps → AreFree (flat_map operand_names (values_from ps i))
   values_free ps i e = all_values_free (drop i ps) (drop_each ps i e)
 
   text_part : (procs classes texts : List (List ℕ)) (sort : Sort) (word : List ℕ) → is_text sort ≡ true → IsClear Free word → Begins (with_text_if texts (text_in sort word)) all → Free (text_of all (text_or (Some (part_of procs classes texts sort word))))
@@ -187,15 +193,15 @@ module _ (all : List (List ℕ)) (Free : List ℕ → Type 0) where
       let z : place + suc i ≡ (place + 1) + i = omega arith in
       text_at_free procs classes form words (with_text_if texts (text_in (sort_at form place) word)) (place + 1) i (omega arith) (ap (λ k. is_text (sort_at form k)) (sym z) ∙ e) clear.1 begins
 
-  -- what a line of a form says names free texts
+  -- what a line of a form says speaks of free names
   module _ (ps : List Part) (each : EachPart ps) where
-    v : (i : ℕ) → AreFree (operand_texts (value_at ps i))
+    v : (i : ℕ) → AreFree (operand_names (value_at ps i))
     v i = value_at_free ps i each
 
-    vv : (i j : ℕ) → AreFree (operand_texts (value_at ps i) ++ operand_texts (value_at ps j))
-    vv i j = free_both (operand_texts (value_at ps i)) (operand_texts (value_at ps j)) (v i) (v j)
+    vv : (i j : ℕ) → AreFree (operand_names (value_at ps i) ++ operand_names (value_at ps j))
+    vv i j = free_both (operand_names (value_at ps i)) (operand_names (value_at ps j)) (v i) (v j)
 
-    said_free : (form : Form) → ((i : ℕ) → i < (row form).fewest → is_text (sort_at form i) ≡ true → Free (text_of all (text_at ps i))) → AreFree (said_texts (said form ps))
+    said_free : (form : Form) → ((i : ℕ) → i < (row form).fewest → is_text (sort_at form i) ≡ true → Free (text_of all (text_at ps i))) → AreFree (said_names (said form ps))
     said_free forms.MakeList t = free_more _ _ (t 0 (omega arith) refl) (values_free ps 3 each)
     said_free forms.MakeTuple t = free_more _ _ (t 0 (omega arith) refl) (values_free ps 3 each)
     said_free forms.MakeDict t = free_more _ [] (t 0 (omega arith) refl) none_free
@@ -207,13 +213,13 @@ module _ (all : List (List ℕ)) (Free : List ℕ → Type 0) where
     said_free forms.Append t = vv 1 2
     said_free forms.SetItem t = vv 1 3
     said_free forms.DelItem t = v 1
-    said_free forms.Put t = free_both (operand_texts (value_at ps 1) ++ operand_texts (value_at ps 2)) (operand_texts (value_at ps 3)) (vv 1 2) (v 3)
+    said_free forms.Put t = free_both (operand_names (value_at ps 1) ++ operand_names (value_at ps 2)) (operand_names (value_at ps 3)) (vv 1 2) (v 3)
     said_free forms.Remove t = vv 1 2
-    said_free forms.SetAttr t = free_both (operand_texts (value_at ps 1)) (text_at ps 2 ∷ operand_texts (value_at ps 3)) (v 1) (free_more _ _ (t 2 (omega arith) refl) (v 3))
-    said_free forms.DelAttr t = free_both (operand_texts (value_at ps 1)) (text_at ps 2 ∷ []) (v 1) (free_more _ [] (t 2 (omega arith) refl) none_free)
+    said_free forms.SetAttr t = vv 1 3
+    said_free forms.DelAttr t = free_both (operand_names (value_at ps 1)) [] (v 1) none_free
     said_free forms.Item t = free_more _ _ (t 0 (omega arith) refl) (v 3)
     said_free forms.Get t = free_more _ _ (t 0 (omega arith) refl) (vv 3 4)
-    said_free forms.Attr t = free_more _ _ (t 0 (omega arith) refl) (free_both (operand_texts (value_at ps 3)) (text_at ps 4 ∷ []) (v 3) (free_more _ [] (t 4 (omega arith) refl) none_free))
+    said_free forms.Attr t = free_more _ _ (t 0 (omega arith) refl) (free_both (operand_names (value_at ps 3)) [] (v 3) none_free)
     said_free forms.Deref t = free_more _ _ (t 0 (omega arith) refl) (v 3)
     said_free forms.Call t = v 1
     said_free forms.Quit t = v 1
@@ -236,12 +242,12 @@ module _ (all : List (List ℕ)) (Free : List ℕ → Type 0) where
     said_free forms.Profile t = none_free
     said_free forms.Shutdown t = none_free
     said_free forms.Budget t = none_free
-    said_free forms.Class t = free_more _ [] (t 1 (omega arith) refl) none_free
-    said_free forms.Def t = free_more _ [] (t 1 (omega arith) refl) none_free
+    said_free forms.Class t = none_free
+    said_free forms.Def t = none_free
     said_free forms.End t = none_free
 
-  pub texts_free : (procs classes : List (List ℕ)) (form : Form) (words texts : List (List ℕ)) → AreClear Free words → (row form).fewest ≤ length words → Begins (texts_from texts form 0 words) all
-      → AreFree (said_texts (said form (parts_from procs classes texts form 0 words)))
-  texts_free procs classes form words texts clear enough begins =
+  pub names_free : (procs classes : List (List ℕ)) (form : Form) (words texts : List (List ℕ)) → AreClear Free words → (row form).fewest ≤ length words → Begins (texts_from texts form 0 words) all
+      → AreFree (said_names (said form (parts_from procs classes texts form 0 words)))
+  names_free procs classes form words texts clear enough begins =
       said_free (parts_from procs classes texts form 0 words) (parts_free procs classes form words texts 0 clear begins) form
       (λ i h t. let w : 0 + i ≡ i = omega arith in text_at_free procs classes form words texts 0 i (omega (arith, h, enough)) (ap (λ j. is_text (sort_at form j)) w ∙ t) clear begins)
