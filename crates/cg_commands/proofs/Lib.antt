@@ -2,7 +2,6 @@ mod Chains
 mod Reading
 pub mod Bridges
 mod BindingLemmas
-mod KeyLemmas
 mod Steps
 mod QueryLemmas
 mod Inspecting

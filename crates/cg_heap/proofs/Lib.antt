@@ -1,3 +1,4 @@
+mod KeyLemmas
 mod BoxLemmas
 pub mod ReferenceLemmas
 pub mod CallerLemmas
@@ -16,6 +17,7 @@ mod NameLemmas
 mod Opens
 mod Calls
 mod SeatCalls
+mod PutCalls
 mod WeakCalls
 mod Tracks
 mod Saves

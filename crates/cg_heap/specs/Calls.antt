@@ -95,6 +95,11 @@ abbrev pub node_may_be_tracked : Option Node → Bool
 node_may_be_tracked None = false
 node_may_be_tracked (Some n) = code_may_be_tracked n.code n.place
 
+-- a value that is no reference
+abbrev pub is_atom : Val → Bool
+is_atom (Ref s) = false
+is_atom v = true
+
 abbrev pub may_be_tracked : Store → Val → Bool
 may_be_tracked store Nothing = false
 may_be_tracked store (Int n) = false

@@ -2,7 +2,7 @@
 ghost use Rattle.std.specs.Prelude.{◌≡◌, ◌≢◌, ◌<◌, ◌≤◌, ◌+◌, ◌-◌, ◌++◌, ◌∷◌, ◌↔◌, [], IsTrue, length, map, IfOk, OnOk, OnErr, IfSome, OnSome, IfNone, IsNone, IsSome, IsOk, None, Some, position, slice_get};
 ghost use Rattle.std.specs.FinMap as fin;
 ghost use Rattle.cg_value.specs.declared.KindCode.TheVariants as code;
-ghost use Rattle.cg_graph.specs.Value.{item, without_last};
+ghost use Rattle.cg_graph.specs.Value.{item, without_last, value_at};
 ghost use Rattle.cg_kind.specs.Bodies.{Holds, entries_at, spare_at, with_body};
 ghost use Rattle.cg_kind.specs.Calls.{has_key, IsParts, CanPut, value_under, after_put, after_take, spare_after_leave};
 ghost use Rattle.cg_heap.specs.Boxes.{six_kinds, code_index, bodies_at, HasBody, entries_in_box, spare_in_box, boxes_with_body, boxes_without};
@@ -121,6 +121,18 @@ impl<B: Kind> Boxes<B> {
     {
         let kind = &self.kinds[index_of(seat.code)];
         kind.find(seat.body, key)
+    }
+
+    /// The value of the first entry with this key.
+    pub fn value_of(&self, seat: Seat, key: Val) -> Option<Val>
+        requires { HasBody self.now seat.code seat.body }
+        ensures { result ≡ value_at (entries_in_box self.now seat.code seat.body) key }
+    {
+        let kind = &self.kinds[index_of(seat.code)];
+        match kind.find(seat.body, key) {
+            Some(i) => Some(kind.entry_at(seat.body, i).val),
+            None => None,
+        }
     }
 
     /// Puts a value under a key, and answers the one that it replaces.
@@ -246,37 +258,6 @@ impl<B: Kind> Boxes<B> {
         match seat.code {
             KindCode::List => true,
             _ => self.find(seat, key).is_some(),
-        }
-    }
-
-    /// Replaces the value under a key.
-    pub fn replace(&mut self, seat: Seat, key: Val, val: Val) -> Val
-        requires held { HasBody self.old seat.code seat.body }
-        requires can { CanPut seat.code (entries_in_box self.old seat.code seat.body) key }
-        requires present { IsSome (value_under seat.code (entries_in_box self.old seat.code seat.body) key) }
-        ensures writes { self.new ≡ boxes_with_body self.old seat.code seat.body
-            (after_put seat.code (entries_in_box self.old seat.code seat.body) key val)
-            (spare_in_box self.old seat.code seat.body) }
-        ensures old { value_under seat.code (entries_in_box self.old seat.code seat.body) key ≡ Some result }
-    {
-        match self.put(seat, key, val) {
-            Ok(Some(old)) => old,
-            _ => unreachable!(),
-        }
-    }
-
-    /// Adds a value under a new key.
-    pub fn add(&mut self, seat: Seat, key: Val, val: Val) -> Result<(), AllocError>
-        requires held { HasBody self.old seat.code seat.body }
-        requires can { CanPut seat.code (entries_in_box self.old seat.code seat.body) key }
-        ensures ok { OnOk result (self.new ≡ boxes_with_body self.old seat.code seat.body
-            (after_put seat.code (entries_in_box self.old seat.code seat.body) key val)
-            (spare_in_box self.old seat.code seat.body)) }
-        ensures err { OnErr result (self.new ≡ self.old) }
-    {
-        match self.put(seat, key, val) {
-            Ok(_) => Ok(()),
-            Err(refused) => Err(refused),
         }
     }
 }

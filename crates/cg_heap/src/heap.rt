@@ -2,6 +2,7 @@
 ghost use Rattle.std.specs.Prelude.{◌≡◌, ◌<◌, ◌≤◌, IfOk, IfSome, IsTrue, ◌↔◌, Some, None, map, replicate, length, position, slice_get};
 ghost use Rattle.std.specs.FinMap as fin;
 ghost use Rattle.cg_kind.specs.Calls.{has_key};
+ghost use Rattle.cg_graph.specs.Value.{value_at};
 ghost use Rattle.cg_graph.specs.Store.{IsLive, entries_of, count_of as in_degree, list_at, place_of as place_at};
 ghost use Rattle.cg_graph.specs.Changes.{opening_store};
 ghost use Rattle.cg_arena.specs.Nodes.{following, IsPlace};
@@ -207,6 +208,15 @@ impl<B: Kind> Heap<B> {
     {
         let seat = seat_of(&self.arena, object);
         self.boxes.find(seat, key)
+    }
+
+    /// The value under a key, `None` exactly where no entry has the key.
+    pub fn value_of(&self, object: u64, key: Val) -> Option<Val>
+        requires { IsLive self.now object }
+        ensures { result ≡ value_at (entries_of self.now object) key }
+    {
+        let seat = seat_of(&self.arena, object);
+        self.boxes.value_of(seat, key)
     }
 
     /// The value of a name, `None` where it is unbound.

@@ -1,15 +1,19 @@
 //! Entries that come and go.
 ghost use Rattle.std.specs.Prelude.{◌≡◌, ◌≢◌, ◌<◌, ◌≤◌, ◌+◌, ◌++◌, ◌∷◌, ◌↔◌, [], IsTrue, IsOk, IsNone, IsSome, IfOk, IfSome, IfNone, OnOk, OnErr, Ok, Err, Some, None, length, remove, slice_get};
+ghost use Rattle.std.specs.FinMap as fin;
 ghost use Rattle.cg_value.specs.declared.KindCode.TheVariants as code;
 ghost use Rattle.cg_value.specs.declared.Place.TheVariants as where_it_is;
 ghost use Rattle.cg_graph.specs.Object.{same_place};
-ghost use Rattle.cg_graph.specs.Value.{item, without_last, entry_references};
+ghost use Rattle.cg_graph.specs.Value.{item, without_last, without_key, entry_at, entry_references};
 ghost use Rattle.cg_graph.specs.Store.{IsLive, HasCode, entries_of};
 ghost use Rattle.cg_graph.specs.Changes.{held, rewritten};
+ghost use Rattle.cg_kind.specs.Calls.{CanPut, value_under};
+ghost use Rattle.cg_heap.specs.Boxes.{HasBody, entries_in_box};
 ghost use Rattle.cg_heap.specs.declared.fault.HeapFault.TheVariants as fault;
-ghost use Rattle.cg_heap.specs.Calls.{HasFewHolds, IsLiveValue, CanTake, CanPutIn, entry_number, value_in, with_put, becomes_tracked, tracked_if, may_be_tracked, is_dict_at, code_may_be_tracked};
+ghost use Rattle.cg_heap.specs.Calls.{HasFewHolds, IsLiveValue, IsMutable, CanTake, CanPutIn, entry_number, value_in, with_put, becomes_tracked, tracked_if, is_atom, may_be_tracked, is_untracked_dict, is_dict_at, code_may_be_tracked};
 
 use super::Heap;
+use crate::boxes::{Boxes, Seat};
 use crate::counts::{count_in, fewer, seat_of};
 use crate::fault::HeapFault;
 use cg_graph::MOST_ENTRIES;
@@ -31,6 +35,27 @@ impl<B: Kind> Heap<B> {
         let entry = self.boxes.take(seat, i);
         fewer(&mut self.entries, object);
         entry
+    }
+
+    /// Takes the entry under a key out of a list, a dictionary or an instance; those after it move down by one. `None` comes
+    /// exactly where no entry has the key. The references of the entry are now outside holds.
+    pub fn take_key(&mut self, object: u64, key: Val) -> Option<Entry>
+        requires can { CanTake self.old object }
+        requires few { HasFewHolds self.old }
+        ensures entry { result ≡ entry_at (entries_of self.old object) key }
+        ensures rest { IfSome result (λ e. self.new ≡ held (entry_references e)
+            (rewritten object (without_key (entries_of self.old object) key) self.old)) }
+        ensures none { IfNone result (self.new ≡ self.old) }
+    {
+        let seat = seat_of(&self.arena, object);
+        match self.boxes.find(seat, key) {
+            Some(i) => {
+                let taken = self.boxes.take(seat, i);
+                fewer(&mut self.entries, object);
+                Some(taken)
+            }
+            None => None,
+        }
     }
 
     /// Takes the last entry off, whatever the kind. `None` comes exactly where there is none. The references of the
@@ -117,7 +142,7 @@ impl<B: Kind> Heap<B> {
         }
     }
 
-    /// `put`, without the tracking.
+    /// `put`, without the tracking. Below the limit of entries the key is looked for once.
     fn put_value(&mut self, object: u64, key: Val, val: Val) -> Result<Option<Val>, HeapFault>
         requires other { object ≢ 1 }
         requires can { CanPutIn self.old object key }
@@ -132,77 +157,45 @@ impl<B: Kind> Heap<B> {
         ensures objects { result ≢ Err fault.ObjectLimit }
         ensures err { OnErr result (self.new ≡ self.old) }
     {
-        if self.has_value(object, key) {
-            let old = self.replace_value(object, key, val);
-            return Ok(Some(old));
-        }
-        match self.add_value(object, key, val) {
-            Ok(()) => Ok(None),
-            Err(refused) => Err(refused),
-        }
-    }
-
-    /// Whether a put at the key replaces a value.
-    fn has_value(&self, object: u64, key: Val) -> bool
-        requires { CanPutIn self.now object key }
-        ensures { IsTrue result ↔ IsSome (value_in self.now object key) }
-    {
         let seat = seat_of(&self.arena, object);
-        self.boxes.has_value(seat, key)
-    }
-
-    /// Replaces the value under a present key, or at an index.
-    fn replace_value(&mut self, object: u64, key: Val, val: Val) -> Val
-        requires other { object ≢ 1 }
-        requires can { CanPutIn self.old object key }
-        requires present { IsSome (value_in self.old object key) }
-        requires live { IsLiveValue self.old val }
-        requires few { HasFewHolds self.old }
-        ensures old { value_in self.old object key ≡ Some result }
-        ensures rest { self.new ≡ with_put self.old object key val }
-    {
-        let seat = seat_of(&self.arena, object);
-        let old = self.boxes.replace(seat, key, val);
-        count_in(&mut self.arena, val);
-        old
-    }
-
-    /// Adds a value under a new key.
-    fn add_value(&mut self, object: u64, key: Val, val: Val) -> Result<(), HeapFault>
-        requires other { object ≢ 1 }
-        requires can { CanPutIn self.old object key }
-        requires new { value_in self.old object key ≡ None }
-        requires live_key { IsLiveValue self.old key }
-        requires live_val { IsLiveValue self.old val }
-        ensures ok { OnOk result (self.new ≡ with_put self.old object key val) }
-        ensures limit { (result ≡ Err fault.EntryLimit) ↔ (MOST_ENTRIES ≤ entry_number self.old) }
-        ensures objects { result ≢ Err fault.ObjectLimit }
-        ensures err { OnErr result (self.new ≡ self.old) }
-    {
-        if self.entries >= MOST_ENTRIES {
+        if is_past_limit(&self.boxes, self.entries, seat, key) {
             return Err(HeapFault::EntryLimit);
         }
-        let seat = seat_of(&self.arena, object);
-        match self.boxes.add(seat, key, val) {
-            Ok(()) => {
+        match self.boxes.put(seat, key, val) {
+            Ok(Some(old)) => {
+                count_in(&mut self.arena, val);
+                Ok(Some(old))
+            }
+            Ok(None) => {
                 count_in(&mut self.arena, val);
                 count_in(&mut self.arena, key);
                 self.entries += 1;
-                Ok(())
+                Ok(None)
             }
             Err(_) => Err(HeapFault::OutOfMemory),
         }
     }
 
-    /// Whether the object is an untracked dictionary that the key or the value makes tracked.
+    /// Whether the object is an untracked dictionary that the key or the value makes tracked. Atoms make none tracked.
     fn becomes_tracked(&self, object: u64, key: Val, val: Val) -> bool
         requires live { IsLive self.now object }
         requires live_key { IsLiveValue self.now key }
         requires live_val { IsLiveValue self.now val }
         ensures { result ≡ becomes_tracked self.now object key val }
     {
-        is_untracked_dict(self.kind_of(object), self.place_of(object))
-            && (self.may_be_tracked(key) || self.may_be_tracked(val))
+        if is_atom(key) && is_atom(val) {
+            return false;
+        }
+        self.is_untracked_dict(object) && (self.may_be_tracked(key) || self.may_be_tracked(val))
+    }
+
+    /// Whether an object is an untracked dictionary.
+    fn is_untracked_dict(&self, object: u64) -> bool
+        requires { IsLive self.now object }
+        ensures { result ≡ is_untracked_dict (fin.get self.now.nodes object) }
+    {
+        let head = self.head_of(object);
+        is_untracked_dict(head.code, head.place)
     }
 
     /// Whether a value may be tracked: an object that is no tuple, or a tracked one.
@@ -211,7 +204,10 @@ impl<B: Kind> Heap<B> {
         ensures { result ≡ may_be_tracked self.now val }
     {
         match val {
-            Val::Ref(serial) => may_be_tracked(self.kind_of(serial), self.place_of(serial)),
+            Val::Ref(serial) => {
+                let head = self.head_of(serial);
+                may_be_tracked(head.code, head.place)
+            }
             _ => false,
         }
     }
@@ -224,6 +220,27 @@ impl<B: Kind> Heap<B> {
         if tracks {
             self.move_to(object, Place::Gen(0));
         }
+    }
+}
+
+/// Whether a put under a key would add an entry where there may be no more. The key is looked for at the limit alone.
+fn is_past_limit<B: Kind>(boxes: &Boxes<B>, entries: u64, seat: Seat, key: Val) -> bool
+    requires held { HasBody boxes.now seat.code seat.body }
+    requires can { CanPut seat.code (entries_in_box boxes.now seat.code seat.body) key }
+    requires mutable { IsMutable seat.code }
+    ensures { IsTrue result ↔ ((value_under seat.code (entries_in_box boxes.now seat.code seat.body) key ≡ None)
+        × (MOST_ENTRIES ≤ entries)) }
+{
+    entries >= MOST_ENTRIES && !boxes.has_value(seat, key)
+}
+
+/// Whether a value is no reference.
+fn is_atom(val: Val) -> bool
+    ensures { result ≡ is_atom val }
+{
+    match val {
+        Val::Ref(_) => false,
+        _ => true,
     }
 }
 

@@ -1,0 +1,30 @@
+use Rattle.std.proofs.Common.{Some, sym, ◌∙◌}
+use Rattle.cg_graph.specs.Value.{references_of_value}
+use Rattle.cg_heap.proofs.Calls.{stands, count_fits, live_value, still_live, count_fits_after}
+use Rattle.cg_heap.proofs.SeatCalls.{value_here, after_adding, after_replacing}
+use Rattle.cg_heap.proofs.PutCalls.{below_limit}
+use Rattle.cg_heap.proofs.heap.Heap.put_value.Goals as goal
+
+pub count_in-requires-clause-room : goal.count_in-requires-clause-room
+count_in-requires-clause-room g c = λ s e. count_fits (stands c.self.inside.boxes c.self.inside.arena c.self.inside.names c.self.inside.last c.self.inside.weak.rows c.self.inside.objects c.self.inside.entries _ c.self.invariant c.self.view_is) s
+
+pub invariant_of-self : goal.invariant_of-self
+invariant_of-self g c = (after_replacing (stands c.self.inside.boxes c.self.inside.arena c.self.inside.names c.self.inside.last c.self.inside.weak.rows c.self.inside.objects c.self.inside.entries _ c.self.invariant c.self.view_is) c.args.object _ _ c.seat_of-seat.ensures c.args.key c.args.val c.in-Ok-Some.old c.requires.can (sym c.in-Ok-Some.ensures.replaced ∙ c.in-Ok-Some.field-0-is) _ _ c.in-Ok-Some.ensures.ok c.requires.other c.requires.live_val c.requires.few _ c.count_in.ensures).keeps
+
+pub returns-in-Ok-Some-clause-ok : goal.returns-in-Ok-Some-clause-ok
+returns-in-Ok-Some-clause-ok g c = (after_replacing (stands c.self.inside.boxes c.self.inside.arena c.self.inside.names c.self.inside.last c.self.inside.weak.rows c.self.inside.objects c.self.inside.entries _ c.self.invariant c.self.view_is) c.args.object _ _ c.seat_of-seat.ensures c.args.key c.args.val c.in-Ok-Some.old c.requires.can (sym c.in-Ok-Some.ensures.replaced ∙ c.in-Ok-Some.field-0-is) _ _ c.in-Ok-Some.ensures.ok c.requires.other c.requires.live_val c.requires.few _ c.count_in.ensures).is
+
+pub count_in-requires-in-Ok-None-clause-room : goal.count_in-requires-in-Ok-None-clause-room
+count_in-requires-in-Ok-None-clause-room g c = λ s e. count_fits (stands c.self.inside.boxes c.self.inside.arena c.self.inside.names c.self.inside.last c.self.inside.weak.rows c.self.inside.objects c.self.inside.entries _ c.self.invariant c.self.view_is) s
+
+pub count_in-requires-in-Ok-None-2-clause-live : goal.count_in-requires-in-Ok-None-2-clause-live
+count_in-requires-in-Ok-None-2-clause-live g c = λ s e. still_live c.self.inside.arena _ (references_of_value (Some c.args.val)) c.count_in-in-Ok-None.ensures s (live_value (stands c.self.inside.boxes c.self.inside.arena c.self.inside.names c.self.inside.last c.self.inside.weak.rows c.self.inside.objects c.self.inside.entries _ c.self.invariant c.self.view_is) c.args.key c.requires.live_key s e)
+
+pub count_in-requires-in-Ok-None-2-clause-room : goal.count_in-requires-in-Ok-None-2-clause-room
+count_in-requires-in-Ok-None-2-clause-room g c = λ s e. count_fits_after (stands c.self.inside.boxes c.self.inside.arena c.self.inside.names c.self.inside.last c.self.inside.weak.rows c.self.inside.objects c.self.inside.entries _ c.self.invariant c.self.view_is) c.args.val _ c.count_in-in-Ok-None.ensures s
+
+pub invariant_of-self-in-Ok-None : goal.invariant_of-self-in-Ok-None
+invariant_of-self-in-Ok-None g c = (after_adding (stands c.self.inside.boxes c.self.inside.arena c.self.inside.names c.self.inside.last c.self.inside.weak.rows c.self.inside.objects c.self.inside.entries _ c.self.invariant c.self.view_is) c.args.object _ _ c.seat_of-seat.ensures c.args.key c.args.val c.requires.can (sym (value_here (stands c.self.inside.boxes c.self.inside.arena c.self.inside.names c.self.inside.last c.self.inside.weak.rows c.self.inside.objects c.self.inside.entries _ c.self.invariant c.self.view_is) c.args.object _ _ c.seat_of-seat.ensures c.args.key) ∙ sym c.in-Ok-None.ensures.replaced ∙ c.in-Ok-None.field-0-is) _ _ c.in-Ok-None.ensures.ok c.requires.other c.requires.live_key c.requires.live_val (below_limit _ c.self.inside.entries c.is_past_limit.result c.is_past_limit.ensures c.if-is_past_limit.false (sym c.in-Ok-None.ensures.replaced ∙ c.in-Ok-None.field-0-is)) _ _ c.count_in-in-Ok-None.ensures c.count_in-in-Ok-None-2.ensures).keeps
+
+pub returns-in-Ok-None-clause-ok : goal.returns-in-Ok-None-clause-ok
+returns-in-Ok-None-clause-ok g c = (after_adding (stands c.self.inside.boxes c.self.inside.arena c.self.inside.names c.self.inside.last c.self.inside.weak.rows c.self.inside.objects c.self.inside.entries _ c.self.invariant c.self.view_is) c.args.object _ _ c.seat_of-seat.ensures c.args.key c.args.val c.requires.can (sym (value_here (stands c.self.inside.boxes c.self.inside.arena c.self.inside.names c.self.inside.last c.self.inside.weak.rows c.self.inside.objects c.self.inside.entries _ c.self.invariant c.self.view_is) c.args.object _ _ c.seat_of-seat.ensures c.args.key) ∙ sym c.in-Ok-None.ensures.replaced ∙ c.in-Ok-None.field-0-is) _ _ c.in-Ok-None.ensures.ok c.requires.other c.requires.live_key c.requires.live_val (below_limit _ c.self.inside.entries c.is_past_limit.result c.is_past_limit.ensures c.if-is_past_limit.false (sym c.in-Ok-None.ensures.replaced ∙ c.in-Ok-None.field-0-is)) _ _ c.count_in-in-Ok-None.ensures c.count_in-in-Ok-None-2.ensures).is
