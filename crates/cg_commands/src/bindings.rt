@@ -19,6 +19,7 @@ use cg_script::Operand;
 use cg_value::{Entry, Val};
 
 /// `x = v`: the name is bound to the value.
+#[inline(never)]
 pub(crate) fn bind<B: Kind>(
     heap: &mut Heap<B>,
     locals: Option<Locals>,
@@ -35,6 +36,7 @@ pub(crate) fn bind<B: Kind>(
 }
 
 /// `del x`: the name is unbound.
+#[inline(never)]
 pub(crate) fn unbind<B: Kind>(
     heap: &mut Heap<B>,
     locals: Option<Locals>,

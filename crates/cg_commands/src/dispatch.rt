@@ -61,7 +61,10 @@ pub fn perform<B: Kind>(
     attempt(alloc, heap, policy, locals, command, room)
 }
 
-/// The same. An object is made only where there is room for it.
+/// Does any command; an object is made only where there is room for it.
+///
+/// Each command stands in a call of its own that is not inlined: the frame of this one would else have the locals of all, and
+/// clear them for each command.
 fn attempt<B: Kind>(
     alloc: Global,
     heap: &mut Heap<B>,

@@ -21,6 +21,7 @@ use cg_value::Val;
 
 /// `append L v`: the value goes last.
 #[tactic(auto, using(crate::proofs::Reading::refers_live))]
+#[inline(never)]
 pub(crate) fn append<B: Kind>(
     heap: &mut Heap<B>,
     locals: Option<Locals>,
@@ -43,6 +44,7 @@ pub(crate) fn append<B: Kind>(
 
 /// `setitem L i v`: an item is replaced, and what it was is to be given up.
 #[tactic(auto, using(crate::proofs::Reading::refers_live))]
+#[inline(never)]
 pub(crate) fn set_item<B: Kind>(
     heap: &mut Heap<B>,
     locals: Option<Locals>,
@@ -68,6 +70,7 @@ pub(crate) fn set_item<B: Kind>(
 
 /// `delitem L i`: an item is taken out, also of the garbage list.
 #[tactic(auto, using(crate::proofs::Reading::refers_live))]
+#[inline(never)]
 pub(crate) fn del_item<B: Kind>(
     heap: &mut Heap<B>,
     locals: Option<Locals>,
@@ -92,6 +95,7 @@ pub(crate) fn del_item<B: Kind>(
 
 /// `put D K v`: the key gets the value, and what it had is to be given up.
 #[tactic(auto, using(crate::proofs::Reading::refers_live))]
+#[inline(never)]
 pub(crate) fn put<B: Kind>(
     heap: &mut Heap<B>,
     locals: Option<Locals>,
@@ -121,6 +125,7 @@ pub(crate) fn put<B: Kind>(
 
 /// `drop D K`: the entry of the key is taken out.
 #[tactic(auto, using(crate::proofs::Reading::refers_live))]
+#[inline(never)]
 pub(crate) fn remove<B: Kind>(
     heap: &mut Heap<B>,
     locals: Option<Locals>,
@@ -153,6 +158,7 @@ pub(crate) fn remove<B: Kind>(
 
 /// `setattr O n v`: the attribute gets the value, and what it had is to be given up.
 #[tactic(auto, using(crate::proofs::Reading::refers_live))]
+#[inline(never)]
 pub(crate) fn set_attr<B: Kind>(
     heap: &mut Heap<B>,
     locals: Option<Locals>,
@@ -177,6 +183,7 @@ pub(crate) fn set_attr<B: Kind>(
 
 /// `delattr O n`: the attribute is taken out.
 #[tactic(auto, using(crate::proofs::Reading::refers_live))]
+#[inline(never)]
 pub(crate) fn del_attr<B: Kind>(
     heap: &mut Heap<B>,
     locals: Option<Locals>,

@@ -23,6 +23,7 @@ use cg_script::Operand;
 use std::alloc::{AllocError, Global};
 
 /// `referents v`: the objects to which the entries of an object refer.
+#[inline(never)]
 pub(crate) fn referents<B: Kind>(
     alloc: Global,
     heap: &Heap<B>,
@@ -46,6 +47,7 @@ pub(crate) fn referents<B: Kind>(
 }
 
 /// `referrers v`: the objects whose entries refer to an object.
+#[inline(never)]
 pub(crate) fn referrers<B: Kind>(
     alloc: Global,
     heap: &Heap<B>,
@@ -69,6 +71,7 @@ pub(crate) fn referrers<B: Kind>(
 }
 
 /// `why x`: a shortest path of holders to an object, but for one name that holds it.
+#[inline(never)]
 pub(crate) fn why<B: Kind>(
     alloc: Global,
     heap: &Heap<B>,

@@ -23,6 +23,7 @@ use cg_value::Val;
 
 /// `x = item L i`: the name is bound to an item of a list or a tuple.
 #[tactic(auto, using(crate::proofs::Reading::refers_live))]
+#[inline(never)]
 pub(crate) fn item<B: Kind>(
     heap: &mut Heap<B>,
     locals: Option<Locals>,
@@ -45,6 +46,7 @@ pub(crate) fn item<B: Kind>(
 
 /// `x = get D K`: the name is bound to the value under a key of a dictionary.
 #[tactic(auto, using(crate::proofs::Reading::refers_live))]
+#[inline(never)]
 pub(crate) fn get<B: Kind>(
     heap: &mut Heap<B>,
     locals: Option<Locals>,
@@ -75,6 +77,7 @@ pub(crate) fn get<B: Kind>(
 
 /// `x = attr O n`: the name is bound to an attribute of an instance.
 #[tactic(auto, using(crate::proofs::Reading::refers_live))]
+#[inline(never)]
 pub(crate) fn attr<B: Kind>(
     heap: &mut Heap<B>,
     locals: Option<Locals>,
@@ -101,6 +104,7 @@ pub(crate) fn attr<B: Kind>(
 
 /// `x = deref w`: the name is bound to the referent, or to none where there is none or the callback waits.
 #[tactic(auto, using(crate::proofs::Reading::refers_live))]
+#[inline(never)]
 pub(crate) fn deref<B: Kind>(
     heap: &mut Heap<B>,
     locals: Option<Locals>,

@@ -58,6 +58,7 @@ pub(crate) fn make_list<B: Kind>(
 }
 
 /// `make_list` of at most `N` values.
+#[inline(never)]
 fn make_list_within<B: Kind, const N: usize>(
     heap: &mut Heap<B>,
     locals: Option<Locals>,
@@ -111,6 +112,7 @@ pub(crate) fn make_tuple<B: Kind>(
 }
 
 /// `make_tuple` of at most `N` values.
+#[inline(never)]
 fn make_tuple_within<B: Kind, const N: usize>(
     heap: &mut Heap<B>,
     locals: Option<Locals>,
@@ -141,6 +143,7 @@ fn make_tuple_within<B: Kind, const N: usize>(
 }
 
 /// `x = dict`: a new empty dictionary.
+#[inline(never)]
 pub(crate) fn make_dict<B: Kind>(
     heap: &mut Heap<B>,
     locals: Option<Locals>,
@@ -157,6 +160,7 @@ pub(crate) fn make_dict<B: Kind>(
 }
 
 /// `x = new C`: a new instance of a class, without attributes.
+#[inline(never)]
 pub(crate) fn make_instance<B: Kind>(
     heap: &mut Heap<B>,
     locals: Option<Locals>,
@@ -183,6 +187,7 @@ pub(crate) fn make_instance<B: Kind>(
 }
 
 /// `x = func P v*`: a new function of a procedure, with at most 8 cells.
+#[inline(never)]
 pub(crate) fn make_function<B: Kind>(
     heap: &mut Heap<B>,
     locals: Option<Locals>,
@@ -214,6 +219,7 @@ pub(crate) fn make_function<B: Kind>(
 
 /// `x = ref y [f]`: a new weak reference to an instance or a function, with a callback or none.
 #[tactic(auto, using(crate::proofs::Reading::refers_live))]
+#[inline(never)]
 pub(crate) fn make_weak<B: Kind>(
     heap: &mut Heap<B>,
     locals: Option<Locals>,
