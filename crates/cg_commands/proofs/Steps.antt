@@ -1,12 +1,11 @@
 -- What a command asks for after its operands, as the heap tells it: objects, indices, entries and keys.
-use Rattle.std.proofs.Common.{◌≡◌, sym, ◌∙◌, ap, subst, ℕ, Bool, true, false, not, List, length, Option, Some, None, IsSome, Err}
-use Rattle.std.specs.Prelude.{slice_get, ok_or, ℤ, IfSome, option_map, option_and_then, position}
+use Rattle.std.proofs.Common.{◌≡◌, sym, ◌∙◌, ap, subst, ℕ, Bool, true, false, not, length, Option, Some, None, IsSome, Err}
+use Rattle.std.specs.Prelude.{slice_get, ok_or, ℤ, IfSome, option_map, option_and_then}
 use Rattle.std.specs.FinMap as fin
 use Rattle.cg_value.specs.declared.Val.{Val}
 use Rattle.cg_value.specs.declared.Val.TheVariants as val
 use Rattle.cg_value.specs.declared.Entry.{Entry}
 use Rattle.cg_value.specs.declared.KindCode.{KindCode}
-use Rattle.cg_kind.specs.Calls.{has_key}
 use Rattle.cg_graph.specs.Value.{value_at, entry_at}
 use Rattle.cg_value.specs.declared.Place.{Place}
 use Rattle.cg_value.specs.declared.Place.TheVariants.{Untracked}

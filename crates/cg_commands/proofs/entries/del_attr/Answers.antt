@@ -14,7 +14,6 @@ use Rattle.cg_commands.specs.Objects.{test_of, refusal_of}
 use Rattle.cg_commands.proofs.Chains.{stops, goes_on}
 use Rattle.cg_commands.proofs.Steps.{reads-object, reads-entry_at, no-entry_at}
 use Rattle.cg_commands.proofs.EntryLemmas.{takes_key, can_take}
-use Rattle.cg_graph.specs.Value.{without_key}
 use Rattle.cg_commands.proofs.entries.del_attr.Goals as goal
 
 pub returns-in_err-instance : goal.returns-in_err-instance
