@@ -8,7 +8,7 @@ use Rattle.cg_value.specs.declared.Val.{Val}
 use Rattle.cg_value.specs.declared.Entry.{Entry}
 use Rattle.cg_value.specs.declared.KindCode.{KindCode}
 use Rattle.cg_value.specs.declared.KindCode.TheVariants as kind
-use Rattle.cg_graph.specs.Value.{item, entry_references}
+use Rattle.cg_graph.specs.Value.{item, entry_at, without_key, entry_references}
 use Rattle.cg_graph.specs.Object.{Object, with_entries}
 use Rattle.cg_graph.specs.Store.{Store, Node, HasCode, object_from, entries_of}
 use Rattle.cg_graph.specs.Changes.{held, rewritten}
@@ -30,6 +30,7 @@ use Rattle.cg_commands.specs.Objects.{RefersTo, test_of}
 use Rattle.cg_commands.specs.Answers.{PerformsOnHeap, AnswersOnHeap, GivesUp}
 use Rattle.cg_commands.proofs.Bridges.{gives_up, gives_nothing, refilled}
 use Rattle.cg_commands.proofs.Limits.{room, one_fits}
+use Rattle.cg_commands.proofs.KeyLemmas.{entry_somewhere}
 
 -- the kind of an object that passes
 is_list_code : (c : KindCode) → elim c [ kind.List ↦ true | _ ↦ false ] ≡ true → c ≡ kind.List
@@ -133,6 +134,18 @@ module _ (store : Store) (sound : IsSound store) (locals : Option Locals) (test 
       (is ∙ ap (λ l. held (entry_references e) (rewritten o l store)) (ap (λ l. remove l i) entries-here ∙ sym gone))
       (refilled store w s.represents o es)
       (λ q some. lives_on store (rewritten o es store) (kinds-rewritten o es store) q (sound.live q (omega (arith, some, entry_holds store o i e at q))))
+
+  -- the entry under a key is taken out
+  pub takes_key : (key : Val) (e : Entry) (new : Store) → Some e ≡ entry_at (entries_of store o) key → new ≡ held (entry_references e) (rewritten o (without_key (entries_of store o) key) store)
+      → PerformsOnHeap store locals (λ w. sets_entries w (object_from store.rows o there.node) (without_key there.node.entries key) (entry_references e)) new (Ok (Changed None e))
+  takes_key key e new at is =
+      let (i, here) = entry_somewhere (entries_of store o) key e (sym at) in
+      let es : List Entry = without_key there.node.entries key in
+      λ w s.
+      gives_up _ None e false (entry_references e) (rewritten o es store) (with_change (with_entries es) o w) store new refl refl
+      (is ∙ ap (λ l. held (entry_references e) (rewritten o (without_key l key) store)) entries-here)
+      (refilled store w s.represents o es)
+      (λ q some. lives_on store (rewritten o es store) (kinds-rewritten o es store) q (sound.live q (omega (arith, some, entry_holds store o i e here q))))
 
 -- a dictionary or an instance
 abbrev pub IsKeyedTest : Wanted → Type 0

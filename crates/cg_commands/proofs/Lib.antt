@@ -1,3 +1,4 @@
+mod KeyLemmas
 mod Chains
 mod Reading
 pub mod Bridges

@@ -8,7 +8,7 @@ use Rattle.cg_value.specs.declared.Val.TheVariants as val
 use Rattle.cg_value.specs.declared.Entry.{Entry}
 use Rattle.cg_value.specs.declared.KindCode.{KindCode}
 use Rattle.cg_graph.specs.Holdings.{occurrences}
-use Rattle.cg_graph.specs.Value.{reference_in, references_of_value}
+use Rattle.cg_graph.specs.Value.{reference_in, references_of_value, value_at}
 use Rattle.cg_graph.specs.Object.{Object, object_at, entries_of as entries_in_world}
 use Rattle.cg_graph.specs.Store.{Store, Node, IsLive, object_from, entries_of, entries_in}
 use Rattle.cg_graph.proofs.Objects.{object-at, occurrences-append}
@@ -22,6 +22,7 @@ use Rattle.cg_machine.specs.World.{World, Frame}
 use Rattle.cg_machine.specs.Operands.{frame_on, value_of, self_in, weak_in, object, tested}
 use Rattle.cg_machine.specs.Refusals.{◌>>=◌}
 use Rattle.cg_machine.specs.Represents.{Represents}
+use Rattle.cg_commands.proofs.KeyLemmas.{value_somewhere}
 use Rattle.cg_commands.specs.declared.locals.Locals.{Locals}
 use Rattle.cg_commands.specs.Refusals.{number_of, Declines}
 use Rattle.cg_commands.specs.Stands.{locals_of, ReadsValue}
@@ -86,6 +87,11 @@ pub live-value_in : (store : Store) → IsSound store → (o i : ℕ) (e : Entry
 live-value_in store sound o i e at s is =
     let here : occurrences s (references_of_value (Some e.val)) ≡ occurrences s (s ∷ []) = ap (λ v. occurrences s (references_of_value (Some v))) is in
     sound.live s (omega (arith, here, holds_one s, entry_holds store o i e at s, occurrences-append s (references_of_value (Some e.val)) (references_of_value (Some e.key))))
+
+pub live-value_at : (store : Store) → IsSound store → (o : ℕ) (key found : Val) → Some found ≡ value_at (entries_of store o) key → IsLiveValue store found
+live-value_at store sound o key found at =
+    let (i, (e, (there, is))) = value_somewhere (entries_of store o) key found (sym at) in
+    subst (IsLiveValue store) is (live-value_in store sound o i e there)
 
 -- the object that a value refers to, in the world
 pub object-found : (store : Store) (w : World) → Represents store w → (test : Object → Bool) (k : ℕ) (v : Val) (o : ℕ) (there : RefersTo store test v o) → object w test k v ≡ Ok (object_from store.rows o there.node)

@@ -1,12 +1,11 @@
 -- What a command asks for after its operands, as the heap tells it: objects, indices, entries and keys.
-use Rattle.std.proofs.Common.{◌≡◌, sym, ◌∙◌, ap, subst, ℕ, Bool, true, false, not, List, length, Option, Some, None, IsSome, Err}
-use Rattle.std.specs.Prelude.{slice_get, ok_or, ℤ, IfSome, option_map, option_and_then, position}
+use Rattle.std.proofs.Common.{◌≡◌, sym, ◌∙◌, ap, subst, ℕ, Bool, true, false, not, length, Option, Some, None, IsSome, Err}
+use Rattle.std.specs.Prelude.{slice_get, ok_or, ℤ, IfSome, option_map, option_and_then}
 use Rattle.std.specs.FinMap as fin
 use Rattle.cg_value.specs.declared.Val.{Val}
 use Rattle.cg_value.specs.declared.Val.TheVariants as val
 use Rattle.cg_value.specs.declared.Entry.{Entry}
 use Rattle.cg_value.specs.declared.KindCode.{KindCode}
-use Rattle.cg_kind.specs.Calls.{has_key}
 use Rattle.cg_graph.specs.Value.{value_at, entry_at}
 use Rattle.cg_value.specs.declared.Place.{Place}
 use Rattle.cg_value.specs.declared.Place.TheVariants.{Untracked}
@@ -24,7 +23,6 @@ use Rattle.cg_commands.specs.Refusals.{Declines}
 use Rattle.cg_commands.specs.Stands.{StandsFor, Reads, IsRefused}
 use Rattle.cg_commands.specs.Objects.{RefersTo, Tells, IsKey, test_of, bare}
 use Rattle.cg_commands.proofs.Reading.{object-at_node, object-found, no_reference}
-use Rattle.cg_commands.proofs.KeyLemmas.{Stands, key_found, key_missing}
 
 module _ (store : Store) (locals : Option Locals) (test : Object → Bool) (v : Val) (o : ℕ) (there : RefersTo store test v o) where
   -- the object
@@ -47,23 +45,17 @@ module _ (store : Store) (locals : Option Locals) (test : Object → Bool) (v : 
   reads-entry i e at k w s = ap (λ es. ok_or (slice_get es i) k) (sym entries-here) ∙ ap (λ x. ok_or x k) at
 
   -- the entry under a key, its value, or none
-  pub key-here : (key : Val) (i : ℕ) (e : Entry) → Some i ≡ position (has_key key) (entries_of store o) → slice_get (entries_of store o) i ≡ Some e → Stands there.node.entries key i e
-  key-here key i e at here = subst (λ es. Stands es key i e) entries-here (key_found (entries_of store o) key i e (sym at) here)
+  pub reads-value_at : (key : Val) (found : Val) → Some found ≡ value_at (entries_of store o) key → (k : ℕ) → Reads store locals (λ w. ok_or (value_at there.node.entries key) k) found
+  reads-value_at key found at k w s = ap (λ es. ok_or (value_at es key) k) (sym entries-here) ∙ ap (λ x. ok_or x k) (sym at)
 
-  pub reads-value_at : (key : Val) (i : ℕ) (e : Entry) → Some i ≡ position (has_key key) (entries_of store o) → slice_get (entries_of store o) i ≡ Some e → (k : ℕ) → Reads store locals (λ w. ok_or (value_at there.node.entries key) k) e.val
-  reads-value_at key i e at here k w s = ap (λ x. ok_or x k) (key-here key i e at here).value
+  pub reads-entry_at : (key : Val) (e : Entry) → Some e ≡ entry_at (entries_of store o) key → (k : ℕ) → Reads store locals (λ w. ok_or (entry_at there.node.entries key) k) e
+  reads-entry_at key e at k w s = ap (λ es. ok_or (entry_at es key) k) (sym entries-here) ∙ ap (λ x. ok_or x k) (sym at)
 
-  pub reads-entry_at : (key : Val) (i : ℕ) (e : Entry) → Some i ≡ position (has_key key) (entries_of store o) → slice_get (entries_of store o) i ≡ Some e → (k : ℕ) → Reads store locals (λ w. ok_or (entry_at there.node.entries key) k) e
-  reads-entry_at key i e at here k w s = ap (λ x. ok_or x k) (key-here key i e at here).entry
+  pub no-value_at : (key : Val) → None ≡ value_at (entries_of store o) key → (k : ℕ) → (w : World) → StandsFor store locals w → ok_or (value_at there.node.entries key) k ≡ Err k
+  no-value_at key at k w s = ap (λ es. ok_or (value_at es key) k) (sym entries-here) ∙ ap (λ x. ok_or x k) (sym at)
 
-  no-key : (key : Val) → None ≡ position (has_key key) (entries_of store o) → (entry_at there.node.entries key ≡ None) × (value_at there.node.entries key ≡ None)
-  no-key key at = subst (λ (es : List Entry). (entry_at es key ≡ None) × (value_at es key ≡ None)) entries-here (key_missing (entries_of store o) key (sym at))
-
-  pub no-value_at : (key : Val) → None ≡ position (has_key key) (entries_of store o) → (k : ℕ) → (w : World) → StandsFor store locals w → ok_or (value_at there.node.entries key) k ≡ Err k
-  no-value_at key at k w s = ap (λ x. ok_or x k) (no-key key at).1
-
-  pub no-entry_at : (key : Val) → None ≡ position (has_key key) (entries_of store o) → (k : ℕ) → (w : World) → StandsFor store locals w → ok_or (entry_at there.node.entries key) k ≡ Err k
-  no-entry_at key at k w s = ap (λ x. ok_or x k) (no-key key at).0
+  pub no-entry_at : (key : Val) → None ≡ entry_at (entries_of store o) key → (k : ℕ) → (w : World) → StandsFor store locals w → ok_or (entry_at there.node.entries key) k ≡ Err k
+  no-entry_at key at k w s = ap (λ es. ok_or (entry_at es key) k) (sym entries-here) ∙ ap (λ x. ok_or x k) (sym at)
 
 -- whether a value may be a key
 pub reads-key : (store : Store) (locals : Option Locals) (v : Val) (b : Bool) → IsKey store v b → b ≡ true → Reads store locals (λ w. unless (is_hashable w v) unhashable) tt

@@ -144,14 +144,11 @@ pub(crate) fn remove<B: Kind>(
         return Err(Refusal::Unhashable);
     }
     heap.sound();
-    match heap.find(target, key) {
-        Some(i) => {
-            let entry = heap.take(target, i);
-            Ok(Done::Changed {
-                line: None,
-                given_up: entry,
-            })
-        }
+    match heap.take_key(target, key) {
+        Some(entry) => Ok(Done::Changed {
+            line: None,
+            given_up: entry,
+        }),
         None => Err(Refusal::NoKey),
     }
 }
@@ -198,14 +195,11 @@ pub(crate) fn del_attr<B: Kind>(
     let instance = value(heap, locals, instance)?;
     let target = object(heap, instance, Wanted::Inst)?;
     heap.sound();
-    match heap.find(target, Val::Str(attr)) {
-        Some(i) => {
-            let entry = heap.take(target, i);
-            Ok(Done::Changed {
-                line: None,
-                given_up: entry,
-            })
-        }
+    match heap.take_key(target, Val::Str(attr)) {
+        Some(entry) => Ok(Done::Changed {
+            line: None,
+            given_up: entry,
+        }),
         None => Err(Refusal::NoAttribute),
     }
 }

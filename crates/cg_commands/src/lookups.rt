@@ -66,11 +66,8 @@ pub(crate) fn get<B: Kind>(
         return Err(Refusal::Unhashable);
     }
     heap.sound();
-    match heap.find(target, key) {
-        Some(i) => {
-            let entry = heap.entry_at(target, i);
-            bind_to(heap, locals, name, entry.val)
-        }
+    match heap.value_of(target, key) {
+        Some(found) => bind_to(heap, locals, name, found),
         None => Err(Refusal::NoKey),
     }
 }
@@ -93,11 +90,8 @@ pub(crate) fn attr<B: Kind>(
     let val = value(heap, locals, instance)?;
     let target = object(heap, val, Wanted::Inst)?;
     heap.sound();
-    match heap.find(target, Val::Str(attr)) {
-        Some(i) => {
-            let entry = heap.entry_at(target, i);
-            bind_to(heap, locals, name, entry.val)
-        }
+    match heap.value_of(target, Val::Str(attr)) {
+        Some(found) => bind_to(heap, locals, name, found),
         None => Err(Refusal::NoAttribute),
     }
 }

@@ -12,9 +12,8 @@ use Rattle.cg_commands.specs.declared.operands.Wanted.TheVariants as wanted
 use Rattle.cg_commands.specs.Refusals.{number_of}
 use Rattle.cg_commands.specs.Objects.{test_of, refusal_of}
 use Rattle.cg_commands.proofs.Chains.{stops, goes_on}
-use Rattle.cg_commands.proofs.Steps.{reads-object, reads-entry_at, no-entry_at, key-here}
-use Rattle.cg_commands.proofs.EntryLemmas.{takes, can_take}
-use Rattle.cg_graph.specs.Value.{without_key}
+use Rattle.cg_commands.proofs.Steps.{reads-object, reads-entry_at, no-entry_at}
+use Rattle.cg_commands.proofs.EntryLemmas.{takes_key, can_take}
 use Rattle.cg_commands.proofs.entries.del_attr.Goals as goal
 
 pub returns-in_err-instance : goal.returns-in_err-instance
@@ -28,19 +27,20 @@ returns-in_err-target g c =
     (goes_on c.args.heap.now c.args.heap.now c.args.locals (λ w. value w c.args.instance) c.in_ok-instance.instance _ (Err c.in_err-target.field-0.0) c.in_ok-instance.ensures.ok
     (stops c.args.heap.now c.args.locals (λ w. object w (test_of wanted.Inst) (number_of (refusal_of wanted.Inst)) c.in_ok-instance.instance) _ c.in_err-target.field-0.0 (λ w s. c.in_err-target.ensures.err w s.represents)))
 
-pub take-entry-requires-clause-can : goal.take-entry-requires-clause-can
-take-entry-requires-clause-can g c =
+pub take_key-requires-clause-can : goal.take_key-requires-clause-can
+take_key-requires-clause-can g c =
     can_take c.args.heap.now wanted.Inst tt c.in_ok-instance.instance c.in_ok-target.target c.in_ok-target.ensures.ok
 
 pub returns-in-Some : goal.returns-in-Some
 returns-in-Some g c =
-    (goes_on c.args.heap.now c.take-entry.new.self c.args.locals (λ w. value w c.args.instance) c.in_ok-instance.instance _ (Ok (done.Changed None c.take-entry.result)) c.in_ok-instance.ensures.ok
-    (goes_on c.args.heap.now c.take-entry.new.self c.args.locals (λ w. object w (test_of wanted.Inst) (number_of (refusal_of wanted.Inst)) c.in_ok-instance.instance) (object_from c.args.heap.now.rows c.in_ok-target.target c.in_ok-target.ensures.ok.node) _ (Ok (done.Changed None c.take-entry.result)) (reads-object c.args.heap.now c.args.locals (test_of wanted.Inst) c.in_ok-instance.instance c.in_ok-target.target c.in_ok-target.ensures.ok (number_of (refusal_of wanted.Inst)))
-    (goes_on c.args.heap.now c.take-entry.new.self c.args.locals (λ w. ok_or (entry_at c.in_ok-target.ensures.ok.node.entries (val.Str c.args.attr)) no_attribute) c.take-entry.result _ (Ok (done.Changed None c.take-entry.result)) (reads-entry_at c.args.heap.now c.args.locals (test_of wanted.Inst) c.in_ok-instance.instance c.in_ok-target.target c.in_ok-target.ensures.ok (val.Str c.args.attr) c.in-Some.i c.take-entry.result c.in-Some.ensures c.take-entry.ensures.entry no_attribute)
-    (takes c.args.heap.now c.sound.ensures c.args.locals (test_of wanted.Inst) c.in_ok-instance.instance c.in_ok-target.target c.in_ok-target.ensures.ok c.in-Some.i c.take-entry.result (without_key c.in_ok-target.ensures.ok.node.entries (val.Str c.args.attr)) c.take-entry.new.self c.take-entry.ensures.entry c.take-entry.ensures.rest (key-here c.args.heap.now c.args.locals (test_of wanted.Inst) c.in_ok-instance.instance c.in_ok-target.target c.in_ok-target.ensures.ok (val.Str c.args.attr) c.in-Some.i c.take-entry.result c.in-Some.ensures c.take-entry.ensures.entry).rest))))
+    (goes_on c.args.heap.now c.take_key.new.self c.args.locals (λ w. value w c.args.instance) c.in_ok-instance.instance _ (Ok (done.Changed None c.in-Some.entry)) c.in_ok-instance.ensures.ok
+    (goes_on c.args.heap.now c.take_key.new.self c.args.locals (λ w. object w (test_of wanted.Inst) (number_of (refusal_of wanted.Inst)) c.in_ok-instance.instance) (object_from c.args.heap.now.rows c.in_ok-target.target c.in_ok-target.ensures.ok.node) _ (Ok (done.Changed None c.in-Some.entry)) (reads-object c.args.heap.now c.args.locals (test_of wanted.Inst) c.in_ok-instance.instance c.in_ok-target.target c.in_ok-target.ensures.ok (number_of (refusal_of wanted.Inst)))
+    (goes_on c.args.heap.now c.take_key.new.self c.args.locals (λ w. ok_or (entry_at c.in_ok-target.ensures.ok.node.entries (val.Str c.args.attr)) no_attribute) c.in-Some.entry _ (Ok (done.Changed None c.in-Some.entry)) (reads-entry_at c.args.heap.now c.args.locals (test_of wanted.Inst) c.in_ok-instance.instance c.in_ok-target.target c.in_ok-target.ensures.ok (val.Str c.args.attr) c.in-Some.entry c.in-Some.ensures.entry no_attribute)
+    (takes_key c.args.heap.now c.sound.ensures c.args.locals (test_of wanted.Inst) c.in_ok-instance.instance c.in_ok-target.target c.in_ok-target.ensures.ok (val.Str c.args.attr) c.in-Some.entry c.take_key.new.self c.in-Some.ensures.entry c.in-Some.ensures.rest))))
 
 pub returns-in-None : goal.returns-in-None
 returns-in-None g c =
+    rw (c.in-None.ensures.none)
     (goes_on c.args.heap.now c.args.heap.now c.args.locals (λ w. value w c.args.instance) c.in_ok-instance.instance _ (Err refusal.NoAttribute) c.in_ok-instance.ensures.ok
     (goes_on c.args.heap.now c.args.heap.now c.args.locals (λ w. object w (test_of wanted.Inst) (number_of (refusal_of wanted.Inst)) c.in_ok-instance.instance) (object_from c.args.heap.now.rows c.in_ok-target.target c.in_ok-target.ensures.ok.node) _ (Err refusal.NoAttribute) (reads-object c.args.heap.now c.args.locals (test_of wanted.Inst) c.in_ok-instance.instance c.in_ok-target.target c.in_ok-target.ensures.ok (number_of (refusal_of wanted.Inst)))
-    (stops c.args.heap.now c.args.locals (λ w. ok_or (entry_at c.in_ok-target.ensures.ok.node.entries (val.Str c.args.attr)) no_attribute) _ refusal.NoAttribute (no-entry_at c.args.heap.now c.args.locals (test_of wanted.Inst) c.in_ok-instance.instance c.in_ok-target.target c.in_ok-target.ensures.ok (val.Str c.args.attr) c.in-None.ensures no_attribute))))
+    (stops c.args.heap.now c.args.locals (λ w. ok_or (entry_at c.in_ok-target.ensures.ok.node.entries (val.Str c.args.attr)) no_attribute) _ refusal.NoAttribute (no-entry_at c.args.heap.now c.args.locals (test_of wanted.Inst) c.in_ok-instance.instance c.in_ok-target.target c.in_ok-target.ensures.ok (val.Str c.args.attr) c.in-None.ensures.entry no_attribute))))

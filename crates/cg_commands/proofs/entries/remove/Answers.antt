@@ -12,9 +12,8 @@ use Rattle.cg_commands.specs.declared.operands.Wanted.TheVariants as wanted
 use Rattle.cg_commands.specs.Refusals.{number_of}
 use Rattle.cg_commands.specs.Objects.{test_of, refusal_of}
 use Rattle.cg_commands.proofs.Chains.{stops, goes_on}
-use Rattle.cg_commands.proofs.Steps.{reads-object, reads-entry_at, no-entry_at, reads-key, no-hash, key-here}
-use Rattle.cg_commands.proofs.EntryLemmas.{takes, can_take}
-use Rattle.cg_graph.specs.Value.{without_key}
+use Rattle.cg_commands.proofs.Steps.{reads-object, reads-entry_at, no-entry_at, reads-key, no-hash}
+use Rattle.cg_commands.proofs.EntryLemmas.{takes_key, can_take}
 use Rattle.cg_commands.proofs.entries.remove.Goals as goal
 
 pub returns-in_err-dict : goal.returns-in_err-dict
@@ -42,23 +41,24 @@ returns-then-not-is_hashable g c =
     (goes_on c.args.heap.now c.args.heap.now c.args.locals (λ w. object w (test_of wanted.Dict) (number_of (refusal_of wanted.Dict)) c.in_ok-dict.dict) (object_from c.args.heap.now.rows c.in_ok-target.target c.in_ok-target.ensures.ok.node) _ (Err refusal.Unhashable) (reads-object c.args.heap.now c.args.locals (test_of wanted.Dict) c.in_ok-dict.dict c.in_ok-target.target c.in_ok-target.ensures.ok (number_of (refusal_of wanted.Dict)))
     (stops c.args.heap.now c.args.locals (λ w. unless (is_hashable w c.in_ok-key.key) unhashable) _ refusal.Unhashable (no-hash c.args.heap.now c.args.locals c.in_ok-key.key c.is_hashable.result c.is_hashable.ensures c.if-not-is_hashable.true)))))
 
-pub take-entry-requires-clause-can : goal.take-entry-requires-clause-can
-take-entry-requires-clause-can g c =
+pub take_key-requires-clause-can : goal.take_key-requires-clause-can
+take_key-requires-clause-can g c =
     can_take c.args.heap.now wanted.Dict tt c.in_ok-dict.dict c.in_ok-target.target c.in_ok-target.ensures.ok
 
 pub returns-in-Some : goal.returns-in-Some
 returns-in-Some g c =
-    (goes_on c.args.heap.now c.take-entry.new.self c.args.locals (λ w. value w c.args.dict) c.in_ok-dict.dict _ (Ok (done.Changed None c.take-entry.result)) c.in_ok-dict.ensures.ok
-    (goes_on c.args.heap.now c.take-entry.new.self c.args.locals (λ w. value w c.args.key) c.in_ok-key.key _ (Ok (done.Changed None c.take-entry.result)) c.in_ok-key.ensures.ok
-    (goes_on c.args.heap.now c.take-entry.new.self c.args.locals (λ w. object w (test_of wanted.Dict) (number_of (refusal_of wanted.Dict)) c.in_ok-dict.dict) (object_from c.args.heap.now.rows c.in_ok-target.target c.in_ok-target.ensures.ok.node) _ (Ok (done.Changed None c.take-entry.result)) (reads-object c.args.heap.now c.args.locals (test_of wanted.Dict) c.in_ok-dict.dict c.in_ok-target.target c.in_ok-target.ensures.ok (number_of (refusal_of wanted.Dict)))
-    (goes_on c.args.heap.now c.take-entry.new.self c.args.locals (λ w. unless (is_hashable w c.in_ok-key.key) unhashable) tt _ (Ok (done.Changed None c.take-entry.result)) (reads-key c.args.heap.now c.args.locals c.in_ok-key.key c.is_hashable.result c.is_hashable.ensures c.if-not-is_hashable.false)
-    (goes_on c.args.heap.now c.take-entry.new.self c.args.locals (λ w. ok_or (entry_at c.in_ok-target.ensures.ok.node.entries c.in_ok-key.key) no_key) c.take-entry.result _ (Ok (done.Changed None c.take-entry.result)) (reads-entry_at c.args.heap.now c.args.locals (test_of wanted.Dict) c.in_ok-dict.dict c.in_ok-target.target c.in_ok-target.ensures.ok c.in_ok-key.key c.in-Some.i c.take-entry.result c.in-Some.ensures c.take-entry.ensures.entry no_key)
-    (takes c.args.heap.now c.sound.ensures c.args.locals (test_of wanted.Dict) c.in_ok-dict.dict c.in_ok-target.target c.in_ok-target.ensures.ok c.in-Some.i c.take-entry.result (without_key c.in_ok-target.ensures.ok.node.entries c.in_ok-key.key) c.take-entry.new.self c.take-entry.ensures.entry c.take-entry.ensures.rest (key-here c.args.heap.now c.args.locals (test_of wanted.Dict) c.in_ok-dict.dict c.in_ok-target.target c.in_ok-target.ensures.ok c.in_ok-key.key c.in-Some.i c.take-entry.result c.in-Some.ensures c.take-entry.ensures.entry).rest))))))
+    (goes_on c.args.heap.now c.take_key.new.self c.args.locals (λ w. value w c.args.dict) c.in_ok-dict.dict _ (Ok (done.Changed None c.in-Some.entry)) c.in_ok-dict.ensures.ok
+    (goes_on c.args.heap.now c.take_key.new.self c.args.locals (λ w. value w c.args.key) c.in_ok-key.key _ (Ok (done.Changed None c.in-Some.entry)) c.in_ok-key.ensures.ok
+    (goes_on c.args.heap.now c.take_key.new.self c.args.locals (λ w. object w (test_of wanted.Dict) (number_of (refusal_of wanted.Dict)) c.in_ok-dict.dict) (object_from c.args.heap.now.rows c.in_ok-target.target c.in_ok-target.ensures.ok.node) _ (Ok (done.Changed None c.in-Some.entry)) (reads-object c.args.heap.now c.args.locals (test_of wanted.Dict) c.in_ok-dict.dict c.in_ok-target.target c.in_ok-target.ensures.ok (number_of (refusal_of wanted.Dict)))
+    (goes_on c.args.heap.now c.take_key.new.self c.args.locals (λ w. unless (is_hashable w c.in_ok-key.key) unhashable) tt _ (Ok (done.Changed None c.in-Some.entry)) (reads-key c.args.heap.now c.args.locals c.in_ok-key.key c.is_hashable.result c.is_hashable.ensures c.if-not-is_hashable.false)
+    (goes_on c.args.heap.now c.take_key.new.self c.args.locals (λ w. ok_or (entry_at c.in_ok-target.ensures.ok.node.entries c.in_ok-key.key) no_key) c.in-Some.entry _ (Ok (done.Changed None c.in-Some.entry)) (reads-entry_at c.args.heap.now c.args.locals (test_of wanted.Dict) c.in_ok-dict.dict c.in_ok-target.target c.in_ok-target.ensures.ok c.in_ok-key.key c.in-Some.entry c.in-Some.ensures.entry no_key)
+    (takes_key c.args.heap.now c.sound.ensures c.args.locals (test_of wanted.Dict) c.in_ok-dict.dict c.in_ok-target.target c.in_ok-target.ensures.ok c.in_ok-key.key c.in-Some.entry c.take_key.new.self c.in-Some.ensures.entry c.in-Some.ensures.rest))))))
 
 pub returns-in-None : goal.returns-in-None
 returns-in-None g c =
+    rw (c.in-None.ensures.none)
     (goes_on c.args.heap.now c.args.heap.now c.args.locals (λ w. value w c.args.dict) c.in_ok-dict.dict _ (Err refusal.NoKey) c.in_ok-dict.ensures.ok
     (goes_on c.args.heap.now c.args.heap.now c.args.locals (λ w. value w c.args.key) c.in_ok-key.key _ (Err refusal.NoKey) c.in_ok-key.ensures.ok
     (goes_on c.args.heap.now c.args.heap.now c.args.locals (λ w. object w (test_of wanted.Dict) (number_of (refusal_of wanted.Dict)) c.in_ok-dict.dict) (object_from c.args.heap.now.rows c.in_ok-target.target c.in_ok-target.ensures.ok.node) _ (Err refusal.NoKey) (reads-object c.args.heap.now c.args.locals (test_of wanted.Dict) c.in_ok-dict.dict c.in_ok-target.target c.in_ok-target.ensures.ok (number_of (refusal_of wanted.Dict)))
     (goes_on c.args.heap.now c.args.heap.now c.args.locals (λ w. unless (is_hashable w c.in_ok-key.key) unhashable) tt _ (Err refusal.NoKey) (reads-key c.args.heap.now c.args.locals c.in_ok-key.key c.is_hashable.result c.is_hashable.ensures c.if-not-is_hashable.false)
-    (stops c.args.heap.now c.args.locals (λ w. ok_or (entry_at c.in_ok-target.ensures.ok.node.entries c.in_ok-key.key) no_key) _ refusal.NoKey (no-entry_at c.args.heap.now c.args.locals (test_of wanted.Dict) c.in_ok-dict.dict c.in_ok-target.target c.in_ok-target.ensures.ok c.in_ok-key.key c.in-None.ensures no_key))))))
+    (stops c.args.heap.now c.args.locals (λ w. ok_or (entry_at c.in_ok-target.ensures.ok.node.entries c.in_ok-key.key) no_key) _ refusal.NoKey (no-entry_at c.args.heap.now c.args.locals (test_of wanted.Dict) c.in_ok-dict.dict c.in_ok-target.target c.in_ok-target.ensures.ok c.in_ok-key.key c.in-None.ensures.entry no_key))))))

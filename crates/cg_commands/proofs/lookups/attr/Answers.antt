@@ -12,7 +12,7 @@ use Rattle.cg_commands.specs.Refusals.{number_of}
 use Rattle.cg_commands.specs.Objects.{test_of, refusal_of}
 use Rattle.cg_commands.proofs.Chains.{stops, goes_on}
 use Rattle.cg_commands.proofs.Steps.{reads-object, reads-value_at, no-value_at}
-use Rattle.cg_commands.proofs.Reading.{live-value_in}
+use Rattle.cg_commands.proofs.Reading.{live-value_at}
 use Rattle.cg_commands.proofs.lookups.attr.Goals as goal
 
 pub returns-in_err-val : goal.returns-in_err-val
@@ -28,13 +28,13 @@ returns-in_err-target g c =
 
 pub bind_to-requires-clause-live : goal.bind_to-requires-clause-live
 bind_to-requires-clause-live g c =
-    live-value_in c.args.heap.now c.sound.ensures c.in_ok-target.target c.in-Some.i c.entry_at-entry.result c.entry_at-entry.ensures
+    live-value_at c.args.heap.now c.sound.ensures c.in_ok-target.target (val.Str c.args.attr) c.in-Some.found c.in-Some.ensures
 
 pub returns-in-Some : goal.returns-in-Some
 returns-in-Some g c =
     (goes_on c.args.heap.now c.bind_to.new.heap c.args.locals (λ w. value w c.args.instance) c.in_ok-val.val _ c.bind_to.result c.in_ok-val.ensures.ok
     (goes_on c.args.heap.now c.bind_to.new.heap c.args.locals (λ w. object w (test_of wanted.Inst) (number_of (refusal_of wanted.Inst)) c.in_ok-val.val) (object_from c.args.heap.now.rows c.in_ok-target.target c.in_ok-target.ensures.ok.node) _ c.bind_to.result (reads-object c.args.heap.now c.args.locals (test_of wanted.Inst) c.in_ok-val.val c.in_ok-target.target c.in_ok-target.ensures.ok (number_of (refusal_of wanted.Inst)))
-    (goes_on c.args.heap.now c.bind_to.new.heap c.args.locals (λ w. ok_or (value_at c.in_ok-target.ensures.ok.node.entries (val.Str c.args.attr)) no_attribute) c.entry_at-entry.result.val _ c.bind_to.result (reads-value_at c.args.heap.now c.args.locals (test_of wanted.Inst) c.in_ok-val.val c.in_ok-target.target c.in_ok-target.ensures.ok (val.Str c.args.attr) c.in-Some.i c.entry_at-entry.result c.in-Some.ensures c.entry_at-entry.ensures no_attribute)
+    (goes_on c.args.heap.now c.bind_to.new.heap c.args.locals (λ w. ok_or (value_at c.in_ok-target.ensures.ok.node.entries (val.Str c.args.attr)) no_attribute) c.in-Some.found _ c.bind_to.result (reads-value_at c.args.heap.now c.args.locals (test_of wanted.Inst) c.in_ok-val.val c.in_ok-target.target c.in_ok-target.ensures.ok (val.Str c.args.attr) c.in-Some.found c.in-Some.ensures no_attribute)
     c.bind_to.ensures)))
 
 pub returns-in-None : goal.returns-in-None

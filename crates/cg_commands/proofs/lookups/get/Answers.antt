@@ -14,7 +14,7 @@ use Rattle.cg_commands.specs.Refusals.{number_of}
 use Rattle.cg_commands.specs.Objects.{test_of, refusal_of}
 use Rattle.cg_commands.proofs.Chains.{stops, goes_on}
 use Rattle.cg_commands.proofs.Steps.{reads-object, reads-value_at, no-value_at, reads-key, no-hash}
-use Rattle.cg_commands.proofs.Reading.{live-value_in}
+use Rattle.cg_commands.proofs.Reading.{live-value_at}
 use Rattle.cg_commands.proofs.lookups.get.Goals as goal
 
 pub returns-in_err-val : goal.returns-in_err-val
@@ -41,7 +41,7 @@ bind_to-requires-clause-name g c =
 
 pub bind_to-requires-clause-live : goal.bind_to-requires-clause-live
 bind_to-requires-clause-live g c =
-    live-value_in c.args.heap.now c.sound.ensures c.in_ok-target.target c.in-Some.i c.entry_at-entry.result c.entry_at-entry.ensures
+    live-value_at c.args.heap.now c.sound.ensures c.in_ok-target.target c.in_ok-key.key c.in-Some.found c.in-Some.ensures
 
 pub returns-then-not-is_hashable : goal.returns-then-not-is_hashable
 returns-then-not-is_hashable g c =
@@ -56,7 +56,7 @@ returns-in-Some g c =
     (goes_on c.args.heap.now c.bind_to.new.heap c.args.locals (λ w. value w c.args.key) c.in_ok-key.key _ c.bind_to.result c.in_ok-key.ensures.ok
     (goes_on c.args.heap.now c.bind_to.new.heap c.args.locals (λ w. object w (test_of wanted.Dict) (number_of (refusal_of wanted.Dict)) c.in_ok-val.val) (object_from c.args.heap.now.rows c.in_ok-target.target c.in_ok-target.ensures.ok.node) _ c.bind_to.result (reads-object c.args.heap.now c.args.locals (test_of wanted.Dict) c.in_ok-val.val c.in_ok-target.target c.in_ok-target.ensures.ok (number_of (refusal_of wanted.Dict)))
     (goes_on c.args.heap.now c.bind_to.new.heap c.args.locals (λ w. unless (is_hashable w c.in_ok-key.key) unhashable) tt _ c.bind_to.result (reads-key c.args.heap.now c.args.locals c.in_ok-key.key c.is_hashable.result c.is_hashable.ensures c.if-not-is_hashable.false)
-    (goes_on c.args.heap.now c.bind_to.new.heap c.args.locals (λ w. ok_or (value_at c.in_ok-target.ensures.ok.node.entries c.in_ok-key.key) no_key) c.entry_at-entry.result.val _ c.bind_to.result (reads-value_at c.args.heap.now c.args.locals (test_of wanted.Dict) c.in_ok-val.val c.in_ok-target.target c.in_ok-target.ensures.ok c.in_ok-key.key c.in-Some.i c.entry_at-entry.result c.in-Some.ensures c.entry_at-entry.ensures no_key)
+    (goes_on c.args.heap.now c.bind_to.new.heap c.args.locals (λ w. ok_or (value_at c.in_ok-target.ensures.ok.node.entries c.in_ok-key.key) no_key) c.in-Some.found _ c.bind_to.result (reads-value_at c.args.heap.now c.args.locals (test_of wanted.Dict) c.in_ok-val.val c.in_ok-target.target c.in_ok-target.ensures.ok c.in_ok-key.key c.in-Some.found c.in-Some.ensures no_key)
     c.bind_to.ensures)))))
 
 pub returns-in-None : goal.returns-in-None
