@@ -3,7 +3,6 @@ use Rattle.std.proofs.Common.{◌≡◌, refl, ◌∙◌, ap, ℕ, ◌<◌, fals
 use Rattle.cg_script.specs.declared.Script.{Script}
 use Rattle.cg_graph.specs.Store.{Store}
 use Rattle.cg_machine.specs.World.{World}
-use Rattle.cg_machine.specs.Frame.{begin_death}
 use Rattle.cg_machine.specs.Represents.{detects}
 use Rattle.cg_death.specs.declared.release.Release.{Release}
 use Rattle.cg_death.specs.declared.answer.DeathStep.{DeathStep}
@@ -14,7 +13,7 @@ use Rattle.cg_interp.specs.declared.activity.Activity.TheVariants as activity
 use Rattle.cg_interp.specs.Engines.{State, StandsFor, under, over}
 use Rattle.cg_interp.specs.Turns.{GoesTo, GivesDeath, DyingIsSound, StaysSound}
 use Rattle.cg_interp.specs.Quietly.{ComesTo}
-use Rattle.cg_interp.proofs.Quietly.{stays, quietly, comes_then, stays_so, goes_then, moves_then}
+use Rattle.cg_interp.proofs.Quietly.{stays, quietly, comes_then, stays_so, goes_to_then, gives_death_then}
 use Rattle.cg_interp.proofs.ReleaseLemmas.{continues, ends, gives_death, no_line}
 use Rattle.cg_interp.proofs.ArmLemmas.{release_held}
 
@@ -55,14 +54,12 @@ module _ (store now : Store) (release left : Release) (gave : GaveUp store relea
         comes_then script w come.after come.goes (under (activity.Releasing left_after) (over new e)) (record { after = on.after; goes = quietly script come.after on.after none_next on.goes; stands = on.stands })
 
     pub gave_all : answer ≡ answer_of.Gone → GoesTo script w [] (over new e)
-    gave_all is =
-        let on = ends script (over now e) (over new e) left left_after answer come.after come.stands sound_then steps refl refl is refl in
-        record { after = on.after; goes = goes_then script w come.after come.goes none_next [] on.after on.goes; moves = moves_then script w come.after come.goes none_next [] on.after on.goes on.moves; stands = on.stands }
+    gave_all is = goes_to_then script w come.after come.goes none_next [] (over new e) (ends script (over now e) (over new e) left left_after answer come.after come.stands sound_then steps refl refl is refl)
 
     pub gave_death : (o : ℕ) → answer ≡ answer_of.Died o → GivesDeath script w o (under (activity.Releasing left_after) (over new e))
     gave_death o is =
-        let on = gives_death script (over now e) (under (activity.Releasing left_after) (over new e)) left left_after answer come.after come.stands sound_then steps refl refl o is refl in
-        record { before = on.before; goes = goes_then script w come.after come.goes none_next [] (begin_death o on.before) on.goes; moves = moves_then script w come.after come.goes none_next [] (begin_death o on.before) on.goes on.moves; stands = on.stands }
+        gives_death_then script w come.after come.goes none_next o (under (activity.Releasing left_after) (over new e))
+        (gives_death script (over now e) (under (activity.Releasing left_after) (over new e)) left left_after answer come.after come.stands sound_then steps refl refl o is refl)
 
     pub gave_no_line : (answer ≡ answer_of.Continue → ⊥) → (answer ≡ answer_of.Gone → ⊥) → ((o : ℕ) → answer ≡ answer_of.Died o → ⊥) → ⊥
     gave_no_line not_on not_gone not_died = no_line script (over now e) (over new e) left left_after answer come.after come.stands sound_then steps refl refl not_on not_gone not_died

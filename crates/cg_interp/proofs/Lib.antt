@@ -29,6 +29,7 @@ mod CollectBegins
 mod Telling
 mod Quietly
 mod GivingUp
+mod Acting
 mod UnderWay
 mod TurnLemmas
 mod KeptLines

@@ -1,11 +1,12 @@
 -- What goes on without a line and without a detection: one such way after another, and what comes after it.
-use Rattle.std.proofs.Common.{◌≡◌, ◌≢◌, refl, sym, ◌∙◌, ap, subst, false, inl, List, [], ◌∷◌, ◌++◌, append-nil}
+use Rattle.std.proofs.Common.{◌≡◌, ◌≢◌, refl, sym, ◌∙◌, ap, subst, ℕ, false, inl, List, [], ◌∷◌, ◌++◌, append-nil}
 use Rattle.cg_graph.proofs.Members.{either}
 use Rattle.cg_script.specs.declared.Script.{Script}
 use Rattle.cg_machine.specs.declared.event.Event.{Event}
 use Rattle.cg_machine.specs.declared.event.Event.TheVariants.{End, BudgetSpent, Left}
 use Rattle.cg_machine.specs.World.{World, Outcome, Running}
 use Rattle.cg_machine.specs.Run.{StepTaken, StepOf, Run, events_of, last_world}
+use Rattle.cg_machine.specs.Frame.{begin_death}
 use Rattle.cg_machine.specs.Represents.{Goes, detects, MakesNoDetection, MakesDetectionsAlone}
 use Rattle.cg_machine.proofs.Ending.{Run-append, last_world-append}
 use Rattle.cg_machine.proofs.Fronts.{events_of-append}
@@ -14,7 +15,7 @@ use Rattle.cg_interp.specs.declared.activity.Activity.{Activity}
 use Rattle.cg_interp.specs.declared.turned.Turned.{Turned}
 use Rattle.cg_interp.specs.declared.turned.Turned.TheVariants as turned
 use Rattle.cg_interp.specs.Engines.{State, StandsFor, under}
-use Rattle.cg_interp.specs.Turns.{EndsWith}
+use Rattle.cg_interp.specs.Turns.{GoesTo, GivesDeath, EndsWith, Turns}
 use Rattle.cg_interp.specs.Telling.{GoesOnTo, TurnsWith, IsAtTurn, TurnsFrom}
 use Rattle.cg_interp.specs.Quietly.{GoesQuietly, ComesTo, ComesFrom}
 
@@ -108,6 +109,17 @@ module _ (script : Script) where
       unfolding goes_then
       moves_then events after more moves = some_after goes.steps more.steps moves
 
+      pub goes_to_then : (events : List Event) (e : State) → GoesTo script mid events e → GoesTo script w events e
+      goes_to_then events e more = record { after = more.after; goes = goes_then events more.after more.goes; moves = moves_then events more.after more.goes more.moves; stands = more.stands }
+
+      pub gives_death_then : (o : ℕ) (e : State) → GivesDeath script mid o e → GivesDeath script w o e
+      gives_death_then o e more = record {
+        before = more.before;
+        goes = goes_then [] (begin_death o more.before) more.goes;
+        moves = moves_then [] (begin_death o more.before) more.goes more.moves;
+        stands = more.stands;
+      }
+
       goes_on_then : (left told : List Event) (e : State) → GoesOnTo script (λ still. ⊥) mid left told e → GoesOnTo script (λ still. ⊥) w left told e
       goes_on_then left told e more = record {
         events = more.events;
@@ -121,6 +133,14 @@ module _ (script : Script) where
 
       ends_then : (lines : List Event) (outcome : Outcome) → EndsWith script mid lines outcome → EndsWith script w lines outcome
       ends_then lines outcome more = record { after = more.after; goes = goes_then lines more.after more.goes; ended = more.ended }
+
+      pub plain_turns_then : (e : State) (answer : Turned) → Turns script mid e answer → Turns script w e answer
+      plain_turns_then e turned.Quiet turns = goes_to_then [] e turns
+      plain_turns_then e (turned.Line event) turns = goes_to_then (event ∷ []) e turns
+      plain_turns_then e (turned.Lines events) turns = goes_to_then events e turns
+      plain_turns_then e turned.Ended ends = ends_then (End ∷ []) _ ends
+      plain_turns_then e (turned.Left n) ends = ends_then (Left n ∷ End ∷ []) _ ends
+      plain_turns_then e turned.Spent ends = ends_then (BudgetSpent ∷ []) _ ends
 
       -- what a turn answers from there on it answers from here on
       pub turns_then : (left : List Event) (e : State) (answer : Turned) → TurnsWith script (λ still. ⊥) mid left e answer → TurnsWith script (λ still. ⊥) w left e answer

@@ -1,14 +1,22 @@
 -- What the machine does without a line and without a detection, so that a turn may go on with the next step. (Ours.)
-use Rattle.std.specs.Prelude.{◌≡◌, ℕ, List, [], Option, None, Some}
+use Rattle.std.specs.Prelude.{◌≡◌, ◌≤◌, ℕ, List, [], Option, None, Some}
 use Rattle.cg_script.specs.declared.Script.{Script}
+use Rattle.cg_script.specs.declared.limits.TheConstants.{MOST_BUDGET}
 use Rattle.cg_machine.specs.World.{World}
 use Rattle.cg_machine.specs.Run.{StepTaken, Run, events_of, last_world}
 use Rattle.cg_machine.specs.Represents.{MakesNoDetection}
 use Rattle.cg_laws.specs.Kept.{StaysKept}
+use Rattle.cg_graph.specs.Store.{Store}
+use Rattle.cg_heap.specs.Weak.{AreRows}
 use Rattle.cg_death.specs.declared.release.Release.{Release}
+use Rattle.cg_death.specs.declared.death.Death.{Death}
+use Rattle.cg_death.specs.declared.answer.DeathStep.{DeathStep}
+use Rattle.cg_death.specs.declared.answer.DeathStep.TheVariants as answer_of
+use Rattle.cg_death.specs.Answers.{DeathSteps}
+use Rattle.cg_death.specs.Deaths.{on_stack, IsSettled, DeathFalls, HasCause}
 use Rattle.cg_interp.specs.declared.activity.Activity.{Activity}
 use Rattle.cg_interp.specs.declared.activity.Activity.TheVariants as activity
-use Rattle.cg_interp.specs.Engines.{State, StandsFor, under}
+use Rattle.cg_interp.specs.Engines.{State, StandsFor, under, over}
 use Rattle.cg_interp.specs.Turns.{GoesTo, GivesDeath}
 
 -- The machine goes from one world to another in some steps, perhaps none. It prints no line and makes no detection.
@@ -34,3 +42,27 @@ ComesFrom script top old top_now new = (w : World) → StandsFor script (under t
 abbrev pub Released : Script → World → State → Release → Option ℕ → Type 0
 Released script w e release None = GoesTo script w [] e
 Released script w e release (Some o) = GivesDeath script w o (under (activity.Releasing release) e)
+
+-- The last of some actions of a death: the machine came quietly to a world for which the engine stands before it.
+pub record LastAction (script : Script) (w : World) (e : State) (now : Store) (after : Death) (answer : DeathStep) : Type 0 where
+  pub store : Store
+  pub death : Death
+  pub comes : ComesTo script w (under (activity.Dying death) (over store e))
+  pub steps : DeathSteps script store (on_stack death store) now (on_stack after now) answer
+  pub settled : IsSettled death → IsSettled after
+  pub object : after.object ≡ death.object
+  pub falls : answer ≡ answer_of.Continue → DeathFalls death store after now
+  pub cause : HasCause death now answer
+  pub rows : AreRows store
+
+-- A death is on top of a world of a run, of an engine with few frames.
+abbrev pub IsActing : Script → Store → Death → Type 0
+IsActing script store death = (e : State) × (w : World) × (e.frames ≤ MOST_BUDGET) × StandsFor script (under (activity.Dying death) (over store e)) w × StaysKept script e.frames w
+
+-- The actions of a death come to an answer, whatever else is under way.
+abbrev pub Acts : Script → Store → Death → Store → Death → DeathStep → Type 0
+Acts script store death now after answer = (e : State) (w : World) → StandsFor script (under (activity.Dying death) (over store e)) w → StaysKept script e.frames w → LastAction script w e now after answer
+
+-- some death is the cause of an answer
+abbrev pub HasSomeCause : Store → DeathStep → Type 0
+HasSomeCause now answer = (death : Death) × HasCause death now answer

@@ -1,21 +1,26 @@
 //! A death on top.
-ghost use Rattle.std.specs.Prelude.{◌≡◌, ◌<◌, ◌≤◌, ◌+◌};
+ghost use Rattle.std.specs.Prelude.{◌≡◌, ◌≢◌, ◌<◌, ◌≤◌, ◌+◌, []};
 ghost use Rattle.cg_script.specs.declared.Script.{Script as AnyScript};
 ghost use Rattle.cg_machine.specs.World.{World};
 ghost use Rattle.cg_machine.specs.Frame.{begin_death};
-ghost use Rattle.cg_death.specs.Activities.{IsUnheld, HasHolds};
-ghost use Rattle.cg_death.specs.Deaths.{held_by, IsReady};
-ghost use Rattle.cg_death.specs.Answers.{numbers_after};
+ghost use Rattle.cg_death.specs.declared.answer.DeathStep.TheVariants as answer_of;
+ghost use Rattle.cg_death.specs.Activities.{IsUnheld};
+ghost use Rattle.cg_death.specs.Deaths.{on_stack};
+ghost use Rattle.cg_death.specs.Steady.{DiesUnheld};
+ghost use Rattle.cg_death.specs.Answers.{numbers_after, MakesNone};
 ghost use Rattle.cg_policy.specs.Policy.{with_numbers};
-ghost use Rattle.cg_heap.specs.Calls.{HasFewHolds};
+ghost use Rattle.cg_laws.specs.Kept.{StaysKept};
 ghost use Rattle.cg_interp.specs.declared.activity.Activity.TheVariants as activity_of;
 ghost use Rattle.cg_interp.specs.Engines.{StandsFor, under};
-ghost use Rattle.cg_interp.specs.Turns.{DyingIsSound, DeathTurns, StaysOn, Keeps, IfDies};
+ghost use Rattle.cg_interp.specs.Quietly.{IsActing, Acts, HasSomeCause};
+ghost use Rattle.cg_interp.specs.Telling.{IsAtTurn};
+ghost use Rattle.cg_interp.specs.Turns.{DyingIsSound, DeathTurns, StaysOn, Keeps, IfDies, IsFit};
 
 use crate::activity::Activity;
 use crate::engine::Engine;
 use crate::turned::{Dies, Turned};
 use cg_death::{Death, DeathStep};
+use cg_heap::Heap;
 use cg_kind::Kind;
 use cg_machine::Event;
 use cg_script::Script;
@@ -35,26 +40,23 @@ impl<B: Kind> Engine<B> {
         self.stack.push(Activity::Dying(death));
     }
 
-    /// One action of a death, which was on top.
+    /// The actions of a death, which was on top, one after the other, as long as the machine goes on without a line.
     #[inline(always)]
     pub fn go_on_dying(&mut self, death: Death, script: &Script) -> Dies
-        requires few { HasFewHolds self.old.store }
-        requires held { HasHolds self.old.store (held_by death self.old.store) }
-        requires ready { IsReady death self.old.store }
         requires room { 1 < self.old.room }
+        requires fit { IsFit script.now self.old }
+        requires stands { IsAtTurn script.now (activity_of.Dying death) self.old }
         ensures turns { (w : World) → StandsFor script.now (under (activity_of.Dying death) self.old) w
-            → DyingIsSound w → DeathTurns script.now w self.new result }
+            → StaysKept script.now self.old.frames w → DeathTurns script.now w self.new result }
         ensures dead { IfDies result (λ o. IsUnheld self.new.store o) }
         ensures room { IfDies result (λ _. 0 < self.new.room) }
         ensures keeps { Keeps self.old self.new }
     {
         let mut death = death;
-        self.heap.sound();
-        let answer = death.step(&mut self.heap, script);
-        self.heap.sound();
+        let answer = act(&mut self.heap, &mut death, script);
         self.put_back(death);
         match answer {
-            DeathStep::Continue => Dies::Turned(Turned::Quiet),
+            DeathStep::Continue => unreachable!(),
             DeathStep::Gone => Dies::Turned(Turned::Quiet),
             DeathStep::Emit(event) => {
                 self.count_freed(event);
@@ -92,6 +94,27 @@ impl<B: Kind> Engine<B> {
     {
         if !death.is_over() {
             self.stack.push(Activity::Dying(death));
+        }
+    }
+}
+
+/// The actions of a death one after the other, up to one that answers more than that it goes on.
+fn act<B: Kind>(heap: &mut Heap<B>, death: &mut Death, script: &Script) -> DeathStep
+    requires stands { IsActing script.now heap.old death.old }
+    ensures acts { Acts script.now heap.old death.old heap.new death.new result }
+    ensures more { result ≢ answer_of.Continue }
+    ensures cause { HasSomeCause heap.new result }
+    ensures over { result ≡ answer_of.Gone → on_stack death.new heap.new ≡ [] }
+    ensures died { DiesUnheld result heap.new }
+    ensures objects { MakesNone heap.old heap.new }
+{
+    'actions: loop {
+        heap.sound();
+        match death.step(heap, script) {
+            DeathStep::Continue => {
+                heap.sound();
+            }
+            answer => return answer,
         }
     }
 }

@@ -97,7 +97,6 @@ impl<B: Kind> Engine<B> {
         ensures fit { IsFit script.now self.new }
         ensures frames { self.new.frames ≡ self.old.frames }
     {
-        self.heap.sound();
         match self.go_on_dying(death, script) {
             Dies::Turned(answer) => answer,
             Dies::Died(object) => {
