@@ -1,8 +1,9 @@
 -- The form that a word picks is found among those whose words begin as it does; by what form it is, it is that of a line `x = ..` or of another.
-use Rattle.std.proofs.Common.{◌≡◌, ℕ, List, [], ◌∷◌, ◌++◌, Bool, true, false, cond, not, ◌&&◌, ◌||◌, ◌==◌, get_or, slice_get, filter, Option, Some, None, refl, sym, ap, subst, ◌∙◌, arith, eq-eqb}
+use Rattle.std.proofs.Common.{◌≡◌, ℕ, List, [], ◌∷◌, ◌++◌, Bool, true, false, cond, not, ◌&&◌, ◌||◌, ◌==◌, ◌<◌, length, nat_le, get_or, filter, Option, Some, None, refl, sym, ap, subst, ◌∙◌, arith, eq-eqb}
 use Rattle.std.specs.List.{list_all}
 use Rattle.std.specs.Option.{is_none}
 use Rattle.std.specs.Str.{bytes_eq}
+use Rattle.std.proofs.lemmas.Bool.Decides.{nat_tests}
 use Rattle.std.proofs.lemmas.Slice.Eq.{bytes_eq-Decides}
 use Rattle.cg_script.specs.declared.form.Form.{Form}
 use Rattle.cg_script.specs.Tables.{named}
@@ -30,16 +31,6 @@ named_beginning w (f ∷ these) = by (get_or (word_of f) 0 0 == get_or w 0 0) re
     by true e later = ap (λ m. cond (bytes_eq w (word_of f)) (Some f) m) later
     by false e later = later ∙ sym (ap (λ b. cond b (Some f) (named (by_words these) w)) (begins_other w f e))
 
-pub named_from : (w : List ℕ) (first : ℕ) (these : List Form) → Some first ≡ slice_get w 0 → named (by_words (beginning first these)) w ≡ named (by_words these) w
-named_from [] first these e = absurd (cc)
-named_from (b ∷ w) first these e = let same : b ≡ first = cc in subst (λ (n : ℕ). named (by_words (beginning n these)) (b ∷ w) ≡ named (by_words these) (b ∷ w)) same (named_beginning (b ∷ w) these)
-
--- no bytes pick no form
-pub none_named : (w : List ℕ) → None ≡ slice_get w 0 → None ≡ named words_of_forms w
-unfolding words_of_forms
-none_named [] e = refl
-none_named (b ∷ w) e = absurd (cc)
-
 -- what is true of each of some forms is true of the one that is found
 found_all : (p : Form → Bool) (these : List Form) (w : List ℕ) (form : Form) → list_all p these ≡ true → named (by_words these) w ≡ Some form → p form ≡ true
 found_all p [] w form all e = absurd (cc)
@@ -49,6 +40,25 @@ found_all p (f ∷ these) w form all e = by (p f) (bytes_eq w (word_of f)) refl 
     by true true eq all e later = let same : f ≡ form = cc in ap p (sym same) ∙ eq
     by true false eq all e later = later all e
     by false b eq all e later = absurd (cc)
+
+-- no form has a word so short
+long_enough : Form → Bool
+long_enough form = nat_le 3 (length (word_of form))
+
+pub short_names_none : (w : List ℕ) → length w < 3 → named words_of_forms w ≡ None
+unfolding words_of_forms long_enough
+short_names_none w short = go (named (by_words worded_forms) w) refl
+  where
+    go : (m : Option Form) → named (by_words worded_forms) w ≡ m → m ≡ None
+    go None e = refl
+    go (Some form) e =
+        let enough : nat_le 3 (length (word_of form)) ≡ true = found_all long_enough worded_forms w form refl e in
+        let same : length w ≡ length (word_of form) = ap length (by_words-is worded_forms w form e) in
+        absurd (grind (arith, nat_tests))
+
+pub named_from_first : (w : List ℕ) (found : Option Form) → found ≡ named (by_words (beginning (get_or w 0 0) worded_forms)) w → found ≡ named words_of_forms w
+unfolding words_of_forms
+named_from_first w found e = e ∙ named_beginning w worded_forms
 
 named_first : (these others : List Form) (w : List ℕ) (form : Form) → named (by_words these) w ≡ Some form → named (by_words (these ++ others)) w ≡ Some form
 named_first [] others w form e = absurd (cc)

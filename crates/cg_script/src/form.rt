@@ -248,14 +248,18 @@ fn forms_beginning_with(byte: u8) -> &'static [Form]
     }
 }
 
+/// The fewest bytes of the word of a form.
+const FEWEST_BYTES: usize = 3;
+
 /// The form that this word picks, in a line `x = ..` or in another.
+#[tactic(auto, using(crate::proofs::Found::short_names_none))]
 pub(crate) fn form_named(word: &[u8]) -> Option<Form>
     ensures { result ≡ named_in words_of_forms word.now }
 {
-    match word.first() {
-        Some(first) => form_with(forms_beginning_with(*first), word),
-        None => None,
+    if word.len() < FEWEST_BYTES {
+        return None;
     }
+    form_with(forms_beginning_with(word[0]), word)
 }
 
 /// Whether a form is one of lines `x = ..` that a third word picks.
