@@ -24,3 +24,4 @@ pub mod OddRows
 pub mod ClassRows
 pub mod ReadBack
 pub mod Profiles
+pub mod Found

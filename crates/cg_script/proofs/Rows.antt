@@ -85,7 +85,7 @@ values_plain n procs classes form (w ∷ ws) texts place values =
     ∙ ap (λ l. shown n (sort_at form place) (part_of procs classes texts (sort_at form place) w) w ∷ l) later
 
 -- a form among some is found by its word
-by_words-is : (these : List Form) (w : List ℕ) (form : Form) → named (by_words these) w ≡ Some form → w ≡ word_of form
+pub by_words-is : (these : List Form) (w : List ℕ) (form : Form) → named (by_words these) w ≡ Some form → w ≡ word_of form
 by_words-is [] w form e = absurd (cc)
 by_words-is (f ∷ these) w form e = by (bytes_eq w (word_of f)) refl e (by_words-is these w form)
   where

@@ -2,9 +2,10 @@
 use crate::members::Operands;
 
 /// What a word of a command stands for: an atom, a variable, or a local of the frame that runs.
-#[derive(Clone, Copy, Debug, PartialEq, Eq, Drop)]
+#[derive(Clone, Copy, Debug, PartialEq, Eq, Default, Drop)]
 pub enum Operand {
     /// The value none.
+    #[default]
     None,
     /// A whole number.
     Int(i64),

@@ -1,6 +1,6 @@
 //! The table of forms: one row for each command and each declaration.
 ghost use Rattle.std.specs.Prelude.{◌≡◌, true};
-ghost use Rattle.cg_script.specs.Forms.{row as row_of, sort_at as sort_of, word_of as word_in, by_words, bindings, openers};
+ghost use Rattle.cg_script.specs.Forms.{row as row_of, sort_at as sort_of, word_of as word_in, by_words, beginning, binds, bindings, openers, worded_forms, words_of_forms};
 ghost use Rattle.cg_script.specs.Tables.{named as named_in};
 
 /// A form of lines.
@@ -200,56 +200,6 @@ pub(crate) fn word_of(form: Form) -> &'static [u8]
     row_for(form).word
 }
 
-/// The forms of lines `x = ..` that a third word picks.
-static BINDINGS: [Form; 10] = [
-    Form::MakeList,
-    Form::MakeTuple,
-    Form::MakeDict,
-    Form::MakeInst,
-    Form::MakeFunc,
-    Form::MakeRef,
-    Form::Item,
-    Form::Get,
-    Form::Attr,
-    Form::Deref,
-];
-
-/// The forms of the other lines, which their first word picks.
-static OPENERS: [Form; 32] = [
-    Form::Del,
-    Form::Append,
-    Form::SetItem,
-    Form::DelItem,
-    Form::Put,
-    Form::Remove,
-    Form::SetAttr,
-    Form::DelAttr,
-    Form::Call,
-    Form::Quit,
-    Form::Collect,
-    Form::Enable,
-    Form::Disable,
-    Form::Threshold,
-    Form::Flags,
-    Form::Freeze,
-    Form::Unfreeze,
-    Form::Print,
-    Form::Refs,
-    Form::Tracked,
-    Form::Finalized,
-    Form::Referents,
-    Form::Referrers,
-    Form::Why,
-    Form::Count,
-    Form::Gens,
-    Form::Profile,
-    Form::Shutdown,
-    Form::Budget,
-    Form::Class,
-    Form::Def,
-    Form::End,
-];
-
 /// The form among these that has a word.
 fn form_with(forms: &[Form], word: &[u8]) -> Option<Form>
     ensures { result ≡ named_in (by_words forms.now) word.now }
@@ -262,18 +212,91 @@ fn form_with(forms: &[Form], word: &[u8]) -> Option<Form>
     None
 }
 
+/// The forms whose words begin with this byte.
+fn forms_beginning_with(byte: u8) -> &'static [Form]
+    ensures { result.now ≡ beginning byte worded_forms }
+{
+    match byte {
+        b'a' => &[Form::Attr, Form::Append],
+        b'b' => &[Form::Budget],
+        b'c' => &[Form::Call, Form::Collect, Form::Count, Form::Class],
+        b'd' => &[
+            Form::MakeDict,
+            Form::Deref,
+            Form::Del,
+            Form::DelItem,
+            Form::Remove,
+            Form::DelAttr,
+            Form::Disable,
+            Form::Flags,
+            Form::Def,
+        ],
+        b'e' => &[Form::Enable, Form::End],
+        b'f' => &[Form::MakeFunc, Form::Freeze, Form::Finalized],
+        b'g' => &[Form::Get, Form::Gens],
+        b'i' => &[Form::Item],
+        b'l' => &[Form::MakeList],
+        b'n' => &[Form::MakeInst],
+        b'p' => &[Form::Put, Form::Print, Form::Profile],
+        b'q' => &[Form::Quit],
+        b'r' => &[Form::MakeRef, Form::Refs, Form::Referents, Form::Referrers],
+        b's' => &[Form::SetItem, Form::SetAttr, Form::Shutdown],
+        b't' => &[Form::MakeTuple, Form::Threshold, Form::Tracked],
+        b'u' => &[Form::Unfreeze],
+        b'w' => &[Form::Why],
+        _ => &[],
+    }
+}
+
+/// The fewest bytes of the word of a form.
+const FEWEST_BYTES: usize = 3;
+
+/// The form that this word picks, in a line `x = ..` or in another.
+#[tactic(auto, using(crate::proofs::Found::short_names_none))]
+pub(crate) fn form_named(word: &[u8]) -> Option<Form>
+    ensures { result ≡ named_in words_of_forms word.now }
+{
+    if word.len() < FEWEST_BYTES {
+        return None;
+    }
+    form_with(forms_beginning_with(word[0]), word)
+}
+
+/// Whether a form is one of lines `x = ..` that a third word picks.
+fn binds(form: Form) -> bool
+    ensures { result ≡ binds form }
+{
+    matches!(
+        form,
+        Form::MakeList
+            | Form::MakeTuple
+            | Form::MakeDict
+            | Form::MakeInst
+            | Form::MakeFunc
+            | Form::MakeRef
+            | Form::Item
+            | Form::Get
+            | Form::Attr
+            | Form::Deref
+    )
+}
+
 /// The form of a line `x = ..` with this third word, but for lines that bind a value.
-#[tactic(auto, unfolding(crate::specs::Forms::bindings))]
 pub(crate) fn binding_named(word: &[u8]) -> Option<Form>
     ensures { result ≡ named_in bindings word.now }
 {
-    form_with(&BINDINGS, word)
+    match form_named(word) {
+        Some(form) => { if binds(form) { Some(form) } else { None } }
+        None => None,
+    }
 }
 
 /// The form of another line with this first word.
-#[tactic(auto, unfolding(crate::specs::Forms::openers))]
 pub(crate) fn opener_named(word: &[u8]) -> Option<Form>
     ensures { result ≡ named_in openers word.now }
 {
-    form_with(&OPENERS, word)
+    match form_named(word) {
+        Some(form) => { if binds(form) { None } else { Some(form) } }
+        None => None,
+    }
 }

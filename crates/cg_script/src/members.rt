@@ -8,13 +8,14 @@ ghost use Rattle.cg_script.specs.declared.item.Item.TheVariants.{Run, Def};
 use crate::command::{Command, Operand};
 use crate::index::Index;
 use crate::item::{ClassDef, Item, Proc};
+use smallvec::SmallVec;
 use std::alloc::{AllocError, Global};
 use std::marker::Model;
 
-/// The operands of a command, in order.
+/// The operands of a command, in order. One takes no memory of its own: so most lines of a script take none.
 #[derive(Drop)]
 pub struct Operands {
-    members: Vec<Operand>,
+    members: SmallVec<Operand, 1>,
 }
 
 impl Model for Operands {
@@ -29,6 +30,15 @@ impl Model for Operands {
 impl Operands {
     /// These members in order. It takes no memory.
     pub fn new(members: Vec<Operand>) -> Operands
+        ensures { result ≡ members.items }
+    {
+        Operands {
+            members: SmallVec::from_vec(members),
+        }
+    }
+
+    /// These members in order. It takes no memory.
+    pub(crate) fn of_few(members: SmallVec<Operand, 1>) -> Operands
         ensures { result ≡ members.items }
     {
         Operands { members }

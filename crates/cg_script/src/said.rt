@@ -9,6 +9,7 @@ use crate::item::{ClassDef, Item};
 use crate::limits::MOST_PROFILE;
 use crate::members::Operands;
 use crate::part::{Part, Said};
+use smallvec::SmallVec;
 use std::alloc::{AllocError, Global};
 
 fn text_at(parts: &[Part], place: usize) -> u32
@@ -105,11 +106,11 @@ fn either(first: Option<u32>, second: Option<u32>) -> Option<u32>
 fn values_from(alloc: Global, parts: &[Part], place: usize) -> Result<Operands, AllocError>
     ensures { IfOk result (λ values. values ≡ values_in parts.now place) }
 {
-    let mut values = Vec::new(alloc);
+    let mut values = SmallVec::with_capacity(alloc, parts.len().saturating_sub(place))?;
     'places: for at in place..parts.len() {
-        values.push(value_of(&parts[at]))?;
+        values.push_reserved(value_of(&parts[at]));
     }
-    Ok(Operands::new(values))
+    Ok(Operands::of_few(values))
 }
 
 /// The union of the flags.

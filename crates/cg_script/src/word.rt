@@ -1,11 +1,12 @@
 //! The forms of words.
-ghost use Rattle.std.specs.Prelude.{◌≡◌, ◌≤◌, true, map, length, slice_index, drop, codes, take, option_map, pos, neg_ℤ};
+ghost use Rattle.std.specs.Prelude.{◌≡◌, ◌≤◌, ◌||◌, true, map, length, slice_index, drop, codes, take, option_map, pos, neg_ℤ};
 ghost use Rattle.std.specs.List.{list_all};
 ghost use Rattle.cg_script.specs.Tables.{named as named_in};
+ghost use Rattle.cg_script.specs.Forms.{openers, bindings};
 ghost use Rattle.cg_script.specs.Words.{is_printable, is_digit, is_letter, is_name_byte, begins_name, is_identifier, reserves, is_reserved, is_variable, is_quoted, has_minus, are_digits, decimal_value, is_number, number_of, is_count, is_profile, is_value, atoms, after_prefix, is_identifier_after, names_finalizer, names_legacy, flags};
 
 use crate::command::Operand;
-use crate::form::{Form, binding_named, opener_named, row_for};
+use crate::form::{Form, form_named, row_for};
 use crate::limits::{MOST_COUNT, MOST_NAME_BYTES, MOST_PROFILE};
 use crate::table::named;
 
@@ -48,11 +49,19 @@ fn reserves(form: Option<Form>) -> bool
     }
 }
 
+/// Whether a word is the reserved one of a form.
+#[tactic(auto, using(crate::proofs::Found::reserved_by_word))]
+fn is_reserved_for_form(word: &[u8]) -> bool
+    ensures { result ≡ (reserves (named_in openers word.now) || reserves (named_in bindings word.now)) }
+{
+    reserves(form_named(word))
+}
+
 /// Whether no variable may be this word: it has a meaning of its own somewhere in the language.
 fn is_reserved_word(word: &[u8]) -> bool
     ensures { result ≡ is_reserved word.now }
 {
-    atom(word).is_some() || reserves(opener_named(word)) || reserves(binding_named(word))
+    atom(word).is_some() || is_reserved_for_form(word)
 }
 
 /// Whether a word may name a variable: 1 to 32 letters, digits and `_`, of which the first is no digit, and no word of the
@@ -75,10 +84,8 @@ pub(crate) fn text_of(word: &[u8]) -> &str
     requires { list_all is_printable word.now ≡ true }
     ensures { result.now ≡ word.now }
 {
-    match str::from_utf8(word) {
-        Ok(text) => text,
-        Err(_) => unreachable!(),
-    }
+    // Printable bytes are text, which need not be found out again.
+    unsafe { str::from_utf8_unchecked(word) }
 }
 
 /// A variable or another identifier as text.
@@ -241,7 +248,7 @@ pub fn is_value(word: &[u8]) -> bool
         return is_printable_text(word);
     }
     if begins_as_name(word) {
-        return is_variable(word);
+        return is_identifier_word(word) && !is_reserved_for_form(word);
     }
     is_number_word(word)
 }
