@@ -111,3 +111,18 @@ HasRoomForOneMore e = e.frames + 2 * (length (objects_of e.store) + 1) + 8 ≤ l
 -- An engine that was fit is fit.
 abbrev pub StaysFit : State → State → Type 0
 StaysFit old new = (script : Script) → IsFit script old → IsFit script new
+
+-- The stack may grow higher than before, and nothing else is changed.
+pub record HasMoreRoom (old new : State) : Type 0 where
+  pub more : old.room ≤ new.room
+  pub store : new.store ≡ old.store
+  pub policy : new.policy ≡ old.policy
+  pub activities : new.activities ≡ old.activities
+  pub budget : new.budget ≡ old.budget
+  pub frames : new.frames ≡ old.frames
+
+-- The activities may be others, and their room; heap, policy and budget are as before.
+pub record HasOtherStack (old new : State) : Type 0 where
+  pub store : new.store ≡ old.store
+  pub policy : new.policy ≡ old.policy
+  pub budget : new.budget ≡ old.budget

@@ -1,5 +1,5 @@
 //! The script, or a frame, on top.
-ghost use Rattle.std.specs.Prelude.{◌≡◌, ◌≤◌, true, [], length};
+ghost use Rattle.std.specs.Prelude.{◌≡◌, true, [], length};
 ghost use Rattle.cg_machine.specs.Program.{commands_of};
 ghost use Rattle.cg_machine.specs.World.{World};
 ghost use Rattle.cg_script.specs.declared.Script.{Script as AnyScript};
@@ -7,7 +7,7 @@ ghost use Rattle.cg_script.specs.Spelled.{IsSpelled, IsSpelledCommand};
 ghost use Rattle.cg_commands.specs.Stands.{LocalsLive};
 ghost use Rattle.cg_interp.specs.declared.activity.Activity.TheVariants as activity_of;
 ghost use Rattle.cg_interp.specs.Engines.{commands_from};
-ghost use Rattle.cg_interp.specs.Turns.{IsFit, StaysFit, HasRoomForOneMore};
+ghost use Rattle.cg_interp.specs.Turns.{IsFit, StaysFit, HasRoomForOneMore, HasMoreRoom};
 ghost use Rattle.cg_interp.specs.Telling.{IsAtTurn, TurnsFrom};
 ghost use Rattle.cg_interp.specs.Callers.{caller_activity, caller_locals, MayCommand, ComesNext, IsAtCommand, RunsTo, StepsFrom};
 
@@ -169,12 +169,7 @@ impl<B: Kind> Engine<B> {
     /// room.
     fn make_room(&mut self, command: &Command) -> bool
         ensures one_more { result ≡ true → HasRoomForOneMore self.new }
-        ensures more { self.old.room ≤ self.new.room }
-        ensures store { self.new.store ≡ self.old.store }
-        ensures policy { self.new.policy ≡ self.old.policy }
-        ensures activities { self.new.activities ≡ self.old.activities }
-        ensures budget { self.new.budget ≡ self.old.budget }
-        ensures frames { self.new.frames ≡ self.old.frames }
+        ensures alone { HasMoreRoom self.old self.new }
     {
         if makes_object(command) {
             self.reserve()
@@ -186,12 +181,7 @@ impl<B: Kind> Engine<B> {
     /// Makes room on the stack for the death of one more object. It answers whether there is room.
     fn reserve(&mut self) -> bool
         ensures one_more { result ≡ true → HasRoomForOneMore self.new }
-        ensures more { self.old.room ≤ self.new.room }
-        ensures store { self.new.store ≡ self.old.store }
-        ensures policy { self.new.policy ≡ self.old.policy }
-        ensures activities { self.new.activities ≡ self.old.activities }
-        ensures budget { self.new.budget ≡ self.old.budget }
-        ensures frames { self.new.frames ≡ self.old.frames }
+        ensures alone { HasMoreRoom self.old self.new }
     {
         self.heap.sound();
         // The garbage list is an object too.

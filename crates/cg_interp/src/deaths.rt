@@ -14,7 +14,7 @@ ghost use Rattle.cg_interp.specs.declared.activity.Activity.TheVariants as activ
 ghost use Rattle.cg_interp.specs.Engines.{StandsFor, under};
 ghost use Rattle.cg_interp.specs.Quietly.{IsActing, Acts, HasSomeCause};
 ghost use Rattle.cg_interp.specs.Telling.{IsAtTurn};
-ghost use Rattle.cg_interp.specs.Turns.{DyingIsSound, DeathTurns, StaysOn, Keeps, IfDies, IsFit};
+ghost use Rattle.cg_interp.specs.Turns.{DyingIsSound, DeathTurns, StaysOn, Keeps, HasOtherStack, IfDies, IsFit};
 
 use crate::activity::Activity;
 use crate::engine::Engine;
@@ -86,9 +86,7 @@ impl<B: Kind> Engine<B> {
     fn put_back(&mut self, death: Death)
         requires { 0 < self.old.room }
         ensures stays { StaysOn death self.old.activities self.new.activities }
-        ensures store { self.new.store ≡ self.old.store }
-        ensures policy { self.new.policy ≡ self.old.policy }
-        ensures budget { self.new.budget ≡ self.old.budget }
+        ensures alone { HasOtherStack self.old self.new }
         ensures room { self.old.room ≤ self.new.room + 1 }
         ensures keeps { Keeps self.old self.new }
     {

@@ -13,7 +13,7 @@ ghost use Rattle.cg_graph.specs.Changes.{held};
 ghost use Rattle.cg_death.specs.Activities.{references_left};
 ghost use Rattle.cg_interp.specs.Engines.{StandsFor, under, commands_from};
 ghost use Rattle.cg_interp.specs.Releases.{released_by, with_release, with_release_on};
-ghost use Rattle.cg_interp.specs.Turns.{Makes, Turns, Keeps};
+ghost use Rattle.cg_interp.specs.Turns.{Makes, Turns, Keeps, HasOtherStack};
 
 use crate::activity::Activity;
 use crate::engine::Engine;
@@ -74,9 +74,7 @@ impl<B: Kind> Engine<B> {
     fn push_if(&mut self, release: Option<Release>)
         requires room { 0 < self.old.room }
         ensures top { self.new.activities ≡ with_release_on release self.old.activities }
-        ensures store { self.new.store ≡ self.old.store }
-        ensures policy { self.new.policy ≡ self.old.policy }
-        ensures budget { self.new.budget ≡ self.old.budget }
+        ensures alone { HasOtherStack self.old self.new }
         ensures keeps { Keeps self.old self.new }
     {
         match release {

@@ -36,14 +36,14 @@ returns-in-Gone-clause-turns g c = λ w stands kept.
     let e : State = engine_of c.self.inside.heap c.self.inside.policy c.self.inside.stack c.self.inside.budget c.self.inside.frames in
     let standing = subst (λ s. StandsFor c.args.script.now (under (activity_of.Dying c.args.death) s) w) (sym c.self.view_is) stands in
     let keeping = subst (λ (s : State). StaysKept c.args.script.now s.frames w) (sym c.self.view_is) kept in
-    last_ends c.args.script.now w e c.put_back.new.self c.act-answer.new.heap c.act-answer.new.death c.act-answer.result keeping (c.act-answer.ensures.acts e w standing keeping) c.put_back.ensures.store c.put_back.ensures.stays c.put_back.ensures.budget c.in-Gone.is c.put_back.ensures.policy (c.act-answer.ensures.over c.in-Gone.is)
+    last_ends c.args.script.now w e c.put_back.new.self c.act-answer.new.heap c.act-answer.new.death c.act-answer.result keeping (c.act-answer.ensures.acts e w standing keeping) c.put_back.ensures.alone.store c.put_back.ensures.stays c.put_back.ensures.alone.budget c.in-Gone.is c.put_back.ensures.alone.policy (c.act-answer.ensures.over c.in-Gone.is)
 
 pub returns-in-Emit-clause-turns : goal.returns-in-Emit-clause-turns
 returns-in-Emit-clause-turns g c = λ w stands kept.
     let e : State = engine_of c.self.inside.heap c.self.inside.policy c.self.inside.stack c.self.inside.budget c.self.inside.frames in
     let standing = subst (λ s. StandsFor c.args.script.now (under (activity_of.Dying c.args.death) s) w) (sym c.self.view_is) stands in
     let keeping = subst (λ (s : State). StaysKept c.args.script.now s.frames w) (sym c.self.view_is) kept in
-    last_tells c.args.script.now w e c.count_freed.new.self c.act-answer.new.heap c.act-answer.new.death c.act-answer.result keeping (c.act-answer.ensures.acts e w standing keeping) (c.count_freed.ensures.store ∙ c.put_back.ensures.store) (subst (StaysOn c.act-answer.new.death c.self.inside.stack.activities) (sym c.count_freed.ensures.activities) c.put_back.ensures.stays) (c.count_freed.ensures.budget ∙ c.put_back.ensures.budget) c.in-Emit.event c.in-Emit.is (c.count_freed.ensures.counts ∙ ap (λ (p : Policy). with_numbers (numbers_after c.in-Emit.event p.numbers) p) c.put_back.ensures.policy)
+    last_tells c.args.script.now w e c.count_freed.new.self c.act-answer.new.heap c.act-answer.new.death c.act-answer.result keeping (c.act-answer.ensures.acts e w standing keeping) (c.count_freed.ensures.store ∙ c.put_back.ensures.alone.store) (subst (StaysOn c.act-answer.new.death c.self.inside.stack.activities) (sym c.count_freed.ensures.activities) c.put_back.ensures.stays) (c.count_freed.ensures.budget ∙ c.put_back.ensures.alone.budget) c.in-Emit.event c.in-Emit.is (c.count_freed.ensures.counts ∙ ap (λ (p : Policy). with_numbers (numbers_after c.in-Emit.event p.numbers) p) c.put_back.ensures.alone.policy)
 
 pub start-requires-clause-few : goal.start-requires-clause-few
 start-requires-clause-few g c = λ call. let cause = subst (HasSomeCause c.act-answer.new.heap) c.in-Frame.is c.act-answer.ensures.cause in absurd (calls_none cause.0.phase c.in-Frame.spec.sort cause.1 call)
@@ -56,14 +56,14 @@ returns-in-Frame-clause-turns g c = λ w stands kept.
     let e : State = engine_of c.self.inside.heap c.self.inside.policy c.self.inside.stack c.self.inside.budget c.self.inside.frames in
     let standing = subst (λ s. StandsFor c.args.script.now (under (activity_of.Dying c.args.death) s) w) (sym c.self.view_is) stands in
     let keeping = subst (λ (s : State). StaysKept c.args.script.now s.frames w) (sym c.self.view_is) kept in
-    last_calls c.args.script.now w e c.put_back.new.self c.act-answer.new.heap c.act-answer.new.death c.act-answer.result keeping (c.act-answer.ensures.acts e w standing keeping) c.put_back.ensures.store c.put_back.ensures.stays c.put_back.ensures.budget c.in-Frame.spec c.start.new.self c.start.result c.in-Frame.is c.put_back.ensures.policy (λ u standing. c.start.ensures.starts c.args.script.now u standing)
+    last_calls c.args.script.now w e c.put_back.new.self c.act-answer.new.heap c.act-answer.new.death c.act-answer.result keeping (c.act-answer.ensures.acts e w standing keeping) c.put_back.ensures.alone.store c.put_back.ensures.stays c.put_back.ensures.alone.budget c.in-Frame.spec c.start.new.self c.start.result c.in-Frame.is c.put_back.ensures.alone.policy (λ u standing. c.start.ensures.starts c.args.script.now u standing)
 
 pub returns-in-Died-clause-turns : goal.returns-in-Died-clause-turns
 returns-in-Died-clause-turns g c = λ w stands kept.
     let e : State = engine_of c.self.inside.heap c.self.inside.policy c.self.inside.stack c.self.inside.budget c.self.inside.frames in
     let standing = subst (λ s. StandsFor c.args.script.now (under (activity_of.Dying c.args.death) s) w) (sym c.self.view_is) stands in
     let keeping = subst (λ (s : State). StaysKept c.args.script.now s.frames w) (sym c.self.view_is) kept in
-    last_hands c.args.script.now w e c.put_back.new.self c.act-answer.new.heap c.act-answer.new.death c.act-answer.result keeping (c.act-answer.ensures.acts e w standing keeping) c.put_back.ensures.store c.put_back.ensures.stays c.put_back.ensures.budget c.in-Died.object c.in-Died.is c.put_back.ensures.policy
+    last_hands c.args.script.now w e c.put_back.new.self c.act-answer.new.heap c.act-answer.new.death c.act-answer.result keeping (c.act-answer.ensures.acts e w standing keeping) c.put_back.ensures.alone.store c.put_back.ensures.stays c.put_back.ensures.alone.budget c.in-Died.object c.in-Died.is c.put_back.ensures.alone.policy
 
 pub returns-in-Gone-clause-keeps : goal.returns-in-Gone-clause-keeps
 returns-in-Gone-clause-keeps g c = subst (λ e. Keeps e c.put_back.new.self) c.self.view_is (keeps_then _ _ _ (keeps_over _ c.act-answer.new.heap c.act-answer.ensures.objects) c.put_back.ensures.keeps)
@@ -78,4 +78,4 @@ pub returns-in-Frame-clause-keeps : goal.returns-in-Frame-clause-keeps
 returns-in-Frame-clause-keeps g c = subst (λ e. Keeps e c.start.new.self) c.self.view_is (keeps_then _ _ _ (keeps_then _ _ _ (keeps_over _ c.act-answer.new.heap c.act-answer.ensures.objects) c.put_back.ensures.keeps) c.start.ensures.keeps)
 
 pub returns-in-Died-clause-dead : goal.returns-in-Died-clause-dead
-returns-in-Died-clause-dead g c = subst (λ st. IsUnheld st c.in-Died.object) (sym c.put_back.ensures.store) (subst (λ a. DiesUnheld a c.act-answer.new.heap) c.in-Died.is c.act-answer.ensures.died)
+returns-in-Died-clause-dead g c = subst (λ st. IsUnheld st c.in-Died.object) (sym c.put_back.ensures.alone.store) (subst (λ a. DiesUnheld a c.act-answer.new.heap) c.in-Died.is c.act-answer.ensures.died)

@@ -8,7 +8,7 @@ use Rattle.cg_interp.proofs.engine.Engine.run.Goals as goal
 pub carry_out-requires-clause-stands : goal.carry_out-requires-clause-stands
 carry_out-requires-clause-stands g c =
     let (script, spelled, fit, w, at) = c.requires.stands in
-    let room = c.make_room-room.ensures in (
+    let room = c.make_room-room.ensures.alone in (
       script,
       spelled,
       still_fits script c.args.self.now c.make_room-room.new.self room.store room.activities room.frames room.more fit,
@@ -22,7 +22,7 @@ carry_out-requires-clause-stands g c =
 
 pub returns-clause-does : goal.returns-clause-does
 returns-clause-does g c = λ script w at.
-    let room = c.make_room-room.ensures in
+    let room = c.make_room-room.ensures.alone in
     c.carry_out.ensures.does script w (record {
       stands = same_engine script (under (caller_activity c.args.caller) c.args.self.now) (under (caller_activity c.args.caller) c.make_room-room.new.self) w at.stands room.store room.policy (ap (λ l. caller_activity c.args.caller ∷ l) room.activities) room.budget;
       locals = at.locals;
@@ -31,5 +31,5 @@ returns-clause-does g c = λ script w at.
 
 pub returns-clause-fit : goal.returns-clause-fit
 returns-clause-fit g c = λ script fit.
-    let room = c.make_room-room.ensures in
+    let room = c.make_room-room.ensures.alone in
     c.carry_out.ensures.fit script (still_fits script c.args.self.now c.make_room-room.new.self room.store room.activities room.frames room.more fit)
