@@ -1,12 +1,15 @@
 -- Where the first piece ends.
-use Rattle.std.proofs.Common.{◌≡◌, ℕ, suc, ◌+◌, ◌-◌, ◌<◌, ◌≤◌, List, [], ◌∷◌, length, take, drop, Bool, true, false, cond, not, ◌==◌, refl, sym, ap, ◌∙◌, arith, filter, nat_lt, Some, None, position, length-drop}
+use Rattle.std.proofs.Common.{◌≡◌, ℕ, suc, ◌+◌, ◌-◌, ◌<◌, ◌≤◌, List, [], ◌∷◌, length, take, drop, get_or, Bool, true, false, cond, not, ◌&&◌, ◌==◌, refl, sym, ap, ◌∙◌, arith, filter, nat_lt, Some, None, position, length-drop, eq-eqb}
+use Rattle.std.proofs.lemmas.Bool.Decides.{nat_tests}
 use Rattle.std.proofs.Math.Seq.{take-length, drop-length}
 use Rattle.std.proofs.Math.ListN.{drop_of_length-le}
 use Rattle.std.proofs.lemmas.List.{take_all}
 use Rattle.std.proofs.lemmas.Bool.{ltb-true, ltb-false}
 use Rattle.std.proofs.Math.Numerals.{one-add}
 use Rattle.std.specs.List.{position_or_len, prefix_len}
-use Rattle.cg_script.specs.Pieces.{pieces, onto, has_bytes, words_of}
+use Rattle.std.specs.List.{list_all}
+use Rattle.cg_script.specs.Pieces.{pieces, onto, has_bytes, words_of, lines_of}
+use Rattle.cg_script.specs.Words.{is_printable}
 
 one_more : {A : Type 0} (n : ℕ) (x : A) (xs : List A) → take (1 + n) (x ∷ xs) ≡ x ∷ take n xs
 one_more n x xs = rw one-add refl
@@ -75,3 +78,56 @@ empty_piece (b ∷ bs) e = absurd (omega arith)
 pub full_piece : (word : List ℕ) → 0 < length word → has_bytes word ≡ true
 full_piece [] e = absurd (omega arith)
 full_piece (b ∷ bs) e = refl
+
+-- a byte that is not printable
+abbrev pub odd : ℕ → Bool
+odd b = not (is_printable b)
+
+get_or-next : (b : ℕ) (bs : List ℕ) (n : ℕ) → get_or (b ∷ bs) (1 + n) 0 ≡ get_or bs n 0
+get_or-next b bs n = rw one-add refl
+
+step_same : (b n m : ℕ) (bs : List ℕ) (t : Bool) → is_printable b ≡ t → ((n < length bs → get_or bs n 0 ≡ 10) → m ≡ n)
+    → (cond (not (not t)) (1 + n) 0 < length (b ∷ bs) → get_or (b ∷ bs) (cond (not (not t)) (1 + n) 0) 0 ≡ 10) → cond (not (b == 10)) (1 + m) 0 ≡ cond (not (not t)) (1 + n) 0
+step_same b n m bs true e same h =
+    let other : (b == 10) ≡ false = grind (arith, nat_tests) in
+    let later : (n < length bs → get_or bs n 0 ≡ 10) = λ within. sym (get_or-next b bs n) ∙ h (omega (arith, within)) in
+    ap (λ t. cond (not t) (1 + m) 0) other ∙ ap (λ k. 1 + k) (same later)
+step_same b n m bs false e same h = let is : (b == 10) ≡ true = eq-eqb b 10 (h (omega arith)) in ap (λ t. cond (not t) (1 + m) 0) is
+
+same_place : (bytes : List ℕ) → (position_or_len odd bytes < length bytes → get_or bytes (position_or_len odd bytes) 0 ≡ 10) → position_or_len (λ b. b == 10) bytes ≡ position_or_len odd bytes
+same_place [] h = refl
+same_place (b ∷ bs) h = step_same b (position_or_len odd bs) (position_or_len (λ c. c == 10) bs) bs (is_printable b) refl (same_place bs) h
+
+before_odd : (bytes : List ℕ) → list_all is_printable (take (position_or_len odd bytes) bytes) ≡ true
+before_odd [] = refl
+before_odd (b ∷ bs) = by (is_printable b) refl (before_odd bs)
+  where
+    by : (t : Bool) → is_printable b ≡ t → list_all is_printable (take (position_or_len odd bs) bs) ≡ true → list_all is_printable (take (cond (not (not t)) (1 + position_or_len odd bs) 0) (b ∷ bs)) ≡ true
+    by false e later = refl
+    by true e later = rw (one_more (position_or_len odd bs) b bs) (ap (λ t. t && list_all is_printable (take (position_or_len odd bs) bs)) e ∙ later)
+
+-- the first line ends at its first byte that is not printable, if that is a line feed
+pub line_at : (i : ℕ) (bytes : List ℕ) → position odd bytes ≡ Some i → get_or bytes i 0 ≡ 10
+    → lines_of bytes ≡ take i bytes ∷ lines_of (take (length bytes - (i + 1)) (drop (i + 1) bytes))
+line_at i bytes e feed =
+    let at = found (position_or_len odd bytes) (length bytes) i e in
+    let same : position_or_len (λ b. b == 10) bytes ≡ position_or_len odd bytes = same_place bytes (λ within. ap (λ k. get_or bytes k 0) at.0 ∙ feed) in
+    cut_at 10 i bytes (ap (λ k. cond (nat_lt k (length bytes)) (Some k) None) same ∙ e)
+
+pub line_is_printable : (i : ℕ) (bytes : List ℕ) → position odd bytes ≡ Some i → list_all is_printable (take i bytes) ≡ true
+line_is_printable i bytes e =
+    let at = found (position_or_len odd bytes) (length bytes) i e in
+    ap (λ k. list_all is_printable (take k bytes)) (sym at.0) ∙ before_odd bytes
+
+-- a last line with no line feed
+pub last_line : (bytes : List ℕ) → 0 < length bytes → position odd bytes ≡ None
+    → lines_of bytes ≡ bytes ∷ lines_of (take (length bytes - length bytes) (drop (length bytes) bytes))
+last_line bytes some e =
+    let far : length bytes ≤ position_or_len odd bytes = absent (position_or_len odd bytes) (length bytes) e in
+    let same : position_or_len (λ b. b == 10) bytes ≡ position_or_len odd bytes = same_place bytes (λ within. absurd (omega arith)) in
+    cut_none 10 bytes some (ap (λ k. cond (nat_lt k (length bytes)) (Some k) None) same ∙ e)
+
+pub last_is_printable : (bytes : List ℕ) → position odd bytes ≡ None → list_all is_printable bytes ≡ true
+last_is_printable bytes e =
+    let far : length bytes ≤ position_or_len odd bytes = absent (position_or_len odd bytes) (length bytes) e in
+    ap (list_all is_printable) (sym (take_all (position_or_len odd bytes) bytes far)) ∙ before_odd bytes

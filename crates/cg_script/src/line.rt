@@ -1,6 +1,8 @@
 //! What a line means by its words alone.
 ghost use Rattle.std.specs.Prelude.{◌≡◌, ◌<◌, ◌≤◌, ◌+◌, [], length, map, codes, drop, true};
+ghost use Rattle.std.specs.List.{list_all};
 ghost use Rattle.cg_script.specs.Pieces.{word_is, word_at};
+ghost use Rattle.cg_script.specs.Words.{is_printable};
 ghost use Rattle.cg_script.specs.Meanings.{fits, all_fit, repeats_finalizer, formed, binding_form, worded, is_passed, meaning};
 ghost use Rattle.cg_script.specs.Views.{meaning_of};
 
@@ -8,8 +10,8 @@ use crate::form::{Form, Sort, binding_named, opener_named, row_for, sort_at};
 use crate::limits::{MOST_BUDGET, MOST_COUNT, MOST_LINE_BYTES, MOST_LINES};
 use crate::pieces::{Words, find_words};
 use crate::word::{
-    flag, is_count_word, is_identifier_word, is_number_word, is_printable_text, is_profile_word,
-    is_value, is_variable, names_finalizer_word, names_legacy_word,
+    flag, is_count_word, is_identifier_word, is_number_word, is_profile_word, is_value,
+    is_variable, names_finalizer_word, names_legacy_word,
 };
 
 /// What a line means, beside its words.
@@ -141,11 +143,17 @@ fn is_passed_over(words: &[&[u8]]) -> bool
 
 /// What the line of this number means, and its words, into a list that is empty before.
 #[tactic(auto, unfolding(crate::specs::Meanings::meaning))]
-pub(crate) fn read_line<'a>(number: u32, line: &'a [u8], found: &mut Words<'a>) -> Line
-    requires { found.old.items ≡ [] }
+pub(crate) fn read_line<'a>(
+    number: u32,
+    line: &'a [u8],
+    printable: bool,
+    found: &mut Words<'a>,
+) -> Line
+    requires printable { printable ≡ list_all is_printable line.now }
+    requires empty { found.old.items ≡ [] }
     ensures { meaning_of result (map (λ w. w.now) found.new.items) ≡ meaning number line.now }
 {
-    if !is_printable_text(line) {
+    if !printable {
         return Line::Bad(NOT_PRINTABLE);
     }
     if line.len() > MOST_LINE_BYTES || number == MOST_LINES + 1 {

@@ -1,4 +1,4 @@
-use Rattle.std.proofs.Common.{sym, ap, ◌∙◌, cond, Option, Some, None}
+use Rattle.std.proofs.Common.{sym, ap, ◌∙◌, cond, Some, None}
 use Rattle.cg_script.specs.declared.form.Form.{Form}
 use Rattle.cg_script.proofs.Found.{binding_kept}
 use Rattle.cg_script.proofs.form.binding_named.Goals as goal

@@ -1,4 +1,4 @@
-use Rattle.std.proofs.Common.{sym, ap, ◌∙◌, cond, not, Option, Some, None}
+use Rattle.std.proofs.Common.{sym, ap, ◌∙◌, cond, not, Some, None}
 use Rattle.cg_script.specs.declared.form.Form.{Form}
 use Rattle.cg_script.proofs.Found.{opener_kept}
 use Rattle.cg_script.proofs.form.opener_named.Goals as goal

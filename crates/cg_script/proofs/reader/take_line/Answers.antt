@@ -20,11 +20,11 @@ returns-in-Passed-clause-ok c = line_passed c.args.draft.now c.args.number c.arg
 
 pub returns-in-Passed-clause-small : goal.returns-in-Passed-clause-small
 returns-in-Passed-clause-small c = record {
-  lines = passed_before_last c.args.number c.args.line.now c.in-Passed.ensures c.requires.lines;
-  texts = omega (arith, c.requires.texts);
-  procs = omega (arith, c.requires.procs);
-  classes = omega (arith, c.requires.classes);
-  items = omega (arith, c.requires.items);
+  lines = passed_before_last c.args.number c.args.line.now c.in-Passed.ensures c.requires.small.lines;
+  texts = omega (arith, c.requires.small.texts);
+  procs = omega (arith, c.requires.small.procs);
+  classes = omega (arith, c.requires.small.classes);
+  items = omega (arith, c.requires.small.items);
 }
 
 pub returns-in-Bad-clause-fault : goal.returns-in-Bad-clause-fault
@@ -45,11 +45,11 @@ returns-in-Ok-None-clause-small c =
     let known = (c.in-Ok-None.ensures.takes e).known in
     let words = map (λ (w : Bor (List ℕ)). w.now) c.as_slice.result.now in
     record {
-      lines = says_before_last c.args.number c.args.line.now c.in-Says.form words (meant_so c) c.requires.lines;
-      texts = omega (arith, c.in-Ok-None.ensures.few_names e, c.requires.texts);
-      procs = omega (arith, ap length (ap (λ (k : Known). k.procs) known), one_proc_more c.args.draft.now.procs c.in-Says.form words, c.requires.procs);
-      classes = omega (arith, ap length (ap (λ (k : Known). k.classes) known), one_class_more c.args.draft.now.classes c.in-Says.form words, c.requires.classes);
-      items = omega (arith, c.in-Ok-None.ensures.few_items e, c.requires.items);
+      lines = says_before_last c.args.number c.args.line.now c.in-Says.form words (meant_so c) c.requires.small.lines;
+      texts = omega (arith, c.in-Ok-None.ensures.few_names e, c.requires.small.texts);
+      procs = omega (arith, ap length (ap (λ (k : Known). k.procs) known), one_proc_more c.args.draft.now.procs c.in-Says.form words, c.requires.small.procs);
+      classes = omega (arith, ap length (ap (λ (k : Known). k.classes) known), one_class_more c.args.draft.now.classes c.in-Says.form words, c.requires.small.classes);
+      items = omega (arith, c.in-Ok-None.ensures.few_items e, c.requires.small.items);
     }
 
 pub returns-in-Ok-Some-clause-fault : goal.returns-in-Ok-Some-clause-fault
