@@ -1,4 +1,5 @@
 pub mod Places
+pub mod Packed
 pub mod Contents
 pub mod Held
 pub mod Pairs

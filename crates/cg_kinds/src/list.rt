@@ -6,7 +6,8 @@ ghost use Rattle.cg_kinds.specs.Contents.{list_body, IsIndex};
 
 use crate::body_slab::BodySlab;
 use crate::contents::Contents;
-use crate::items::{find_item, item_of, values_of};
+use crate::items::{find_item, item_of};
+use crate::packed::{Packed, packed_values_of};
 use cg_value::{Entry, KindCode, Val};
 use std::alloc::{AllocError, Global};
 
@@ -16,7 +17,7 @@ pub type ListKind = BodySlab<ListItems>;
 /// The items of a list.
 #[derive(Drop)]
 pub struct ListItems {
-    values: Vec<Val>,
+    values: Vec<Packed>,
 }
 
 /// The index that a key of a list is.
@@ -40,7 +41,7 @@ impl Contents for ListItems {
     }
 
     fn make(alloc: Global, parts: &[Entry]) -> Result<Self, AllocError> {
-        let values = values_of(alloc, parts)?;
+        let values = packed_values_of(alloc, parts)?;
         Ok(ListItems { values })
     }
 
@@ -49,7 +50,7 @@ impl Contents for ListItems {
     }
 
     fn entry_at(&self, i: usize) -> Entry {
-        item_of(self.values[i])
+        item_of(self.values[i].val())
     }
 
     fn find(&self, key: Val) -> Option<usize> {
@@ -58,18 +59,18 @@ impl Contents for ListItems {
 
     fn put(&mut self, key: Val, val: Val) -> Result<Option<Val>, AllocError> {
         let i = index_of(key);
-        let replaced = self.values[i];
-        self.values[i] = val;
+        let replaced = self.values[i].val();
+        self.values[i] = Packed::new(val);
         Ok(Some(replaced))
     }
 
     fn take(&mut self, i: usize) -> Entry {
-        item_of(self.values.remove(i))
+        item_of(self.values.remove(i).val())
     }
 
     fn detach(&mut self) -> Option<Entry> {
         match self.values.pop() {
-            Some(val) => Some(item_of(val)),
+            Some(last) => Some(item_of(last.val())),
             None => None,
         }
     }
@@ -80,6 +81,6 @@ impl Contents for ListItems {
     }
 
     fn append_reserved(&mut self, val: Val) {
-        self.values.push_reserved(val);
+        self.values.push_reserved(Packed::new(val));
     }
 }

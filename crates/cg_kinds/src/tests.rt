@@ -90,13 +90,24 @@ fn detach<K: Kind>(kind: &mut K, at: usize) -> Answer
     }
 }
 
-fn append<K: Kind>(kind: &mut K, at: usize, val: i64) -> Result<(), AllocError>
+fn append<K: Kind>(kind: &mut K, at: usize, val: Val) -> Result<(), AllocError>
     requires { Holds (K.bodies kind.old) at }
     ensures { (place : ℕ) → Holds (K.bodies kind.old) place → Holds (K.bodies kind.new) place }
 {
     kind.reserve(at, 1)?;
-    kind.append_reserved(at, Val::Int(val));
+    kind.append_reserved(at, val);
     Ok(())
+}
+
+/// Takes the first entry off, if there is one, and answers its value.
+fn take_first<K: Kind>(kind: &mut K, at: usize) -> Option<Val>
+    requires { Holds (K.bodies kind.old) at }
+    ensures { (place : ℕ) → Holds (K.bodies kind.old) place → Holds (K.bodies kind.new) place }
+{
+    if kind.len(at) == 0 {
+        return None;
+    }
+    Some(kind.take(at, 0).val)
 }
 
 fn advance<K: Kind>(kind: &mut K, at: usize, step: Step) -> Result<Answer, AllocError>
@@ -109,7 +120,7 @@ fn advance<K: Kind>(kind: &mut K, at: usize, step: Step) -> Result<Answer, Alloc
         Step::Take(i) => Ok(take(kind, at, i)),
         Step::Detach => Ok(detach(kind, at)),
         Step::Append(val) => {
-            append(kind, at, val)?;
+            append(kind, at, Val::Int(val))?;
             Ok(Answer::Nothing)
         }
     }
@@ -133,6 +144,16 @@ fn items(alloc: Global, values: &[i64]) -> Result<Vec<Entry>, AllocError>
     let mut entries = Vec::new(alloc);
     for value in values {
         entries.push(item_of(Val::Int(*value)))?;
+    }
+    Ok(entries)
+}
+
+fn items_with(alloc: Global, values: &[Val]) -> Result<Vec<Entry>, AllocError>
+    ensures { IfOk result (λ entries. AreItems entries.items) }
+{
+    let mut entries = Vec::new(alloc);
+    for value in values {
+        entries.push(item_of(*value))?;
     }
     Ok(entries)
 }
@@ -401,6 +422,52 @@ fn weak_references_keep_one_callback(rt: HostRuntime) -> Result<(), Fail> {
     )
 }
 
+/// Makes an object of items, appends the same items to an empty one, and takes them off again.
+fn pass_through<K: Kind>(
+    rt: &impl Abort,
+    alloc: Global,
+    kind: &mut K,
+    parts: &[Entry],
+) -> Result<(), Fail>
+    requires parts { IsParts (K.kind kind.old) parts.now }
+    requires none { IsParts (K.kind kind.old) [] }
+{
+    let made = make(kind, parts)?;
+    let at = make(kind, &[])?;
+    'appends: for part in parts {
+        append(kind, at, part.val)?;
+    }
+    assert_eq!(rt; entries(alloc, kind, made)?.as_slice(), parts);
+    assert_eq!(rt; entries(alloc, kind, at)?.as_slice(), parts);
+    'takes: for part in parts {
+        assert_eq!(rt; take_first(kind, at), Some(part.val));
+    }
+    free(kind, at);
+    Ok(())
+}
+
+#[test]
+fn lists_keep_values_at_the_ends_of_their_ranges(rt: HostRuntime) -> Result<(), Fail> {
+    let alloc = rt.alloc();
+    let mut kind: Box<dyn Kind> = Box::new(alloc, ListKind::new(alloc))?;
+    let parts = items_with(
+        alloc,
+        &[
+            Val::None,
+            Val::Int(i64::MIN),
+            Val::Int(-1),
+            Val::Int(0),
+            Val::Int(i64::MAX),
+            Val::Str(0),
+            Val::Str(u32::MAX),
+            Val::Ref(0),
+            Val::Ref(1 << 32),
+            Val::Ref(u64::MAX),
+        ],
+    )?;
+    pass_through(&rt, alloc, &mut kind, parts.as_slice())
+}
+
 /// Puts values under so many new keys.
 fn put_many<K: Kind>(rt: &impl Abort, kind: &mut K, count: u64) -> Result<(), Fail>
     requires { IsParts (K.kind kind.old) [] }
@@ -420,7 +487,7 @@ fn append_many<K: Kind>(rt: &impl Abort, kind: &mut K, count: u32) -> Result<(),
 {
     let at = make(kind, &[])?;
     'appends: for _ in 0..count {
-        append(kind, at, 7)?;
+        append(kind, at, Val::Int(7))?;
     }
     assert_eq!(rt; kind.len(at) as u64, count as u64);
     'detaches: for _ in 0..count {
