@@ -170,6 +170,9 @@ impl Few {
     }
 
     /// The pairs in a map, and another under a new key behind them. These pairs stay as they are.
+    ///
+    /// It is a call that is not inlined: the frame of each put would else have the locals of a new map, and clear them.
+    #[inline(never)]
     pub fn table_with(&self, key: Val, val: Val) -> Result<Box<Table>, AllocError>
         ensures { IfOk result (λ table. table.value ≡ put self.now key val) }
     {
