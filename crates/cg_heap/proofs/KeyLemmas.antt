@@ -1,6 +1,6 @@
 -- The first position of a key, and what stands there.
 use Rattle.std.proofs.Common.{◌≡◌, refl, sym, ◌∙◌, ap, subst, ℕ, suc, ◌+◌, Bool, true, false, cond, List, [], ◌∷◌, Some, None, arith, remove}
-use Rattle.std.specs.Prelude.{if◌then◌else◌, slice_get, position}
+use Rattle.std.specs.Prelude.{if◌then◌else◌, slice_get, position, option_map}
 use Rattle.std.specs.List.{position_from}
 use Rattle.std.proofs.lemmas.Iterator.Adapters.{position_from-zero}
 use Rattle.cg_value.specs.declared.Val.{Val}
@@ -54,3 +54,15 @@ none_from key k (x ∷ es) at = go (same_value x.key key) at (none_from key (k +
 
 pub key_missing : (es : List Entry) (key : Val) → position (has_key key) es ≡ None → (entry_at es key ≡ None) × (value_at es key ≡ None)
 key_missing es key at = none_from key 0 es (sym (position_from-zero (has_key key) es) ∙ at)
+
+-- the entry of a key stands at its first position
+pub stands_somewhere : (key : Val) (es : List Entry) (e : Entry) → entry_at es key ≡ Some e → (i : ℕ) × Stands es key i e
+stands_somewhere key [] e at = absurd (cc)
+stands_somewhere key (x ∷ es) e at =
+    let (i, (here, entry, value, rest)) = go (same_value x.key key) at (stands_somewhere key es e) in
+    (i, record { here = here; entry = entry; value = value; rest = rest })
+  where
+    go : (b : Bool) → cond b (Some x) (entry_at es key) ≡ Some e → (entry_at es key ≡ Some e → (i : ℕ) × Stands es key i e)
+        → (i : ℕ) × ((slice_get (x ∷ es) i ≡ Some e) × ((if b then Some x else entry_at es key) ≡ Some e) × ((if b then Some x.val else value_at es key) ≡ Some e.val) × ((if b then es else x ∷ without_key es key) ≡ remove (x ∷ es) i))
+    go true at next = (0, (at, at, ap (option_map (λ (y : Entry). y.val)) at, refl))
+    go false at next = let (i, there) = next at in (suc i, (there.here, there.entry, there.value, ap (λ l. x ∷ l) there.rest))

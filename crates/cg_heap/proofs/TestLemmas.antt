@@ -12,7 +12,7 @@ use Rattle.cg_value.specs.declared.KindCode.{KindCode}
 use Rattle.cg_value.specs.declared.KindCode.TheVariants.{Weak}
 use Rattle.cg_kind.specs.Calls.{after_put}
 use Rattle.cg_graph.specs.Holdings.{occurrences}
-use Rattle.cg_graph.specs.Value.{entry_references, references_of_value}
+use Rattle.cg_graph.specs.Value.{entry_references, references_of_value, entry_at, without_key}
 use Rattle.cg_graph.specs.Rows.{waited_in, weak_references_in, waiting_in}
 use Rattle.cg_graph.specs.Store.{Store, Node, IsLive, entries_of, outside_of, count_of, inner}
 use Rattle.cg_graph.specs.Changes.{held, unheld, rewritten, made, gone, opening_store}
@@ -23,6 +23,7 @@ use Rattle.cg_heap.specs.Calls.{IsSound, code_of, value_in, with_put, tracked_if
 use Rattle.cg_heap.proofs.ReferenceLemmas.{name-le, entry-le, occurrences-append, occurrences-one, one_if}
 use Rattle.cg_heap.proofs.CallerLemmas.{lives_on, live_of_kind, kinds-rewritten, total-held, total-unheld, total-rewritten, total-moved, total-made, total-gone, opening_total}
 use Rattle.cg_heap.proofs.HoldLemmas.{outside_grows, outside-held, outside-unheld, outside-rewritten, outside-moved, outside-made, outside-gone, entry_holds}
+use Rattle.cg_heap.proofs.KeyLemmas.{stands_somewhere}
 use Rattle.cg_heap.proofs.RowLemmas.{in_no_row, no_own_row, no_referent, waits_live}
 
 -- its holds are among those of the heap, which are no more than so many, and the last serial is known
@@ -94,6 +95,11 @@ knows_take old new mine kept o i most last e live at is keeps knows = subst (λ 
   omega (arith, knows.1, total-held (entry_references e) (rewritten o (remove (entries_of old o) i) old), total-rewritten o (remove (entries_of old o) i) old, entry-le e),
   knows.2,
 )
+
+pub knows_take_key : (old new : Store) (mine kept : List ℕ) (o : ℕ) (key : Val) (most last : ℕ) (e : Entry) → ((s : ℕ) → 0 < inner old s → IsLive old s) → Some e ≡ entry_at (entries_of old o) key → new ≡ held (entry_references e) (rewritten o (without_key (entries_of old o) key) old) → ((s : ℕ) → occurrences s kept ≤ occurrences s mine + occurrences s (entry_references e)) → Knows old mine most last → Knows new kept (most + 2) last
+knows_take_key old new mine kept o key most last e live at is keeps knows =
+    let (i, there) = stands_somewhere key (entries_of old o) e (sym at) in
+    knows_take old new mine kept o i most last e live there.here (is ∙ ap (λ es. held (entry_references e) (rewritten o es old)) there.rest) keeps knows
 
 pub knows_free : (old new : Store) (mine : List ℕ) (o most last : ℕ) → count_of old o ≡ 0 → new ≡ gone o old → Knows old mine most last → Knows new mine most last
 knows_free old new mine o most last none is knows = subst (λ s. Knows s mine most last) (sym is) (

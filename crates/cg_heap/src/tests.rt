@@ -187,6 +187,31 @@ impl<B: Kind> Holder<B> {
         Ok(entry)
     }
 
+    /// Takes the entry under a key, if there is one. Its references are held from now on.
+    fn take_key(
+        &mut self,
+        rt: &impl Abort,
+        object: u64,
+        key: Val,
+    ) -> Result<Option<Entry>, AllocError> {
+        assert!(rt; self.most < 1000);
+        self.assert_pairs(rt, object);
+        self.heap.sound();
+        match self.heap.take_key(object, key) {
+            Some(entry) => {
+                self.most += 2;
+                keep(&mut self.held, entry)?;
+                Ok(Some(entry))
+            }
+            None => Ok(None),
+        }
+    }
+
+    fn value_of(&self, rt: &impl Abort, object: u64, key: Val) -> Option<Val> {
+        self.assert_held(rt, object);
+        self.heap.value_of(object, key)
+    }
+
     /// Gives a hold up. It answers whether nothing holds the object then.
     fn unhold(&mut self, rt: &impl Abort, object: u64) -> bool
         ensures live { IsLive self.new object }
@@ -365,6 +390,8 @@ enum Step {
     Weak(u64),
     Put(u64, Val, Val),
     Take(u64, usize),
+    TakeKey(u64, Val),
+    Value(u64, Val),
     GiveUp(u64),
     Newest(u64),
     Older(u64),
@@ -382,6 +409,8 @@ enum Answer {
     Made(Result<u64, HeapFault>),
     Replaced(Result<Option<Val>, HeapFault>),
     Taken(Entry),
+    TakenIf(Option<Entry>),
+    Value(Option<Val>),
     Died(bool),
     Object(Option<u64>),
     Number(u64),
@@ -402,6 +431,10 @@ fn change<B: Kind>(
             let entry = holder.take(rt, object, i)?;
             Ok(Answer::Taken(entry))
         }
+        Step::TakeKey(object, key) => {
+            let entry = holder.take_key(rt, object, key)?;
+            Ok(Answer::TakenIf(entry))
+        }
         Step::GiveUp(object) => Ok(Answer::Died(holder.give_up(rt, object))),
         Step::Clear(weak, wait) => {
             holder.clear_weak(rt, weak, wait);
@@ -414,6 +447,7 @@ fn change<B: Kind>(
 
 fn look<B: Kind>(rt: &impl Abort, holder: &Holder<B>, step: Step) -> Answer {
     match step {
+        Step::Value(object, key) => Answer::Value(holder.value_of(rt, object, key)),
         Step::Newest(object) => Answer::Object(holder.newest_of(rt, object)),
         Step::Older(weak) => Answer::Object(holder.older_of(rt, weak)),
         Step::Referent(weak) => Answer::Object(holder.referent_of(rt, weak)),
@@ -446,6 +480,8 @@ const LIST: Val = Val::Ref(2);
 
 const INST: Val = Val::Ref(3);
 
+const NUMBER: Val = Val::Int(5);
+
 const YOUNG: Place = Place::Gen(0);
 
 #[test]
@@ -476,6 +512,38 @@ fn an_entry_that_is_taken_holds_value_and_key_from_outside(rt: HostRuntime) -> R
         (Step::Live, Answer::Number(0)),
         (Step::Entries, Answer::Number(0)),
         (Step::Size(YOUNG), Answer::Number(0)),
+    ];
+    drive(&rt, alloc, six(alloc)?, &rows)
+}
+
+#[test]
+fn an_entry_is_taken_by_its_key(rt: HostRuntime) -> Result<(), Fail> {
+    let alloc = rt.alloc();
+    let taken = Entry {
+        key: INST,
+        val: Val::Int(7),
+    };
+    let rows = [
+        (Step::Dict, Answer::Made(Ok(2))),
+        (Step::Inst, Answer::Made(Ok(3))),
+        (Step::Put(2, NUMBER, LIST), Answer::Replaced(Ok(None))),
+        // Atoms make no dictionary tracked, and itself does.
+        (Step::Size(YOUNG), Answer::Number(2)),
+        (Step::Put(2, INST, Val::Int(6)), Answer::Replaced(Ok(None))),
+        (
+            Step::Put(2, INST, Val::Int(7)),
+            Answer::Replaced(Ok(Some(Val::Int(6)))),
+        ),
+        (Step::Value(2, INST), Answer::Value(Some(Val::Int(7)))),
+        (Step::Value(2, LIST), Answer::Value(None)),
+        (Step::TakeKey(2, LIST), Answer::TakenIf(None)),
+        (Step::TakeKey(2, INST), Answer::TakenIf(Some(taken))),
+        (Step::Value(2, INST), Answer::Value(None)),
+        (Step::Value(2, NUMBER), Answer::Value(Some(LIST))),
+        (Step::Entries, Answer::Number(1)),
+        // Its maker and the taker held the instance, which the entry held before.
+        (Step::GiveUp(3), Answer::Died(false)),
+        (Step::GiveUp(3), Answer::Died(true)),
     ];
     drive(&rt, alloc, six(alloc)?, &rows)
 }
