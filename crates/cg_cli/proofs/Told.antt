@@ -3,7 +3,7 @@ use Rattle.std.proofs.Common.{◌≡◌, ◌⊎◌, inl, inr, ◌<◌, ℕ, ◌�
 use Rattle.std.proofs.lemmas.Bool.{cases_lt}
 use Rattle.std.specs.Io.KnownBytes.{Consumes, IsAtEnd}
 use Rattle.cg_machine.specs.World.{Outcome}
-use Rattle.cg_cli.specs.Statuses.{WroteFront, RowText, run_text, bad_text, large_text, RanWhole, RanBad, Answers, IsCutShort}
+use Rattle.cg_cli.specs.Statuses.{WroteFront, RowText, run_text, bad_text, large_text, RanWhole, RanBad, AnswersScript, IsCutShort}
 use Rattle.cg_cli.specs.declared.input.TheConstants.{LIMIT}
 use Rattle.cg_cli.specs.declared.status.Status.{Status}
 use Rattle.cg_cli.specs.declared.status.Status.TheVariants as status
@@ -35,8 +35,8 @@ module _ (left after : Option (List ℕ)) (bytes : List ℕ) (took : Consumes le
   pub told_front : (given : Option ℕ) (before now : Option (List ℕ)) → WroteFront given bytes before now → IfSome left (λ bs. WroteFront given bs before now)
   told_front given before now wrote = told (λ bs. WroteFront given bs before now) wrote (λ more many w. record { text = w.text; row = longer_row given more w.text many w.row; wrote = w.wrote })
 
-  pub told_answers : (answer : Status) → Answers bytes answer → IfSome left (λ bs. Answers bs answer)
-  told_answers answer says = told (λ bs. Answers bs answer) says (λ more many s. (λ few. absurd (omega (arith, many, few, length-append bytes more)), λ large. s.1 many))
+  pub told_answers : (answer : Status) → AnswersScript bytes answer → IfSome left (λ bs. AnswersScript bs answer)
+  told_answers answer says = told (λ bs. AnswersScript bs answer) says (λ more many s. (λ few. absurd (omega (arith, many, few, length-append bytes more)), λ large. s.1 many))
 
 -- where neither source nor sink failed, only memory cuts a job short
 pub complete : (answer : Status) (SourceRose SinkRose Told : Type 0) → (answer ≡ status.ReadFault → SourceRose) → (answer ≡ status.WriteFault → SinkRose) → IsCutShort answer ⊎ Told

@@ -86,8 +86,8 @@ AnswersReading (spells names lines) status = (status ≡ Done) ⊎ (status ≡ B
 AnswersReading (faulty number code) status = status ≡ BadScript
 
 -- up to the limit by what the bytes are read as, and beyond it that they are too many
-abbrev pub Answers : List ℕ → Status → Type 0
-Answers bytes status = (length bytes < LIMIT → AnswersReading (reading bytes) status) × (LIMIT ≤ length bytes → status ≡ TooLarge)
+abbrev pub AnswersScript : List ℕ → Status → Type 0
+AnswersScript bytes status = (length bytes < LIMIT → AnswersReading (reading bytes) status) × (LIMIT ≤ length bytes → status ≡ TooLarge)
 
 -- a fault of the source or of the sink, or want of memory
 abbrev pub IsCutShort : Status → Type 0

@@ -10,7 +10,7 @@ ghost use Rattle.cg_script.specs.Spelled.{IsSpelled};
 ghost use Rattle.cg_script.specs.Texts.{TextsAreKnown};
 ghost use Rattle.cg_script.specs.Reading.{reading};
 ghost use Rattle.cg_interp.specs.Recorded.{WroteRecords, WroteRecordsPart};
-ghost use Rattle.cg_cli.specs.Statuses.{RanBad, TookTooMany, Answers, AnswersReading, IsCutShort, budget_of};
+ghost use Rattle.cg_cli.specs.Statuses.{RanBad, TookTooMany, AnswersScript, AnswersReading, IsCutShort, budget_of};
 ghost use Rattle.cg_cli.specs.Recordings.{RecordedWhole, RecordedPart, RecordedFront, RecordedSome};
 
 use crate::budget::budget_for;
@@ -92,7 +92,7 @@ fn record_read<K: Sink, B: Kind>(alloc: Global, bytes: &[u8], sink: &mut K, kind
     ensures write { result ≡ Status.WriteFault → RecordedFront bytes.now (K.written sink.old) (K.written sink.new) }
     ensures cause { result ≡ Status.WriteFault → Rose (K.faults sink.old) (K.faults sink.new) }
     ensures memory { result ≡ Status.OutOfMemory → RecordedSome bytes.now (K.written sink.old) (K.written sink.new) }
-    ensures only { Answers bytes.now result ⊎ (result ≡ Status.WriteFault) ⊎ (result ≡ Status.OutOfMemory) }
+    ensures only { AnswersScript bytes.now result ⊎ (result ≡ Status.WriteFault) ⊎ (result ≡ Status.OutOfMemory) }
 {
     if bytes.len() >= LIMIT {
         return tell_large(sink);
@@ -121,7 +121,7 @@ pub fn record_job<S: Source, K: Sink, B: Kind>(
     ensures write { result ≡ Status.WriteFault → IfSome (S.left source.old) (λ bytes. RecordedFront bytes (K.written sink.old) (K.written sink.new)) }
     ensures memory { result ≡ Status.OutOfMemory → Keeps (K.written sink.old) (K.written sink.new)
         ⊎ IfSome (S.left source.old) (λ bytes. RecordedPart bytes (K.written sink.old) (K.written sink.new)) }
-    ensures only { IsCutShort result ⊎ IfSome (S.left source.old) (λ bytes. Answers bytes result) }
+    ensures only { IsCutShort result ⊎ IfSome (S.left source.old) (λ bytes. AnswersScript bytes result) }
     ensures words { result ≢ Status.BadWords }
 {
     match read_up_to(alloc, source, LIMIT) {

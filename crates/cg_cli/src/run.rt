@@ -10,7 +10,7 @@ ghost use Rattle.cg_script.specs.Spelled.{IsSpelled};
 ghost use Rattle.cg_script.specs.Texts.{TextsAreKnown};
 ghost use Rattle.cg_script.specs.Reading.{reading};
 ghost use Rattle.cg_interp.specs.Written.{WroteRun, WrotePart};
-ghost use Rattle.cg_cli.specs.Statuses.{RanWhole, RanBad, TookTooMany, WroteFront, Answers, AnswersReading, IsCutShort, budget_of};
+ghost use Rattle.cg_cli.specs.Statuses.{RanWhole, RanBad, TookTooMany, WroteFront, AnswersScript, AnswersReading, IsCutShort, budget_of};
 
 use crate::budget::budget_for;
 use crate::input::LIMIT;
@@ -101,7 +101,7 @@ fn run_read<K: Sink, B: Kind>(
     ensures write { result ≡ Status.WriteFault → WroteFront given bytes.now (K.written sink.old) (K.written sink.new) }
     ensures cause { result ≡ Status.WriteFault → Rose (K.faults sink.old) (K.faults sink.new) }
     ensures memory { result ≡ Status.OutOfMemory → Keeps (K.written sink.old) (K.written sink.new) }
-    ensures only { Answers bytes.now result ⊎ (result ≡ Status.WriteFault) ⊎ (result ≡ Status.OutOfMemory) }
+    ensures only { AnswersScript bytes.now result ⊎ (result ≡ Status.WriteFault) ⊎ (result ≡ Status.OutOfMemory) }
 {
     if bytes.len() >= LIMIT {
         return tell_large(sink);
@@ -131,7 +131,7 @@ pub fn run_job<S: Source, K: Sink, B: Kind>(
     ensures write_cause { result ≡ Status.WriteFault → Rose (K.faults sink.old) (K.faults sink.new) }
     ensures write { result ≡ Status.WriteFault → IfSome (S.left source.old) (λ bytes. WroteFront given bytes (K.written sink.old) (K.written sink.new)) }
     ensures memory { result ≡ Status.OutOfMemory → Keeps (K.written sink.old) (K.written sink.new) }
-    ensures only { IsCutShort result ⊎ IfSome (S.left source.old) (λ bytes. Answers bytes result) }
+    ensures only { IsCutShort result ⊎ IfSome (S.left source.old) (λ bytes. AnswersScript bytes result) }
     ensures words { result ≢ Status.BadWords }
 {
     match read_up_to(alloc, source, LIMIT) {

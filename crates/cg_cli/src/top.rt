@@ -9,7 +9,7 @@ ghost use Rattle.cg_words.specs.Words.{AsksFor, Ask};
 ghost use Rattle.cg_cli.specs.Summaries.{WroteSummary, WroteSummaryFront};
 ghost use Rattle.cg_cli.specs.Expansions.{WroteExpansion, WroteFirstBad, WroteExpandFront, AnswersExpand};
 ghost use Rattle.cg_cli.specs.Recordings.{RecordedWhole, RecordedPart, RecordedFront};
-ghost use Rattle.cg_cli.specs.Statuses.{RanWhole, RanKept, RanBad, TookTooMany, WroteFront, Answers, IsCutShort};
+ghost use Rattle.cg_cli.specs.Statuses.{RanWhole, RanKept, RanBad, TookTooMany, WroteFront, AnswersScript, IsCutShort};
 
 use crate::expand::expand_job;
 use crate::generate::generate_job;
@@ -55,12 +55,12 @@ pub fn gc_over<S: Source, K: Sink, B: Kind>(
         → IfSome (S.left source.old) (λ bytes. WroteFront given bytes (K.written sink.old) (K.written sink.new)) }
     ensures write_words { ¬ (Ask (map string_bytes words.now)) → result ≡ Status.WriteFault → AppendsFront (K.written sink.old) (K.written sink.new) (codes "bad words\n") }
     ensures memory { ¬ AsksFor (map string_bytes words.now) Job.Record → result ≡ Status.OutOfMemory → Keeps (K.written sink.old) (K.written sink.new) }
-    ensures answers { (given : Option ℕ) → AsksFor (map string_bytes words.now) (Job.Run given) → IsCutShort result ⊎ IfSome (S.left source.old) (λ bytes. Answers bytes result) }
+    ensures answers { (given : Option ℕ) → AsksFor (map string_bytes words.now) (Job.Run given) → IsCutShort result ⊎ IfSome (S.left source.old) (λ bytes. AnswersScript bytes result) }
     ensures words { Ask (map string_bytes words.now) → result ≢ Status.BadWords }
     ensures no_job { ¬ (Ask (map string_bytes words.now)) → (result ≡ Status.BadWords) ⊎ (result ≡ Status.WriteFault) ⊎ (result ≡ Status.OutOfMemory) }
     ensures nothing_read { ¬ (Ask (map string_bytes words.now)) → source.new ≡ source.old }
     ensures complete { (given : Option ℕ) → AsksFor (map string_bytes words.now) (Job.Run given) → ¬ (Rose (S.faults source.old) (S.faults source.new)) → ¬ (Rose (K.faults sink.old) (K.faults sink.new))
-        → (result ≡ Status.OutOfMemory) ⊎ IfSome (S.left source.old) (λ bytes. Answers bytes result) }
+        → (result ≡ Status.OutOfMemory) ⊎ IfSome (S.left source.old) (λ bytes. AnswersScript bytes result) }
     ensures write_summary { (blocks : ℕ) → AsksFor (map string_bytes words.now) (Job.Generate blocks) → result ≡ Status.WriteFault
         → WroteSummaryFront blocks (K.written sink.old) (K.written sink.new) }
     ensures summary { (blocks : ℕ) → AsksFor (map string_bytes words.now) (Job.Generate blocks)
@@ -85,9 +85,9 @@ pub fn gc_over<S: Source, K: Sink, B: Kind>(
         → IfSome (S.left source.old) (λ bytes. RecordedFront bytes (K.written sink.old) (K.written sink.new)) }
     ensures memory_records { AsksFor (map string_bytes words.now) Job.Record → result ≡ Status.OutOfMemory → Keeps (K.written sink.old) (K.written sink.new)
         ⊎ IfSome (S.left source.old) (λ bytes. RecordedPart bytes (K.written sink.old) (K.written sink.new)) }
-    ensures records { AsksFor (map string_bytes words.now) Job.Record → IsCutShort result ⊎ IfSome (S.left source.old) (λ bytes. Answers bytes result) }
+    ensures records { AsksFor (map string_bytes words.now) Job.Record → IsCutShort result ⊎ IfSome (S.left source.old) (λ bytes. AnswersScript bytes result) }
     ensures complete_records { AsksFor (map string_bytes words.now) Job.Record → ¬ (Rose (S.faults source.old) (S.faults source.new)) → ¬ (Rose (K.faults sink.old) (K.faults sink.new))
-        → (result ≡ Status.OutOfMemory) ⊎ IfSome (S.left source.old) (λ bytes. Answers bytes result) }
+        → (result ≡ Status.OutOfMemory) ⊎ IfSome (S.left source.old) (λ bytes. AnswersScript bytes result) }
 {
     match read_words(alloc, words) {
         Ok(Some(Job::Run { budget })) => run_job(alloc, budget, source, sink, kinds),
@@ -158,14 +158,14 @@ pub fn gc_run<S: Source, K: Sink>(
     ensures memory { ¬ AsksFor (map string_bytes words.now) Job.Record → result ≡ Status.OutOfMemory → Keeps (K.written sink.old) (K.written sink.new) }
 
     // Which answer comes: by the words and the bytes alone, but for faults, want of memory and how the run ended.
-    ensures answers { (given : Option ℕ) → AsksFor (map string_bytes words.now) (Job.Run given) → IsCutShort result ⊎ IfSome (S.left source.old) (λ bytes. Answers bytes result) }
+    ensures answers { (given : Option ℕ) → AsksFor (map string_bytes words.now) (Job.Run given) → IsCutShort result ⊎ IfSome (S.left source.old) (λ bytes. AnswersScript bytes result) }
     ensures words { Ask (map string_bytes words.now) → result ≢ Status.BadWords }
     ensures no_job { ¬ (Ask (map string_bytes words.now)) → (result ≡ Status.BadWords) ⊎ (result ≡ Status.WriteFault) ⊎ (result ≡ Status.OutOfMemory) }
     ensures nothing_read { ¬ (Ask (map string_bytes words.now)) → source.new ≡ source.old }
 
     // Where nothing fails, the answer goes by the bytes and by how the run ended, want of memory aside.
     ensures complete { (given : Option ℕ) → AsksFor (map string_bytes words.now) (Job.Run given) → ¬ (Rose (S.faults source.old) (S.faults source.new)) → ¬ (Rose (K.faults sink.old) (K.faults sink.new))
-        → (result ≡ Status.OutOfMemory) ⊎ IfSome (S.left source.old) (λ bytes. Answers bytes result) }
+        → (result ≡ Status.OutOfMemory) ⊎ IfSome (S.left source.old) (λ bytes. AnswersScript bytes result) }
 
     // With words for a large script: what a fault leaves, and which answer comes. The source is not read.
     ensures write_summary { (blocks : ℕ) → AsksFor (map string_bytes words.now) (Job.Generate blocks) → result ≡ Status.WriteFault
@@ -197,9 +197,9 @@ pub fn gc_run<S: Source, K: Sink>(
         → IfSome (S.left source.old) (λ bytes. RecordedFront bytes (K.written sink.old) (K.written sink.new)) }
     ensures memory_records { AsksFor (map string_bytes words.now) Job.Record → result ≡ Status.OutOfMemory → Keeps (K.written sink.old) (K.written sink.new)
         ⊎ IfSome (S.left source.old) (λ bytes. RecordedPart bytes (K.written sink.old) (K.written sink.new)) }
-    ensures records { AsksFor (map string_bytes words.now) Job.Record → IsCutShort result ⊎ IfSome (S.left source.old) (λ bytes. Answers bytes result) }
+    ensures records { AsksFor (map string_bytes words.now) Job.Record → IsCutShort result ⊎ IfSome (S.left source.old) (λ bytes. AnswersScript bytes result) }
     ensures complete_records { AsksFor (map string_bytes words.now) Job.Record → ¬ (Rose (S.faults source.old) (S.faults source.new)) → ¬ (Rose (K.faults sink.old) (K.faults sink.new))
-        → (result ≡ Status.OutOfMemory) ⊎ IfSome (S.left source.old) (λ bytes. Answers bytes result) }
+        → (result ≡ Status.OutOfMemory) ⊎ IfSome (S.left source.old) (λ bytes. AnswersScript bytes result) }
 {
     one_finalizer_each();
     no_dead_lines();

@@ -26,8 +26,8 @@ use Rattle.cg_collect.specs.declared.phase.Phase.TheVariants as phase_of
 use Rattle.cg_collect.specs.declared.phase.Turn.{Turn}
 use Rattle.cg_collect.specs.Numbers.{AreSmall}
 use Rattle.cg_collect.specs.Phases.{collection_of, lines_left}
-use Rattle.cg_collect.specs.Ready.{IsClear, IsReadyAt, HasItsWalk, IsApartUnseen, IsEmptyAt, HasFewCollected, IsBegun}
-use Rattle.cg_collect.specs.Answers.{Shows, Stands, WentOn, CollectSteps}
+use Rattle.cg_collect.specs.Ready.{IsClear, IsReadyForCollectionAt, HasItsWalk, IsApartUnseen, IsEmptyAt, HasFewCollected, IsBegun}
+use Rattle.cg_collect.specs.Answers.{CollectionShows, CollectionStands, WentOn, CollectSteps}
 use Rattle.cg_collect.specs.Stages.{detection_at}
 use Rattle.cg_collect.specs.Turns.{pass_of, collection_at, TurnSteps, StaysReady, TurnLeaves, KeepsObjects}
 use Rattle.cg_collect.specs.Starting.{told_sizes, told_if, told_after_sizes, told_start}
@@ -43,7 +43,7 @@ use Rattle.cg_collect.proofs.Worlds.{steps_at, turn_steps, with_same_rows, repre
 shows_start : (asked : Bool) (facts : Facts) (s b : Bool) (old store : Store) (policy : Policy) (after : World) (below : List Activity)
     → Represents store after → policy.numbers ≡ after.numbers → policy.running ≡ true
     → after.stack ≡ Collecting (collection_of asked (collection_at facts phase_of.Start None) (machine.WeakClearing (list_at store Pend))) ∷ below
-    → Shows asked (collection_at facts (told_start s b old store) None) store policy after below
+    → CollectionShows asked (collection_at facts (told_start s b old store) None) store policy after below
 shows_start asked facts true b old store policy after below r n run top = record { represents = r; numbers = n; running = run; top = top }
 shows_start asked facts false true old store policy after below r n run top = record { represents = r; numbers = n; running = run; top = top }
 shows_start asked facts false false old store policy after below r n run top = record { represents = r; numbers = n; running = run; top = top }
@@ -55,7 +55,7 @@ lines_start : (script : Script) (asked : Bool) (facts : Facts) (s b : Bool) (old
 lines_start script asked facts true b old store sizes is flag = λ i. is i ∷ lines_if (flag i) (map GcCollectable (list_at store Cand))
 lines_start script asked facts false b old store sizes is flag = sym (told_lines script asked facts store b)
 
-ready_start : (g : ℕ) (s b : Bool) (old store : Store) → IsListed store → IsApartUnseen store → IsEmptyAt store Pend → IsReadyAt store g (told_start s b old store)
+ready_start : (g : ℕ) (s b : Bool) (old store : Store) → IsListed store → IsApartUnseen store → IsEmptyAt store Pend → IsReadyForCollectionAt store g (told_start s b old store)
 ready_start g true b old store listed apart pending = (apart, pending)
 ready_start g false b old store listed apart pending = ready_told store listed apart pending g b
 
@@ -131,7 +131,7 @@ module _ (script : Script) (facts : Facts) (s0 s1 s2 s4 s5 s6 : Store) (t : Trac
   abbrev policy_now : Policy
   policy_now = with_numbers (survived g counted policy.numbers) policy
 
-  module _ (asked : Bool) (v : World) (below : List Activity) (s : Stands asked (collection_at facts phase_of.Start None) s0 policy (with_stack (Collecting (collection_of asked (collection_at facts phase_of.Start None) machine.Start) ∷ below) v) below) where
+  module _ (asked : Bool) (v : World) (below : List Activity) (s : CollectionStands asked (collection_at facts phase_of.Start None) s0 policy (with_stack (Collecting (collection_of asked (collection_at facts phase_of.Start None) machine.Start) ∷ below) v) below) where
     abbrev first_one : machine.Collection
     first_one = collection_of asked (collection_at facts phase_of.Start None) machine.Start
 

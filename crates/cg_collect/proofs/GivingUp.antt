@@ -33,10 +33,10 @@ use Rattle.cg_collect.specs.declared.phase.Turn.{Turn}
 use Rattle.cg_collect.specs.declared.phase.Phase.{Phase}
 use Rattle.cg_collect.specs.declared.phase.Phase.TheVariants as phase_of
 use Rattle.cg_collect.specs.Phases.{machine_phase, collecting, released_over, lines_left, store_after}
-use Rattle.cg_collect.specs.Ready.{IsApart, OthersHaveCallbacks, IsReadyAt, HasItsWalk, HasFewCollected, MayGiveUp, GivesUpIn, MayRun, IsBegun, SparesGarbageList}
-use Rattle.cg_collect.specs.Answers.{Shows, CollectAnswer, CollectSteps, numbers_at}
+use Rattle.cg_collect.specs.Ready.{IsHeapApart, OthersHaveCallbacks, IsReadyForCollectionAt, HasItsWalk, HasFewCollected, MayGiveUp, GivesUpIn, MayRun, IsBegun, SparesGarbageList}
+use Rattle.cg_collect.specs.Answers.{CollectionShows, CollectAnswer, CollectSteps, numbers_at}
 use Rattle.cg_collect.specs.Turns.{pass_of, passes_on, TurnSteps, ComesNearer, KeepsObjects, left_in_pass, to_clear, others_cleared}
-use Rattle.cg_collect.specs.Collections.{IsReady, KeepsReady, CollectFalls, GivesUpNext, once_given_up, give_up_answer}
+use Rattle.cg_collect.specs.Collections.{IsReadyForCollection, KeepsReady, CollectFalls, GivesUpNext, once_given_up, give_up_answer}
 use Rattle.cg_collect.specs.Stages.{detection_at, stage_at, LeavesStage}
 use Rattle.cg_collect.proofs.Staging.{leaves_stage}
 use Rattle.cg_collect.proofs.Worlds.{turn_steps}
@@ -99,7 +99,7 @@ module _ (script : Script) (asked : Bool) (c : Collection) (store now : Store) (
 
   -- what it shows then
   shows_at : (r : Option Release) (v : World) → Represents now v → v.numbers ≡ w.numbers
-      → v.stack ≡ released_over r (collecting asked c (machine_phase c.phase (list_at store Pend))) ++ below → Shows asked (record c { release = r }) now policy v below
+      → v.stack ≡ released_over r (collecting asked c (machine_phase c.phase (list_at store Pend))) ++ below → CollectionShows asked (record c { release = r }) now policy v below
   shows_at r v rep numbers_now top = record {
     represents = subst (λ st. Represents st v) (sym (at.heap now)) rep;
     numbers = numbers ∙ sym numbers_now ∙ sym (at.numbers c.generation v.numbers);
@@ -149,7 +149,7 @@ gives_up-steps script policy c store new now answer gives g asked w below s =
     let may = may_give_up c.phase c.release g.before g.had gives in
     let at = gives_up_at c.phase may in
     let under : List Activity = collecting asked c (machine_phase c.phase (list_at store Pend)) ++ below in
-    let stands : Death.Stands store w (Releasing (references_left g.before) ∷ under) = record {
+    let stands : Death.DeathStands store w (Releasing (references_left g.before) ∷ under) = record {
       represents = subst (λ st. Represents st w) (at.heap store) s.shows.represents;
       top = s.shows.top ∙ ap (λ r. released_over r (collecting asked c (machine_phase c.phase (list_at store Pend))) ++ below) g.had;
       running = s.running;
@@ -182,7 +182,7 @@ module _ (refs : List ℕ) (store : Store) where
       known None = refl
       known (Some n) = refl
 
-  apart-unheld : IsApart store → IsApart let_off
+  apart-unheld : IsHeapApart store → IsHeapApart let_off
   apart-unheld apart = record {
     garbage = place_of-unheld 1 ∙ apart.garbage;
     back = apart.back;
@@ -195,7 +195,7 @@ module _ (refs : List ℕ) (store : Store) where
   others-unheld weak have u m differs = let has = have u m differs in (kinds-unheld refs store u Weak has.0, subst IsSome (sym (callback-at let_off u ∙ ap callback_in (entries_of-unheld u) ∙ sym (callback-at store u))) has.1)
 
   -- the phases that give something up are ready as before
-  ready-unheld : (g : ℕ) (p : Phase) → MayGiveUp p → IsReadyAt store g p → IsReadyAt let_off g p
+  ready-unheld : (g : ℕ) (p : Phase) → MayGiveUp p → IsReadyForCollectionAt store g p → IsReadyForCollectionAt let_off g p
   ready-unheld g (phase_of.AfterRelease weak) may r = ((apart-unheld r.0.0, r.0.1), others-unheld weak r.1, r.2)
   ready-unheld g phase_of.Finalizing may r = apart-unheld r
   ready-unheld g (phase_of.Turn o) may r = ((apart-unheld r.0.0, r.0.1), r.1)
@@ -277,7 +277,7 @@ record Lasts (p : Phase) : Type 0 where
   runs : MayRun p
   begun : IsBegun p
   onward : passes_on p ≡ 0
-  spares : (store : Store) (g : ℕ) → IsReadyAt store g p → SparesGarbageList p
+  spares : (store : Store) (g : ℕ) → IsReadyForCollectionAt store g p → SparesGarbageList p
   walk : (profile : ℕ) (store : Store) → HasItsWalk profile store p
 
 lasts_at : (p : Phase) → MayGiveUp p → Lasts p
@@ -305,7 +305,7 @@ lasts_at (phase_of.Over number) may = absurd may
 
 -- all this of a step of a release
 record Unchanged (store now : Store) (p : Phase) : Type 0 where
-  ready : (g : ℕ) → IsReadyAt store g p → IsReadyAt now g p
+  ready : (g : ℕ) → IsReadyForCollectionAt store g p → IsReadyForCollectionAt now g p
   few : (n : ℕ) → HasFewCollected n p store → HasFewCollected n p now
   left : left_in_pass p now ≡ left_in_pass p store
 
@@ -326,7 +326,7 @@ module _ (c : Collection) (store : Store) (new : Collection) (now : Store) (answ
   same = unchanged (references_left g.before) store now c.phase may g.heap
 
   -- the heap is ready for the next step
-  pub gives_up-ready : (script : Script) → IsReady script c store → KeepsReady script new now answer
+  pub gives_up-ready : (script : Script) → IsReadyForCollection script c store → KeepsReady script new now answer
   gives_up-ready script ready = subst (λ (n : Collection). KeepsReady script n now answer) (sym g.collection) (subst (KeepsReady script (once_given_up c g.after (release_answer (references_left g.before) now)) now) (sym g.told) (known (release_answer (references_left g.before) now)))
     where
       known : (a : DeathStep) → KeepsReady script (once_given_up c g.after a) now (give_up_answer a)

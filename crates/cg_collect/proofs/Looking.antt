@@ -42,7 +42,7 @@ use Rattle.cg_collect.specs.declared.answer.CollectStep.TheVariants as answer_of
 use Rattle.cg_collect.specs.declared.collection.Facts.{Facts}
 use Rattle.cg_collect.specs.declared.phase.Phase.TheVariants as phase_of
 use Rattle.cg_collect.specs.Phases.{collection_of}
-use Rattle.cg_collect.specs.Ready.{IsApart, IsApartUnseen, IsUnsaved}
+use Rattle.cg_collect.specs.Ready.{IsHeapApart, IsApartUnseen, IsUnsaved}
 use Rattle.cg_collect.specs.Answers.{CollectSteps}
 use Rattle.cg_collect.specs.Turns.{collection_at}
 use Rattle.cg_collect.proofs.Standing.{stands_at, list_length, entries_on}
@@ -202,7 +202,7 @@ module _ (store : Store) (listed : IsListed store) (o : ℕ) (first : slice_get 
   left = moved_from store listed o condemned.0 Seen seen_place
 
   -- nothing of what is set apart is saved then
-  pub apart_looked : IsApart store → IsApart looked
+  pub apart_looked : IsHeapApart store → IsHeapApart looked
   apart_looked apart = record {
     garbage = garbage-moved store o Cand Seen apart.garbage condemned.1 (λ e. cc);
     back = left Back (λ e. cc) ∙ ap (without_serial o) apart.back;
@@ -284,7 +284,7 @@ module _ (store : Store) (listed : IsListed store) (none : slice_get (list_at st
               go true = refl
               go false = refl
 
-  pub apart_again : IsApart store → IsApartUnseen condemned_again
+  pub apart_again : IsHeapApart store → IsApartUnseen condemned_again
   apart_again apart = (
     record {
       garbage = garbage-merged store Seen Cand refl apart.garbage;

@@ -4,10 +4,10 @@ use Rattle.cg_collect.specs.declared.phase.Phase.{Phase}
 use Rattle.cg_collect.specs.declared.phase.Phase.TheVariants as phase_of
 use Rattle.cg_collect.specs.Turns.{pass_of, passes_on}
 use Rattle.cg_collect.specs.Looks.{most_looks}
-use Rattle.cg_collect.specs.WholeCollections.{Step, AreSteps, looks_after, looks_at_start, looks_at_split, CollectionsLookTwice}
+use Rattle.cg_collect.specs.WholeCollections.{SteppedPhase, AreSteps, looks_after, looks_at_start, looks_at_split, CollectionsLookTwice}
 
 -- Past the second detection no step looks at any.
-past_split : (g : ℕ) (phase : Phase) (looks : ℕ) (steps : List Step) → 7 ≤ pass_of phase → AreSteps g phase looks steps → looks_after looks steps ≤ looks
+past_split : (g : ℕ) (phase : Phase) (looks : ℕ) (steps : List SteppedPhase) → 7 ≤ pass_of phase → AreSteps g phase looks steps → looks_after looks steps ≤ looks
 past_split g phase looks [] late are = omega arith
 past_split g phase looks (step ∷ steps) late are =
     let here : 7 ≤ pass_of step.phase = subst (λ p. 7 ≤ pass_of p) (sym are.0) late in
@@ -22,7 +22,7 @@ past_split g phase looks (step ∷ steps) late are =
     looks_none _ h = refl
 
 -- Past the start only the second detection does.
-past_start : (g : ℕ) (phase : Phase) (looks : ℕ) (steps : List Step) → 1 ≤ pass_of phase → AreSteps g phase looks steps → looks_after looks steps ≤ looks + looks_at_split g steps
+past_start : (g : ℕ) (phase : Phase) (looks : ℕ) (steps : List SteppedPhase) → 1 ≤ pass_of phase → AreSteps g phase looks steps → looks_after looks steps ≤ looks + looks_at_split g steps
 past_start g phase looks [] later are = omega arith
 past_start g phase looks (step ∷ steps) later are =
     by step.phase (subst (λ p. 1 ≤ pass_of p) (sym are.0) later) are.2.looks are.2.onward (λ h. past_start g step.phase_now step.looks_now steps h are.3)

@@ -16,20 +16,20 @@ use Rattle.cg_collect.specs.declared.stage.Stage.{Stage}
 use Rattle.cg_collect.specs.declared.stage.Stage.TheVariants as stage
 use Rattle.cg_collect.specs.Stages.{detection_at, stage_after, stage_at, LeavesStage}
 use Rattle.cg_collect.specs.Ready.{IsBegun}
-use Rattle.cg_collect.specs.Answers.{Shows, Stands, CollectAnswer, CollectSteps}
+use Rattle.cg_collect.specs.Answers.{CollectionShows, CollectionStands, CollectAnswer, CollectSteps}
 use Rattle.cg_collect.specs.Turns.{pass_of, passes_on}
-use Rattle.cg_collect.specs.Collections.{IsReady}
+use Rattle.cg_collect.specs.Collections.{IsReadyForCollection}
 
 -- What a collection has of the world, with another detection.
 module _ (detected : Option Detection) (asked : Bool) (c : Collection) (store : Store) (policy : Policy) (w : World) (below : List Activity) where
-  pub also-shows : Shows asked c store policy w below → Shows asked (record c { detected = detected }) store policy w below
+  pub also-shows : CollectionShows asked c store policy w below → CollectionShows asked (record c { detected = detected }) store policy w below
   also-shows s = record { represents = s.represents; numbers = s.numbers; running = s.running; top = s.top }
 
-  pub also-stands : Stands asked c store policy w below → Stands asked (record c { detected = detected }) store policy w below
+  pub also-stands : CollectionStands asked c store policy w below → CollectionStands asked (record c { detected = detected }) store policy w below
   also-stands s = record { shows = also-shows s.shows; running = s.running; orderly = s.orderly; unheld = s.unheld; once = s.once; alone = s.alone }
 
 -- what a step needs of the heap
-pub also-ready : (detected : Option Detection) (script : Script) (c : Collection) (store : Store) → IsReady script c store → IsReady script (record c { detected = detected }) store
+pub also-ready : (detected : Option Detection) (script : Script) (c : Collection) (store : Store) → IsReadyForCollection script c store → IsReadyForCollection script (record c { detected = detected }) store
 also-ready detected script c store r = record { generation = r.generation; phase = r.phase; walk = r.walk; collected = r.collected; gives_up = r.gives_up }
 
 -- what it answers

@@ -18,7 +18,7 @@ use Rattle.cg_collect.specs.Answers.{CollectSteps}
 use Rattle.cg_collect.specs.Turns.{pass_of, passes_on, collection_at, collection_after, TurnSteps, TurnFalls, TurnLeaves, TurnEnds, StaysReady, HandsOutIn, KeepsObjects}
 use Rattle.cg_collect.specs.Looks.{most_looks}
 use Rattle.cg_collect.specs.Stages.{detection_at, stage_at, LeavesStage}
-use Rattle.cg_collect.specs.Collections.{IsReady, KeepsReady, CollectFalls, DiesUnheld, facts_of, given_up_by, own_holds_at, held_by}
+use Rattle.cg_collect.specs.Collections.{IsReadyForCollection, KeepsReady, CollectFalls, DiesUnheld, facts_of, given_up_by, own_holds_at, held_by}
 use Rattle.cg_collect.proofs.Staging.{also-steps, leaves_stage}
 use Rattle.cg_collect.proofs.GivingUp.{few_at_most}
 
@@ -83,8 +83,8 @@ module _ (old mid : Collection) (store between : Store) (same : mid ≡ old) (he
   stays : (P : Collection → Store → Type 0) → P old store → P mid between
   stays P p = subst (λ (c : Collection). P c between) (sym same) (subst (P old) (sym heap) p)
 
-  pub still_ready : (script : Script) → IsReady script old store → IsReady script mid between
-  still_ready script ready = stays (IsReady script) ready
+  pub still_ready : (script : Script) → IsReadyForCollection script old store → IsReadyForCollection script mid between
+  still_ready script ready = stays (IsReadyForCollection script) ready
 
   pub still_held : HasHolds store (held_by old) → HasHolds between (own_holds_at mid.phase)
   still_held held = stays (λ c st. HasHolds st (own_holds_at c.phase)) (phase_held old store held)
@@ -106,16 +106,16 @@ module _ (old mid : Collection) (store between : Store) (same : mid ≡ old) (he
     Left = TurnLeaves between mid.phase now turn ⊎ TurnEnds mid turn
 
     -- the numbers of a collection that is over
-    over_few : (script : Script) → IsReady script old store → (e : TurnEnds mid turn) → (mid.collected ≤ 2000002) × (e.number ≤ 1000001)
+    over_few : (script : Script) → IsReadyForCollection script old store → (e : TurnEnds mid turn) → (mid.collected ≤ 2000002) × (e.number ≤ 1000001)
     over_few script ready e = subst (λ (p : Phase). HasFewCollected mid.collected p between) e.over (still_ready script ready).collected
 
-    pub turned-few : (script : Script) → IsReady script old store → Left → HasFewCollected (mid.collected + turn.collected) turn.phase now
+    pub turned-few : (script : Script) → IsReadyForCollection script old store → Left → HasFewCollected (mid.collected + turn.collected) turn.phase now
     turned-few script ready (inl leaves) = leaves.few mid.collected (still_ready script ready).collected
     turned-few script ready (inr e) =
         subst (λ (t : Turn). HasFewCollected (mid.collected + t.collected) t.phase now) (sym e.is)
         (let few = over_few script ready e in (omega (arith, few.0), few.1))
 
-    pub turned-fits : (script : Script) → IsReady script old store → Left → mid.collected + turn.collected < 2 ^ 64
+    pub turned-fits : (script : Script) → IsReadyForCollection script old store → Left → mid.collected + turn.collected < 2 ^ 64
     turned-fits script ready left = let few = few_at_most (mid.collected + turn.collected) turn.phase now (turned-few script ready left) in omega (arith, few)
 
     pub turned-begun : Left → IsBegun turn.phase
@@ -137,7 +137,7 @@ module _ (old mid : Collection) (store between : Store) (same : mid ≡ old) (he
     turned-stage is left apart =
         leaves_stage old.phase turn.phase mid.detected (turned-detected is) (turned-begun left) (λ start. apart (ap (λ (c : Collection). c.phase) same ∙ start)) (turned-onward left)
 
-    pub turned-ready : (script : Script) → IsReady script old store → StaysReady now mid.generation turn.phase turn.answer → HasItsWalk (profile_of script.items) now turn.phase → Left → KeepsReady script (turned turn) now turn.answer
+    pub turned-ready : (script : Script) → IsReadyForCollection script old store → StaysReady now mid.generation turn.phase turn.answer → HasItsWalk (profile_of script.items) now turn.phase → Left → KeepsReady script (turned turn) now turn.answer
     turned-ready script ready stays_ready walks (inl leaves) = known turn.answer stays_ready leaves.hands_out
       where
         few : HasFewCollected (mid.collected + turn.collected) turn.phase now

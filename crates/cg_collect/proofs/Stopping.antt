@@ -42,7 +42,7 @@ use Rattle.cg_collect.specs.declared.phase.Phase.TheVariants as phase_of
 use Rattle.cg_collect.specs.Phases.{collection_of, from_on, lines_left, saved_lines, is_saved_at, stop_lines}
 use Rattle.cg_collect.specs.Ready.{IsAt}
 use Rattle.cg_collect.specs.Saving.{with_saved, kept_aside}
-use Rattle.cg_collect.specs.Answers.{Shows, CollectSteps}
+use Rattle.cg_collect.specs.Answers.{CollectionShows, CollectSteps}
 use Rattle.cg_collect.specs.Turns.{collection_at, list_around}
 use Rattle.cg_machine.proofs.Places.{place_at_is, place_is}
 use Rattle.cg_collect.proofs.Standing.{node_of_live, node_there, place_there, live_there, object_there, once_among, same_times, list_has, outside_on}
@@ -97,7 +97,7 @@ at_right None front back h = tt
 at_right (Some o) front back h = Includes-append_right front back o h
 
 -- Calls that tell a line, or none, of the machine's last step.
-module _ (script : Script) (facts : Facts) (a b : Phase) (store : Store) (policy : Policy) (shows : (asked : Bool) (w : World) (below : List Activity) → Shows asked (collection_at facts a None) store policy w below → Shows asked (collection_at facts b None) store policy w below) where
+module _ (script : Script) (facts : Facts) (a b : Phase) (store : Store) (policy : Policy) (shows : (asked : Bool) (w : World) (below : List Activity) → CollectionShows asked (collection_at facts a None) store policy w below → CollectionShows asked (collection_at facts b None) store policy w below) where
   pub tells_line : (event : Event) → ((asked : Bool) → lines_left script asked (collection_at facts a None) a store ≡ event ∷ lines_left script asked (collection_at facts b None) b store)
       → CollectSteps script (collection_at facts a None) store policy (collection_at facts b None) store policy (answer_of.Emit event)
   tells_line event lines asked w below s =
@@ -316,7 +316,7 @@ module _ (script : Script) (facts : Facts) (store : Store) (root : IsLive store 
 
       ends : (phase : Phase) (told : Bool) → has_flag flags uncollectable ≡ told
           → ((asked : Bool) → all_lines asked told ≡ lines_left script asked (collection_at facts phase None) phase ended)
-          → ((asked : Bool) (w : World) (below : List Activity) → Represents ended w → policy.numbers ≡ w.numbers → w.stack ≡ below → Shows asked (collection_at facts phase None) ended idle w below)
+          → ((asked : Bool) (w : World) (below : List Activity) → Represents ended w → policy.numbers ≡ w.numbers → w.stack ≡ below → CollectionShows asked (collection_at facts phase None) ended idle w below)
           → CollectSteps script (collection_at facts phase_of.Ending None) store policy (collection_at facts phase None) ended idle answer_of.Continue
       ends phase told flag lines shows =
           steps_at script (collection_at facts phase_of.Ending None) store policy (collection_at facts phase None) ended idle answer_of.Continue

@@ -26,8 +26,8 @@ use Rattle.cg_collect.specs.declared.phase.Phase.{Phase}
 use Rattle.cg_collect.specs.declared.phase.Phase.TheVariants as phase_of
 use Rattle.cg_collect.specs.declared.phase.Turn.{Turn}
 use Rattle.cg_collect.specs.Phases.{from_on, lines_left}
-use Rattle.cg_collect.specs.Ready.{IsReadyAt, IsApartUnseen, IsEmptyAt, IsAt, HasItsWalk, HasFewCollected, IsBegun}
-use Rattle.cg_collect.specs.Answers.{Shows, CollectSteps}
+use Rattle.cg_collect.specs.Ready.{IsReadyForCollectionAt, IsApartUnseen, IsEmptyAt, IsAt, HasItsWalk, HasFewCollected, IsBegun}
+use Rattle.cg_collect.specs.Answers.{CollectionShows, CollectSteps}
 use Rattle.cg_collect.specs.Turns.{pass_of, passes_on, collection_at, TurnLeaves}
 use Rattle.cg_collect.specs.Starting.{told_weak, told_if}
 use Rattle.cg_collect.proofs.Moving.{walk_passes, comes_next}
@@ -111,10 +111,10 @@ module _ (store : Store) (listed : IsListed store) (apart : IsApartUnseen store)
   nobody_waits : (v : ℕ) → Includes (list_at store Pend) v → ⊥
   nobody_waits v h = subst (λ l. Includes l v) pending h
 
-  pub ready_weak : (g : ℕ) → IsReadyAt store g (told_weak store)
+  pub ready_weak : (g : ℕ) → IsReadyForCollectionAt store g (told_weak store)
   ready_weak g = (apart, λ w h. absurd (nobody_waits w h))
 
-  pub ready_told : (g : ℕ) (b : Bool) → IsReadyAt store g (told_if b store)
+  pub ready_told : (g : ℕ) (b : Bool) → IsReadyForCollectionAt store g (told_if b store)
   ready_told g true = (apart, pending, at_first (list_at store Cand))
   ready_told g false = ready_weak g
 
@@ -154,8 +154,8 @@ module _ (script : Script) (asked : Bool) (facts : Facts) (store : Store) where
   told_lines false = refl
 
   -- phases that tell stand for the same world
-  pub shows_told : (b : Bool) (policy : Policy) (w : World) (below : List Activity) (none one two frozen : ℕ) → Shows asked (collection_at facts (phase_of.Sizes none one two frozen) None) store policy w below
-      → Shows asked (collection_at facts (told_if b store) None) store policy w below
+  pub shows_told : (b : Bool) (policy : Policy) (w : World) (below : List Activity) (none one two frozen : ℕ) → CollectionShows asked (collection_at facts (phase_of.Sizes none one two frozen) None) store policy w below
+      → CollectionShows asked (collection_at facts (told_if b store) None) store policy w below
   shows_told true policy w below none one two frozen s = record { represents = s.represents; numbers = s.numbers; running = s.running; top = s.top }
   shows_told false policy w below none one two frozen s = record { represents = s.represents; numbers = s.numbers; running = s.running; top = s.top }
 

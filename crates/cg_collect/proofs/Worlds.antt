@@ -26,16 +26,16 @@ use Rattle.cg_collect.specs.declared.collection.Facts.{Facts}
 use Rattle.cg_collect.specs.declared.phase.Phase.{Phase}
 use Rattle.cg_collect.specs.declared.phase.Turn.{Turn}
 use Rattle.cg_collect.specs.Phases.{on_stack, lines_left}
-use Rattle.cg_collect.specs.Answers.{Stands, Shows, WentOn, CollectAnswer, CollectSteps}
+use Rattle.cg_collect.specs.Answers.{CollectionStands, CollectionShows, WentOn, CollectAnswer, CollectSteps}
 use Rattle.cg_collect.specs.Turns.{collection_at, TurnSteps}
 
 -- a world is that world with its own stack
-pub spelled : (asked : Bool) (c : Collection) (store : Store) (policy : Policy) (w : World) (below : List Activity) → Stands asked c store policy w below → Stands asked c store policy (with_stack (on_stack asked c store ++ below) w) below
-spelled asked c store policy w below s = subst (λ st. Stands asked c store policy (with_stack st w) below) s.shows.top s
+pub spelled : (asked : Bool) (c : Collection) (store : Store) (policy : Policy) (w : World) (below : List Activity) → CollectionStands asked c store policy w below → CollectionStands asked c store policy (with_stack (on_stack asked c store ++ below) w) below
+spelled asked c store policy w below s = subst (λ st. CollectionStands asked c store policy (with_stack st w) below) s.shows.top s
 
 -- an answer for each world is one for those whose stack is spelled out
 pub steps_at : (script : Script) (old : Collection) (store : Store) (policy : Policy) (new : Collection) (now : Store) (policy_now : Policy) (answer : CollectStep)
-    → ((asked : Bool) (v : World) (below : List Activity) → Stands asked old store policy (with_stack (on_stack asked old store ++ below) v) below
+    → ((asked : Bool) (v : World) (below : List Activity) → CollectionStands asked old store policy (with_stack (on_stack asked old store ++ below) v) below
     → CollectAnswer script asked (with_stack (on_stack asked old store ++ below) v) below (lines_left script asked old old.phase store) new now policy_now answer)
     → CollectSteps script old store policy new now policy_now answer
 steps_at script old store policy new now policy_now answer each asked w below s =
@@ -57,7 +57,7 @@ stays script w = record { steps = []; run = tt; prints = refl; ends = refl; alon
 
 -- A call that tells a line, or none, of the machine's last step, and makes no step.
 pub only_tells : (script : Script) (asked : Bool) (w : World) (below : List Activity) (left told : List Event) (c : Collection) (store : Store) (policy : Policy)
-    → left ≡ told ++ lines_left script asked c c.phase store → Shows asked c store policy w below → WentOn script asked w below left told c store policy
+    → left ≡ told ++ lines_left script asked c c.phase store → CollectionShows asked c store policy w below → WentOn script asked w below left told c store policy
 only_tells script asked w below left told c store policy lines shows = record {
   events = [];
   after = w;

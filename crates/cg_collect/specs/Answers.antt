@@ -25,7 +25,7 @@ numbers_at phase_of.Start generation numbers = begun generation numbers
 numbers_at phase generation numbers = numbers
 
 -- what a collection has of the world, once the lines that are left are told
-pub record Shows (asked : Bool) (c : Collection) (store : Store) (policy : Policy) (w : World) (below : List Activity) : Type 0 where
+pub record CollectionShows (asked : Bool) (c : Collection) (store : Store) (policy : Policy) (w : World) (below : List Activity) : Type 0 where
   pub represents : Represents (store_after c.phase store) w
   pub numbers : policy.numbers ≡ numbers_at c.phase c.generation w.numbers
   pub running : policy.running ≡ is_some (machine_phase c.phase [])
@@ -33,8 +33,8 @@ pub record Shows (asked : Bool) (c : Collection) (store : Store) (policy : Polic
 
 -- Heap and policy stand for a world that runs, with this collection on top. What holds of every run holds there: the world is
 -- orderly, a dying object is held by nothing but its own death, and is dying once; no two collections run.
-pub record Stands (asked : Bool) (c : Collection) (store : Store) (policy : Policy) (w : World) (below : List Activity) : Type 0 where
-  pub shows : Shows asked c store policy w below
+pub record CollectionStands (asked : Bool) (c : Collection) (store : Store) (policy : Policy) (w : World) (below : List Activity) : Type 0 where
+  pub shows : CollectionShows asked c store policy w below
   pub running : w.outcome ≡ Running
   pub orderly : IsOrderly w
   pub unheld : (d : Death) → Includes w.stack (Dying d) → IsHeldInItsFramesAlone d.object d.phase (holdings w)
@@ -42,7 +42,7 @@ pub record Stands (asked : Bool) (c : Collection) (store : Store) (policy : Poli
   pub alone : count_by is_collection below ≡ 0
 
 -- what no step of a collection changes: it starts no frame itself, and ends no run
-pub record Keeps (w after : World) : Type 0 where
+pub record CollectionKeeps (w after : World) : Type 0 where
   pub budget : after.budget ≡ w.budget
   pub outcome : after.outcome ≡ w.outcome
 
@@ -52,22 +52,22 @@ pub record WentOn (script : Script) (asked : Bool) (w : World) (below : List Act
   pub after : World
   pub goes : Goes script w events after
   pub lines : left ++ events ≡ told ++ lines_left script asked c c.phase store
-  pub shows : Shows asked c store policy after below
-  pub keeps : Keeps w after
+  pub shows : CollectionShows asked c store policy after below
+  pub keeps : CollectionKeeps w after
 
 -- It hands out an object whose death is to begin: the step of the machine also begins it.
 pub record GaveDeath (script : Script) (asked : Bool) (w : World) (below : List Activity) (o : ℕ) (c : Collection) (store : Store) (policy : Policy) : Type 0 where
   pub before : World
   pub goes : Goes script w [] (begin_death o before)
-  pub shows : Shows asked c store policy before below
-  pub keeps : Keeps w before
+  pub shows : CollectionShows asked c store policy before below
+  pub keeps : CollectionKeeps w before
 
 -- It hands out a frame: the step of the machine also starts it, or ends the run for want of budget.
 pub record GaveFrame (script : Script) (asked : Bool) (w : World) (below : List Activity) (spec : FrameSpec) (c : Collection) (store : Store) (policy : Policy) : Type 0 where
   pub before : World
   pub goes : Goes script w (start_frame script spec before).0 (start_frame script spec before).1
-  pub shows : Shows asked c store policy before below
-  pub keeps : Keeps w before
+  pub shows : CollectionShows asked c store policy before below
+  pub keeps : CollectionKeeps w before
 
 -- It has ended: nothing of it is on the stack, and the answer to the command that asked for it is the one line left.
 pub record HasFinished (asked : Bool) (w : World) (below : List Activity) (left : List Event) (collected set_aside : ℕ) (store : Store) (policy : Policy) : Type 0 where
@@ -88,5 +88,5 @@ CollectAnswer script asked w below left c store policy (answer_of.Finished colle
 -- The answer is right in every world for which heap and policy stood before the call.
 abbrev pub CollectSteps : Script → Collection → Store → Policy → Collection → Store → Policy → CollectStep → Type 0
 CollectSteps script old store policy new store_now policy_now answer =
-    (asked : Bool) (w : World) (below : List Activity) → Stands asked old store policy w below
+    (asked : Bool) (w : World) (below : List Activity) → CollectionStands asked old store policy w below
     → CollectAnswer script asked w below (lines_left script asked old old.phase store) new store_now policy_now answer

@@ -14,7 +14,7 @@ use Rattle.cg_collect.specs.declared.answer.CollectStep.TheVariants as answer_of
 use Rattle.cg_collect.specs.declared.answer.CollectStep.{CollectStep}
 use Rattle.cg_collect.specs.declared.collection.Collection.{Collection}
 use Rattle.cg_collect.specs.declared.collection.Facts.{Facts}
-use Rattle.cg_collect.specs.Ready.{IsReadyAt, HasItsWalk, SparesGarbageList, HasFewCollected, GivesUpIn, RunsFrame, MayRun}
+use Rattle.cg_collect.specs.Ready.{IsReadyForCollectionAt, HasItsWalk, SparesGarbageList, HasFewCollected, GivesUpIn, RunsFrame, MayRun}
 use Rattle.cg_machine.specs.declared.event.Event.TheVariants.{GcStop}
 use Rattle.cg_collect.specs.declared.phase.Turn.{Turn}
 use Rattle.cg_collect.specs.Turns.{ComesNearer}
@@ -40,9 +40,9 @@ abbrev pub held_by : Collection → List ℕ
 held_by c = given_up_by c.release ++ own_holds_at c.phase
 
 -- What a step needs of the heap, which commands, frames and deaths may have changed since the step before.
-pub record IsReady (script : Script) (c : Collection) (store : Store) : Type 0 where
+pub record IsReadyForCollection (script : Script) (c : Collection) (store : Store) : Type 0 where
   pub generation : c.generation ≤ 2
-  pub phase : IsReadyAt store c.generation c.phase
+  pub phase : IsReadyForCollectionAt store c.generation c.phase
   pub walk : HasItsWalk (profile_of script.items) store c.phase
   pub collected : HasFewCollected c.collected c.phase store
   pub gives_up : GivesUpIn c.phase c.release
@@ -57,10 +57,10 @@ pub record HandsOut (c : Collection) (store : Store) : Type 0 where
   pub spares : SparesGarbageList c.phase
 
 -- After an answer that hands nothing out, the heap is ready for the next step. After a frame or a death it is where its phase is
--- (`IsReadyAt`), which is for the caller to show. A collection that has finished found few.
+-- (`IsReadyForCollectionAt`), which is for the caller to show. A collection that has finished found few.
 abbrev pub KeepsReady : Script → Collection → Store → CollectStep → Type 0
-KeepsReady script c store answer_of.Continue = IsReady script c store
-KeepsReady script c store (answer_of.Emit event) = IsReady script c store
+KeepsReady script c store answer_of.Continue = IsReadyForCollection script c store
+KeepsReady script c store (answer_of.Emit event) = IsReadyForCollection script c store
 KeepsReady script c store (answer_of.Frame spec) = HandsOut c store × RunsFrame c.phase c.release
 KeepsReady script c store (answer_of.Died o) = HandsOut c store × IsSome c.release
 KeepsReady script c store (answer_of.Finished collected set_aside) = (c.generation ≤ 2) × (collected + set_aside ≤ 3000003)
@@ -81,9 +81,9 @@ pub record StopsWith (old new : Collection) (answer : CollectStep) (set_aside : 
   pub collected : new.collected ≡ old.collected
 
 -- It has ended with the two numbers that it kept, each by itself.
-abbrev pub EndsWith : Collection → CollectStep → Type 0
-EndsWith old (answer_of.Finished collected set_aside) = (old.phase ≡ phase_of.Over set_aside) × (old.collected ≡ collected)
-EndsWith old answer = Unit {0}
+abbrev pub CollectionEndsWith : Collection → CollectStep → Type 0
+CollectionEndsWith old (answer_of.Finished collected set_aside) = (old.phase ≡ phase_of.Over set_aside) × (old.collected ≡ collected)
+CollectionEndsWith old answer = Unit {0}
 
 -- A step that went on without an answer reached a later pass, or in the same pass less is left.
 abbrev pub CollectFalls : Collection → Store → Collection → Store → Type 0

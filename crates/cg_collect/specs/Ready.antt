@@ -42,7 +42,7 @@ abbrev pub IsUnsaved : Store → Place → Type 0
 IsUnsaved store p = (o : ℕ) → Includes (list_at store p) o → ¬ Includes (references (entries_of store 1)) o
 
 -- The garbage list is untracked and names nothing that is set apart, and nothing stands between the two detections.
-pub record IsApart (store : Store) : Type 0 where
+pub record IsHeapApart (store : Store) : Type 0 where
   pub garbage : place_of store 1 ≡ Untracked
   pub back : IsEmptyAt store Back
   pub candidates : IsUnsaved store Cand
@@ -51,7 +51,7 @@ pub record IsApart (store : Store) : Type 0 where
 
 -- the same where no condemned object was looked at
 abbrev pub IsApartUnseen : Store → Type 0
-IsApartUnseen store = IsApart store × IsEmptyAt store Seen
+IsApartUnseen store = IsHeapApart store × IsEmptyAt store Seen
 
 -- the next of a walk is one of the list, or the walk is over
 abbrev pub IsAt : Option ℕ → List ℕ → Type 0
@@ -125,28 +125,28 @@ SparesGarbageList (phase_of.AfterTurn o) = IsNotGarbageList o
 SparesGarbageList phase = Unit {0}
 
 -- What a step needs, phase by phase, its own holds aside.
-abbrev pub IsReadyAt : Store → ℕ → Phase → Type 0
-IsReadyAt store g phase_of.Start = IsClear store
-IsReadyAt store g (phase_of.Sizes zero one two frozen) = IsApartUnseen store × IsEmptyAt store Pend
-IsReadyAt store g (phase_of.Telling next) = IsApartUnseen store × IsEmptyAt store Pend × IsAt next (list_at store Cand)
-IsReadyAt store g (phase_of.WeakClearing member weak) = IsApartUnseen store × HaveCallbacks store
-IsReadyAt store g phase_of.WeakCalling = IsApartUnseen store × HaveCallbacks store
-IsReadyAt store g (phase_of.AfterCallback weak) = IsApartUnseen store × HaveCallbacks store × (slice_get (list_at store Pend) 0 ≡ Some weak) × IsNotGarbageList weak
-IsReadyAt store g (phase_of.AfterRelease weak) = IsApartUnseen store × OthersHaveCallbacks store weak × IsNotGarbageList weak
-IsReadyAt store g phase_of.Finalizing = IsApart store
-IsReadyAt store g (phase_of.AfterFinalizing o) = IsApart store
-IsReadyAt store g phase_of.Split = IsApartUnseen store
-IsReadyAt store g (phase_of.Living next) = IsApartUnseen store × IsAt next (list_at store (Gen (older g)))
-IsReadyAt store g (phase_of.Detaching next) = IsApartUnseen store × IsAt next (list_at store Cand) × HasNoneBehind store next
-IsReadyAt store g (phase_of.Unlinking member weak) = IsApartUnseen store × IsMemberWalk store member weak
-IsReadyAt store g phase_of.Turns = IsApartUnseen store
-IsReadyAt store g (phase_of.Turn o) = IsApartUnseen store × IsNotGarbageList o
-IsReadyAt store g (phase_of.AfterTurn o) = IsApartUnseen store × IsNotGarbageList o
-IsReadyAt store g phase_of.Ending = IsApartUnseen store × IsEmptyAt store Cand
-IsReadyAt store g (phase_of.Uncollectable first next number) = IsAt first (list_at store (Gen (older g))) × IsAt next (list_at store (Gen (older g)))
-IsReadyAt store g (phase_of.Saved next number) = IsAt next (list_at store (Gen (older g)))
-IsReadyAt store g (phase_of.Stopping number) = Unit {0}
-IsReadyAt store g (phase_of.Over number) = Unit {0}
+abbrev pub IsReadyForCollectionAt : Store → ℕ → Phase → Type 0
+IsReadyForCollectionAt store g phase_of.Start = IsClear store
+IsReadyForCollectionAt store g (phase_of.Sizes zero one two frozen) = IsApartUnseen store × IsEmptyAt store Pend
+IsReadyForCollectionAt store g (phase_of.Telling next) = IsApartUnseen store × IsEmptyAt store Pend × IsAt next (list_at store Cand)
+IsReadyForCollectionAt store g (phase_of.WeakClearing member weak) = IsApartUnseen store × HaveCallbacks store
+IsReadyForCollectionAt store g phase_of.WeakCalling = IsApartUnseen store × HaveCallbacks store
+IsReadyForCollectionAt store g (phase_of.AfterCallback weak) = IsApartUnseen store × HaveCallbacks store × (slice_get (list_at store Pend) 0 ≡ Some weak) × IsNotGarbageList weak
+IsReadyForCollectionAt store g (phase_of.AfterRelease weak) = IsApartUnseen store × OthersHaveCallbacks store weak × IsNotGarbageList weak
+IsReadyForCollectionAt store g phase_of.Finalizing = IsHeapApart store
+IsReadyForCollectionAt store g (phase_of.AfterFinalizing o) = IsHeapApart store
+IsReadyForCollectionAt store g phase_of.Split = IsApartUnseen store
+IsReadyForCollectionAt store g (phase_of.Living next) = IsApartUnseen store × IsAt next (list_at store (Gen (older g)))
+IsReadyForCollectionAt store g (phase_of.Detaching next) = IsApartUnseen store × IsAt next (list_at store Cand) × HasNoneBehind store next
+IsReadyForCollectionAt store g (phase_of.Unlinking member weak) = IsApartUnseen store × IsMemberWalk store member weak
+IsReadyForCollectionAt store g phase_of.Turns = IsApartUnseen store
+IsReadyForCollectionAt store g (phase_of.Turn o) = IsApartUnseen store × IsNotGarbageList o
+IsReadyForCollectionAt store g (phase_of.AfterTurn o) = IsApartUnseen store × IsNotGarbageList o
+IsReadyForCollectionAt store g phase_of.Ending = IsApartUnseen store × IsEmptyAt store Cand
+IsReadyForCollectionAt store g (phase_of.Uncollectable first next number) = IsAt first (list_at store (Gen (older g))) × IsAt next (list_at store (Gen (older g)))
+IsReadyForCollectionAt store g (phase_of.Saved next number) = IsAt next (list_at store (Gen (older g)))
+IsReadyForCollectionAt store g (phase_of.Stopping number) = Unit {0}
+IsReadyForCollectionAt store g (phase_of.Over number) = Unit {0}
 
 -- The number of collected objects is small: it grows by one for each weak reference that waits and dies, and by the final
 -- set, and no list of a heap is longer than a million and one. So is the number of those that were set aside.

@@ -17,7 +17,7 @@ use Rattle.cg_collect.specs.declared.phase.Turn.{Turn}
 use Rattle.cg_collect.specs.declared.collection.Facts.{Facts}
 use Rattle.cg_collect.specs.declared.collection.Collection.{Collection}
 use Rattle.cg_collect.specs.Phases.{from_on}
-use Rattle.cg_collect.specs.Ready.{IsReadyAt, SparesGarbageList, to_look_at, HasFewCollected, GivesUpIn, RunsFrame, IsBegun}
+use Rattle.cg_collect.specs.Ready.{IsReadyForCollectionAt, SparesGarbageList, to_look_at, HasFewCollected, GivesUpIn, RunsFrame, IsBegun}
 use Rattle.cg_collect.specs.Answers.{CollectSteps}
 
 -- a collection with these facts, at a phase, which gives up this first; whether its last step detected is seen in no answer
@@ -35,8 +35,8 @@ TurnSteps script facts phase store policy store_now policy_now turn =
 
 -- After an answer that hands nothing out, the heap is ready for the next step.
 abbrev pub StaysReady : Store → ℕ → Phase → CollectStep → Type 0
-StaysReady store generation phase answer_of.Continue = IsReadyAt store generation phase
-StaysReady store generation phase (answer_of.Emit event) = IsReadyAt store generation phase
+StaysReady store generation phase answer_of.Continue = IsReadyForCollectionAt store generation phase
+StaysReady store generation phase (answer_of.Emit event) = IsReadyForCollectionAt store generation phase
 StaysReady store generation phase answer = Unit {0}
 
 -- the passes of a collection, in order

@@ -7,7 +7,7 @@ use Rattle.cg_collect.specs.Turns.{pass_of, passes_on}
 use Rattle.cg_collect.specs.Looks.{most_looks}
 
 -- a step: the heap and the phase that it found, the phase that it left, and the counter before and after
-pub record Step : Type 0 where
+pub record SteppedPhase : Type 0 where
   pub store : Store
   pub phase : Phase
   pub phase_now : Phase
@@ -15,30 +15,30 @@ pub record Step : Type 0 where
   pub looks_now : ℕ
 
 -- what `Collection::step` says of it, in a collection of generation g: the clauses `looks` and `onward`
-pub record IsStep (g : ℕ) (step : Step) : Type 0 where
+pub record IsStep (g : ℕ) (step : SteppedPhase) : Type 0 where
   pub looks : step.looks_now ≤ step.looks + most_looks g step.phase step.store
   pub onward : pass_of step.phase + passes_on step.phase ≤ pass_of step.phase_now
 
 -- Steps one after the other, from a phase and a counter on. What runs between two of them may change the heap, and leaves the
 -- collection's phase and its counter.
-abbrev pub AreSteps : ℕ → Phase → ℕ → List Step → Type 0
+abbrev pub AreSteps : ℕ → Phase → ℕ → List SteppedPhase → Type 0
 AreSteps g phase looks [] = Unit {0}
 AreSteps g phase looks (step ∷ steps) = (step.phase ≡ phase) × (step.looks ≡ looks) × IsStep g step × AreSteps g step.phase_now step.looks_now steps
 
 -- the counter after them
-abbrev pub looks_after : ℕ → List Step → ℕ
+abbrev pub looks_after : ℕ → List SteppedPhase → ℕ
 looks_after looks [] = looks
 looks_after looks (step ∷ steps) = looks_after step.looks_now steps
 
 -- what the first step at the start may look at, and what the first second detection may; nothing where there is none
-abbrev pub looks_at_start : ℕ → List Step → ℕ
+abbrev pub looks_at_start : ℕ → List SteppedPhase → ℕ
 looks_at_start g [] = 0
 looks_at_start g (step ∷ steps) = elim step.phase [ phase_of.Start ↦ most_looks g phase_of.Start step.store | _ ↦ looks_at_start g steps ]
 
-abbrev pub looks_at_split : ℕ → List Step → ℕ
+abbrev pub looks_at_split : ℕ → List SteppedPhase → ℕ
 looks_at_split g [] = 0
 looks_at_split g (step ∷ steps) = elim step.phase [ phase_of.Split ↦ most_looks g phase_of.Split step.store | _ ↦ looks_at_split g steps ]
 
 -- A collection looks at no more than these two, each of which goes over its entries twice.
 abbrev pub CollectionsLookTwice : Type 0
-CollectionsLookTwice = (g : ℕ) (phase : Phase) (looks : ℕ) (steps : List Step) → AreSteps g phase looks steps → looks_after looks steps ≤ looks + looks_at_start g steps + looks_at_split g steps
+CollectionsLookTwice = (g : ℕ) (phase : Phase) (looks : ℕ) (steps : List SteppedPhase) → AreSteps g phase looks steps → looks_after looks steps ≤ looks + looks_at_start g steps + looks_at_split g steps

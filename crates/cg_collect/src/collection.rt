@@ -13,13 +13,13 @@ ghost use Rattle.cg_death.specs.Steady.{KeepsNames};
 ghost use Rattle.cg_collect.specs.declared.answer.CollectStep.TheVariants as answer_of;
 ghost use Rattle.cg_collect.specs.declared.phase.Phase.TheVariants as phase_of;
 ghost use Rattle.cg_collect.specs.Numbers.{AreSmall};
-ghost use Rattle.cg_collect.specs.Ready.{IsClear, IsReadyAt, HasItsWalk, IsBegun};
+ghost use Rattle.cg_collect.specs.Ready.{IsClear, IsReadyForCollectionAt, HasItsWalk, IsBegun};
 ghost use Rattle.cg_collect.specs.Turns.{pass_of, passes_on, TurnSteps, TurnFalls, TurnLeaves, TurnEnds, StaysReady, KeepsObjects};
 ghost use Rattle.cg_collect.specs.Looks.{most_looks};
-ghost use Rattle.cg_collect.specs.Answers.{CollectSteps, Shows};
+ghost use Rattle.cg_collect.specs.Answers.{CollectSteps, CollectionShows};
 ghost use Rattle.cg_collect.specs.Stages.{stage_of, detection_at, LeavesStage};
 ghost use Rattle.cg_collect.specs.declared.stage.Stage.TheVariants as stage;
-ghost use Rattle.cg_collect.specs.Collections.{IsReady, KeepsReady, CollectFalls, DiesUnheld, EndsWith, GivesUpNext, StopsWith, stop_turn, held_by, given_up_by, own_holds_at, facts_of};
+ghost use Rattle.cg_collect.specs.Collections.{IsReadyForCollection, KeepsReady, CollectFalls, DiesUnheld, CollectionEndsWith, GivesUpNext, StopsWith, stop_turn, held_by, given_up_by, own_holds_at, facts_of};
 
 use crate::answer::CollectStep;
 use crate::detection::{detach_one, detect, tell_living, unlink_one};
@@ -71,8 +71,8 @@ impl Collection {
         ensures heap { heap.new ≡ heap.old }
         ensures policy { policy.new ≡ record { numbers = begun generation policy.old.numbers; running = true } }
         ensures begins { (asked : Bool) (w : World) → Represents heap.old w → policy.old.numbers ≡ w.numbers
-            → Shows asked result heap.new policy.new (push (new_collection generation asked w) w) w.stack }
-        ensures ready { (script : AnyScript) → IsReady script result heap.new }
+            → CollectionShows asked result heap.new policy.new (push (new_collection generation asked w) w) w.stack }
+        ensures ready { (script : AnyScript) → IsReadyForCollection script result heap.new }
         ensures stage { stage_of result ≡ stage.BeforeFirst }
     {
         let flags = policy.flags();
@@ -121,7 +121,7 @@ impl Collection {
     ) -> CollectStep
         requires few { HasFewHolds heap.old }
         requires held { HasHolds heap.old (held_by self.old) }
-        requires ready { IsReady script.now self.old heap.old }
+        requires ready { IsReadyForCollection script.now self.old heap.old }
         requires bounded { AreSmall policy.old.numbers }
         ensures steps { CollectSteps script.now self.old heap.old policy.old self.new heap.new policy.new result }
         ensures ready { KeepsReady script.now self.new heap.new result }
@@ -131,7 +131,7 @@ impl Collection {
         // At its end it tells two numbers, what was collected and what was set aside, and answers with both.
         ensures stops { (set_aside : ℕ) → self.old.phase ≡ phase_of.Stopping set_aside → self.old.release ≡ None
             → StopsWith self.old self.new result set_aside }
-        ensures ends { EndsWith self.old result }
+        ensures ends { CollectionEndsWith self.old result }
 
         // What it leaves besides, whatever it answers.
         ensures generation { self.new.generation ≡ self.old.generation }
@@ -184,7 +184,7 @@ impl Collection {
         steps: &mut Steps<L>,
     ) -> Turn
         requires generation { self.now.generation ≤ 2 }
-        requires ready { IsReadyAt heap.old self.now.generation self.now.phase }
+        requires ready { IsReadyForCollectionAt heap.old self.now.generation self.now.phase }
         requires walk { HasItsWalk (profile_of script.now.items) heap.old self.now.phase }
         requires few { HasFewHolds heap.old }
         requires held { HasHolds heap.old (own_holds_at self.now.phase) }

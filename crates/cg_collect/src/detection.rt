@@ -9,7 +9,7 @@ ghost use Rattle.cg_script.specs.declared.Script.{Script as AnyScript};
 ghost use Rattle.cg_policy.specs.Policy.{Policy as Standing};
 ghost use Rattle.cg_collect.specs.declared.collection.Facts.{Facts as AnyFacts};
 ghost use Rattle.cg_collect.specs.declared.phase.Phase.TheVariants as phase_of;
-ghost use Rattle.cg_collect.specs.Ready.{IsReadyAt};
+ghost use Rattle.cg_collect.specs.Ready.{IsReadyForCollectionAt};
 ghost use Rattle.cg_collect.specs.Turns.{TurnSteps, TurnFalls, TurnLeaves, StaysReady, KeepsObjects};
 ghost use Rattle.cg_collect.specs.Looks.{most_looks};
 
@@ -26,7 +26,7 @@ use std::sync::ledger::Ledger;
 /// Survivors go to the older generation; the rest is the final set, whose size is added to the collected number.
 pub fn detect<B: Kind, L: Ledger>(facts: Facts, heap: &mut Heap<B>, steps: &mut Steps<L>) -> Turn
     requires generation { facts.generation ≤ 2 }
-    requires ready { IsReadyAt heap.old facts.generation phase_of.Split }
+    requires ready { IsReadyForCollectionAt heap.old facts.generation phase_of.Split }
     ensures steps { (script : AnyScript) (policy : Standing) → TurnSteps script facts phase_of.Split heap.old policy heap.new policy result }
     ensures ready { StaysReady heap.new facts.generation result.phase result.answer }
     ensures falls { TurnFalls heap.old phase_of.Split heap.new result }
@@ -50,7 +50,7 @@ pub fn detect<B: Kind, L: Ledger>(facts: Facts, heap: &mut Heap<B>, steps: &mut 
 /// Tells the next survivor; then weak references to the final set lose it.
 pub fn tell_living<B: Kind>(facts: Facts, heap: &Heap<B>, next: Option<u64>) -> Turn
     requires generation { facts.generation ≤ 2 }
-    requires ready { IsReadyAt heap.now facts.generation (phase_of.Living next) }
+    requires ready { IsReadyForCollectionAt heap.now facts.generation (phase_of.Living next) }
     ensures steps { (script : AnyScript) (policy : Standing) → TurnSteps script facts (phase_of.Living next) heap.now policy heap.now policy result }
     ensures ready { StaysReady heap.now facts.generation result.phase result.answer }
     ensures falls { TurnFalls heap.now (phase_of.Living next) heap.now result }
@@ -66,7 +66,7 @@ pub fn tell_living<B: Kind>(facts: Facts, heap: &Heap<B>, next: Option<u64>) -> 
 /// The newest weak reference to a member of the final set loses it, without callback; when none to it is left, those to
 /// the next member follow. When none to a member is left, members lose their own referents.
 pub fn detach_one<B: Kind>(heap: &mut Heap<B>, next: Option<u64>) -> Turn
-    requires ready { IsReadyAt heap.old 0 (phase_of.Detaching next) }
+    requires ready { IsReadyForCollectionAt heap.old 0 (phase_of.Detaching next) }
     ensures steps { (script : AnyScript) (facts : AnyFacts) (policy : Standing) → TurnSteps script facts (phase_of.Detaching next) heap.old policy heap.new policy result }
     ensures ready { (g : ℕ) → StaysReady heap.new g result.phase result.answer }
     ensures falls { TurnFalls heap.old (phase_of.Detaching next) heap.new result }
@@ -94,7 +94,7 @@ pub fn detach_one<B: Kind>(heap: &mut Heap<B>, next: Option<u64>) -> Turn
 /// For each member that has a referent all weak references to it are looked at, from the newest on, and the members among
 /// them lose it. So each list is gone through once.
 pub fn unlink_one<B: Kind>(heap: &mut Heap<B>, member: Option<u64>, weak: Option<u64>) -> Turn
-    requires ready { IsReadyAt heap.old 0 (phase_of.Unlinking member weak) }
+    requires ready { IsReadyForCollectionAt heap.old 0 (phase_of.Unlinking member weak) }
     ensures steps { (script : AnyScript) (facts : AnyFacts) (policy : Standing) → TurnSteps script facts (phase_of.Unlinking member weak) heap.old policy heap.new policy result }
     ensures ready { (g : ℕ) → StaysReady heap.new g result.phase result.answer }
     ensures falls { TurnFalls heap.old (phase_of.Unlinking member weak) heap.new result }
@@ -109,7 +109,7 @@ pub fn unlink_one<B: Kind>(heap: &mut Heap<B>, member: Option<u64>, weak: Option
 
 /// A weak reference that is a member loses its referent, without callback.
 fn look_at<B: Kind>(heap: &mut Heap<B>, member: Option<u64>, weak: u64) -> Turn
-    requires ready { IsReadyAt heap.old 0 (phase_of.Unlinking member (Some weak)) }
+    requires ready { IsReadyForCollectionAt heap.old 0 (phase_of.Unlinking member (Some weak)) }
     ensures steps { (script : AnyScript) (facts : AnyFacts) (policy : Standing) → TurnSteps script facts (phase_of.Unlinking member (Some weak)) heap.old policy heap.new policy result }
     ensures ready { (g : ℕ) → StaysReady heap.new g result.phase result.answer }
     ensures falls { TurnFalls heap.old (phase_of.Unlinking member (Some weak)) heap.new result }
@@ -143,7 +143,7 @@ fn is_member<B: Kind>(heap: &Heap<B>, object: u64) -> bool
 
 /// The weak references to the referent of the next member are looked at; when all members were, they have their turns.
 fn next_member<B: Kind>(heap: &mut Heap<B>, member: Option<u64>) -> Turn
-    requires ready { IsReadyAt heap.old 0 (phase_of.Unlinking member None) }
+    requires ready { IsReadyForCollectionAt heap.old 0 (phase_of.Unlinking member None) }
     ensures steps { (script : AnyScript) (facts : AnyFacts) (policy : Standing) → TurnSteps script facts (phase_of.Unlinking member None) heap.old policy heap.new policy result }
     ensures ready { (g : ℕ) → StaysReady heap.new g result.phase result.answer }
     ensures falls { TurnFalls heap.old (phase_of.Unlinking member None) heap.new result }

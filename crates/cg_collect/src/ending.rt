@@ -9,7 +9,7 @@ ghost use Rattle.cg_collect.specs.Saving.{with_saved, kept_aside};
 ghost use Rattle.cg_collect.specs.declared.collection.Facts.{Facts as AnyFacts};
 ghost use Rattle.cg_collect.specs.declared.phase.Phase.TheVariants as phase_of;
 ghost use Rattle.cg_collect.specs.Collections.{stop_turn};
-ghost use Rattle.cg_collect.specs.Ready.{IsReadyAt};
+ghost use Rattle.cg_collect.specs.Ready.{IsReadyForCollectionAt};
 ghost use Rattle.cg_collect.specs.Turns.{TurnSteps, TurnFalls, TurnLeaves, StaysReady, KeepsObjects};
 
 use crate::collection::Facts;
@@ -26,7 +26,7 @@ use cg_value::Place;
 /// What was set aside is saved where it is to be, and goes to the older generation. No collection runs any more.
 pub fn end<B: Kind>(facts: Facts, heap: &mut Heap<B>, policy: &mut Policy, script: &Script) -> Turn
     requires generation { facts.generation ≤ 2 }
-    requires ready { IsReadyAt heap.old facts.generation phase_of.Ending }
+    requires ready { IsReadyForCollectionAt heap.old facts.generation phase_of.Ending }
     ensures steps { TurnSteps script.now facts phase_of.Ending heap.old policy.old heap.new policy.new result }
     ensures ready { StaysReady heap.new facts.generation result.phase result.answer }
     ensures falls { TurnFalls heap.old phase_of.Ending heap.new result }
@@ -57,7 +57,7 @@ pub fn end<B: Kind>(facts: Facts, heap: &mut Heap<B>, policy: &mut Policy, scrip
 
 /// The objects that were set aside are saved, if they are to be.
 fn save_legacy<B: Kind>(facts: Facts, heap: &mut Heap<B>, script: &Script)
-    requires { IsReadyAt heap.old facts.generation phase_of.Ending }
+    requires { IsReadyForCollectionAt heap.old facts.generation phase_of.Ending }
     ensures { heap.new ≡ with_saved (kept_aside script.now (bits_of facts.flags) heap.old) heap.old }
 {
     heap.sound();
@@ -90,7 +90,7 @@ pub fn tell_uncollectable<B: Kind>(
     number: u64,
 ) -> Turn
     requires generation { facts.generation ≤ 2 }
-    requires ready { IsReadyAt heap.now facts.generation (phase_of.Uncollectable first next number) }
+    requires ready { IsReadyForCollectionAt heap.now facts.generation (phase_of.Uncollectable first next number) }
     ensures steps { (script : AnyScript) (policy : Standing) → TurnSteps script facts (phase_of.Uncollectable first next number) heap.now policy heap.now policy result }
     ensures ready { StaysReady heap.now facts.generation result.phase result.answer }
     ensures falls { TurnFalls heap.now (phase_of.Uncollectable first next number) heap.now result }
@@ -122,7 +122,7 @@ pub fn tell_saved<B: Kind>(
     number: u64,
 ) -> Turn
     requires generation { facts.generation ≤ 2 }
-    requires ready { IsReadyAt heap.now facts.generation (phase_of.Saved next number) }
+    requires ready { IsReadyForCollectionAt heap.now facts.generation (phase_of.Saved next number) }
     ensures steps { (policy : Standing) → TurnSteps script.now facts (phase_of.Saved next number) heap.now policy heap.now policy result }
     ensures ready { StaysReady heap.now facts.generation result.phase result.answer }
     ensures falls { TurnFalls heap.now (phase_of.Saved next number) heap.now result }

@@ -11,7 +11,7 @@ ghost use Rattle.cg_machine.specs.declared.event.FrameSort.TheVariants as sort_o
 ghost use Rattle.cg_collect.specs.declared.answer.CollectStep.TheVariants as answer_of;
 ghost use Rattle.cg_collect.specs.declared.collection.Facts.{Facts as AnyFacts};
 ghost use Rattle.cg_collect.specs.declared.phase.Phase.TheVariants as phase_of;
-ghost use Rattle.cg_collect.specs.Ready.{IsReadyAt};
+ghost use Rattle.cg_collect.specs.Ready.{IsReadyForCollectionAt};
 ghost use Rattle.cg_collect.specs.Turns.{TurnSteps, TurnFalls, TurnLeaves, StaysReady, KeepsObjects};
 
 use crate::phase::{Phase, Turn};
@@ -24,7 +24,7 @@ use cg_value::Place;
 
 /// Looks at a condemned object, if one is left; then all are condemned as before, and the second detection follows.
 pub fn look_at_one<B: Kind>(heap: &mut Heap<B>, script: &Script) -> Turn
-    requires ready { IsReadyAt heap.old 0 phase_of.Finalizing }
+    requires ready { IsReadyForCollectionAt heap.old 0 phase_of.Finalizing }
     requires few { HasFewHolds heap.old }
     ensures steps { (facts : AnyFacts) (policy : Standing) → TurnSteps script.now facts phase_of.Finalizing heap.old policy heap.new policy result }
     ensures ready { (g : ℕ) → StaysReady heap.new g result.phase result.answer }
@@ -44,7 +44,7 @@ pub fn look_at_one<B: Kind>(heap: &mut Heap<B>, script: &Script) -> Turn
 
 /// Its finalizer runs, if it has not.
 fn look_at<B: Kind>(heap: &mut Heap<B>, script: &Script, object: u64) -> Turn
-    requires ready { IsReadyAt heap.old 0 phase_of.Finalizing }
+    requires ready { IsReadyForCollectionAt heap.old 0 phase_of.Finalizing }
     requires few { HasFewHolds heap.old }
     requires first { slice_get (list_at heap.old place_of.Cand) 0 ≡ Some object }
     ensures steps { (facts : AnyFacts) (policy : Standing) → TurnSteps script.now facts phase_of.Finalizing heap.old policy heap.new policy result }
@@ -85,7 +85,7 @@ fn run<B: Kind>(heap: &mut Heap<B>, object: u64, proc: u32) -> Turn
 /// The frame of a finalizer has ended: the object is given up.
 pub fn after_finalizer(object: u64) -> Turn
     ensures steps { (script : AnyScript) (facts : AnyFacts) (store : Store) (policy : Standing) → TurnSteps script facts (phase_of.AfterFinalizing object) store policy store policy result }
-    ensures ready { (store : Store) (g : ℕ) → IsReadyAt store g (phase_of.AfterFinalizing object) → StaysReady store g result.phase result.answer }
+    ensures ready { (store : Store) (g : ℕ) → IsReadyForCollectionAt store g (phase_of.AfterFinalizing object) → StaysReady store g result.phase result.answer }
     ensures falls { (store : Store) → TurnFalls store (phase_of.AfterFinalizing object) store result }
     ensures leaves { (store : Store) → TurnLeaves store (phase_of.AfterFinalizing object) store result }
 {

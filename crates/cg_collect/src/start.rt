@@ -8,7 +8,7 @@ ghost use Rattle.cg_heap.specs.Calls.{HasFewHolds};
 ghost use Rattle.cg_collect.specs.Numbers.{AreSmall};
 ghost use Rattle.cg_collect.specs.declared.collection.Facts.{Facts as AnyFacts};
 ghost use Rattle.cg_collect.specs.declared.phase.Phase.TheVariants as phase_of;
-ghost use Rattle.cg_collect.specs.Ready.{IsReadyAt, HasItsWalk};
+ghost use Rattle.cg_collect.specs.Ready.{IsReadyForCollectionAt, HasItsWalk};
 ghost use Rattle.cg_collect.specs.Starting.{MergesYounger, GetOlder, told_sizes, told_weak, told_after_sizes};
 ghost use Rattle.cg_collect.specs.Turns.{TurnSteps, TurnFalls, TurnLeaves, StaysReady, KeepsObjects};
 ghost use Rattle.cg_collect.specs.Looks.{most_looks};
@@ -39,7 +39,7 @@ pub fn start<B: Kind, L: Ledger>(
     steps: &mut Steps<L>,
 ) -> Turn
     requires generation { facts.generation ≤ 2 }
-    requires ready { IsReadyAt heap.old facts.generation phase_of.Start }
+    requires ready { IsReadyForCollectionAt heap.old facts.generation phase_of.Start }
     requires few { HasFewHolds heap.old }
     requires bounded { AreSmall policy.old.numbers }
     ensures steps { TurnSteps script.now facts phase_of.Start heap.old policy.old heap.new policy.new result }
@@ -152,7 +152,7 @@ pub fn tell_sizes<B: Kind>(
     frozen: u64,
 ) -> Turn
     requires generation { facts.generation ≤ 2 }
-    requires ready { IsReadyAt heap.now facts.generation (phase_of.Sizes zero one two frozen) }
+    requires ready { IsReadyForCollectionAt heap.now facts.generation (phase_of.Sizes zero one two frozen) }
     ensures steps { (script : AnyScript) (policy : Standing) → TurnSteps script facts (phase_of.Sizes zero one two frozen) heap.now policy heap.now policy result }
     ensures ready { StaysReady heap.now facts.generation result.phase result.answer }
     ensures walk { (profile : ℕ) → HasItsWalk profile heap.now result.phase }
@@ -171,7 +171,7 @@ pub fn tell_sizes<B: Kind>(
 
 /// Tells the next condemned object.
 pub fn tell_condemned<B: Kind>(heap: &Heap<B>, next: Option<u64>) -> Turn
-    requires ready { IsReadyAt heap.now 0 (phase_of.Telling next) }
+    requires ready { IsReadyForCollectionAt heap.now 0 (phase_of.Telling next) }
     ensures steps { (script : AnyScript) (facts : AnyFacts) (policy : Standing) → TurnSteps script facts (phase_of.Telling next) heap.now policy heap.now policy result }
     ensures ready { (g : ℕ) → StaysReady heap.now g result.phase result.answer }
     ensures walk { (profile : ℕ) → HasItsWalk profile heap.now result.phase }

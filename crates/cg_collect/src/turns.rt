@@ -8,7 +8,7 @@ ghost use Rattle.cg_graph.specs.Store.{outside_of, list_at};
 ghost use Rattle.cg_heap.specs.Calls.{HasFewHolds};
 ghost use Rattle.cg_collect.specs.declared.collection.Facts.{Facts as AnyFacts};
 ghost use Rattle.cg_collect.specs.declared.phase.Phase.TheVariants as phase_of;
-ghost use Rattle.cg_collect.specs.Ready.{IsReadyAt};
+ghost use Rattle.cg_collect.specs.Ready.{IsReadyForCollectionAt};
 ghost use Rattle.cg_collect.specs.Turns.{TurnSteps, TurnFalls, TurnLeaves, StaysReady, KeepsObjects};
 
 use crate::collection::Facts;
@@ -24,7 +24,7 @@ use cg_value::{KindCode, Place};
 /// The next member has its turn; when all had theirs, the end follows.
 pub fn take_turn<B: Kind>(facts: Facts, heap: &mut Heap<B>) -> Turn
     requires generation { facts.generation ≤ 2 }
-    requires ready { IsReadyAt heap.old facts.generation phase_of.Turns }
+    requires ready { IsReadyForCollectionAt heap.old facts.generation phase_of.Turns }
     requires few { HasFewHolds heap.old }
     ensures steps { (script : AnyScript) (policy : Standing) → TurnSteps script facts phase_of.Turns heap.old policy heap.new policy result }
     ensures ready { StaysReady heap.new facts.generation result.phase result.answer }
@@ -42,7 +42,7 @@ pub fn take_turn<B: Kind>(facts: Facts, heap: &mut Heap<B>) -> Turn
 /// With SAVEALL it is saved. A tuple cannot be cleared. Another is held, to be emptied.
 fn begin_turn<B: Kind>(facts: Facts, heap: &mut Heap<B>, object: u64) -> Turn
     requires generation { facts.generation ≤ 2 }
-    requires ready { IsReadyAt heap.old facts.generation phase_of.Turns }
+    requires ready { IsReadyForCollectionAt heap.old facts.generation phase_of.Turns }
     requires few { HasFewHolds heap.old }
     requires first { slice_get (list_at heap.old place_of.Cand) 0 ≡ Some object }
     ensures steps { (script : AnyScript) (policy : Standing) → TurnSteps script facts phase_of.Turns heap.old policy heap.new policy result }
@@ -72,7 +72,7 @@ fn begin_turn<B: Kind>(facts: Facts, heap: &mut Heap<B>, object: u64) -> Turn
 
 /// Its last entry is taken out, to be given up; when none is left, it is given up itself.
 pub fn empty_one<B: Kind>(heap: &mut Heap<B>, object: u64) -> Turn
-    requires ready { IsReadyAt heap.old 0 (phase_of.Turn object) }
+    requires ready { IsReadyForCollectionAt heap.old 0 (phase_of.Turn object) }
     requires few { HasFewHolds heap.old }
     requires held { 0 < outside_of heap.old object }
     ensures steps { (script : AnyScript) (facts : AnyFacts) (policy : Standing) → TurnSteps script facts (phase_of.Turn object) heap.old policy heap.new policy result }
@@ -91,7 +91,7 @@ pub fn empty_one<B: Kind>(heap: &mut Heap<B>, object: u64) -> Turn
 /// One that lives after its turn gets older.
 pub fn after_turn<B: Kind>(facts: Facts, heap: &mut Heap<B>, object: u64) -> Turn
     requires generation { facts.generation ≤ 2 }
-    requires ready { IsReadyAt heap.old facts.generation (phase_of.AfterTurn object) }
+    requires ready { IsReadyForCollectionAt heap.old facts.generation (phase_of.AfterTurn object) }
     ensures steps { (script : AnyScript) (policy : Standing) → TurnSteps script facts (phase_of.AfterTurn object) heap.old policy heap.new policy result }
     ensures ready { StaysReady heap.new facts.generation result.phase result.answer }
     ensures falls { TurnFalls heap.old (phase_of.AfterTurn object) heap.new result }

@@ -16,7 +16,7 @@ ghost use Rattle.cg_machine.specs.Program.{profile_of};
 ghost use Rattle.cg_machine.specs.Collect.{is_condemned_in, waits};
 ghost use Rattle.cg_collect.specs.declared.collection.Facts.{Facts as AnyFacts};
 ghost use Rattle.cg_collect.specs.declared.phase.Phase.TheVariants as phase_of;
-ghost use Rattle.cg_collect.specs.Ready.{IsReadyAt, IsWalk, HasItsWalk, loses_at, looked_at_for};
+ghost use Rattle.cg_collect.specs.Ready.{IsReadyForCollectionAt, IsWalk, HasItsWalk, loses_at, looked_at_for};
 ghost use Rattle.cg_collect.specs.Turns.{TurnSteps, TurnFalls, TurnLeaves, StaysReady, KeepsObjects};
 
 use crate::answer::CollectStep;
@@ -38,7 +38,7 @@ pub fn clear_one<B: Kind>(
     member: Option<u64>,
     weak: Option<u64>,
 ) -> Turn
-    requires ready { IsReadyAt heap.old 0 (phase_of.WeakClearing member weak) }
+    requires ready { IsReadyForCollectionAt heap.old 0 (phase_of.WeakClearing member weak) }
     requires walk { IsWalk profile heap.old member weak }
     requires few { HasFewHolds heap.old }
     ensures steps { (script : AnyScript) → profile_of script.items ≡ profile → (facts : AnyFacts) (policy : Standing) → TurnSteps script facts (phase_of.WeakClearing member weak) heap.old policy heap.new policy result }
@@ -56,7 +56,7 @@ pub fn clear_one<B: Kind>(
 
 /// A weak reference loses its referent, if it is to lose it.
 fn look_at<B: Kind>(heap: &mut Heap<B>, profile: u8, member: Option<u64>, weak: u64) -> Turn
-    requires ready { IsReadyAt heap.old 0 (phase_of.WeakClearing member (Some weak)) }
+    requires ready { IsReadyForCollectionAt heap.old 0 (phase_of.WeakClearing member (Some weak)) }
     requires walk { IsWalk profile heap.old member (Some weak) }
     requires few { HasFewHolds heap.old }
     ensures steps { (script : AnyScript) → profile_of script.items ≡ profile → (facts : AnyFacts) (policy : Standing) → TurnSteps script facts (phase_of.WeakClearing member (Some weak)) heap.old policy heap.new policy result }
@@ -143,7 +143,7 @@ fn waits<B: Kind>(heap: &Heap<B>, weak: u64) -> bool
 /// The weak references to the next condemned object are looked at, or those to its referent; when all were, the callbacks
 /// follow.
 fn next_member<B: Kind>(heap: &mut Heap<B>, profile: u8, member: Option<u64>) -> Turn
-    requires ready { IsReadyAt heap.old 0 (phase_of.WeakClearing member None) }
+    requires ready { IsReadyForCollectionAt heap.old 0 (phase_of.WeakClearing member None) }
     requires walk { IsWalk profile heap.old member None }
     ensures steps { (script : AnyScript) → profile_of script.items ≡ profile → (facts : AnyFacts) (policy : Standing) → TurnSteps script facts (phase_of.WeakClearing member None) heap.old policy heap.new policy result }
     ensures ready { (g : ℕ) → StaysReady heap.new g result.phase result.answer }
@@ -176,7 +176,7 @@ fn first_to_look_at<B: Kind>(heap: &Heap<B>, profile: u8, object: u64) -> Option
 
 /// The first of those that wait has its callback called; when none is left, the finalizers follow.
 pub fn call_one<B: Kind>(heap: &mut Heap<B>) -> Turn
-    requires ready { IsReadyAt heap.old 0 phase_of.WeakCalling }
+    requires ready { IsReadyForCollectionAt heap.old 0 phase_of.WeakCalling }
     ensures steps { (script : AnyScript) (facts : AnyFacts) (policy : Standing) → TurnSteps script facts phase_of.WeakCalling heap.old policy heap.new policy result }
     ensures ready { (g : ℕ) → StaysReady heap.new g result.phase result.answer }
     ensures falls { TurnFalls heap.old phase_of.WeakCalling heap.new result }
@@ -208,11 +208,11 @@ fn frame_of_callback<B: Kind>(heap: &Heap<B>, weak: u64) -> FrameSpec
 
 /// The frame of a callback has ended: the weak reference is given up.
 pub fn after_callback(weak: u64) -> Turn
-    ensures steps { (script : AnyScript) (facts : AnyFacts) (store : Store) (policy : Standing) → IsReadyAt store facts.generation (phase_of.AfterCallback weak)
+    ensures steps { (script : AnyScript) (facts : AnyFacts) (store : Store) (policy : Standing) → IsReadyForCollectionAt store facts.generation (phase_of.AfterCallback weak)
         → TurnSteps script facts (phase_of.AfterCallback weak) store policy store policy result }
-    ensures ready { (store : Store) (g : ℕ) → IsReadyAt store g (phase_of.AfterCallback weak) → StaysReady store g result.phase result.answer }
+    ensures ready { (store : Store) (g : ℕ) → IsReadyForCollectionAt store g (phase_of.AfterCallback weak) → StaysReady store g result.phase result.answer }
     ensures falls { (store : Store) → TurnFalls store (phase_of.AfterCallback weak) store result }
-    ensures leaves { (store : Store) (g : ℕ) → IsReadyAt store g (phase_of.AfterCallback weak) → TurnLeaves store (phase_of.AfterCallback weak) store result }
+    ensures leaves { (store : Store) (g : ℕ) → IsReadyForCollectionAt store g (phase_of.AfterCallback weak) → TurnLeaves store (phase_of.AfterCallback weak) store result }
 {
     Turn::gives_up(Release::of(weak), Phase::AfterRelease(weak))
 }
@@ -220,7 +220,7 @@ pub fn after_callback(weak: u64) -> Turn
 /// One that has died since it was given up is counted as collected; another gets older.
 pub fn after_release<B: Kind>(facts: Facts, heap: &mut Heap<B>, weak: u64) -> Turn
     requires generation { facts.generation ≤ 2 }
-    requires ready { IsReadyAt heap.old facts.generation (phase_of.AfterRelease weak) }
+    requires ready { IsReadyForCollectionAt heap.old facts.generation (phase_of.AfterRelease weak) }
     ensures steps { (script : AnyScript) (policy : Standing) → TurnSteps script facts (phase_of.AfterRelease weak) heap.old policy heap.new policy result }
     ensures ready { StaysReady heap.new facts.generation result.phase result.answer }
     ensures falls { TurnFalls heap.old (phase_of.AfterRelease weak) heap.new result }

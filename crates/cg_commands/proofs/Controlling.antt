@@ -28,7 +28,7 @@ use Rattle.cg_commands.specs.Attempts.{Attempts}
 use Rattle.cg_commands.specs.Controls.{IsControl, IsAsked, IsOfObjectsAndNumbers, Leaves}
 use Rattle.cg_commands.specs.Growth.{makes_object}
 use Rattle.cg_commands.specs.Places.{Replaces, KeepsAllButPlaces}
-use Rattle.cg_commands.specs.Stands.{StandsFor}
+use Rattle.cg_commands.specs.Stands.{HeapAndLocalsStandFor}
 use Rattle.cg_commands.proofs.Bridges.{gives_nothing}
 use Rattle.cg_commands.proofs.Growing.{nothing_made}
 
@@ -46,7 +46,7 @@ replaced_represents places numbers old new moves w r = record {
 
 module _ (old : Store) (was : Policy) (locals : Option Locals) (room : Bool) (given command : Command) (is : given ≡ command) (control : IsControl command) (none : makes_object command ≡ false) where
   -- It is a change of objects and numbers, with these lines.
-  module _ (line : Option Event) (after : World → World) (does : (w : World) → StandsFor old locals w → was ≡ policy_of w → effect w command ≡ Ok (Changes false (option_to_list line) [] (after w))) (places_alone : (w : World) → IsOfObjectsAndNumbers w (effect w command)) where
+  module _ (line : Option Event) (after : World → World) (does : (w : World) → HeapAndLocalsStandFor old locals w → was ≡ policy_of w → effect w command ≡ Ok (Changes false (option_to_list line) [] (after w))) (places_alone : (w : World) → IsOfObjectsAndNumbers w (effect w command)) where
     changes : (new : Store) → KeepsAllButPlaces old new → ((w : World) → Represents old w → Represents new (after w)) → (now : Policy) → ((w : World) → was ≡ policy_of w → now ≡ policy_of (after w)) → (done : Done) → done ≡ Changed line (item val.None) → Attempts old was locals room given new now (Ok done)
     changes new keeps represents now policy done told =
         subst (λ c. Attempts old was locals room c new now (Ok done)) (sym is)

@@ -24,7 +24,7 @@ use Rattle.cg_commands.specs.Answers.{AnswersOnHeap, PerformsOnHeap, policy_afte
 use Rattle.cg_commands.specs.Attempts.{Attempts, counted}
 use Rattle.cg_commands.specs.Growth.{makes_object}
 use Rattle.cg_commands.specs.Inspections.{Inspects}
-use Rattle.cg_commands.specs.Stands.{StandsFor}
+use Rattle.cg_commands.specs.Stands.{HeapAndLocalsStandFor}
 use Rattle.cg_commands.proofs.Growing.{of_effect, made_makes, nothing_made, made_in_room}
 
 -- the policy stays
@@ -108,7 +108,7 @@ module _ (w : World) (command : Command) (old new : Store) where
 
 -- A command that makes no object leaves the policy, also where its answer rests on the policy.
 plain : (old : Store) (was : Policy) (locals : Option Locals) (room : Bool) (given command : Command) → given ≡ command → IsForObjects command → makes_object command ≡ false → (new : Store) (answer : Result Done Refusal)
-    → ((w : World) → StandsFor old locals w → was ≡ policy_of w → AnswersOnHeap answer (effect w command) old new) → Attempts old was locals room given new was answer
+    → ((w : World) → HeapAndLocalsStandFor old locals w → was ≡ policy_of w → AnswersOnHeap answer (effect w command) old new) → Attempts old was locals room given new was answer
 plain old was locals room given command is own none new answer does = subst (λ c. Attempts old was locals room c new was answer) (sym is) (record {
   performs = λ w stands policy. record {
     heap = does w stands policy;

@@ -18,7 +18,7 @@ use Rattle.cg_commands.specs.declared.done.Refusal.{Refusal}
 use Rattle.cg_commands.specs.declared.done.Refusal.TheVariants.{OutOfMemory, InCollection}
 use Rattle.cg_commands.specs.declared.locals.Locals.{Locals}
 use Rattle.cg_commands.specs.Refusals.{Declines}
-use Rattle.cg_commands.specs.Stands.{StandsFor, Reads, IsRefused}
+use Rattle.cg_commands.specs.Stands.{HeapAndLocalsStandFor, Reads, IsRefused}
 use Rattle.cg_commands.specs.Objects.{RefersTo, HasNoObject}
 use Rattle.cg_commands.specs.Answers.{AnswersOnHeap, WantsMemory}
 use Rattle.cg_commands.specs.Reasons.{reason_lines}
@@ -44,7 +44,7 @@ module _ (store : Store) (running : Bool) (locals : Option Locals) (operand : Op
   no_value refusal is w s same = declines_then refusal (value w operand) _ (is w s)
 
   module _ (v : Val) (reads : Reads store locals (λ w. value w operand) v) where
-    after_value : (w : World) → StandsFor store locals w → inspected w operand ≡ (object w any_object wrong_kind v >>= (λ x. unless (not (is_collecting w)) in_collection >>= (λ _. Ok x)))
+    after_value : (w : World) → HeapAndLocalsStandFor store locals w → inspected w operand ≡ (object w any_object wrong_kind v >>= (λ x. unless (not (is_collecting w)) in_collection >>= (λ _. Ok x)))
     unfolding ◌>>=◌
     after_value w s = ap (λ q. q >>= (λ v. object w any_object wrong_kind v >>= (λ x. unless (not (is_collecting w)) in_collection >>= (λ _. Ok x)))) (reads w s)
 
@@ -53,7 +53,7 @@ module _ (store : Store) (running : Bool) (locals : Option Locals) (operand : Op
     no_object refusal is w s same = subst (Declines refusal) (sym (after_value w s)) (declines_then refusal (object w any_object wrong_kind v) _ (is w s.represents))
 
     module _ (o : ℕ) (there : RefersTo store any_object v o) where
-      after_object : (w : World) → StandsFor store locals w → (same : is_collecting w ≡ running) → inspected w operand ≡ (unless (not running) in_collection >>= (λ _. Ok (object_from store.rows o there.node)))
+      after_object : (w : World) → HeapAndLocalsStandFor store locals w → (same : is_collecting w ≡ running) → inspected w operand ≡ (unless (not running) in_collection >>= (λ _. Ok (object_from store.rows o there.node)))
       unfolding ◌>>=◌
       after_object w s same =
           after_value w s
@@ -95,12 +95,12 @@ module _ (store : Store) (running : Bool) (locals : Option Locals) (operand : Op
     not_inspected refusal is w s same = subst (λ e. AnswersOnHeap (Err refusal) e store store) (in_parts w) (refused refusal (inspected w operand) (k w) store (is w s same))
 
     module _ (o : ℕ) (there : IsInspected store running locals operand o) where
-      after_inspected : (w : World) → StandsFor store locals w → is_collecting w ≡ running → whole w ≡ k w (object_from store.rows o there.node)
+      after_inspected : (w : World) → HeapAndLocalsStandFor store locals w → is_collecting w ≡ running → whole w ≡ k w (object_from store.rows o there.node)
       unfolding ◌>>=◌
       after_inspected w s same = sym (in_parts w) ∙ ap (λ q. q >>= k w) (there.is w s same)
 
       -- a list
-      pub lists_lines : (lines : List Event) → ((w : World) → StandsFor store locals w → k w (object_from store.rows o there.node) ≡ Ok (Changes true lines [] w)) → Inspects store running locals whole (Ok (Tells lines))
+      pub lists_lines : (lines : List Event) → ((w : World) → HeapAndLocalsStandFor store locals w → k w (object_from store.rows o there.node) ≡ Ok (Changes true lines [] w)) → Inspects store running locals whole (Ok (Tells lines))
       lists_lines lines does w s same = (inl (record { wants_memory = true; after = w; is = after_inspected w s same ∙ does w s; represents = released-none store w s.represents }), refl)
 
       -- a reason
@@ -108,7 +108,7 @@ module _ (store : Store) (running : Bool) (locals : Option Locals) (operand : Op
       tells_reason does reason is_reason lines tells w s same = (inr (record { object = o; is = after_inspected w s same ∙ does w; reason = reason; is_reason = is_reason; tells = tells }), refl)
 
       -- memory was refused
-      pub no_memory_for : ((w : World) → StandsFor store locals w → WantsMemory (k w (object_from store.rows o there.node))) → Inspects store running locals whole (Err OutOfMemory)
+      pub no_memory_for : ((w : World) → HeapAndLocalsStandFor store locals w → WantsMemory (k w (object_from store.rows o there.node))) → Inspects store running locals whole (Err OutOfMemory)
       no_memory_for wants w s same = (subst WantsMemory (sym (after_inspected w s same)) (wants w s), refl)
 
 -- Memory may be wanted for a list,

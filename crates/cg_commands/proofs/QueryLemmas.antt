@@ -15,7 +15,7 @@ use Rattle.cg_machine.proofs.Representing.{count-in_degree}
 use Rattle.cg_commands.specs.declared.done.Done.{Done}
 use Rattle.cg_commands.specs.declared.done.Done.TheVariants.{Changed, Calls, Quits}
 use Rattle.cg_commands.specs.declared.locals.Locals.{Locals}
-use Rattle.cg_commands.specs.Stands.{StandsFor}
+use Rattle.cg_commands.specs.Stands.{HeapAndLocalsStandFor}
 use Rattle.cg_commands.specs.Objects.{Tells}
 use Rattle.cg_commands.specs.Answers.{PerformsOnHeap}
 use Rattle.cg_commands.proofs.Bridges.{gives_nothing}
@@ -27,7 +27,7 @@ module _ (store : Store) (locals : Option Locals) where
       (λ w s. gives_nothing (prints w line) (Some line) (item val.None) false w store store refl refl s.represents)
 
   -- one that the world tells
-  pub prints-known : (line : World → Event) (here : Event) → ((w : World) → StandsFor store locals w → line w ≡ here) → (done : Done) → done ≡ Changed (Some here) (item val.None) → PerformsOnHeap store locals (λ w. prints w (line w)) store (Ok done)
+  pub prints-known : (line : World → Event) (here : Event) → ((w : World) → HeapAndLocalsStandFor store locals w → line w ≡ here) → (done : Done) → done ≡ Changed (Some here) (item val.None) → PerformsOnHeap store locals (λ w. prints w (line w)) store (Ok done)
   prints-known line here told done is = subst (λ d. PerformsOnHeap store locals (λ w. prints w (line w)) store (Ok d)) (sym is)
       (λ w s. gives_nothing (prints w (line w)) (Some here) (item val.None) false w store store (ap (prints w) (told w s)) refl s.represents)
 

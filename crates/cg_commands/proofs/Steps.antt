@@ -20,7 +20,7 @@ use Rattle.cg_commands.specs.declared.done.Refusal.TheVariants.{NoIndex, Unhasha
 use Rattle.cg_commands.specs.declared.locals.Locals.{Locals}
 use Rattle.cg_commands.specs.declared.operands.Wanted.TheVariants as wanted
 use Rattle.cg_commands.specs.Refusals.{Declines}
-use Rattle.cg_commands.specs.Stands.{StandsFor, Reads, IsRefused}
+use Rattle.cg_commands.specs.Stands.{HeapAndLocalsStandFor, Reads, IsRefused}
 use Rattle.cg_commands.specs.Objects.{RefersTo, Tells, IsKey, test_of, bare}
 use Rattle.cg_commands.proofs.Reading.{object-at_node, object-found, no_reference}
 
@@ -51,10 +51,10 @@ module _ (store : Store) (locals : Option Locals) (test : Object → Bool) (v : 
   pub reads-entry_at : (key : Val) (e : Entry) → Some e ≡ entry_at (entries_of store o) key → (k : ℕ) → Reads store locals (λ w. ok_or (entry_at there.node.entries key) k) e
   reads-entry_at key e at k w s = ap (λ es. ok_or (entry_at es key) k) (sym entries-here) ∙ ap (λ x. ok_or x k) (sym at)
 
-  pub no-value_at : (key : Val) → None ≡ value_at (entries_of store o) key → (k : ℕ) → (w : World) → StandsFor store locals w → ok_or (value_at there.node.entries key) k ≡ Err k
+  pub no-value_at : (key : Val) → None ≡ value_at (entries_of store o) key → (k : ℕ) → (w : World) → HeapAndLocalsStandFor store locals w → ok_or (value_at there.node.entries key) k ≡ Err k
   no-value_at key at k w s = ap (λ es. ok_or (value_at es key) k) (sym entries-here) ∙ ap (λ x. ok_or x k) (sym at)
 
-  pub no-entry_at : (key : Val) → None ≡ entry_at (entries_of store o) key → (k : ℕ) → (w : World) → StandsFor store locals w → ok_or (entry_at there.node.entries key) k ≡ Err k
+  pub no-entry_at : (key : Val) → None ≡ entry_at (entries_of store o) key → (k : ℕ) → (w : World) → HeapAndLocalsStandFor store locals w → ok_or (entry_at there.node.entries key) k ≡ Err k
   no-entry_at key at k w s = ap (λ es. ok_or (entry_at es key) k) (sym entries-here) ∙ ap (λ x. ok_or x k) (sym at)
 
 -- whether a value may be a key

@@ -15,7 +15,7 @@ use Rattle.cg_commands.specs.declared.done.Refusal.{Refusal}
 use Rattle.cg_commands.specs.declared.done.Refusal.TheVariants.{OutOfMemory}
 use Rattle.cg_commands.specs.declared.locals.Locals.{Locals}
 use Rattle.cg_commands.specs.Refusals.{number_of}
-use Rattle.cg_commands.specs.Stands.{StandsFor}
+use Rattle.cg_commands.specs.Stands.{HeapAndLocalsStandFor}
 use Rattle.cg_commands.specs.Reasons.{Explained}
 
 -- The effect is a change for which memory may be wanted.
@@ -63,18 +63,18 @@ policy_after (Ok (Tells told)) (Ok (Changes wants_memory lines references after)
 policy_after answer effect was = was
 
 -- What was answered is the effect, and heap and policy are as it leaves them.
-pub record Answers (answer : Result Done Refusal) (effect : Result Effect ℕ) (old : Store) (was : Policy) (new : Store) (now : Policy) : Type 0 where
+pub record CommandAnswers (answer : Result Done Refusal) (effect : Result Effect ℕ) (old : Store) (was : Policy) (new : Store) (now : Policy) : Type 0 where
   pub heap : AnswersOnHeap answer effect old new
   pub policy : now ≡ policy_after answer effect was
 
 -- The answer is that of the machine, in every world for which the heap, the policy and the locals stood before: the policy
 -- had its numbers, and knew whether a collection was running in it.
 abbrev pub Performs : Store → Policy → Option Locals → (World → Result Effect ℕ) → Store → Policy → Result Done Refusal → Type 0
-Performs old was locals effect new now answer = (w : World) → StandsFor old locals w → was ≡ policy_of w → Answers answer (effect w) old was new now
+Performs old was locals effect new now answer = (w : World) → HeapAndLocalsStandFor old locals w → was ≡ policy_of w → CommandAnswers answer (effect w) old was new now
 
 -- the same of a command that has no business with the policy, where the machine's numbers are left to the caller
 abbrev pub PerformsOnHeap : Store → Option Locals → (World → Result Effect ℕ) → Store → Result Done Refusal → Type 0
-PerformsOnHeap old locals effect new answer = (w : World) → StandsFor old locals w → AnswersOnHeap answer (effect w) old new
+PerformsOnHeap old locals effect new answer = (w : World) → HeapAndLocalsStandFor old locals w → AnswersOnHeap answer (effect w) old new
 
 -- a change without a line that gives up these references
 abbrev pub GivesUp : List ℕ → Done → Type 0

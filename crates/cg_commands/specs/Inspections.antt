@@ -18,13 +18,13 @@ use Rattle.cg_commands.specs.declared.inspections.Listed.{Listed}
 use Rattle.cg_commands.specs.declared.inspections.Listed.TheVariants.{Referents, Referrers}
 use Rattle.cg_commands.specs.declared.locals.Locals.{Locals}
 use Rattle.cg_commands.specs.Refusals.{Declines}
-use Rattle.cg_commands.specs.Stands.{StandsFor}
+use Rattle.cg_commands.specs.Stands.{HeapAndLocalsStandFor}
 use Rattle.cg_commands.specs.Answers.{AnswersOnHeap}
 
 -- The answer is that of the machine, and the heap stays, in every world for which the heap and the locals stand and in which
 -- a collection is running or not, as this says.
 abbrev pub Inspects : Store → Bool → Option Locals → (World → Result Effect ℕ) → Result Done Refusal → Type 0
-Inspects store running locals effect answer = (w : World) → StandsFor store locals w → is_collecting w ≡ running → AnswersOnHeap answer (effect w) store store
+Inspects store running locals effect answer = (w : World) → HeapAndLocalsStandFor store locals w → is_collecting w ≡ running → AnswersOnHeap answer (effect w) store store
 
 -- the object that the machine inspects, or its refusal
 abbrev pub inspected : World → Operand → Result Object ℕ
@@ -39,11 +39,11 @@ pub record IsInspected (store : Store) (running : Bool) (locals : Option Locals)
   pub node : Node
   pub found : fin.get store.nodes o ≡ Some node
   pub calm : running ≡ false
-  pub is : (w : World) → StandsFor store locals w → is_collecting w ≡ running → inspected w operand ≡ Ok (object_from store.rows o node)
+  pub is : (w : World) → HeapAndLocalsStandFor store locals w → is_collecting w ≡ running → inspected w operand ≡ Ok (object_from store.rows o node)
 
 -- in each such world the machine gives this refusal
 abbrev pub IsNotInspected : Store → Bool → Option Locals → Operand → Refusal → Type 0
-IsNotInspected store running locals operand refusal = (w : World) → StandsFor store locals w → is_collecting w ≡ running → Declines refusal (inspected w operand)
+IsNotInspected store running locals operand refusal = (w : World) → HeapAndLocalsStandFor store locals w → is_collecting w ≡ running → Declines refusal (inspected w operand)
 
 -- the line of an object in a list
 abbrev pub line_of : Listed → ℕ → Event

@@ -23,18 +23,18 @@ abbrev pub LocalsLive : Store → Option Locals → Type 0
 LocalsLive store locals = IfSome locals (λ l. IsLive store l.subject × IfSome l.func (λ f. IsLive store f))
 
 -- The heap stands for the world, and the locals are those of its frame on top.
-pub record StandsFor (store : Store) (locals : Option Locals) (w : World) : Type 0 where
+pub record HeapAndLocalsStandFor (store : Store) (locals : Option Locals) (w : World) : Type 0 where
   pub represents : Represents store w
   pub locals_are : HasLocals locals w
 
 -- in each such world the machine answers x
 abbrev pub Reads : {A : Type 0} → Store → Option Locals → (World → Result A ℕ) → A → Type 0
-Reads store locals read x = (w : World) → StandsFor store locals w → read w ≡ Ok x
+Reads store locals read x = (w : World) → HeapAndLocalsStandFor store locals w → read w ≡ Ok x
 
 -- in each such world the machine gives this refusal
 abbrev pub IsRefused : {A : Type 0} → Store → Option Locals → (World → Result A ℕ) → Refusal → Type 0
-IsRefused store locals read refusal = (w : World) → StandsFor store locals w → Declines refusal (read w)
+IsRefused store locals read refusal = (w : World) → HeapAndLocalsStandFor store locals w → Declines refusal (read w)
 
 -- in each such world the operand has this value, or none
 abbrev pub ReadsValue : Store → Option Locals → Operand → Option Val → Type 0
-ReadsValue store locals operand v = (w : World) → StandsFor store locals w → value_of w operand ≡ v
+ReadsValue store locals operand v = (w : World) → HeapAndLocalsStandFor store locals w → value_of w operand ≡ v

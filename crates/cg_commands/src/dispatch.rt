@@ -11,7 +11,7 @@ ghost use Rattle.cg_commands.specs.Answers.{Performs};
 ghost use Rattle.cg_commands.specs.Attempts.{Attempts, counted};
 ghost use Rattle.cg_commands.specs.Controls.{IsControl, Leaves};
 ghost use Rattle.cg_commands.specs.Growth.{GrowsBy, makes_object};
-ghost use Rattle.cg_commands.specs.Stands.{LocalsLive, StandsFor};
+ghost use Rattle.cg_commands.specs.Stands.{LocalsLive, HeapAndLocalsStandFor};
 
 use crate::bindings::{bind, unbind};
 use crate::done::{Done, Refusal, told};
@@ -56,7 +56,7 @@ pub fn perform<B: Kind>(
     requires idle { policy.old.running ≡ false → IsIdle heap.old }
     ensures performs { Performs heap.old policy.old locals (λ w. effect w command.now) heap.new policy.new result }
     ensures leaves { IsControl command.now → Leaves heap.old policy.old command.now heap.new policy.new result }
-    ensures grows { (w : World) → StandsFor heap.old locals w → policy.old ≡ policy_of w → GrowsBy room heap.old heap.new }
+    ensures grows { (w : World) → HeapAndLocalsStandFor heap.old locals w → policy.old ≡ policy_of w → GrowsBy room heap.old heap.new }
 {
     attempt(alloc, heap, policy, locals, command, room)
 }

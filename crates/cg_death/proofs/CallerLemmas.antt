@@ -21,7 +21,7 @@ use Rattle.cg_heap.specs.Weak.{AreRows}
 use Rattle.cg_heap.proofs.RowLemmas.{no_referent}
 use Rattle.cg_death.specs.declared.death.Death.{Death}
 use Rattle.cg_death.specs.Activities.{IsUnheld, HasHolds, HaveCallbacks, AreNewer}
-use Rattle.cg_death.specs.Deaths.{on_stack, held_by, IsReady}
+use Rattle.cg_death.specs.Deaths.{on_stack, held_by, IsReadyForDeath}
 use Rattle.cg_death.specs.Steady.{IsSteady}
 use Rattle.cg_machine.proofs.Representing.{count-in_degree}
 use Rattle.cg_death.proofs.Emptying.{entries-agree}
@@ -73,7 +73,7 @@ no_referent_in_heap store w r ok o none none_waits =
     no_referent store.rows o (ap (λ l. slice_get l 0) (sym (rows_of_world store w r ok o) ∙ none)) (ap (λ l. slice_get l 0) none_waits)
 
 -- A steady death may take a step: it is ready, and has its holds.
-pub steady_is_ready : (script : Script) (d : Death) (store : Store) → IsSteady script d store → IsReady d store
+pub steady_is_ready : (script : Script) (d : Death) (store : Store) → IsSteady script d store → IsReadyForDeath d store
 steady_is_ready script d store s = (s.ready, s.during)
 
 pub steady_is_held : (script : Script) (d : Death) (store : Store) → IsSteady script d store → HasHolds store (held_by d store)

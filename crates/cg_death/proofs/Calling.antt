@@ -29,7 +29,7 @@ use Rattle.cg_heap.proofs.CallerLemmas.{lives_on, kinds-rewritten}
 use Rattle.cg_death.specs.declared.answer.DeathStep.TheVariants as answer_of
 use Rattle.cg_death.specs.declared.phase.Phase.TheVariants as phase_of
 use Rattle.cg_death.specs.Activities.{death_of, activities}
-use Rattle.cg_death.specs.Answers.{Stands, GaveFrame, DeathSteps}
+use Rattle.cg_death.specs.Answers.{DeathStands, GaveFrame, DeathSteps}
 use Rattle.cg_death.proofs.Worlds.{steps_at}
 use Rattle.cg_machine.proofs.Representing.{Matches, represents}
 use Rattle.cg_machine.proofs.PlainCollect.{occurrences-cons}
@@ -121,7 +121,7 @@ module _ (script : Script) (store : Store) (r : Row) (ok : AreRows store) (insid
       let here_it_is : occurrences q (references (entries_of store r.weak)) ≡ occurrences q (f ∷ []) = ap (λ es. occurrences q (references es)) callback in
       lives_on store (rewritten r.weak [] store) (kinds-rewritten r.weak [] store) q (sound q (omega (arith, entries_hold store r.weak q, here_it_is, there)))
 
-  module _ (v : World) (below : List Activity) (s : Stands store (here store v o (Calling ws) below) (death_of o (Calling ws) ∷ below)) where
+  module _ (v : World) (below : List Activity) (s : DeathStands store (here store v o (Calling ws) below) (death_of o (Calling ws) ∷ below)) where
     abbrev w : World
     w = here store v o (Calling ws) below
 

@@ -21,7 +21,7 @@ use Rattle.cg_heap.proofs.HoldLemmas.{outside-held}
 use Rattle.cg_heap.proofs.CallerLemmas.{live_of_kind}
 use Rattle.cg_value.specs.declared.KindCode.TheVariants.{Weak}
 use Rattle.cg_death.specs.Activities.{death_of, AreNewer}
-use Rattle.cg_death.specs.Answers.{Stands}
+use Rattle.cg_death.specs.Answers.{DeathStands}
 use Rattle.cg_machine.proofs.Representing.{Matches, matches, represents}
 use Rattle.cg_death.proofs.Turns.{here, waits_are, own_object, death}
 use Rattle.cg_death.proofs.Places.{matches-held, only-one}
@@ -89,7 +89,7 @@ module _ (store : Store) (v : World) (o : ℕ) (phase next : DyingPhase) (below 
 
 -- A weak reference without callback, or in the later phase, loses the object.
 module _ (script : Script) (store : Store) (v : World) (r : Row) (below : List Activity) (ok : AreRows store) (inside : Includes store.rows r) (stays : r.waits ≡ false) (phase next : DyingPhase)
-    (s : Stands store (here store v r.referent phase below) (death_of r.referent phase ∷ below)) (same_waits : death_waits next ≡ death_waits phase) (same_holds : dying_holds r.referent next ≡ dying_holds r.referent phase) where
+    (s : DeathStands store (here store v r.referent phase below) (death_of r.referent phase ∷ below)) (same_waits : death_waits next ≡ death_waits phase) (same_holds : dying_holds r.referent next ≡ dying_holds r.referent phase) where
   abbrev w : World
   w = here store v r.referent phase below
 
@@ -116,7 +116,7 @@ module _ (script : Script) (store : Store) (v : World) (r : Row) (below : List A
 
 -- One with a callback waits from then on.
 module _ (script : Script) (store : Store) (v : World) (r : Row) (below : List Activity) (ok : AreRows store) (inside : Includes store.rows r) (stays : r.waits ≡ false) (newer : AreNewer store r.referent)
-    (s : Stands store (here store v r.referent (Clearing (waiting_for store r.referent)) below) (death_of r.referent (Clearing (waiting_for store r.referent)) ∷ below)) where
+    (s : DeathStands store (here store v r.referent (Clearing (waiting_for store r.referent)) below) (death_of r.referent (Clearing (waiting_for store r.referent)) ∷ below)) where
   abbrev phase_before : DyingPhase
   phase_before = Clearing (waiting_for store r.referent)
 

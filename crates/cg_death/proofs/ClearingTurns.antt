@@ -17,7 +17,7 @@ use Rattle.cg_heap.specs.Weak.{AreRows, cleared_weak}
 use Rattle.cg_death.specs.declared.answer.DeathStep.TheVariants as answer_of
 use Rattle.cg_death.specs.declared.phase.Phase.TheVariants as phase_of
 use Rattle.cg_death.specs.Activities.{death_of, activities, AreNewer}
-use Rattle.cg_death.specs.Answers.{Stands, WentOn, DeathSteps}
+use Rattle.cg_death.specs.Answers.{DeathStands, WentOn, DeathSteps}
 use Rattle.cg_death.proofs.Worlds.{steps_at, append_none}
 use Rattle.cg_machine.proofs.Representing.{matches}
 use Rattle.cg_death.proofs.Turns.{here, waits_are, steps_to, only_phase, death}
@@ -54,7 +54,7 @@ module _ (script : Script) (store : Store) (r : Row) (ok : AreRows store) (insid
   abbrev left_now : Bool → Store
   left_now b = if b then cleared_weak r.weak true (held (r.weak ∷ []) store) else cleared_weak r.weak false store
 
-  module _ (v : World) (below : List Activity) (s : Stands store (here store v o (Clearing ws) below) (death_of o (Clearing ws) ∷ below)) (newer : AreNewer store o) (newest : slice_get (weak_references_if has_weak_references (objects_of store) o) 0 ≡ Some r.weak) where
+  module _ (v : World) (below : List Activity) (s : DeathStands store (here store v o (Clearing ws) below) (death_of o (Clearing ws) ∷ below)) (newer : AreNewer store o) (newest : slice_get (weak_references_if has_weak_references (objects_of store) o) 0 ≡ Some r.weak) where
     abbrev w : World
     w = here store v o (Clearing ws) below
 

@@ -21,7 +21,7 @@ use Rattle.cg_death.specs.declared.release.Release.{Release}
 use Rattle.cg_death.specs.declared.answer.DeathStep.TheVariants as answer_of
 use Rattle.cg_death.specs.declared.phase.Phase.TheVariants as phase_of
 use Rattle.cg_death.specs.Activities.{death_of, activities, references_left}
-use Rattle.cg_death.specs.Answers.{Stands, WentOn, DeathSteps, numbers_after}
+use Rattle.cg_death.specs.Answers.{DeathStands, WentOn, DeathSteps, numbers_after}
 use Rattle.cg_death.proofs.Worlds.{steps_at}
 use Rattle.cg_machine.proofs.Representing.{Matches, matches, represents, pushed}
 use Rattle.cg_death.proofs.Turns.{here, ended, waits_are, steps_to}
@@ -49,7 +49,7 @@ last-of (x ∷ xs) e = ap (slice_get (x ∷ xs ++ e ∷ [])) len ∙ ap (slice_g
     len' : length xs ≡ length (xs ++ e ∷ []) - 1
     len' = omega (arith, length-append xs (e ∷ []))
 
-module _ (script : Script) (store : Store) (v : World) (o : ℕ) (below : List Activity) (s : Stands store (here store v o Emptying below) (death_of o Emptying ∷ below)) where
+module _ (script : Script) (store : Store) (v : World) (o : ℕ) (below : List Activity) (s : DeathStands store (here store v o Emptying below) (death_of o Emptying ∷ below)) where
   abbrev w : World
   w = here store v o Emptying below
 

@@ -22,7 +22,7 @@ use Rattle.cg_heap.specs.Calls.{with_node, marked}
 use Rattle.cg_death.specs.declared.answer.DeathStep.TheVariants as answer_of
 use Rattle.cg_death.specs.declared.phase.Phase.TheVariants as phase_of
 use Rattle.cg_death.specs.Activities.{death_of, activities}
-use Rattle.cg_death.specs.Answers.{Stands, WentOn, GaveFrame, DeathSteps}
+use Rattle.cg_death.specs.Answers.{DeathStands, WentOn, GaveFrame, DeathSteps}
 use Rattle.cg_death.proofs.Worlds.{steps_at}
 use Rattle.cg_machine.proofs.Representing.{matches, represents, count-in_degree}
 use Rattle.cg_machine.proofs.PlainCollect.{occurrences-cons}
@@ -38,7 +38,7 @@ module _ (script : Script) (store : Store) (v : World) (o : ℕ) (below : List A
   tracked = moved o (Gen 0) store
 
   -- once more held than before it was tracked, and marked or not
-  held-once : (phase : DyingPhase) → Stands store (here store v o phase below) (death_of o phase ∷ below) → (q : ℕ) → occurrences q (dying_holds o phase) ≡ 0 → (ready : Store) → IsLive ready o → outside_of ready q ≡ outside_of tracked q → outside_of (held (o ∷ []) ready) q ≡ occurrences q (o ∷ flat_map holds below)
+  held-once : (phase : DyingPhase) → DeathStands store (here store v o phase below) (death_of o phase ∷ below) → (q : ℕ) → occurrences q (dying_holds o phase) ≡ 0 → (ready : Store) → IsLive ready o → outside_of ready q ≡ outside_of tracked q → outside_of (held (o ∷ []) ready) q ≡ occurrences q (o ∷ flat_map holds below)
   held-once phase s q nothing ready lives same =
       let more = outside-held (o ∷ []) ready q (λ h. subst (IsLive ready) (sym (only-one o q h)) lives) in
       omega (arith, more, same, outside-moved o (Gen 0) store q, s.represents.outside q, nothing, occurrences-append q (dying_holds o phase) (flat_map holds below), occurrences-cons q o (flat_map holds below), occurrences-cons q o [])
@@ -46,7 +46,7 @@ module _ (script : Script) (store : Store) (v : World) (o : ℕ) (below : List A
   tracked_live : IsLive tracked o
   tracked_live = lives_on store tracked (kinds-moved o (Gen 0) store) o live
 
-  module _ (s : Stands store (here store v o Finalizer below) (death_of o Finalizer ∷ below)) (p : ℕ) (due : option_and_then (finalizer_to_run script) (object_at (objects_of store) o) ≡ Some p) where
+  module _ (s : DeathStands store (here store v o Finalizer below) (death_of o Finalizer ∷ below)) (p : ℕ) (due : option_and_then (finalizer_to_run script) (object_at (objects_of store) o) ≡ Some p) where
     abbrev before : World
     before = death_at o AfterFinalizer below (with_change (λ x. object_marked (object_placed (Gen 0) x)) o (here store v o Finalizer below))
 
@@ -74,7 +74,7 @@ module _ (script : Script) (store : Store) (v : World) (o : ℕ) (below : List A
       keeps = record { numbers = refl; budget = refl; outcome = refl };
     }
 
-  module _ (s : Stands store (here store v o LegacyFinalizer below) (death_of o LegacyFinalizer ∷ below)) (p : ℕ) (due : option_and_then (legacy_of script) (object_at (objects_of store) o) ≡ Some p) where
+  module _ (s : DeathStands store (here store v o LegacyFinalizer below) (death_of o LegacyFinalizer ∷ below)) (p : ℕ) (due : option_and_then (legacy_of script) (object_at (objects_of store) o) ≡ Some p) where
     abbrev before_legacy : World
     before_legacy = death_at o AfterLegacy below (with_change (object_placed (Gen 0)) o (here store v o LegacyFinalizer below))
 
@@ -102,7 +102,7 @@ module _ (script : Script) (store : Store) (v : World) (o : ℕ) (below : List A
 module _ (script : Script) (store : Store) (v : World) (o : ℕ) (below : List Activity) (phase next : DyingPhase)
     (does : dying script o phase below (here store v o phase below) ≡ after_frame o next below (here store v o phase below)) (held_once : dying_holds o phase ≡ o ∷ []) (holds_none : dying_holds o next ≡ [])
     (waits : death_waits phase ≡ []) (waits_none : death_waits next ≡ [])
-    (s : Stands store (here store v o phase below) (death_of o phase ∷ below)) where
+    (s : DeathStands store (here store v o phase below) (death_of o phase ∷ below)) where
   abbrev w : World
   w = here store v o phase below
 

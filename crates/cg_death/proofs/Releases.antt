@@ -16,7 +16,7 @@ use Rattle.cg_machine.specs.Frame.{Transition, begin_death}
 use Rattle.cg_machine.specs.Laws.{IsHeldInItsFramesAlone}
 use Rattle.cg_machine.specs.Represents.{Represents, Goes}
 use Rattle.cg_death.specs.declared.answer.DeathStep.TheVariants as answer_of
-use Rattle.cg_death.specs.Answers.{Stands, WentOn, GaveDeath, ReleaseAnswer, ReleaseSteps}
+use Rattle.cg_death.specs.Answers.{DeathStands, WentOn, GaveDeath, ReleaseAnswer, ReleaseSteps}
 use Rattle.cg_death.proofs.Worlds.{at_stack, spelled}
 use Rattle.cg_machine.proofs.Representing.{in_one, occurrences-one, count-in_degree, held_by_one, held_by_stack, death_found, Matches, matches, represents, popped, pushed}
 use Rattle.cg_machine.proofs.PlainCollect.{occurrences-cons}
@@ -51,7 +51,7 @@ module _ (script : Script) (store : Store) (v : World) (o : ℕ) (references : L
   abbrev after : World
   after = with_stack (Releasing references ∷ below) v
 
-  module _ (s : Stands store before (Releasing (o ∷ references) ∷ below)) where
+  module _ (s : DeathStands store before (Releasing (o ∷ references) ∷ below)) where
     represents-after : Represents (unheld (o ∷ []) store) after
     represents-after =
         represents (unheld (o ∷ []) store) after
@@ -134,7 +134,7 @@ pops store script w below s =
     at_stack (λ u. ReleaseAnswer script u below store [] answer_of.Gone) w (Releasing [] ∷ below) s.top
     (here (spelled store w (Releasing [] ∷ below) s))
   where
-    here : Stands store (with_stack (Releasing [] ∷ below) w) (Releasing [] ∷ below) → ReleaseAnswer script (with_stack (Releasing [] ∷ below) w) below store [] answer_of.Gone
+    here : DeathStands store (with_stack (Releasing [] ∷ below) w) (Releasing [] ∷ below) → ReleaseAnswer script (with_stack (Releasing [] ∷ below) w) below store [] answer_of.Gone
     here t = record {
       goes = record {
         after = with_stack below w;

@@ -18,7 +18,7 @@ use Rattle.cg_heap.proofs.HoldLemmas.{outside-unheld}
 use Rattle.cg_death.specs.declared.release.Release.{Release}
 use Rattle.cg_death.specs.declared.phase.Phase.{Phase}
 use Rattle.cg_death.specs.declared.phase.Phase.TheVariants as phase_of
-use Rattle.cg_death.specs.Activities.{death_activities, references_left, HasHolds, HaveCallbacks, IsUnheld, IsReadyAt}
+use Rattle.cg_death.specs.Activities.{death_activities, references_left, HasHolds, HaveCallbacks, IsUnheld, IsReadyForDeathAt}
 use Rattle.cg_death.specs.Deaths.{TakesNext, forgets_referent}
 use Rattle.cg_death.specs.Steady.{RowsFit, IsSteadyAt, IsFresh}
 use Rattle.cg_death.proofs.Falling.{entries-unheld}
@@ -36,7 +36,7 @@ module _ (script : Script) (store : Store) (o : ℕ) (refs : List ℕ) where
   callbacks_kept : HaveCallbacks store o → HaveCallbacks given_up o
   callbacks_kept had w waits = let one = had w waits in (one.0, entries-unheld refs store w ∙ one.1)
 
-  ready_kept : (phase : Phase) → IsReadyAt store o phase → IsReadyAt given_up o phase
+  ready_kept : (phase : Phase) → IsReadyForDeathAt store o phase → IsReadyForDeathAt given_up o phase
   ready_kept phase_of.Finalizer u = unheld-unheld store o u refs
   ready_kept phase_of.AfterFinalizer u = tt
   ready_kept phase_of.Clearing r = (unheld-unheld store o r.0 refs, r.1)

@@ -18,7 +18,7 @@ use Rattle.cg_death.specs.declared.phase.Phase.TheVariants as phase_of
 use Rattle.cg_death.specs.declared.release.Release.{Release}
 use Rattle.cg_death.specs.Activities.{death_of, death_activities, activities, references_left}
 use Rattle.cg_death.specs.Deaths.{TakesNext}
-use Rattle.cg_death.specs.Answers.{Stands, WentOn, ReleaseAnswer, DeathAnswer, DeathSteps}
+use Rattle.cg_death.specs.Answers.{DeathStands, WentOn, ReleaseAnswer, DeathAnswer, DeathSteps}
 use Rattle.cg_death.proofs.Worlds.{steps_at}
 use Rattle.cg_machine.proofs.Representing.{in_one, and_then, matches, represents, pushed, popped}
 use Rattle.cg_death.proofs.Releases.{given_up}
@@ -72,7 +72,7 @@ count_release q references stack = sum_by-cons (λ (b : Activity). cond {A = ℕ
 
 -- A release with nothing left above a death ends.
 module _ (store : Store) (v : World) (stack : List Activity) where
-  pub stands-popped : Stands store (with_stack (Releasing [] ∷ stack) v) (Releasing [] ∷ stack) → Stands store (with_stack stack v) stack
+  pub stands-popped : DeathStands store (with_stack (Releasing [] ∷ stack) v) (Releasing [] ∷ stack) → DeathStands store (with_stack stack v) stack
   stands-popped s = record {
     represents = represents store (with_stack stack v) (popped store v [] stack (matches store (with_stack (Releasing [] ∷ stack) v) s.represents)) s.represents.outside;
     top = refl;
@@ -100,8 +100,8 @@ module _ (script : Script) (store : Store) (o weak callback : ℕ) where
   abbrev ws : List ℕ
   ws = waiting_for store o
 
-  stands-pushed : (v : World) (below : List Activity) → Stands store (here store v o (AfterCall weak callback ws) below) (death_of o (AfterCall weak callback ws) ∷ below)
-      → Stands store (with_stack (Releasing (callback ∷ weak ∷ []) ∷ death_of o (Calling ws) ∷ below) v) (Releasing (callback ∷ weak ∷ []) ∷ death_of o (Calling ws) ∷ below)
+  stands-pushed : (v : World) (below : List Activity) → DeathStands store (here store v o (AfterCall weak callback ws) below) (death_of o (AfterCall weak callback ws) ∷ below)
+      → DeathStands store (with_stack (Releasing (callback ∷ weak ∷ []) ∷ death_of o (Calling ws) ∷ below) v) (Releasing (callback ∷ weak ∷ []) ∷ death_of o (Calling ws) ∷ below)
   stands-pushed v below s = record {
     represents = represents store (with_stack (Releasing (callback ∷ weak ∷ []) ∷ death_of o (Calling ws) ∷ below) v)
         (pushed store v (callback ∷ weak ∷ []) (death_of o (Calling ws) ∷ below) (rephased store v o (AfterCall weak callback ws) below (Calling ws) refl (matches store (here store v o (AfterCall weak callback ws) below) s.represents)))

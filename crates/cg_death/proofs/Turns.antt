@@ -17,7 +17,7 @@ use Rattle.cg_machine.specs.Frame.{Transition}
 use Rattle.cg_machine.specs.Dying.{dying, death_at}
 use Rattle.cg_machine.specs.Represents.{Goes, death_waits}
 use Rattle.cg_death.specs.Activities.{death_of}
-use Rattle.cg_death.specs.Answers.{Stands, WentOn}
+use Rattle.cg_death.specs.Answers.{DeathStands, WentOn}
 use Rattle.cg_machine.proofs.Representing.{in_one, Matches, matches, represents}
 
 -- no row waits with an object for which none waits
@@ -70,7 +70,7 @@ module _ (store : Store) (v : World) (o : ℕ) (phase : DyingPhase) (below : Lis
   pub waits_are : Matches store here → death_waits phase ≡ waiting_for store o
   waits_are m = m.deaths (death o phase) (inl refl)
 
-  module _ (script : Script) (s : Stands store here (death_of o phase ∷ below)) where
+  module _ (script : Script) (s : DeathStands store here (death_of o phase ∷ below)) where
     -- one step of the death
     pub steps_to : (events : List Event) (after : World) → dying script o phase below here ≡ (events, after) → Goes script here events after
     steps_to events after e = in_one script here events after s.running (sym (ap (λ (t : Transition). t.0) e), sym (ap (λ (t : Transition). t.1) e))

@@ -71,14 +71,14 @@ own_holds_at o phase = []
 
 -- What an action of a phase needs of the heap: of its object, which nothing holds but at the end of its own frames, and
 -- of its weak references. (PEP 442: while a finalizer of its own runs an object is held.)
-abbrev pub IsReadyAt : Store → ℕ → Phase → Type 0
-IsReadyAt store o phase_of.Finalizer = IsUnheld store o
-IsReadyAt store o phase_of.AfterFinalizer = Unit {0}
-IsReadyAt store o phase_of.Clearing = IsUnheld store o × AreNewer store o
-IsReadyAt store o phase_of.Calling = IsUnheld store o × HaveCallbacks store o
-IsReadyAt store o (phase_of.AfterCall weak callback) = IsUnheld store o
-IsReadyAt store o phase_of.LegacyFinalizer = IsUnheld store o
-IsReadyAt store o phase_of.AfterLegacy = Unit {0}
-IsReadyAt store o phase_of.Detaching = IsUnheld store o
-IsReadyAt store o phase_of.Emptying = IsUnheld store o × IsInNoRow o store.rows
-IsReadyAt store o phase_of.Over = Unit {0}
+abbrev pub IsReadyForDeathAt : Store → ℕ → Phase → Type 0
+IsReadyForDeathAt store o phase_of.Finalizer = IsUnheld store o
+IsReadyForDeathAt store o phase_of.AfterFinalizer = Unit {0}
+IsReadyForDeathAt store o phase_of.Clearing = IsUnheld store o × AreNewer store o
+IsReadyForDeathAt store o phase_of.Calling = IsUnheld store o × HaveCallbacks store o
+IsReadyForDeathAt store o (phase_of.AfterCall weak callback) = IsUnheld store o
+IsReadyForDeathAt store o phase_of.LegacyFinalizer = IsUnheld store o
+IsReadyForDeathAt store o phase_of.AfterLegacy = Unit {0}
+IsReadyForDeathAt store o phase_of.Detaching = IsUnheld store o
+IsReadyForDeathAt store o phase_of.Emptying = IsUnheld store o × IsInNoRow o store.rows
+IsReadyForDeathAt store o phase_of.Over = Unit {0}

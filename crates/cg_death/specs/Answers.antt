@@ -22,7 +22,7 @@ use Rattle.cg_death.specs.declared.answer.DeathStep.TheVariants as answer_of
 
 -- The heap stands for a world that runs, with these activities. What holds of the deaths of every run holds there: a
 -- dying object is held by nothing but its own death, and is dying once.
-pub record Stands (store : Store) (w : World) (stack : List Activity) : Type 0 where
+pub record DeathStands (store : Store) (w : World) (stack : List Activity) : Type 0 where
   pub represents : Represents store w
   pub top : w.stack ≡ stack
   pub running : w.outcome ≡ Running
@@ -30,7 +30,7 @@ pub record Stands (store : Store) (w : World) (stack : List Activity) : Type 0 w
   pub once : (o : ℕ) → count_by (is_death_of o) w.stack ≤ 1
 
 -- what no step of a death or a release changes, the numbers aside: it starts no frame itself, and ends no run
-pub record Keeps (w : World) (wanted : Numbers) (after : World) : Type 0 where
+pub record DeathKeeps (w : World) (wanted : Numbers) (after : World) : Type 0 where
   pub numbers : after.numbers ≡ wanted
   pub budget : after.budget ≡ w.budget
   pub outcome : after.outcome ≡ w.outcome
@@ -38,17 +38,17 @@ pub record Keeps (w : World) (wanted : Numbers) (after : World) : Type 0 where
 -- It went on, and printed these lines, perhaps none.
 pub record WentOn (script : Script) (w : World) (events : List Event) (numbers : Numbers) (store : Store) (stack : List Activity) : Type 0 where
   pub goes : GoesOn script w events store stack
-  pub keeps : Keeps w numbers goes.after
+  pub keeps : DeathKeeps w numbers goes.after
 
 -- It hands out an object whose death is to begin.
 pub record GaveDeath (script : Script) (w : World) (o : ℕ) (store : Store) (stack : List Activity) : Type 0 where
   pub hands : HandsOutDeath script w o store stack
-  pub keeps : Keeps w w.numbers hands.before
+  pub keeps : DeathKeeps w w.numbers hands.before
 
 -- It hands out a frame.
 pub record GaveFrame (script : Script) (w : World) (spec : FrameSpec) (store : Store) (stack : List Activity) : Type 0 where
   pub hands : HandsOutFrame script w spec store stack
-  pub keeps : Keeps w w.numbers hands.before
+  pub keeps : DeathKeeps w w.numbers hands.before
 
 -- what a step of a release leaves of a heap, where these references were left
 abbrev pub once_released : List ℕ → Store → Store
@@ -71,7 +71,7 @@ ReleaseAnswer script w below store left answer_of.Gone = WentOn script w [] w.nu
 -- The answer is right in every world for which the heap stood before the call.
 abbrev pub ReleaseSteps : Store → List ℕ → Store → List ℕ → DeathStep → Type 0
 ReleaseSteps old left new left_after answer =
-    (script : Script) (w : World) (below : List Activity) → Stands old w (Releasing left ∷ below) → ReleaseAnswer script w below new left_after answer
+    (script : Script) (w : World) (below : List Activity) → DeathStands old w (Releasing left ∷ below) → ReleaseAnswer script w below new left_after answer
 
 -- the numbers after a line: that an object is freed lowers count 0 (developer guide, "optimization: generations")
 abbrev pub numbers_after : Event → Numbers → Numbers
@@ -88,7 +88,7 @@ DeathAnswer script w store stack answer_of.Gone = WentOn script w [] w.numbers s
 
 -- The answer is right in every world for which the heap stood before the call.
 abbrev pub DeathSteps : Script → Store → List Activity → Store → List Activity → DeathStep → Type 0
-DeathSteps script old tops new tops_after answer = (w : World) (below : List Activity) → Stands old w (tops ++ below) → DeathAnswer script w new (tops_after ++ below) answer
+DeathSteps script old tops new tops_after answer = (w : World) (below : List Activity) → DeathStands old w (tops ++ below) → DeathAnswer script w new (tops_after ++ below) answer
 
 -- the same for a turn of a phase
 abbrev pub TurnSteps : Script → Store → ℕ → Phase → Store → Turn → Type 0

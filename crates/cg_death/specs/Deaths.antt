@@ -10,7 +10,7 @@ use Rattle.cg_death.specs.declared.phase.Phase.{Phase}
 use Rattle.cg_death.specs.declared.phase.Phase.TheVariants as phase_of
 use Rattle.cg_death.specs.declared.phase.Turn.{Turn}
 use Rattle.cg_death.specs.declared.death.Death.{Death}
-use Rattle.cg_death.specs.Activities.{activities, references_left, IsUnheld, IsReadyAt}
+use Rattle.cg_death.specs.Activities.{activities, references_left, IsUnheld, IsReadyForDeathAt}
 use Rattle.cg_death.specs.declared.answer.DeathStep.{DeathStep}
 use Rattle.cg_death.specs.Answers.{IsCaused, may_end}
 use Rattle.cg_death.specs.Falls.{Falls, still_released}
@@ -33,8 +33,8 @@ IsUnheldDuring store o None = Unit {0}
 IsUnheldDuring store o (Some release) = IsUnheld store o
 
 -- What a step needs of the heap, which commands, frames and other deaths may have changed since the step before.
-abbrev pub IsReady : Death → Store → Type 0
-IsReady d store = IsReadyAt store d.object d.phase × IsUnheldDuring store d.object d.release
+abbrev pub IsReadyForDeath : Death → Store → Type 0
+IsReadyForDeath d store = IsReadyForDeathAt store d.object d.phase × IsUnheldDuring store d.object d.release
 
 -- while callbacks are called, and while entries are taken out, references are given up
 abbrev pub GivesUpAt : Phase → Type 0

@@ -20,7 +20,7 @@ use Rattle.cg_death.specs.declared.phase.Phase.{Phase}
 use Rattle.cg_death.specs.declared.phase.Phase.TheVariants as phase_of
 use Rattle.cg_death.specs.declared.phase.Turn.{Turn}
 use Rattle.cg_death.specs.declared.death.Death.{Death}
-use Rattle.cg_death.specs.Activities.{activities, HasHolds, HaveCallbacks, IsUnheld, IsReadyAt}
+use Rattle.cg_death.specs.Activities.{activities, HasHolds, HaveCallbacks, IsUnheld, IsReadyForDeathAt}
 use Rattle.cg_death.specs.Deaths.{IsUnheldDuring}
 
 -- no weak reference waits with an object
@@ -55,7 +55,7 @@ RowsFit script store o phase_of.Over = Unit {0}
 
 -- A death that may take a step, and has its holds; its object is no weak reference that waits or has a referent.
 pub record IsSteadyAt (script : Script) (store : Store) (o : ℕ) (phase : Phase) (release : Option Release) : Type 0 where
-  pub ready : IsReadyAt store o phase
+  pub ready : IsReadyForDeathAt store o phase
   pub during : IsUnheldDuring store o release
   pub held : HasHolds store (flat_map holds (activities o phase release store))
   pub rows : RowsFit script store o phase

@@ -11,9 +11,9 @@ ghost use Rattle.cg_heap.specs.Calls.{HasFewHolds};
 ghost use Rattle.cg_heap.specs.Weak.{cleared_weak};
 ghost use Rattle.cg_death.specs.declared.answer.DeathStep.TheVariants as answer_of;
 ghost use Rattle.cg_death.specs.declared.phase.Phase.TheVariants as phase_of;
-ghost use Rattle.cg_death.specs.Activities.{IsUnheld, HasHolds, IsReadyAt, own_holds_at, death_of};
+ghost use Rattle.cg_death.specs.Activities.{IsUnheld, HasHolds, IsReadyForDeathAt, own_holds_at, death_of};
 ghost use Rattle.cg_death.specs.Answers.{DeathSteps, MakesNone};
-ghost use Rattle.cg_death.specs.Deaths.{object_of, on_stack, held_by, IsReady, IsOver, IsSettled, IsGoing, IsOffStack, IsGoingAfter, DeathFalls, HasCause, TakesNext, forgets_referent};
+ghost use Rattle.cg_death.specs.Deaths.{object_of, on_stack, held_by, IsReadyForDeath, IsOver, IsSettled, IsGoing, IsOffStack, IsGoingAfter, DeathFalls, HasCause, TakesNext, forgets_referent};
 ghost use Rattle.cg_death.specs.Steady.{IsFresh, IsSteady, TakesFewHolds, KeepsNames, DeathStandsAfterFrame, DiesUnheld};
 ghost use Rattle.cg_death.specs.Turns.{TakesTurn};
 ghost use Rattle.cg_script.specs.declared.Script.{Script as AnyScript};
@@ -74,7 +74,7 @@ impl Death {
     pub fn step<B: Kind>(&mut self, heap: &mut Heap<B>, script: &Script) -> DeathStep
         requires few { HasFewHolds heap.old }
         requires held { HasHolds heap.old (held_by self.old heap.old) }
-        requires ready { IsReady self.old heap.old }
+        requires ready { IsReadyForDeath self.old heap.old }
         ensures steps { DeathSteps script.now heap.old (on_stack self.old heap.old) heap.new
             (on_stack self.new heap.new) result }
 
@@ -136,7 +136,7 @@ fn lose_own_referent<B: Kind>(object: u64, heap: &mut Heap<B>)
 fn turn<B: Kind>(object: u64, phase: Phase, heap: &mut Heap<B>, script: &Script) -> Turn
     requires few { HasFewHolds heap.old }
     requires held { HasHolds heap.old (own_holds_at object phase) }
-    requires ready { IsReadyAt heap.old object phase }
+    requires ready { IsReadyForDeathAt heap.old object phase }
     ensures takes { TakesTurn script.now heap.old object phase heap.new result }
     ensures over { phase ≡ phase_of.Over → result.answer ≡ answer_of.Gone }
     ensures rests { phase ≡ phase_of.Over → heap.new ≡ heap.old }

@@ -23,7 +23,7 @@ use Rattle.cg_graph.proofs.Maps.{same_map, get-mapped}
 use Rattle.cg_arena.specs.Nodes.{ArenaNode, Nodes, count_in, counted_up, counted_down, node_counted_up, new_node as new_arena_node, with_room, with_node as with_arena_node, with_node_changed, with_node_moved, with_lists_merged, node_finalized, node_numbered, node_lowered, following, IsListed as IsArenaListed, count_in_list, place_of as arena_place_of, place_in as arena_place_in}
 use Rattle.cg_heap.proofs.ReferenceLemmas.{occurrences-le, reference-le, name-le, references-le}
 use Rattle.cg_heap.specs.Boxes.{bodies_at, boxes_with_body, spare_in_box}
-use Rattle.cg_heap.specs.Keeps.{Keeps, Alike, store_of, node_from, seat_in, HasClass}
+use Rattle.cg_heap.specs.Keeps.{HeapKeeps, Alike, store_of, node_from, seat_in, HasClass}
 use Rattle.cg_heap.specs.Calls.{HasFewHolds, object_number, entry_number, code_of, IsMutable, IsLiveValue, value_in, with_put, merged, marked, with_number, lowered, with_node, IsSound, IsListed}
 use Rattle.cg_heap.proofs.Stands.{Closed, closed, keeps-held, keeps-unheld, live-mapped}
 use Rattle.cg_heap.proofs.Room.{room-below, live-node, one-enough, counted-has}
@@ -36,7 +36,7 @@ use Rattle.cg_heap.proofs.CallerLemmas.{lives_on, kinds-held, kinds-unheld, kind
 use Rattle.cg_heap.proofs.RowsAndHolds.{kept}
 
 -- the fields of a heap, and the store that they stand for
-pub stands : (all : List Bodies) (v : Nodes) (names : List (Option Val)) (last : ℕ) (rows : List Row) (objects number : ℕ) (old : Store) → Keeps all v.nodes objects number (store_of all v names last rows) × RowsAndHolds (store_of all v names last rows) → store_of all v names last rows ≡ old → Closed all v names last rows objects number old
+pub stands : (all : List Bodies) (v : Nodes) (names : List (Option Val)) (last : ℕ) (rows : List Row) (objects number : ℕ) (old : Store) → HeapKeeps all v.nodes objects number (store_of all v names last rows) × RowsAndHolds (store_of all v names last rows) → store_of all v names last rows ≡ old → Closed all v names last rows objects number old
 stands all v names last rows objects number old ok view = record { keeps = ok; is = view }
 
 -- a refusal that leaves what a fact says
@@ -78,7 +78,7 @@ takes Func k es i = absurd k
 takes Weak k es i = absurd k
 
 -- the lists of the places and the rows are no part of it
-pub keeps-aside : {all : List Bodies} {nodes : fin.FinMap nat_cmp ArenaNode} {objects number : ℕ} {store : Store} {lists : List (List ℕ)} {rows : List Row} → Keeps all nodes objects number store → Keeps all nodes objects number (record store { lists = lists; rows = rows })
+pub keeps-aside : {all : List Bodies} {nodes : fin.FinMap nat_cmp ArenaNode} {objects number : ℕ} {store : Store} {lists : List (List ℕ)} {rows : List Row} → HeapKeeps all nodes objects number store → HeapKeeps all nodes objects number (record store { lists = lists; rows = rows })
 keeps-aside ok = record {
   shape = record { six = ok.shape.six; alike = ok.shape.alike; apart = ok.shape.apart; below = ok.shape.below };
   counted = ok.counted;

@@ -18,7 +18,7 @@ use Rattle.cg_graph.proofs.Maps.{total-insert, get-insert_same, get-insert_other
 use Rattle.cg_arena.specs.Nodes.{ArenaNode, Nodes, count_in, counted_up, node_counted_up, with_node, new_node as new_arena_node}
 use Rattle.cg_heap.proofs.ReferenceLemmas.{occurrences-one, one_if}
 use Rattle.cg_heap.specs.Boxes.{code_index, bodies_at, HasBody, spare_in_box}
-use Rattle.cg_heap.specs.Keeps.{Keeps, Shape, Alike, size, one, node_from, seat_in, HasClass, IsWellMadeAt, IsGarbage}
+use Rattle.cg_heap.specs.Keeps.{HeapKeeps, Shape, Alike, size, one, node_from, seat_in, HasClass, IsWellMadeAt, IsGarbage}
 use Rattle.cg_heap.proofs.BoxLemmas.{code_index-below}
 use Rattle.cg_heap.proofs.Stands.{shape-up, up-counts, live-mapped, seat-up}
 use Rattle.cg_heap.proofs.Room.{live-node}
@@ -30,7 +30,7 @@ no_body : {X : Type 0} {Y : Type 0} (y : Option X) → y ≡ None → IsSome y �
 no_body None e h = absurd (cc)
 no_body (Some x) e h = absurd (cc)
 
-module _ (all : List Bodies) (v : Nodes) (objects number : ℕ) (store : Store) (ok : Keeps all v.nodes objects number store) (code : KindCode) (class : Option ℕ) (parts : List Entry) (body spare : ℕ) (vacant : fin.get (bodies_at all code) body ≡ None) (live : (s : ℕ) → 0 < occurrences s (references parts) → IsLive store s) (is_parts : IsParts code parts) (class_fits : HasClass code class) where
+module _ (all : List Bodies) (v : Nodes) (objects number : ℕ) (store : Store) (ok : HeapKeeps all v.nodes objects number store) (code : KindCode) (class : Option ℕ) (parts : List Entry) (body spare : ℕ) (vacant : fin.get (bodies_at all code) body ≡ None) (live : (s : ℕ) → 0 < occurrences s (references parts) → IsLive store s) (is_parts : IsParts code parts) (class_fits : HasClass code class) where
   abbrev serial : ℕ
   serial = store.last + 1
 
@@ -219,7 +219,7 @@ module _ (all : List Bodies) (v : Nodes) (objects number : ℕ) (store : Store) 
       let (x, found, is, has) = object-of all v.nodes store.nodes 1 m (ok.shape.alike 1) at in
       (λ i. spare_in_box all_made (sym c i) (sym b i)) ∙ ap spare_of (made-kept m has) ∙ (λ i. spare_in_box all (c i) (b i))
 
-  pub keeps-made : objects < length (entries_of store 1) + spare_in_box all ListKind ok.root.body → objects < 1000000 → number + length parts ≤ 4000000 → Keeps all_made counts.nodes (objects + 1) (number + length parts) after
+  pub keeps-made : objects < length (entries_of store 1) + spare_in_box all ListKind ok.root.body → objects < 1000000 → number + length parts ≤ 4000000 → HeapKeeps all_made counts.nodes (objects + 1) (number + length parts) after
   keeps-made reserved few fits =
       record {
         shape = shape-up all_made (counted_up (serial ∷ []) added).nodes after (shape-up all_made added.nodes after shape-made (serial ∷ [])) (references parts);

@@ -20,7 +20,7 @@ use Rattle.cg_graph.proofs.Maps.{total-remove, get-remove_same, get-remove_other
 use Rattle.cg_arena.specs.Nodes.{ArenaNode, Nodes, count_in, counted_up, node_placed, node_finalized, node_numbered, node_lowered, place_of as arena_place_of, place_in as arena_place_in, place_merged as arena_place_merged}
 use Rattle.cg_heap.proofs.HoldLemmas.{outside-held, name-sum, name_holds}
 use Rattle.cg_heap.specs.Boxes.{code_index, bodies_at, HasBody, spare_in_box}
-use Rattle.cg_heap.specs.Keeps.{Keeps, Alike, size, one, node_from, seat_in, IsWellMade, IsWellMadeAt, IsGarbage}
+use Rattle.cg_heap.specs.Keeps.{HeapKeeps, Alike, size, one, node_from, seat_in, IsWellMade, IsWellMadeAt, IsGarbage}
 use Rattle.cg_heap.specs.Calls.{place_merged, marked, with_number, lowered}
 use Rattle.cg_heap.proofs.Stands.{shape-up, shape-held, up-counts, held-inner, held-ones, held-well, held-sizes, held-entries, keeps-counts, seat-up}
 use Rattle.cg_heap.proofs.Rewrites.{object-of, bodies_gone, spare-left}
@@ -28,7 +28,7 @@ use Rattle.cg_heap.proofs.Takes.{held-live}
 use Rattle.cg_value.specs.declared.Entry.{Entry}
 use Rattle.cg_value.specs.declared.KindCode.TheVariants.{List as ListKind}
 
-module _ (all : List Bodies) (v : Nodes) (objects number : ℕ) (store : Store) (ok : Keeps all v.nodes objects number store) where
+module _ (all : List Bodies) (v : Nodes) (objects number : ℕ) (store : Store) (ok : HeapKeeps all v.nodes objects number store) where
   -- a name has another value
   module _ (i : ℕ) (old new : Option Val) (was : slice_get store.names i ≡ Some old) (live : (s : ℕ) → 0 < occurrences s (references_of_value new) → IsSome (fin.get v.nodes s)) where
     abbrev pub bound : Store
@@ -47,7 +47,7 @@ module _ (all : List Bodies) (v : Nodes) (objects number : ℕ) (store : Store) 
     old_live : (s : ℕ) → 0 < occurrences s (references_of_value old) → IsLive (named i new store) s
     old_live s there = held-live all v.nodes objects number store ok s (omega (arith, name_holds store i old was s, there))
 
-    pub keeps-named : Keeps all (counted_up (references_of_value new) v).nodes objects number bound
+    pub keeps-named : HeapKeeps all (counted_up (references_of_value new) v).nodes objects number bound
     keeps-named =
         record {
           shape = shape-up all v.nodes bound (shape-held all v.nodes (named i new store) (record { six = ok.shape.six; alike = ok.shape.alike; apart = ok.shape.apart; below = ok.shape.below }) (references_of_value old)) (references_of_value new);
@@ -95,7 +95,7 @@ module _ (all : List Bodies) (v : Nodes) (objects number : ℕ) (store : Store) 
     well_if true x h = well x h
     well_if false x h = h
 
-    pub keeps-changed : (o : ℕ) → Keeps all (changed f o v.nodes) objects number (record store { nodes = changed g o store.nodes })
+    pub keeps-changed : (o : ℕ) → HeapKeeps all (changed f o v.nodes) objects number (record store { nodes = changed g o store.nodes })
     keeps-changed o =
         keeps-counts all v objects number store ok (λ s n. f_if (s == o) n) (λ s x. g_if (s == o) x)
         (λ s n. at_if (s == o) n)
@@ -105,20 +105,20 @@ module _ (all : List Bodies) (v : Nodes) (objects number : ℕ) (store : Store) 
         (λ s x h. well_if (s == o) x h)
 
   -- an object moves
-  pub keeps-moved : (o : ℕ) (p : Place) → Keeps all (changed (node_placed p) o v.nodes) objects number (record store { nodes = changed (with_place p) o store.nodes })
+  pub keeps-moved : (o : ℕ) (p : Place) → HeapKeeps all (changed (node_placed p) o v.nodes) objects number (record store { nodes = changed (with_place p) o store.nodes })
   keeps-moved o p = keeps-changed (node_placed p) (with_place p) (λ n. refl) (λ x n k e. ap (with_place p) e) (λ x. refl) (λ x. refl) (λ n. refl) (λ x h. record { items = h.items; classed = h.classed; single = h.single }) o
 
-  pub keeps-marked : (o : ℕ) → Keeps all (changed node_finalized o v.nodes) objects number (record store { nodes = changed marked o store.nodes })
+  pub keeps-marked : (o : ℕ) → HeapKeeps all (changed node_finalized o v.nodes) objects number (record store { nodes = changed marked o store.nodes })
   keeps-marked o = keeps-changed node_finalized marked (λ n. refl) (λ x n k e. ap marked e) (λ x. refl) (λ x. refl) (λ n. refl) (λ x h. record { items = h.items; classed = h.classed; single = h.single }) o
 
-  pub keeps-numbered : (o k : ℕ) → Keeps all (changed (node_numbered k) o v.nodes) objects number (record store { nodes = changed (with_number k) o store.nodes })
+  pub keeps-numbered : (o k : ℕ) → HeapKeeps all (changed (node_numbered k) o v.nodes) objects number (record store { nodes = changed (with_number k) o store.nodes })
   keeps-numbered o k = keeps-changed (node_numbered k) (with_number k) (λ n. refl) (λ x n j e. ap (with_number k) e) (λ x. refl) (λ x. refl) (λ n. refl) (λ x h. record { items = h.items; classed = h.classed; single = h.single }) o
 
-  pub keeps-lowered : (o : ℕ) → Keeps all (changed node_lowered o v.nodes) objects number (record store { nodes = changed lowered o store.nodes })
+  pub keeps-lowered : (o : ℕ) → HeapKeeps all (changed node_lowered o v.nodes) objects number (record store { nodes = changed lowered o store.nodes })
   keeps-lowered o = keeps-changed node_lowered lowered (λ n. refl) (λ x n j e. ap lowered e) (λ x. refl) (λ x. refl) (λ n. refl) (λ x h. record { items = h.items; classed = h.classed; single = h.single }) o
 
   -- all objects of a place move to another
-  pub keeps-merged : (p q : Place) → Keeps all (mapped (λ s n. arena_place_merged p q n) v.nodes) objects number (record store { nodes = mapped (λ s n. place_merged p q n) store.nodes })
+  pub keeps-merged : (p q : Place) → HeapKeeps all (mapped (λ s n. arena_place_merged p q n) v.nodes) objects number (record store { nodes = mapped (λ s n. place_merged p q n) store.nodes })
   keeps-merged p q =
       keeps-counts all v objects number store ok (λ s n. arena_place_merged p q n) (λ s x. place_merged p q x)
       (λ s n. at (place_number n.place == place_number p) n)
@@ -189,7 +189,7 @@ module _ (all : List Bodies) (v : Nodes) (objects number : ℕ) (store : Store) 
     abbrev pub all_gone : List Bodies
     all_gone = set all (code_index n.code) (fin.remove (bodies_at all n.code) n.body)
 
-    pub keeps-gone : Keeps all_gone (fin.remove v.nodes o) (objects - 1) number (record store { nodes = fin.remove store.nodes o })
+    pub keeps-gone : HeapKeeps all_gone (fin.remove v.nodes o) (objects - 1) number (record store { nodes = fin.remove store.nodes o })
     unfolding held_within
     keeps-gone =
         record {

@@ -23,7 +23,7 @@ use Rattle.cg_graph.specs.Changes.{opening_store, garbage_node, with_entries}
 use Rattle.cg_graph.proofs.Maps.{total-insert, get-insert_same, get-insert_other}
 use Rattle.cg_arena.specs.Nodes.{ArenaNode, Nodes, count_in, counted_up, with_node, with_room, new_node, no_nodes}
 use Rattle.cg_heap.specs.Boxes.{bodies_at, boxes_with_body, spare_in_box}
-use Rattle.cg_heap.specs.Keeps.{Keeps, Shape, size, one, seat_in, IsWellMadeAt, IsGarbage, IsSaved}
+use Rattle.cg_heap.specs.Keeps.{HeapKeeps, Shape, size, one, seat_in, IsWellMadeAt, IsGarbage, IsSaved}
 use Rattle.cg_heap.proofs.Stands.{Closed, closed, shape-up, up-counts, seat-up}
 
 abbrev empties : List Bodies
@@ -109,7 +109,7 @@ module _ (n body spare room : ℕ) where
   root-opening : entries_of (opening_store n) 1 ≡ []
   root-opening = ap entries_in (get-insert_same fin.empty 1 1 garbage_node refl)
 
-  pub keeps-opening : n < 1073741824 → Keeps boxes (counted_up (1 ∷ []) first_nodes).nodes 0 0 (opening_store n)
+  pub keeps-opening : n < 1073741824 → HeapKeeps boxes (counted_up (1 ∷ []) first_nodes).nodes 0 0 (opening_store n)
   keeps-opening few = record {
     shape = shape-up boxes first_nodes.nodes (opening_store n) shape-opening (1 ∷ []);
     counted = counted-opening;

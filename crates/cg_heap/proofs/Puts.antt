@@ -18,7 +18,7 @@ use Rattle.cg_graph.specs.Changes.{held, rewritten, with_entries}
 use Rattle.cg_arena.specs.Nodes.{ArenaNode, Nodes, counted_up}
 use Rattle.cg_heap.proofs.HoldLemmas.{outside-held, outside-rewritten}
 use Rattle.cg_heap.proofs.ReferenceLemmas.{occurrences-append, references-append}
-use Rattle.cg_heap.specs.Keeps.{Keeps, IsWellMade, IsGarbage}
+use Rattle.cg_heap.specs.Keeps.{HeapKeeps, IsWellMade, IsGarbage}
 use Rattle.cg_heap.specs.Calls.{IsMutable}
 use Rattle.cg_heap.proofs.Stands.{shape-up, shape-held, up-counts, held-inner, held-ones, held-well, held-sizes, held-entries, live-mapped, seat-up}
 use Rattle.cg_heap.proofs.Rewrites.{all_after, object-of, shape-written, inner-written, ones-written, well-written, sizes-written, entries-written_other, spare-kept}
@@ -26,11 +26,11 @@ use Rattle.cg_heap.proofs.Takes.{held-live}
 use Rattle.cg_heap.specs.Boxes.{spare_in_box}
 
 -- Entries other than before: what comes is counted, what leaves is held.
-pub keeps-put : (all : List Bodies) (v : Nodes) (objects number : ℕ) (store : Store) (ok : Keeps all v.nodes objects number store) (o : ℕ) (n : ArenaNode) (found : fin.get v.nodes o ≡ Some n) (es : List Entry) (spare : ℕ) (ups outs : List ℕ)
+pub keeps-put : (all : List Bodies) (v : Nodes) (objects number : ℕ) (store : Store) (ok : HeapKeeps all v.nodes objects number store) (o : ℕ) (n : ArenaNode) (found : fin.get v.nodes o ≡ Some n) (es : List Entry) (spare : ℕ) (ups outs : List ℕ)
     → ((s : ℕ) → occurrences s (references es) + occurrences s outs ≡ occurrences s (references (entries_of store o)) + occurrences s ups)
     → ((s : ℕ) → occurrences s outs ≤ occurrences s (references (entries_of store o)))
     → ((s : ℕ) → 0 < occurrences s ups → IsSome (fin.get v.nodes s)) → o ≢ 1 → ((x : Node) → fin.get store.nodes o ≡ Some x → IsWellMade x → IsWellMade (with_entries es x)) → (number' : ℕ) → number' + length (entries_of store o) ≡ number + length es → number' ≤ 4000000
-    → Keeps (all_after all v.nodes store ok.shape o n found es spare) (counted_up ups v).nodes objects number' (held outs (rewritten o es store))
+    → HeapKeeps (all_after all v.nodes store ok.shape o n found es spare) (counted_up ups v).nodes objects number' (held outs (rewritten o es store))
 keeps-put all v objects number store ok o n found es spare ups outs balance were live other well number' sizes limit =
     let (x, at, is, h) = object-of all v.nodes store.nodes o n (ok.shape.alike o) found in
     let len : length x.entries ≡ length (entries_of store o) = ap (λ y. length (entries_in y)) (sym at) in

@@ -13,7 +13,7 @@ use Rattle.cg_graph.specs.Store.{Store, Node, held_within, held_by, inner, outsi
 use Rattle.cg_graph.proofs.Maps.{total-remove}
 use Rattle.cg_arena.specs.Nodes.{ArenaNode, count_in}
 use Rattle.cg_heap.proofs.ReferenceLemmas.{names-le, occurrences-le, occurrences-one, one_if, references-le}
-use Rattle.cg_heap.specs.Keeps.{Keeps, Alike, size, RowsAndHolds}
+use Rattle.cg_heap.specs.Keeps.{HeapKeeps, Alike, size, RowsAndHolds}
 
 sum-le : (s : ℕ) (es : List (ℕ × Node)) → sum_by (λ e. held_by s e.1) es ≤ 2 * sum_by (λ e. size e.1) es
 sum-le s [] = omega arith
@@ -38,12 +38,12 @@ pub inner-le : (store : Store) (s : ℕ) → inner store s ≤ length store.name
 unfolding held_within
 inner-le store s = omega (arith, occurrences-le s (name_holdings store.names), names-le store.names, occurrences-le s (1 ∷ []), sum-le s (fin.entries store.nodes))
 
-pub room-below : (all : List Bodies) (nodes : fin.FinMap nat_cmp ArenaNode) (objects number : ℕ) (store : Store) → Keeps all nodes objects number store → RowsAndHolds store → (s : ℕ) → count_in (fin.get nodes s) < 4000000000
+pub room-below : (all : List Bodies) (nodes : fin.FinMap nat_cmp ArenaNode) (objects number : ℕ) (store : Store) → HeapKeeps all nodes objects number store → RowsAndHolds store → (s : ℕ) → count_in (fin.get nodes s) < 4000000000
 room-below all nodes objects number store ok rest s =
     omega (arith, ok.counted s, inner-le store s, outside-le store s, ok.sized, ok.entry_limit, ok.garbage, ok.names, rest.holds)
 
 -- what the nodes and the store have is the same
-pub live-node : (all : List Bodies) (nodes : fin.FinMap nat_cmp ArenaNode) (objects number : ℕ) (store : Store) → Keeps all nodes objects number store → (s : ℕ) → IsLive store s → IsSome (fin.get nodes s)
+pub live-node : (all : List Bodies) (nodes : fin.FinMap nat_cmp ArenaNode) (objects number : ℕ) (store : Store) → HeapKeeps all nodes objects number store → (s : ℕ) → IsLive store s → IsSome (fin.get nodes s)
 live-node all nodes objects number store ok s live = known (fin.get nodes s) (fin.get store.nodes s) (ok.shape.alike s) live
   where
     known : (a : Option ArenaNode) (x : Option Node) → Alike all a x → IsSome x → IsSome a
@@ -63,5 +63,5 @@ one-enough store o has s =
           omega (arith, is, occurrences-one s o)
     ]
 
-pub counted-has : (all : List Bodies) (nodes : fin.FinMap nat_cmp ArenaNode) (objects number : ℕ) (store : Store) → Keeps all nodes objects number store → (s : ℕ) → 0 < outside_of store s → 0 < count_in (fin.get nodes s)
+pub counted-has : (all : List Bodies) (nodes : fin.FinMap nat_cmp ArenaNode) (objects number : ℕ) (store : Store) → HeapKeeps all nodes objects number store → (s : ℕ) → 0 < outside_of store s → 0 < count_in (fin.get nodes s)
 counted-has all nodes objects number store ok s has = omega (arith, ok.counted s, has)

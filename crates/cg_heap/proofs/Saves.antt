@@ -22,7 +22,7 @@ use Rattle.cg_arena.specs.Nodes.{ArenaNode, Nodes, counted_up}
 use Rattle.cg_heap.proofs.HoldLemmas.{outside-rewritten}
 use Rattle.cg_heap.proofs.ReferenceLemmas.{occurrences-append, push-item, occurrences-le, occurrences-one, one_if}
 use Rattle.cg_heap.specs.Boxes.{HasBody, entries_in_box, spare_in_box, boxes_with_body}
-use Rattle.cg_heap.specs.Keeps.{Keeps, Shape, store_of, one, IsSaved, IsGarbage, IsWellMade}
+use Rattle.cg_heap.specs.Keeps.{HeapKeeps, Shape, store_of, one, IsSaved, IsGarbage, IsWellMade}
 use Rattle.cg_heap.proofs.Stands.{Closed, closed, shape-up, seat-up, up-counts}
 use Rattle.cg_heap.proofs.Room.{live-node}
 use Rattle.cg_heap.proofs.Rewrites.{node_seated, object-of, rewritten-same, shape-written, spare-written, inner-written, ones-written, well-written, sizes-written, entries-written}
@@ -62,7 +62,7 @@ saved_length (e ∷ es) h =
     let one : length (entry_references e) ≡ 1 = ap (λ y. length (entry_references y)) is in
     omega (arith, one, length-append (entry_references e) (references es), saved_length es (All-tail IsSaved e es h))
 
-module _ (all : List Bodies) (v : Nodes) (objects number : ℕ) (store : Store) (ok : Keeps all v.nodes objects number store) (n : ArenaNode) (found : fin.get v.nodes 1 ≡ Some n) where
+module _ (all : List Bodies) (v : Nodes) (objects number : ℕ) (store : Store) (ok : HeapKeeps all v.nodes objects number store) (n : ArenaNode) (found : fin.get v.nodes 1 ≡ Some n) where
   saved_live : (s : ℕ) → 0 < occurrences s (1 ∷ references (entries_of store 1)) → IsLive store s
   saved_live s has =
       let (x, at, is, body) = object-of all v.nodes store.nodes 1 n (ok.shape.alike 1) found in
@@ -111,7 +111,7 @@ module _ (all : List Bodies) (v : Nodes) (objects number : ℕ) (store : Store) 
     abbrev es : List Entry
     es = entries_of store 1 ++ item (val.Ref o) ∷ []
 
-    keeps-saved : n.code ≡ ListKind → n.body ≡ ok.root.body → (spare : ℕ) → spare_in_box all n.code n.body ≤ spare + 1 → Keeps (boxes_with_body all n.code n.body es spare) (counted_up (o ∷ []) v).nodes objects number (rewritten 1 es store)
+    keeps-saved : n.code ≡ ListKind → n.body ≡ ok.root.body → (spare : ℕ) → spare_in_box all n.code n.body ≤ spare + 1 → HeapKeeps (boxes_with_body all n.code n.body es spare) (counted_up (o ∷ []) v).nodes objects number (rewritten 1 es store)
     keeps-saved list at_root spare less =
         let (x, at, is, body) = object-of all v.nodes store.nodes 1 n (ok.shape.alike 1) found in
         let now : entries_of (rewritten 1 es store) 1 ≡ es = entries-written store 1 x at es in
@@ -158,7 +158,7 @@ module _ (all : List Bodies) (v : Nodes) (objects number : ℕ) (store : Store) 
         }
 
   -- the garbage list has more room
-  keeps-reserved : n.code ≡ ListKind → n.body ≡ ok.root.body → (spare : ℕ) → spare_in_box all n.code n.body ≤ spare → Keeps (boxes_with_body all n.code n.body (entries_of store 1) spare) v.nodes objects number store
+  keeps-reserved : n.code ≡ ListKind → n.body ≡ ok.root.body → (spare : ℕ) → spare_in_box all n.code n.body ≤ spare → HeapKeeps (boxes_with_body all n.code n.body (entries_of store 1) spare) v.nodes objects number store
   keeps-reserved list at_root spare more = record {
     shape = subst (λ s. Shape (boxes_with_body all n.code n.body (entries_of store 1) spare) v.nodes s) (rewritten-same store 1) (shape-written all v.nodes store ok.shape 1 n found (entries_of store 1) spare);
     counted = ok.counted;

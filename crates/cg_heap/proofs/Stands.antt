@@ -16,7 +16,7 @@ use Rattle.cg_graph.specs.Changes.{more, less, held, unheld}
 use Rattle.cg_graph.proofs.Maps.{get-mapped, total-mapped, same_map}
 use Rattle.cg_arena.specs.Nodes.{ArenaNode, Nodes, count_in, counted_up, counted_down, node_counted_up, node_counted_down}
 use Rattle.cg_heap.specs.Boxes.{HasBody, spare_in_box}
-use Rattle.cg_heap.specs.Keeps.{Keeps, Shape, Alike, node_from, bare_nodes, nodes_from, store_of, seat_in, size, one, IsWellMade, IsWellMadeAt, IsGarbage, RowsAndHolds}
+use Rattle.cg_heap.specs.Keeps.{HeapKeeps, Shape, Alike, node_from, bare_nodes, nodes_from, store_of, seat_in, size, one, IsWellMade, IsWellMadeAt, IsGarbage, RowsAndHolds}
 use Rattle.cg_value.specs.declared.Entry.{Entry}
 use Rattle.cg_value.specs.declared.KindCode.TheVariants.{List as ListKind}
 
@@ -63,13 +63,13 @@ nodes-are all names nodes m alike counted =
 
 -- The fields stand for the store, and the struct may close over them.
 pub record Closed (all : List Bodies) (v : Nodes) (names : List (Option Val)) (last : ℕ) (rows : List Row) (objects number : ℕ) (store : Store) : Type 0 where
-  pub keeps : Keeps all v.nodes objects number (store_of all v names last rows) × RowsAndHolds (store_of all v names last rows)
+  pub keeps : HeapKeeps all v.nodes objects number (store_of all v names last rows) × RowsAndHolds (store_of all v names last rows)
   pub is : store_of all v names last rows ≡ store
 
-pub closed : (all : List Bodies) (v : Nodes) (objects number : ℕ) (store : Store) → Keeps all v.nodes objects number store → RowsAndHolds store → v.lists ≡ store.lists → Closed all v store.names store.last store.rows objects number store
+pub closed : (all : List Bodies) (v : Nodes) (objects number : ℕ) (store : Store) → HeapKeeps all v.nodes objects number store → RowsAndHolds store → v.lists ≡ store.lists → Closed all v store.names store.last store.rows objects number store
 closed all v objects number store ok rest lists =
     record {
-      keeps = subst (λ s. Keeps all v.nodes objects number s × RowsAndHolds s) (sym is) (ok, rest);
+      keeps = subst (λ s. HeapKeeps all v.nodes objects number s × RowsAndHolds s) (sym is) (ok, rest);
       is = is;
     }
   where
@@ -206,7 +206,7 @@ well-mapped g m well was s = subst IsWellMadeAt (sym (get-mapped g m s)) (known 
 pub held-well : (refs : List ℕ) (store : Store) → ((s : ℕ) → IsWellMadeAt (fin.get store.nodes s)) → (s : ℕ) → IsWellMadeAt (fin.get (held refs store).nodes s)
 held-well refs store = well-mapped (λ s n. more (occurrences s refs) n) store.nodes (λ s x h. record { items = h.items; classed = h.classed; single = h.single })
 
-module _ (all : List Bodies) (v : Nodes) (objects number : ℕ) (store : Store) (ok : Keeps all v.nodes objects number store) where
+module _ (all : List Bodies) (v : Nodes) (objects number : ℕ) (store : Store) (ok : HeapKeeps all v.nodes objects number store) where
   -- counts and holds changed alike
   module _ (f : ℕ → ArenaNode → ArenaNode) (g : ℕ → Node → Node) (at : (s : ℕ) (n : ArenaNode) → seat_in (Some (f s n)) ≡ seat_in (Some n)) (pair : (s : ℕ) (x : Node) (n : ArenaNode) (k : ℕ) → x ≡ node_from all n k → g s x ≡ node_from all (f s n) (g s x).outside) (es : (s : ℕ) (x : Node) → (g s x).entries ≡ x.entries) (counts : (s : ℕ) (n : ArenaNode) (x : Node) (within : ℕ) → fin.get store.nodes s ≡ Some x → n.count ≡ within + x.outside → (f s n).count ≡ within + (g s x).outside) (well : (s : ℕ) (x : Node) → IsWellMade x → IsWellMade (g s x)) where
     abbrev after : Store
@@ -228,7 +228,7 @@ module _ (all : List Bodies) (v : Nodes) (objects number : ℕ) (store : Store) 
         known (Some n) None within e h c = absurd h
         known (Some n) (Some x) within e h c = counts s n x within e c
 
-    pub keeps-counts : Keeps all (mapped f v.nodes) objects number after
+    pub keeps-counts : HeapKeeps all (mapped f v.nodes) objects number after
     keeps-counts =
         record {
           shape = shape-counts f g all v.nodes store ok.shape at pair;
@@ -249,7 +249,7 @@ module _ (all : List Bodies) (v : Nodes) (objects number : ℕ) (store : Store) 
         }
 
   -- one hold more for each reference
-  pub keeps-held : (refs : List ℕ) → Keeps all (counted_up refs v).nodes objects number (held refs store)
+  pub keeps-held : (refs : List ℕ) → HeapKeeps all (counted_up refs v).nodes objects number (held refs store)
   keeps-held refs =
       keeps-counts (λ s n. node_counted_up (occurrences s refs) n) (λ s n. more (occurrences s refs) n) (λ s n. refl)
       (λ s x n k e. ap (λ y. with_outside y (x.outside + occurrences s refs)) e)
@@ -257,7 +257,7 @@ module _ (all : List Bodies) (v : Nodes) (objects number : ℕ) (store : Store) 
       (λ s n x within e c. omega (arith, c))
       (λ s x h. record { items = h.items; classed = h.classed; single = h.single })
 
-  pub keeps-unheld : (refs : List ℕ) → ((s : ℕ) → occurrences s refs ≤ outside_of store s) → Keeps all (counted_down refs v).nodes objects number (unheld refs store)
+  pub keeps-unheld : (refs : List ℕ) → ((s : ℕ) → occurrences s refs ≤ outside_of store s) → HeapKeeps all (counted_down refs v).nodes objects number (unheld refs store)
   keeps-unheld refs enough =
       keeps-counts (λ s n. node_counted_down (occurrences s refs) n) (λ s n. less (occurrences s refs) n) (λ s n. refl)
       (λ s x n k e. ap (λ y. with_outside y (x.outside - occurrences s refs)) e)

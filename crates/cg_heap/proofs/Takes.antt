@@ -14,7 +14,7 @@ use Rattle.cg_graph.specs.Changes.{held, rewritten, with_entries}
 use Rattle.cg_arena.specs.Nodes.{ArenaNode, Nodes, count_in}
 use Rattle.cg_heap.proofs.HoldLemmas.{outside-held, outside-rewritten}
 use Rattle.cg_heap.proofs.ReferenceLemmas.{occurrences-append}
-use Rattle.cg_heap.specs.Keeps.{Keeps, Alike, size, IsWellMade, IsGarbage, IsSaved, seat_in}
+use Rattle.cg_heap.specs.Keeps.{HeapKeeps, Alike, size, IsWellMade, IsGarbage, IsSaved, seat_in}
 use Rattle.cg_heap.specs.Calls.{number_less}
 use Rattle.cg_heap.proofs.Stands.{shape-held, held-inner, held-ones, held-well, held-sizes, held-entries, live-mapped}
 use Rattle.cg_heap.proofs.Rewrites.{all_after, object-of, shape-written, inner-written, ones-written, well-written, sizes-written, entries-written, entries-written_other, two-sizes, spare-kept, spare-written}
@@ -23,7 +23,7 @@ use Rattle.std.proofs.lemmas.Option.{some_pair_parts}
 use Rattle.cg_value.specs.declared.KindCode.TheVariants.{List as ListKind}
 
 -- what is held is live
-pub held-live : (all : List Bodies) (nodes : fin.FinMap nat_cmp ArenaNode) (objects number : ℕ) (store : Store) → Keeps all nodes objects number store → (s : ℕ) → 0 < inner store s → IsLive store s
+pub held-live : (all : List Bodies) (nodes : fin.FinMap nat_cmp ArenaNode) (objects number : ℕ) (store : Store) → HeapKeeps all nodes objects number store → (s : ℕ) → 0 < inner store s → IsLive store s
 held-live all nodes objects number store ok s held = known (fin.get nodes s) (fin.get store.nodes s) (ok.shape.alike s) (omega (arith, ok.counted s, held))
   where
     known : (a : Option ArenaNode) (x : Option Node) → Alike all a x → 0 < count_in a → IsSome x
@@ -37,7 +37,7 @@ number_less-other o number differs = ap (λ b. if b then number else number - 1)
 number_less-same : (o number : ℕ) → o ≡ 1 → number_less o number ≡ number
 number_less-same o number same = ap (λ b. if b then number else number - 1) (eq-eqb o 1 same)
 
-module _ (all : List Bodies) (v : Nodes) (objects number : ℕ) (store : Store) (ok : Keeps all v.nodes objects number store) (o : ℕ) (n : ArenaNode) (found : fin.get v.nodes o ≡ Some n) (es : List Entry) (spare : ℕ) where
+module _ (all : List Bodies) (v : Nodes) (objects number : ℕ) (store : Store) (ok : HeapKeeps all v.nodes objects number store) (o : ℕ) (n : ArenaNode) (found : fin.get v.nodes o ≡ Some n) (es : List Entry) (spare : ℕ) where
   abbrev after : List Bodies
   after = all_after all v.nodes store ok.shape o n found es spare
 
@@ -54,7 +54,7 @@ module _ (all : List Bodies) (v : Nodes) (objects number : ℕ) (store : Store) 
     abbrev pub taken : Store
     taken = held refs (rewritten o es store)
 
-    pub keeps-taken : Keeps after v.nodes objects (number_less o number) taken
+    pub keeps-taken : HeapKeeps after v.nodes objects (number_less o number) taken
     keeps-taken =
         let (x, at, is, h) = object-of all v.nodes store.nodes o n (ok.shape.alike o) found in
         record {

@@ -104,7 +104,7 @@ pub record Shape (all : List Bodies) (nodes : fin.FinMap nat_cmp ArenaNode) (sto
 
 -- What a heap keeps: the fields agree, and the counts are right. The garbage list counts neither as an object nor with its
 -- entries.
-pub record Keeps (all : List Bodies) (nodes : fin.FinMap nat_cmp ArenaNode) (objects entries : ℕ) (store : Store) : Type 0 where
+pub record HeapKeeps (all : List Bodies) (nodes : fin.FinMap nat_cmp ArenaNode) (objects entries : ℕ) (store : Store) : Type 0 where
   pub shape : Shape all nodes store
   -- the count is the in-degree, and so what is held is live
   pub counted : (s : ℕ) → count_in (fin.get nodes s) ≡ count_of store s

@@ -52,7 +52,7 @@ pub struct Heap<B: Kind> {
 impl<B: Kind> Model for Heap<B> {
     ghost use Rattle.cg_graph.specs.Store.{Store};
     ghost use Rattle.cg_heap.specs.Codes.{store_code};
-    ghost use Rattle.cg_heap.specs.Keeps.{store_of, Keeps, RowsAndHolds};
+    ghost use Rattle.cg_heap.specs.Keeps.{store_of, HeapKeeps, RowsAndHolds};
 
     ghost Value = { Store };
 
@@ -60,7 +60,7 @@ impl<B: Kind> Model for Heap<B> {
 
     ghost view = { λ a. store_of a.boxes a.arena a.names a.last a.weak.rows };
 
-    ghost invariant = { λ a. Keeps a.boxes a.arena.nodes a.objects a.entries
+    ghost invariant = { λ a. HeapKeeps a.boxes a.arena.nodes a.objects a.entries
         (store_of a.boxes a.arena a.names a.last a.weak.rows)
         × RowsAndHolds (store_of a.boxes a.arena a.names a.last a.weak.rows) };
 }

@@ -24,7 +24,7 @@ use Rattle.cg_death.specs.declared.answer.DeathStep.{DeathStep}
 use Rattle.cg_death.specs.declared.answer.DeathStep.TheVariants as answer_of
 use Rattle.cg_death.specs.Activities.{death_activities, HasHolds}
 use Rattle.cg_death.specs.Answers.{DeathSteps, CallsAt, numbers_after}
-use Rattle.cg_death.specs.Deaths.{on_stack, held_by, IsReady, IsSettled, IsGoing, DeathFalls, HasCause}
+use Rattle.cg_death.specs.Deaths.{on_stack, held_by, IsReadyForDeath, IsSettled, IsGoing, DeathFalls, HasCause}
 use Rattle.cg_death.specs.Falls.{pass_of, own_holds, still_released, number_left}
 use Rattle.cg_laws.specs.Kept.{IsKept, StaysKept}
 use Rattle.cg_policy.specs.Policy.{with_numbers}
@@ -131,7 +131,7 @@ module _ (script : Script) (store : Store) (death : Death) (sound : IsSound stor
   pub act_held : IsActing script store death → HasHolds store (held_by death store)
   act_held (e, w, few, stands, kept) = death_held script (over store e) death w stands
 
-  pub act_ready : IsActing script store death → IsReady death store
+  pub act_ready : IsActing script store death → IsReadyForDeath death store
   act_ready (e, w, few, stands, kept) = death_may_step script (over store e) death w e.frames stands (kept [] tt).lawful sound.rows sound.well
 
 -- The last action was done, and the engine has what is left of the death on top.

@@ -11,7 +11,7 @@ use Rattle.cg_laws.specs.Kept.{StaysKept}
 use Rattle.cg_death.specs.declared.release.Release.{Release}
 use Rattle.cg_death.specs.declared.death.Death.{Death}
 use Rattle.cg_death.specs.Activities.{references_left, HasHolds}
-use Rattle.cg_death.specs.Deaths.{held_by, IsReady}
+use Rattle.cg_death.specs.Deaths.{held_by, IsReadyForDeath}
 use Rattle.cg_death.proofs.CallerLemmas.{held_on_top, death_is_held}
 use Rattle.cg_interp.specs.declared.activity.Activity.TheVariants as activity
 use Rattle.cg_interp.specs.Engines.{State, StandsFor, ShowsAll, under}
@@ -30,7 +30,7 @@ release_held script e release w stands =
 pub death_held : (script : Script) (e : State) (death : Death) (w : World) → StandsFor script (under (activity.Dying death) e) w → HasHolds e.store (held_by death e.store)
 death_held script e death w stands = death_is_held e.store w stands.represents death stands.shows.below (death_on_top script e death w stands)
 
-pub death_may_step : (script : Script) (e : State) (death : Death) (w : World) (budget : ℕ) → StandsFor script (under (activity.Dying death) e) w → IsLawful script budget w → AreRows e.store → ((s : ℕ) → IsWellMadeAt (fin.get e.store.nodes s)) → IsReady death e.store
+pub death_may_step : (script : Script) (e : State) (death : Death) (w : World) (budget : ℕ) → StandsFor script (under (activity.Dying death) e) w → IsLawful script budget w → AreRows e.store → ((s : ℕ) → IsWellMadeAt (fin.get e.store.nodes s)) → IsReadyForDeath death e.store
 death_may_step script e death w budget stands lawful rows well = death_ready script budget e.store w stands.represents lawful rows well death stands.shows.shows.2 (death_inside script e death w stands)
 
 -- the death that is handed out is sound

@@ -17,7 +17,7 @@ use Rattle.cg_interp.specs.declared.activity.Activity.{Activity as Own}
 use Rattle.cg_interp.specs.declared.activity.Activity.TheVariants as activity
 use Rattle.cg_interp.specs.declared.turned.Turned.TheVariants as turned
 use Rattle.cg_policy.specs.Policy.{Policy}
-use Rattle.cg_interp.specs.Engines.{State, StandsFor, Shows, ShowsAll, commands_from, frame_of, under, is_collecting, any_collecting}
+use Rattle.cg_interp.specs.Engines.{State, StandsFor, ActivityShows, ShowsAll, commands_from, frame_of, under, is_collecting, any_collecting}
 use Rattle.cg_interp.specs.declared.caller.Caller.{Caller}
 use Rattle.cg_interp.specs.declared.caller.Caller.TheVariants as caller_of
 use Rattle.cg_interp.specs.Callers.{caller_activity, without_rest, without_rest_in_frame}
@@ -27,7 +27,7 @@ use Rattle.cg_interp.proofs.Standing.{IsPlain, plain_frame, plain_script, replac
 -- Another activity with the same holds comes in the place of the one on top.
 module _ (script : Script) (old new : State) (top top_after : Own) (a b : Activity) (f : List Activity → List Activity) (w : World)
     (plain_a : IsPlain a) (plain_b : IsPlain b) (same : holds b ≡ holds a) (turns : (below : List Activity) → f (a ∷ below) ≡ b ∷ below)
-    (shown : (tops : List Activity) → Shows script top tops → tops ≡ a ∷ []) (shows : Shows script top_after (b ∷ [])) (alike : is_collecting top_after ≡ is_collecting top) where
+    (shown : (tops : List Activity) → ActivityShows script top tops → tops ≡ a ∷ []) (shows : ActivityShows script top_after (b ∷ [])) (alike : is_collecting top_after ≡ is_collecting top) where
   pub retopped : StandsFor script (under top old) w → new.store ≡ old.store → new.policy ≡ old.policy → new.activities ≡ top_after ∷ old.activities → new.budget ≡ old.budget → StandsFor script new (with_stack (f w.stack) w)
   retopped stands store policy top_is budget =
       record {

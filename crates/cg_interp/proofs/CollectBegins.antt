@@ -16,8 +16,8 @@ use Rattle.cg_collect.specs.declared.phase.Phase.TheVariants as phase_of
 use Rattle.cg_collect.specs.Numbers.{AreSmall}
 use Rattle.cg_collect.specs.Phases.{machine_phase, collecting, collection_of, released_over, lines_left}
 use Rattle.cg_collect.specs.Ready.{IsClear}
-use Rattle.cg_collect.specs.Collections.{IsReady}
-use Rattle.cg_collect.specs.Answers.{Shows as CollectionShows}
+use Rattle.cg_collect.specs.Collections.{IsReadyForCollection}
+use Rattle.cg_collect.specs.Answers.{CollectionShows}
 use Rattle.cg_interp.specs.declared.activity.Activity.{Activity as Own}
 use Rattle.cg_interp.specs.declared.activity.Activity.TheVariants as activity
 use Rattle.cg_interp.specs.Engines.{State, StandsFor, under}
@@ -59,7 +59,7 @@ module _ (script : Script) (asked : Bool) (g : ℕ) (top : Own) (e : State) (w :
   clear_before budget sound kept = clear_at_start e.store (push (new_collection g asked w) w) sound stands.represents.objects kept.apart begins_as (inl refl) refl
 
   -- the engine in which it has begun
-  pub begins : (d : Collection) (new : State) → e.policy.running ≡ false → new.activities ≡ activity.Collecting asked d ∷ top ∷ e.activities → new.budget ≡ e.budget → CollectionShows asked d new.store new.policy (push (new_collection g asked w) w) w.stack → IsReady script d new.store
+  pub begins : (d : Collection) (new : State) → e.policy.running ≡ false → new.activities ≡ activity.Collecting asked d ∷ top ∷ e.activities → new.budget ≡ e.budget → CollectionShows asked d new.store new.policy (push (new_collection g asked w) w) w.stack → IsReadyForCollection script d new.store
       → StandsWith script new [] (push (new_collection g asked w) w)
   begins d new idle activities budget shows ready = inr (record {
     asked = asked;

@@ -31,7 +31,7 @@ use Rattle.cg_collect.specs.Collections.{held_by, given_up_by, own_holds_at}
 use Rattle.cg_interp.specs.declared.activity.Activity.{Activity as Own}
 use Rattle.cg_interp.specs.declared.activity.Activity.TheVariants as activity
 use Rattle.cg_machine.specs.Program.{commands_of}
-use Rattle.cg_interp.specs.Engines.{State, commands_from, frame_of, Shows, ShowsAll, HasHandedOut, released_first, is_collecting, any_collecting}
+use Rattle.cg_interp.specs.Engines.{State, commands_from, frame_of, ActivityShows, ShowsAll, HasHandedOut, released_first, is_collecting, any_collecting}
 use Rattle.cg_interp.specs.Turns.{IsFit}
 use Rattle.cg_interp.proofs.Lawfully.{at_least, few_holds, few_objects}
 use Rattle.cg_interp.proofs.CollectReady.{phase_there}
@@ -136,7 +136,7 @@ counts_one asked c tops out =
     let (q, is) = phase_there c.phase (list_at out.then Pend) out.handing.runs in
     ap (count_by is_collection) (out.shown ∙ ap (λ x. released_over c.release (collecting asked c x)) is) ∙ one_collection c.release (collection_of asked c q)
 
-counts_alike : (script : Script) (a : Own) (tops : List Activity) → Shows script a tops → count_by is_collection tops ≡ cond (is_collecting a) 1 0
+counts_alike : (script : Script) (a : Own) (tops : List Activity) → ActivityShows script a tops → count_by is_collection tops ≡ cond (is_collecting a) 1 0
 counts_alike script (activity.Script next) tops is = ap (count_by is_collection) is ∙ count_more (TopLevel (commands_from next (commands_of script.items))) []
 counts_alike script (activity.Frame locals procedure next) tops is = ap (count_by is_collection) is ∙ count_more (Framed (frame_of script locals procedure next)) []
 counts_alike script (activity.Releasing release) tops is = ap (count_by is_collection) is ∙ count_more (Releasing (references_left release)) []

@@ -17,7 +17,7 @@ use Rattle.cg_collect.specs.declared.answer.CollectStep.TheVariants as answer_of
 use Rattle.cg_collect.specs.declared.collection.Collection.{Collection}
 use Rattle.cg_collect.specs.Phases.{on_stack}
 use Rattle.cg_collect.specs.Numbers.{AreSmall}
-use Rattle.cg_collect.specs.Collections.{IsReady, HandsOut, CollectFalls, held_by}
+use Rattle.cg_collect.specs.Collections.{IsReadyForCollection, HandsOut, CollectFalls, held_by}
 use Rattle.cg_collect.specs.Answers.{CollectSteps, CollectAnswer}
 use Rattle.cg_interp.specs.declared.activity.Activity.TheVariants as activity
 use Rattle.cg_interp.specs.declared.turned.Turned.{Turned}
@@ -41,7 +41,7 @@ engine_of store policy stack budget frames = record { store = store; policy = po
 pub record MayStep (script : Script) (c : Collection) (e : State) : Type 0 where
   pub few : HasFewHolds e.store
   pub held : HasHolds e.store (held_by c)
-  pub ready : IsReady script c e.store
+  pub ready : IsReadyForCollection script c e.store
   pub small : AreSmall e.policy.numbers
 
 module _ (script : Script) (asked : Bool) (c : Collection) (e : State) where
@@ -70,10 +70,10 @@ module _ (script : Script) (asked : Bool) (c : Collection) (e : State) where
       subst (λ l. CollectAnswer script asked w k.below l d new.store new.policy answer) (sym k.lines) (steps asked w k.below (stands_for_step script asked c e left w k kept))
 
   module _ (d : Collection) (mid : State) (top : mid.activities ≡ activity.Collecting asked d ∷ e.activities) (budget : mid.budget ≡ e.budget) where
-    pub turns_quietly : IsReady script d mid.store → CollectFalls c e.store d mid.store → CollectSteps script c e.store e.policy d mid.store mid.policy answer_of.Continue → CollectTurns script asked c e mid turned.Quiet
+    pub turns_quietly : IsReadyForCollection script d mid.store → CollectFalls c e.store d mid.store → CollectSteps script c e.store e.policy d mid.store mid.policy answer_of.Continue → CollectTurns script asked c e mid turned.Quiet
     turns_quietly ready falls steps w left k stays = goes_on_quietly script asked c e left w k d mid top budget ready falls (answered left w k (stays [] tt) d mid answer_of.Continue steps)
 
-    pub turns_telling : (event : Event) → IsReady script d mid.store → CollectSteps script c e.store e.policy d mid.store mid.policy (answer_of.Emit event) → CollectTurns script asked c e mid (turned.Line event)
+    pub turns_telling : (event : Event) → IsReadyForCollection script d mid.store → CollectSteps script c e.store e.policy d mid.store mid.policy (answer_of.Emit event) → CollectTurns script asked c e mid (turned.Line event)
     turns_telling event ready steps w left k stays = goes_on_telling script asked c e left w k d mid top budget ready event (answered left w k (stays [] tt) d mid (answer_of.Emit event) steps)
 
     -- a frame

@@ -27,8 +27,8 @@ use Rattle.cg_collect.specs.declared.collection.Collection.{Collection}
 use Rattle.cg_collect.specs.declared.phase.Phase.{Phase}
 use Rattle.cg_collect.specs.declared.phase.Phase.TheVariants as phase_of
 use Rattle.cg_collect.specs.Phases.{machine_phase, collection_of, collecting, released_over, shown_with, on_stack}
-use Rattle.cg_collect.specs.Ready.{IsClear, IsApart as IsSetApart, IsApartUnseen, IsEmptyAt, IsUnsaved, IsReadyAt, HasFewCollected, SparesGarbageList, MayRun, HasItsWalk}
-use Rattle.cg_collect.specs.Collections.{IsReady}
+use Rattle.cg_collect.specs.Ready.{IsClear, IsHeapApart as IsSetApart, IsApartUnseen, IsEmptyAt, IsUnsaved, IsReadyForCollectionAt, HasFewCollected, SparesGarbageList, MayRun, HasItsWalk}
+use Rattle.cg_collect.specs.Collections.{IsReadyForCollection}
 use Rattle.cg_collect.proofs.Standing.{object_there, node_of_live, empty_at}
 use Rattle.cg_interp.specs.Engines.{HasHandedOut}
 use Rattle.cg_inspect.specs.Inspection.{IsIdle}
@@ -106,7 +106,7 @@ module _ (store : Store) (w : World) (sound : IsSound store) (same : objects_of 
       rightly : (phase : machine.CollectPhase) → c.phase ≡ phase → (x : Object) → Includes w.objects x → StandsRightly phase x
       rightly phase is x m = subst (λ q. StandsRightly q x) is (apart.phases c on x m)
 
-      ready_again : (g : ℕ) (p : Phase) (then : List ℕ) → MayRun p → SparesGarbageList p → machine_phase p then ≡ Some c.phase → IsReadyAt store g p
+      ready_again : (g : ℕ) (p : Phase) (then : List ℕ) → MayRun p → SparesGarbageList p → machine_phase p then ≡ Some c.phase → IsReadyForCollectionAt store g p
       ready_again g (phase_of.AfterCallback weak) then runs spares is =
           let phase : c.phase ≡ machine.AfterCallback weak (drop 1 then) = cc in
           let pending : list_at store Pend ≡ weak ∷ drop 1 then = subst (λ q. CollectionWaits q (list_at store Pend)) phase waits in (
@@ -209,7 +209,7 @@ shown_there asked c pending q is = subst (λ x. Includes (released_over c.releas
 -- After a frame or a death a collection stands for what it stood for, by the heap as it is, and may take its next step.
 pub record Resumes (script : Script) (asked : Bool) (c : Collection) (store : Store) (tops : List Activity) : Type 0 where
   pub shown : tops ≡ on_stack asked c store
-  pub ready : IsReady script c store
+  pub ready : IsReadyForCollection script c store
 
 pub resumes : (script : Script) (asked : Bool) (c : Collection) (store : Store) (w : World) (tops below : List Activity) → IsSound store → Represents store w → IsApart w → IsOrderly w → HasHandedOut asked c tops → w.stack ≡ tops ++ below → Resumes script asked c store tops
 resumes script asked c store w tops below sound r apart orderly out top =

@@ -27,8 +27,8 @@ use Rattle.cg_collect.specs.declared.phase.Phase.{Phase}
 use Rattle.cg_collect.specs.declared.phase.Phase.TheVariants as phase_of
 use Rattle.cg_collect.specs.Phases.{machine_phase, collecting, collection_of, released_over, on_stack, store_after, lines_left, answer_lines}
 use Rattle.cg_collect.specs.Ready.{MayRun}
-use Rattle.cg_collect.specs.Collections.{IsReady, HandsOut, CollectFalls}
-use Rattle.cg_collect.specs.Answers.{Shows as CollectionShows, Stands, WentOn, HasFinished, numbers_at}
+use Rattle.cg_collect.specs.Collections.{IsReadyForCollection, HandsOut, CollectFalls}
+use Rattle.cg_collect.specs.Answers.{CollectionShows, CollectionStands, WentOn, HasFinished, numbers_at}
 use Rattle.cg_interp.specs.declared.activity.Activity.{Activity as Own}
 use Rattle.cg_interp.specs.declared.activity.Activity.TheVariants as activity
 use Rattle.cg_interp.specs.declared.turned.Turned.{Turned}
@@ -102,7 +102,7 @@ module _ (script : Script) (asked : Bool) (c : Collection) (e : State) (left : L
 
   module _ (k : Collects script asked c e left w) where
     -- heap and policy stand for the world, as a step wants
-    pub stands_for_step : IsKept script e.frames w → Stands asked c e.store e.policy w k.below
+    pub stands_for_step : IsKept script e.frames w → CollectionStands asked c e.store e.policy w k.below
     stands_for_step kept = record {
       shows = k.shows;
       running = k.running;
@@ -114,7 +114,7 @@ module _ (script : Script) (asked : Bool) (c : Collection) (e : State) (left : L
 
     -- the collection stays on top
     module _ (d : Collection) (new : State) (top : new.activities ≡ activity.Collecting asked d ∷ e.activities) (budget : new.budget ≡ e.budget) where
-      module _ (ready : IsReady script d new.store) where
+      module _ (ready : IsReadyForCollection script d new.store) where
         on_top : (told : List Event) (went : WentOn script asked w k.below left told d new.store new.policy) → StandsWith script new (lines_left script asked d d.phase new.store) went.after
         on_top told went = inr (record {
           asked = asked;

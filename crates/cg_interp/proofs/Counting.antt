@@ -28,7 +28,7 @@ use Rattle.cg_collect.specs.Ready.{MayRun}
 use Rattle.cg_collect.specs.Answers.{numbers_at}
 use Rattle.cg_interp.specs.declared.activity.Activity.{Activity}
 use Rattle.cg_interp.specs.declared.activity.Activity.TheVariants as activity
-use Rattle.cg_interp.specs.Engines.{State, Shows, ShowsAll, commands_from, frame_of, released_first, death_shown}
+use Rattle.cg_interp.specs.Engines.{State, ActivityShows, ShowsAll, commands_from, frame_of, released_first, death_shown}
 use Rattle.cg_interp.specs.Collecting.{StandsWith}
 
 -- the activities of the machine, as if no weak reference waited
@@ -176,7 +176,7 @@ module _ (f : machine.Activity → ℕ) (blind : IsBlind f) (script : Script) wh
   collection_alike : (asked : Bool) (c : Collection) (pending : List ℕ) → tally f (shown_with asked c pending) ≡ tally f (shown_with asked c [])
   collection_alike asked c pending = over_release c.release (collecting asked c (machine_phase c.phase pending)) (collecting asked c (machine_phase c.phase [])) (blind.collections asked c c.phase pending)
 
-  one : (a : Activity) (tops : List machine.Activity) → Shows script a tops → tally f tops ≡ tally f (shown script a)
+  one : (a : Activity) (tops : List machine.Activity) → ActivityShows script a tops → tally f tops ≡ tally f (shown script a)
   one (activity.Script next) tops e = ap (tally f) e
   one (activity.Frame locals procedure next) tops e = ap (tally f) e
   one (activity.Releasing release) tops e = ap (tally f) e

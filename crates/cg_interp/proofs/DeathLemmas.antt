@@ -26,7 +26,7 @@ use Rattle.cg_death.specs.Activities.{activities, death_activities, death_of}
 use Rattle.cg_death.specs.declared.phase.Phase.TheVariants as phase_of
 use Rattle.cg_death.specs.declared.answer.DeathStep.{DeathStep}
 use Rattle.cg_death.specs.declared.answer.DeathStep.TheVariants as answer_of
-use Rattle.cg_death.specs.Answers.{DeathSteps, DeathAnswer, WentOn, GaveDeath, GaveFrame, Keeps as KeepsWorld, numbers_after}
+use Rattle.cg_death.specs.Answers.{DeathSteps, DeathAnswer, WentOn, GaveDeath, GaveFrame, DeathKeeps as KeepsWorld, numbers_after}
 use Rattle.cg_interp.specs.declared.turned.Turned.{Turned}
 use Rattle.cg_interp.specs.declared.turned.Turned.TheVariants as turned
 use Rattle.cg_death.specs.Deaths.{on_stack, DeathFalls, HasCause, IsSettled}

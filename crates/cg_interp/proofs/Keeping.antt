@@ -5,10 +5,10 @@ use Rattle.cg_script.specs.declared.Script.{Script}
 use Rattle.cg_death.specs.Answers.{MakesNone}
 use Rattle.cg_interp.specs.declared.activity.Activity.{Activity}
 use Rattle.cg_interp.specs.Engines.{State, over}
-use Rattle.cg_interp.specs.Turns.{Keeps, IsFit}
+use Rattle.cg_interp.specs.Turns.{TurnKeeps, IsFit}
 
 -- one after the other
-pub keeps_then : (old mid new : State) → Keeps old mid → Keeps mid new → Keeps old new
+pub keeps_then : (old mid new : State) → TurnKeeps old mid → TurnKeeps mid new → TurnKeeps old new
 keeps_then old mid new first next = record {
   objects = omega (arith, first.objects, next.objects);
   room = omega (arith, first.room, next.room);
@@ -17,11 +17,11 @@ keeps_then old mid new first next = record {
 }
 
 -- another heap without an object more
-pub keeps_over : (old : State) (store : Store) → MakesNone old.store store → Keeps old (over store old)
+pub keeps_over : (old : State) (store : Store) → MakesNone old.store store → TurnKeeps old (over store old)
 keeps_over old store none = record { objects = none.objects; room = omega arith; names = ap length none.names; frames = refl }
 
 -- so the engine stays fit
-pub still_fit : (script : Script) (old new : State) → Keeps old new → IsFit script old → IsFit script new
+pub still_fit : (script : Script) (old new : State) → TurnKeeps old new → IsFit script old → IsFit script new
 still_fit script old new keeps fit = record {
   names = keeps.names ∙ fit.names;
   frames = omega (arith, keeps.frames, fit.frames);
@@ -37,8 +37,8 @@ still_fits script old new store activities frames more fit = record {
 }
 
 -- another heap without an object more, and one activity on top, where there is room
-pub keeps_pushed : (inside old new : State) (top : Activity) → inside ≡ old → MakesNone inside.store new.store → new.activities ≡ top ∷ inside.activities → inside.room ≤ new.room + 1 → new.frames ≡ inside.frames → Keeps old new
-keeps_pushed inside old new top same none is room frames = subst (λ e. Keeps e new) same (record {
+pub keeps_pushed : (inside old new : State) (top : Activity) → inside ≡ old → MakesNone inside.store new.store → new.activities ≡ top ∷ inside.activities → inside.room ≤ new.room + 1 → new.frames ≡ inside.frames → TurnKeeps old new
+keeps_pushed inside old new top same none is room frames = subst (λ e. TurnKeeps e new) same (record {
   objects = none.objects;
   room = let longer : length new.activities ≡ length (top ∷ inside.activities) = ap length is in omega (arith, longer, room);
   names = ap length none.names;

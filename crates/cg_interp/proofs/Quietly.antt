@@ -15,7 +15,7 @@ use Rattle.cg_interp.specs.declared.activity.Activity.{Activity}
 use Rattle.cg_interp.specs.declared.turned.Turned.{Turned}
 use Rattle.cg_interp.specs.declared.turned.Turned.TheVariants as turned
 use Rattle.cg_interp.specs.Engines.{State, StandsFor, under}
-use Rattle.cg_interp.specs.Turns.{GoesTo, GivesDeath, EndsWith, Turns}
+use Rattle.cg_interp.specs.Turns.{GoesTo, GivesDeath, RunEndsWith, Turns}
 use Rattle.cg_interp.specs.Telling.{GoesOnTo, TurnsWith, IsAtTurn, TurnsFrom}
 use Rattle.cg_interp.specs.Quietly.{GoesQuietly, ComesTo, ComesFrom}
 
@@ -131,7 +131,7 @@ module _ (script : Script) where
         stands = more.stands;
       }
 
-      ends_then : (lines : List Event) (outcome : Outcome) → EndsWith script mid lines outcome → EndsWith script w lines outcome
+      ends_then : (lines : List Event) (outcome : Outcome) → RunEndsWith script mid lines outcome → RunEndsWith script w lines outcome
       ends_then lines outcome more = record { after = more.after; goes = goes_then lines more.after more.goes; ended = more.ended }
 
       pub plain_turns_then : (e : State) (answer : Turned) → Turns script mid e answer → Turns script w e answer

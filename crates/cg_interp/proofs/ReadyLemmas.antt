@@ -35,8 +35,8 @@ use Rattle.cg_death.specs.declared.release.Release.{Release}
 use Rattle.cg_death.specs.declared.phase.Phase.{Phase}
 use Rattle.cg_death.specs.declared.phase.Phase.TheVariants as phase_of
 use Rattle.cg_death.specs.declared.death.Death.{Death}
-use Rattle.cg_death.specs.Activities.{death_of, death_activities, IsUnheld, IsReadyAt, HaveCallbacks}
-use Rattle.cg_death.specs.Deaths.{IsReady, IsUnheldDuring, IsSettledAt, IsSettled}
+use Rattle.cg_death.specs.Activities.{death_of, death_activities, IsUnheld, IsReadyForDeathAt, HaveCallbacks}
+use Rattle.cg_death.specs.Deaths.{IsReadyForDeath, IsUnheldDuring, IsSettledAt, IsSettled}
 use Rattle.cg_death.proofs.CallerLemmas.{unheld_in_heap, newer_in_heap, no_referent_in_heap}
 use Rattle.cg_interp.proofs.Lawfully.{in_map, is_live}
 
@@ -152,7 +152,7 @@ module _ (script : Script) (budget : ℕ) (store : Store) (w : World) (represent
                 none_found (λ x. (x.weak == o) && not x.waits) store.rows r i (ap (λ b. (r.weak == o) && not b) e ∙ ap (λ b. b && true) (eq-eqb r.weak o same)) no_referent
 
     -- what a phase needs, where its death is on the stack
-    ready_at : (phase : Phase) → ((a : Activity) → Includes (death_activities o phase (waiting_for store o)) a → Includes w.stack a) → IsReadyAt store o phase
+    ready_at : (phase : Phase) → ((a : Activity) → Includes (death_activities o phase (waiting_for store o)) a → Includes w.stack a) → IsReadyForDeathAt store o phase
     ready_at phase_of.Finalizer on = unheld_now machine.Finalizer (on _ (inl refl)) (lawful.unheld _ (on _ (inl refl)))
     ready_at phase_of.AfterFinalizer on = tt
     ready_at phase_of.Clearing on = (
@@ -181,5 +181,5 @@ module _ (script : Script) (budget : ℕ) (store : Store) (w : World) (represent
     unheld_during phase_of.Detaching (Some release) settled on = absurd settled
     unheld_during phase_of.Over (Some release) settled on = absurd settled
 
-  pub death_ready : (death : Death) → IsSettled death → ((a : Activity) → Includes (death_activities death.object death.phase (waiting_for store death.object)) a → Includes w.stack a) → IsReady death store
+  pub death_ready : (death : Death) → IsSettled death → ((a : Activity) → Includes (death_activities death.object death.phase (waiting_for store death.object)) a → Includes w.stack a) → IsReadyForDeath death store
   death_ready death settled on = (ready_at death.object death.phase on, unheld_during death.object death.phase death.release settled on)

@@ -26,11 +26,11 @@ use Rattle.cg_interp.specs.declared.turned.Standing.TheVariants as standing
 use Rattle.cg_interp.specs.Engines.{State, StandsFor}
 use Rattle.cg_interp.specs.Collecting.{StandsWith}
 use Rattle.cg_interp.specs.Telling.{TurnsWith, Advances, GoesOnTo}
-use Rattle.cg_interp.specs.Turns.{EndsWith}
+use Rattle.cg_interp.specs.Turns.{RunEndsWith}
 use Rattle.cg_interp.specs.Running.{Ran, HasLaws, events_told, standing_after}
 use Rattle.cg_laws.specs.Kept.{StaysKept}
 use Rattle.cg_interp.specs.Graphs.{closing, text_before, text_after, unfinished_after, begins_record, begun_text, candidates_in, detection_on, taken, taken_while}
-use Rattle.cg_interp.specs.Recorded.{Picture, picture, lost_at, legacy_at, Shows, HasRecords, records_of, wants_memory, WroteRecords, WroteRecordsPart}
+use Rattle.cg_interp.specs.Recorded.{Picture, picture, lost_at, legacy_at, RunShows, HasRecords, records_of, wants_memory, WroteRecords, WroteRecordsPart}
 use Rattle.cg_interp.specs.Recording.{RecordsTurn, CutsFindings, CutsRecord, RecordedSo, told_after, recorded_next, text_of_turn, picture_text, text_if_taken, text_so_far, unfinished_so_far}
 use Rattle.cg_interp.proofs.LineByLine.{after_front}
 use Rattle.cg_interp.proofs.RunLemmas.{ends_longer, lines_longer, kept_so_far}
@@ -58,8 +58,8 @@ both_false a b e f = rw (e, f) refl
 
 module _ (law : NoRunIsStuck) (script : Script) (budget : ℕ) (before now : Option (List ℕ)) where
   -- A front of what is written from a run on is a front of the records of a whole run.
-  pub part_of_records : (steps : List StepTaken) (ps : List Picture) (more : List ℕ) → IsRun script budget steps → Shows script (opening script budget) steps ps → AppendsFront before now (text_so_far false ps ++ more)
-      → ((others : List StepTaken) (outcome : Outcome) → IsWholeRun script budget outcome (steps ++ others) → (qs : List Picture) × (rest : List ℕ) × Shows script (last_world (opening script budget) steps) others qs × (text_to_end (unfinished_so_far false ps) qs ≡ more ++ rest))
+  pub part_of_records : (steps : List StepTaken) (ps : List Picture) (more : List ℕ) → IsRun script budget steps → RunShows script (opening script budget) steps ps → AppendsFront before now (text_so_far false ps ++ more)
+      → ((others : List StepTaken) (outcome : Outcome) → IsWholeRun script budget outcome (steps ++ others) → (qs : List Picture) × (rest : List ℕ) × RunShows script (last_world (opening script budget) steps) others qs × (text_to_end (unfinished_so_far false ps) qs ≡ more ++ rest))
       → WroteRecordsPart script budget before now
   part_of_records steps ps more run shows wrote on =
       let whole = law script budget steps run in
@@ -74,7 +74,7 @@ module _ (law : NoRunIsStuck) (script : Script) (budget : ℕ) (before now : Opt
       }
 
   -- what was written so far
-  pub part_so_far : (steps : List StepTaken) (ps : List Picture) → IsRun script budget steps → Shows script (opening script budget) steps ps → AppendsFront before now (text_so_far false ps) → WroteRecordsPart script budget before now
+  pub part_so_far : (steps : List StepTaken) (ps : List Picture) → IsRun script budget steps → RunShows script (opening script budget) steps ps → AppendsFront before now (text_so_far false ps) → WroteRecordsPart script budget before now
   part_so_far steps ps run shows wrote =
       part_of_records steps ps [] run shows (subst (AppendsFront before now) (sym (append-nil (text_so_far false ps))) wrote)
       (λ others outcome whole. let some = some_shown script (last_world (opening script budget) steps) others in (some.0, text_to_end (unfinished_so_far false ps) some.0, some.1, refl))
@@ -145,7 +145,7 @@ module _ (law : NoRunIsStuck) (script : Script) (budget : ℕ) (before : Option 
     runs_longer : IsRun script budget longer
     runs_longer = Run-append script (opening script budget) so.ran.steps goes.steps so.ran.run goes.run
 
-    shows_longer : Shows script (opening script budget) longer pictures
+    shows_longer : RunShows script (opening script budget) longer pictures
     shows_longer = shows-append script (opening script budget) so.ran.steps goes.steps so.pictures t.pictures so.shows t.shows
 
     text_longer : text_so_far false pictures ≡ text_so_far false so.pictures ++ text_of_turn script e.store e'.store unfinished (recorded_next unfinished e)
@@ -231,7 +231,7 @@ module _ (law : NoRunIsStuck) (script : Script) (budget : ℕ) (before : Option 
         at = at_detection script e left so_far d so.ran.stands next
 
         on : (others : List StepTaken) (outcome : Outcome) → IsWholeRun script budget outcome (so.ran.steps ++ others)
-            → (qs : List Picture) × (rest : List ℕ) × Shows script so_far others qs × (text_to_end (unfinished_so_far false so.pictures) qs ≡ begun_text script e.store unfinished d ++ rest)
+            → (qs : List Picture) × (rest : List ℕ) × RunShows script so_far others qs × (text_to_end (unfinished_so_far false so.pictures) qs ≡ begun_text script e.store unfinished d ++ rest)
         on [] outcome whole =
             absurd (whole.whole (sym whole.ends ∙ ap (λ (l : List StepTaken). (world_after script budget l).outcome) (append-nil so.ran.steps) ∙ runs))
         on (step ∷ more) outcome whole =
@@ -275,7 +275,7 @@ module _ (law : NoRunIsStuck) (script : Script) (budget : ℕ) (before : Option 
     on_shown : (told : List Event) (g : GoesOnTo script (Advances e left e') so_far left told e') → TurnShows script so_far g.goes.steps e e' unfinished
     on_shown told g = shown_on script e e' unfinished left so_far so.ran.stands listed told g listed'
 
-    end_shown : (lines : List Event) (outcome : Outcome) → outcome ≢ Running → (k : EndsWith script so_far lines outcome) → TurnShows script so_far k.goes.steps e e' unfinished
+    end_shown : (lines : List Event) (outcome : Outcome) → outcome ≢ Running → (k : RunEndsWith script so_far lines outcome) → TurnShows script so_far k.goes.steps e e' unfinished
     end_shown lines outcome over k = shown_end script e e' unfinished left so_far so.ran.stands listed lines outcome k runs over
 
     pub recorded_on : (told : Option Standing) → told ≡ Some standing.Running → Recorded told → RecordedSo script budget before e' then now'
@@ -297,7 +297,7 @@ module _ (law : NoRunIsStuck) (script : Script) (budget : ℕ) (before : Option 
 
     -- where the run has ended, and the end of the records is written
     module _ (now'' : Option (List ℕ)) (end : Appends now' now'' (closing then ++ codes "end\n")) where
-      ends : (lines : List Event) (outcome : Outcome) → outcome ≢ Running → list_any wants_memory lines ≡ false → left ≡ [] → EndsWith script so_far lines outcome → then ≡ unfinished_after unfinished (recorded_next unfinished e)
+      ends : (lines : List Event) (outcome : Outcome) → outcome ≢ Running → list_any wants_memory lines ≡ false → left ≡ [] → RunEndsWith script so_far lines outcome → then ≡ unfinished_after unfinished (recorded_next unfinished e)
           → Appends now now' (text_of_turn script e.store e'.store unfinished (recorded_next unfinished e)) → WroteRecords script budget outcome before now''
       ends lines outcome over unrefused none k still wrote = whole_longer e' now' lines k.after k.goes (end_shown lines outcome over k) lines outcome none refl k.ended over unrefused then still wrote now'' end
 
@@ -329,7 +329,7 @@ module _ (law : NoRunIsStuck) (script : Script) (budget : ℕ) (before : Option 
     pub recorded_end_cut : (told : Option Standing) (s : Standing) → told ≡ Some s → s ≢ standing.Running → Recorded told → (now'' : Option (List ℕ)) → AppendsFront now' now'' (closing then ++ codes "end\n") → WroteRecordsPart script budget before now''
     recorded_end_cut told s is over t now'' end = let h = here told t in go h.answer ((told_some _ _ _ (sym h.is ∙ is)).1) h.turns h.still h.written
       where
-        ends : (lines : List Event) (outcome : Outcome) → outcome ≢ Running → EndsWith script so_far lines outcome → then ≡ unfinished_after unfinished (recorded_next unfinished e)
+        ends : (lines : List Event) (outcome : Outcome) → outcome ≢ Running → RunEndsWith script so_far lines outcome → then ≡ unfinished_after unfinished (recorded_next unfinished e)
             → Appends now now' (text_of_turn script e.store e'.store unfinished (recorded_next unfinished e)) → WroteRecordsPart script budget before now''
         ends lines outcome ended k still wrote = end_longer e' now' lines k.after k.goes (end_shown lines outcome ended k) then still wrote now'' (λ r. ended (sym k.ended ∙ r)) end
 

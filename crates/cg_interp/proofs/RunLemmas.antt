@@ -33,7 +33,7 @@ use Rattle.cg_interp.specs.Written.{WroteRun, WrotePart}
 use Rattle.cg_interp.specs.Running.{Ran, HasLaws, StaysPrintable, WritesTurn, CutsTurn, events_told, standing_after}
 use Rattle.cg_interp.proofs.Sizes.{IsSmall}
 use Rattle.cg_interp.proofs.Falling.{falling, turn_falls}
-use Rattle.cg_interp.specs.Turns.{EndsWith}
+use Rattle.cg_interp.specs.Turns.{RunEndsWith}
 use Rattle.cg_interp.proofs.LineByLine.{after_front, longer_front}
 
 -- A turn goes somewhere: what it prints besides the lines that were left is the event that is due, and the lines that are
@@ -181,7 +181,7 @@ module _ (script : Script) (budget : ℕ) (before : Option (List ℕ)) (e : Stat
     pub ran_to_end : (stands : Standing) → stands ≡ standing.Ended → Wrote stands → WroteRun script budget Ended before now'
     ran_to_end stands over t = let h = t so_far ran.left ran.stands kept_so_far in go h.answer (h.is ∙ over) h.turns h.written
       where
-        ends : (lines : List Event) → ran.left ≡ [] → EndsWith script so_far lines Ended → Appends now now' (text lines) → WroteRun script budget Ended before now'
+        ends : (lines : List Event) → ran.left ≡ [] → RunEndsWith script so_far lines Ended → Appends now now' (text lines) → WroteRun script budget Ended before now'
         ends lines none k wrote = ran_whole lines lines [] k.after k.goes (ap (λ l. l ++ lines) none ∙ sym (append-nil lines)) Ended now' refl k.ended (λ n. cc) wrote
 
         go : (answer : Turned) → standing_after answer ≡ standing.Ended → Turned_so answer → Wrote_so answer → WroteRun script budget Ended before now'

@@ -9,11 +9,11 @@ use Rattle.cg_records.specs.declared.graph.Graph.{Graph}
 use Rattle.cg_records.specs.Reading.{graph}
 use Rattle.cg_interp.specs.declared.graphs.Detection.{Detection}
 use Rattle.cg_interp.specs.declared.graphs.Detection.TheVariants.{First, Second}
-use Rattle.cg_interp.specs.Recorded.{Picture, picture, detection_at, detection_of, next_detection, candidates, lost_at, legacy_at, member_among, IsGraphOf, ShowsStep, Shows}
+use Rattle.cg_interp.specs.Recorded.{Picture, picture, detection_at, detection_of, next_detection, candidates, lost_at, legacy_at, member_among, IsGraphOf, ShowsStep, RunShows}
 
 -- a run, and more steps
-pub shows-append : (script : Script) (w : World) (steps more : List StepTaken) (ps qs : List Picture) → Shows script w steps ps → Shows script (last_world w steps) more qs → Shows script w (steps ++ more) (ps ++ qs)
-shows-append script w [] more ps qs none then = subst (λ (l : List Picture). Shows script w more (l ++ qs)) (sym none) then
+pub shows-append : (script : Script) (w : World) (steps more : List StepTaken) (ps qs : List Picture) → RunShows script w steps ps → RunShows script (last_world w steps) more qs → RunShows script w (steps ++ more) (ps ++ qs)
+shows-append script w [] more ps qs none then = subst (λ (l : List Picture). RunShows script w more (l ++ qs)) (sym none) then
 shows-append script w (step ∷ steps) more ps qs (now, later, is, shown, rest) then =
     (now, later ++ qs, ap (λ (l : List Picture). l ++ qs) is ∙ append_assoc now later qs, shown, shows-append script step.world steps more later qs rest then)
 
@@ -30,7 +30,7 @@ step_shown script w after (Some d) =
     (picture d g ∷ [], (g, refl, graph_by script d w after (candidates d w) (λ o. refl)))
 
 -- and each run
-pub some_shown : (script : Script) (w : World) (steps : List StepTaken) → (ps : List Picture) × Shows script w steps ps
+pub some_shown : (script : Script) (w : World) (steps : List StepTaken) → (ps : List Picture) × RunShows script w steps ps
 some_shown script w [] = ([], refl)
 some_shown script w (step ∷ steps) =
     let now = step_shown script w step.world (next_detection w.stack) in
@@ -65,12 +65,12 @@ step_none : (script : Script) (w after : World) (d : Option Detection) → d ≡
 step_none script w after None e = refl
 step_none script w after (Some d) e = absurd (cc)
 
-pub shows_none : (script : Script) (w : World) (steps : List StepTaken) → MakesNoDetection w steps → Shows script w steps []
+pub shows_none : (script : Script) (w : World) (steps : List StepTaken) → MakesNoDetection w steps → RunShows script w steps []
 shows_none script w [] none = refl
 shows_none script w (step ∷ steps) (here, later) = ([], [], refl, step_none script w step.world (next_detection w.stack) (none_next w.stack here), shows_none script step.world steps later)
 
 -- Steps of which one alone may be a detection, from a world that makes none next, show nothing.
-pub alone_none : (script : Script) (w : World) (steps : List StepTaken) → MakesDetectionsAlone w steps → next_detection w.stack ≡ None → Shows script w steps []
+pub alone_none : (script : Script) (w : World) (steps : List StepTaken) → MakesDetectionsAlone w steps → next_detection w.stack ≡ None → RunShows script w steps []
 alone_none script w [] alone next = refl
 alone_none script w (step ∷ []) alone next = ([], [], refl, step_none script w step.world (next_detection w.stack) next, refl)
 alone_none script w (step ∷ one ∷ steps) alone next = shows_none script w (step ∷ one ∷ steps) alone
@@ -86,10 +86,10 @@ step_of : (script : Script) (w after : World) (d : Detection) (o : Option Detect
 step_of script w after d None e g is = absurd (cc)
 step_of script w after d (Some k) e g is = let same : k ≡ d = cc in (g, ap (λ (x : Detection). picture x g ∷ []) (sym same), subst (λ (x : Detection). IsGraphOf script x w after g) (sym same) is)
 
-pub shows_one : (script : Script) (w : World) (step : StepTaken) (d : Detection) → next_detection w.stack ≡ Some d → (g : Graph) → IsGraphOf script d w step.world g → Shows script w (step ∷ []) (picture d g ∷ [])
+pub shows_one : (script : Script) (w : World) (step : StepTaken) (d : Detection) → next_detection w.stack ≡ Some d → (g : Graph) → IsGraphOf script d w step.world g → RunShows script w (step ∷ []) (picture d g ∷ [])
 shows_one script w step d next g is = (picture d g ∷ [], [], refl, step_of script w step.world d (next_detection w.stack) next g is, refl)
 
 -- and more steps
-pub shows_first : (script : Script) (w : World) (step : StepTaken) (more : List StepTaken) (d : Detection) → next_detection w.stack ≡ Some d → (g : Graph) → IsGraphOf script d w step.world g → (ps : List Picture) → Shows script step.world more ps
-    → Shows script w (step ∷ more) (picture d g ∷ ps)
+pub shows_first : (script : Script) (w : World) (step : StepTaken) (more : List StepTaken) (d : Detection) → next_detection w.stack ≡ Some d → (g : Graph) → IsGraphOf script d w step.world g → (ps : List Picture) → RunShows script step.world more ps
+    → RunShows script w (step ∷ more) (picture d g ∷ ps)
 shows_first script w step more d next g is ps then = (picture d g ∷ [], ps, refl, step_of script w step.world d (next_detection w.stack) next g is, then)

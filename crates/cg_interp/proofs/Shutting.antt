@@ -31,7 +31,7 @@ use Rattle.cg_interp.specs.declared.activity.Activity.{Activity as Own}
 use Rattle.cg_interp.specs.declared.activity.Activity.TheVariants as activity
 use Rattle.cg_interp.specs.declared.turned.Turned.TheVariants as turned
 use Rattle.cg_interp.specs.Engines.{State, StandsFor, ShowsAll, under, any_collecting}
-use Rattle.cg_interp.specs.Turns.{Turns, Keeps}
+use Rattle.cg_interp.specs.Turns.{Turns, TurnKeeps}
 use Rattle.cg_interp.proofs.Lawfully.{at_least}
 use Rattle.cg_interp.proofs.Standing.{plain_shutdown, replaced, spelled}
 use Rattle.cg_interp.proofs.StepLemmas.{turns}
@@ -202,8 +202,8 @@ tells_left script e w number stands sound is =
     (ap (λ n. Left n ∷ End ∷ []) same, refl)
 
 -- A turn that gives up a name keeps what an engine has room for.
-pub keeps_unbound : (inside old new : State) → inside ≡ old → (refs : List ℕ) (name : ℕ) → new.store ≡ held refs (named name None inside.store) → length new.activities ≡ length inside.activities + 2 → inside.room ≤ new.room + 2 → new.frames ≡ inside.frames → Keeps old new
-keeps_unbound inside old new same refs name store two room frames = subst (λ e. Keeps e new) same (record {
+pub keeps_unbound : (inside old new : State) → inside ≡ old → (refs : List ℕ) (name : ℕ) → new.store ≡ held refs (named name None inside.store) → length new.activities ≡ length inside.activities + 2 → inside.room ≤ new.room + 2 → new.frames ≡ inside.frames → TurnKeeps old new
+keeps_unbound inside old new same refs name store two room frames = subst (λ e. TurnKeeps e new) same (record {
   objects = omega (arith, ap (λ st. length (objects_of st)) store, (none-held refs (named name None inside.store)).objects);
   room = omega (arith, two, room);
   names = ap (λ st. length st.names) store ∙ length-set inside.store.names name None;

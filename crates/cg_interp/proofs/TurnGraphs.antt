@@ -24,9 +24,9 @@ use Rattle.cg_interp.specs.declared.graphs.Detection.TheVariants.{First, Second}
 use Rattle.cg_interp.specs.Engines.{State, StandsFor}
 use Rattle.cg_interp.specs.Collecting.{StandsWith, CollectsOnTop}
 use Rattle.cg_interp.specs.Telling.{GoesOnTo, Advances}
-use Rattle.cg_interp.specs.Turns.{EndsWith}
+use Rattle.cg_interp.specs.Turns.{RunEndsWith}
 use Rattle.cg_interp.specs.Graphs.{taken, taken_while, begins_record, unfinished_after, detection_on, graph_in, member_in, members_text, candidates_in, heading, findings, begun_text, text_before, text_after, legacy_in, lost_in}
-use Rattle.cg_interp.specs.Recorded.{Picture, picture, next_detection, detection_at, Shows, IsGraphOf, candidates, member_among}
+use Rattle.cg_interp.specs.Recorded.{Picture, picture, next_detection, detection_at, RunShows, IsGraphOf, candidates, member_among}
 use Rattle.cg_records.specs.Reading.{graph}
 use Rattle.cg_interp.specs.Recording.{recorded_next, text_of_turn, picture_text, text_if_taken, text_so_far, unfinished_so_far, graph_of_record}
 use Rattle.cg_interp.proofs.Shown.{alone_none, one_alone, shows_one}
@@ -144,7 +144,7 @@ module _ (script : Script) (store : Store) (w : World) (unfinished : Bool) (list
 -- What a turn shows: these graphs, which are written for it.
 pub record TurnShows (script : Script) (w : World) (steps : List StepTaken) (e e' : State) (unfinished : Bool) : Type 0 where
   pub pictures : List Picture
-  pub shows : Shows script w steps pictures
+  pub shows : RunShows script w steps pictures
   pub text : text_of_turn script e.store e'.store unfinished (recorded_next unfinished e) ≡ text_so_far unfinished pictures
   pub still : unfinished_after unfinished (recorded_next unfinished e) ≡ unfinished_so_far unfinished pictures
 
@@ -194,7 +194,7 @@ module _ (script : Script) (e e' : State) (unfinished : Bool) (left : List Event
           (graph_is script d e.store w e'.store g.after listed at.represents (alike_now script e' g.still g.after g.stands listed'))))
 
   -- a turn that ends the run makes no detection
-  pub shown_end : (lines : List Event) (outcome : Outcome) (k : EndsWith script w lines outcome) → w.outcome ≡ Running → outcome ≢ Running → TurnShows script w k.goes.steps e e' unfinished
+  pub shown_end : (lines : List Event) (outcome : Outcome) (k : RunEndsWith script w lines outcome) → w.outcome ≡ Running → outcome ≢ Running → TurnShows script w k.goes.steps e e' unfinished
   shown_end lines outcome k runs over = by (detection_on e.activities) refl
     where
       ends_not : (d : Detection) → detection_on e.activities ≡ Some d → ⊥

@@ -6,8 +6,8 @@ use Rattle.cg_machine.specs.declared.event.Event.{Event}
 use Rattle.cg_machine.specs.World.{World}
 use Rattle.cg_machine.specs.Lawful.{IsLawful}
 use Rattle.cg_collect.specs.Phases.{lines_left}
-use Rattle.cg_collect.specs.Answers.{Shows as CollectionShows}
-use Rattle.cg_collect.specs.Collections.{IsReady}
+use Rattle.cg_collect.specs.Answers.{CollectionShows}
+use Rattle.cg_collect.specs.Collections.{IsReadyForCollection}
 use Rattle.cg_interp.specs.declared.activity.Activity.{Activity as Own}
 use Rattle.cg_interp.specs.declared.activity.Activity.TheVariants as activity
 use Rattle.cg_interp.specs.declared.turned.Turned.{Turned}
@@ -49,7 +49,7 @@ stands_alike script old new left w store policy activities budget stands = eithe
         budget = on_top.collects.budget ∙ sym budget;
         running = on_top.collects.running;
         alone = on_top.collects.alone;
-        ready = subst (IsReady script on_top.collection) (sym store) on_top.collects.ready;
+        ready = subst (IsReadyForCollection script on_top.collection) (sym store) on_top.collects.ready;
         lines = on_top.collects.lines ∙ ap (lines_left script on_top.asked on_top.collection on_top.collection.phase) (sym store);
       };
     }))

@@ -19,7 +19,7 @@ use Rattle.cg_graph.specs.Store.{list_at}
 use Rattle.cg_value.specs.declared.Place.TheVariants.{Pend}
 use Rattle.cg_interp.specs.declared.activity.Activity.{Activity as Own}
 use Rattle.cg_interp.specs.declared.activity.Activity.TheVariants as activity
-use Rattle.cg_interp.specs.Engines.{State, StandsFor, Shows, ShowsAll, released_first, is_collecting, any_collecting}
+use Rattle.cg_interp.specs.Engines.{State, StandsFor, ActivityShows, ShowsAll, released_first, is_collecting, any_collecting}
 
 -- a death is none
 death_is_none : (o : ℕ) (phase : DeathPhase) (waiting : List ℕ) → list_any is_collection (death_activities o phase waiting) ≡ false
@@ -68,7 +68,7 @@ running_is_one asked c (phase_of.Stopping number) pending runs = absurd runs
 running_is_one asked c (phase_of.Over number) pending runs = absurd runs
 
 -- what one activity stands for
-shown : (script : Script) (a : Own) (tops : List Activity) → Shows script a tops → list_any is_collection tops ≡ is_collecting a
+shown : (script : Script) (a : Own) (tops : List Activity) → ActivityShows script a tops → list_any is_collection tops ≡ is_collecting a
 shown script (activity.Script next) tops shows = ap (list_any is_collection) shows
 shown script (activity.Frame locals procedure next) tops shows = ap (list_any is_collection) shows
 shown script (activity.Releasing release) tops shows = ap (list_any is_collection) shows

@@ -13,7 +13,7 @@ use Rattle.cg_heap.specs.Calls.{HasFewHolds}
 use Rattle.cg_graph.specs.Store.{Store}
 use Rattle.cg_commands.specs.declared.done.Done.{Done}
 use Rattle.cg_commands.specs.declared.done.Refusal.{Refusal}
-use Rattle.cg_commands.specs.Answers.{Answers}
+use Rattle.cg_commands.specs.Answers.{CommandAnswers}
 use Rattle.cg_machine.specs.declared.event.FrameSpec.{FrameSpec}
 use Rattle.cg_machine.specs.declared.event.FrameSort.TheVariants.{Call}
 use Rattle.cg_script.specs.declared.Command.{Command}
@@ -155,7 +155,7 @@ pub record IsAtCommand (script : Script) (caller : Caller) (e : State) (w : Worl
 -- A command was performed in this world, for which the engine stood with the heap and the policy of before.
 pub record IsPerformed (script : Script) (top : Activity) (e : State) (w : World) (command : Command) (before : Store) (was : Policy) (answer : Result Done Refusal) : Type 0 where
   pub stood : StandsFor script (under top (record e { store = before; policy = was })) w
-  pub answers : Answers answer (effect w command) before was e.store e.policy
+  pub answers : CommandAnswers answer (effect w command) before was e.store e.policy
   pub kept : StaysKeptAfter script e.frames w command
 
 -- in some world, where the heap had few holds

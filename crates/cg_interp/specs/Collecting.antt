@@ -6,8 +6,8 @@ use Rattle.cg_machine.specs.World as machine
 use Rattle.cg_machine.specs.World.{World, Running}
 use Rattle.cg_collect.specs.declared.collection.Collection.{Collection}
 use Rattle.cg_collect.specs.Phases.{lines_left}
-use Rattle.cg_collect.specs.Answers.{Shows as CollectionShows}
-use Rattle.cg_collect.specs.Collections.{IsReady}
+use Rattle.cg_collect.specs.Answers.{CollectionShows}
+use Rattle.cg_collect.specs.Collections.{IsReadyForCollection}
 use Rattle.cg_interp.specs.declared.activity.Activity.{Activity}
 use Rattle.cg_interp.specs.declared.activity.Activity.TheVariants as activity
 use Rattle.cg_interp.specs.Engines.{State, StandsFor, ShowsAll, any_collecting}
@@ -21,7 +21,7 @@ pub record Collects (script : Script) (asked : Bool) (c : Collection) (e : State
   pub budget : w.budget ≡ e.budget
   pub running : w.outcome ≡ Running
   pub alone : any_collecting e.activities ≡ false
-  pub ready : IsReady script c e.store
+  pub ready : IsReadyForCollection script c e.store
   pub lines : left ≡ lines_left script asked c c.phase e.store
 
 -- such a one is on top of an engine

@@ -67,19 +67,19 @@ pub record HasHandedOut (asked : Bool) (c : Collection) (tops : List machine.Act
 
 -- What an activity stands for among those of the machine, the top first. Which weak references wait with a dying object
 -- the world tells. What a death gives up it gives up between callbacks, or while entries are taken out.
-abbrev pub Shows : Script → Activity → List machine.Activity → Type 0
-Shows script (activity.Script next) tops = tops ≡ TopLevel (commands_from next (commands_of script.items)) ∷ []
-Shows script (activity.Frame locals procedure next) tops = tops ≡ Framed (frame_of script locals procedure next) ∷ []
-Shows script (activity.Releasing release) tops = tops ≡ Releasing (references_left release) ∷ []
-Shows script (activity.Shutdown started) tops = tops ≡ ShuttingDown started ∷ []
-Shows script (activity.Dying death) tops = (waiting : List ℕ) × (tops ≡ death_shown death waiting) × IsSettled death
-Shows script (activity.Collecting asked collection) tops = HasHandedOut asked collection tops
+abbrev pub ActivityShows : Script → Activity → List machine.Activity → Type 0
+ActivityShows script (activity.Script next) tops = tops ≡ TopLevel (commands_from next (commands_of script.items)) ∷ []
+ActivityShows script (activity.Frame locals procedure next) tops = tops ≡ Framed (frame_of script locals procedure next) ∷ []
+ActivityShows script (activity.Releasing release) tops = tops ≡ Releasing (references_left release) ∷ []
+ActivityShows script (activity.Shutdown started) tops = tops ≡ ShuttingDown started ∷ []
+ActivityShows script (activity.Dying death) tops = (waiting : List ℕ) × (tops ≡ death_shown death waiting) × IsSettled death
+ActivityShows script (activity.Collecting asked collection) tops = HasHandedOut asked collection tops
 
 -- an activity that stands for the top of a stack, of one activity at least, over what lies below
 pub record ShowsTop (script : Script) (top : Activity) (rest : List machine.Activity → Type 0) (stack : List machine.Activity) : Type 0 where
   pub tops : List machine.Activity
   pub below : List machine.Activity
-  pub shows : Shows script top tops
+  pub shows : ActivityShows script top tops
   pub some : tops ≢ []
   pub over : rest below
   pub is : stack ≡ tops ++ below

@@ -87,9 +87,9 @@ ShowsStep script w after None pictures = pictures ≡ []
 ShowsStep script w after (Some d) pictures = (g : Graph) × (pictures ≡ picture d g ∷ []) × IsGraphOf script d w after g
 
 -- what a run from a world shows, step by step
-abbrev pub Shows : Script → World → List StepTaken → List Picture → Type 0
-Shows script w [] pictures = pictures ≡ []
-Shows script w (step ∷ steps) pictures = (now later : List Picture) × (pictures ≡ now ++ later) × ShowsStep script w step.world (next_detection w.stack) now × Shows script step.world steps later
+abbrev pub RunShows : Script → World → List StepTaken → List Picture → Type 0
+RunShows script w [] pictures = pictures ≡ []
+RunShows script w (step ∷ steps) pictures = (now later : List Picture) × (pictures ≡ now ++ later) × ShowsStep script w step.world (next_detection w.stack) now × RunShows script step.world steps later
 
 -- the second graph of a record is the next one
 abbrev pub second_in : Detection → Graph → Option Graph
@@ -114,7 +114,7 @@ records_of (p ∷ later) = begins p.detection p.graph (second_of later) ++ recor
 -- These are records of a run. (It has more than one list of them, since members and sets may stand in any order.)
 pub record HasRecords (script : Script) (budget : ℕ) (steps : List StepTaken) (records : List Rec) : Type 0 where
   pub pictures : List Picture
-  pub shows : Shows script (opening script budget) steps pictures
+  pub shows : RunShows script (opening script budget) steps pictures
   pub are : records ≡ records_of pictures
 
 -- whether an event tells that a command was refused for want of memory

@@ -16,7 +16,7 @@ use Rattle.cg_interp.specs.declared.turned.Standing.{Standing}
 use Rattle.cg_interp.specs.Engines.{State}
 use Rattle.cg_interp.specs.Telling.{TurnsWith, Advances}
 use Rattle.cg_interp.specs.Running.{Ran, events_told, standing_after}
-use Rattle.cg_interp.specs.Recorded.{Picture, Shows, wants_memory}
+use Rattle.cg_interp.specs.Recorded.{Picture, RunShows, wants_memory}
 use Rattle.cg_interp.specs.Graphs.{taken, unfinished_after, begins_record, taken_while, closing, heading, text_before, text_after, detection_on}
 
 -- how the run stands after a turn, or nothing where a command was refused for want of memory
@@ -76,7 +76,7 @@ unfinished_so_far unfinished (p ∷ pictures) = unfinished_so_far (begins_record
 pub record RecordedSo (script : Script) (budget : ℕ) (before : Option (List ℕ)) (e : State) (unfinished : Bool) (now : Option (List ℕ)) : Type 0 where
   pub ran : Ran script budget None e None
   pub pictures : List Picture
-  pub shows : Shows script (opening script budget) ran.steps pictures
+  pub shows : RunShows script (opening script budget) ran.steps pictures
   pub unrefused : list_any wants_memory ran.told ≡ false
   pub is : unfinished ≡ unfinished_so_far false pictures
   pub written : Appends before now (text_so_far false pictures)

@@ -15,7 +15,7 @@ use Rattle.cg_interp.specs.declared.turned.Turned.{Turned}
 use Rattle.cg_interp.specs.declared.turned.Turned.TheVariants as turned
 use Rattle.cg_interp.specs.Engines.{State, StandsFor, under}
 use Rattle.cg_interp.specs.Collecting.{StandsWith, Collects}
-use Rattle.cg_interp.specs.Turns.{EndsWith}
+use Rattle.cg_interp.specs.Turns.{RunEndsWith}
 
 -- The machine goes on, or rests where that is allowed: what it prints besides the lines that were left is what is told and
 -- the lines that are left now, for which the engine stands.
@@ -33,9 +33,9 @@ abbrev pub TurnsWith : Script → (List Event → Type 0) → World → List Eve
 TurnsWith script may_rest w left e turned.Quiet = GoesOnTo script may_rest w left [] e
 TurnsWith script may_rest w left e (turned.Line event) = GoesOnTo script may_rest w left (event ∷ []) e
 TurnsWith script may_rest w left e (turned.Lines events) = GoesOnTo script may_rest w left events e
-TurnsWith script may_rest w left e turned.Ended = (left ≡ []) × EndsWith script w (End ∷ []) Ended
-TurnsWith script may_rest w left e (turned.Left n) = (left ≡ []) × EndsWith script w (Left n ∷ End ∷ []) Ended
-TurnsWith script may_rest w left e turned.Spent = (left ≡ []) × EndsWith script w (BudgetSpent ∷ []) BudgetIsSpent
+TurnsWith script may_rest w left e turned.Ended = (left ≡ []) × RunEndsWith script w (End ∷ []) Ended
+TurnsWith script may_rest w left e (turned.Left n) = (left ≡ []) × RunEndsWith script w (Left n ∷ End ∷ []) Ended
+TurnsWith script may_rest w left e turned.Spent = (left ≡ []) × RunEndsWith script w (BudgetSpent ∷ []) BudgetIsSpent
 
 -- The collection on top has come nearer to its end, or is over.
 abbrev pub IsNearer : List Activity → Store → List Activity → Store → Type 0

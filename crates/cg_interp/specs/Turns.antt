@@ -41,7 +41,7 @@ pub record GoesTo (script : Script) (w : World) (events : List Event) (e : State
   pub stands : StandsFor script e after
 
 -- The run ends so, with these lines.
-pub record EndsWith (script : Script) (w : World) (lines : List Event) (outcome : Outcome) : Type 0 where
+pub record RunEndsWith (script : Script) (w : World) (lines : List Event) (outcome : Outcome) : Type 0 where
   pub after : World
   pub goes : Goes script w lines after
   pub ended : after.outcome ≡ outcome
@@ -51,9 +51,9 @@ abbrev pub Turns : Script → World → State → Turned → Type 0
 Turns script w e turned.Quiet = GoesTo script w [] e
 Turns script w e (turned.Line event) = GoesTo script w (event ∷ []) e
 Turns script w e (turned.Lines events) = GoesTo script w events e
-Turns script w e turned.Ended = EndsWith script w (End ∷ []) Ended
-Turns script w e (turned.Left n) = EndsWith script w (Left n ∷ End ∷ []) Ended
-Turns script w e turned.Spent = EndsWith script w (BudgetSpent ∷ []) BudgetIsSpent
+Turns script w e turned.Ended = RunEndsWith script w (End ∷ []) Ended
+Turns script w e (turned.Left n) = RunEndsWith script w (Left n ∷ End ∷ []) Ended
+Turns script w e turned.Spent = RunEndsWith script w (BudgetSpent ∷ []) BudgetIsSpent
 
 -- The machine goes on, without a line, to a world in which the death of an object has begun: the engine stands for the
 -- world just before that.
@@ -88,7 +88,7 @@ StaysOn d below activities = (IsGoing d × (activities ≡ activity.Dying d ∷ 
 
 -- What a turn in which no object is made keeps: there are no more objects, the stack may grow as high as before, and names
 -- and frames are as many.
-pub record Keeps (old new : State) : Type 0 where
+pub record TurnKeeps (old new : State) : Type 0 where
   pub objects : length (objects_of new.store) ≤ length (objects_of old.store)
   pub room : length old.activities + old.room ≤ length new.activities + new.room
   pub names : length new.store.names ≡ length old.store.names

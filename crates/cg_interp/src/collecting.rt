@@ -9,14 +9,14 @@ ghost use Rattle.cg_machine.specs.declared.event.Event.TheVariants as event_of;
 ghost use Rattle.cg_laws.specs.Kept.{StaysKept};
 ghost use Rattle.cg_script.specs.declared.Script.{Script as AnyScript};
 ghost use Rattle.cg_script.specs.Spelled.{IsSpelled};
-ghost use Rattle.cg_collect.specs.Collections.{IsReady, held_by};
+ghost use Rattle.cg_collect.specs.Collections.{IsReadyForCollection, held_by};
 ghost use Rattle.cg_collect.specs.Numbers.{AreSmall};
 ghost use Rattle.cg_interp.specs.declared.activity.Activity.TheVariants as activity_of;
 ghost use Rattle.cg_interp.specs.Engines.{StandsFor, under};
 ghost use Rattle.cg_interp.specs.declared.turned.Turned.TheVariants as turned_of;
 ghost use Rattle.cg_interp.specs.Collecting.{StandsWith};
 ghost use Rattle.cg_interp.specs.Telling.{TurnsWith, Advances, CollectsNext, CollectTurns};
-ghost use Rattle.cg_interp.specs.Turns.{IsFit, Keeps};
+ghost use Rattle.cg_interp.specs.Turns.{IsFit, TurnKeeps};
 
 use crate::activity::Activity;
 use crate::engine::Engine;
@@ -39,7 +39,7 @@ impl<B: Kind> Engine<B> {
             × StaysKept script self.old.frames (push (new_collection generation asked w) w) }
         ensures begins { (script : AnyScript) (w : World) → StandsFor script (under top self.old) w
             → StandsWith script self.new [] (push (new_collection generation asked w) w) }
-        ensures keeps { Keeps self.old self.new }
+        ensures keeps { TurnKeeps self.old self.new }
     {
         self.stack.push(top);
         self.heap.sound();
@@ -85,7 +85,7 @@ impl<B: Kind> Engine<B> {
         requires fit { IsFit script.now self.old }
         requires few { HasFewHolds self.old.store }
         requires held { HasHolds self.old.store (held_by collection) }
-        requires ready { IsReady script.now collection self.old.store }
+        requires ready { IsReadyForCollection script.now collection self.old.store }
         requires small { AreSmall self.old.policy.numbers }
         requires room { 1 < self.old.room }
         requires stands { CollectsNext script.now asked collection self.old }

@@ -17,7 +17,7 @@ ghost use Rattle.cg_policy.specs.Policy.{Policy as AnyPolicy};
 ghost use Rattle.cg_interp.specs.Engines.{StandsFor, under};
 ghost use Rattle.cg_interp.specs.Quietly.{ComesTo};
 ghost use Rattle.cg_interp.specs.Callers.{caller_activity, Changes, releasing, transition_of_change, call_of, told, GivesUp, DoesAny, RunsTo, IsPerformed, HasPerformed, StaysKeptAfter};
-ghost use Rattle.cg_interp.specs.Turns.{Makes, Keeps, IsFit, StaysSound};
+ghost use Rattle.cg_interp.specs.Turns.{Makes, TurnKeeps, IsFit, StaysSound};
 
 use crate::activity::Activity;
 use crate::caller::Caller;
@@ -42,7 +42,7 @@ impl<B: Kind> Engine<B> {
         ensures does { (script : AnyScript) (w : World) (command : AnyCommand) (before : Store) (was : AnyPolicy)
             → IsPerformed script (caller_activity caller) self.old w command before was done
             → RunsTo script w command (caller_activity caller) self.new result }
-        ensures keeps { Keeps self.old self.new }
+        ensures keeps { TurnKeeps self.old self.new }
     {
         match done {
             Ok(done) => self.proceed(caller, done),
@@ -59,7 +59,7 @@ impl<B: Kind> Engine<B> {
         ensures does { (script : AnyScript) (w : World) (command : AnyCommand) (before : Store) (was : AnyPolicy)
             → IsPerformed script (caller_activity caller) self.old w command before was (Ok done)
             → RunsTo script w command (caller_activity caller) self.new result }
-        ensures keeps { Keeps self.old self.new }
+        ensures keeps { TurnKeeps self.old self.new }
     {
         match done {
             Done::Changed { line, given_up } => self.change(caller, line, given_up),
@@ -75,7 +75,7 @@ impl<B: Kind> Engine<B> {
         requires room { 0 < self.old.room }
         ensures refuses { (script : AnyScript) (w : World) → StandsFor script (under (caller_activity caller) self.old) w
             → Makes script (refused number w) self.new result }
-        ensures keeps { Keeps self.old self.new }
+        ensures keeps { TurnKeeps self.old self.new }
     {
         self.stack.push(caller.stopped_frame().activity());
         Turned::Line(Event::Refused(number))
@@ -91,7 +91,7 @@ impl<B: Kind> Engine<B> {
         ensures gives_up { (script : AnyScript) (after : World) → Changes script (caller_activity caller) self.old given_up after
             → StaysSound script (releasing given_up after)
             → GivesUp script (releasing given_up after) (caller_activity caller) self.new line result }
-        ensures keeps { Keeps self.old self.new }
+        ensures keeps { TurnKeeps self.old self.new }
     {
         let mut release = Release::new(given_up);
         match give_up(&mut self.heap, &mut release) {
@@ -110,7 +110,7 @@ impl<B: Kind> Engine<B> {
         requires room { 0 < self.old.room }
         ensures tells { (script : AnyScript) (w : World) → ComesTo script w (under (caller_activity caller) self.old)
             → GivesUp script w (caller_activity caller) self.new line result }
-        ensures keeps { Keeps self.old self.new }
+        ensures keeps { TurnKeeps self.old self.new }
     {
         match line {
             Some(event) => {
@@ -126,7 +126,7 @@ impl<B: Kind> Engine<B> {
         requires room { 1 < self.old.room }
         ensures tells { (script : AnyScript) (after : World) → Changes script (caller_activity caller) self.old (item val_of.None) after
             → Makes script (transition_of_change lines (item val_of.None) after) self.new result }
-        ensures keeps { Keeps self.old self.new }
+        ensures keeps { TurnKeeps self.old self.new }
     {
         self.stack.push(caller.activity());
         self.stack.push(Activity::Releasing(nothing()));
@@ -138,7 +138,7 @@ impl<B: Kind> Engine<B> {
         requires room { 0 < self.old.room }
         ensures quits { (script : AnyScript) (w : World) → StandsFor script (under (caller_activity caller) self.old) w
             → Makes script ([], with_stack (without_commands w.stack) w) self.new result }
-        ensures keeps { Keeps self.old self.new }
+        ensures keeps { TurnKeeps self.old self.new }
     {
         self.stack.push(caller.stopped().activity());
         Turned::Quiet
@@ -151,7 +151,7 @@ impl<B: Kind> Engine<B> {
         requires room { 1 < self.old.room }
         ensures calls { (script : AnyScript) (w : World) → StandsFor script (under (caller_activity caller) self.old) w
             → Makes script (start_frame script (call_of function w) w) self.new result }
-        ensures keeps { Keeps self.old self.new }
+        ensures keeps { TurnKeeps self.old self.new }
     {
         let proc = procedure_of(&self.heap, function);
         self.stack.push(caller.activity());
@@ -172,7 +172,7 @@ impl<B: Kind> Engine<B> {
             × (effect w command ≡ Ok (Collects generation)) × StaysKeptAfter script self.old.frames w command }
         ensures does { (script : AnyScript) (command : AnyCommand) (w : World) → StandsFor script (under (caller_activity caller) self.old) w
             → effect w command ≡ Ok (Collects generation) → DoesAny script w command self.new result }
-        ensures keeps { Keeps self.old self.new }
+        ensures keeps { TurnKeeps self.old self.new }
     {
         if self.policy.running() {
             self.stack.push(caller.activity());

@@ -14,7 +14,7 @@ ghost use Rattle.cg_interp.specs.declared.activity.Activity.TheVariants as activ
 ghost use Rattle.cg_interp.specs.Engines.{StandsFor, under};
 ghost use Rattle.cg_interp.specs.Quietly.{IsActing, Acts, HasSomeCause};
 ghost use Rattle.cg_interp.specs.Telling.{IsAtTurn};
-ghost use Rattle.cg_interp.specs.Turns.{DyingIsSound, DeathTurns, StaysOn, Keeps, HasOtherStack, IfDies, IsFit};
+ghost use Rattle.cg_interp.specs.Turns.{DyingIsSound, DeathTurns, StaysOn, TurnKeeps, HasOtherStack, IfDies, IsFit};
 
 use crate::activity::Activity;
 use crate::engine::Engine;
@@ -34,7 +34,7 @@ impl<B: Kind> Engine<B> {
             × DyingIsSound (begin_death object w) }
         ensures begins { (script : AnyScript) (w : World) → StandsFor script self.old w
             → StandsFor script self.new (begin_death object w) }
-        ensures keeps { Keeps self.old self.new }
+        ensures keeps { TurnKeeps self.old self.new }
     {
         let death = Death::begin(&mut self.heap, object);
         self.stack.push(Activity::Dying(death));
@@ -50,7 +50,7 @@ impl<B: Kind> Engine<B> {
             → StaysKept script.now self.old.frames w → DeathTurns script.now w self.new result }
         ensures dead { IfDies result (λ o. IsUnheld self.new.store o) }
         ensures room { IfDies result (λ _. 0 < self.new.room) }
-        ensures keeps { Keeps self.old self.new }
+        ensures keeps { TurnKeeps self.old self.new }
     {
         let mut death = death;
         let answer = act(&mut self.heap, &mut death, script);
@@ -73,7 +73,7 @@ impl<B: Kind> Engine<B> {
         ensures store { self.new.store ≡ self.old.store }
         ensures activities { self.new.activities ≡ self.old.activities }
         ensures budget { self.new.budget ≡ self.old.budget }
-        ensures keeps { Keeps self.old self.new }
+        ensures keeps { TurnKeeps self.old self.new }
     {
         match event {
             Event::Free(_) => self.policy.freed(),
@@ -88,7 +88,7 @@ impl<B: Kind> Engine<B> {
         ensures stays { StaysOn death self.old.activities self.new.activities }
         ensures alone { HasOtherStack self.old self.new }
         ensures room { self.old.room ≤ self.new.room + 1 }
-        ensures keeps { Keeps self.old self.new }
+        ensures keeps { TurnKeeps self.old self.new }
     {
         if !death.is_over() {
             self.stack.push(Activity::Dying(death));

@@ -13,7 +13,7 @@ ghost use Rattle.cg_graph.specs.Changes.{held};
 ghost use Rattle.cg_death.specs.Activities.{references_left};
 ghost use Rattle.cg_interp.specs.Engines.{StandsFor, under, commands_from};
 ghost use Rattle.cg_interp.specs.Releases.{released_by, with_release, with_release_on};
-ghost use Rattle.cg_interp.specs.Turns.{Makes, Turns, Keeps, HasOtherStack};
+ghost use Rattle.cg_interp.specs.Turns.{Makes, Turns, TurnKeeps, HasOtherStack};
 
 use crate::activity::Activity;
 use crate::engine::Engine;
@@ -34,7 +34,7 @@ impl<B: Kind> Engine<B> {
         requires room { 0 < self.old.room }
         ensures starts { (script : AnyScript) (w : World) → StandsFor script self.old w
             → Makes script (start_frame script spec w) self.new result }
-        ensures keeps { Keeps self.old self.new }
+        ensures keeps { TurnKeeps self.old self.new }
     {
         if self.budget == 0 {
             Turned::Spent
@@ -51,7 +51,7 @@ impl<B: Kind> Engine<B> {
         requires budget { 0 < self.old.budget }
         ensures starts { (script : AnyScript) (w : World) → StandsFor script self.old w
             → Makes script (start_frame script spec w) self.new result }
-        ensures keeps { Keeps self.old self.new }
+        ensures keeps { TurnKeeps self.old self.new }
     {
         self.budget -= 1;
         hold_if(&mut self.heap, called(spec.sort, spec.func));
@@ -75,7 +75,7 @@ impl<B: Kind> Engine<B> {
         requires room { 0 < self.old.room }
         ensures top { self.new.activities ≡ with_release_on release self.old.activities }
         ensures alone { HasOtherStack self.old self.new }
-        ensures keeps { Keeps self.old self.new }
+        ensures keeps { TurnKeeps self.old self.new }
     {
         match release {
             Some(release) => self.stack.push(Activity::Releasing(release)),
@@ -88,7 +88,7 @@ impl<B: Kind> Engine<B> {
         requires room { 0 < self.old.room }
         ensures leaves { (script : AnyScript) (procedure : ℕ) (next : Option ℕ) (w : World) → commands_from next (body_of script procedure) ≡ []
             → StandsFor script (under (activity_of.Frame locals procedure next) self.old) w → Turns script w self.new result }
-        ensures keeps { Keeps self.old self.new }
+        ensures keeps { TurnKeeps self.old self.new }
     {
         self.push_if(given_up_by(locals));
         Turned::Line(Event::Leave)

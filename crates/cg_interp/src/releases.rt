@@ -8,7 +8,7 @@ ghost use Rattle.cg_death.specs.Answers.{MakesNone};
 ghost use Rattle.cg_interp.specs.declared.activity.Activity.TheVariants as activity_of;
 ghost use Rattle.cg_interp.specs.Engines.{State, StandsFor, under, over};
 ghost use Rattle.cg_interp.specs.Quietly.{Released};
-ghost use Rattle.cg_interp.specs.Turns.{Turns, DyingIsSound, StaysSound, Keeps};
+ghost use Rattle.cg_interp.specs.Turns.{Turns, DyingIsSound, StaysSound, TurnKeeps};
 
 use crate::activity::Activity;
 use crate::engine::Engine;
@@ -27,7 +27,7 @@ impl<B: Kind> Engine<B> {
             × StandsFor script (under (activity_of.Releasing release) self.old) w × StaysSound script w }
         ensures turns { (script : AnyScript) (w : World) → StandsFor script (under (activity_of.Releasing release) self.old) w
             → StaysSound script w → Turns script w self.new result }
-        ensures keeps { Keeps self.old self.new }
+        ensures keeps { TurnKeeps self.old self.new }
     {
         let mut release = release;
         match give_up(&mut self.heap, &mut release) {
@@ -47,7 +47,7 @@ impl<B: Kind> Engine<B> {
             × StandsFor script (under (activity_of.Releasing release) self.old) w × DyingIsSound (begin_death object w) }
         ensures begins { (script : AnyScript) (w : World) → StandsFor script (under (activity_of.Releasing release) self.old) w
             → StandsFor script self.new (begin_death object w) }
-        ensures keeps { Keeps self.old self.new }
+        ensures keeps { TurnKeeps self.old self.new }
     {
         self.stack.push(Activity::Releasing(release));
         self.die(object);

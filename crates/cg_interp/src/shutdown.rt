@@ -12,7 +12,7 @@ ghost use Rattle.cg_machine.specs.Due.{due};
 ghost use Rattle.cg_machine.specs.Shutdown.{greatest_from};
 ghost use Rattle.cg_interp.specs.declared.activity.Activity.TheVariants as activity_of;
 ghost use Rattle.cg_interp.specs.Engines.{StandsFor, under, commands_from};
-ghost use Rattle.cg_interp.specs.Turns.{Turns, Keeps, IsFit};
+ghost use Rattle.cg_interp.specs.Turns.{Turns, TurnKeeps, IsFit};
 ghost use Rattle.cg_interp.specs.Telling.{IsAtTurn, TurnsFrom};
 
 use crate::activity::Activity;
@@ -29,7 +29,7 @@ impl<B: Kind> Engine<B> {
         requires room { 0 < self.old.room }
         ensures ends { (next : Option ℕ) (w : World) → commands_from next (commands_of script.now.items) ≡ [] → due w ≡ None
             → StandsFor script.now (under (activity_of.Script next) self.old) w → Turns script.now w self.new result }
-        ensures keeps { Keeps self.old self.new }
+        ensures keeps { TurnKeeps self.old self.new }
     {
         if script.shutdown() {
             self.stack.push(Activity::Shutdown { started: false });
@@ -47,7 +47,7 @@ impl<B: Kind> Engine<B> {
         requires stands { (script : AnyScript) × IsSpelled script × IsFit script self.old
             × IsAtTurn script (activity_of.Shutdown false) self.old }
         ensures turns { (script : AnyScript) → TurnsFrom script (activity_of.Shutdown false) self.old self.new result }
-        ensures keeps { Keeps self.old self.new }
+        ensures keeps { TurnKeeps self.old self.new }
     {
         match self.greatest_bound() {
             Some(name) => self.give_up(name),
@@ -73,7 +73,7 @@ impl<B: Kind> Engine<B> {
         requires room { 1 < self.old.room }
         ensures gives { greatest_from 0 self.old.store.names ≡ Some name → (script : AnyScript) (w : World)
             → StandsFor script (under (activity_of.Shutdown false) self.old) w → Turns script w self.new result }
-        ensures keeps { Keeps self.old self.new }
+        ensures keeps { TurnKeeps self.old self.new }
     {
         self.heap.sound();
         let val = self.heap.unbind(name);

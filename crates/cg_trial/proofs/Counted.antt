@@ -14,8 +14,8 @@ use Rattle.cg_graph.specs.Maps.{total, part}
 use Rattle.cg_graph.specs.Store.{Store, Node, list_at, entries_in, entries_of, count_of, inner, held_within, held_by}
 use Rattle.cg_graph.proofs.Maps.{total-remove, get-remove_other}
 use Rattle.cg_heap.specs.Calls.{IsSound}
-use Rattle.cg_trial.specs.View.{View, view_of, IsReady, held_by as held_by_all}
-use Rattle.cg_trial.specs.Sift.{IsApart}
+use Rattle.cg_trial.specs.View.{View, view_of, IsReadyView, held_by as held_by_all}
+use Rattle.cg_trial.specs.Sift.{IsNowhereElse}
 use Rattle.cg_trial.proofs.Lists.{occurs, occurrences-cons}
 use Rattle.cg_trial.proofs.Placed.{once_at, where_is, apart}
 
@@ -59,7 +59,7 @@ held_inside store s xs once =
     omega (arith, same, some_of_total (held_by s) xs store.nodes once)
 
 module _ (store : Store) (sound : IsSound store) where
-  pub is_ready : IsReady (view_of store)
+  pub is_ready : IsReadyView (view_of store)
   is_ready = record {
     once = once_at store sound.listed Cand;
     alive = λ o h. (where_is store sound.listed Cand o h).0;
@@ -77,5 +77,5 @@ module _ (store : Store) (sound : IsSound store) where
   pub is_counted : (o : ℕ) → occurrences o (held_by_all (view_of store) (list_at store Cand)) ≤ count_of store o
   is_counted o = omega (arith, occurrences-held_by o (view_of store) (list_at store Cand), held_inside store o (list_at store Cand) (once_at store sound.listed Cand))
 
-  pub is_apart : (kept : Place) → IsApart kept (view_of store)
+  pub is_apart : (kept : Place) → IsNowhereElse kept (view_of store)
   is_apart kept q o h k i = apart store sound.listed Cand q o (λ e. h (sym e)) i

@@ -9,7 +9,7 @@ use Rattle.cg_value.specs.declared.Place.TheVariants.{Cand}
 use Rattle.cg_value.specs.declared.Entry.{Entry}
 use Rattle.cg_graph.specs.Member.{Includes}
 use Rattle.cg_graph.specs.Holdings.{occurrences}
-use Rattle.cg_trial.specs.View.{IsNext, View, IsSame, Lowered, IsReady, targets, held_by, head_of}
+use Rattle.cg_trial.specs.View.{IsNext, View, IsSame, Lowered, IsReadyView, targets, held_by, head_of}
 use Rattle.cg_graph.specs.Value.{entry_references, references}
 use Rattle.cg_trial.specs.Paths.{entries_in}
 use Rattle.std.proofs.lemmas.List.Sums.{sum_by_push}
@@ -50,7 +50,7 @@ entry_of old mid o i e same h = subst (λ (es : ℕ → List Entry). slice_get (
 pub live_same : (old mid : View) (o : ℕ) → IsSame old mid → IsTrue (old.live o) → IsTrue (mid.live o)
 live_same old mid o same h = subst (λ (l : ℕ → Bool). IsTrue (l o)) (sym same.lives) h
 
-pub refs_live : (old mid : View) (o p : ℕ) → IsReady old → IsTrue (old.live o) → IsSame old mid → Includes (references (old.entries o)) p → IsTrue (mid.live p)
+pub refs_live : (old mid : View) (o p : ℕ) → IsReadyView old → IsTrue (old.live o) → IsSame old mid → Includes (references (old.entries o)) p → IsTrue (mid.live p)
 refs_live old mid o p ready live same h = live_same old mid p same (ready.closed o p live h)
 
 pub lowered_none : (v : View) → Lowered [] v v
@@ -102,10 +102,10 @@ lowering_room_key o old mid half i e so is first room =
     room_next old half (references (take i (old.entries o)) ++ targets e.val) (targets e.key) (references (drop (i + 1) (old.entries o))) (references (old.entries o)) (lowered_more _ _ _ _ _ so.lowered first) room
     (references_split (old.entries o) i e (entry_of old mid o i e so.lowered.rest.same is) ∙ sym (append_assoc (references (take i (old.entries o))) (targets e.val) _))
 
-pub entry_live_value : (o : ℕ) (old mid : View) (i : ℕ) (e : Entry) → IsReady old → IsTrue (old.live o) → IsSame old mid → slice_get (mid.entries o) i ≡ Some e → (p : ℕ) → Includes (targets e.val) p → IsTrue (mid.live p)
+pub entry_live_value : (o : ℕ) (old mid : View) (i : ℕ) (e : Entry) → IsReadyView old → IsTrue (old.live o) → IsSame old mid → slice_get (mid.entries o) i ≡ Some e → (p : ℕ) → Includes (targets e.val) p → IsTrue (mid.live p)
 entry_live_value o old mid i e ready live same is p h = refs_live old mid o p ready live same (value_within (old.entries o) i e (entry_of old mid o i e same is) p h)
 
-pub entry_live_key : (o : ℕ) (old mid half : View) (i : ℕ) (e : Entry) → IsReady old → IsTrue (old.live o) → IsSame old mid → IsSame mid half → slice_get (mid.entries o) i ≡ Some e → (p : ℕ) → Includes (targets e.key) p → IsTrue (half.live p)
+pub entry_live_key : (o : ℕ) (old mid half : View) (i : ℕ) (e : Entry) → IsReadyView old → IsTrue (old.live o) → IsSame old mid → IsSame mid half → slice_get (mid.entries o) i ≡ Some e → (p : ℕ) → Includes (targets e.key) p → IsTrue (half.live p)
 entry_live_key o old mid half i e ready live same then is p h = live_same mid half p then (refs_live old mid o p ready live same (key_within (old.entries o) i e (entry_of old mid o i e same is) p h))
 
 pub length_same : (old mid : View) (o : ℕ) → IsSame old mid → length (mid.entries o) ≡ length (old.entries o)

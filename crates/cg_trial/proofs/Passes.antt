@@ -8,7 +8,7 @@ use Rattle.cg_value.specs.declared.Place.TheVariants.{Cand}
 use Rattle.cg_value.specs.declared.Entry.{Entry}
 use Rattle.cg_graph.specs.Member.{Includes}
 use Rattle.cg_graph.specs.Holdings.{occurrences}
-use Rattle.cg_trial.specs.View.{IsNext, head_of, View, IsSame, IsSameButNumbers, Numbered, IsReady}
+use Rattle.cg_trial.specs.View.{IsNext, head_of, View, IsSame, IsSameButNumbers, Numbered, IsReadyView}
 use Rattle.cg_graph.specs.Value.{references}
 use Rattle.cg_graph.proofs.Members.{cases_of, Includes-append_right, Includes-append_cases}
 use Rattle.cg_trial.proofs.Lists.{occurs, occurs_in, IsAt, head_is, ahead, ahead_is}
@@ -87,7 +87,7 @@ copying_more old mid new o n cursor so is numbered next =
     go p (inr e) (inr (inr k)) = absurd k
 
 -- A turn takes the cursor on by one.
-pub cursor_shorter : (old mid new : View) (o : ℕ) (was cursor : Option ℕ) (front back : List ℕ) → IsReady old → IsAt (old.listed Cand) (Some o) front back → was ≡ Some o
+pub cursor_shorter : (old mid new : View) (o : ℕ) (was cursor : Option ℕ) (front back : List ℕ) → IsReadyView old → IsAt (old.listed Cand) (Some o) front back → was ≡ Some o
     → IsSameButNumbers old mid → IsSameButNumbers old new → IsNext new o cursor → length (ahead cursor (new.listed Cand)) < length (ahead was (mid.listed Cand))
 cursor_shorter old mid new o was cursor front back ready at is before after next =
     let turn = turn_of new (old.listed Cand) o cursor front back (cand_same after) at next in
@@ -108,7 +108,7 @@ stands xs o front back at =
 pub stands_at : (old mid : View) (o : ℕ) (front back : List ℕ) → IsAt (old.listed Cand) (Some o) front back → IsSameButNumbers old mid → Includes (mid.listed Cand) o
 stands_at old mid o front back at rest = subst (λ (xs : List ℕ). Includes xs o) (sym (cand_same rest)) (stands _ o front back at)
 
-pub alive_at : (old mid : View) (o : ℕ) (front back : List ℕ) → IsReady old → IsAt (old.listed Cand) (Some o) front back → IsSame old mid → IsTrue (mid.live o)
+pub alive_at : (old mid : View) (o : ℕ) (front back : List ℕ) → IsReadyView old → IsAt (old.listed Cand) (Some o) front back → IsSame old mid → IsTrue (mid.live o)
 alive_at old mid o front back ready at same = subst (λ (l : ℕ → Bool). IsTrue (l o)) (sym same.lives) (ready.alive o (stands _ o front back at))
 
 pub copied_all : (old now : View) → Copying old now None → (o : ℕ) → Includes (old.listed Cand) o → now.number o ≡ old.degree o
@@ -120,7 +120,7 @@ copying_at old mid cursor o so is = subst (λ (k : Option ℕ). Copying old mid 
 pub copied_at : (old mid : View) (cursor : Option ℕ) → Copying old mid cursor → cursor ≡ None → Copying old mid None
 copied_at old mid cursor so is = subst (λ (k : Option ℕ). Copying old mid k) is so
 
-pub ready_kept : (old mid : View) → IsReady old → IsSame old mid → ((o : ℕ) → occurrences o (mid.listed Cand) ≡ occurrences o (old.listed Cand)) → IsReady mid
+pub ready_kept : (old mid : View) → IsReadyView old → IsSame old mid → ((o : ℕ) → occurrences o (mid.listed Cand) ≡ occurrences o (old.listed Cand)) → IsReadyView mid
 ready_kept old mid ready same sums = record {
   once = λ o. let e = sums o in let k = ready.once o in omega arith;
   alive = λ o h. subst (λ (l : ℕ → Bool). IsTrue (l o)) (sym same.lives) (ready.alive o (occurs_in (old.listed Cand) o (let e = sums o in let k = occurs (mid.listed Cand) o h in omega arith)));
@@ -129,5 +129,5 @@ ready_kept old mid ready same sums = record {
       (ready.closed o p (subst (λ (l : ℕ → Bool). IsTrue (l o)) same.lives live) (subst (λ (es : ℕ → List Entry). Includes (references (es o)) p) same.hold h));
 }
 
-pub ready_same : (old mid : View) → IsReady old → IsSameButNumbers old mid → IsReady mid
+pub ready_same : (old mid : View) → IsReadyView old → IsSameButNumbers old mid → IsReadyView mid
 ready_same old mid ready rest = ready_kept old mid ready rest.same (λ o. ap (occurrences o) (cand_same rest))

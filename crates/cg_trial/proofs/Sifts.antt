@@ -9,10 +9,10 @@ use Rattle.cg_value.specs.declared.Entry.{Entry}
 use Rattle.cg_graph.specs.Member.{Includes}
 use Rattle.cg_graph.specs.Holdings.{occurrences}
 use Rattle.cg_graph.specs.Places.{without_serial}
-use Rattle.cg_trial.specs.View.{IsNext, head_of, View, IsSame, Moved, IsReady}
+use Rattle.cg_trial.specs.View.{IsNext, head_of, View, IsSame, Moved, IsReadyView}
 use Rattle.cg_graph.specs.Value.{references}
 use Rattle.cg_trial.specs.Paths.{entries_in}
-use Rattle.cg_trial.specs.Sift.{Woken, IsRound, zeros, Walk, starts, goes, IsApart, IsSifted}
+use Rattle.cg_trial.specs.Sift.{Woken, IsRound, zeros, Walk, starts, goes, IsNowhereElse, IsSifted}
 use Rattle.cg_graph.proofs.Members.{either, Includes-append_cases, Includes-append_left, Includes-append_right}
 use Rattle.cg_trial.proofs.Lists.{occurs, occurs_in, same_members, none_or_some, without-absent, without-append, without-cons_yes, once_before, IsAt, head_is, ahead, ahead_is}
 use Rattle.cg_trial.proofs.Passes.{same_itself, same_more, turn_of, stands, at_end}
@@ -67,7 +67,7 @@ in_lists xs ys zs q sum h = either (none_or_some (occurrences q ys)) (λ e. inr 
 pub from_first : (xs ys zs : List ℕ) (q : ℕ) → occurrences q xs + occurrences q ys ≡ occurrences q zs → Includes xs q → Includes zs q
 from_first xs ys zs q sum h = occurs_in zs q (let k = occurs xs q h in omega arith)
 
-pub sifting_ready : (kept : Place) (old now : View) (cursor : Option ℕ) → IsReady old → Sifting kept old now cursor → IsReady now
+pub sifting_ready : (kept : Place) (old now : View) (cursor : Option ℕ) → IsReadyView old → Sifting kept old now cursor → IsReadyView now
 sifting_ready kept old now cursor ready so = record {
   once = λ q. let e = where_now kept old now cursor so q in let k = ready.once q in omega arith;
   alive = λ q h. subst (λ (l : ℕ → Bool). IsTrue (l q)) (sym so.same.lives) (ready.alive q (from_first (now.listed Cand) (now.listed kept) (old.listed Cand) q (where_now kept old now cursor so q) h));
@@ -76,7 +76,7 @@ sifting_ready kept old now cursor ready so = record {
       (ready.closed q p (subst (λ (l : ℕ → Bool). IsTrue (l q)) so.same.lives live) (subst (λ (es : ℕ → List Entry). Includes (references (es q)) p) so.same.hold h));
 }
 
-pub sifting_live : (kept : Place) (old now : View) (o : ℕ) → IsReady old → Sifting kept old now (Some o) → IsTrue (now.live o)
+pub sifting_live : (kept : Place) (old now : View) (o : ℕ) → IsReadyView old → Sifting kept old now (Some o) → IsTrue (now.live o)
 sifting_live kept old now o ready so = (sifting_ready kept old now (Some o) ready so).alive o (stands (now.listed Cand) o so.front so.back so.at)
 
 -- An object with the number 0 is passed.
@@ -101,7 +101,7 @@ sifting_pass kept old now o cursor so is next =
 abbrev pub weight : View → Option ℕ → ℕ
 weight v cursor = 2 * zeros v + length (ahead cursor (v.listed Cand))
 
-pub pass_lighter : (kept : Place) (old now : View) (o : ℕ) (was cursor : Option ℕ) → IsReady old → Sifting kept old now (Some o) → was ≡ Some o → IsNext now o cursor → weight now cursor < weight now was
+pub pass_lighter : (kept : Place) (old now : View) (o : ℕ) (was cursor : Option ℕ) → IsReadyView old → Sifting kept old now (Some o) → was ≡ Some o → IsNext now o cursor → weight now cursor < weight now was
 pass_lighter kept old now o was cursor ready so is next =
     let turn = turn_of now (now.listed Cand) o cursor so.front so.back refl so.at next in
     let once = (sifting_ready kept old now (Some o) ready so).once in
@@ -110,7 +110,7 @@ pass_lighter kept old now o was cursor ready so is next =
     omega arith
 
 -- An object with a number is taken out, once what it refers to is taken back.
-module _ (kept : Place) (old now mid new : View) (o : ℕ) (cursor : Option ℕ) (ready : IsReady old) (apart : kept ≢ Cand) (alone : IsApart kept old) (so : Sifting kept old now (Some o)) (numbered : now.number o ≢ 0)
+module _ (kept : Place) (old now mid new : View) (o : ℕ) (cursor : Option ℕ) (ready : IsReadyView old) (apart : kept ≢ Cand) (alone : IsNowhereElse kept old) (so : Sifting kept old now (Some o)) (numbered : now.number o ≢ 0)
     (woken : Woken (references (now.entries o)) now mid) (next : IsNext mid o cursor) (moved : Moved o kept mid new) where
   abbrev rest : List ℕ
   rest = (head_is so.back o so.at.at).0
@@ -121,10 +121,10 @@ module _ (kept : Place) (old now mid new : View) (o : ℕ) (cursor : Option ℕ)
   here : now.listed Cand ≡ so.front ++ o ∷ rest
   here = so.at.parts ∙ ap (λ (b : List ℕ). so.front ++ b) was
 
-  ready_now : IsReady now
+  ready_now : IsReadyView now
   ready_now = sifting_ready kept old now (Some o) ready so
 
-  ready_mid : IsReady mid
+  ready_mid : IsReadyView mid
   ready_mid = woken_ready (references (now.entries o)) now mid ready_now woken
 
   round : IsRound o so.front rest now mid
@@ -256,7 +256,7 @@ module _ (kept : Place) (old now : View) (so : Sifting kept old now None) where
   pub sifting_end : IsSifted kept old now
   sifting_end = record { same = so.same; others = so.others; sums = so.sums; reached = so.reached; all_reached = all_kept }
 
-pub sifting_alive : (kept : Place) (old now mid : View) (o : ℕ) (r : List ℕ) → IsReady old → Sifting kept old now (Some o) → Woken r now mid → IsTrue (mid.live o)
+pub sifting_alive : (kept : Place) (old now mid : View) (o : ℕ) (r : List ℕ) → IsReadyView old → Sifting kept old now (Some o) → Woken r now mid → IsTrue (mid.live o)
 sifting_alive kept old now mid o r ready so woken = live_same now mid o woken.same (sifting_live kept old now o ready so)
 
 pub sifting_done : (kept : Place) (old now : View) (cursor : Option ℕ) → Sifting kept old now cursor → cursor ≡ None → IsSifted kept old now

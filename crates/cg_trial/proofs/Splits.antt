@@ -11,7 +11,7 @@ use Rattle.cg_graph.specs.Value.{references}
 use Rattle.cg_graph.specs.declared.Edge.{Edge}
 use Rattle.cg_graph.specs.Reach.{edges, Reach, first, next}
 use Rattle.cg_trial.specs.Paths.{graph_in, Reached, entries_in}
-use Rattle.cg_trial.specs.Sift.{Walk, starts, goes, IsApart, IsSifted, IsSieved}
+use Rattle.cg_trial.specs.Sift.{Walk, starts, goes, IsNowhereElse, IsSifted, IsSieved}
 use Rattle.cg_graph.proofs.Members.{Includes-map, Includes-map_cases, either, Includes-append_cases, Includes-append_left, Includes-append_right}
 use Rattle.cg_trial.proofs.Passes.{cand_same, same_more, but_numbers_more}
 use Rattle.cg_trial.proofs.Entries.{refs_same}
@@ -92,7 +92,7 @@ counted_room v a rest counts counted o h =
     let g = counted o in
     omega arith
 
-pub apart_same : (kept : Place) (v b : View) → IsSameButNumbers v b → IsApart kept v → IsApart kept b
+pub apart_same : (kept : Place) (v b : View) → IsSameButNumbers v b → IsNowhereElse kept v → IsNowhereElse kept b
 apart_same kept v b rest alone = λ q o h k i.
     ap (λ (l : Place → List ℕ). occurrences o (l q)) rest.places ∙ alone q o h k (subst (λ (xs : List ℕ). Includes xs o) (cand_same rest) i)
 

@@ -10,7 +10,7 @@ use Rattle.cg_value.specs.declared.Entry.{Entry}
 use Rattle.cg_graph.specs.Member.{Includes}
 use Rattle.cg_graph.specs.Holdings.{occurrences}
 use Rattle.cg_graph.specs.Places.{without_serial}
-use Rattle.cg_trial.specs.View.{View, Numbered, Moved, IsReady, targets}
+use Rattle.cg_trial.specs.View.{View, Numbered, Moved, IsReadyView, targets}
 use Rattle.cg_graph.specs.Value.{references}
 use Rattle.cg_trial.specs.Sift.{Woken, IsRound, zeros}
 use Rattle.cg_graph.proofs.Members.{either, cases_of, Includes-append_cases, Includes-append_left, Includes-append_right}
@@ -51,11 +51,11 @@ woken_more r s a b c first then = record {
       round_more o a b c front back one (then.splits o one.before one.after (first.stays o marked) one.parts);
 }
 
-pub woken_ready : (r : List ℕ) (a b : View) → IsReady a → Woken r a b → IsReady b
+pub woken_ready : (r : List ℕ) (a b : View) → IsReadyView a → Woken r a b → IsReadyView b
 woken_ready r a b ready w = ready_kept a b ready w.same (λ o. w.sums (λ x. cond (x == o) 1 0))
 
 -- One target: its number was 0 and becomes 1, and it is moved to the end.
-module _ (p : ℕ) (a m c : View) (ready : IsReady a) (stands : Includes (a.listed Cand) p) (only_there : (q : Place) → Includes (a.listed q) p → Cand ≡ q) (zero_was : a.number p ≡ 0)
+module _ (p : ℕ) (a m c : View) (ready : IsReadyView a) (stands : Includes (a.listed Cand) p) (only_there : (q : Place) → Includes (a.listed q) p → Cand ≡ q) (zero_was : a.number p ≡ 0)
     (numbered : Numbered p 1 a m) (moved : Moved p Cand m c) where
   number_of : (q : ℕ) → c.number q ≡ cond (q == p) 1 (a.number q)
   number_of q = ap (λ (n : ℕ → ℕ). n q) moved.numbers ∙ numbered.numbers q
@@ -159,7 +159,7 @@ waking_more o old mid half new i e so is first then = record {
       (woken_more _ _ _ _ _ (woken_more _ _ _ _ _ so.woken first) then);
 }
 
-pub waking_ready : (o : ℕ) (old mid : View) (i : ℕ) → IsReady old → Waking o old mid i → IsReady mid
+pub waking_ready : (o : ℕ) (old mid : View) (i : ℕ) → IsReadyView old → Waking o old mid i → IsReadyView mid
 waking_ready o old mid i ready so = woken_ready _ old mid ready so.woken
 
 pub waking_all : (o : ℕ) (old now : View) (i : ℕ) → i ≡ length (old.entries o) → Waking o old now i → Woken (references (old.entries o)) old now

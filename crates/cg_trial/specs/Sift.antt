@@ -36,8 +36,8 @@ pub data Walk (v : View) (members : List ℕ) : ℕ → Type 0 where
   goes : {o p : ℕ} → Walk v members o → Includes (references (v.entries o)) p → Includes members p → Walk v members p
 
 -- A candidate stands in no other list than that of the kept place.
-abbrev pub IsApart : Place → View → Type 0
-IsApart kept v = (q : Place) (o : ℕ) → q ≢ Cand → q ≢ kept → Includes (v.listed Cand) o → occurrences o (v.listed q) ≡ 0
+abbrev pub IsNowhereElse : Place → View → Type 0
+IsNowhereElse kept v = (q : Place) (o : ℕ) → q ≢ Cand → q ≢ kept → Includes (v.listed Cand) o → occurrences o (v.listed q) ≡ 0
 
 -- What a walk reaches is kept, and the other candidates stay.
 pub record IsSifted (kept : Place) (old new : View) : Type 0 where

@@ -100,7 +100,7 @@ abbrev pub held_by : View → List ℕ → List ℕ
 held_by v members = flat_map (λ o. references (v.entries o)) members
 
 -- Each candidate stands in the list once, and references lead to live objects.
-pub record IsReady (v : View) : Type 0 where
+pub record IsReadyView (v : View) : Type 0 where
   pub once : (o : ℕ) → occurrences o (v.listed Cand) ≤ 1
   pub alive : (o : ℕ) → Includes (v.listed Cand) o → IsTrue (v.live o)
   pub closed : (o p : ℕ) → IsTrue (v.live o) → Includes (references (v.entries o)) p → IsTrue (v.live p)

@@ -6,7 +6,7 @@ use Rattle.cg_graph.specs.Holdings.{occurrences, name_holdings, entry_holdings, 
 use Rattle.cg_graph.specs.Store.{Store, objects_of, outside_of}
 
 -- The objects and names are the same, and the outside holds of each object are what the stack holds of it.
-pub record StandsFor (store : Store) (objects : List Object) (names : List (Option Val)) (stack : List ℕ) : Type 0 where
+pub record HeapStandsFor (store : Store) (objects : List Object) (names : List (Option Val)) (stack : List ℕ) : Type 0 where
   pub same_objects : objects_of store ≡ objects
   pub same_names : store.names ≡ names
   pub outside : (o : ℕ) → outside_of store o ≡ occurrences o stack

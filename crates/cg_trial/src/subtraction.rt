@@ -7,9 +7,9 @@ ghost use Rattle.cg_graph.specs.Store.{list_at};
 ghost use Rattle.cg_graph.specs.Reachable.{IsReachable, IsUnreachable};
 ghost use Rattle.cg_arena.specs.Nodes.{IsPlace};
 ghost use Rattle.cg_heap.specs.Calls.{IsListed};
-ghost use Rattle.cg_trial.specs.View.{view_of, IsReady, IsSameButNumbers, Lowered, targets, held_by};
+ghost use Rattle.cg_trial.specs.View.{view_of, IsReadyView, IsSameButNumbers, Lowered, targets, held_by};
 ghost use Rattle.cg_trial.specs.Paths.{entries_in};
-ghost use Rattle.cg_trial.specs.Sift.{Woken, IsApart, IsSifted, IsSieved};
+ghost use Rattle.cg_trial.specs.Sift.{Woken, IsNowhereElse, IsSifted, IsSieved};
 ghost use Rattle.cg_trial.specs.Split.{IsSplitPlace, kept_place, entry_number_at, IsSameButPlaces};
 
 use crate::candidates::{
@@ -23,7 +23,7 @@ use std::sync::ledger::Ledger;
 
 /// Each candidate's number becomes its count.
 fn copy<B: Kind>(heap: &mut Heap<B>)
-    requires ready { IsReady (view_of heap.old) }
+    requires ready { IsReadyView (view_of heap.old) }
     ensures same { IsSameButNumbers (view_of heap.old) (view_of heap.new) }
     ensures copied { (o : ℕ) → Includes ((view_of heap.old).listed Place.Cand) o → (view_of heap.new).number o ≡ (view_of heap.old).degree o }
 {
@@ -48,7 +48,7 @@ fn lower<B: Kind>(heap: &mut Heap<B>, value: Val)
 
 /// Each reference of the entries of an object that is near lowers its candidate's number by one.
 fn lower_all<B: Kind, L: Ledger>(heap: &mut Heap<B>, object: u64, near: Near, steps: &mut Steps<L>)
-    requires ready { IsReady (view_of heap.old) }
+    requires ready { IsReadyView (view_of heap.old) }
     requires live { IsTrue ((view_of heap.old).live object) }
     requires room { (o : ℕ) → Includes ((view_of heap.old).listed Place.Cand) o → occurrences o (references ((view_of heap.old).entries object)) ≤ (view_of heap.old).number o }
     ensures lowered { Lowered (references ((view_of heap.old).entries object)) (view_of heap.old) (view_of heap.new) }
@@ -63,7 +63,7 @@ fn lower_all<B: Kind, L: Ledger>(heap: &mut Heap<B>, object: u64, near: Near, st
 
 /// Each reference of the candidates' entries lowers its candidate's number by one.
 fn subtract<B: Kind, L: Ledger>(heap: &mut Heap<B>, steps: &mut Steps<L>)
-    requires ready { IsReady (view_of heap.old) }
+    requires ready { IsReadyView (view_of heap.old) }
     requires room { (o : ℕ) → Includes ((view_of heap.old).listed Place.Cand) o → occurrences o (held_by (view_of heap.old) ((view_of heap.old).listed Place.Cand)) ≤ (view_of heap.old).number o }
     ensures lowered { Lowered (held_by (view_of heap.old) ((view_of heap.old).listed Place.Cand)) (view_of heap.old) (view_of heap.new) }
     ensures looks { steps.new ≡ steps.old + entries_in (view_of heap.old) ((view_of heap.old).listed Place.Cand) }
@@ -78,7 +78,7 @@ fn subtract<B: Kind, L: Ledger>(heap: &mut Heap<B>, steps: &mut Steps<L>)
 
 /// A candidate with the number 0 gets the number 1 and the last place in the list, so that the walk comes to it.
 fn take_back<B: Kind>(heap: &mut Heap<B>, value: Val)
-    requires ready { IsReady (view_of heap.old) }
+    requires ready { IsReadyView (view_of heap.old) }
     requires live { (o : ℕ) → Includes (targets value) o → IsTrue ((view_of heap.old).live o) }
     ensures { Woken (targets value) (view_of heap.old) (view_of heap.new) }
 {
@@ -100,7 +100,7 @@ fn take_back_all<B: Kind, L: Ledger>(
     near: Near,
     steps: &mut Steps<L>,
 )
-    requires ready { IsReady (view_of heap.old) }
+    requires ready { IsReadyView (view_of heap.old) }
     requires live { IsTrue ((view_of heap.old).live object) }
     ensures woken { Woken (references ((view_of heap.old).entries object)) (view_of heap.old) (view_of heap.new) }
     ensures looks { steps.new ≡ steps.old + length ((view_of heap.old).entries object) }
@@ -114,10 +114,10 @@ fn take_back_all<B: Kind, L: Ledger>(
 
 /// The candidates that have a number, and what they lead to, go to the kept place.
 fn take_out<B: Kind, L: Ledger>(heap: &mut Heap<B>, kept: Place, steps: &mut Steps<L>)
-    requires ready { IsReady (view_of heap.old) }
+    requires ready { IsReadyView (view_of heap.old) }
     requires place { IsPlace kept }
     requires apart { kept ≢ Place.Cand }
-    requires alone { IsApart kept (view_of heap.old) }
+    requires alone { IsNowhereElse kept (view_of heap.old) }
     requires empty { (view_of heap.old).listed kept ≡ [] }
     ensures sifted { IsSifted kept (view_of heap.old) (view_of heap.new) }
     ensures later { steps.old ≤ steps.new }

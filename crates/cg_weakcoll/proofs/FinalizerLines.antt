@@ -28,7 +28,7 @@ use Rattle.cg_script.proofs.Rows.{binding_is}
 use Rattle.cg_script.proofs.Shown.{Begins, begins_along, begins_texts, text_found}
 use Rattle.cg_weakcoll.specs.Exits.{Exit, exit_body, exit_commands}
 use Rattle.cg_weakcoll.specs.Expansion.{call_line, exit_name, finalize_lines, function_name, object_name, proc_name, watch_name}
-use Rattle.cg_weakcoll.specs.MapLines.{StandsFor}
+use Rattle.cg_weakcoll.specs.MapLines.{WordStandsFor}
 use Rattle.cg_weakcoll.proofs.ExitNames.{EachLine, EachWord, IsSound, each_sound}
 use Rattle.cg_graph.specs.Member.{Includes}
 use Rattle.cg_graph.proofs.Members.{either}
@@ -164,8 +164,8 @@ finalizer_says all l e later = BeginsProc (place_of all (proc_name l)) ∷ (does
 pub record Finalizer (all : List (List ℕ)) (Free : List ℕ → Type 0) (known0 : Known) (rest : List (List ℕ)) (saids : List Said) (l : ℕ) (y f : List ℕ) : Type 0 where
   pub source : Operand
   pub target : Operand
-  pub source_is : StandsFor all f source
-  pub target_is : StandsFor all y target
+  pub source_is : WordStandsFor all f source
+  pub target_is : WordStandsFor all y target
   pub source_free : AreFree all Free (operand_names source)
   pub target_free : AreFree all Free (operand_names target)
   pub later : List Said

@@ -27,7 +27,7 @@ use Rattle.cg_script.proofs.Ascii.{both}
 use Rattle.cg_script.proofs.Says.{not_bad}
 use Rattle.cg_script.proofs.Shown.{Begins, begins_along, begins_self, begins_texts, text_found}
 use Rattle.cg_weakcoll.specs.Maps.{wget_commands}
-use Rattle.cg_weakcoll.specs.MapLines.{Atom, Counted, HasLines, HasLook, LookLinesAreCommands, Named, Quoted, StandTogether, StandsFor}
+use Rattle.cg_weakcoll.specs.MapLines.{Atom, Counted, HasLines, HasLook, LookLinesAreCommands, Named, Quoted, StandTogether, WordStandsFor}
 use Rattle.cg_weakcoll.proofs.ReadLines.{AreNested, First, Onward, Passes, Says, first_line, means_words, nested, onward, passes_words, stand_together}
 
 -- a text that is there keeps its place
@@ -136,11 +136,11 @@ name_stands texts x h =
     ∙ ap (λ b. cond b (operands.Name (place_of texts x)) (operands.Int (number_of x))) h.letter
 
 -- the word of a value stands for what is read
-pub stands_for : (all texts : List (List ℕ)) (word : List ℕ) (found : Option Operand) → named atoms word ≡ found → Begins (with_text_if texts (value_text found word)) all → StandsFor all word (operand_or found texts word)
+pub stands_for : (all texts : List (List ℕ)) (word : List ℕ) (found : Option Operand) → named atoms word ≡ found → Begins (with_text_if texts (value_text found word)) all → WordStandsFor all word (operand_or found texts word)
 stands_for all texts word (Some operand) e begins = Atom operand e
 stands_for all texts word None e begins = by (is_quoted word) (begins_name (slice_index word 0)) begins
   where
-    by : (q b : Bool) → Begins (with_text_if texts (cond q (Some (string_text word)) (cond b (Some word) None))) all → StandsFor all word (cond q (operands.Str (place_of texts (string_text word))) (cond b (operands.Name (place_of texts word)) (operands.Int (number_of word))))
+    by : (q b : Bool) → Begins (with_text_if texts (cond q (Some (string_text word)) (cond b (Some word) None))) all → WordStandsFor all word (cond q (operands.Str (place_of texts (string_text word))) (cond b (operands.Name (place_of texts word)) (operands.Int (number_of word))))
     by true b h = Quoted (place_of texts (string_text word)) (text_found all texts (string_text word) h)
     by false true h = Named (place_of texts word) (text_found all texts word h)
     by false false h = Counted

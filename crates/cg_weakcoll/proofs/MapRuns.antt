@@ -22,7 +22,7 @@ use Rattle.cg_machine.specs.Run.{StepTaken, Step, Run, events_of, last_world}
 use Rattle.cg_machine.proofs.Tally.{tally, tally-append}
 use Rattle.cg_machine.proofs.Ending.{last_world-append}
 use Rattle.cg_promises.proofs.ToldRuns.{run_back, run_front}
-use Rattle.cg_weakcoll.specs.Maps.{Finds, Look, Looks, before_second, before_third, referent_value, steps_before_third, steps_of}
+use Rattle.cg_weakcoll.specs.Maps.{LookFinds, Look, Looks, before_second, before_third, referent_value, steps_before_third, steps_of}
 use Rattle.cg_weakcoll.proofs.Burns.{Burns, step_burns, weight}
 use Rattle.cg_weakcoll.proofs.Taking.{Derefs, Done, Gets, changes_so, deref_derefs, get_gets, taken_done}
 
@@ -128,7 +128,7 @@ parts script w look run =
 
 -- what a look finds, and that the variable holds the weak reference before the third command
 pub record Found (look : Look) (x : ℕ) (map key : Operand) : Type 0 where
-  pub finds : Finds look x map key
+  pub finds : LookFinds look x map key
   pub held : value_of (before_third look) (Name x) ≡ Some (Ref finds.weak)
 
 module _ (script : Script) (w : World) (look : Look) (p : Parts script w look) (x : ℕ) (map key : Operand) (looks : Looks w x map key look) where

@@ -26,7 +26,7 @@ use Rattle.cg_machine.specs.Frame.{Yields}
 use Rattle.cg_machine.specs.Due.{due}
 use Rattle.cg_machine.specs.Run.{StepTaken, Step, StepOf, TopLevelStep, FrameStep, CommandInFrame}
 use Rattle.cg_machine.proofs.Lookups.{found_at}
-use Rattle.cg_weakcoll.specs.Maps.{Takes, referent_value}
+use Rattle.cg_weakcoll.specs.Maps.{TakesCommand, referent_value}
 
 -- no refusal is printed
 abbrev pub IsAccepted : List Event → Type 0
@@ -103,7 +103,7 @@ module _ (script : Script) (w : World) (command : Command) (left : List Command)
   pub taken : (top : Activity) → w.stack ≡ top ∷ below → commands_on top ≡ command ∷ left → due w ≡ None → Step script w step.events step.world → Took script w command left below step
   taken top stack commands not_due s = by_top top stack commands not_due (subst (λ (st : List Activity). StepOf script w st step.events step.world) stack s.step)
 
-  pub taken_done : Step script w step.events step.world → Takes w (command ∷ left) below step → Done script w command left below step
+  pub taken_done : Step script w step.events step.world → TakesCommand w (command ∷ left) below step → Done script w command left below step
   taken_done s t =
       let k = taken t.top t.stack t.commands t.not_due s in
       let r = accepts script (with_stack (k.top ∷ below) w) (effect (with_stack (k.top ∷ below) w) command) step.events step.world t.accepted k.does in

@@ -16,7 +16,7 @@ use Rattle.cg_machine.specs.Run.{StepTaken, world_after}
 use Rattle.cg_machine.specs.Refusals.{◌>>=◌}
 use Rattle.cg_machine.proofs.Plain.{first_steps_run, next}
 use Rattle.cg_weakcoll.specs.Expansion.{expansion}
-use Rattle.cg_weakcoll.specs.Maps.{Look, Store, Stores}
+use Rattle.cg_weakcoll.specs.Maps.{Look, MapStore, Stores}
 use Rattle.cg_weakcoll.specs.Worked.{HasLookWith, a_cache, its_script}
 
 -- the steps from a place on, and one of them
@@ -41,7 +41,7 @@ pub spelled : reading (expansion a_cache) ≡ spells its_script.names its_script
 unfolding digits expansion atoms openers bindings meaning meant
 spelled = refl
 
-abbrev the_store : Store
+abbrev the_store : MapStore
 the_store = record { first = step_at 4; early = steps_at 5 1; second = step_at 6 }
 
 abbrev first_look : Look

@@ -6,7 +6,7 @@ use Rattle.cg_script.specs.Pieces.{lines_of, words_of, word_at}
 use Rattle.cg_script.specs.Reading.{reading, spells}
 use Rattle.cg_weakcoll.specs.Expansion.{exit_name, expansion, finalizes, first_bad, function_name, object_name, proc_name, watch_name}
 use Rattle.cg_weakcoll.specs.Exits.{AreExits, Exit}
-use Rattle.cg_weakcoll.specs.MapLines.{StandsFor}
+use Rattle.cg_weakcoll.specs.MapLines.{WordStandsFor}
 
 -- an exit finalizer is that of the `finalize` line of this number
 pub record IsExitOf (texts : List (List ℕ)) (items : List Item) (l : ℕ) (line : List ℕ) (e : Exit) : Type 0 where
@@ -15,8 +15,8 @@ pub record IsExitOf (texts : List (List ℕ)) (items : List Item) (l : ℕ) (lin
   pub exit_is : text_of texts e.exit ≡ exit_name l
   pub function_is : text_of texts e.function ≡ function_name l
   pub watch_is : text_of texts e.watch ≡ watch_name l
-  pub target_is : StandsFor texts (word_at (words_of line) 1) e.target
-  pub source_is : StandsFor texts (word_at (words_of line) 2) e.source
+  pub target_is : WordStandsFor texts (word_at (words_of line) 1) e.target
+  pub source_is : WordStandsFor texts (word_at (words_of line) 2) e.source
 
 -- these are those of the `finalize` lines among some lines, in their order, where the first line has this number
 pub data AreExitsOf (texts : List (List ℕ)) (items : List Item) : ℕ → List (List ℕ) → List Exit → Type 0 where

@@ -22,11 +22,11 @@ pub data StandTogether (items : List Item) (commands : List Command) : Type 0 wh
   InProcedure : (proc : Proc) (front back : List Command) → Includes (procedures items) proc → proc.body ≡ front ++ commands ++ back → StandTogether items commands
 
 -- what a word stands for in a script with these texts
-pub data StandsFor (texts : List (List ℕ)) (word : List ℕ) : Operand → Type 0 where
-  Atom : (operand : Operand) → named atoms word ≡ Some operand → StandsFor texts word operand
-  Quoted : (n : ℕ) → text_of texts n ≡ string_text word → StandsFor texts word (operands.Str n)
-  Named : (n : ℕ) → text_of texts n ≡ word → StandsFor texts word (operands.Name n)
-  Counted : StandsFor texts word (operands.Int (number_of word))
+pub data WordStandsFor (texts : List (List ℕ)) (word : List ℕ) : Operand → Type 0 where
+  Atom : (operand : Operand) → named atoms word ≡ Some operand → WordStandsFor texts word operand
+  Quoted : (n : ℕ) → text_of texts n ≡ string_text word → WordStandsFor texts word (operands.Str n)
+  Named : (n : ℕ) → text_of texts n ≡ word → WordStandsFor texts word (operands.Name n)
+  Counted : WordStandsFor texts word (operands.Int (number_of word))
 
 -- three lines of a script one after the other, by their words
 pub record HasLines (bytes : List ℕ) (first second third : List (List ℕ)) : Type 0 where
@@ -46,8 +46,8 @@ pub record HasLook (texts : List (List ℕ)) (items : List Item) (x map key : Li
   pub dict : Operand
   pub at : Operand
   pub name_is : text_of texts name ≡ x
-  pub dict_is : StandsFor texts map dict
-  pub at_is : StandsFor texts key at
+  pub dict_is : WordStandsFor texts map dict
+  pub at_is : WordStandsFor texts key at
   pub together : StandTogether items (wget_commands name dict at)
 
 -- A script with its three lines has them.
@@ -62,9 +62,9 @@ pub record HasStore (texts : List (List ℕ)) (items : List Item) (temporary map
   pub at : Operand
   pub value : Operand
   pub name_is : text_of texts name ≡ temporary
-  pub dict_is : StandsFor texts map dict
-  pub at_is : StandsFor texts key at
-  pub value_is : StandsFor texts v value
+  pub dict_is : WordStandsFor texts map dict
+  pub at_is : WordStandsFor texts key at
+  pub value_is : WordStandsFor texts v value
   pub together : StandTogether items (wset_commands name dict at value)
 
 -- A script with its three lines has them.

@@ -33,7 +33,7 @@ abbrev pub wget_commands : ℕ → Operand → Operand → List Command
 wget_commands x map key = Bind x NoneWord ∷ Get x map key ∷ Deref x (Name x) ∷ []
 
 -- A step takes the first of the commands that are left to the activity on top of others, and it is not refused.
-pub record Takes (w : World) (left : List Command) (below : List Activity) (step : StepTaken) : Type 0 where
+pub record TakesCommand (w : World) (left : List Command) (below : List Activity) (step : StepTaken) : Type 0 where
   pub top : Activity
   pub stack : w.stack ≡ top ∷ below
   pub commands : commands_on top ≡ left
@@ -47,7 +47,7 @@ pub record MakesWeak (w : World) (made : StepTaken) (weak object : ℕ) : Type 0
   pub callback : Operand
   pub rest : List Command
   pub below : List Activity
-  pub takes : Takes w (MakeRef name target callback ∷ rest) below made
+  pub takes : TakesCommand w (MakeRef name target callback ∷ rest) below made
   pub target_is : value_of w target ≡ Some (Ref object)
   pub line : made.events ≡ Made Weak weak ∷ []
 
@@ -87,9 +87,9 @@ before_third look = last_world look.second.world look.late
 pub record Looks (w : World) (x : ℕ) (map key : Operand) (look : Look) : Type 0 where
   pub rest : List Command
   pub below : List Activity
-  pub binds : Takes w (wget_commands x map key ++ rest) below look.first
-  pub gets : Takes (before_second look) (Get x map key ∷ Deref x (Name x) ∷ rest) below look.second
-  pub derefs : Takes (before_third look) (Deref x (Name x) ∷ rest) below look.third
+  pub binds : TakesCommand w (wget_commands x map key ++ rest) below look.first
+  pub gets : TakesCommand (before_second look) (Get x map key ∷ Deref x (Name x) ∷ rest) below look.second
+  pub derefs : TakesCommand (before_third look) (Deref x (Name x) ∷ rest) below look.third
   pub no_frame : count_by is_enter (events_of (look.second ∷ look.late)) ≡ 0
 
 -- From a world on these steps take the first two commands of `x = wget M k`: no frame begins from the first to the second, and that is refused, as it
@@ -97,7 +97,7 @@ pub record Looks (w : World) (x : ℕ) (map key : Operand) (look : Look) : Type 
 pub record Misses (w : World) (x : ℕ) (map key : Operand) (first : StepTaken) (early : List StepTaken) (second : StepTaken) : Type 0 where
   pub rest : List Command
   pub below : List Activity
-  pub binds : Takes w (wget_commands x map key ++ rest) below first
+  pub binds : TakesCommand w (wget_commands x map key ++ rest) below first
   pub no_frame : count_by is_enter (events_of (first ∷ early)) ≡ 0
   pub top : Activity
   pub stack : (last_world first.world early).stack ≡ top ∷ below
@@ -125,7 +125,7 @@ referent_value None = Nothing
 referent_value (Some o) = Ref o
 
 -- The variable is what the weak reference under the key refers to before the third command.
-pub record Finds (look : Look) (x : ℕ) (map key : Operand) : Type 0 where
+pub record LookFinds (look : Look) (x : ℕ) (map key : Operand) : Type 0 where
   pub weak : ℕ
   pub under : IsUnder (before_second look) map key weak
   pub reference : Object
@@ -137,10 +137,10 @@ pub record Finds (look : Look) (x : ℕ) (map key : Operand) : Type 0 where
 -- So it is after every `wget`.
 abbrev pub LooksFindReferents : Type 0
 LooksFindReferents = (script : Script) (budget : ℕ) (before : List StepTaken) (look : Look) → IsRun script budget (before ++ steps_of look)
-    → (x : ℕ) (map key : Operand) → Looks (world_after script budget before) x map key look → Finds look x map key
+    → (x : ℕ) (map key : Operand) → Looks (world_after script budget before) x map key look → LookFinds look x map key
 
 -- the variable is the object, or none, by the lines since the weak reference to it was made
-pub record Answers (since : List Event) (weak object x : ℕ) (w : World) : Type 0 where
+pub record LookAnswers (since : List Event) (weak object x : ℕ) (w : World) : Type 0 where
   pub uncleared : ¬ Includes since (Cleared weak) → value_of w (Name x) ≡ Some (Ref object)
   pub cleared : Includes since (Cleared weak) → value_of w (Name x) ≡ Some Nothing
 
@@ -149,31 +149,31 @@ abbrev pub LooksAnswer : Type 0
 LooksAnswer = (script : Script) (budget : ℕ) (before : List StepTaken) (made : StepTaken) (between : List StepTaken) (look : Look) → IsRun script budget (before ++ made ∷ between ++ steps_of look)
     → (weak object : ℕ) → MakesWeak (world_after script budget before) made weak object
     → (x : ℕ) (map key : Operand) → Looks (world_after script budget (before ++ made ∷ between)) x map key look → IsUnder (before_second look) map key weak
-    → Answers (events_of (between ++ steps_before_third look)) weak object x look.third.world
+    → LookAnswers (events_of (between ++ steps_before_third look)) weak object x look.third.world
 
 -- The steps in which a run takes the first two commands of a `wset`, and those between them.
-pub record Store : Type 0 where
+pub record MapStore : Type 0 where
   pub first : StepTaken
   pub early : List StepTaken
   pub second : StepTaken
 
 -- From a world on they are those of `wset M k v`: the first makes a weak reference of the object that v is, the second puts it into the map.
-pub record Stores (w : World) (temporary : ℕ) (map key v : Operand) (store : Store) (weak object : ℕ) : Type 0 where
+pub record Stores (w : World) (temporary : ℕ) (map key v : Operand) (store : MapStore) (weak object : ℕ) : Type 0 where
   pub rest : List Command
   pub below : List Activity
-  pub makes : Takes w (wset_commands temporary map key v ++ rest) below store.first
+  pub makes : TakesCommand w (wset_commands temporary map key v ++ rest) below store.first
   pub target_is : value_of w v ≡ Some (Ref object)
   pub line : store.first.events ≡ Made Weak weak ∷ []
-  pub puts : Takes (last_world store.first.world store.early) (Put map key (Name temporary) ∷ Del temporary ∷ rest) below store.second
+  pub puts : TakesCommand (last_world store.first.world store.early) (Put map key (Name temporary) ∷ Del temporary ∷ rest) below store.second
   pub put_is : value_of (last_world store.first.world store.early) (Name temporary) ≡ Some (Ref weak)
 
 -- all from the making of the weak reference on
-abbrev pub since_making : Store → List StepTaken → List StepTaken
+abbrev pub since_making : MapStore → List StepTaken → List StepTaken
 since_making store between = store.early ++ store.second ∷ between
 
 -- What `wset` put into a map `wget` finds, while the entry has it, exactly where it was not cleared since it was made.
 abbrev pub WeakMapsAnswer : Type 0
-WeakMapsAnswer = (script : Script) (budget : ℕ) (before : List StepTaken) (store : Store) (between : List StepTaken) (look : Look) → IsRun script budget (before ++ store.first ∷ since_making store between ++ steps_of look)
+WeakMapsAnswer = (script : Script) (budget : ℕ) (before : List StepTaken) (store : MapStore) (between : List StepTaken) (look : Look) → IsRun script budget (before ++ store.first ∷ since_making store between ++ steps_of look)
     → (temporary : ℕ) (stored_map stored_key v : Operand) (weak object : ℕ) → Stores (world_after script budget before) temporary stored_map stored_key v store weak object
     → (x : ℕ) (map key : Operand) → Looks (world_after script budget (before ++ store.first ∷ since_making store between)) x map key look → IsUnder (before_second look) map key weak
-    → Answers (events_of (since_making store between ++ steps_before_third look)) weak object x look.third.world
+    → LookAnswers (events_of (since_making store between ++ steps_before_third look)) weak object x look.third.world

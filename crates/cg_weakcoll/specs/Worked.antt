@@ -11,7 +11,7 @@ use Rattle.cg_script.specs.Reading.{reading, spells}
 use Rattle.cg_machine.specs.Operands.{value_of}
 use Rattle.cg_machine.specs.Run.{StepTaken, IsRun, world_after}
 use Rattle.cg_weakcoll.specs.Expansion.{expansion}
-use Rattle.cg_weakcoll.specs.Maps.{IsUnder, Look, Looks, Store, Stores, before_second, since_making, steps_of}
+use Rattle.cg_weakcoll.specs.Maps.{IsUnder, Look, Looks, MapStore, Stores, before_second, since_making, steps_of}
 
 -- the extended script
 abbrev pub a_cache : List ℕ
@@ -30,7 +30,7 @@ its_script = record {
 -- a run of it in which the `wset` makes the weak reference #4 of #3, and a `wget` finds it under the key and answers so
 pub record HasLookWith (answer : Val) : Type 0 where
   pub before : List StepTaken
-  pub store : Store
+  pub store : MapStore
   pub between : List StepTaken
   pub look : Look
   pub run : IsRun its_script 100 (before ++ store.first ∷ since_making store between ++ steps_of look)

@@ -14,7 +14,7 @@ use Rattle.cg_collect.specs.declared.answer.CollectStep.TheVariants as answer_of
 use Rattle.cg_collect.specs.declared.phase.Phase.TheVariants as phase_of
 use Rattle.cg_collect.specs.declared.phase.Turn.{Turn}
 use Rattle.cg_collect.specs.Phases.{from_on}
-use Rattle.cg_collect.specs.Ready.{IsReadyAt}
+use Rattle.cg_collect.specs.Ready.{IsReadyForCollectionAt}
 use Rattle.cg_collect.specs.Answers.{CollectSteps}
 use Rattle.cg_collect.specs.Turns.{TurnSteps, TurnFalls, StaysReady, KeepsObjects, collection_at}
 use Rattle.cg_collect.proofs.Keeping.{keeps_all, keeps-cleared}
@@ -27,21 +27,21 @@ use Rattle.cg_collect.proofs.detection.detach_one.Goals as goal
 -- All have lost the final set.
 pub returns-in_default-clause-steps : goal.returns-in_default-clause-steps
 returns-in_default-clause-steps g c = λ script facts policy.
-    let ready = subst (λ n. IsReadyAt c.args.heap.now 0 (phase_of.Detaching n)) c.in_default.is c.requires.ready in
+    let ready = subst (λ n. IsReadyForCollectionAt c.args.heap.now 0 (phase_of.Detaching n)) c.in_default.is c.requires.ready in
     subst (λ n. TurnSteps script facts (phase_of.Detaching n) c.args.heap.now policy c.args.heap.now policy c.to.result) (sym c.in_default.is)
     (turn_steps script facts (phase_of.Detaching None) c.args.heap.now policy c.args.heap.now policy c.to.result (phase_of.Unlinking c.first.result None) None answer_of.Continue c.to.ensures
     (turn-detached script facts c.args.heap.now policy (λ o m. either (ready.2 o m) (λ e. absurd e) (λ none. none)) c.first.result c.first.ensures))
 
 pub returns-in_default-clause-ready : goal.returns-in_default-clause-ready
 returns-in_default-clause-ready g c = λ k.
-    let ready = subst (λ n. IsReadyAt c.args.heap.now 0 (phase_of.Detaching n)) c.in_default.is c.requires.ready in
+    let ready = subst (λ n. IsReadyForCollectionAt c.args.heap.now 0 (phase_of.Detaching n)) c.in_default.is c.requires.ready in
     subst (λ (turn : Turn). StaysReady c.args.heap.now k turn.phase turn.answer) (sym c.to.ensures)
     (ready.0, unlink_begins c.args.heap.now (λ o m. either (ready.2 o m) (λ e. absurd e) (λ none. none)) c.first.result c.first.ensures)
 
 -- the object is a member
 pub newest_of-requires : goal.newest_of-requires
 newest_of-requires g c =
-    let ready = subst (λ n. IsReadyAt c.args.heap.now 0 (phase_of.Detaching n)) c.in-Some.is c.requires.ready in
+    let ready = subst (λ n. IsReadyForCollectionAt c.args.heap.now 0 (phase_of.Detaching n)) c.in-Some.is c.requires.ready in
     (where_is c.args.heap.now c.sound.ensures.listed Cand c.in-Some.object ready.1).0
 
 -- Its newest weak reference loses it.
@@ -61,7 +61,7 @@ pub returns-in-Some-newest_of-clause-steps : goal.returns-in-Some-newest_of-clau
 returns-in-Some-newest_of-clause-steps g c = λ script facts policy.
     let store = c.args.heap.now in
     let o = c.in-Some.object in
-    let ready = subst (λ n. IsReadyAt store 0 (phase_of.Detaching n)) c.in-Some.is c.requires.ready in
+    let ready = subst (λ n. IsReadyForCollectionAt store 0 (phase_of.Detaching n)) c.in-Some.is c.requires.ready in
     let n : Newest store o c.in-Some-newest_of.weak = newest_row store o c.in-Some-newest_of.weak (sym c.newest_of.ensures ∙ c.in-Some-newest_of.is) in
     let rest = from_here store c.sound.ensures.listed Cand o ready.1 in
     subst (λ m. TurnSteps script facts (phase_of.Detaching m) store policy c.clear_weak.new.self policy c.tells.result) (sym c.in-Some.is)
@@ -74,11 +74,11 @@ pub returns-in-Some-newest_of-clause-ready : goal.returns-in-Some-newest_of-clau
 returns-in-Some-newest_of-clause-ready g c = λ k.
     let store = c.args.heap.now in
     let o = c.in-Some.object in
-    let ready = subst (λ n. IsReadyAt store 0 (phase_of.Detaching n)) c.in-Some.is c.requires.ready in
+    let ready = subst (λ n. IsReadyForCollectionAt store 0 (phase_of.Detaching n)) c.in-Some.is c.requires.ready in
     let n : Newest store o c.in-Some-newest_of.weak = newest_row store o c.in-Some-newest_of.weak (sym c.newest_of.ensures ∙ c.in-Some-newest_of.is) in
     subst (λ (turn : Turn). StaysReady c.clear_weak.new.self k turn.phase turn.answer) (sym c.tells.ensures)
-    (subst (λ (now : Store). IsReadyAt now k (phase_of.Detaching (Some o))) (sym c.clear_weak.ensures)
-    (subst (λ (v : ℕ). IsReadyAt (record store { rows = without_row v store.rows }) k (phase_of.Detaching (Some o))) n.is (
+    (subst (λ (now : Store). IsReadyForCollectionAt now k (phase_of.Detaching (Some o))) (sym c.clear_weak.ensures)
+    (subst (λ (v : ℕ). IsReadyForCollectionAt (record store { rows = without_row v store.rows }) k (phase_of.Detaching (Some o))) n.is (
       apart_lost store c.sound.ensures.rows.rise o n.older n.row n.inside n.passes n.first ready.0,
       ready.1,
       behind_lost store c.sound.ensures.rows.rise o n.older n.row n.inside n.passes n.first ready.2,
@@ -87,14 +87,14 @@ returns-in-Some-newest_of-clause-ready g c = λ k.
 -- It has none: the next member follows.
 pub next-requires : goal.next-requires
 next-requires g c =
-    let ready = subst (λ n. IsReadyAt c.args.heap.now 0 (phase_of.Detaching n)) c.in-Some.is c.requires.ready in
+    let ready = subst (λ n. IsReadyForCollectionAt c.args.heap.now 0 (phase_of.Detaching n)) c.in-Some.is c.requires.ready in
     (where_is c.args.heap.now c.sound.ensures.listed Cand c.in-Some.object ready.1).0
 
 pub returns-in-None-clause-steps : goal.returns-in-None-clause-steps
 returns-in-None-clause-steps g c = λ script facts policy.
     let store = c.args.heap.now in
     let o = c.in-Some.object in
-    let ready = subst (λ n. IsReadyAt store 0 (phase_of.Detaching n)) c.in-Some.is c.requires.ready in
+    let ready = subst (λ n. IsReadyForCollectionAt store 0 (phase_of.Detaching n)) c.in-Some.is c.requires.ready in
     subst (λ m. TurnSteps script facts (phase_of.Detaching m) store policy store policy c.to-in-None.result) (sym c.in-Some.is)
     (turn_steps script facts (phase_of.Detaching (Some o)) store policy store policy c.to-in-None.result (phase_of.Detaching c.next.result) None answer_of.Continue c.to-in-None.ensures
     (turn-passed script facts store policy o c.next.result (next_from store c.sound.ensures.listed Cand o ready.1 c.next.result c.next.ensures)
@@ -104,7 +104,7 @@ pub returns-in-None-clause-ready : goal.returns-in-None-clause-ready
 returns-in-None-clause-ready g c = λ k.
     let store = c.args.heap.now in
     let o = c.in-Some.object in
-    let ready = subst (λ n. IsReadyAt store 0 (phase_of.Detaching n)) c.in-Some.is c.requires.ready in
+    let ready = subst (λ n. IsReadyForCollectionAt store 0 (phase_of.Detaching n)) c.in-Some.is c.requires.ready in
     let next = next_from store c.sound.ensures.listed Cand o ready.1 c.next.result c.next.ensures in
     subst (λ (turn : Turn). StaysReady store k turn.phase turn.answer) (sym c.to-in-None.ensures) (
       ready.0,
@@ -120,7 +120,7 @@ pub returns-in-None-clause-falls : goal.returns-in-None-clause-falls
 returns-in-None-clause-falls g c =
     let store = c.args.heap.now in
     let o = c.in-Some.object in
-    let ready = subst (λ n. IsReadyAt store 0 (phase_of.Detaching n)) c.in-Some.is c.requires.ready in
+    let ready = subst (λ n. IsReadyForCollectionAt store 0 (phase_of.Detaching n)) c.in-Some.is c.requires.ready in
     let shorter : length (from_on (Some o) (list_at store Cand)) ≡ length (o ∷ from_on c.next.result (list_at store Cand)) = ap length (next_from store c.sound.ensures.listed Cand o ready.1 c.next.result c.next.ensures) in
     subst (λ m. TurnFalls store (phase_of.Detaching m) store c.to-in-None.result) (sym c.in-Some.is)
     (subst (λ (turn : Turn). TurnFalls store (phase_of.Detaching (Some o)) store turn) (sym c.to-in-None.ensures) (λ went. inr (refl, omega (arith, shorter))))

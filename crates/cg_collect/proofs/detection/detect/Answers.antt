@@ -7,7 +7,7 @@ use Rattle.cg_heap.proofs.CallerLemmas.{live_of_kind}
 use Rattle.cg_machine.specs.Collect.{older}
 use Rattle.cg_collect.specs.declared.answer.CollectStep.TheVariants as answer_of
 use Rattle.cg_collect.specs.declared.phase.Phase.TheVariants as phase_of
-use Rattle.cg_collect.specs.Ready.{IsReadyAt}
+use Rattle.cg_collect.specs.Ready.{IsReadyForCollectionAt}
 use Rattle.cg_collect.specs.Turns.{TurnSteps, KeepsObjects}
 use Rattle.cg_collect.proofs.Keeping.{keeps_then, keeps-same, keeps-merged}
 use Rattle.cg_collect.proofs.Detecting.{turn-split, apart_parted, living_at, list-le}
@@ -29,7 +29,7 @@ returns-clause-ready r c =
     let half = c.split.new.heap in
     let g = c.args.facts.generation in
     let is : c.merge.new.self ≡ merged Back (Gen (older g)) half = c.merge.ensures ∙ ap (λ k. merged Back (Gen k) half) c.older.ensures in
-    subst (λ (now : Store). IsReadyAt now g (phase_of.Living c.first-living.result)) (sym is) (
+    subst (λ (now : Store). IsReadyForCollectionAt now g (phase_of.Living c.first-living.result)) (sym is) (
       apart_parted g store half c.sound.ensures.listed (live_of_kind store 1 ListKind c.sound.ensures.root) c.requires.ready c.split.ensures.listed c.split.ensures.same c.split.ensures.unreachable c.split.ensures.reachable c.split.ensures.others (subst IsListed is c.sound-2.ensures.listed),
       living_at g store half c.sound.ensures.listed (live_of_kind store 1 ListKind c.sound.ensures.root) c.requires.ready c.split.ensures.listed c.split.ensures.same c.split.ensures.unreachable c.split.ensures.reachable c.split.ensures.others (subst IsListed is c.sound-2.ensures.listed) c.first-living.result c.first-living.ensures,
     )

@@ -5,7 +5,7 @@ use Rattle.cg_machine.specs.declared.event.Event.TheVariants.{Cleared}
 use Rattle.cg_collect.specs.declared.answer.CollectStep.TheVariants as answer_of
 use Rattle.cg_collect.specs.declared.phase.Phase.TheVariants as phase_of
 use Rattle.cg_collect.specs.declared.phase.Turn.{Turn}
-use Rattle.cg_collect.specs.Ready.{IsReadyAt, IsMemberWalk}
+use Rattle.cg_collect.specs.Ready.{IsReadyForCollectionAt, IsMemberWalk}
 use Rattle.cg_collect.specs.Answers.{CollectSteps}
 use Rattle.cg_collect.specs.Turns.{collection_at, TurnFalls, StaysReady, KeepsObjects}
 use Rattle.cg_collect.proofs.Keeping.{keeps_all, keeps-cleared}
@@ -45,8 +45,8 @@ returns-then-is_member-clause-ready g c = λ k.
     let one = sym (is_final store c.sound.ensures.listed c.args.weak (looked_lives store c.sound.ensures.rows c.args.member c.args.weak c.requires.ready.1)) ∙ sym c.is_member.ensures ∙ c.if-is_member.true in
     let u : Unlinks store c.args.member c.args.weak = unlinks store c.sound.ensures.rows c.args.member c.args.weak c.requires.ready.1 one in
     subst (λ (turn : Turn). StaysReady c.clear_weak.new.self k turn.phase turn.answer) (sym c.tells.ensures)
-    (subst (λ n. IsReadyAt c.clear_weak.new.self k (phase_of.Unlinking c.args.member n)) (sym c.older_of.ensures)
-    (subst (λ (now : Store). IsReadyAt now k (phase_of.Unlinking c.args.member (next_older_in store.rows c.args.weak))) (sym c.clear_weak.ensures) (
+    (subst (λ n. IsReadyForCollectionAt c.clear_weak.new.self k (phase_of.Unlinking c.args.member n)) (sym c.older_of.ensures)
+    (subst (λ (now : Store). IsReadyForCollectionAt now k (phase_of.Unlinking c.args.member (next_older_in store.rows c.args.weak))) (sym c.clear_weak.ensures) (
       apart_rows store (without_row c.args.weak store.rows) c.requires.ready.0,
       u.goes_on (subst (λ (now : Store). IsRising now.rows) c.clear_weak.ensures c.sound-then-is_member.ensures.rows.rise),
     )))

@@ -5,7 +5,7 @@ use Rattle.cg_machine.specs.declared.event.FrameSort.TheVariants.{Del}
 use Rattle.cg_collect.specs.declared.answer.CollectStep.TheVariants as answer_of
 use Rattle.cg_collect.specs.declared.phase.Phase.TheVariants as phase_of
 use Rattle.cg_collect.specs.declared.phase.Turn.{Turn}
-use Rattle.cg_collect.specs.Ready.{IsApart}
+use Rattle.cg_collect.specs.Ready.{IsHeapApart}
 use Rattle.cg_collect.specs.Turns.{TurnSteps, TurnFalls, StaysReady, KeepsObjects}
 use Rattle.cg_heap.specs.Calls.{marked}
 use Rattle.cg_collect.proofs.Keeping.{keeps-moved, keeps-own_frame}
@@ -38,7 +38,7 @@ returns-in-None-clause-steps g c = λ facts policy.
 pub returns-in-None-clause-ready : goal.returns-in-None-clause-ready
 returns-in-None-clause-ready g c = λ k.
     subst (λ (turn : Turn). StaysReady c.move_to.new.self k turn.phase turn.answer) (sym c.to.ensures)
-    (subst IsApart (sym c.move_to.ensures) (apart_looked c.args.heap.now c.sound.ensures.listed c.args.object c.requires.first c.requires.ready))
+    (subst IsHeapApart (sym c.move_to.ensures) (apart_looked c.args.heap.now c.sound.ensures.listed c.args.object c.requires.first c.requires.ready))
 
 pub returns-in-None-clause-falls : goal.returns-in-None-clause-falls
 returns-in-None-clause-falls g c =

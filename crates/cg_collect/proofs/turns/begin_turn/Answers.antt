@@ -14,7 +14,7 @@ use Rattle.cg_death.proofs.RowSplits.{head_in}
 use Rattle.cg_collect.specs.declared.answer.CollectStep.TheVariants as answer_of
 use Rattle.cg_collect.specs.declared.phase.Phase.TheVariants as phase_of
 use Rattle.cg_collect.specs.declared.phase.Turn.{Turn}
-use Rattle.cg_collect.specs.Ready.{IsReadyAt, IsApartUnseen}
+use Rattle.cg_collect.specs.Ready.{IsReadyForCollectionAt, IsApartUnseen}
 use Rattle.cg_collect.specs.Turns.{TurnSteps, TurnFalls, StaysReady, KeepsObjects, to_clear, still_cleared, others_cleared}
 use Rattle.cg_graph.specs.Store.{list_at}
 use Rattle.cg_collect.proofs.Garbage.{not_garbage}
@@ -106,7 +106,7 @@ pub returns-in_default-clause-ready : goal.returns-in_default-clause-ready
 returns-in_default-clause-ready g c =
     let (live, at) = condemned c.args.heap.now c.sound.ensures.listed c.args.object c.requires.first in
     subst (λ (turn : Turn). StaysReady c.hold.new.self c.args.facts.generation turn.phase turn.answer) (sym c.to-in_default.ensures)
-    (subst (λ (now : Store). IsReadyAt now c.args.facts.generation (phase_of.Turn c.args.object)) (sym c.hold.ensures) (
+    (subst (λ (now : Store). IsReadyForCollectionAt now c.args.facts.generation (phase_of.Turn c.args.object)) (sym c.hold.ensures) (
       apart_held c.args.heap.now c.sound.ensures.listed c.args.object live c.requires.ready,
       not_garbage c.args.heap.now c.args.object Cand c.requires.ready.0.garbage at (λ e. cc),
     ))

@@ -5,7 +5,7 @@ use Rattle.cg_heap.proofs.HoldLemmas.{outside_live}
 use Rattle.cg_collect.specs.declared.answer.CollectStep.TheVariants as answer_of
 use Rattle.cg_collect.specs.declared.phase.Phase.TheVariants as phase_of
 use Rattle.cg_collect.specs.declared.phase.Turn.{Turn}
-use Rattle.cg_collect.specs.Ready.{IsReadyAt}
+use Rattle.cg_collect.specs.Ready.{IsReadyForCollectionAt}
 use Rattle.cg_collect.specs.Turns.{TurnSteps, TurnFalls, StaysReady, KeepsObjects, to_clear, others_cleared, still_released}
 use Rattle.cg_collect.proofs.Keeping.{keeps_all, keeps-taken}
 use Rattle.cg_collect.proofs.Worlds.{turn_steps}
@@ -24,7 +24,7 @@ returns-in-Some-clause-steps g c = λ script facts policy.
 pub returns-in-Some-clause-ready : goal.returns-in-Some-clause-ready
 returns-in-Some-clause-ready g c = λ k.
     subst (λ (turn : Turn). StaysReady c.detach.new.self k turn.phase turn.answer) (sym c.gives_up.ensures)
-    (subst (λ (now : Store). IsReadyAt now k (phase_of.Turn c.args.object)) (sym c.in-Some.ensures.rest) (
+    (subst (λ (now : Store). IsReadyForCollectionAt now k (phase_of.Turn c.args.object)) (sym c.in-Some.ensures.rest) (
       apart_taken c.args.heap.now c.sound.ensures.listed c.args.object (outside_live c.args.heap.now c.args.object c.requires.held) c.in-Some.entry c.in-Some.ensures.last c.requires.ready.1 c.requires.ready.0,
       c.requires.ready.1,
     ))

@@ -5,7 +5,7 @@ use Rattle.cg_death.specs.Activities.{HasHolds}
 use Rattle.cg_machine.proofs.Representing.{occurrences-one}
 use Rattle.cg_collect.specs.declared.phase.Phase.{Phase}
 use Rattle.cg_collect.specs.declared.phase.Turn.{Turn}
-use Rattle.cg_collect.specs.Ready.{IsReadyAt, IsWalk, HasItsWalk}
+use Rattle.cg_collect.specs.Ready.{IsReadyForCollectionAt, IsWalk, HasItsWalk}
 use Rattle.cg_collect.specs.Turns.{TurnSteps, TurnFalls, TurnLeaves}
 use Rattle.cg_collect.specs.Looks.{most_looks}
 use Rattle.cg_collect.specs.Collections.{facts_of, own_holds_at}
@@ -15,7 +15,7 @@ use Rattle.cg_collect.proofs.Keeping.{keeps_all}
 use Rattle.cg_collect.proofs.collection.Collection.turn.Goals as goal
 
 pub start-requires-clause-ready : goal.start-requires-clause-ready
-start-requires-clause-ready g c = subst (IsReadyAt c.args.heap.now c.args.self.now.generation) c.in-Start.is c.requires.ready
+start-requires-clause-ready g c = subst (IsReadyForCollectionAt c.args.heap.now c.args.self.now.generation) c.in-Start.is c.requires.ready
 
 pub returns-in-Start-clause-steps : goal.returns-in-Start-clause-steps
 returns-in-Start-clause-steps g c =
@@ -31,7 +31,7 @@ pub returns-in-Start-clause-leaves : goal.returns-in-Start-clause-leaves
 returns-in-Start-clause-leaves g c = inl (subst (λ (p : Phase). TurnLeaves c.args.heap.now p c.start.new.heap c.start.result) (sym c.in-Start.is) (c.start.ensures.leaves))
 
 pub tell_sizes-requires-clause-ready : goal.tell_sizes-requires-clause-ready
-tell_sizes-requires-clause-ready g c = subst (IsReadyAt c.args.heap.now c.args.self.now.generation) c.in-Sizes.is c.requires.ready
+tell_sizes-requires-clause-ready g c = subst (IsReadyForCollectionAt c.args.heap.now c.args.self.now.generation) c.in-Sizes.is c.requires.ready
 
 pub returns-in-Sizes-clause-steps : goal.returns-in-Sizes-clause-steps
 returns-in-Sizes-clause-steps g c =
@@ -47,7 +47,7 @@ pub returns-in-Sizes-clause-leaves : goal.returns-in-Sizes-clause-leaves
 returns-in-Sizes-clause-leaves g c = inl (subst (λ (p : Phase). TurnLeaves c.args.heap.now p c.args.heap.now c.tell_sizes.result) (sym c.in-Sizes.is) (c.tell_sizes.ensures.leaves))
 
 pub tell_condemned-requires : goal.tell_condemned-requires
-tell_condemned-requires g c = record { ready = subst (IsReadyAt c.args.heap.now c.args.self.now.generation) c.in-Telling.is c.requires.ready }
+tell_condemned-requires g c = record { ready = subst (IsReadyForCollectionAt c.args.heap.now c.args.self.now.generation) c.in-Telling.is c.requires.ready }
 
 pub returns-in-Telling-clause-steps : goal.returns-in-Telling-clause-steps
 returns-in-Telling-clause-steps g c =
@@ -66,7 +66,7 @@ pub returns-in-Telling-clause-leaves : goal.returns-in-Telling-clause-leaves
 returns-in-Telling-clause-leaves g c = inl (subst (λ (p : Phase). TurnLeaves c.args.heap.now p c.args.heap.now c.tell_condemned.result) (sym c.in-Telling.is) (c.tell_condemned.ensures.leaves))
 
 pub clear_one-requires-clause-ready : goal.clear_one-requires-clause-ready
-clear_one-requires-clause-ready g c = subst (IsReadyAt c.args.heap.now c.args.self.now.generation) c.in-WeakClearing.is c.requires.ready
+clear_one-requires-clause-ready g c = subst (IsReadyForCollectionAt c.args.heap.now c.args.self.now.generation) c.in-WeakClearing.is c.requires.ready
 
 pub clear_one-requires-clause-walk : goal.clear_one-requires-clause-walk
 clear_one-requires-clause-walk g c =
@@ -90,7 +90,7 @@ pub returns-in-WeakClearing-clause-leaves : goal.returns-in-WeakClearing-clause-
 returns-in-WeakClearing-clause-leaves g c = inl (subst (λ (p : Phase). TurnLeaves c.args.heap.now p c.clear_one.new.heap c.clear_one.result) (sym c.in-WeakClearing.is) (c.clear_one.ensures.leaves))
 
 pub call_one-requires : goal.call_one-requires
-call_one-requires g c = record { ready = subst (IsReadyAt c.args.heap.now c.args.self.now.generation) c.in-WeakCalling.is c.requires.ready }
+call_one-requires g c = record { ready = subst (IsReadyForCollectionAt c.args.heap.now c.args.self.now.generation) c.in-WeakCalling.is c.requires.ready }
 
 pub returns-in-WeakCalling-clause-steps : goal.returns-in-WeakCalling-clause-steps
 returns-in-WeakCalling-clause-steps g c =
@@ -107,10 +107,10 @@ returns-in-WeakCalling-clause-leaves g c = inl (subst (λ (p : Phase). TurnLeave
 
 pub returns-in-AfterCallback-clause-steps : goal.returns-in-AfterCallback-clause-steps
 returns-in-AfterCallback-clause-steps g c =
-    subst (λ (p : Phase). TurnSteps c.args.script.now (facts_of c.args.self.now) p c.args.heap.now c.args.policy.now c.args.heap.now c.args.policy.now c.after_callback.result) (sym c.in-AfterCallback.is) (c.after_callback.ensures.steps c.args.script.now (facts_of c.args.self.now) c.args.heap.now c.args.policy.now (subst (IsReadyAt c.args.heap.now c.args.self.now.generation) c.in-AfterCallback.is c.requires.ready))
+    subst (λ (p : Phase). TurnSteps c.args.script.now (facts_of c.args.self.now) p c.args.heap.now c.args.policy.now c.args.heap.now c.args.policy.now c.after_callback.result) (sym c.in-AfterCallback.is) (c.after_callback.ensures.steps c.args.script.now (facts_of c.args.self.now) c.args.heap.now c.args.policy.now (subst (IsReadyForCollectionAt c.args.heap.now c.args.self.now.generation) c.in-AfterCallback.is c.requires.ready))
 
 pub returns-in-AfterCallback-clause-ready : goal.returns-in-AfterCallback-clause-ready
-returns-in-AfterCallback-clause-ready g c = c.after_callback.ensures.ready c.args.heap.now c.args.self.now.generation (subst (IsReadyAt c.args.heap.now c.args.self.now.generation) c.in-AfterCallback.is c.requires.ready)
+returns-in-AfterCallback-clause-ready g c = c.after_callback.ensures.ready c.args.heap.now c.args.self.now.generation (subst (IsReadyForCollectionAt c.args.heap.now c.args.self.now.generation) c.in-AfterCallback.is c.requires.ready)
 
 pub returns-in-AfterCallback-clause-falls : goal.returns-in-AfterCallback-clause-falls
 returns-in-AfterCallback-clause-falls g c = subst (λ (p : Phase). TurnFalls c.args.heap.now p c.args.heap.now c.after_callback.result) (sym c.in-AfterCallback.is) (c.after_callback.ensures.falls c.args.heap.now)
@@ -118,10 +118,10 @@ returns-in-AfterCallback-clause-falls g c = subst (λ (p : Phase). TurnFalls c.a
 pub returns-in-AfterCallback-clause-leaves : goal.returns-in-AfterCallback-clause-leaves
 returns-in-AfterCallback-clause-leaves g c =
     inl (subst (λ (p : Phase). TurnLeaves c.args.heap.now p c.args.heap.now c.after_callback.result) (sym c.in-AfterCallback.is)
-    (c.after_callback.ensures.leaves c.args.heap.now c.args.self.now.generation (subst (IsReadyAt c.args.heap.now c.args.self.now.generation) c.in-AfterCallback.is c.requires.ready)))
+    (c.after_callback.ensures.leaves c.args.heap.now c.args.self.now.generation (subst (IsReadyForCollectionAt c.args.heap.now c.args.self.now.generation) c.in-AfterCallback.is c.requires.ready)))
 
 pub after_release-requires-clause-ready : goal.after_release-requires-clause-ready
-after_release-requires-clause-ready g c = subst (IsReadyAt c.args.heap.now c.args.self.now.generation) c.in-AfterRelease.is c.requires.ready
+after_release-requires-clause-ready g c = subst (IsReadyForCollectionAt c.args.heap.now c.args.self.now.generation) c.in-AfterRelease.is c.requires.ready
 
 pub returns-in-AfterRelease-clause-steps : goal.returns-in-AfterRelease-clause-steps
 returns-in-AfterRelease-clause-steps g c =
@@ -134,7 +134,7 @@ pub returns-in-AfterRelease-clause-leaves : goal.returns-in-AfterRelease-clause-
 returns-in-AfterRelease-clause-leaves g c = inl (subst (λ (p : Phase). TurnLeaves c.args.heap.now p c.after_release.new.heap c.after_release.result) (sym c.in-AfterRelease.is) (c.after_release.ensures.leaves))
 
 pub look_at_one-requires-clause-ready : goal.look_at_one-requires-clause-ready
-look_at_one-requires-clause-ready g c = subst (IsReadyAt c.args.heap.now c.args.self.now.generation) c.in-Finalizing.is c.requires.ready
+look_at_one-requires-clause-ready g c = subst (IsReadyForCollectionAt c.args.heap.now c.args.self.now.generation) c.in-Finalizing.is c.requires.ready
 
 pub returns-in-Finalizing-clause-steps : goal.returns-in-Finalizing-clause-steps
 returns-in-Finalizing-clause-steps g c =
@@ -154,7 +154,7 @@ returns-in-AfterFinalizing-clause-steps g c =
     subst (λ (p : Phase). TurnSteps c.args.script.now (facts_of c.args.self.now) p c.args.heap.now c.args.policy.now c.args.heap.now c.args.policy.now c.after_finalizer.result) (sym c.in-AfterFinalizing.is) (c.after_finalizer.ensures.steps c.args.script.now (facts_of c.args.self.now) c.args.heap.now c.args.policy.now)
 
 pub returns-in-AfterFinalizing-clause-ready : goal.returns-in-AfterFinalizing-clause-ready
-returns-in-AfterFinalizing-clause-ready g c = c.after_finalizer.ensures.ready c.args.heap.now c.args.self.now.generation (subst (IsReadyAt c.args.heap.now c.args.self.now.generation) c.in-AfterFinalizing.is c.requires.ready)
+returns-in-AfterFinalizing-clause-ready g c = c.after_finalizer.ensures.ready c.args.heap.now c.args.self.now.generation (subst (IsReadyForCollectionAt c.args.heap.now c.args.self.now.generation) c.in-AfterFinalizing.is c.requires.ready)
 
 pub returns-in-AfterFinalizing-clause-falls : goal.returns-in-AfterFinalizing-clause-falls
 returns-in-AfterFinalizing-clause-falls g c = subst (λ (p : Phase). TurnFalls c.args.heap.now p c.args.heap.now c.after_finalizer.result) (sym c.in-AfterFinalizing.is) (c.after_finalizer.ensures.falls c.args.heap.now)
@@ -163,7 +163,7 @@ pub returns-in-AfterFinalizing-clause-leaves : goal.returns-in-AfterFinalizing-c
 returns-in-AfterFinalizing-clause-leaves g c = inl (subst (λ (p : Phase). TurnLeaves c.args.heap.now p c.args.heap.now c.after_finalizer.result) (sym c.in-AfterFinalizing.is) (c.after_finalizer.ensures.leaves c.args.heap.now))
 
 pub detect-requires-clause-ready : goal.detect-requires-clause-ready
-detect-requires-clause-ready g c = subst (IsReadyAt c.args.heap.now c.args.self.now.generation) c.in-Split.is c.requires.ready
+detect-requires-clause-ready g c = subst (IsReadyForCollectionAt c.args.heap.now c.args.self.now.generation) c.in-Split.is c.requires.ready
 
 pub returns-in-Split-clause-steps : goal.returns-in-Split-clause-steps
 returns-in-Split-clause-steps g c =
@@ -176,7 +176,7 @@ pub returns-in-Split-clause-leaves : goal.returns-in-Split-clause-leaves
 returns-in-Split-clause-leaves g c = inl (subst (λ (p : Phase). TurnLeaves c.args.heap.now p c.detect.new.heap c.detect.result) (sym c.in-Split.is) (c.detect.ensures.leaves))
 
 pub tell_living-requires-clause-ready : goal.tell_living-requires-clause-ready
-tell_living-requires-clause-ready g c = subst (IsReadyAt c.args.heap.now c.args.self.now.generation) c.in-Living.is c.requires.ready
+tell_living-requires-clause-ready g c = subst (IsReadyForCollectionAt c.args.heap.now c.args.self.now.generation) c.in-Living.is c.requires.ready
 
 pub returns-in-Living-clause-steps : goal.returns-in-Living-clause-steps
 returns-in-Living-clause-steps g c =
@@ -189,7 +189,7 @@ pub returns-in-Living-clause-leaves : goal.returns-in-Living-clause-leaves
 returns-in-Living-clause-leaves g c = inl (subst (λ (p : Phase). TurnLeaves c.args.heap.now p c.args.heap.now c.tell_living.result) (sym c.in-Living.is) (c.tell_living.ensures.leaves))
 
 pub detach_one-requires : goal.detach_one-requires
-detach_one-requires g c = record { ready = subst (IsReadyAt c.args.heap.now c.args.self.now.generation) c.in-Detaching.is c.requires.ready }
+detach_one-requires g c = record { ready = subst (IsReadyForCollectionAt c.args.heap.now c.args.self.now.generation) c.in-Detaching.is c.requires.ready }
 
 pub returns-in-Detaching-clause-steps : goal.returns-in-Detaching-clause-steps
 returns-in-Detaching-clause-steps g c =
@@ -205,7 +205,7 @@ pub returns-in-Detaching-clause-leaves : goal.returns-in-Detaching-clause-leaves
 returns-in-Detaching-clause-leaves g c = inl (subst (λ (p : Phase). TurnLeaves c.args.heap.now p c.detach_one.new.heap c.detach_one.result) (sym c.in-Detaching.is) (c.detach_one.ensures.leaves))
 
 pub unlink_one-requires : goal.unlink_one-requires
-unlink_one-requires g c = record { ready = subst (IsReadyAt c.args.heap.now c.args.self.now.generation) c.in-Unlinking.is c.requires.ready }
+unlink_one-requires g c = record { ready = subst (IsReadyForCollectionAt c.args.heap.now c.args.self.now.generation) c.in-Unlinking.is c.requires.ready }
 
 pub returns-in-Unlinking-clause-steps : goal.returns-in-Unlinking-clause-steps
 returns-in-Unlinking-clause-steps g c =
@@ -221,7 +221,7 @@ pub returns-in-Unlinking-clause-leaves : goal.returns-in-Unlinking-clause-leaves
 returns-in-Unlinking-clause-leaves g c = inl (subst (λ (p : Phase). TurnLeaves c.args.heap.now p c.unlink_one.new.heap c.unlink_one.result) (sym c.in-Unlinking.is) (c.unlink_one.ensures.leaves))
 
 pub take_turn-requires-clause-ready : goal.take_turn-requires-clause-ready
-take_turn-requires-clause-ready g c = subst (IsReadyAt c.args.heap.now c.args.self.now.generation) c.in-Turns.is c.requires.ready
+take_turn-requires-clause-ready g c = subst (IsReadyForCollectionAt c.args.heap.now c.args.self.now.generation) c.in-Turns.is c.requires.ready
 
 pub returns-in-Turns-clause-steps : goal.returns-in-Turns-clause-steps
 returns-in-Turns-clause-steps g c =
@@ -234,7 +234,7 @@ pub returns-in-Turns-clause-leaves : goal.returns-in-Turns-clause-leaves
 returns-in-Turns-clause-leaves g c = inl (subst (λ (p : Phase). TurnLeaves c.args.heap.now p c.take_turn.new.heap c.take_turn.result) (sym c.in-Turns.is) (c.take_turn.ensures.leaves))
 
 pub empty_one-requires-clause-ready : goal.empty_one-requires-clause-ready
-empty_one-requires-clause-ready g c = subst (IsReadyAt c.args.heap.now c.args.self.now.generation) c.in-Turn.is c.requires.ready
+empty_one-requires-clause-ready g c = subst (IsReadyForCollectionAt c.args.heap.now c.args.self.now.generation) c.in-Turn.is c.requires.ready
 
 pub returns-in-Turn-clause-steps : goal.returns-in-Turn-clause-steps
 returns-in-Turn-clause-steps g c =
@@ -250,7 +250,7 @@ pub returns-in-Turn-clause-leaves : goal.returns-in-Turn-clause-leaves
 returns-in-Turn-clause-leaves g c = inl (subst (λ (p : Phase). TurnLeaves c.args.heap.now p c.empty_one.new.heap c.empty_one.result) (sym c.in-Turn.is) (c.empty_one.ensures.leaves))
 
 pub after_turn-requires-clause-ready : goal.after_turn-requires-clause-ready
-after_turn-requires-clause-ready g c = subst (IsReadyAt c.args.heap.now c.args.self.now.generation) c.in-AfterTurn.is c.requires.ready
+after_turn-requires-clause-ready g c = subst (IsReadyForCollectionAt c.args.heap.now c.args.self.now.generation) c.in-AfterTurn.is c.requires.ready
 
 pub returns-in-AfterTurn-clause-steps : goal.returns-in-AfterTurn-clause-steps
 returns-in-AfterTurn-clause-steps g c =
@@ -263,7 +263,7 @@ pub returns-in-AfterTurn-clause-leaves : goal.returns-in-AfterTurn-clause-leaves
 returns-in-AfterTurn-clause-leaves g c = inl (subst (λ (p : Phase). TurnLeaves c.args.heap.now p c.after_turn.new.heap c.after_turn.result) (sym c.in-AfterTurn.is) (c.after_turn.ensures.leaves))
 
 pub end-requires-clause-ready : goal.end-requires-clause-ready
-end-requires-clause-ready g c = subst (IsReadyAt c.args.heap.now c.args.self.now.generation) c.in-Ending.is c.requires.ready
+end-requires-clause-ready g c = subst (IsReadyForCollectionAt c.args.heap.now c.args.self.now.generation) c.in-Ending.is c.requires.ready
 
 pub returns-in-Ending-clause-steps : goal.returns-in-Ending-clause-steps
 returns-in-Ending-clause-steps g c =
@@ -276,7 +276,7 @@ pub returns-in-Ending-clause-leaves : goal.returns-in-Ending-clause-leaves
 returns-in-Ending-clause-leaves g c = inl (subst (λ (p : Phase). TurnLeaves c.args.heap.now p c.end.new.heap c.end.result) (sym c.in-Ending.is) (c.end.ensures.leaves))
 
 pub tell_uncollectable-requires-clause-ready : goal.tell_uncollectable-requires-clause-ready
-tell_uncollectable-requires-clause-ready g c = subst (IsReadyAt c.args.heap.now c.args.self.now.generation) c.in-Uncollectable.is c.requires.ready
+tell_uncollectable-requires-clause-ready g c = subst (IsReadyForCollectionAt c.args.heap.now c.args.self.now.generation) c.in-Uncollectable.is c.requires.ready
 
 pub returns-in-Uncollectable-clause-steps : goal.returns-in-Uncollectable-clause-steps
 returns-in-Uncollectable-clause-steps g c =
@@ -289,7 +289,7 @@ pub returns-in-Uncollectable-clause-leaves : goal.returns-in-Uncollectable-claus
 returns-in-Uncollectable-clause-leaves g c = inl (subst (λ (p : Phase). TurnLeaves c.args.heap.now p c.args.heap.now c.tell_uncollectable.result) (sym c.in-Uncollectable.is) (c.tell_uncollectable.ensures.leaves))
 
 pub tell_saved-requires-clause-ready : goal.tell_saved-requires-clause-ready
-tell_saved-requires-clause-ready g c = subst (IsReadyAt c.args.heap.now c.args.self.now.generation) c.in-Saved.is c.requires.ready
+tell_saved-requires-clause-ready g c = subst (IsReadyForCollectionAt c.args.heap.now c.args.self.now.generation) c.in-Saved.is c.requires.ready
 
 pub returns-in-Saved-clause-steps : goal.returns-in-Saved-clause-steps
 returns-in-Saved-clause-steps g c =
@@ -368,7 +368,7 @@ pub returns-in-WeakCalling-clause-walk : goal.returns-in-WeakCalling-clause-walk
 returns-in-WeakCalling-clause-walk g c = walk_past (profile_of c.args.script.now.items) c.call_one.new.heap c.call_one.result.phase (omega (arith, (c.call_one.ensures.leaves).onward))
 
 pub returns-in-AfterCallback-clause-walk : goal.returns-in-AfterCallback-clause-walk
-returns-in-AfterCallback-clause-walk g c = walk_past (profile_of c.args.script.now.items) c.args.heap.now c.after_callback.result.phase (omega (arith, (c.after_callback.ensures.leaves c.args.heap.now c.args.self.now.generation (subst (IsReadyAt c.args.heap.now c.args.self.now.generation) c.in-AfterCallback.is c.requires.ready)).onward))
+returns-in-AfterCallback-clause-walk g c = walk_past (profile_of c.args.script.now.items) c.args.heap.now c.after_callback.result.phase (omega (arith, (c.after_callback.ensures.leaves c.args.heap.now c.args.self.now.generation (subst (IsReadyForCollectionAt c.args.heap.now c.args.self.now.generation) c.in-AfterCallback.is c.requires.ready)).onward))
 
 pub returns-in-AfterRelease-clause-walk : goal.returns-in-AfterRelease-clause-walk
 returns-in-AfterRelease-clause-walk g c = walk_past (profile_of c.args.script.now.items) c.after_release.new.heap c.after_release.result.phase (omega (arith, (c.after_release.ensures.leaves).onward))

@@ -8,7 +8,7 @@ use Rattle.cg_interp.specs.declared.activity.Activity.TheVariants as activity_of
 use Rattle.cg_interp.specs.Engines.{State, StandsFor, under}
 use Rattle.cg_policy.specs.Policy.{Policy, with_numbers}
 use Rattle.cg_interp.specs.Quietly.{HasSomeCause}
-use Rattle.cg_interp.specs.Turns.{Keeps, StaysOn}
+use Rattle.cg_interp.specs.Turns.{TurnKeeps, StaysOn}
 use Rattle.cg_interp.proofs.CollectMoves.{engine_of}
 use Rattle.cg_interp.proofs.Keeping.{keeps_then, keeps_over}
 use Rattle.cg_interp.proofs.Acting.{last_tells, last_ends, last_hands, last_calls, calls_none}
@@ -66,16 +66,16 @@ returns-in-Died-clause-turns g c = λ w stands kept.
     last_hands c.args.script.now w e c.put_back.new.self c.act-answer.new.heap c.act-answer.new.death c.act-answer.result keeping (c.act-answer.ensures.acts e w standing keeping) c.put_back.ensures.alone.store c.put_back.ensures.stays c.put_back.ensures.alone.budget c.in-Died.object c.in-Died.is c.put_back.ensures.alone.policy
 
 pub returns-in-Gone-clause-keeps : goal.returns-in-Gone-clause-keeps
-returns-in-Gone-clause-keeps g c = subst (λ e. Keeps e c.put_back.new.self) c.self.view_is (keeps_then _ _ _ (keeps_over _ c.act-answer.new.heap c.act-answer.ensures.objects) c.put_back.ensures.keeps)
+returns-in-Gone-clause-keeps g c = subst (λ e. TurnKeeps e c.put_back.new.self) c.self.view_is (keeps_then _ _ _ (keeps_over _ c.act-answer.new.heap c.act-answer.ensures.objects) c.put_back.ensures.keeps)
 
 pub returns-in-Died-clause-keeps : goal.returns-in-Died-clause-keeps
-returns-in-Died-clause-keeps g c = subst (λ e. Keeps e c.put_back.new.self) c.self.view_is (keeps_then _ _ _ (keeps_over _ c.act-answer.new.heap c.act-answer.ensures.objects) c.put_back.ensures.keeps)
+returns-in-Died-clause-keeps g c = subst (λ e. TurnKeeps e c.put_back.new.self) c.self.view_is (keeps_then _ _ _ (keeps_over _ c.act-answer.new.heap c.act-answer.ensures.objects) c.put_back.ensures.keeps)
 
 pub returns-in-Emit-clause-keeps : goal.returns-in-Emit-clause-keeps
-returns-in-Emit-clause-keeps g c = subst (λ e. Keeps e c.count_freed.new.self) c.self.view_is (keeps_then _ _ _ (keeps_then _ _ _ (keeps_over _ c.act-answer.new.heap c.act-answer.ensures.objects) c.put_back.ensures.keeps) c.count_freed.ensures.keeps)
+returns-in-Emit-clause-keeps g c = subst (λ e. TurnKeeps e c.count_freed.new.self) c.self.view_is (keeps_then _ _ _ (keeps_then _ _ _ (keeps_over _ c.act-answer.new.heap c.act-answer.ensures.objects) c.put_back.ensures.keeps) c.count_freed.ensures.keeps)
 
 pub returns-in-Frame-clause-keeps : goal.returns-in-Frame-clause-keeps
-returns-in-Frame-clause-keeps g c = subst (λ e. Keeps e c.start.new.self) c.self.view_is (keeps_then _ _ _ (keeps_then _ _ _ (keeps_over _ c.act-answer.new.heap c.act-answer.ensures.objects) c.put_back.ensures.keeps) c.start.ensures.keeps)
+returns-in-Frame-clause-keeps g c = subst (λ e. TurnKeeps e c.start.new.self) c.self.view_is (keeps_then _ _ _ (keeps_then _ _ _ (keeps_over _ c.act-answer.new.heap c.act-answer.ensures.objects) c.put_back.ensures.keeps) c.start.ensures.keeps)
 
 pub returns-in-Died-clause-dead : goal.returns-in-Died-clause-dead
 returns-in-Died-clause-dead g c = subst (λ st. IsUnheld st c.in-Died.object) (sym c.put_back.ensures.alone.store) (subst (λ a. DiesUnheld a c.act-answer.new.heap) c.in-Died.is c.act-answer.ensures.died)

@@ -1,7 +1,7 @@
 use Rattle.std.proofs.Common.{sym, subst}
 use Rattle.cg_interp.specs.declared.activity.Activity.TheVariants as activity_of
 use Rattle.cg_interp.specs.Engines.{State, StandsFor, under}
-use Rattle.cg_interp.specs.Turns.{Keeps}
+use Rattle.cg_interp.specs.Turns.{TurnKeeps}
 use Rattle.cg_interp.proofs.CollectMoves.{engine_of}
 use Rattle.cg_interp.proofs.ReleaseLemmas.{death_begun, still_sound}
 use Rattle.cg_interp.proofs.Keeping.{keeps_then, keeps_over}
@@ -29,7 +29,7 @@ returns-in-Some-clause-turns g c = λ script w stands sound.
 pub returns-in-Some-clause-keeps : goal.returns-in-Some-clause-keeps
 returns-in-Some-clause-keeps g c =
     let e : State = engine_of c.self.inside.heap c.self.inside.policy c.self.inside.stack c.self.inside.budget c.self.inside.frames in
-    subst (λ s. Keeps s c.die_in.new.self) c.self.view_is (keeps_then e _ _ (keeps_over e c.give_up.new.heap c.give_up.ensures.objects) c.die_in.ensures.keeps)
+    subst (λ s. TurnKeeps s c.die_in.new.self) c.self.view_is (keeps_then e _ _ (keeps_over e c.give_up.new.heap c.give_up.ensures.objects) c.die_in.ensures.keeps)
 
 pub returns-in-None-clause-turns : goal.returns-in-None-clause-turns
 returns-in-None-clause-turns g c = λ script w stands sound.
