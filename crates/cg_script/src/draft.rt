@@ -14,7 +14,6 @@ use crate::limits::MOST_WORDS;
 use crate::members::Commands;
 use crate::part::{Parts, Said, names_unknown, read_parts};
 use crate::said::said_of;
-use crate::table::Table;
 use crate::word::text_of_identifier;
 use cg_value::Names;
 use std::alloc::{AllocError, Global};
@@ -31,8 +30,8 @@ pub(crate) struct Begun {
 pub(crate) struct Draft {
     pub alloc: Global,
     pub names: Names,
-    pub procs: Table,
-    pub classes: Table,
+    pub procs: Names,
+    pub classes: Names,
     pub budget: bool,
     pub shutdown: bool,
     /// Whether a line was not passed over.
@@ -50,8 +49,8 @@ pub(crate) fn empty(alloc: Global) -> Draft
     Draft {
         alloc,
         names: Names::new(alloc),
-        procs: Table::new(alloc),
-        classes: Table::new(alloc),
+        procs: Names::new(alloc),
+        classes: Names::new(alloc),
         budget: false,
         shutdown: false,
         started: false,
@@ -105,8 +104,14 @@ fn define(draft: &mut Draft, form: Form, words: &[&[u8]]) -> Result<(), AllocErr
 {
     draft.started = true;
     match form {
-        Form::Def => draft.procs.add(text_of_identifier(words[1])),
-        Form::Class => draft.classes.add(text_of_identifier(words[1])),
+        Form::Def => {
+            let _ = draft.procs.intern(text_of_identifier(words[1]))?;
+            Ok(())
+        }
+        Form::Class => {
+            let _ = draft.classes.intern(text_of_identifier(words[1]))?;
+            Ok(())
+        }
         Form::Budget => {
             draft.budget = true;
             Ok(())

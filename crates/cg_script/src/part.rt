@@ -10,7 +10,6 @@ use crate::command::{Command, Operand};
 use crate::form::{Form, Sort, sort_at};
 use crate::item::Item;
 use crate::limits::MOST_WORDS;
-use crate::table::Table;
 use crate::word::{
     after_del, after_legacy, atom, begins_as_name, count_of_word, flag, is_quoted_word,
     number_of_word, text_of, text_of_identifier,
@@ -77,7 +76,7 @@ fn read_value(word: &[u8], names: &mut Names) -> Result<Operand, AllocError>
 }
 
 /// The number of a procedure or class.
-fn read_place(names: &Table, word: &[u8]) -> Part
+fn read_place(names: &Names, word: &[u8]) -> Part
     requires { is_identifier word.now ≡ true }
     ensures { result ≡ numbered (place_in names.now word.now) }
 {
@@ -87,7 +86,7 @@ fn read_place(names: &Table, word: &[u8]) -> Part
     }
 }
 
-fn read_legacy(procs: &Table, name: &[u8]) -> Part
+fn read_legacy(procs: &Names, name: &[u8]) -> Part
     requires { is_identifier name.now ≡ true }
     ensures { result ≡ legacy (place_in procs.now name.now) }
 {
@@ -97,7 +96,7 @@ fn read_legacy(procs: &Table, name: &[u8]) -> Part
     }
 }
 
-fn read_del(procs: &Table, name: &[u8]) -> Part
+fn read_del(procs: &Names, name: &[u8]) -> Part
     requires { is_identifier name.now ≡ true }
     ensures { result ≡ finalizer (place_in procs.now name.now) }
 {
@@ -108,7 +107,7 @@ fn read_del(procs: &Table, name: &[u8]) -> Part
 }
 
 /// What `del=P` or `legacy=P` stands for.
-fn read_finalizer(procs: &Table, word: &[u8]) -> Part
+fn read_finalizer(procs: &Names, word: &[u8]) -> Part
     requires { fits Sort.Finalizer word.now ≡ true }
     ensures { result ≡ finalizer_of procs.now (after_prefix (codes "del=") word.now) word.now }
 {
@@ -126,8 +125,8 @@ fn read_part(
     sort: Sort,
     word: &[u8],
     names: &mut Names,
-    procs: &Table,
-    classes: &Table,
+    procs: &Names,
+    classes: &Names,
 ) -> Result<Part, AllocError>
     requires fits { fits sort word.now ≡ true }
     requires room { length names.old < 2 ^ 32 - 1 }
@@ -153,8 +152,8 @@ pub(crate) fn read_parts(
     form: Form,
     words: &[&[u8]],
     names: &mut Names,
-    procs: &Table,
-    classes: &Table,
+    procs: &Names,
+    classes: &Names,
 ) -> Result<(), AllocError>
     requires empty { parts.old.items ≡ [] }
     requires fit { all_fit form 0 (map (λ w. w.now) words.now) ≡ true }

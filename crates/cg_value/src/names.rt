@@ -1,7 +1,8 @@
 //! Interned texts. (Interning is ours; CPython interns identifiers likewise.)
-ghost use Rattle.std.specs.Prelude.{◌≡◌, ◌+◌, ◌-◌, ◌^◌, ◌<◌, List, [], length, map, IfOk, OnOk, OnErr, slice_get, Some};
+ghost use Rattle.std.specs.Prelude.{◌≡◌, ◌+◌, ◌-◌, ◌^◌, ◌<◌, List, [], length, map, position, IfOk, OnOk, OnErr, slice_get, Some};
 ghost use Rattle.std.specs.String.{string_bytes};
-ghost use Rattle.cg_value.specs.Texts.{place_of, with_text};
+ghost use Rattle.std.specs.Str.{bytes_eq};
+ghost use Rattle.cg_value.specs.Texts.{has_text, place_of, with_text};
 
 use indexmap::IndexSet;
 use std::alloc::{AllocError, Global};
@@ -55,6 +56,23 @@ impl Names {
         Ok(place as u32)
     }
 
+    /// The number of a text, `None` exactly where it is not there.
+    pub fn find(&self, text: &str) -> Option<u32>
+        ensures { result ≡ position (bytes_eq text.now) self.now }
+    {
+        match self.texts.get_index_of(text) {
+            Some(place) => Some(place as u32),
+            None => None,
+        }
+    }
+
+    /// Whether a text is there.
+    pub fn has(&self, text: &str) -> bool
+        ensures { result ≡ has_text self.now text.now }
+    {
+        self.texts.contains(text)
+    }
+
     /// The text with a number, which is below `len`.
     pub fn text(&self, id: u32) -> &str
         requires { id < length self.now }
@@ -90,7 +108,11 @@ mod tests {
         for (number, text) in [(0, "a"), (1, "b"), (2, ""), (3, "c")] {
             assert!(rt; number < names.len());
             assert_eq!(rt; names.text(number), text, "at {number}");
+            assert_eq!(rt; names.find(text), Some(number), "at {number}");
+            assert!(rt; names.has(text));
         }
+        assert_eq!(rt; names.find("d"), None);
+        assert!(rt; !names.has("d"));
         Ok(())
     }
 }

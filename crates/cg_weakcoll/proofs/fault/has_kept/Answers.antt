@@ -1,5 +1,5 @@
 use Rattle.std.proofs.Common.{sym, ◌∙◌}
-use Rattle.cg_script.proofs.Tables.{any_map}
+use Rattle.cg_value.proofs.Interned.{any_map}
 use Rattle.cg_weakcoll.specs.Expansion.{is_kept}
 use Rattle.cg_weakcoll.proofs.fault.has_kept.Goals as goal
 
