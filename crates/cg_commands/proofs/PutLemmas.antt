@@ -28,7 +28,7 @@ use Rattle.cg_heap.proofs.CallerLemmas.{kinds-rewritten, lives_on}
 use Rattle.cg_heap.proofs.HoldLemmas.{entry_holds, entries_hold}
 use Rattle.cg_heap.proofs.ReferenceLemmas.{occurrences-append}
 use Rattle.cg_machine.specs.World.{World, Releasing, push, with_change}
-use Rattle.cg_machine.specs.Effects.{Effect, Changes, has_room, sets_entries, puts, tracked_by, may_track, place_of_index}
+use Rattle.cg_machine.specs.Effects.{Effect, Changes, has_room, sets_entries, puts, tracked_by, may_track, valid_index}
 use Rattle.cg_machine.specs.Operands.{is_dict}
 use Rattle.cg_machine.specs.Refusals.{◌>>=◌}
 use Rattle.cg_machine.specs.Represents.{Represents}
@@ -42,7 +42,7 @@ use Rattle.cg_commands.proofs.Reading.{object-at_node}
 use Rattle.cg_commands.proofs.Limits.{room, fault-refused}
 
 -- an index that is a position
-pub index_is : (z : ℤ) (len i : ℕ) → place_of_index z len ≡ Some i → (z ≡ pos i) × (i < len)
+pub index_is : (z : ℤ) (len i : ℕ) → valid_index z len ≡ Some i → (z ≡ pos i) × (i < len)
 index_is (negsuc n) len i h = cc
 index_is (pos n) len i h = known (nat_lt n len) (leb_tells (suc n) len) h
   where

@@ -12,7 +12,7 @@ use Rattle.cg_value.specs.declared.Place.TheVariants.{Untracked}
 use Rattle.cg_graph.specs.Object.{Object, object_at, same_place, is_tracked}
 use Rattle.cg_graph.specs.Store.{Store, Node, IsLive, object_from, entries_of, entries_in, place_of, place_in}
 use Rattle.cg_machine.specs.World.{World}
-use Rattle.cg_machine.specs.Effects.{place_of_index, is_hashable}
+use Rattle.cg_machine.specs.Effects.{valid_index, is_hashable}
 use Rattle.cg_machine.specs.Operands.{object}
 use Rattle.cg_machine.specs.Refusals.{no_index, unhashable, unless}
 use Rattle.cg_commands.specs.declared.done.Refusal.{Refusal}
@@ -33,12 +33,12 @@ module _ (store : Store) (locals : Option Locals) (test : Object → Bool) (v : 
   entries-here = ap entries_in there.found
 
   -- a position
-  pub reads-index : (index arg : ℤ) → arg ≡ index → (i : ℕ) → place_of_index arg (length (entries_of store o)) ≡ Some i → Reads store locals (λ w. ok_or (place_of_index index (length there.node.entries)) no_index) i
-  reads-index index arg same i at w s = ap (λ z. ok_or (place_of_index z (length there.node.entries)) no_index) (sym same) ∙ ap (λ es. ok_or (place_of_index arg (length es)) no_index) (sym entries-here) ∙ ap (λ x. ok_or x no_index) at
+  pub reads-index : (index arg : ℤ) → arg ≡ index → (i : ℕ) → valid_index arg (length (entries_of store o)) ≡ Some i → Reads store locals (λ w. ok_or (valid_index index (length there.node.entries)) no_index) i
+  reads-index index arg same i at w s = ap (λ z. ok_or (valid_index z (length there.node.entries)) no_index) (sym same) ∙ ap (λ es. ok_or (valid_index arg (length es)) no_index) (sym entries-here) ∙ ap (λ x. ok_or x no_index) at
 
-  pub no-index : (index arg : ℤ) → arg ≡ index → (r : Refusal) → r ≡ NoIndex → place_of_index arg (length (entries_of store o)) ≡ None → IsRefused store locals (λ w. ok_or (place_of_index index (length there.node.entries)) no_index) r
-  no-index index arg same r is at w s = subst (λ q. Declines q (ok_or (place_of_index index (length there.node.entries)) no_index)) (sym is)
-      (ap (λ z. ok_or (place_of_index z (length there.node.entries)) no_index) (sym same) ∙ ap (λ es. ok_or (place_of_index arg (length es)) no_index) (sym entries-here) ∙ ap (λ x. ok_or x no_index) at)
+  pub no-index : (index arg : ℤ) → arg ≡ index → (r : Refusal) → r ≡ NoIndex → valid_index arg (length (entries_of store o)) ≡ None → IsRefused store locals (λ w. ok_or (valid_index index (length there.node.entries)) no_index) r
+  no-index index arg same r is at w s = subst (λ q. Declines q (ok_or (valid_index index (length there.node.entries)) no_index)) (sym is)
+      (ap (λ z. ok_or (valid_index z (length there.node.entries)) no_index) (sym same) ∙ ap (λ es. ok_or (valid_index arg (length es)) no_index) (sym entries-here) ∙ ap (λ x. ok_or x no_index) at)
 
   -- the entry there
   pub reads-entry : (i : ℕ) (e : Entry) → slice_get (entries_of store o) i ≡ Some e → (k : ℕ) → Reads store locals (λ w. ok_or (slice_get there.node.entries i) k) e

@@ -7,7 +7,7 @@ use Rattle.cg_script.specs.Spelled.{IsForObjects}
 use Rattle.cg_graph.specs.Store.{Store}
 use Rattle.cg_graph.specs.Value.{entry_references}
 use Rattle.cg_machine.specs.World.{World}
-use Rattle.cg_machine.specs.Effects.{Effect, Changes, place_of_index}
+use Rattle.cg_machine.specs.Effects.{Effect, Changes, valid_index}
 use Rattle.cg_machine.specs.Commands.{effect}
 use Rattle.cg_policy.specs.Policy.{Policy}
 use Rattle.cg_commands.specs.declared.done.Done.{Done}
@@ -22,8 +22,8 @@ IsControl command = IsForObjects command → ⊥
 
 -- The number asks for a collection of this generation, 0 to 2, or names none and is refused. (`gc.collect`.)
 abbrev pub IsAsked : ℤ → Result Done Refusal → Type 0
-IsAsked number (Ok (Collects generation)) = (place_of_index number 3 ≡ Some generation) × (generation ≤ 2)
-IsAsked number (Err BadGeneration) = place_of_index number 3 ≡ None
+IsAsked number (Ok (Collects generation)) = (valid_index number 3 ≡ Some generation) × (generation ≤ 2)
+IsAsked number (Err BadGeneration) = valid_index number 3 ≡ None
 IsAsked number answer = ⊥
 
 -- the command is a `collect` that asks so, and nothing has changed

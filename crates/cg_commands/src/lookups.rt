@@ -6,7 +6,7 @@ ghost use Rattle.cg_script.specs.Texts.{operand_texts};
 ghost use Rattle.cg_script.specs.declared.command.Command.TheVariants as command;
 ghost use Rattle.cg_heap.specs.Calls.{HasFewHolds, IsLiveValue};
 ghost use Rattle.cg_machine.specs.Commands.{effect};
-ghost use Rattle.cg_machine.specs.Effects.{place_of_index};
+ghost use Rattle.cg_machine.specs.Effects.{valid_index};
 ghost use Rattle.cg_commands.specs.declared.done.Refusal.TheVariants as refusal;
 ghost use Rattle.cg_commands.specs.Answers.{PerformsOnHeap};
 ghost use Rattle.cg_commands.specs.Objects.{IsKey};
@@ -122,9 +122,9 @@ pub(crate) fn deref<B: Kind>(
 /// An index below the length.
 pub(crate) fn index_in<B: Kind>(heap: &Heap<B>, target: u64, index: i64) -> Result<usize, Refusal>
     requires { IsLive heap.now target }
-    ensures ok { IfOk result (λ i. place_of_index index (length (entries_of heap.now target)) ≡ Some i) }
+    ensures ok { IfOk result (λ i. valid_index index (length (entries_of heap.now target)) ≡ Some i) }
     ensures below { IfOk result (λ i. i < length (entries_of heap.now target)) }
-    ensures none { IfErr result (λ r. place_of_index index (length (entries_of heap.now target)) ≡ None) }
+    ensures none { IfErr result (λ r. valid_index index (length (entries_of heap.now target)) ≡ None) }
     ensures err { IfErr result (λ r. r ≡ refusal.NoIndex) }
 {
     if index < 0 {

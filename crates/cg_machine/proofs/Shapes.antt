@@ -20,7 +20,7 @@ use Rattle.cg_graph.proofs.Members.{either, true_and, or_left, or_right, Include
 use Rattle.cg_machine.specs.declared.event.Event.{Event}
 use Rattle.cg_machine.specs.declared.event.Event.TheVariants.{Made, Value, RefCount, Tracked as TrackedLine, Finalized as FinalizedLine, Count as CountLine, Gens as GensLine}
 use Rattle.cg_machine.specs.World.{World, Numbers, with_change}
-use Rattle.cg_machine.specs.Effects.{Effect, Changes, Calls, Collects, Explains, Quits, makes, puts, has_room, live, entry_count, place_of_index, replaced, frozen, unfrozen, tracked_by, given_up_by, bound, with_new, callback_entries}
+use Rattle.cg_machine.specs.Effects.{Effect, Changes, Calls, Collects, Explains, Quits, makes, puts, has_room, live, entry_count, valid_index, replaced, frozen, unfrozen, tracked_by, given_up_by, bound, with_new, callback_entries}
 use Rattle.cg_machine.specs.Commands.{effect}
 use Rattle.cg_graph.specs.declared.limits.TheConstants.{MOST_ENTRIES, MOST_OBJECTS}
 use Rattle.cg_machine.specs.Refusals.{◌>>=◌, unless, in_collection, object_limit, entry_limit, no_name, no_index, no_key, no_attribute, bad_generation, not_callable, not_weak, wrong_kind}
@@ -371,7 +371,7 @@ list_code Func e = absurd (let no : false ≡ true = e in cc)
 list_code Weak e = absurd (let no : false ≡ true = e in cc)
 
 -- there are three generations
-generation_low : (i : ℤ) (g : ℕ) → place_of_index i 3 ≡ Some g → g ≤ 2
+generation_low : (i : ℤ) (g : ℕ) → valid_index i 3 ≡ Some g → g ≤ 2
 generation_low (pos n) g e = go (nat_lt n 3) refl e
   where
     go : (b : Bool) → nat_lt n 3 ≡ b → (if b then Some n else None) ≡ Some g → g ≤ 2
@@ -463,7 +463,7 @@ effect_shaped w (Attr name instance attr) = valued w _ _ instance (λ of t m. In
 effect_shaped w (Deref name weak) = valued w _ _ weak (λ of. Includes-append_right (of (Name name)) (of weak)) (λ v hand. found w _ _ is_weak not_weak v hand (λ x h. binds_shaped w _ name (elim x.referent [ None ↦ Nothing | Some o ↦ Ref o ]) (λ of. Includes-append_left (of (Name name)) (of weak)) (referent_shaped w _ x h.member h.hand)))
 effect_shaped w (Call function) = valued w _ _ function (λ of t m. m) (λ v hand. found w _ _ is_function not_callable v hand (λ x h. StartsFrame x h))
 effect_shaped w (Quit operand) = any w _ _ _ (λ v. quit_shaped w _ v)
-effect_shaped w (Collect generation) = there w _ _ (place_of_index generation 3) bad_generation (λ g at. StartsCollection g (generation_low generation g at))
+effect_shaped w (Collect generation) = there w _ _ (valid_index generation 3) bad_generation (λ g at. StartsCollection g (generation_low generation g at))
 effect_shaped w Enable = sets_shaped w Enable _ _ _ _ _ tt
 effect_shaped w Disable = sets_shaped w Disable _ _ _ _ _ tt
 effect_shaped w (Threshold first second third) = sets_shaped w (Threshold first second third) _ _ _ _ _ tt

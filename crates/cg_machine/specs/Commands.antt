@@ -20,7 +20,7 @@ use Rattle.cg_machine.specs.Holdings.{in_degree, is_collecting, other_holdings}
 use Rattle.cg_machine.specs.Frame.{procedure_of, Transition, Yields, start_frame}
 use Rattle.cg_machine.specs.Refusals.{bad_generation, in_collection, no_attribute, no_index, no_key, no_memory, not_callable, not_weak, unhashable, wrong_kind, unless, ◌>>=◌}
 use Rattle.cg_machine.specs.Operands.{any_object, is_dict, is_list, is_script_list, is_sequence, is_weak, object, object_of, value, values}
-use Rattle.cg_machine.specs.Effects.{Calls, Changes, Collects, Effect, Explains, Quits, binds, bound, callback_entries, frozen, gens_line, given_up_by, has_room, is_hashable, lists, makes, place_of_index, prints, puts, referrers, replaced, sets_entries, sets_numbers, unfrozen}
+use Rattle.cg_machine.specs.Effects.{Calls, Changes, Collects, Effect, Explains, Quits, binds, bound, callback_entries, frozen, gens_line, given_up_by, has_room, is_hashable, lists, makes, valid_index, prints, puts, referrers, replaced, sets_entries, sets_numbers, unfrozen}
 use Rattle.cg_machine.specs.Weak.{has_weak_references, is_function, is_instance}
 
 -- the command of a world whose top has the commands after it
@@ -58,13 +58,13 @@ effect w (SetItem list index operand) = do
   l ← value w list
   v ← value w operand
   x ← object w is_script_list wrong_kind l
-  i ← ok_or (place_of_index index (length x.entries)) no_index
+  i ← ok_or (valid_index index (length x.entries)) no_index
   e ← ok_or (slice_get x.entries i) no_index
   sets_entries w x (slice_set x.entries i (item v)) (entry_references e)
 effect w (DelItem list index) = do
   l ← value w list
   x ← object w is_list wrong_kind l
-  i ← ok_or (place_of_index index (length x.entries)) no_index
+  i ← ok_or (valid_index index (length x.entries)) no_index
   e ← ok_or (slice_get x.entries i) no_index
   sets_entries w x (remove x.entries i) (entry_references e)
 effect w (Put dict key operand) = do
@@ -94,7 +94,7 @@ effect w (DelAttr instance name) = do
 effect w (Item name list index) = do
   l ← value w list
   x ← object w is_sequence wrong_kind l
-  i ← ok_or (place_of_index index (length x.entries)) no_index
+  i ← ok_or (valid_index index (length x.entries)) no_index
   e ← ok_or (slice_get x.entries i) no_index
   binds w name e.val
 effect w (Get name dict key) = do
@@ -121,7 +121,7 @@ effect w (Quit operand) = do
   v ← value w operand
   Ok (elim v [ Nothing ↦ Quits | _ ↦ Changes false [] [] w ])
 effect w (Collect generation) = do
-  g ← ok_or (place_of_index generation 3) bad_generation
+  g ← ok_or (valid_index generation 3) bad_generation
   Ok (Collects g)
 effect w Enable = sets_numbers w (record w.numbers { enabled = true })
 effect w Disable = sets_numbers w (record w.numbers { enabled = false })

@@ -35,9 +35,9 @@ abbrev pub is_hashable : World → Val → Bool
 is_hashable w v = elim (object_of w v) [ None ↦ true | Some x ↦ has_weak_references x ]
 
 -- an index below a length
-abbrev pub place_of_index : ℤ → ℕ → Option ℕ
-place_of_index (pos n) len = if nat_lt n len then Some n else None
-place_of_index (negsuc n) len = None
+abbrev pub valid_index : ℤ → ℕ → Option ℕ
+valid_index (pos n) len = if nat_lt n len then Some n else None
+valid_index (negsuc n) len = None
 
 -- how many objects live and how many entries they have, the garbage list aside
 abbrev pub live : World → ℕ

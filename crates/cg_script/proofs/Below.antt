@@ -4,7 +4,7 @@ use Rattle.std.specs.List.{All, list_any, position_or_len}
 use Rattle.std.specs.Str.{bytes_eq}
 use Rattle.std.proofs.lemmas.List.Elements.{All-cons, All-nil}
 use Rattle.std.proofs.lemmas.List.Sums.{prefix_len-le-length}
-use Rattle.cg_value.specs.Texts.{has_text, place_of, with_text}
+use Rattle.cg_value.specs.Texts.{has_text, text_number, with_text}
 use Rattle.cg_script.specs.Parts.{with_text_if}
 
 abbrev pub Below : ℕ → List ℕ → Type 0
@@ -40,10 +40,10 @@ any_below p [] e = absurd (cc)
 any_below p (x ∷ xs) e = below_step (p x) (list_any p xs) _ _ e (any_below p xs)
 
 -- the place of a text that is there or was added
-pub place_below : (texts : List (List ℕ)) (text : List ℕ) → place_of texts text < length (with_text texts text)
+pub place_below : (texts : List (List ℕ)) (text : List ℕ) → text_number texts text < length (with_text texts text)
 place_below texts text = by (has_text texts text) refl
   where
-    by : (b : Bool) → has_text texts text ≡ b → place_of texts text < length (cond b texts (texts ++ text ∷ []))
+    by : (b : Bool) → has_text texts text ≡ b → text_number texts text < length (cond b texts (texts ++ text ∷ []))
     by true e = any_below (bytes_eq text) texts e
     by false e = simp length-append (omega (arith, prefix_len-le-length (λ t. not (bytes_eq text t)) texts))
 

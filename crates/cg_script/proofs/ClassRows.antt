@@ -10,11 +10,11 @@ use Rattle.cg_script.specs.declared.part.Part.{Part}
 use Rattle.cg_script.specs.declared.part.Part.TheVariants as parts
 use Rattle.cg_script.specs.declared.part.Said.{Said}
 use Rattle.cg_script.specs.declared.part.Said.TheVariants.{Declares}
-use Rattle.cg_value.specs.Texts.{place_of}
+use Rattle.cg_value.specs.Texts.{text_number}
 use Rattle.cg_script.specs.Words.{is_identifier, is_identifier_after, after_prefix, names_finalizer, names_legacy}
 use Rattle.cg_script.specs.Forms.{openers}
 use Rattle.cg_script.specs.Meanings.{fits}
-use Rattle.cg_script.specs.Parts.{Known, place_in, finalizer, legacy, legacy_of, finalizer_of, is_unknown}
+use Rattle.cg_script.specs.Parts.{Known, defined_number, finalizer, legacy, legacy_of, finalizer_of, is_unknown}
 use Rattle.cg_script.specs.Commands.{del_if, legacy_if, first_some}
 use Rattle.cg_script.specs.Canonical.{Naming, text_of, name_of, class_words}
 use Rattle.cg_script.proofs.Ascii.{both}
@@ -46,13 +46,13 @@ record IsLegacy (n : Naming) (p : Part) (f : List ℕ) : Type 0 where
   word : codes "legacy=" ++ name_of n.texts n.procs proc ≡ f
   named : names_legacy f ≡ true
 
-legacy_case : (n : Naming) (procs : List (List ℕ)) (f name : List ℕ) (found : Option ℕ) → Begins procs (map (text_of n.texts) n.procs) → place_in procs name ≡ found → f ≡ codes "legacy=" ++ name → names_legacy f ≡ true
+legacy_case : (n : Naming) (procs : List (List ℕ)) (f name : List ℕ) (found : Option ℕ) → Begins procs (map (text_of n.texts) n.procs) → defined_number procs name ≡ found → f ≡ codes "legacy=" ++ name → names_legacy f ≡ true
     → is_unknown (legacy found) ≡ false → IsLegacy n (legacy found) f
 legacy_case n procs f name None begins e is named known = absurd (cc)
 legacy_case n procs f name (Some k) begins e is named known =
     record { proc = k; part = refl; word = ap (λ (l : List ℕ). codes "legacy=" ++ l) (name_found (map (text_of n.texts) n.procs) procs name k begins e) ∙ sym is; named = named }
 
-del_case : (n : Naming) (procs : List (List ℕ)) (f name : List ℕ) (found : Option ℕ) → Begins procs (map (text_of n.texts) n.procs) → place_in procs name ≡ found → f ≡ codes "del=" ++ name → names_finalizer f ≡ true
+del_case : (n : Naming) (procs : List (List ℕ)) (f name : List ℕ) (found : Option ℕ) → Begins procs (map (text_of n.texts) n.procs) → defined_number procs name ≡ found → f ≡ codes "del=" ++ name → names_finalizer f ≡ true
     → is_unknown (finalizer found) ≡ false → IsDel n (finalizer found) f
 del_case n procs f name None begins e is named known = absurd (cc)
 del_case n procs f name (Some k) begins e is named known =
@@ -62,7 +62,7 @@ legacy_cases : (n : Naming) (procs : List (List ℕ)) (f : List ℕ) (found : Op
     → is_unknown (legacy_of procs found) ≡ false → IsLegacy n (legacy_of procs found) f
 legacy_cases n procs f None begins e named known = absurd (cc)
 legacy_cases n procs f (Some name) begins e named known =
-    legacy_case n procs f name (place_in procs name) begins refl (prefixed (codes "legacy=") f name e) (ap is_identifier_after e ∙ named) known
+    legacy_case n procs f name (defined_number procs name) begins refl (prefixed (codes "legacy=") f name e) (ap is_identifier_after e ∙ named) known
 
 no_both : (f name : List ℕ) → f ≡ codes "del=" ++ name → names_legacy f ≡ true → ⊥
 no_both f name is named = let both_ways : false ≡ true = sym (ap names_legacy is) ∙ named in absurd (cc)
@@ -72,8 +72,8 @@ cases : (n : Naming) (procs : List (List ℕ)) (f : List ℕ) (found : Option (L
 cases n procs f None begins e fit known = inr (legacy_cases n procs f (after_prefix (codes "legacy=") f) begins refl fit known)
 cases n procs f (Some name) begins e fit known = by (is_identifier name) refl fit
   where
-    by : (b : Bool) → is_identifier name ≡ b → (b || names_legacy f) ≡ true → IsDel n (finalizer (place_in procs name)) f ⊎ IsLegacy n (finalizer (place_in procs name)) f
-    by true eb fit = inl (del_case n procs f name (place_in procs name) begins refl (prefixed (codes "del=") f name e) (ap is_identifier_after e ∙ eb) known)
+    by : (b : Bool) → is_identifier name ≡ b → (b || names_legacy f) ≡ true → IsDel n (finalizer (defined_number procs name)) f ⊎ IsLegacy n (finalizer (defined_number procs name)) f
+    by true eb fit = inl (del_case n procs f name (defined_number procs name) begins refl (prefixed (codes "del=") f name e) (ap is_identifier_after e ∙ eb) known)
     by false eb fit = absurd (no_both f name (prefixed (codes "del=") f name e) fit)
 
 both_del : (x y z : Bool) → x ≡ true → y ≡ true → ((x && y) || z) ≡ false → ⊥
@@ -102,24 +102,24 @@ module _ (n : Naming) (known : Known) (names : Names n known.procs known.classes
 
   -- the class of one finalizer's part, or two
   abbrev words1 : List ℕ → Part → List (List ℕ)
-  words1 c p = class_words n (record { name = place_of known.texts c; del = first_some (del_if (Some p)) None; legacy = first_some (legacy_if (Some p)) None })
+  words1 c p = class_words n (record { name = text_number known.texts c; del = first_some (del_if (Some p)) None; legacy = first_some (legacy_if (Some p)) None })
 
   abbrev words2 : List ℕ → Part → Part → List (List ℕ)
-  words2 c p q = class_words n (record { name = place_of known.texts c; del = first_some (del_if (Some p)) (del_if (Some q)); legacy = first_some (legacy_if (Some p)) (legacy_if (Some q)) })
+  words2 c p q = class_words n (record { name = text_number known.texts c; del = first_some (del_if (Some p)) (del_if (Some q)); legacy = first_some (legacy_if (Some p)) (legacy_if (Some q)) })
 
   abbrev said2 : List ℕ → Part → Part → Said
-  said2 c p q = Declares (items.Class (record { name = place_of known.texts c; del = first_some (del_if (Some p)) (del_if (Some q)); legacy = first_some (legacy_if (Some p)) (legacy_if (Some q)) }))
+  said2 c p q = Declares (items.Class (record { name = text_number known.texts c; del = first_some (del_if (Some p)) (del_if (Some q)); legacy = first_some (legacy_if (Some p)) (legacy_if (Some q)) }))
 
-  one_word : (c f : List ℕ) (p : Part) → IsDel n p f ⊎ IsLegacy n p f → words1 c p ≡ codes "class" ∷ text_of n.texts (place_of known.texts c) ∷ f ∷ []
-  one_word c f p (inl d) = ap (words1 c) d.part ∙ ap (λ (v : List ℕ). codes "class" ∷ text_of n.texts (place_of known.texts c) ∷ v ∷ []) d.word
-  one_word c f p (inr d) = ap (words1 c) d.part ∙ ap (λ (v : List ℕ). codes "class" ∷ text_of n.texts (place_of known.texts c) ∷ v ∷ []) d.word
+  one_word : (c f : List ℕ) (p : Part) → IsDel n p f ⊎ IsLegacy n p f → words1 c p ≡ codes "class" ∷ text_of n.texts (text_number known.texts c) ∷ f ∷ []
+  one_word c f p (inl d) = ap (words1 c) d.part ∙ ap (λ (v : List ℕ). codes "class" ∷ text_of n.texts (text_number known.texts c) ∷ v ∷ []) d.word
+  one_word c f p (inr d) = ap (words1 c) d.part ∙ ap (λ (v : List ℕ). codes "class" ∷ text_of n.texts (text_number known.texts c) ∷ v ∷ []) d.word
 
-  in_order : (c f g : List ℕ) (p q : Part) → IsDel n p f → IsLegacy n q g → words2 c p q ≡ codes "class" ∷ text_of n.texts (place_of known.texts c) ∷ f ∷ g ∷ []
+  in_order : (c f g : List ℕ) (p q : Part) → IsDel n p f → IsLegacy n q g → words2 c p q ≡ codes "class" ∷ text_of n.texts (text_number known.texts c) ∷ f ∷ g ∷ []
   in_order c f g p q d l =
       ap (λ (x : Part). words2 c x q) d.part
       ∙ ap (λ (y : Part). words2 c (parts.Finalizer d.proc) y) l.part
-      ∙ ap (λ (v : List ℕ). codes "class" ∷ text_of n.texts (place_of known.texts c) ∷ v ∷ (codes "legacy=" ++ name_of n.texts n.procs l.proc) ∷ []) d.word
-      ∙ ap (λ (v : List ℕ). codes "class" ∷ text_of n.texts (place_of known.texts c) ∷ f ∷ v ∷ []) l.word
+      ∙ ap (λ (v : List ℕ). codes "class" ∷ text_of n.texts (text_number known.texts c) ∷ v ∷ (codes "legacy=" ++ name_of n.texts n.procs l.proc) ∷ []) d.word
+      ∙ ap (λ (v : List ℕ). codes "class" ∷ text_of n.texts (text_number known.texts c) ∷ f ∷ v ∷ []) l.word
 
   swapped_said : (c f g : List ℕ) (p q : Part) → IsLegacy n p f → IsDel n q g → said2 c q p ≡ said2 c p q
   swapped_said c f g p q l d =

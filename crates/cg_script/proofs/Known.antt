@@ -2,7 +2,7 @@
 use Rattle.std.proofs.Common.{◌≡◌, ℕ, zero, suc, ◌+◌, ◌<◌, ◌≤◌, List, [], ◌∷◌, ◌++◌, length, map, drop, Bool, true, false, if◌then◌else◌, Option, None, Some, refl, sym, ap, ◌∙◌, arith, codes}
 use Rattle.std.specs.Prelude.{slice_index}
 use Rattle.std.specs.Str.{bytes_eq}
-use Rattle.cg_value.specs.Texts.{place_of}
+use Rattle.cg_value.specs.Texts.{text_number}
 use Rattle.cg_script.specs.declared.command.Operand.{Operand}
 use Rattle.cg_script.specs.declared.command.Operand.TheVariants as operands
 use Rattle.cg_script.specs.declared.form.Form.{Form}
@@ -17,7 +17,7 @@ use Rattle.cg_script.specs.Texts.{operand_texts, operands_texts, command_texts, 
 use Rattle.cg_script.specs.Tables.{named}
 use Rattle.cg_script.specs.Words.{begins_name, is_quoted, string_text, number_of, after_prefix, atoms}
 use Rattle.cg_script.specs.Forms.{row, sort_at}
-use Rattle.cg_script.specs.Parts.{with_text_if, text_in, value_text, operand_or, numbered, place_in, finalizer, legacy, legacy_of, finalizer_of, part_of, parts_from, texts_from}
+use Rattle.cg_script.specs.Parts.{with_text_if, text_in, value_text, operand_or, numbered, defined_number, finalizer, legacy, legacy_of, finalizer_of, part_of, parts_from, texts_from}
 use Rattle.cg_script.specs.Commands.{text_or, value_or, text_at, value_at, values_from, said}
 use Rattle.cg_script.proofs.Below.{Below, below-append, below_more, place_below, grows_if}
 
@@ -69,7 +69,7 @@ value_below texts word (Some operand) e = rw (named_without atoms word operand a
 value_below texts word None e = by (is_quoted word) (begins_name (slice_index word 0))
   where
     by : (q b : Bool) → Below (length (with_text_if texts (if q then Some (string_text word) else if b then Some word else None)))
-        (operand_texts (if q then operands.Str (place_of texts (string_text word)) else if b then operands.Name (place_of texts word) else operands.Int (number_of word)))
+        (operand_texts (if q then operands.Str (text_number texts (string_text word)) else if b then operands.Name (text_number texts word) else operands.Int (number_of word)))
     by true b = (place_below texts (string_text word), tt)
     by false true = (place_below texts word, tt)
     by false false = tt
@@ -84,7 +84,7 @@ legacy_below n (Some k) = tt
 
 legacy_of_below : (n : ℕ) (procs : List (List ℕ)) (name : Option (List ℕ)) → PartBelow n (legacy_of procs name)
 legacy_of_below n procs None = tt
-legacy_of_below n procs (Some name) = legacy_below n (place_in procs name)
+legacy_of_below n procs (Some name) = legacy_below n (defined_number procs name)
 
 finalizer_below : (n : ℕ) (found : Option ℕ) → PartBelow n (finalizer found)
 finalizer_below n None = tt
@@ -92,14 +92,14 @@ finalizer_below n (Some k) = tt
 
 finalizer_of_below : (n : ℕ) (procs : List (List ℕ)) (name : Option (List ℕ)) (word : List ℕ) → PartBelow n (finalizer_of procs name word)
 finalizer_of_below n procs None word = legacy_of_below n procs (after_prefix (codes "legacy=") word)
-finalizer_of_below n procs (Some name) word = finalizer_below n (place_in procs name)
+finalizer_of_below n procs (Some name) word = finalizer_below n (defined_number procs name)
 
 part_below : (procs classes texts : List (List ℕ)) (sort : Sort) (word : List ℕ) → PartBelow (length (with_text_if texts (text_in sort word))) (part_of procs classes texts sort word)
 part_below procs classes texts Key word = tt
 part_below procs classes texts Variable word = place_below texts word
 part_below procs classes texts Name word = place_below texts word
-part_below procs classes texts Class word = numbered_below _ (place_in classes word)
-part_below procs classes texts Proc word = numbered_below _ (place_in procs word)
+part_below procs classes texts Class word = numbered_below _ (defined_number classes word)
+part_below procs classes texts Proc word = numbered_below _ (defined_number procs word)
 part_below procs classes texts Finalizer word = finalizer_of_below _ procs (after_prefix (codes "del=") word) word
 part_below procs classes texts Value word = value_below texts word (named atoms word) refl
 part_below procs classes texts Number word = tt

@@ -18,7 +18,7 @@ use Rattle.cg_script.specs.Tables.{named}
 use Rattle.cg_script.specs.Words.{is_printable, is_digit, begins_name, is_quoted, are_digits, decimal_after, decimal_value, has_minus, is_number, number_of, is_count, is_profile, is_value, is_variable, string_text, atoms}
 use Rattle.cg_script.specs.Meanings.{fits}
 use Rattle.cg_script.specs.Parts.{part_of, text_in, value_text, operand_or}
-use Rattle.cg_value.specs.Texts.{place_of}
+use Rattle.cg_value.specs.Texts.{text_number}
 use Rattle.cg_script.proofs.Ascii.{both}
 use Rattle.cg_script.proofs.Joined.{Graphic, and_both}
 
@@ -273,8 +273,8 @@ number_value w v none quote letter n =
     ∙ ap (λ b. cond b (is_variable u) (is_number u)) letter in
     let operand : (texts : List (List ℕ)) (u : List ℕ) → named atoms u ≡ None → is_quoted u ≡ false → begins_name (slice_index u 0) ≡ false → operand_or (named atoms u) texts u ≡ operands.Int (number_of u) =
     λ texts u none quote letter. ap (λ (f : Option Operand). operand_or f texts u) none
-    ∙ ap (λ b. cond b (operands.Str (place_of texts (string_text u))) (cond (begins_name (slice_index u 0)) (operands.Name (place_of texts u)) (operands.Int (number_of u)))) quote
-    ∙ ap (λ b. cond b (operands.Name (place_of texts u)) (operands.Int (number_of u))) letter in
+    ∙ ap (λ b. cond b (operands.Str (text_number texts (string_text u))) (cond (begins_name (slice_index u 0)) (operands.Name (text_number texts u)) (operands.Int (number_of u)))) quote
+    ∙ ap (λ b. cond b (operands.Name (text_number texts u)) (operands.Int (number_of u))) letter in
     let no_text : (u : List ℕ) → named atoms u ≡ None → is_quoted u ≡ false → begins_name (slice_index u 0) ≡ false → value_text (named atoms u) u ≡ None =
     λ u none quote letter. ap (λ (f : Option Operand). value_text f u) none
     ∙ ap (λ b. cond b (Some (string_text u)) (cond (begins_name (slice_index u 0)) (Some u) None)) quote

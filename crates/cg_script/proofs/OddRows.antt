@@ -8,7 +8,7 @@ use Rattle.cg_script.specs.declared.command.Command.TheVariants as commands
 use Rattle.cg_script.specs.declared.form.Form.TheVariants as forms
 use Rattle.cg_script.specs.declared.form.Sort.TheVariants.{Variable, Value}
 use Rattle.cg_script.specs.declared.part.Said.TheVariants.{Does}
-use Rattle.cg_value.specs.Texts.{place_of, with_text}
+use Rattle.cg_value.specs.Texts.{text_number, with_text}
 use Rattle.cg_script.specs.Tables.{named}
 use Rattle.cg_script.specs.Words.{atoms, flags, is_quoted, string_text, begins_name, number_of}
 use Rattle.cg_script.specs.Forms.{openers, bindings}
@@ -91,7 +91,7 @@ none_no_text : (found : Option Operand) (texts : List (List ℕ)) (f : List ℕ)
 none_no_text (Some operand) texts f e = refl
 none_no_text None texts f e = by (is_quoted f) (begins_name (slice_index f 0)) e
   where
-    by : (q b : Bool) → cond q (operands.Str (place_of texts (string_text f))) (cond b (operands.Name (place_of texts f)) (operands.Int (number_of f))) ≡ operands.None
+    by : (q b : Bool) → cond q (operands.Str (text_number texts (string_text f))) (cond b (operands.Name (text_number texts f)) (operands.Int (number_of f))) ≡ operands.None
         → cond q (Some (string_text f)) (cond b (Some f) None) ≡ None
     by true b e = absurd (cc)
     by false true e = absurd (cc)
@@ -121,7 +121,7 @@ ref_five : (n : Naming) (known : Known) → Names n known.procs known.classes �
 ref_five n known names a y f given (inr other) =
     let t1 = with_text known.texts a in
     plain_row n known names forms.MakeRef (a ∷ codes "=" ∷ codes "ref" ∷ y ∷ f ∷ []) given
-    (ap (λ (l : List (List ℕ)). text_of n.texts (place_of known.texts a) ∷ codes "=" ∷ codes "ref" ∷ value_word n.texts (operand_or (named atoms y) t1 y) ∷ l) other)
+    (ap (λ (l : List (List ℕ)). text_of n.texts (text_number known.texts a) ∷ codes "=" ∷ codes "ref" ∷ value_word n.texts (operand_or (named atoms y) t1 y) ∷ l) other)
 ref_five n known names a y f given (inl none) =
     let t1 = with_text known.texts a in
     let t2 = with_text_if t1 (value_text (named atoms y) y) in
@@ -131,14 +131,14 @@ ref_five n known names a y f given (inl none) =
       standing = four;
       good = ref_four a y f given.good;
       same = record {
-        said_same = ap (λ (o : Operand). Does (commands.MakeRef (place_of known.texts a) (operand_or (named atoms y) t1 y) o)) (sym none);
+        said_same = ap (λ (o : Operand). Does (commands.MakeRef (text_number known.texts a) (operand_or (named atoms y) t1 y) o)) (sym none);
         texts_same = sym same_texts;
         procs_same = refl;
         classes_same = refl;
         repeated_same = refl;
         none_unknown = refl;
       };
-      printed = ap (λ (o : Operand). text_of n.texts (place_of known.texts a) ∷ codes "=" ∷ codes "ref" ∷ value_word n.texts (operand_or (named atoms y) t1 y) ∷ callback_words n.texts o) none
+      printed = ap (λ (o : Operand). text_of n.texts (text_number known.texts a) ∷ codes "=" ∷ codes "ref" ∷ value_word n.texts (operand_or (named atoms y) t1 y) ∷ callback_words n.texts o) none
           ∙ shown_normal n known.procs known.classes forms.MakeRef four known.texts 0 names (subst (λ ts. Begins ts n.texts) same_texts given.begins) refl;
     }
 

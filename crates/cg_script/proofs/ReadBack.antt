@@ -4,7 +4,7 @@ use Rattle.std.specs.Prelude.{flat_map, unwrap_or}
 use Rattle.std.specs.Str.{bytes_eq}
 use Rattle.std.proofs.lemmas.Bool.Decides.{nat_tests}
 use Rattle.std.proofs.lemmas.Slice.Eq.{bytes_eq-Decides}
-use Rattle.cg_value.specs.Texts.{place_of, has_text, with_text}
+use Rattle.cg_value.specs.Texts.{text_number, has_text, with_text}
 use Rattle.cg_script.specs.declared.item.Item.{Item}
 use Rattle.cg_script.specs.declared.item.Item.TheVariants as items
 use Rattle.cg_script.specs.declared.form.Form.{Form}
@@ -224,7 +224,7 @@ module _ (known : Known) (all : List (List ℕ)) where
   procs_step forms.Def [] later enough fresh begins = absurd (omega arith)
   procs_step forms.Def (w ∷ []) later enough fresh begins = absurd (omega arith)
   procs_step forms.Def (w ∷ c ∷ ws) later enough fresh begins =
-      define_step all known.procs (place_of known.texts c) c (begun later) fresh
+      define_step all known.procs (text_number known.texts c) c (begun later) fresh
       (text_found all known.texts c (begins_along (with_text known.texts c) (texts_from (with_text known.texts c) forms.Def 2 ws) all (begins_texts forms.Def ws (with_text known.texts c) 2) begins))
   procs_step form ws later enough fresh begins = refl
 
@@ -233,7 +233,7 @@ module _ (known : Known) (all : List (List ℕ)) where
   classes_step forms.Class [] later enough fresh begins = absurd (omega arith)
   classes_step forms.Class (w ∷ []) later enough fresh begins = absurd (omega arith)
   classes_step forms.Class (w ∷ c ∷ ws) later enough fresh begins =
-      define_step all known.classes (place_of known.texts c) c (declared later) fresh
+      define_step all known.classes (text_number known.texts c) c (declared later) fresh
       (text_found all known.texts c (begins_along (with_text known.texts c) (texts_from (with_text known.texts c) forms.Class 2 ws) all (begins_texts forms.Class ws (with_text known.texts c) 2) begins))
   classes_step form ws later enough fresh begins = refl
 

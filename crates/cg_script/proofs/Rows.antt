@@ -10,7 +10,7 @@ use Rattle.cg_script.specs.declared.form.Sort.{Sort}
 use Rattle.cg_script.specs.declared.form.Sort.TheVariants.{Value}
 use Rattle.cg_script.specs.declared.part.Said.{Said}
 use Rattle.cg_script.specs.declared.part.Said.TheVariants.{Declares, Begins as BeginsProc, Ends, Does}
-use Rattle.cg_value.specs.Texts.{place_of, with_text}
+use Rattle.cg_value.specs.Texts.{text_number, with_text}
 use Rattle.cg_script.specs.Tables.{named}
 use Rattle.cg_script.specs.Forms.{row, sort_at, word_of, opening_forms, binding_forms, by_words, openers, bindings}
 use Rattle.cg_script.specs.Parts.{Known, part_of, parts_from, parts_of, texts_from, text_in, with_text_if, has_unknown}
@@ -189,7 +189,7 @@ module _ (n : Naming) (known : Known) (names : Names n known.procs known.classes
   func_row a [] given = absurd (omega (arith, given.good.enough))
   func_row a (p ∷ rest) given =
       plain forms.MakeFunc (a ∷ codes "=" ∷ codes "func" ∷ p ∷ rest) given
-      (ap (λ l. text_of n.texts (place_of known.texts a) ∷ codes "=" ∷ codes "func" ∷ name_of n.texts n.procs (count_or (Some (part_of known.procs known.classes (with_text known.texts a) (sort_at forms.MakeFunc 3) p))) ∷ l)
+      (ap (λ l. text_of n.texts (text_number known.texts a) ∷ codes "=" ∷ codes "func" ∷ name_of n.texts n.procs (count_or (Some (part_of known.procs known.classes (with_text known.texts a) (sort_at forms.MakeFunc 3) p))) ∷ l)
       (values_plain n known.procs known.classes forms.MakeFunc rest (with_text known.texts a) 4 (λ i h. get_or_past (row forms.MakeFunc).places i Value h)))
 
   -- a form that some third word picks
@@ -197,10 +197,10 @@ module _ (n : Naming) (known : Known) (names : Names n known.procs known.classes
   unfolding bindings
   bound forms.MakeList a rest re found given =
       plain forms.MakeList (a ∷ codes "=" ∷ codes "list" ∷ rest) given
-      (ap (λ l. text_of n.texts (place_of known.texts a) ∷ codes "=" ∷ codes "list" ∷ l) (values_plain n known.procs known.classes forms.MakeList rest (with_text known.texts a) 3 (λ i h. get_or_past (row forms.MakeList).places i Value h)))
+      (ap (λ l. text_of n.texts (text_number known.texts a) ∷ codes "=" ∷ codes "list" ∷ l) (values_plain n known.procs known.classes forms.MakeList rest (with_text known.texts a) 3 (λ i h. get_or_past (row forms.MakeList).places i Value h)))
   bound forms.MakeTuple a rest re found given =
       plain forms.MakeTuple (a ∷ codes "=" ∷ codes "tuple" ∷ rest) given
-      (ap (λ l. text_of n.texts (place_of known.texts a) ∷ codes "=" ∷ codes "tuple" ∷ l) (values_plain n known.procs known.classes forms.MakeTuple rest (with_text known.texts a) 3 (λ i h. get_or_past (row forms.MakeTuple).places i Value h)))
+      (ap (λ l. text_of n.texts (text_number known.texts a) ∷ codes "=" ∷ codes "tuple" ∷ l) (values_plain n known.procs known.classes forms.MakeTuple rest (with_text known.texts a) 3 (λ i h. get_or_past (row forms.MakeTuple).places i Value h)))
   bound forms.MakeDict a rest re found given = bound0 forms.MakeDict a rest (omega (arith, given.good.enough, given.good.most)) refl given
   bound forms.MakeInst a rest re found given = bound1 forms.MakeInst a rest (omega (arith, given.good.enough, given.good.most)) (λ b. refl) given
   bound forms.MakeFunc a rest re found given = func_row a rest given

@@ -7,7 +7,7 @@ use Rattle.std.specs.Str.{bytes_eq}
 use Rattle.std.proofs.lemmas.Bool.Decides.{nat_tests}
 use Rattle.std.proofs.lemmas.Fmt.{decimal_digit}
 use Rattle.std.proofs.lemmas.Slice.Eq.{bytes_eq-Decides}
-use Rattle.cg_value.specs.Texts.{has_text, place_of, with_text}
+use Rattle.cg_value.specs.Texts.{has_text, text_number, with_text}
 use Rattle.cg_script.specs.declared.command.Operand.{Operand}
 use Rattle.cg_script.specs.declared.command.Operand.TheVariants as operands
 use Rattle.cg_script.specs.declared.form.Form.{Form}
@@ -17,7 +17,7 @@ use Rattle.cg_script.specs.declared.part.Part.{Part}
 use Rattle.cg_script.specs.Tables.{named}
 use Rattle.cg_script.specs.Words.{begins_name, is_quoted, number_of, string_text, atoms}
 use Rattle.cg_script.specs.Forms.{sort_at}
-use Rattle.cg_script.specs.Parts.{part_of, parts_from, texts_from, text_in, with_text_if, value_text, operand_or, numbered, place_in, is_unknown, has_unknown}
+use Rattle.cg_script.specs.Parts.{part_of, parts_from, texts_from, text_in, with_text_if, value_text, operand_or, numbered, defined_number, is_unknown, has_unknown}
 use Rattle.cg_script.specs.Commands.{text_or, value_or, number_or, count_or}
 use Rattle.cg_script.specs.Canonical.{Naming, text_of, name_of, value_word}
 use Rattle.cg_script.proofs.NormalWords.{normal, normal_value}
@@ -59,27 +59,27 @@ or_false : (a b : Bool) → (a || b) ≡ true → a ≡ false → b ≡ true
 or_false true b e f = absurd (cc)
 or_false false b e f = e
 
-there_text : (texts more : List (List ℕ)) (text : List ℕ) → has_text texts text ≡ true → slice_index_or (texts ++ more) (place_of texts text) [] ≡ text
+there_text : (texts more : List (List ℕ)) (text : List ℕ) → has_text texts text ≡ true → slice_index_or (texts ++ more) (text_number texts text) [] ≡ text
 there_text [] more text e = absurd (cc)
 there_text (x ∷ xs) more text e =
-    step_place (bytes_eq text x) (place_of xs text) x (xs ++ more) text (bytes_eq-Decides text x).0 (λ n. there_text xs more text (or_false (bytes_eq text x) (has_text xs text) e n))
+    step_place (bytes_eq text x) (text_number xs text) x (xs ++ more) text (bytes_eq-Decides text x).0 (λ n. there_text xs more text (or_false (bytes_eq text x) (has_text xs text) e n))
 
-new_text : (texts more : List (List ℕ)) (text : List ℕ) → has_text texts text ≡ false → slice_index_or ((texts ++ text ∷ []) ++ more) (place_of texts text) [] ≡ text
+new_text : (texts more : List (List ℕ)) (text : List ℕ) → has_text texts text ≡ false → slice_index_or ((texts ++ text ∷ []) ++ more) (text_number texts text) [] ≡ text
 new_text [] more text e = refl
 new_text (x ∷ xs) more text e =
-    step_place (bytes_eq text x) (place_of xs text) x ((xs ++ text ∷ []) ++ more) text (bytes_eq-Decides text x).0 (λ n. new_text xs more text (rest (bytes_eq text x) (has_text xs text) e))
+    step_place (bytes_eq text x) (text_number xs text) x ((xs ++ text ∷ []) ++ more) text (bytes_eq-Decides text x).0 (λ n. new_text xs more text (rest (bytes_eq text x) (has_text xs text) e))
   where
     rest : (a b : Bool) → (a || b) ≡ false → b ≡ false
     rest true b e = absurd (cc)
     rest false b e = e
 
 -- the text of a word has its place in all texts
-pub text_found : (all texts : List (List ℕ)) (text : List ℕ) → Begins (with_text texts text) all → text_of all (place_of texts text) ≡ text
+pub text_found : (all texts : List (List ℕ)) (text : List ℕ) → Begins (with_text texts text) all → text_of all (text_number texts text) ≡ text
 text_found all texts text begins = by (has_text texts text) refl begins
   where
-    by : (b : Bool) → has_text texts text ≡ b → Begins (cond b texts (texts ++ text ∷ [])) all → text_of all (place_of texts text) ≡ text
-    by true e begins = ap (λ l. slice_index_or l (place_of texts text) []) begins.is ∙ there_text texts begins.more text e
-    by false e begins = ap (λ l. slice_index_or l (place_of texts text) []) begins.is ∙ new_text texts begins.more text e
+    by : (b : Bool) → has_text texts text ≡ b → Begins (cond b texts (texts ++ text ∷ [])) all → text_of all (text_number texts text) ≡ text
+    by true e begins = ap (λ l. slice_index_or l (text_number texts text) []) begins.is ∙ there_text texts begins.more text e
+    by false e begins = ap (λ l. slice_index_or l (text_number texts text) []) begins.is ∙ new_text texts begins.more text e
 
 -- so has the name of a procedure or class that is defined
 found_step : (n k m : ℕ) → cond (nat_lt n m) (Some n) None ≡ Some k → (n ≡ k) × (nat_lt n m ≡ true)
@@ -98,7 +98,7 @@ in_list (x ∷ xs) more name h =
     shorter true n m e h = absurd (cc)
     shorter false n m e h = omega arith
 
-pub name_found : (all names : List (List ℕ)) (name : List ℕ) (k : ℕ) → Begins names all → place_in names name ≡ Some k → slice_index_or all k [] ≡ name
+pub name_found : (all names : List (List ℕ)) (name : List ℕ) (k : ℕ) → Begins names all → defined_number names name ≡ Some k → slice_index_or all k [] ≡ name
 name_found all names name k begins e =
     let at = found_step (position_or_len (bytes_eq name) names) k (length names) e in
     let below : position_or_len (bytes_eq name) names < length names = let t = at.1 in grind (arith, nat_tests) in
@@ -175,12 +175,12 @@ value_shown all texts w (Some operand) e begins = named_spelled all atoms w oper
 value_shown all texts w None e begins = by (is_quoted w) (begins_name (slice_index w 0)) refl begins
   where
     by : (q b : Bool) → is_quoted w ≡ q → Begins (with_text_if texts (cond q (Some (string_text w)) (cond b (Some w) None))) all
-        → value_word all (cond q (operands.Str (place_of texts (string_text w))) (cond b (operands.Name (place_of texts w)) (operands.Int (number_of w)))) ≡ cond q w (cond b w (signed_decimal (number_of w)))
+        → value_word all (cond q (operands.Str (text_number texts (string_text w))) (cond b (operands.Name (text_number texts w)) (operands.Int (number_of w)))) ≡ cond q w (cond b w (signed_decimal (number_of w)))
     by true b eq begins = ap (λ (t : List ℕ). 39 ∷ t) (text_found all texts (string_text w) begins) ∙ quoted_again w eq
     by false true eq begins = text_found all texts w begins
     by false false eq begins = refl
 
-counted_name : (all names : List (List ℕ)) (name : List ℕ) (found : Option ℕ) → place_in names name ≡ found → Begins names all → is_unknown (numbered found) ≡ false → slice_index_or all (count_or (Some (numbered found))) [] ≡ name
+counted_name : (all names : List (List ℕ)) (name : List ℕ) (found : Option ℕ) → defined_number names name ≡ found → Begins names all → is_unknown (numbered found) ≡ false → slice_index_or all (count_or (Some (numbered found))) [] ≡ name
 counted_name all names name None e begins known = absurd (cc)
 counted_name all names name (Some k) e begins known = name_found all names name k begins e
 
@@ -194,8 +194,8 @@ shown_word : (n : Naming) (procs classes texts : List (List ℕ)) (s : Sort) (w 
 shown_word n procs classes texts Key w names begins known = refl
 shown_word n procs classes texts Variable w names begins known = text_found n.texts texts w begins
 shown_word n procs classes texts Name w names begins known = text_found n.texts texts w begins
-shown_word n procs classes texts Class w names begins known = counted_name (map (text_of n.texts) n.classes) classes w (place_in classes w) refl names.classes_begin known
-shown_word n procs classes texts Proc w names begins known = counted_name (map (text_of n.texts) n.procs) procs w (place_in procs w) refl names.procs_begin known
+shown_word n procs classes texts Class w names begins known = counted_name (map (text_of n.texts) n.classes) classes w (defined_number classes w) refl names.classes_begin known
+shown_word n procs classes texts Proc w names begins known = counted_name (map (text_of n.texts) n.procs) procs w (defined_number procs w) refl names.procs_begin known
 shown_word n procs classes texts Finalizer w names begins known = refl
 shown_word n procs classes texts Value w names begins known = value_shown n.texts texts w (named atoms w) refl begins
 shown_word n procs classes texts Number w names begins known = refl

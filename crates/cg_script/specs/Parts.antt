@@ -2,7 +2,7 @@
 use Rattle.std.specs.Prelude.{ℕ, ◌+◌, List, [], ◌∷◌, Bool, true, false, codes, slice_index, if◌then◌else◌, Option, None, Some, unwrap_or, position}
 use Rattle.std.specs.List.{list_any}
 use Rattle.std.specs.Str.{bytes_eq}
-use Rattle.cg_value.specs.Texts.{place_of, with_text}
+use Rattle.cg_value.specs.Texts.{text_number, with_text}
 use Rattle.cg_script.specs.declared.command.Operand.{Operand}
 use Rattle.cg_script.specs.declared.command.Operand.TheVariants as operands
 use Rattle.cg_script.specs.declared.form.Form.{Form}
@@ -54,8 +54,8 @@ with_text_if texts (Some text) = with_text texts text
 abbrev pub operand_or : Option Operand → List (List ℕ) → List ℕ → Operand
 operand_or (Some operand) texts word = operand
 operand_or None texts word =
-    if is_quoted word then operands.Str (place_of texts (string_text word))
-    else if begins_name (slice_index word 0) then operands.Name (place_of texts word)
+    if is_quoted word then operands.Str (text_number texts (string_text word))
+    else if begins_name (slice_index word 0) then operands.Name (text_number texts word)
     else operands.Int (number_of word)
 
 -- the number of a procedure or class, where an earlier line defines it
@@ -63,8 +63,9 @@ abbrev pub numbered : Option ℕ → Part
 numbered None = parts.Unknown
 numbered (Some n) = parts.Count n
 
-abbrev pub place_in : List (List ℕ) → List ℕ → Option ℕ
-place_in names name = position (bytes_eq name) names
+-- the number of a procedure or class among those that earlier lines define
+abbrev pub defined_number : List (List ℕ) → List ℕ → Option ℕ
+defined_number names name = position (bytes_eq name) names
 
 abbrev pub finalizer : Option ℕ → Part
 finalizer None = parts.Unknown
@@ -77,20 +78,20 @@ legacy (Some n) = parts.Legacy n
 -- a class's `legacy=P`
 abbrev pub legacy_of : List (List ℕ) → Option (List ℕ) → Part
 legacy_of procs None = parts.Bare
-legacy_of procs (Some name) = legacy (place_in procs name)
+legacy_of procs (Some name) = legacy (defined_number procs name)
 
 -- a class's `del=P`, or else its `legacy=P`
 abbrev pub finalizer_of : List (List ℕ) → Option (List ℕ) → List ℕ → Part
-finalizer_of procs (Some name) word = finalizer (place_in procs name)
+finalizer_of procs (Some name) word = finalizer (defined_number procs name)
 finalizer_of procs None word = legacy_of procs (after_prefix (codes "legacy=") word)
 
 -- what a word at such a place stands for, by the procedures, the classes and the texts before it; its text has the place in the texts that it has or gets
 abbrev pub part_of : List (List ℕ) → List (List ℕ) → List (List ℕ) → Sort → List ℕ → Part
 part_of procs classes texts Key word = parts.Bare
-part_of procs classes texts Variable word = parts.Text (place_of texts word)
-part_of procs classes texts Name word = parts.Text (place_of texts word)
-part_of procs classes texts Class word = numbered (place_in classes word)
-part_of procs classes texts Proc word = numbered (place_in procs word)
+part_of procs classes texts Variable word = parts.Text (text_number texts word)
+part_of procs classes texts Name word = parts.Text (text_number texts word)
+part_of procs classes texts Class word = numbered (defined_number classes word)
+part_of procs classes texts Proc word = numbered (defined_number procs word)
 part_of procs classes texts Finalizer word = finalizer_of procs (after_prefix (codes "del=") word) word
 part_of procs classes texts Value word = parts.Value (operand_or (named atoms word) texts word)
 part_of procs classes texts Number word = parts.Number (number_of word)

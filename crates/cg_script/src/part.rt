@@ -4,7 +4,7 @@ ghost use Rattle.cg_value.specs.Texts.{with_text};
 ghost use Rattle.cg_script.specs.Tables.{named as named_in};
 ghost use Rattle.cg_script.specs.Words.{is_value, is_identifier, atoms, after_prefix};
 ghost use Rattle.cg_script.specs.Meanings.{fits, all_fit};
-ghost use Rattle.cg_script.specs.Parts.{Known, text_in, with_text_if, value_text, operand_or, numbered, finalizer, legacy, place_in, finalizer_of, part_of, parts_from, texts_from, has_unknown, is_unknown};
+ghost use Rattle.cg_script.specs.Parts.{Known, text_in, with_text_if, value_text, operand_or, numbered, finalizer, legacy, defined_number, finalizer_of, part_of, parts_from, texts_from, has_unknown, is_unknown};
 
 use crate::command::{Command, Operand};
 use crate::form::{Form, Sort, sort_at};
@@ -76,32 +76,32 @@ fn read_value(word: &[u8], names: &mut Names) -> Result<Operand, AllocError>
 }
 
 /// The number of a procedure or class.
-fn read_place(names: &Names, word: &[u8]) -> Part
+fn read_defined(names: &Names, word: &[u8]) -> Part
     requires { is_identifier word.now ≡ true }
-    ensures { result ≡ numbered (place_in names.now word.now) }
+    ensures { result ≡ numbered (defined_number names.now word.now) }
 {
     match names.find(text_of_identifier(word)) {
-        Some(place) => Part::Count(place),
+        Some(number) => Part::Count(number),
         None => Part::Unknown,
     }
 }
 
 fn read_legacy(procs: &Names, name: &[u8]) -> Part
     requires { is_identifier name.now ≡ true }
-    ensures { result ≡ legacy (place_in procs.now name.now) }
+    ensures { result ≡ legacy (defined_number procs.now name.now) }
 {
     match procs.find(text_of_identifier(name)) {
-        Some(place) => Part::Legacy(place),
+        Some(number) => Part::Legacy(number),
         None => Part::Unknown,
     }
 }
 
 fn read_del(procs: &Names, name: &[u8]) -> Part
     requires { is_identifier name.now ≡ true }
-    ensures { result ≡ finalizer (place_in procs.now name.now) }
+    ensures { result ≡ finalizer (defined_number procs.now name.now) }
 {
     match procs.find(text_of_identifier(name)) {
-        Some(place) => Part::Finalizer(place),
+        Some(number) => Part::Finalizer(number),
         None => Part::Unknown,
     }
 }
@@ -136,8 +136,8 @@ fn read_part(
     match sort {
         Sort::Key => Ok(Part::Bare),
         Sort::Variable | Sort::Name => Ok(Part::Text(names.intern(text_of_identifier(word))?)),
-        Sort::Class => Ok(read_place(classes, word)),
-        Sort::Proc => Ok(read_place(procs, word)),
+        Sort::Class => Ok(read_defined(classes, word)),
+        Sort::Proc => Ok(read_defined(procs, word)),
         Sort::Finalizer => Ok(read_finalizer(procs, word)),
         Sort::Value => Ok(Part::Value(read_value(word, names)?)),
         Sort::Number => Ok(Part::Number(number_of_word(word))),

@@ -3,7 +3,7 @@ use Rattle.std.proofs.Common.{◌≡◌, ℕ, ◌+◌, List, [], ◌∷◌, ◌+
 use Rattle.std.proofs.lemmas.List.{length-map}
 use Rattle.std.specs.List.{list_any, position_or_len}
 use Rattle.std.specs.Str.{bytes_eq}
-use Rattle.cg_value.specs.Texts.{has_text, place_of, with_text}
+use Rattle.cg_value.specs.Texts.{has_text, text_number, with_text}
 
 pub any_map : {A B : Type 0} (p : B → Bool) (f : A → B) (xs : List A) → list_any p (map f xs) ≡ list_any (λ x. p (f x)) xs
 any_map p f [] = refl
@@ -43,7 +43,7 @@ module _ {A : Type 0} (f : A → List ℕ) (keys : List A) (text : List ℕ) whe
   test k = bytes_eq text (f k)
 
   -- a text that is there has its place, and nothing changes
-  pub known : (i : ℕ) → Some i ≡ position test keys → true ≡ list_any test keys → (i ≡ place_of (map f keys) text) × (map f keys ≡ with_text (map f keys) text)
+  pub known : (i : ℕ) → Some i ≡ position test keys → true ≡ list_any test keys → (i ≡ text_number (map f keys) text) × (map f keys ≡ with_text (map f keys) text)
   known i at found = (
     found_place _ _ i at ∙ sym (place_map (bytes_eq text) f keys),
     ap (λ b. cond b (map f keys) (map f keys ++ text ∷ [])) (found ∙ sym (any_map (bytes_eq text) f keys)),
@@ -51,7 +51,7 @@ module _ {A : Type 0} (f : A → List ℕ) (keys : List A) (text : List ℕ) whe
 
   -- a text that is new goes last
   pub fresh : (eq : A → A → Bool) (x : A) (after : List A) → f x ≡ text → ((k : A) → eq x k ≡ bytes_eq (f x) (f k)) → false ≡ list_any test keys
-      → after ≡ cond (list_any (eq x) keys) keys (keys ++ x ∷ []) → (length keys ≡ place_of (map f keys) text) × (map f after ≡ with_text (map f keys) text)
+      → after ≡ cond (list_any (eq x) keys) keys (keys ++ x ∷ []) → (length keys ≡ text_number (map f keys) text) × (map f after ≡ with_text (map f keys) text)
   fresh eq x after is same absent e =
       let none : list_any (eq x) keys ≡ false = any_same (eq x) test keys (λ k. same k ∙ ap (λ t. bytes_eq t (f k)) is) ∙ sym absent in
       let gone : has_text (map f keys) text ≡ false = any_map (bytes_eq text) f keys ∙ sym absent in (

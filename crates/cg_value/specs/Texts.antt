@@ -1,4 +1,4 @@
--- Texts by number: each stands once, and its number is its place.
+-- Texts by number: each stands once, and its number is its position.
 use Rattle.std.specs.Prelude.{ℕ, List, [], ◌∷◌, ◌++◌, Bool, if◌then◌else◌}
 use Rattle.std.specs.List.{list_any, position_or_len}
 use Rattle.std.specs.Str.{bytes_eq}
@@ -7,9 +7,9 @@ use Rattle.std.specs.Str.{bytes_eq}
 abbrev pub has_text : List (List ℕ) → List ℕ → Bool
 has_text texts text = list_any (bytes_eq text) texts
 
--- the first place of a text, or the number of the texts
-abbrev pub place_of : List (List ℕ) → List ℕ → ℕ
-place_of texts text = position_or_len (bytes_eq text) texts
+-- the number of a text: its first position, or that of the next text
+abbrev pub text_number : List (List ℕ) → List ℕ → ℕ
+text_number texts text = position_or_len (bytes_eq text) texts
 
 -- the texts with one that goes last where it is new
 abbrev pub with_text : List (List ℕ) → List ℕ → List (List ℕ)

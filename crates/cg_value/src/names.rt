@@ -2,7 +2,7 @@
 ghost use Rattle.std.specs.Prelude.{◌≡◌, ◌+◌, ◌-◌, ◌^◌, ◌<◌, List, [], length, map, position, IfOk, OnOk, OnErr, slice_get, Some};
 ghost use Rattle.std.specs.String.{string_bytes};
 ghost use Rattle.std.specs.Str.{bytes_eq};
-ghost use Rattle.cg_value.specs.Texts.{has_text, place_of, with_text};
+ghost use Rattle.cg_value.specs.Texts.{has_text, text_number, with_text};
 
 use indexmap::IndexSet;
 use std::alloc::{AllocError, Global};
@@ -44,16 +44,16 @@ impl Names {
     /// It answers `AllocError` for want of memory alone, and then nothing has changed.
     pub fn intern(&mut self, text: &str) -> Result<u32, AllocError>
         requires { length self.old < 2 ^ 32 - 1 }
-        ensures number { IfOk result (λ number. number ≡ place_of self.old text.now) }
+        ensures number { IfOk result (λ number. number ≡ text_number self.old text.now) }
         ensures ok { OnOk result (self.new ≡ with_text self.old text.now) }
         ensures err { OnErr result (self.new ≡ self.old) }
     {
-        if let Some(place) = self.texts.get_index_of(text) {
-            return Ok(place as u32);
+        if let Some(number) = self.texts.get_index_of(text) {
+            return Ok(number as u32);
         }
-        let place = self.texts.len();
+        let number = self.texts.len();
         self.texts.insert(String::from_str(self.alloc, text)?)?;
-        Ok(place as u32)
+        Ok(number as u32)
     }
 
     /// The number of a text, `None` exactly where it is not there.
@@ -61,7 +61,7 @@ impl Names {
         ensures { result ≡ position (bytes_eq text.now) self.now }
     {
         match self.texts.get_index_of(text) {
-            Some(place) => Some(place as u32),
+            Some(number) => Some(number as u32),
             None => None,
         }
     }

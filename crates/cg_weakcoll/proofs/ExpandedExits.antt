@@ -23,7 +23,7 @@ use Rattle.cg_script.specs.Texts.{command_names, operand_names}
 use Rattle.cg_script.specs.Words.{is_value}
 use Rattle.cg_script.proofs.Ascii.{both}
 use Rattle.cg_script.proofs.Joined.{sound_words}
-use Rattle.cg_value.specs.Texts.{place_of}
+use Rattle.cg_value.specs.Texts.{text_number}
 use Rattle.cg_machine.specs.Program.{body_of}
 use Rattle.cg_weakcoll.specs.declared.form.Form.{Form}
 use Rattle.cg_weakcoll.specs.declared.form.Form.TheVariants.{MakeMap, Set, Get, Remove, Finalize}
@@ -242,7 +242,7 @@ module _ (bytes : List ℕ) (fine : first_bad bytes ≡ None) (all : List (List 
       makes = λ name cells same. h.makes name proc cells (ap Does same) own_proc;
     }
 
-    other_call : (m : ℕ) → Includes numbers m → m ≢ l → IsOther e (commands.Call (operands.Name (place_of all (exit_name m))))
+    other_call : (m : ℕ) → Includes numbers m → m ≢ l → IsOther e (commands.Call (operands.Name (text_number all (exit_name m))))
     other_call m k apart = record {
       names = λ n there own. either there
           (λ same. other_text 103 m l (low_number m k) fits.low apart (subst (Includes (own_names l)) (ap (text_of all) (sym same) ∙ last.texts m (Includes-reversed numbers m k)) (own_text n own)))
@@ -274,7 +274,7 @@ module _ (bytes : List ℕ) (fine : first_bad bytes ≡ None) (all : List (List 
     procs_Y = procedures (items_of false Y)
 
     abbrev its_proc : Proc
-    its_proc = record { name = place_of all (proc_name l); body = exit_body e }
+    its_proc = record { name = text_number all (proc_name l); body = exit_body e }
 
     procs_are : procedures its ≡ procs_X ++ its_proc ∷ procs_Y
     procs_are =
@@ -332,12 +332,12 @@ module _ (bytes : List ℕ) (fine : first_bad bytes ≡ None) (all : List (List 
     reversed_are : reverse numbers ≡ reverse after ++ l ∷ reverse before
     reversed_are = ap reverse numbers_are ∙ reverse-append before (l ∷ after) ∙ ap (λ ns. ns ++ reverse before) (reverse-append (l ∷ []) after) ∙ append_assoc (reverse after) (l ∷ []) (reverse before)
 
-    calls_are : calls_of all (reverse numbers) ≡ calls_of all (reverse after) ++ commands.Call (operands.Name (place_of all (exit_name l))) ∷ calls_of all (reverse before)
-    calls_are = ap (calls_of all) reversed_are ∙ map-append (λ m. commands.Call (operands.Name (place_of all (exit_name m)))) (reverse after) (l ∷ reverse before)
+    calls_are : calls_of all (reverse numbers) ≡ calls_of all (reverse after) ++ commands.Call (operands.Name (text_number all (exit_name l))) ∷ calls_of all (reverse before)
+    calls_are = ap (calls_of all) reversed_are ∙ map-append (λ m. commands.Call (operands.Name (text_number all (exit_name m)))) (reverse after) (l ∷ reverse before)
 
     calls_other : (ns : List ℕ) → ((m : ℕ) → Includes ns m → Includes numbers m × (m ≢ l)) → AllOther e (calls_of all ns)
     calls_other ns apart c m =
-        let found = Includes-map_cases (λ k. commands.Call (operands.Name (place_of all (exit_name k)))) ns c m in
+        let found = Includes-map_cases (λ k. commands.Call (operands.Name (text_number all (exit_name k)))) ns c m in
         let there = apart found.0 found.1 in
         subst (IsOther e) found.2 (other_call found.0 there.0 there.1)
 
@@ -368,7 +368,7 @@ module _ (bytes : List ℕ) (fine : first_bad bytes ≡ None) (all : List (List 
       middle = commands_Y ++ calls_of all (reverse after);
       back = calls_of all (reverse before);
       commands = commands_are ∙ ap (λ cs. commands_X ++ (exit_commands e ++ (commands_Y ++ cs))) calls_are
-          ∙ ap (λ cs. commands_X ++ (exit_commands e ++ cs)) (sym (append_assoc commands_Y (calls_of all (reverse after)) (commands.Call (operands.Name (place_of all (exit_name l))) ∷ calls_of all (reverse before))));
+          ∙ ap (λ cs. commands_X ++ (exit_commands e ++ cs)) (sym (append_assoc commands_Y (calls_of all (reverse after)) (commands.Call (operands.Name (text_number all (exit_name l))) ∷ calls_of all (reverse before))));
       front_other = X_other;
       middle_other = λ c m. either (Includes-append_cases commands_Y (calls_of all (reverse after)) c m) (Y_other c) (calls_other (reverse after) after_apart c);
       back_other = calls_other (reverse before) before_apart;
@@ -440,8 +440,8 @@ module _ (bytes : List ℕ) (fine : first_bad bytes ≡ None) (all : List (List 
           of_lines = Finalizes k line back (e front line back parts is) later.exits is (subst (λ n. IsExitOf all its n line (e front line back parts is)) (sym same) (is_of front line back parts is)) later.of_lines;
           each = λ x m. either m (λ i. subst (λ (x : Exit). IsExit script x × ¬ Includes ls (commands.Call (operands.Name x.exit))) i (its_exit front line back parts is, its_call_away front line back parts is ls whole)) (later.each x);
           calls_are =
-              ap (λ cs. commands.Call (operands.Name (place_of all (exit_name (1 + length front)))) ∷ cs) later.calls_are
-              ∙ ap (λ n. commands.Call (operands.Name (place_of all (exit_name n))) ∷ calls_of all (finalize_numbers_from (k + 1) back)) (sym same)
+              ap (λ cs. commands.Call (operands.Name (text_number all (exit_name (1 + length front)))) ∷ cs) later.calls_are
+              ∙ ap (λ n. commands.Call (operands.Name (text_number all (exit_name n))) ∷ calls_of all (finalize_numbers_from (k + 1) back)) (sym same)
               ∙ ap (λ b. calls_of all (cond b (k ∷ []) [] ++ finalize_numbers_from (k + 1) back)) (sym is);
         }
 
@@ -476,7 +476,7 @@ module _ (bytes : List ℕ) (fine : first_bad bytes ≡ None) (all : List (List 
   final_are =
       map-reversed (λ (e : Exit). commands.Call (operands.Name e.exit)) built.exits
       ∙ ap reverse built.calls_are
-      ∙ sym (map-reversed (λ m. commands.Call (operands.Name (place_of all (exit_name m)))) numbers)
+      ∙ sym (map-reversed (λ m. commands.Call (operands.Name (text_number all (exit_name m)))) numbers)
 
   exits_there : HasExitsOf all its lines
   exits_there = record {

@@ -4,7 +4,7 @@ use Rattle.std.specs.Prelude.{decimal, is_some, unwrap_or}
 use Rattle.std.specs.List.{position_or_len}
 use Rattle.std.specs.Str.{bytes_eq}
 use Rattle.std.proofs.lemmas.Bool.Decides.{nat_tests}
-use Rattle.cg_value.specs.Texts.{has_text, place_of, with_text}
+use Rattle.cg_value.specs.Texts.{has_text, text_number, with_text}
 use Rattle.cg_script.specs.declared.command.Command.{Command}
 use Rattle.cg_script.specs.declared.command.Command.TheVariants as commands
 use Rattle.cg_script.specs.declared.command.Operand.{Operand}
@@ -17,7 +17,7 @@ use Rattle.cg_script.specs.Tables.{named}
 use Rattle.cg_script.specs.Words.{atoms, is_value}
 use Rattle.cg_script.specs.Forms.{bindings, openers, word_of}
 use Rattle.cg_script.specs.Meanings.{binding_form, formed, worded}
-use Rattle.cg_script.specs.Parts.{Known, numbered, operand_or, parts_of, place_in, value_text, with_text_if}
+use Rattle.cg_script.specs.Parts.{Known, numbered, operand_or, parts_of, defined_number, value_text, with_text_if}
 use Rattle.cg_script.specs.Commands.{count_or, said}
 use Rattle.cg_script.specs.Reading.{good, known_after, lines_from, spoilt}
 use Rattle.cg_script.specs.Texts.{operand_names}
@@ -37,18 +37,18 @@ use Rattle.cg_weakcoll.proofs.ReadLines.{does_all}
 use Rattle.cg_weakcoll.proofs.LookLines.{IsName, Line, added, all_begin, name_stands, one_line, same_text, stands_for}
 
 -- a text that is there has its place in all texts
-place_first : (xs more : List (List ℕ)) (text : List ℕ) → has_text xs text ≡ true → place_of (xs ++ more) text ≡ place_of xs text
+place_first : (xs more : List (List ℕ)) (text : List ℕ) → has_text xs text ≡ true → text_number (xs ++ more) text ≡ text_number xs text
 place_first [] more text e = absurd (let no : false ≡ true = e in cc)
 place_first (x ∷ xs) more text e = go (bytes_eq text x) e (place_first xs more text)
   where
-    go : (b : Bool) → (b || has_text xs text) ≡ true → (has_text xs text ≡ true → place_of (xs ++ more) text ≡ place_of xs text) → cond (not b) (1 + place_of (xs ++ more) text) 0 ≡ cond (not b) (1 + place_of xs text) 0
+    go : (b : Bool) → (b || has_text xs text) ≡ true → (has_text xs text ≡ true → text_number (xs ++ more) text ≡ text_number xs text) → cond (not b) (1 + text_number (xs ++ more) text) 0 ≡ cond (not b) (1 + text_number xs text) 0
     go true k ih = refl
     go false k ih = ap (λ n. 1 + n) (ih k)
 
-pub placed : (all texts : List (List ℕ)) (text : List ℕ) → Begins (with_text texts text) all → place_of texts text ≡ place_of all text
+pub placed : (all texts : List (List ℕ)) (text : List ℕ) → Begins (with_text texts text) all → text_number texts text ≡ text_number all text
 placed all texts text begins =
     let at = added texts text in
-    sym (ap (λ l. place_of l text) begins.is ∙ place_first (with_text texts text) begins.more text at.there ∙ at.place)
+    sym (ap (λ l. text_number l text) begins.is ∙ place_first (with_text texts text) begins.more text at.there ∙ at.place)
 
 -- a procedure that is new goes last
 last_place : (xs : List (List ℕ)) (text : List ℕ) → has_text xs text ≡ false → position_or_len (bytes_eq text) (xs ++ text ∷ []) ≡ length xs
@@ -59,9 +59,9 @@ last_place (x ∷ xs) text e = go (bytes_eq text x) e (last_place xs text)
     go true k ih = absurd (cc)
     go false k ih = let n = ih k in omega (arith, n)
 
-new_proc : (xs : List (List ℕ)) (text : List ℕ) → has_text xs text ≡ false → count_or (Some (numbered (place_in (with_text xs text) text))) ≡ length xs
+new_proc : (xs : List (List ℕ)) (text : List ℕ) → has_text xs text ≡ false → count_or (Some (numbered (defined_number (with_text xs text) text))) ≡ length xs
 new_proc xs text e =
-    ap (λ b. count_or (Some (numbered (place_in (cond b xs (xs ++ text ∷ [])) text)))) e
+    ap (λ b. count_or (Some (numbered (defined_number (cond b xs (xs ++ text ∷ [])) text)))) e
     ∙ ap (λ n. count_or (Some (numbered (cond (nat_lt n (length (xs ++ text ∷ []))) (Some n) None)))) (last_place xs text e)
     ∙ ap (λ b. count_or (Some (numbered (cond b (Some (length xs)) None)))) below
   where
@@ -80,7 +80,7 @@ its_text : (c l : ℕ) → value_text (named atoms (named_by c l)) (named_by c l
 unfolding atoms
 its_text c l = refl
 
-stands : (all texts : List (List ℕ)) (c l : ℕ) → Begins (with_text_if texts (value_text (named atoms (named_by c l)) (named_by c l))) all → operand_or (named atoms (named_by c l)) texts (named_by c l) ≡ operands.Name (place_of all (named_by c l))
+stands : (all texts : List (List ℕ)) (c l : ℕ) → Begins (with_text_if texts (value_text (named atoms (named_by c l)) (named_by c l))) all → operand_or (named atoms (named_by c l)) texts (named_by c l) ≡ operands.Name (text_number all (named_by c l))
 stands all texts c l begins =
     name_stands texts (named_by c l) (is_name c l)
     ∙ ap operands.Name (placed all texts (named_by c l) (subst (λ (t : Option (List ℕ)). Begins (with_text_if texts t) all) (its_text c l) begins))
@@ -154,11 +154,11 @@ is_false false e = refl
 
 -- its exit finalizer
 abbrev pub exit_of : List (List ℕ) → ℕ → ℕ → Operand → Operand → Exit
-exit_of all proc l source target = record { proc = proc; object = place_of all (object_name l); exit = place_of all (exit_name l); function = place_of all (function_name l); watch = place_of all (watch_name l); source = source; target = target }
+exit_of all proc l source target = record { proc = proc; object = text_number all (object_name l); exit = text_number all (exit_name l); function = text_number all (function_name l); watch = text_number all (watch_name l); source = source; target = target }
 
 -- what is said in its procedure and behind it
 abbrev pub finalizer_says : List (List ℕ) → ℕ → Exit → List Said → List Said
-finalizer_says all l e later = BeginsProc (place_of all (proc_name l)) ∷ (does_all (exit_body e) ++ Ends ∷ (does_all (exit_commands e) ++ later))
+finalizer_says all l e later = BeginsProc (text_number all (proc_name l)) ∷ (does_all (exit_body e) ++ Ends ∷ (does_all (exit_commands e) ++ later))
 
 -- what the lines of a `finalize` line say, and from where the others go on
 pub record Finalizer (all : List (List ℕ)) (Free : List ℕ → Type 0) (known0 : Known) (rest : List (List ℕ)) (saids : List Said) (l : ℕ) (y f : List ℕ) : Type 0 where
@@ -175,11 +175,11 @@ pub record Finalizer (all : List (List ℕ)) (Free : List ℕ → Type 0) (known
   pub outside : known0.inside ≡ false
   pub outside_again : known.inside ≡ false
   pub procs : known.procs ≡ known0.procs ++ proc_name l ∷ []
-  pub object_is : text_of all (place_of all (object_name l)) ≡ object_name l
-  pub exit_is : text_of all (place_of all (exit_name l)) ≡ exit_name l
-  pub function_is : text_of all (place_of all (function_name l)) ≡ function_name l
-  pub watch_is : text_of all (place_of all (watch_name l)) ≡ watch_name l
-  pub proc_is : text_of all (place_of all (proc_name l)) ≡ proc_name l
+  pub object_is : text_of all (text_number all (object_name l)) ≡ object_name l
+  pub exit_is : text_of all (text_number all (exit_name l)) ≡ exit_name l
+  pub function_is : text_of all (text_number all (function_name l)) ≡ function_name l
+  pub watch_is : text_of all (text_number all (watch_name l)) ≡ watch_name l
+  pub proc_is : text_of all (text_number all (proc_name l)) ≡ proc_name l
   pub is : finalizer_says all l (exit_of all (length known0.procs) l source target) later ≡ saids
 
 module _ (all : List (List ℕ)) (Free : List ℕ → Type 0) (known0 : Known) (number : ℕ) (rest : List (List ℕ)) (saids : List Said) (l : ℕ) (y f : List ℕ) (value : is_value f ≡ true) (clear_y : IsClear Free y) (clear_f : IsClear Free f) (sound : EachLine IsSound (finalize_lines l y f))
@@ -375,38 +375,38 @@ module _ (all : List (List ℕ)) (Free : List ℕ → Type 0) (known0 : Known) (
   abbrev e : Exit
   e = exit_of all (length known0.procs) l source target
 
-  said1 : said forms.Def (parts_of known0 forms.Def words1) ≡ BeginsProc (place_of all p)
+  said1 : said forms.Def (parts_of known0 forms.Def words1) ≡ BeginsProc (text_number all p)
   said1 = ap BeginsProc (placed all known0.texts p begins1)
 
-  said2 : said forms.Deref (parts_of known1 forms.Deref words2) ≡ Does (commands.Deref (place_of all o) (operands.Name (place_of all w)))
+  said2 : said forms.Deref (parts_of known1 forms.Deref words2) ≡ Does (commands.Deref (text_number all o) (operands.Name (text_number all w)))
   said2 =
       ap (λ n. Does (commands.Deref n (operand_or (named atoms w) (with_text known1.texts o) w))) (placed all known1.texts o first_begins2)
-      ∙ ap (λ v. Does (commands.Deref (place_of all o) v)) (stands all (with_text known1.texts o) 119 l begins2)
+      ∙ ap (λ v. Does (commands.Deref (text_number all o) v)) (stands all (with_text known1.texts o) 119 l begins2)
 
-  said3 : said forms.Quit (parts_of known2 forms.Quit words3) ≡ Does (commands.Quit (operands.Name (place_of all o)))
+  said3 : said forms.Quit (parts_of known2 forms.Quit words3) ≡ Does (commands.Quit (operands.Name (text_number all o)))
   said3 = ap (λ v. Does (commands.Quit v)) (stands all known2.texts 111 l begins3)
 
-  said4 : said forms.Del (parts_of known3 forms.Del words4) ≡ Does (commands.Del (place_of all w))
+  said4 : said forms.Del (parts_of known3 forms.Del words4) ≡ Does (commands.Del (text_number all w))
   said4 = ap (λ n. Does (commands.Del n)) (placed all known3.texts w begins4)
 
-  said5 : said forms.Del (parts_of known4 forms.Del words5) ≡ Does (commands.Del (place_of all o))
+  said5 : said forms.Del (parts_of known4 forms.Del words5) ≡ Does (commands.Del (text_number all o))
   said5 = ap (λ n. Does (commands.Del n)) (placed all known4.texts o begins5)
 
-  said6 : said forms.Call (parts_of known5 forms.Call words6) ≡ Does (commands.Call (operands.Name (place_of all fn)))
+  said6 : said forms.Call (parts_of known5 forms.Call words6) ≡ Does (commands.Call (operands.Name (text_number all fn)))
   said6 = ap (λ v. Does (commands.Call v)) (stands all known5.texts 102 l begins6)
 
-  said8 : said forms.MakeFunc (parts_of known7 forms.MakeFunc words8) ≡ Does (commands.MakeFunc (place_of all g) (length known0.procs) [])
+  said8 : said forms.MakeFunc (parts_of known7 forms.MakeFunc words8) ≡ Does (commands.MakeFunc (text_number all g) (length known0.procs) [])
   said8 =
-      ap (λ n. Does (commands.MakeFunc n (count_or (Some (numbered (place_in known7.procs p)))) [])) (placed all known7.texts g first_begins8)
-      ∙ ap (λ n. Does (commands.MakeFunc (place_of all g) n [])) (new_proc known0.procs p clean)
+      ap (λ n. Does (commands.MakeFunc n (count_or (Some (numbered (defined_number known7.procs p)))) [])) (placed all known7.texts g first_begins8)
+      ∙ ap (λ n. Does (commands.MakeFunc (text_number all g) n [])) (new_proc known0.procs p clean)
 
-  said9 : said forms.Bind (parts_of known8 forms.Bind words9) ≡ Does (commands.Bind (place_of all fn) source)
+  said9 : said forms.Bind (parts_of known8 forms.Bind words9) ≡ Does (commands.Bind (text_number all fn) source)
   said9 = ap (λ n. Does (commands.Bind n source)) (placed all known8.texts fn first_begins9)
 
-  said10 : said forms.MakeRef (parts_of known9 forms.MakeRef words10) ≡ Does (commands.MakeRef (place_of all w) target (operands.Name (place_of all fn)))
+  said10 : said forms.MakeRef (parts_of known9 forms.MakeRef words10) ≡ Does (commands.MakeRef (text_number all w) target (operands.Name (text_number all fn)))
   said10 =
       ap (λ n. Does (commands.MakeRef n target (operand_or (named atoms fn) texts10 fn))) (placed all known9.texts w first_begins10)
-      ∙ ap (λ v. Does (commands.MakeRef (place_of all w) target v)) (stands all texts10 102 l begins10)
+      ∙ ap (λ v. Does (commands.MakeRef (text_number all w) target v)) (stands all texts10 102 l begins10)
 
   one : (s t : Said) (xs ys zs : List Said) → s ≡ t → s ∷ xs ≡ zs → ys ≡ xs → t ∷ ys ≡ zs
   one s t xs ys zs is whole more = ap (λ l. t ∷ l) more ∙ ap (λ (u : Said). u ∷ xs) (sym is) ∙ whole
@@ -452,12 +452,12 @@ module _ (all : List (List ℕ)) (Free : List ℕ → Type 0) (known0 : Known) (
 
 -- the calls at the end
 abbrev pub calls_of : List (List ℕ) → List ℕ → List Command
-calls_of all numbers = map (λ l. commands.Call (operands.Name (place_of all (exit_name l)))) numbers
+calls_of all numbers = map (λ l. commands.Call (operands.Name (text_number all (exit_name l)))) numbers
 
 pub record Calls (all : List (List ℕ)) (known : Known) (saids : List Said) (numbers : List ℕ) : Type 0 where
   pub is : saids ≡ does_all (calls_of all numbers)
   pub outside : known.inside ≡ false
-  pub texts : (l : ℕ) → Includes numbers l → text_of all (place_of all (exit_name l)) ≡ exit_name l
+  pub texts : (l : ℕ) → Includes numbers l → text_of all (text_number all (exit_name l)) ≡ exit_name l
 
 pub calls : (all : List (List ℕ)) (known : Known) (number : ℕ) (saids : List Said) (numbers : List ℕ) → ((l : ℕ) → Includes numbers l → EachWord IsSound (call_line l)) → lines_from known number (map (λ l. joined (call_line l)) numbers) ≡ good all saids → Calls all known saids numbers
 calls all known number saids [] sound e = go known.inside refl e
@@ -471,11 +471,11 @@ calls all known number saids (l ∷ numbers) sound e =
     let known1 = known_after known forms.Call (call_line l) in
     let more = calls all known1 (number + 1) line.later numbers (λ k m. sound k (inr m)) line.goes in
     let begins = all_begin rest known1 (number + 1) all line.later line.goes in
-    let said_is : said forms.Call (parts_of known forms.Call (call_line l)) ≡ Does (commands.Call (operands.Name (place_of all (exit_name l)))) = ap (λ v. Does (commands.Call v)) (stands all known.texts 103 l begins) in
+    let said_is : said forms.Call (parts_of known forms.Call (call_line l)) ≡ Does (commands.Call (operands.Name (text_number all (exit_name l)))) = ap (λ v. Does (commands.Call v)) (stands all known.texts 103 l begins) in
     let there : Begins (with_text known.texts (exit_name l)) all = subst (λ (t : Option (List ℕ)). Begins (with_text_if known.texts t) all) (its_text 103 l) begins in
-    let here : text_of all (place_of all (exit_name l)) ≡ exit_name l = ap (text_of all) (sym (placed all known.texts (exit_name l) there)) ∙ text_found all known.texts (exit_name l) there in
+    let here : text_of all (text_number all (exit_name l)) ≡ exit_name l = ap (text_of all) (sym (placed all known.texts (exit_name l) there)) ∙ text_found all known.texts (exit_name l) there in
     record {
-      is = sym line.is ∙ ap (λ (s : Said). s ∷ line.later) said_is ∙ ap (λ (ss : List Said). Does (commands.Call (operands.Name (place_of all (exit_name l)))) ∷ ss) more.is;
+      is = sym line.is ∙ ap (λ (s : Said). s ∷ line.later) said_is ∙ ap (λ (ss : List Said). Does (commands.Call (operands.Name (text_number all (exit_name l)))) ∷ ss) more.is;
       outside = more.outside;
-      texts = λ k m. either m (λ same. subst (λ i. text_of all (place_of all (exit_name i)) ≡ exit_name i) same here) (more.texts k);
+      texts = λ k m. either m (λ same. subst (λ i. text_of all (text_number all (exit_name i)) ≡ exit_name i) same here) (more.texts k);
     }

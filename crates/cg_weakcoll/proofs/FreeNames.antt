@@ -2,7 +2,7 @@
 use Rattle.std.proofs.Common.{◌≡◌, ℕ, zero, suc, ◌+◌, ◌<◌, ◌≤◌, List, [], ◌∷◌, ◌++◌, length, map, drop, Bool, true, false, cond, Option, None, Some, refl, sym, ap, subst, ◌∙◌, arith, codes}
 use Rattle.std.specs.Prelude.{flat_map, slice_index}
 use Rattle.std.specs.Str.{bytes_eq}
-use Rattle.cg_value.specs.Texts.{place_of}
+use Rattle.cg_value.specs.Texts.{text_number}
 use Rattle.cg_graph.specs.Member.{Includes}
 use Rattle.cg_graph.proofs.Members.{either, Includes-append_cases}
 use Rattle.cg_script.specs.declared.command.Operand.{Operand}
@@ -19,7 +19,7 @@ use Rattle.cg_script.specs.Texts.{command_names, operand_names}
 use Rattle.cg_script.specs.Tables.{named}
 use Rattle.cg_script.specs.Words.{begins_name, is_quoted, string_text, number_of, after_prefix, atoms}
 use Rattle.cg_script.specs.Forms.{row, sort_at}
-use Rattle.cg_script.specs.Parts.{with_text_if, text_in, value_text, operand_or, numbered, place_in, finalizer, legacy, legacy_of, finalizer_of, part_of, parts_from, texts_from}
+use Rattle.cg_script.specs.Parts.{with_text_if, text_in, value_text, operand_or, numbered, defined_number, finalizer, legacy, legacy_of, finalizer_of, part_of, parts_from, texts_from}
 use Rattle.cg_script.specs.Commands.{text_or, value_or, text_at, value_at, values_from, said}
 use Rattle.cg_script.specs.Canonical.{text_of}
 use Rattle.cg_script.proofs.Known.{is_text}
@@ -86,7 +86,7 @@ module _ (all : List (List ℕ)) (Free : List ℕ → Type 0) where
   EachPart [] = Unit {0}
   EachPart (p ∷ ps) = PartFree p × EachPart ps
 
-  placed_free : (texts : List (List ℕ)) (text : List ℕ) → Free text → Begins (with_text_if texts (Some text)) all → Free (text_of all (place_of texts text))
+  placed_free : (texts : List (List ℕ)) (text : List ℕ) → Free text → Begins (with_text_if texts (Some text)) all → Free (text_of all (text_number texts text))
   placed_free texts text free begins = subst Free (sym (text_found all texts text begins)) free
 
   pub value_free : (texts : List (List ℕ)) (word : List ℕ) (found : Option Operand) → named atoms word ≡ found → IsClear Free word → Begins (with_text_if texts (value_text found word)) all → AreFree (operand_names (operand_or found texts word))
@@ -94,9 +94,9 @@ module _ (all : List (List ℕ)) (Free : List ℕ → Type 0) where
   value_free texts word None e clear begins = by (is_quoted word) (begins_name (slice_index word 0)) begins
     where
       by : (q b : Bool) → Begins (with_text_if texts (cond q (Some (string_text word)) (cond b (Some word) None))) all
-          → AreFree (operand_names (cond q (operands.Str (place_of texts (string_text word))) (cond b (operands.Name (place_of texts word)) (operands.Int (number_of word)))))
+          → AreFree (operand_names (cond q (operands.Str (text_number texts (string_text word))) (cond b (operands.Name (text_number texts word)) (operands.Int (number_of word)))))
       by true b h = none_free
-      by false true h = free_more (place_of texts word) [] (placed_free texts word clear.itself h) none_free
+      by false true h = free_more (text_number texts word) [] (placed_free texts word clear.itself h) none_free
       by false false h = none_free
 
   numbered_free : (found : Option ℕ) → PartFree (numbered found)
@@ -109,7 +109,7 @@ module _ (all : List (List ℕ)) (Free : List ℕ → Type 0) where
 
   legacy_of_free : (procs : List (List ℕ)) (name : Option (List ℕ)) → PartFree (legacy_of procs name)
   legacy_of_free procs None = tt
-  legacy_of_free procs (Some name) = legacy_free (place_in procs name)
+  legacy_of_free procs (Some name) = legacy_free (defined_number procs name)
 
   finalizer_free : (found : Option ℕ) → PartFree (finalizer found)
   finalizer_free None = tt
@@ -117,14 +117,14 @@ module _ (all : List (List ℕ)) (Free : List ℕ → Type 0) where
 
   finalizer_of_free : (procs : List (List ℕ)) (name : Option (List ℕ)) (word : List ℕ) → PartFree (finalizer_of procs name word)
   finalizer_of_free procs None word = legacy_of_free procs (after_prefix (codes "legacy=") word)
-  finalizer_of_free procs (Some name) word = finalizer_free (place_in procs name)
+  finalizer_of_free procs (Some name) word = finalizer_free (defined_number procs name)
 
   part_free : (procs classes texts : List (List ℕ)) (sort : Sort) (word : List ℕ) → IsClear Free word → Begins (with_text_if texts (text_in sort word)) all → PartFree (part_of procs classes texts sort word)
   part_free procs classes texts Key word clear begins = tt
   part_free procs classes texts Variable word clear begins = placed_free texts word clear.itself begins
   part_free procs classes texts Name word clear begins = placed_free texts word clear.itself begins
-  part_free procs classes texts Class word clear begins = numbered_free (place_in classes word)
-  part_free procs classes texts Proc word clear begins = numbered_free (place_in procs word)
+  part_free procs classes texts Class word clear begins = numbered_free (defined_number classes word)
+  part_free procs classes texts Proc word clear begins = numbered_free (defined_number procs word)
   part_free procs classes texts Finalizer word clear begins = finalizer_of_free procs (after_prefix (codes "del=") word) word
   part_free procs classes texts Value word clear begins = value_free texts word (named atoms word) refl clear begins
   part_free procs classes texts Number word clear begins = tt

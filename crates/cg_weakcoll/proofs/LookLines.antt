@@ -6,7 +6,7 @@ use Rattle.std.specs.Str.{bytes_eq}
 use Rattle.std.proofs.lemmas.Bool.Decides.{nat_tests}
 use Rattle.std.proofs.lemmas.List.Folds.{list_any-append}
 use Rattle.std.proofs.lemmas.Slice.Eq.{bytes_eq-Decides}
-use Rattle.cg_value.specs.Texts.{has_text, place_of, with_text}
+use Rattle.cg_value.specs.Texts.{has_text, text_number, with_text}
 use Rattle.cg_script.specs.declared.item.Item.{Item}
 use Rattle.cg_script.specs.declared.command.Operand.{Operand}
 use Rattle.cg_script.specs.declared.command.Operand.TheVariants as operands
@@ -53,7 +53,7 @@ new_push {X} p (x ∷ xs) y none here = go (p x) none (λ k. new_push p xs y k h
 -- a text is there at a place
 pub record IsAt (texts : List (List ℕ)) (text : List ℕ) (n : ℕ) : Type 0 where
   pub there : has_text texts text ≡ true
-  pub place : place_of texts text ≡ n
+  pub place : text_number texts text ≡ n
 
 pub same_text : (text : List ℕ) → bytes_eq text text ≡ true
 same_text text = (bytes_eq-Decides text text).1 refl
@@ -62,10 +62,10 @@ or_true : (b : Bool) → (b || true) ≡ true
 or_true true = refl
 or_true false = refl
 
-pub added : (texts : List (List ℕ)) (text : List ℕ) → IsAt (with_text texts text) text (place_of texts text)
+pub added : (texts : List (List ℕ)) (text : List ℕ) → IsAt (with_text texts text) text (text_number texts text)
 added texts text = by (has_text texts text) refl
   where
-    by : (b : Bool) → has_text texts text ≡ b → IsAt (cond b texts (texts ++ text ∷ [])) text (place_of texts text)
+    by : (b : Bool) → has_text texts text ≡ b → IsAt (cond b texts (texts ++ text ∷ [])) text (text_number texts text)
     by true e = record { there = e; place = refl }
     by false e = record {
       there = list_any-append (bytes_eq text) texts (text ∷ []) ∙ ap (λ b. list_any (bytes_eq text) texts || (b || false)) (same_text text) ∙ or_true (list_any (bytes_eq text) texts);
@@ -129,20 +129,20 @@ no_quote : (b : ℕ) → begins_name b ≡ true → (b == 39) ≡ false
 no_quote b e = grind (arith, nat_tests)
 
 -- it stands for itself
-pub name_stands : (texts : List (List ℕ)) (x : List ℕ) → IsName x → operand_or (named atoms x) texts x ≡ operands.Name (place_of texts x)
+pub name_stands : (texts : List (List ℕ)) (x : List ℕ) → IsName x → operand_or (named atoms x) texts x ≡ operands.Name (text_number texts x)
 name_stands texts x h =
     ap (λ (f : Option Operand). operand_or f texts x) h.no_atom
-    ∙ ap (λ b. cond b (operands.Str (place_of texts (string_text x))) (cond (begins_name (slice_index x 0)) (operands.Name (place_of texts x)) (operands.Int (number_of x)))) (no_quote (slice_index x 0) h.letter)
-    ∙ ap (λ b. cond b (operands.Name (place_of texts x)) (operands.Int (number_of x))) h.letter
+    ∙ ap (λ b. cond b (operands.Str (text_number texts (string_text x))) (cond (begins_name (slice_index x 0)) (operands.Name (text_number texts x)) (operands.Int (number_of x)))) (no_quote (slice_index x 0) h.letter)
+    ∙ ap (λ b. cond b (operands.Name (text_number texts x)) (operands.Int (number_of x))) h.letter
 
 -- the word of a value stands for what is read
 pub stands_for : (all texts : List (List ℕ)) (word : List ℕ) (found : Option Operand) → named atoms word ≡ found → Begins (with_text_if texts (value_text found word)) all → WordStandsFor all word (operand_or found texts word)
 stands_for all texts word (Some operand) e begins = Atom operand e
 stands_for all texts word None e begins = by (is_quoted word) (begins_name (slice_index word 0)) begins
   where
-    by : (q b : Bool) → Begins (with_text_if texts (cond q (Some (string_text word)) (cond b (Some word) None))) all → WordStandsFor all word (cond q (operands.Str (place_of texts (string_text word))) (cond b (operands.Name (place_of texts word)) (operands.Int (number_of word))))
-    by true b h = Quoted (place_of texts (string_text word)) (text_found all texts (string_text word) h)
-    by false true h = Named (place_of texts word) (text_found all texts word h)
+    by : (q b : Bool) → Begins (with_text_if texts (cond q (Some (string_text word)) (cond b (Some word) None))) all → WordStandsFor all word (cond q (operands.Str (text_number texts (string_text word))) (cond b (operands.Name (text_number texts word)) (operands.Int (number_of word))))
+    by true b h = Quoted (text_number texts (string_text word)) (text_found all texts (string_text word) h)
+    by false true h = Named (text_number texts word) (text_found all texts word h)
     by false false h = Counted
 
 -- a good line of a form
@@ -216,7 +216,7 @@ deref_worded : (x : List ℕ) → worded (x ∷ codes "=" ∷ codes "deref" ∷ 
 unfolding bindings
 deref_worded x = refl
 
-none_said : (known : Known) (x : List ℕ) → said forms.Bind (parts_of known forms.Bind (x ∷ codes "=" ∷ codes "none" ∷ [])) ≡ Does (commands.Bind (place_of known.texts x) operands.None)
+none_said : (known : Known) (x : List ℕ) → said forms.Bind (parts_of known forms.Bind (x ∷ codes "=" ∷ codes "none" ∷ [])) ≡ Does (commands.Bind (text_number known.texts x) operands.None)
 unfolding atoms
 none_said known x = refl
 
@@ -259,7 +259,7 @@ module _ (bytes : List ℕ) (texts : List (List ℕ)) (items : List Item) (r : R
   third = one_line forms.Deref words3 known3 (on.number + 1 + 1) h.three h.back texts second.later second.goes h.third_is no_comment_here (deref_worded x)
 
   abbrev number : ℕ
-  number = place_of known1.texts x
+  number = text_number known1.texts x
 
   at2 : IsAt known2.texts x number
   at2 = kept_from forms.Bind (codes "=" ∷ codes "none" ∷ []) (with_text known1.texts x) 1 x number (added known1.texts x)

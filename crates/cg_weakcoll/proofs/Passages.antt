@@ -18,7 +18,7 @@ use Rattle.cg_script.specs.Pieces.{words_of}
 use Rattle.cg_script.specs.Words.{after_prefix}
 use Rattle.cg_script.specs.Forms.{row}
 use Rattle.cg_script.specs.Meanings.{is_passed}
-use Rattle.cg_script.specs.Parts.{Known, parts_of, parts_from, texts_from, numbered, place_in, finalizer, legacy, legacy_of, finalizer_of, is_unknown, has_unknown}
+use Rattle.cg_script.specs.Parts.{Known, parts_of, parts_from, texts_from, numbered, defined_number, finalizer, legacy, legacy_of, finalizer_of, is_unknown, has_unknown}
 use Rattle.cg_script.specs.Commands.{count_or, del_if, legacy_if, first_some, said}
 use Rattle.cg_script.specs.Reading.{is_repeated, procs_after, known_after, good, lines_from}
 use Rattle.cg_script.specs.Canonical.{text_of}
@@ -70,13 +70,13 @@ module _ (all names : List (List ℕ)) (Free : List ℕ → Type 0) where
     pub finalizer : (c : ClassDef) (k : ℕ) → s ≡ Declares (items.Class c) → c.del ≡ Some k → NameFree k
     pub legacy : (c : ClassDef) (k : ℕ) → s ≡ Declares (items.Class c) → c.legacy ≡ Some k → NameFree k
 
-  found_free : (procs : List (List ℕ)) (word : List ℕ) (k : ℕ) → Begins procs names → Free word → place_in procs word ≡ Some k → NameFree k
+  found_free : (procs : List (List ℕ)) (word : List ℕ) (k : ℕ) → Begins procs names → Free word → defined_number procs word ≡ Some k → NameFree k
   found_free procs word k begins free e = subst Free (sym (name_found names procs word k begins e)) free
 
-  counted_free : (procs : List (List ℕ)) (word : List ℕ) (k : ℕ) → Begins procs names → Free word → is_unknown (numbered (place_in procs word)) ≡ false → count_or (Some (numbered (place_in procs word))) ≡ k → NameFree k
-  counted_free procs word k begins free there e = go (place_in procs word) refl there e
+  counted_free : (procs : List (List ℕ)) (word : List ℕ) (k : ℕ) → Begins procs names → Free word → is_unknown (numbered (defined_number procs word)) ≡ false → count_or (Some (numbered (defined_number procs word))) ≡ k → NameFree k
+  counted_free procs word k begins free there e = go (defined_number procs word) refl there e
     where
-      go : (m : Option ℕ) → place_in procs word ≡ m → is_unknown (numbered m) ≡ false → count_or (Some (numbered m)) ≡ k → NameFree k
+      go : (m : Option ℕ) → defined_number procs word ≡ m → is_unknown (numbered m) ≡ false → count_or (Some (numbered m)) ≡ k → NameFree k
       go None is u h = absurd (cc)
       go (Some j) is u h = found_free procs word k begins free (is ∙ ap Some h)
 
@@ -87,13 +87,13 @@ module _ (all names : List (List ℕ)) (Free : List ℕ → Type 0) where
   makes_free procs classes forms.MakeFunc (a ∷ b ∷ []) texts begins clear enough there name k cells e = absurd (omega arith)
   makes_free procs classes forms.MakeFunc (a ∷ b ∷ c ∷ []) texts begins clear enough there name k cells e = absurd (omega arith)
   makes_free procs classes forms.MakeFunc (a ∷ b ∷ c ∷ d ∷ rest) texts begins clear enough there name k cells e =
-      let same : count_or (Some (numbered (place_in procs d))) ≡ k = cc in
-      counted_free procs d k begins clear.1.1.1.0.itself (neither (is_unknown (numbered (place_in procs d))) _ there).0 same
+      let same : count_or (Some (numbered (defined_number procs d))) ≡ k = cc in
+      counted_free procs d k begins clear.1.1.1.0.itself (neither (is_unknown (numbered (defined_number procs d))) _ there).0 same
   makes_free procs classes form words texts begins clear enough there name k cells e = absurd (cc)
 
   legacy_of_none : (procs : List (List ℕ)) (m : Option (List ℕ)) (k : ℕ) → del_if (Some (legacy_of procs m)) ≡ Some k → ⊥
   legacy_of_none procs None k e = cc
-  legacy_of_none procs (Some name) k e = go (place_in procs name) e
+  legacy_of_none procs (Some name) k e = go (defined_number procs name) e
     where
       go : (f : Option ℕ) → del_if (Some (legacy f)) ≡ Some k → ⊥
       go None h = cc
@@ -102,18 +102,18 @@ module _ (all names : List (List ℕ)) (Free : List ℕ → Type 0) where
   del_free : (procs : List (List ℕ)) (word : List ℕ) (k : ℕ) → Begins procs names → IsClear Free word → del_if (Some (finalizer_of procs (after_prefix (codes "del=") word) word)) ≡ Some k → NameFree k
   del_free procs word k begins clear e = go (after_prefix (codes "del=") word) refl e
     where
-      found : (name : List ℕ) → Free name → (f : Option ℕ) → place_in procs name ≡ f → del_if (Some (finalizer f)) ≡ Some k → NameFree k
+      found : (name : List ℕ) → Free name → (f : Option ℕ) → defined_number procs name ≡ f → del_if (Some (finalizer f)) ≡ Some k → NameFree k
       found name free None is h = absurd (cc)
       found name free (Some j) is h = found_free procs name k begins free (is ∙ h)
 
       go : (m : Option (List ℕ)) → after_prefix (codes "del=") word ≡ m → del_if (Some (finalizer_of procs m word)) ≡ Some k → NameFree k
       go None is h = absurd (legacy_of_none procs (after_prefix (codes "legacy=") word) k h)
-      go (Some name) is h = found name (clear.finalizer name is) (place_in procs name) refl h
+      go (Some name) is h = found name (clear.finalizer name is) (defined_number procs name) refl h
 
   legacy_free : (procs : List (List ℕ)) (word : List ℕ) (k : ℕ) → Begins procs names → IsClear Free word → legacy_if (Some (finalizer_of procs (after_prefix (codes "del=") word) word)) ≡ Some k → NameFree k
   legacy_free procs word k begins clear e = go (after_prefix (codes "del=") word) e
     where
-      found : (name : List ℕ) → Free name → (f : Option ℕ) → place_in procs name ≡ f → legacy_if (Some (legacy f)) ≡ Some k → NameFree k
+      found : (name : List ℕ) → Free name → (f : Option ℕ) → defined_number procs name ≡ f → legacy_if (Some (legacy f)) ≡ Some k → NameFree k
       found name free None is h = absurd (cc)
       found name free (Some j) is h = found_free procs name k begins free (is ∙ h)
 
@@ -123,11 +123,11 @@ module _ (all names : List (List ℕ)) (Free : List ℕ → Type 0) where
 
       behind : (m : Option (List ℕ)) → after_prefix (codes "legacy=") word ≡ m → legacy_if (Some (legacy_of procs m)) ≡ Some k → NameFree k
       behind None is h = absurd (cc)
-      behind (Some name) is h = found name (clear.legacy name is) (place_in procs name) refl h
+      behind (Some name) is h = found name (clear.legacy name is) (defined_number procs name) refl h
 
       go : (m : Option (List ℕ)) → legacy_if (Some (finalizer_of procs m word)) ≡ Some k → NameFree k
       go None h = behind (after_prefix (codes "legacy=") word) refl h
-      go (Some name) h = none_found (place_in procs name) h
+      go (Some name) h = none_found (defined_number procs name) h
 
   one_some : (a b : Option ℕ) (k : ℕ) → first_some a b ≡ Some k → (a ≡ Some k) ⊎ (b ≡ Some k)
   one_some None b k e = inr e

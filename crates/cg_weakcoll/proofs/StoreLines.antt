@@ -2,7 +2,7 @@
 use Rattle.std.proofs.Common.{◌≡◌, ℕ, ◌+◌, List, [], ◌∷◌, ◌++◌, Bool, false, refl, sym, ap, subst, ◌∙◌, cond, not, length, ◌==◌, codes}
 use Rattle.std.specs.Prelude.{slice_index, Option}
 use Rattle.std.specs.Str.{bytes_eq}
-use Rattle.cg_value.specs.Texts.{place_of, with_text}
+use Rattle.cg_value.specs.Texts.{text_number, with_text}
 use Rattle.cg_script.specs.declared.item.Item.{Item}
 use Rattle.cg_script.specs.declared.command.Operand.{Operand}
 use Rattle.cg_script.specs.declared.command.Operand.TheVariants as operands
@@ -86,7 +86,7 @@ module _ (bytes : List ℕ) (texts : List (List ℕ)) (items : List Item) (r : R
   third = one_line forms.Del words3 known3 (on.number + 1 + 1) h.three h.back texts second.later second.goes h.third_is refl (del_worded t name_sign)
 
   abbrev number : ℕ
-  number = place_of known1.texts t
+  number = text_number known1.texts t
 
   abbrev texts1 : List (List ℕ)
   texts1 = with_text known1.texts t

@@ -6,7 +6,7 @@ use Rattle.std.specs.Prelude.{slice_get, ok_or}
 use Rattle.std.proofs.lemmas.Result.{err_from_is_err_and}
 use Rattle.cg_graph.specs.Store.{object_from, entries_of}
 use Rattle.cg_machine.specs.Operands.{value, object}
-use Rattle.cg_machine.specs.Effects.{place_of_index}
+use Rattle.cg_machine.specs.Effects.{valid_index}
 use Rattle.cg_machine.specs.Refusals.{no_index}
 use Rattle.cg_graph.specs.Value.{item}
 use Rattle.cg_commands.specs.declared.operands.Wanted.TheVariants as wanted
@@ -46,7 +46,7 @@ returns-in_err-_i g c =
     (goes_on c.args.heap.now c.args.heap.now c.args.locals (λ w. value w c.args.list) c.in_ok-list.list _ (Err c.in_err-_i.field-0.0) c.in_ok-list.ensures.ok
     (goes_on c.args.heap.now c.args.heap.now c.args.locals (λ w. value w c.args.operand) c.in_ok-val.val _ (Err c.in_err-_i.field-0.0) c.in_ok-val.ensures.ok
     (goes_on c.args.heap.now c.args.heap.now c.args.locals (λ w. object w (test_of wanted.ScriptList) (number_of (refusal_of wanted.ScriptList)) c.in_ok-list.list) (object_from c.args.heap.now.rows c.in_ok-target.target c.in_ok-target.ensures.ok.node) _ (Err c.in_err-_i.field-0.0) (reads-object c.args.heap.now c.args.locals (test_of wanted.ScriptList) c.in_ok-list.list c.in_ok-target.target c.in_ok-target.ensures.ok (number_of (refusal_of wanted.ScriptList)))
-    (stops c.args.heap.now c.args.locals (λ w. ok_or (place_of_index c.args.index (length c.in_ok-target.ensures.ok.node.entries)) no_index) _ c.in_err-_i.field-0.0 (no-index c.args.heap.now c.args.locals (test_of wanted.ScriptList) c.in_ok-list.list c.in_ok-target.target c.in_ok-target.ensures.ok c.args.index (to_z w64 (of_z w64 c.args.index)) (to_z-of_z c.ranges.index) c.in_err-_i.field-0.0 c.in_err-_i.ensures.err c.in_err-_i.ensures.none)))))
+    (stops c.args.heap.now c.args.locals (λ w. ok_or (valid_index c.args.index (length c.in_ok-target.ensures.ok.node.entries)) no_index) _ c.in_err-_i.field-0.0 (no-index c.args.heap.now c.args.locals (test_of wanted.ScriptList) c.in_ok-list.list c.in_ok-target.target c.in_ok-target.ensures.ok c.args.index (to_z w64 (of_z w64 c.args.index)) (to_z-of_z c.ranges.index) c.in_err-_i.field-0.0 c.in_err-_i.ensures.err c.in_err-_i.ensures.none)))))
 
 pub put-requires-clause-other : goal.put-requires-clause-other
 put-requires-clause-other g c =
@@ -61,7 +61,7 @@ returns-in-Ok g c =
     (goes_on c.args.heap.now c.put.new.self c.args.locals (λ w. value w c.args.list) c.in_ok-list.list _ (Ok c.changed.result) c.in_ok-list.ensures.ok
     (goes_on c.args.heap.now c.put.new.self c.args.locals (λ w. value w c.args.operand) c.in_ok-val.val _ (Ok c.changed.result) c.in_ok-val.ensures.ok
     (goes_on c.args.heap.now c.put.new.self c.args.locals (λ w. object w (test_of wanted.ScriptList) (number_of (refusal_of wanted.ScriptList)) c.in_ok-list.list) (object_from c.args.heap.now.rows c.in_ok-target.target c.in_ok-target.ensures.ok.node) _ (Ok c.changed.result) (reads-object c.args.heap.now c.args.locals (test_of wanted.ScriptList) c.in_ok-list.list c.in_ok-target.target c.in_ok-target.ensures.ok (number_of (refusal_of wanted.ScriptList)))
-    (goes_on c.args.heap.now c.put.new.self c.args.locals (λ w. ok_or (place_of_index c.args.index (length c.in_ok-target.ensures.ok.node.entries)) no_index) c.in_ok-_i._i _ (Ok c.changed.result) (reads-index c.args.heap.now c.args.locals (test_of wanted.ScriptList) c.in_ok-list.list c.in_ok-target.target c.in_ok-target.ensures.ok c.args.index (to_z w64 (of_z w64 c.args.index)) (to_z-of_z c.ranges.index) c.in_ok-_i._i c.in_ok-_i.ensures.ok)
+    (goes_on c.args.heap.now c.put.new.self c.args.locals (λ w. ok_or (valid_index c.args.index (length c.in_ok-target.ensures.ok.node.entries)) no_index) c.in_ok-_i._i _ (Ok c.changed.result) (reads-index c.args.heap.now c.args.locals (test_of wanted.ScriptList) c.in_ok-list.list c.in_ok-target.target c.in_ok-target.ensures.ok c.args.index (to_z w64 (of_z w64 c.args.index)) (to_z-of_z c.ranges.index) c.in_ok-_i._i c.in_ok-_i.ensures.ok)
     (goes_on c.args.heap.now c.put.new.self c.args.locals (λ w. ok_or (slice_get c.in_ok-target.ensures.ok.node.entries c.in_ok-_i._i) no_index) (get_or (entries_of c.args.heap.now c.in_ok-target.target) c.in_ok-_i._i (item c.in_ok-val.val)) _ (Ok c.changed.result) (reads-entry c.args.heap.now c.args.locals (test_of wanted.ScriptList) c.in_ok-list.list c.in_ok-target.target c.in_ok-target.ensures.ok c.in_ok-_i._i (get_or (entries_of c.args.heap.now c.in_ok-target.target) c.in_ok-_i._i (item c.in_ok-val.val)) (slice_get-get_or (entries_of c.args.heap.now c.in_ok-target.target) c.in_ok-_i._i (item c.in_ok-val.val) c.in_ok-_i.ensures.below) no_index)
     (sets c.args.heap.now c.sound.ensures c.args.locals (test_of wanted.ScriptList) c.in_ok-list.list c.in_ok-target.target c.in_ok-target.ensures.ok (code_passes c.args.heap.now wanted.ScriptList tt c.in_ok-list.list c.in_ok-target.target c.in_ok-target.ensures.ok) (to_z w64 (of_z w64 c.args.index)) c.in_ok-_i._i (get_or (entries_of c.args.heap.now c.in_ok-target.target) c.in_ok-_i._i (item c.in_ok-val.val)) c.in_ok-val.val c.in-Ok.old c.changed.result c.put.new.self ((index_is (to_z w64 (of_z w64 c.args.index)) (length (entries_of c.args.heap.now c.in_ok-target.target)) c.in_ok-_i._i c.in_ok-_i.ensures.ok).0) c.in_ok-_i.ensures.below (slice_get-get_or (entries_of c.args.heap.now c.in_ok-target.target) c.in_ok-_i._i (item c.in_ok-val.val) c.in_ok-_i.ensures.below) c.in-Ok.ensures.ok c.in-Ok.ensures.replaced c.changed.ensures))))))
 

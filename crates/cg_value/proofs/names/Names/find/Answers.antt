@@ -5,7 +5,7 @@ use Rattle.cg_value.proofs.Interned.{position_map}
 use Rattle.cg_value.proofs.names.Names.find.Goals as goal
 
 pub returns-in-Some : goal.returns-in-Some
-returns-in-Some c = subst (λ ts. Some c.in-Some.place ≡ position (bytes_eq c.args.text.now) ts) c.self.view_is
+returns-in-Some c = subst (λ ts. Some c.in-Some.number ≡ position (bytes_eq c.args.text.now) ts) c.self.view_is
     (c.in-Some.ensures.index ∙ sym (position_map (bytes_eq c.args.text.now) string_bytes c.self.inside.texts.keys))
 
 pub returns-in-None : goal.returns-in-None
