@@ -6,14 +6,13 @@ use Rattle.std.proofs.lemmas.List.Elements.{All-cons, All-nil}
 use Rattle.std.proofs.lemmas.List.Sums.{prefix_len-le-length}
 use Rattle.cg_value.specs.Texts.{has_text, text_number, with_text}
 use Rattle.cg_script.specs.Parts.{with_text_if}
+use Rattle.cg_script.proofs.Walked.{AllHold, hold_both}
 
 abbrev pub Below : ℕ → List ℕ → Type 0
-Below n [] = Unit {0}
-Below n (x ∷ xs) = (x < n) × Below n xs
+Below n xs = AllHold (λ k. k < n) xs
 
 pub below-append : (n : ℕ) (xs ys : List ℕ) → Below n xs → Below n ys → Below n (xs ++ ys)
-below-append n [] ys a b = b
-below-append n (x ∷ xs) ys a b = (a.0, below-append n xs ys a.1 b)
+below-append n xs ys a b = hold_both (λ k. k < n) xs ys a b
 
 pub below_front : (n : ℕ) (xs ys : List ℕ) → Below n (xs ++ ys) → Below n xs
 below_front n [] ys b = tt

@@ -18,7 +18,8 @@ use Rattle.cg_script.proofs.Walk.{each_line}
 use Rattle.cg_script.proofs.Profiles.{NoProfiles, no_later_profiles}
 use Rattle.cg_script.proofs.Counts.{IsShort, few_saids, short_texts}
 use Rattle.std.proofs.lemmas.List.Elements.{All-nil}
-use Rattle.cg_script.proofs.Known.{is_text, said_texts, said_below, parts_below, each_more, text_below, texts_grow}
+use Rattle.cg_script.proofs.Walked.{is_text}
+use Rattle.cg_script.proofs.Known.{said_texts, said_below, parts_below, each_more, text_below, texts_grow}
 use Rattle.cg_script.specs.Forms.{sort_at}
 
 abbrev pub EachSaid : (Said → Type 0) → List Said → Type 0

@@ -1,40 +1,33 @@
 -- Each text that a script names is one of its texts.
-use Rattle.std.proofs.Common.{◌≡◌, ℕ, zero, suc, ◌+◌, ◌<◌, ◌≤◌, List, [], ◌∷◌, ◌++◌, length, map, drop, Bool, true, false, if◌then◌else◌, Option, None, Some, refl, sym, ap, ◌∙◌, arith, codes}
+use Rattle.std.proofs.Common.{◌≡◌, ℕ, zero, suc, ◌+◌, ◌<◌, ◌≤◌, List, [], ◌∷◌, length, Bool, true, false, if◌then◌else◌, Option, None, Some, refl, sym, ap, subst, ◌∙◌, arith, codes}
 use Rattle.std.specs.Prelude.{slice_index}
 use Rattle.std.specs.Str.{bytes_eq}
 use Rattle.cg_value.specs.Texts.{text_number}
 use Rattle.cg_script.specs.declared.command.Operand.{Operand}
 use Rattle.cg_script.specs.declared.command.Operand.TheVariants as operands
 use Rattle.cg_script.specs.declared.form.Form.{Form}
-use Rattle.cg_script.specs.declared.form.Form.TheVariants as forms
 use Rattle.cg_script.specs.declared.form.Sort.{Sort}
 use Rattle.cg_script.specs.declared.form.Sort.TheVariants.{Key, Variable, Name, Class, Proc, Finalizer, Value, Number, Profile, Budget, Count, Flag}
 use Rattle.cg_script.specs.declared.part.Part.{Part}
 use Rattle.cg_script.specs.declared.part.Part.TheVariants as parts
 use Rattle.cg_script.specs.declared.part.Said.{Said}
 use Rattle.cg_script.specs.declared.part.Said.TheVariants.{Declares, Begins, Ends, Does}
-use Rattle.cg_script.specs.Texts.{operand_texts, operands_texts, command_texts, item_texts}
+use Rattle.cg_script.specs.declared.item.Item.TheVariants as items
+use Rattle.cg_script.specs.Texts.{operand_texts, command_texts, item_texts}
 use Rattle.cg_script.specs.Tables.{named}
 use Rattle.cg_script.specs.Words.{begins_name, is_quoted, string_text, number_of, after_prefix, atoms}
 use Rattle.cg_script.specs.Forms.{row, sort_at}
 use Rattle.cg_script.specs.Parts.{with_text_if, text_in, value_text, operand_or, numbered, defined_number, finalizer, legacy, legacy_of, finalizer_of, part_of, parts_from, texts_from}
-use Rattle.cg_script.specs.Commands.{text_or, value_or, text_at, value_at, values_from, said}
-use Rattle.cg_script.proofs.Below.{Below, below-append, below_more, place_below, grows_if}
+use Rattle.cg_script.specs.Commands.{text_or, text_at, said}
+use Rattle.cg_script.proofs.Below.{Below, below_more, place_below, grows_if}
+use Rattle.cg_script.proofs.Walked.{is_text, PartHolds, EachPart, said_by, said_holds}
 
 -- a part names texts below a number
 abbrev pub PartBelow : ℕ → Part → Type 0
-PartBelow n (parts.Text k) = k < n
-PartBelow n (parts.Value operand) = Below n (operand_texts operand)
-PartBelow n parts.Bare = Unit {0}
-PartBelow n (parts.Number k) = Unit {0}
-PartBelow n (parts.Count k) = Unit {0}
-PartBelow n (parts.Finalizer k) = Unit {0}
-PartBelow n (parts.Legacy k) = Unit {0}
-PartBelow n parts.Unknown = Unit {0}
+PartBelow n p = PartHolds operand_texts (λ k. k < n) p
 
-abbrev pub EachPart : ℕ → List Part → Type 0
-EachPart n [] = Unit {0}
-EachPart n (p ∷ ps) = PartBelow n p × EachPart n ps
+abbrev pub EachBelow : ℕ → List Part → Type 0
+EachBelow n ps = EachPart operand_texts (λ k. k < n) ps
 
 part_more : (n m : ℕ) (p : Part) → n ≤ m → PartBelow n p → PartBelow m p
 part_more n m (parts.Text k) h b = omega arith
@@ -114,7 +107,7 @@ texts_grow form (word ∷ words) texts place =
     let more = with_text_if texts (text_in (sort_at form place) word) in
     omega (arith, grows_if texts (text_in (sort_at form place) word), texts_grow form words more (place + 1))
 
-pub parts_below : (procs classes : List (List ℕ)) (form : Form) (words texts : List (List ℕ)) (place : ℕ) → EachPart (length (texts_from texts form place words)) (parts_from procs classes texts form place words)
+pub parts_below : (procs classes : List (List ℕ)) (form : Form) (words texts : List (List ℕ)) (place : ℕ) → EachBelow (length (texts_from texts form place words)) (parts_from procs classes texts form place words)
 parts_below procs classes form [] texts place = tt
 parts_below procs classes form (word ∷ words) texts place =
     let more = with_text_if texts (text_in (sort_at form place) word) in (
@@ -122,51 +115,9 @@ parts_below procs classes form (word ∷ words) texts place =
       parts_below procs classes form words more (place + 1),
     )
 
-pub each_more : (n m : ℕ) (ps : List Part) → n ≤ m → EachPart n ps → EachPart m ps
+pub each_more : (n m : ℕ) (ps : List Part) → n ≤ m → EachBelow n ps → EachBelow m ps
 each_more n m [] h e = tt
 each_more n m (p ∷ ps) h e = (part_more n m p h e.0, each_more n m ps h e.1)
-
-value_of_below : (n : ℕ) (p : Part) → PartBelow n p → Below n (operand_texts (value_or (Some p)))
-value_of_below n (parts.Value operand) b = b
-value_of_below n (parts.Text k) b = tt
-value_of_below n parts.Bare b = tt
-value_of_below n (parts.Number k) b = tt
-value_of_below n (parts.Count k) b = tt
-value_of_below n (parts.Finalizer k) b = tt
-value_of_below n (parts.Legacy k) b = tt
-value_of_below n parts.Unknown b = tt
-
-value_at_below : (n : ℕ) (ps : List Part) (i : ℕ) → EachPart n ps → Below n (operand_texts (value_at ps i))
-value_at_below n [] i e = tt
-value_at_below n (p ∷ ps) zero e = value_of_below n p e.0
-value_at_below n (p ∷ ps) (suc i) e = value_at_below n ps i e.1
-
-all_values_below : (n : ℕ) (ps : List Part) → EachPart n ps → Below n (operands_texts (map (λ part. value_or (Some part)) ps))
-all_values_below n [] e = tt
-all_values_below n (p ∷ ps) e = below-append n (operand_texts (value_or (Some p))) (operands_texts (map (λ part. value_or (Some part)) ps)) (value_of_below n p e.0) (all_values_below n ps e.1)
-
-drop_each : (n : ℕ) (ps : List Part) (i : ℕ) → EachPart n ps → EachPart n (drop i ps)
-drop_each n ps zero e = e
-drop_each n [] (suc i) e = tt
-drop_each n (p ∷ ps) (suc i) e = drop_each n ps i e.1
-
-values_below : (n : ℕ) (ps : List Part) (i : ℕ) → EachPart n ps → Below n (operands_texts (values_from ps i))
-values_below n ps i e = all_values_below n (drop i ps) (drop_each n ps i e)
-
--- the places that ask for a text
-abbrev pub is_text : Sort → Bool
-is_text Variable = true
-is_text Name = true
-is_text Key = false
-is_text Class = false
-is_text Proc = false
-is_text Finalizer = false
-is_text Value = false
-is_text Number = false
-is_text Profile = false
-is_text Budget = false
-is_text Count = false
-is_text Flag = false
 
 text_part : (procs classes texts : List (List ℕ)) (sort : Sort) (word : List ℕ) → is_text sort ≡ true → text_or (Some (part_of procs classes texts sort word)) < length (with_text_if texts (text_in sort word))
 text_part procs classes texts Variable word e = place_below texts word
@@ -204,58 +155,22 @@ said_texts (Begins name) = name ∷ []
 said_texts Ends = []
 said_texts (Does command) = command_texts command
 
+-- so by the words of the line
+same_texts : (s : Said) → said_by operand_texts s ≡ said_texts s
+same_texts (Declares (items.Class c)) = refl
+same_texts (Declares (items.Def p)) = refl
+same_texts (Declares (items.Run command)) = refl
+same_texts (Declares (items.Profile n)) = refl
+same_texts (Declares items.Shutdown) = refl
+same_texts (Declares (items.Budget n)) = refl
+same_texts (Begins name) = refl
+same_texts Ends = refl
+same_texts (Does command) = refl
+
 -- what a line of a form says names texts below a number
-module _ (n : ℕ) (ps : List Part) (each : EachPart n ps) where
-  v : (i : ℕ) → Below n (operand_texts (value_at ps i))
-  v i = value_at_below n ps i each
-
-  vv : (i j : ℕ) → Below n (operand_texts (value_at ps i) ++ operand_texts (value_at ps j))
-  vv i j = below-append n (operand_texts (value_at ps i)) (operand_texts (value_at ps j)) (v i) (v j)
-
-  pub said_below : (form : Form) → ((i : ℕ) → i < (row form).fewest → is_text (sort_at form i) ≡ true → text_at ps i < n) → Below n (said_texts (said form ps))
-  said_below forms.MakeList t = (t 0 (omega arith) refl, values_below n ps 3 each)
-  said_below forms.MakeTuple t = (t 0 (omega arith) refl, values_below n ps 3 each)
-  said_below forms.MakeDict t = (t 0 (omega arith) refl, tt)
-  said_below forms.MakeInst t = (t 0 (omega arith) refl, tt)
-  said_below forms.MakeFunc t = (t 0 (omega arith) refl, values_below n ps 4 each)
-  said_below forms.MakeRef t = (t 0 (omega arith) refl, vv 3 4)
-  said_below forms.Bind t = (t 0 (omega arith) refl, v 2)
-  said_below forms.Del t = (t 1 (omega arith) refl, tt)
-  said_below forms.Append t = vv 1 2
-  said_below forms.SetItem t = vv 1 3
-  said_below forms.DelItem t = v 1
-  said_below forms.Put t = below-append n (operand_texts (value_at ps 1) ++ operand_texts (value_at ps 2)) (operand_texts (value_at ps 3)) (vv 1 2) (v 3)
-  said_below forms.Remove t = vv 1 2
-  said_below forms.SetAttr t = below-append n (operand_texts (value_at ps 1)) (text_at ps 2 ∷ operand_texts (value_at ps 3)) (v 1) (t 2 (omega arith) refl, v 3)
-  said_below forms.DelAttr t = below-append n (operand_texts (value_at ps 1)) (text_at ps 2 ∷ []) (v 1) (t 2 (omega arith) refl, tt)
-  said_below forms.Item t = (t 0 (omega arith) refl, v 3)
-  said_below forms.Get t = (t 0 (omega arith) refl, vv 3 4)
-  said_below forms.Attr t = (t 0 (omega arith) refl, below-append n (operand_texts (value_at ps 3)) (text_at ps 4 ∷ []) (v 3) (t 4 (omega arith) refl, tt))
-  said_below forms.Deref t = (t 0 (omega arith) refl, v 3)
-  said_below forms.Call t = v 1
-  said_below forms.Quit t = v 1
-  said_below forms.Collect t = tt
-  said_below forms.Enable t = tt
-  said_below forms.Disable t = tt
-  said_below forms.Threshold t = tt
-  said_below forms.Flags t = tt
-  said_below forms.Freeze t = tt
-  said_below forms.Unfreeze t = tt
-  said_below forms.Print t = v 1
-  said_below forms.Refs t = v 1
-  said_below forms.Tracked t = v 1
-  said_below forms.Finalized t = v 1
-  said_below forms.Referents t = v 1
-  said_below forms.Referrers t = v 1
-  said_below forms.Why t = (t 1 (omega arith) refl, tt)
-  said_below forms.Count t = tt
-  said_below forms.Gens t = tt
-  said_below forms.Profile t = tt
-  said_below forms.Shutdown t = tt
-  said_below forms.Budget t = tt
-  said_below forms.Class t = (t 1 (omega arith) refl, tt)
-  said_below forms.Def t = (t 1 (omega arith) refl, tt)
-  said_below forms.End t = tt
+pub said_below : (n : ℕ) (ps : List Part) → EachBelow n ps → (form : Form) → ((i : ℕ) → i < (row form).fewest → is_text (sort_at form i) ≡ true → text_at ps i < n) → Below n (said_texts (said form ps))
+said_below n ps each form t =
+    subst (Below n) (same_texts (said form ps)) (said_holds operand_texts (λ k. k < n) (record { nothing = tt; name = λ k h. (h, tt); string = λ k h. (h, tt) }) ps each form t)
 
 -- as many parts as words
 pub length-parts_from : (procs classes : List (List ℕ)) (form : Form) (words texts : List (List ℕ)) (place : ℕ) → length (parts_from procs classes texts form place words) ≡ length words

@@ -10,6 +10,7 @@ pub mod Says
 pub mod Walk
 pub mod Counts
 pub mod Lines
+pub mod Walked
 pub mod Below
 pub mod Known
 pub mod Each
