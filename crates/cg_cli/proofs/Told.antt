@@ -1,42 +1,42 @@
 -- Facts of a run job where the source tells its bytes.
-use Rattle.std.proofs.Common.{◌≡◌, ◌⊎◌, inl, inr, ◌<◌, ℕ, ◌≤◌, List, ◌++◌, length, length-append, append-nil, Option, None, Some, IfSome, sym, ap, subst, ◌∙◌, arith}
-use Rattle.std.proofs.lemmas.Bool.{cases_lt}
-use Rattle.std.specs.Io.KnownBytes.{Consumes, IsAtEnd}
+use Rattle.std.proofs.Common.{◌≡◌, ◌⊎◌, inl, inr, refl, ◌<◌, ℕ, ◌≤◌, List, length, Option, None, Some, IfSome, sym, subst, arith, codes}
+use Rattle.cg_io.specs.Causes.{AppendsFront}
+use Rattle.cg_script.specs.Reading.{reading}
 use Rattle.cg_machine.specs.World.{Outcome}
-use Rattle.cg_cli.specs.Statuses.{WroteFront, RowText, run_text, bad_text, large_text, RanWhole, RanBad, AnswersScript, IsCutShort}
+use Rattle.cg_cli.specs.Statuses.{WroteFront, large_text, RanWhole, RanBad, AnswersReading, AnswersScript, IsCutShort}
 use Rattle.cg_cli.specs.declared.input.TheConstants.{LIMIT}
 use Rattle.cg_cli.specs.declared.status.Status.{Status}
 use Rattle.cg_cli.specs.declared.status.Status.TheVariants as status
 
--- What holds of the bytes that were read holds of those that the source told: either these are all, or they are too many.
-module _ (left after : Option (List ℕ)) (bytes : List ℕ) (took : Consumes left after bytes) (ends : length bytes < LIMIT → IsAtEnd after) where
-  pub told : (P : List ℕ → Type 0) → P bytes → ((more : List ℕ) → LIMIT ≤ length bytes → P bytes → P (bytes ++ more)) → IfSome left P
-  told P here longer = by left after took ends
-    where
-      by : (l a : Option (List ℕ)) → Consumes l a bytes → (length bytes < LIMIT → IsAtEnd a) → IfSome l P
-      by None a t e = tt
-      by (Some xs) None t e = absurd t
-      by (Some xs) (Some ys) t e = elim (cases_lt (length bytes) LIMIT) [
-        | inl few ↦ subst P (sym (t ∙ ap (λ l. bytes ++ l) (e few) ∙ append-nil bytes)) here
-        | inr many ↦ subst P (sym t) (longer ys many here)
-      ]
+-- What holds of the bytes that were read holds of those that the source told.
+pub told : (left : Option (List ℕ)) (bytes : List ℕ) → IfSome left (λ t. t ≡ bytes) → (P : List ℕ → Type 0) → P bytes → IfSome left P
+told None bytes all P here = tt
+told (Some t) bytes all P here = subst P (sym all) here
 
+-- So does what holds of any bytes that are too many, where it told those.
+pub told_many : (left : Option (List ℕ)) → IfSome left (λ t. LIMIT ≤ length t) → (P : List ℕ → Type 0) → ((t : List ℕ) → LIMIT ≤ length t → P t) → IfSome left P
+told_many None many P each = tt
+told_many (Some t) many P each = each t many
+
+module _ (left : Option (List ℕ)) (bytes : List ℕ) (all : IfSome left (λ t. t ≡ bytes)) where
   pub told_whole : (given : Option ℕ) (outcome : Outcome) (before now : Option (List ℕ)) → RanWhole given outcome bytes before now → IfSome left (λ bs. RanWhole given outcome bs before now)
-  told_whole given outcome before now ran = told (λ bs. RanWhole given outcome bs before now) ran (λ more many r. absurd (omega (arith, many, ran.few)))
+  told_whole given outcome before now ran = told left bytes all (λ bs. RanWhole given outcome bs before now) ran
 
   pub told_bad : (before now : Option (List ℕ)) → RanBad bytes before now → IfSome left (λ bs. RanBad bs before now)
-  told_bad before now ran = told (λ bs. RanBad bs before now) ran (λ more many r. absurd (omega (arith, many, ran.few)))
-
-  longer_row : (given : Option ℕ) (more text : List ℕ) → LIMIT ≤ length bytes → RowText given bytes text → RowText given (bytes ++ more) text
-  longer_row given more _ many (run_text script outcome steps few spelled whole) = absurd (omega (arith, many, few))
-  longer_row given more _ many (bad_text number code few fault) = absurd (omega (arith, many, few))
-  longer_row given more _ many (large_text large) = large_text (omega (arith, many, length-append bytes more))
+  told_bad before now ran = told left bytes all (λ bs. RanBad bs before now) ran
 
   pub told_front : (given : Option ℕ) (before now : Option (List ℕ)) → WroteFront given bytes before now → IfSome left (λ bs. WroteFront given bs before now)
-  told_front given before now wrote = told (λ bs. WroteFront given bs before now) wrote (λ more many w. record { text = w.text; row = longer_row given more w.text many w.row; wrote = w.wrote })
+  told_front given before now wrote = told left bytes all (λ bs. WroteFront given bs before now) wrote
 
-  pub told_answers : (answer : Status) → AnswersScript bytes answer → IfSome left (λ bs. AnswersScript bs answer)
-  told_answers answer says = told (λ bs. AnswersScript bs answer) says (λ more many s. (λ few. absurd (omega (arith, many, few, length-append bytes more)), λ large. s.1 many))
+  pub told_answers : (answer : Status) → length bytes < LIMIT → AnswersReading (reading bytes) answer → IfSome left (λ bs. AnswersScript bs answer)
+  told_answers answer few says = told left bytes all (λ bs. AnswersScript bs answer) (λ fits. says, λ many. absurd (omega (arith, few, many)))
+
+module _ (left : Option (List ℕ)) (many : IfSome left (λ t. LIMIT ≤ length t)) where
+  pub many_front : (given : Option ℕ) (before now : Option (List ℕ)) → AppendsFront before now (codes "too large\n") → IfSome left (λ bs. WroteFront given bs before now)
+  many_front given before now wrote = told_many left many (λ bs. WroteFront given bs before now) (λ t large. record { text = codes "too large\n"; row = large_text large; wrote = wrote })
+
+  pub many_answers : (answer : Status) → answer ≡ status.TooLarge → IfSome left (λ bs. AnswersScript bs answer)
+  many_answers answer is = told_many left many (λ bs. AnswersScript bs answer) (λ t large. (λ few. absurd (omega (arith, few, large)), λ many. is))
 
 -- where neither source nor sink failed, only memory cuts a job short
 pub complete : (answer : Status) (SourceRose SinkRose Told : Type 0) → (answer ≡ status.ReadFault → SourceRose) → (answer ≡ status.WriteFault → SinkRose) → IsCutShort answer ⊎ Told

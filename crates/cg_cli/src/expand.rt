@@ -1,15 +1,15 @@
 //! An expand job: a source is read, and the expansion of its bytes is written.
-ghost use Rattle.std.specs.Prelude.{◌≡◌, ◌≢◌, ◌≤◌, ◌<◌, ◌⊎◌, length, IfSome, None, codes};
+ghost use Rattle.std.specs.Prelude.{◌≡◌, ◌≢◌, ◌<◌, ◌⊎◌, length, IfSome, None, codes};
 ghost use Rattle.std.specs.Io.KnownBytes.{Appends, Keeps, IsAtEnd};
 ghost use Rattle.cg_io.specs.Causes.{AppendsFront, Rose};
 ghost use Rattle.cg_weakcoll.specs.Expansion.{first_bad, expansion};
 ghost use Rattle.cg_cli.specs.Statuses.{TookTooMany, IsCutShort};
 ghost use Rattle.cg_cli.specs.Expansions.{WroteExpansion, WroteFirstBad, WroteExpandFront, AnswersFirstBad, AnswersExpand};
 
-use crate::input::LIMIT;
+use crate::input::{LIMIT, read_whole};
 use crate::status::Status;
-use crate::tell::{tell_bad_script, tell_large};
-use cg_io::{InputFault, Sink, Source, WriteFailed, read_up_to};
+use crate::tell::tell_bad_script;
+use cg_io::{Sink, Source, WriteFailed};
 use cg_script::ScriptFault;
 use cg_weakcoll::expand;
 use std::alloc::Global;
@@ -44,23 +44,6 @@ fn expand_in_hand<K: Sink>(alloc: Global, bytes: &[u8], sink: &mut K) -> Status
     }
 }
 
-/// Expands what was read, or says that it is too large.
-fn expand_read<K: Sink>(alloc: Global, bytes: &[u8], sink: &mut K) -> Status
-    ensures done { result ≡ Status.Done → WroteExpansion bytes.now (K.written sink.old) (K.written sink.new) }
-    ensures bad_script { result ≡ Status.BadScript → WroteFirstBad bytes.now (K.written sink.old) (K.written sink.new) }
-    ensures large { result ≡ Status.TooLarge → Appends (K.written sink.old) (K.written sink.new) (codes "too large\n") }
-    ensures many { result ≡ Status.TooLarge → LIMIT ≤ length bytes.now }
-    ensures write { result ≡ Status.WriteFault → WroteExpandFront bytes.now (K.written sink.old) (K.written sink.new) }
-    ensures cause { result ≡ Status.WriteFault → Rose (K.faults sink.old) (K.faults sink.new) }
-    ensures memory { result ≡ Status.OutOfMemory → Keeps (K.written sink.old) (K.written sink.new) }
-    ensures only { AnswersExpand bytes.now result ⊎ (result ≡ Status.WriteFault) ⊎ (result ≡ Status.OutOfMemory) }
-{
-    if bytes.len() >= LIMIT {
-        return tell_large(sink);
-    }
-    expand_in_hand(alloc, bytes, sink)
-}
-
 /// Reads a source to its end, and writes the expansion of what it gave.
 pub fn expand_job<S: Source, K: Sink>(alloc: Global, source: &mut S, sink: &mut K) -> Status
     ensures done { result ≡ Status.Done → IfSome (S.left source.old) (λ bytes. WroteExpansion bytes (K.written sink.old) (K.written sink.new)) }
@@ -76,9 +59,8 @@ pub fn expand_job<S: Source, K: Sink>(alloc: Global, source: &mut S, sink: &mut 
     ensures only { IsCutShort result ⊎ IfSome (S.left source.old) (λ bytes. AnswersExpand bytes result) }
     ensures statuses { (result ≡ Status.Done) ⊎ (result ≡ Status.BadScript) ⊎ (result ≡ Status.TooLarge) ⊎ IsCutShort result }
 {
-    match read_up_to(alloc, source, LIMIT) {
-        Ok(bytes) => expand_read(alloc, bytes.as_slice(), sink),
-        Err(InputFault::ReadFault) => Status::ReadFault,
-        Err(InputFault::OutOfMemory) => Status::OutOfMemory,
+    match read_whole(alloc, source, sink) {
+        Ok(bytes) => expand_in_hand(alloc, bytes.as_slice(), sink),
+        Err(status) => status,
     }
 }

@@ -1,6 +1,6 @@
 //! A record job: a source is read, its bytes are read as a script, the script is run on a heap over the kinds, and the records of
 //! the run are written.
-ghost use Rattle.std.specs.Prelude.{◌≡◌, ◌≢◌, ◌≤◌, ◌<◌, ◌⊎◌, None, length, map, replicate, IfSome, codes};
+ghost use Rattle.std.specs.Prelude.{◌≡◌, ◌≢◌, ◌<◌, ◌⊎◌, None, length, map, replicate, IfSome, codes};
 ghost use Rattle.std.specs.FinMap as fin;
 ghost use Rattle.std.specs.Io.KnownBytes.{Appends, Keeps, IsAtEnd};
 ghost use Rattle.cg_io.specs.Causes.{AppendsFront, Rose};
@@ -14,12 +14,12 @@ ghost use Rattle.cg_cli.specs.Statuses.{RanBad, TookTooMany, AnswersScript, Answ
 ghost use Rattle.cg_cli.specs.Recordings.{RecordedWhole, RecordedPart, RecordedFront, RecordedSome};
 
 use crate::budget::budget_for;
-use crate::input::LIMIT;
+use crate::input::{LIMIT, read_whole};
 use crate::status::Status;
-use crate::tell::{tell_bad_script, tell_large};
+use crate::tell::tell_bad_script;
 use cg_heap::Heap;
 use cg_interp::{RunEnd, run_recorded};
-use cg_io::{InputFault, Sink, Source, read_up_to};
+use cg_io::{Sink, Source};
 use cg_kind::Kind;
 use cg_script::{Script, ScriptFault, parse};
 use std::alloc::Global;
@@ -80,26 +80,6 @@ fn record_in_hand<K: Sink, B: Kind>(
     }
 }
 
-/// Records a run of what was read, or says that it is too large.
-fn record_read<K: Sink, B: Kind>(alloc: Global, bytes: &[u8], sink: &mut K, kinds: Vec<B>) -> Status
-    requires kinds { map B.kind kinds.items ≡ six_kinds }
-    requires empty { map B.bodies kinds.items ≡ replicate 6 fin.empty }
-    ensures done { result ≡ Status.Done → RecordedWhole Ended bytes.now (K.written sink.old) (K.written sink.new) }
-    ensures spent { result ≡ Status.Budget → RecordedWhole BudgetIsSpent bytes.now (K.written sink.old) (K.written sink.new) }
-    ensures bad_script { result ≡ Status.BadScript → RanBad bytes.now (K.written sink.old) (K.written sink.new) }
-    ensures large { result ≡ Status.TooLarge → Appends (K.written sink.old) (K.written sink.new) (codes "too large\n") }
-    ensures many { result ≡ Status.TooLarge → LIMIT ≤ length bytes.now }
-    ensures write { result ≡ Status.WriteFault → RecordedFront bytes.now (K.written sink.old) (K.written sink.new) }
-    ensures cause { result ≡ Status.WriteFault → Rose (K.faults sink.old) (K.faults sink.new) }
-    ensures memory { result ≡ Status.OutOfMemory → RecordedSome bytes.now (K.written sink.old) (K.written sink.new) }
-    ensures only { AnswersScript bytes.now result ⊎ (result ≡ Status.WriteFault) ⊎ (result ≡ Status.OutOfMemory) }
-{
-    if bytes.len() >= LIMIT {
-        return tell_large(sink);
-    }
-    record_in_hand(alloc, bytes, sink, kinds)
-}
-
 /// Reads a source to its end, and writes the records of a run of what it gave.
 pub fn record_job<S: Source, K: Sink, B: Kind>(
     alloc: Global,
@@ -124,9 +104,8 @@ pub fn record_job<S: Source, K: Sink, B: Kind>(
     ensures only { IsCutShort result ⊎ IfSome (S.left source.old) (λ bytes. AnswersScript bytes result) }
     ensures words { result ≢ Status.BadWords }
 {
-    match read_up_to(alloc, source, LIMIT) {
-        Ok(bytes) => record_read(alloc, bytes.as_slice(), sink, kinds),
-        Err(InputFault::ReadFault) => Status::ReadFault,
-        Err(InputFault::OutOfMemory) => Status::OutOfMemory,
+    match read_whole(alloc, source, sink) {
+        Ok(bytes) => record_in_hand(alloc, bytes.as_slice(), sink, kinds),
+        Err(status) => status,
     }
 }

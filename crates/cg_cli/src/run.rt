@@ -13,12 +13,12 @@ ghost use Rattle.cg_interp.specs.Written.{WroteRun, WrotePart};
 ghost use Rattle.cg_cli.specs.Statuses.{RanWhole, RanBad, TookTooMany, WroteFront, AnswersScript, AnswersReading, IsCutShort, budget_of};
 
 use crate::budget::budget_for;
-use crate::input::LIMIT;
+use crate::input::{LIMIT, read_whole};
 use crate::status::Status;
-use crate::tell::{tell_bad_script, tell_large};
+use crate::tell::tell_bad_script;
 use cg_heap::Heap;
 use cg_interp::{RunEnd, run_script};
-use cg_io::{InputFault, Sink, Source, read_up_to};
+use cg_io::{Sink, Source};
 use cg_kind::Kind;
 use cg_script::{Script, ScriptFault, parse};
 use std::alloc::Global;
@@ -82,33 +82,6 @@ fn run_in_hand<K: Sink, B: Kind>(
     }
 }
 
-/// Runs what was read, or says that it is too large.
-fn run_read<K: Sink, B: Kind>(
-    alloc: Global,
-    given: Option<u32>,
-    bytes: &[u8],
-    sink: &mut K,
-    kinds: Vec<B>,
-) -> Status
-    requires given { IfSome given (λ n. n ≤ MOST_BUDGET) }
-    requires kinds { map B.kind kinds.items ≡ six_kinds }
-    requires empty { map B.bodies kinds.items ≡ replicate 6 fin.empty }
-    ensures done { result ≡ Status.Done → RanWhole given Ended bytes.now (K.written sink.old) (K.written sink.new) }
-    ensures spent { result ≡ Status.Budget → RanWhole given BudgetIsSpent bytes.now (K.written sink.old) (K.written sink.new) }
-    ensures bad_script { result ≡ Status.BadScript → RanBad bytes.now (K.written sink.old) (K.written sink.new) }
-    ensures large { result ≡ Status.TooLarge → Appends (K.written sink.old) (K.written sink.new) (codes "too large\n") }
-    ensures many { result ≡ Status.TooLarge → LIMIT ≤ length bytes.now }
-    ensures write { result ≡ Status.WriteFault → WroteFront given bytes.now (K.written sink.old) (K.written sink.new) }
-    ensures cause { result ≡ Status.WriteFault → Rose (K.faults sink.old) (K.faults sink.new) }
-    ensures memory { result ≡ Status.OutOfMemory → Keeps (K.written sink.old) (K.written sink.new) }
-    ensures only { AnswersScript bytes.now result ⊎ (result ≡ Status.WriteFault) ⊎ (result ≡ Status.OutOfMemory) }
-{
-    if bytes.len() >= LIMIT {
-        return tell_large(sink);
-    }
-    run_in_hand(alloc, given, bytes, sink, kinds)
-}
-
 /// Reads a source to its end, and runs what it gave.
 pub fn run_job<S: Source, K: Sink, B: Kind>(
     alloc: Global,
@@ -134,9 +107,8 @@ pub fn run_job<S: Source, K: Sink, B: Kind>(
     ensures only { IsCutShort result ⊎ IfSome (S.left source.old) (λ bytes. AnswersScript bytes result) }
     ensures words { result ≢ Status.BadWords }
 {
-    match read_up_to(alloc, source, LIMIT) {
-        Ok(bytes) => run_read(alloc, given, bytes.as_slice(), sink, kinds),
-        Err(InputFault::ReadFault) => Status::ReadFault,
-        Err(InputFault::OutOfMemory) => Status::OutOfMemory,
+    match read_whole(alloc, source, sink) {
+        Ok(bytes) => run_in_hand(alloc, given, bytes.as_slice(), sink, kinds),
+        Err(status) => status,
     }
 }

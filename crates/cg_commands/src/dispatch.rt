@@ -1,5 +1,5 @@
 //! Any command.
-ghost use Rattle.std.specs.Prelude.{◌≡◌, ◌<◌, false, length};
+ghost use Rattle.std.specs.Prelude.{◌≡◌, ◌<◌, Bool, Option, false, true, length};
 ghost use Rattle.cg_heap.specs.Calls.{HasFewHolds};
 ghost use Rattle.cg_inspect.specs.Inspection.{IsIdle};
 ghost use Rattle.cg_machine.specs.World.{World};
@@ -12,6 +12,7 @@ ghost use Rattle.cg_commands.specs.Attempts.{Attempts, counted};
 ghost use Rattle.cg_commands.specs.Controls.{IsControl, Leaves};
 ghost use Rattle.cg_commands.specs.Growth.{GrowsBy, makes_object};
 ghost use Rattle.cg_commands.specs.Stands.{LocalsLive, HeapAndLocalsStandFor};
+ghost use Rattle.cg_commands.specs.declared.locals.Locals.{Locals as AnyLocals};
 
 use crate::bindings::{bind, unbind};
 use crate::done::{Done, Refusal, told};
@@ -63,8 +64,8 @@ pub fn perform<B: Kind>(
 
 /// Does any command; an object is made only where there is room for it.
 ///
-/// Each command stands in a call of its own that is not inlined: the frame of this one would else have the locals of all, and
-/// clear them for each command.
+/// Each command stands in a call of its own that is not inlined, and those that make something or tell the collector something
+/// in one for all of them: the frame of this one would else have the locals of all, and clear them for each command.
 fn attempt<B: Kind>(
     alloc: Global,
     heap: &mut Heap<B>,
@@ -82,34 +83,6 @@ fn attempt<B: Kind>(
     ensures { Attempts heap.old policy.old locals room command.now heap.new policy.new result }
 {
     match command {
-        Command::MakeList { name, items } => {
-            let made = make_list(heap, locals, *name, items.as_slice(), room);
-            count(policy, made)
-        }
-        Command::MakeTuple { name, items } => {
-            let made = make_tuple(heap, locals, *name, items.as_slice(), room);
-            count(policy, made)
-        }
-        Command::MakeDict { name } => {
-            let made = make_dict(heap, locals, *name, room);
-            count(policy, made)
-        }
-        Command::MakeInst { name, class } => {
-            let made = make_instance(heap, locals, *name, *class, room);
-            count(policy, made)
-        }
-        Command::MakeFunc { name, proc, cells } => {
-            let made = make_function(heap, locals, *name, *proc, cells.as_slice(), room);
-            count(policy, made)
-        }
-        Command::MakeRef {
-            name,
-            target,
-            callback,
-        } => {
-            let made = make_weak(heap, locals, *name, *target, *callback, room);
-            count(policy, made)
-        }
         Command::Bind { name, value } => bind(heap, locals, *name, *value),
         Command::Del { name } => unbind(heap, locals, *name),
         Command::Append { list, value } => append(heap, locals, *list, *value),
@@ -146,6 +119,82 @@ fn attempt<B: Kind>(
         Command::Referents { value } => referents(alloc, heap, policy.running(), locals, *value),
         Command::Referrers { value } => referrers(alloc, heap, policy.running(), locals, *value),
         Command::Why { name } => why(alloc, heap, policy.running(), locals, *name),
+        Command::MakeList { .. }
+        | Command::MakeTuple { .. }
+        | Command::MakeDict { .. }
+        | Command::MakeInst { .. }
+        | Command::MakeFunc { .. }
+        | Command::MakeRef { .. } => make(heap, policy, locals, command, room),
+        Command::Collect { .. }
+        | Command::Enable
+        | Command::Disable
+        | Command::Threshold { .. }
+        | Command::Flags { .. }
+        | Command::Freeze
+        | Command::Unfreeze
+        | Command::Count
+        | Command::Gens => control(heap, policy, command),
+    }
+}
+
+/// Does a command that makes an object, where there is room for it, and counts the object.
+#[inline(never)]
+fn make<B: Kind>(
+    heap: &mut Heap<B>,
+    policy: &mut Policy,
+    locals: Option<Locals>,
+    command: &Command,
+    room: bool,
+) -> Result<Done, Refusal>
+    requires spelled { IsSpelledCommand (length heap.old.names) command.now }
+    requires locals { LocalsLive heap.old locals }
+    requires few { HasFewHolds heap.old }
+    requires last { heap.old.last < 9223372036854775808 }
+    requires bounded { IsBounded (with_one_made policy.old.numbers) }
+    requires makes { makes_object command.now ≡ true }
+    ensures { Attempts heap.old policy.old locals room command.now heap.new policy.new result }
+{
+    match command {
+        Command::MakeList { name, items } => {
+            let made = make_list(heap, locals, *name, items.as_slice(), room);
+            count(policy, made)
+        }
+        Command::MakeTuple { name, items } => {
+            let made = make_tuple(heap, locals, *name, items.as_slice(), room);
+            count(policy, made)
+        }
+        Command::MakeDict { name } => {
+            let made = make_dict(heap, locals, *name, room);
+            count(policy, made)
+        }
+        Command::MakeInst { name, class } => {
+            let made = make_instance(heap, locals, *name, *class, room);
+            count(policy, made)
+        }
+        Command::MakeFunc { name, proc, cells } => {
+            let made = make_function(heap, locals, *name, *proc, cells.as_slice(), room);
+            count(policy, made)
+        }
+        Command::MakeRef {
+            name,
+            target,
+            callback,
+        } => {
+            let made = make_weak(heap, locals, *name, *target, *callback, room);
+            count(policy, made)
+        }
+        _ => unreachable!(),
+    }
+}
+
+/// Does a command of the collector.
+#[inline(never)]
+fn control<B: Kind>(heap: &mut Heap<B>, policy: &mut Policy, command: &Command) -> Result<Done, Refusal>
+    requires idle { policy.old.running ≡ false → IsIdle heap.old }
+    requires control { IsControl command.now }
+    ensures { (locals : Option AnyLocals) (room : Bool) → Attempts heap.old policy.old locals room command.now heap.new policy.new result }
+{
+    match command {
         Command::Collect { generation } => collect(number(generation)),
         Command::Enable => {
             policy.set_enabled(true);
@@ -178,6 +227,7 @@ fn attempt<B: Kind>(
         }
         Command::Count => Ok(told(Some(counts(policy)))),
         Command::Gens => Ok(told(Some(sizes(heap)))),
+        _ => unreachable!(),
     }
 }
 

@@ -1,9 +1,13 @@
-use Rattle.std.proofs.Common.{subst, List, ℕ}
+use Rattle.std.proofs.Common.{ap, inr, subst, List, ℕ, Err}
 use Rattle.cg_cli.specs.Statuses.{WroteFront}
-use Rattle.cg_cli.proofs.Told.{told_front}
+use Rattle.cg_cli.proofs.Told.{told_front, many_front}
 use Rattle.cg_cli.proofs.run.run_job.Goals as goal
 
 pub returns-in-Ok-clause-write : goal.returns-in-Ok-clause-write
 returns-in-Ok-clause-write g c = λ e.
-    told_front (g.S.Source.left c.args.source.now) (g.S.Source.left c.read_up_to.new.source) c.in-Ok.bytes.items c.in-Ok.ensures.bytes c.in-Ok.ensures.end c.args.given _ _
-    (subst (λ (bs : List ℕ). WroteFront c.args.given bs (g.K.Sink.written c.args.sink.now) (g.K.Sink.written c.run_read.new.sink)) c.as_slice.ensures.value (c.run_read.ensures.write e))
+    told_front (g.S.Source.left c.args.source.now) c.in-Ok.bytes.items c.in-Ok.ensures.all c.args.given _ _
+    (subst (λ snk. WroteFront c.args.given c.in-Ok.bytes.items (g.K.Sink.written snk) (g.K.Sink.written c.run_in_hand.new.sink)) c.in-Ok.ensures.nothing
+    (subst (λ (bs : List ℕ). WroteFront c.args.given bs (g.K.Sink.written c.read_whole.new.sink) (g.K.Sink.written c.run_in_hand.new.sink)) c.as_slice.ensures.value (c.run_in_hand.ensures.write e)))
+
+pub returns-in-Err-clause-write : goal.returns-in-Err-clause-write
+returns-in-Err-clause-write g c = λ e. let failed = ap Err e in many_front (g.S.Source.left c.args.source.now) (c.in-Err.ensures.many (inr failed)) c.args.given _ _ (c.in-Err.ensures.write failed)

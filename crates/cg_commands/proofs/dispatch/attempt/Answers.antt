@@ -27,33 +27,6 @@ use Rattle.cg_commands.proofs.dispatch.attempt.Goals as goal
 read_back : (z : ℤ) → mag z < 9223372036854775808 → to_z w64 (of_z w64 z) ≡ z
 read_back z fits = to_z-of_z {w = w64} {z = z} (sfits_lit {w = w64} {z = z} (subst T (sym (lt-ltb (mag z) 9223372036854775808 fits)) tt))
 
-pub make_dict-made-requires-clause-known : goal.make_dict-made-requires-clause-known
-make_dict-made-requires-clause-known g c =
-    subst (λ cmd. All (λ n. n < length c.args.heap.now.names) (command_texts cmd)) c.in-MakeDict.is c.requires.spelled.known
-
-pub returns-in-MakeDict : goal.returns-in-MakeDict
-returns-in-MakeDict g c =
-    let done = made_and_counted c.args.heap.now c.args.policy.now c.args.locals c.args.room c.args.command.now _ c.in-MakeDict.is tt c.make_dict-made.new.heap c.make_dict-made.result c.make_dict-made.ensures.performs refl c.make_dict-made.ensures.room c.count-in-MakeDict.new.policy c.count-in-MakeDict.ensures.counts in
-    subst (Attempts c.args.heap.now c.args.policy.now c.args.locals c.args.room c.args.command.now c.make_dict-made.new.heap c.count-in-MakeDict.new.policy) (sym c.count-in-MakeDict.ensures.same) done
-
-pub make_instance-made-requires-clause-known : goal.make_instance-made-requires-clause-known
-make_instance-made-requires-clause-known g c =
-    subst (λ cmd. All (λ n. n < length c.args.heap.now.names) (command_texts cmd)) c.in-MakeInst.is c.requires.spelled.known
-
-pub returns-in-MakeInst : goal.returns-in-MakeInst
-returns-in-MakeInst g c =
-    let done = made_and_counted c.args.heap.now c.args.policy.now c.args.locals c.args.room c.args.command.now _ c.in-MakeInst.is tt c.make_instance-made.new.heap c.make_instance-made.result c.make_instance-made.ensures.performs refl c.make_instance-made.ensures.room c.count-in-MakeInst.new.policy c.count-in-MakeInst.ensures.counts in
-    subst (Attempts c.args.heap.now c.args.policy.now c.args.locals c.args.room c.args.command.now c.make_instance-made.new.heap c.count-in-MakeInst.new.policy) (sym c.count-in-MakeInst.ensures.same) done
-
-pub make_weak-made-requires-clause-known : goal.make_weak-made-requires-clause-known
-make_weak-made-requires-clause-known g c =
-    subst (λ cmd. All (λ n. n < length c.args.heap.now.names) (command_texts cmd)) c.in-MakeRef.is c.requires.spelled.known
-
-pub returns-in-MakeRef : goal.returns-in-MakeRef
-returns-in-MakeRef g c =
-    let done = made_and_counted c.args.heap.now c.args.policy.now c.args.locals c.args.room c.args.command.now _ c.in-MakeRef.is tt c.make_weak-made.new.heap c.make_weak-made.result c.make_weak-made.ensures.performs refl c.make_weak-made.ensures.room c.count-in-MakeRef.new.policy c.count-in-MakeRef.ensures.counts in
-    subst (Attempts c.args.heap.now c.args.policy.now c.args.locals c.args.room c.args.command.now c.make_weak-made.new.heap c.count-in-MakeRef.new.policy) (sym c.count-in-MakeRef.ensures.same) done
-
 pub bind-requires-clause-known : goal.bind-requires-clause-known
 bind-requires-clause-known g c =
     subst (λ cmd. All (λ n. n < length c.args.heap.now.names) (command_texts cmd)) c.in-Bind.is c.requires.spelled.known
@@ -193,88 +166,6 @@ finalized-requires-clause-known g c =
 pub returns-in-Finalized : goal.returns-in-Finalized
 returns-in-Finalized g c = plainly c.args.heap.now c.args.policy.now c.args.locals c.args.room c.args.command.now _ c.in-Finalized.is tt c.args.heap.now c.finalized.result c.finalized.ensures refl
 
-pub make_list-made-requires-clause-known : goal.make_list-made-requires-clause-known
-make_list-made-requires-clause-known g c =
-    subst (λ ops. All (λ n. n < length c.args.heap.now.names) (c.in-MakeList.name ∷ operands_texts ops)) (sym c.as_slice.ensures)
-    (subst (λ cmd. All (λ n. n < length c.args.heap.now.names) (command_texts cmd)) c.in-MakeList.is c.requires.spelled.known)
-
-pub make_list-made-requires-clause-count : goal.make_list-made-requires-clause-count
-make_list-made-requires-clause-count g c =
-    subst (λ ops. length ops ≤ 64) (sym c.as_slice.ensures) (subst HasFewWords c.in-MakeList.is c.requires.spelled.few_words)
-
-pub returns-in-MakeList : goal.returns-in-MakeList
-returns-in-MakeList g c =
-    let done = made_and_counted c.args.heap.now c.args.policy.now c.args.locals c.args.room c.args.command.now _ c.in-MakeList.is tt c.make_list-made.new.heap c.make_list-made.result (subst (λ ops. PerformsOnHeap c.args.heap.now c.args.locals (λ w. effect w (command.MakeList c.in-MakeList.name ops)) c.make_list-made.new.heap c.make_list-made.result) c.as_slice.ensures c.make_list-made.ensures.performs) refl c.make_list-made.ensures.room c.count.new.policy c.count.ensures.counts in
-    subst (Attempts c.args.heap.now c.args.policy.now c.args.locals c.args.room c.args.command.now c.make_list-made.new.heap c.count.new.policy) (sym c.count.ensures.same) done
-
-pub make_tuple-made-requires-clause-known : goal.make_tuple-made-requires-clause-known
-make_tuple-made-requires-clause-known g c =
-    subst (λ ops. All (λ n. n < length c.args.heap.now.names) (c.in-MakeTuple.name ∷ operands_texts ops)) (sym c.as_slice-in-MakeTuple.ensures)
-    (subst (λ cmd. All (λ n. n < length c.args.heap.now.names) (command_texts cmd)) c.in-MakeTuple.is c.requires.spelled.known)
-
-pub make_tuple-made-requires-clause-count : goal.make_tuple-made-requires-clause-count
-make_tuple-made-requires-clause-count g c =
-    subst (λ ops. length ops ≤ 64) (sym c.as_slice-in-MakeTuple.ensures) (subst HasFewWords c.in-MakeTuple.is c.requires.spelled.few_words)
-
-pub returns-in-MakeTuple : goal.returns-in-MakeTuple
-returns-in-MakeTuple g c =
-    let done = made_and_counted c.args.heap.now c.args.policy.now c.args.locals c.args.room c.args.command.now _ c.in-MakeTuple.is tt c.make_tuple-made.new.heap c.make_tuple-made.result (subst (λ ops. PerformsOnHeap c.args.heap.now c.args.locals (λ w. effect w (command.MakeTuple c.in-MakeTuple.name ops)) c.make_tuple-made.new.heap c.make_tuple-made.result) c.as_slice-in-MakeTuple.ensures c.make_tuple-made.ensures.performs) refl c.make_tuple-made.ensures.room c.count-in-MakeTuple.new.policy c.count-in-MakeTuple.ensures.counts in
-    subst (Attempts c.args.heap.now c.args.policy.now c.args.locals c.args.room c.args.command.now c.make_tuple-made.new.heap c.count-in-MakeTuple.new.policy) (sym c.count-in-MakeTuple.ensures.same) done
-
-pub make_function-made-requires-clause-known : goal.make_function-made-requires-clause-known
-make_function-made-requires-clause-known g c =
-    subst (λ ops. All (λ n. n < length c.args.heap.now.names) (c.in-MakeFunc.name ∷ operands_texts ops)) (sym c.as_slice-in-MakeFunc.ensures)
-    (subst (λ cmd. All (λ n. n < length c.args.heap.now.names) (command_texts cmd)) c.in-MakeFunc.is c.requires.spelled.known)
-
-pub make_function-made-requires-clause-count : goal.make_function-made-requires-clause-count
-make_function-made-requires-clause-count g c =
-    subst (λ ops. length ops ≤ 8) (sym c.as_slice-in-MakeFunc.ensures) (subst HasFewWords c.in-MakeFunc.is c.requires.spelled.few_words)
-
-pub returns-in-MakeFunc : goal.returns-in-MakeFunc
-returns-in-MakeFunc g c =
-    let done = made_and_counted c.args.heap.now c.args.policy.now c.args.locals c.args.room c.args.command.now _ c.in-MakeFunc.is tt c.make_function-made.new.heap c.make_function-made.result (subst (λ ops. PerformsOnHeap c.args.heap.now c.args.locals (λ w. effect w (command.MakeFunc c.in-MakeFunc.name c.in-MakeFunc.proc ops)) c.make_function-made.new.heap c.make_function-made.result) c.as_slice-in-MakeFunc.ensures c.make_function-made.ensures.performs) refl c.make_function-made.ensures.room c.count-in-MakeFunc.new.policy c.count-in-MakeFunc.ensures.counts in
-    subst (Attempts c.args.heap.now c.args.policy.now c.args.locals c.args.room c.args.command.now c.make_function-made.new.heap c.count-in-MakeFunc.new.policy) (sym c.count-in-MakeFunc.ensures.same) done
-
-pub returns-in-Collect : goal.returns-in-Collect
-returns-in-Collect g c =
-    let asked = subst (λ z. IsAsked z c.collect.result) (read_back c.number-in-Collect.result c.number-in-Collect.type_inv ∙ c.number-in-Collect.ensures) c.collect.ensures in
-    asks c.args.heap.now c.args.policy.now c.args.locals c.in-Collect.generation c.args.room c.args.command.now c.in-Collect.is c.collect.result asked
-
-pub returns-in-Enable : goal.returns-in-Enable
-returns-in-Enable g c =
-    sets c.args.heap.now c.args.policy.now c.args.locals c.args.room c.args.command.now _ c.in-Enable.is (λ own. own) refl (with_enabled true) (λ w. refl) c.set_enabled.new.self c.set_enabled.ensures c.told.result c.told.ensures
-
-pub returns-in-Disable : goal.returns-in-Disable
-returns-in-Disable g c =
-    sets c.args.heap.now c.args.policy.now c.args.locals c.args.room c.args.command.now _ c.in-Disable.is (λ own. own) refl (with_enabled false) (λ w. refl) c.set_enabled-in-Disable.new.self c.set_enabled-in-Disable.ensures c.told-in-Disable.result c.told-in-Disable.ensures
-
-pub returns-in-Threshold : goal.returns-in-Threshold
-returns-in-Threshold g c =
-    sets c.args.heap.now c.args.policy.now c.args.locals c.args.room c.args.command.now _ c.in-Threshold.is (λ own. own) refl (with_thresholds c.in-Threshold.first c.in-Threshold.second c.in-Threshold.third) (λ w. refl) c.set_threshold.new.self c.set_threshold.ensures c.told-in-Threshold.result c.told-in-Threshold.ensures
-
-pub returns-in-Flags : goal.returns-in-Flags
-returns-in-Flags g c =
-    sets c.args.heap.now c.args.policy.now c.args.locals c.args.room c.args.command.now _ c.in-Flags.is (λ own. own) refl (with_flags c.in-Flags.bits) (λ w. refl) c.set_flags.new.self
-    (c.set_flags.ensures ∙ ap (λ bits. with_numbers (with_flags bits c.args.policy.now.numbers) c.args.policy.now) (c.from_bits_retain.ensures tt)) c.told-in-Flags.result c.told-in-Flags.ensures
-
-pub returns-in-Freeze : goal.returns-in-Freeze
-returns-in-Freeze g c =
-    replaces c.args.heap.now c.args.policy.now c.args.locals c.args.room c.args.command.now _ c.in-Freeze.is (λ own. own) refl frozen with_zero_counts (λ w. refl) c.freeze.new.heap c.freeze.ensures c.zero_counts.new.self c.zero_counts.ensures c.told-in-Freeze.result c.told-in-Freeze.ensures
-
-pub returns-in-Unfreeze : goal.returns-in-Unfreeze
-returns-in-Unfreeze g c =
-    replaces c.args.heap.now c.args.policy.now c.args.locals c.args.room c.args.command.now _ c.in-Unfreeze.is (λ own. own) refl unfrozen (λ n. n) (λ w. refl) c.unfreeze.new.heap c.unfreeze.ensures c.args.policy.now refl c.told-in-Unfreeze.result c.told-in-Unfreeze.ensures
-
-pub returns-in-Count : goal.returns-in-Count
-returns-in-Count g c =
-    tells c.args.heap.now c.args.policy.now c.args.locals c.args.room c.args.command.now _ c.in-Count.is (λ own. own) refl (λ w. event.Count w.numbers.zero_count w.numbers.one_count w.numbers.two_count) (λ w. refl) c.counts.result
-    (λ w r same. ap (λ (p : Policy). event.Count p.numbers.zero_count p.numbers.one_count p.numbers.two_count) (sym same) ∙ sym c.counts.ensures) c.told-in-Count.result c.told-in-Count.ensures
-
-pub returns-in-Gens : goal.returns-in-Gens
-returns-in-Gens g c =
-    tells c.args.heap.now c.args.policy.now c.args.locals c.args.room c.args.command.now _ c.in-Gens.is (λ own. own) refl (λ w. gens_line w.objects) (λ w. refl) c.sizes.result
-    (λ w r same. ap gens_line (sym r.objects) ∙ sym c.sizes.ensures) c.told-in-Gens.result c.told-in-Gens.ensures
-
 pub returns-in-Referents : goal.returns-in-Referents
 returns-in-Referents g c =
     inspects c.args.heap.now c.args.policy.now c.args.locals c.args.room c.args.command.now _ c.in-Referents.is tt refl c.referents.result
@@ -293,3 +184,6 @@ returns-in-Why g c =
 pub why-requires-clause-known : goal.why-requires-clause-known
 why-requires-clause-known g c =
     All-head (λ n. n < length c.args.heap.now.names) c.in-Why.name [] (subst (λ cmd. All (λ n. n < length c.args.heap.now.names) (command_texts cmd)) c.in-Why.is c.requires.spelled.known)
+
+pub returns-in-Collect : goal.returns-in-Collect
+returns-in-Collect g c = c.control.ensures c.args.locals c.args.room

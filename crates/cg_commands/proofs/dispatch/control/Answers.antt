@@ -1,0 +1,58 @@
+-- What each command asks of the script is in the spelling of the command, and what was done is its effect.
+use Rattle.std.proofs.Common.{◌≡◌, refl, sym, ◌∙◌, ap, subst, ◌<◌, true, false}
+use Rattle.std.proofs.Common.{T, w64}
+use mir.Val.{to_z, of_z}
+use Rattle.std.proofs.Math.Facts.{to_z-of_z, sfits_lit}
+use Rattle.std.specs.Int.Signed.{mag}
+use Rattle.std.specs.Prelude.{ℤ}
+use Rattle.std.proofs.lemmas.Bool.{lt-ltb}
+use Rattle.cg_machine.specs.declared.event.Event.TheVariants as event
+use Rattle.cg_machine.specs.Effects.{frozen, unfrozen, gens_line}
+use Rattle.cg_policy.specs.Policy.{Policy, with_numbers, with_enabled, with_flags, with_thresholds, with_zero_counts}
+use Rattle.cg_commands.specs.Controls.{IsAsked}
+use Rattle.cg_commands.proofs.Controlling.{asks, sets, tells, replaces}
+use Rattle.cg_commands.proofs.dispatch.control.Goals as goal
+
+-- a number of 64 bits is read back as it was written
+read_back : (z : ℤ) → mag z < 9223372036854775808 → to_z w64 (of_z w64 z) ≡ z
+read_back z fits = to_z-of_z {w = w64} {z = z} (sfits_lit {w = w64} {z = z} (subst T (sym (lt-ltb (mag z) 9223372036854775808 fits)) tt))
+
+pub returns-in-Collect : goal.returns-in-Collect
+returns-in-Collect g c = λ locals room.
+    let asked = subst (λ z. IsAsked z c.collect.result) (read_back c.number.result c.number.type_inv ∙ c.number.ensures) c.collect.ensures in
+    asks c.args.heap.now c.args.policy.now locals c.in-Collect.generation room c.args.command.now c.in-Collect.is c.collect.result asked
+
+pub returns-in-Enable : goal.returns-in-Enable
+returns-in-Enable g c = λ locals room.
+    sets c.args.heap.now c.args.policy.now locals room c.args.command.now _ c.in-Enable.is (λ own. own) refl (with_enabled true) (λ w. refl) c.set_enabled.new.self c.set_enabled.ensures c.told.result c.told.ensures
+
+pub returns-in-Disable : goal.returns-in-Disable
+returns-in-Disable g c = λ locals room.
+    sets c.args.heap.now c.args.policy.now locals room c.args.command.now _ c.in-Disable.is (λ own. own) refl (with_enabled false) (λ w. refl) c.set_enabled-in-Disable.new.self c.set_enabled-in-Disable.ensures c.told-in-Disable.result c.told-in-Disable.ensures
+
+pub returns-in-Threshold : goal.returns-in-Threshold
+returns-in-Threshold g c = λ locals room.
+    sets c.args.heap.now c.args.policy.now locals room c.args.command.now _ c.in-Threshold.is (λ own. own) refl (with_thresholds c.in-Threshold.first c.in-Threshold.second c.in-Threshold.third) (λ w. refl) c.set_threshold.new.self c.set_threshold.ensures c.told-in-Threshold.result c.told-in-Threshold.ensures
+
+pub returns-in-Flags : goal.returns-in-Flags
+returns-in-Flags g c = λ locals room.
+    sets c.args.heap.now c.args.policy.now locals room c.args.command.now _ c.in-Flags.is (λ own. own) refl (with_flags c.in-Flags.bits) (λ w. refl) c.set_flags.new.self
+    (c.set_flags.ensures ∙ ap (λ bits. with_numbers (with_flags bits c.args.policy.now.numbers) c.args.policy.now) (c.from_bits_retain.ensures tt)) c.told-in-Flags.result c.told-in-Flags.ensures
+
+pub returns-in-Freeze : goal.returns-in-Freeze
+returns-in-Freeze g c = λ locals room.
+    replaces c.args.heap.now c.args.policy.now locals room c.args.command.now _ c.in-Freeze.is (λ own. own) refl frozen with_zero_counts (λ w. refl) c.freeze.new.heap c.freeze.ensures c.zero_counts.new.self c.zero_counts.ensures c.told-in-Freeze.result c.told-in-Freeze.ensures
+
+pub returns-in-Unfreeze : goal.returns-in-Unfreeze
+returns-in-Unfreeze g c = λ locals room.
+    replaces c.args.heap.now c.args.policy.now locals room c.args.command.now _ c.in-Unfreeze.is (λ own. own) refl unfrozen (λ n. n) (λ w. refl) c.unfreeze.new.heap c.unfreeze.ensures c.args.policy.now refl c.told-in-Unfreeze.result c.told-in-Unfreeze.ensures
+
+pub returns-in-Count : goal.returns-in-Count
+returns-in-Count g c = λ locals room.
+    tells c.args.heap.now c.args.policy.now locals room c.args.command.now _ c.in-Count.is (λ own. own) refl (λ w. event.Count w.numbers.zero_count w.numbers.one_count w.numbers.two_count) (λ w. refl) c.counts.result
+    (λ w r same. ap (λ (p : Policy). event.Count p.numbers.zero_count p.numbers.one_count p.numbers.two_count) (sym same) ∙ sym c.counts.ensures) c.told-in-Count.result c.told-in-Count.ensures
+
+pub returns-in-Gens : goal.returns-in-Gens
+returns-in-Gens g c = λ locals room.
+    tells c.args.heap.now c.args.policy.now locals room c.args.command.now _ c.in-Gens.is (λ own. own) refl (λ w. gens_line w.objects) (λ w. refl) c.sizes.result
+    (λ w r same. ap gens_line (sym r.objects) ∙ sym c.sizes.ensures) c.told-in-Gens.result c.told-in-Gens.ensures
