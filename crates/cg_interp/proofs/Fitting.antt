@@ -27,20 +27,20 @@ when_ok (Ok x) is holds = holds
 when_ok (Err e) is holds = absurd (cc)
 
 -- room for all that was wanted is room for one more
-pub room_for_one_more : (store : Store) (frames count high : ℕ) → count ≡ object_number store → frames + 2 * (count + 1 + 1) + 8 ≤ high → frames + 2 * (length (objects_of store) + 1) + 8 ≤ high
-room_for_one_more store frames count high counted room = omega (arith, objects-number store, counted, room)
+pub room_for_one_more : (store : Store) (first_budget count high : ℕ) → count ≡ object_number store → first_budget + 2 * (count + 1 + 1) + 8 ≤ high → first_budget + 2 * (length (objects_of store) + 1) + 8 ≤ high
+room_for_one_more store first_budget count high counted room = omega (arith, objects-number store, counted, room)
 
 -- a command of which the heap says how far it grew
 pub fit_after : (script : Script) (room : Bool) (old inside : State) → inside ≡ old → (store : Store) (policy : Policy) → GrowsBy room inside.store store → (room ≡ true → HasRoomForOneMore old) → IsFit script old → IsFit script (record inside { store = store; policy = policy })
 fit_after script room old inside same store policy grows one_more fit = record {
   names = grows.names ∙ here.names;
-  frames = here.frames;
+  first_budget = here.first_budget;
   room = known room grows.objects (λ is. subst HasRoomForOneMore (sym same) (one_more is));
 }
   where
     here : IsFit script inside
     here = subst (IsFit script) (sym same) fit
 
-    known : (room : Bool) → length (objects_of store) ≤ length (objects_of inside.store) + (if room then 1 else 0) → (room ≡ true → HasRoomForOneMore inside) → inside.frames + 2 * length (objects_of store) + 8 ≤ length inside.activities + inside.room
+    known : (room : Bool) → length (objects_of store) ≤ length (objects_of inside.store) + (if room then 1 else 0) → (room ≡ true → HasRoomForOneMore inside) → inside.first_budget + 2 * length (objects_of store) + 8 ≤ length inside.activities + inside.room
     known true less one_more = let more : HasRoomForOneMore inside = one_more refl in omega (arith, less, more)
     known false less one_more = let had = here.room in omega (arith, less, had)

@@ -155,12 +155,12 @@ module _ (script : Script) where
   pub comes_here : (top : Activity) (e : State) → ComesFrom script top e top e
   comes_here top e w stands kept = record { after = w; goes = stays w; stands = stands }
 
-  -- One activity was on top, and now another is, of an engine with as many frames.
-  module _ (top mid_top : Activity) (old mid : State) (comes : ComesFrom script top old mid_top mid) (frames : mid.frames ≡ old.frames) where
-    kept_then : (w : World) (stands : StandsFor script (under top old) w) (kept : StaysKept script old.frames w) → StaysKept script mid.frames (comes w stands kept).after
+  -- One activity was on top, and now another is, of an engine with the same first budget.
+  module _ (top mid_top : Activity) (old mid : State) (comes : ComesFrom script top old mid_top mid) (first_budget : mid.first_budget ≡ old.first_budget) where
+    kept_then : (w : World) (stands : StandsFor script (under top old) w) (kept : StaysKept script old.first_budget w) → StaysKept script mid.first_budget (comes w stands kept).after
     kept_then w stands kept =
         let come = comes w stands kept in
-        subst (λ n. StaysKept script n come.after) (sym frames) (stays_so w come.after come.goes (IsKept script old.frames) kept)
+        subst (λ n. StaysKept script n come.after) (sym first_budget) (stays_so w come.after come.goes (IsKept script old.first_budget) kept)
 
     pub at_turn_then : IsAtTurn script top old → IsAtTurn script mid_top mid
     at_turn_then (w, stands, kept) = ((comes w stands kept).after, (comes w stands kept).stands, kept_then w stands kept)

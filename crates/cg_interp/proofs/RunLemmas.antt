@@ -85,13 +85,13 @@ has_laws kept printable script budget known spelled = record {
 }
 
 -- What ran so far, and the laws.
-module _ (script : Script) (budget : ℕ) (before : Option (List ℕ)) (e : State) (now : Option (List ℕ)) (ran : Ran script budget before e now) (laws : HasLaws script budget) (frames : e.frames ≡ budget) where
+module _ (script : Script) (budget : ℕ) (before : Option (List ℕ)) (e : State) (now : Option (List ℕ)) (ran : Ran script budget before e now) (laws : HasLaws script budget) (first_budget : e.first_budget ≡ budget) where
   -- the world that it left
   abbrev pub so_far : World
   so_far = world_after script budget ran.steps
 
-  pub kept_so_far : StaysKept script e.frames so_far
-  kept_so_far = subst (λ n. StaysKept script n so_far) (sym frames) (laws.kept ran.steps ran.run)
+  pub kept_so_far : StaysKept script e.first_budget so_far
+  kept_so_far = subst (λ n. StaysKept script n so_far) (sym first_budget) (laws.kept ran.steps ran.run)
 
   -- the lines of longer runs
   lines_on : (more : List StepTaken) → events_of (ran.steps ++ more) ≡ ran.told ++ (ran.left ++ events_of more)
@@ -103,7 +103,7 @@ module _ (script : Script) (budget : ℕ) (before : Option (List ℕ)) (e : Stat
       (subst (λ es. Includes es event) (sym (lines_on more)) (Includes-append_right ran.told (ran.left ++ events_of more) event m))
 
   -- so a turn may be taken
-  pub turn_may_be_taken : (w : World) × (left : List Event) × StandsWith script e left w × StaysKept script e.frames w × StaysPrintable script left w
+  pub turn_may_be_taken : (w : World) × (left : List Event) × StandsWith script e left w × StaysKept script e.first_budget w × StaysPrintable script left w
   turn_may_be_taken = (so_far, ran.left, ran.stands, kept_so_far, printable_so_far)
 
   abbrev text : List Event → List ℕ
@@ -156,7 +156,7 @@ module _ (script : Script) (budget : ℕ) (before : Option (List ℕ)) (e : Stat
   -- A turn with its lines makes what ran longer, or ends it.
   module _ (e' : State) (now' : Option (List ℕ)) where
     abbrev pub Wrote : Standing → Type 0
-    Wrote stands = (w : World) (left : List Event) → StandsWith script e left w → StaysKept script e.frames w → WritesTurn script e w left e' stands now now'
+    Wrote stands = (w : World) (left : List Event) → StandsWith script e left w → StaysKept script e.first_budget w → WritesTurn script e w left e' stands now now'
 
     abbrev Turned_so : Turned → Type 0
     Turned_so answer = TurnsWith script (Advances e ran.left e') so_far ran.left e' answer
@@ -204,7 +204,7 @@ module _ (script : Script) (budget : ℕ) (before : Option (List ℕ)) (e : Stat
         go turned.Spent is (none, ends) wrote = ran_whole (BudgetSpent ∷ []) (BudgetSpent ∷ []) [] ends.after ends.goes (ap (λ l. l ++ BudgetSpent ∷ []) none) BudgetIsSpent now' refl ends.ended (λ n. cc) wrote
 
     -- where a line was cut short
-    pub ran_cut : FrontsBeginWholeTexts → ((w : World) (left : List Event) → StandsWith script e left w → StaysKept script e.frames w → CutsTurn script e w left e' now now') → WrotePart script budget before now'
+    pub ran_cut : FrontsBeginWholeTexts → ((w : World) (left : List Event) → StandsWith script e left w → StaysKept script e.first_budget w → CutsTurn script e w left e' now now') → WrotePart script budget before now'
     ran_cut law cut =
         let t = cut so_far ran.left ran.stands kept_so_far in
         let g = went script (Advances e ran.left e') so_far ran.left e' t.answer t.turns in

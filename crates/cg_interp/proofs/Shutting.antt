@@ -202,10 +202,10 @@ tells_left script e w number stands sound is =
     (ap (λ n. Left n ∷ End ∷ []) same, refl)
 
 -- A turn that gives up a name keeps what an engine has room for.
-pub keeps_unbound : (inside old new : State) → inside ≡ old → (refs : List ℕ) (name : ℕ) → new.store ≡ held refs (named name None inside.store) → length new.activities ≡ length inside.activities + 2 → inside.room ≤ new.room + 2 → new.frames ≡ inside.frames → TurnKeeps old new
-keeps_unbound inside old new same refs name store two room frames = subst (λ e. TurnKeeps e new) same (record {
+pub keeps_unbound : (inside old new : State) → inside ≡ old → (refs : List ℕ) (name : ℕ) → new.store ≡ held refs (named name None inside.store) → length new.activities ≡ length inside.activities + 2 → inside.room ≤ new.room + 2 → new.first_budget ≡ inside.first_budget → TurnKeeps old new
+keeps_unbound inside old new same refs name store two room first_budget = subst (λ e. TurnKeeps e new) same (record {
   objects = omega (arith, ap (λ st. length (objects_of st)) store, (none-held refs (named name None inside.store)).objects);
   room = omega (arith, two, room);
   names = ap (λ st. length st.names) store ∙ length-set inside.store.names name None;
-  frames = frames;
+  first_budget = first_budget;
 })

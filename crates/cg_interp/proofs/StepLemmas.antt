@@ -287,17 +287,17 @@ module _ (script : Script) (e : State) (w : World) where
   caller_live budget after (caller_of.Frame locals procedure next) stands lawful = locals_are_live script budget e locals procedure next w stands lawful
 
   -- what a command may rest on
-  pub may_command : (top : Own) → StandsFor script (under top e) w → IsKept script e.frames w → IsSound e.store → IsSpelled script → IsFit script e → MayCommand e
+  pub may_command : (top : Own) → StandsFor script (under top e) w → IsKept script e.first_budget w → IsSound e.store → IsSpelled script → IsFit script e → MayCommand e
   may_command top stands kept sound spelled fit = record {
-    few = few_holds script e.frames e.store w stands.represents kept.lawful fit.frames (few_objects e.store sound.objects);
-    last = low_serials script spelled e.frames e.store w stands.represents kept.lawful fit.frames;
-    small = subst AreSmall (sym stands.numbers) (small_numbers script e.frames w spelled kept.few fit.frames);
-    idle = idle_in script e.frames top e w stands sound kept;
+    few = few_holds script e.first_budget e.store w stands.represents kept.lawful fit.first_budget (few_objects e.store sound.objects);
+    last = low_serials script spelled e.first_budget e.store w stands.represents kept.lawful fit.first_budget;
+    small = subst AreSmall (sym stands.numbers) (small_numbers script e.first_budget w spelled kept.few fit.first_budget);
+    idle = idle_in script e.first_budget top e w stands sound kept;
     room = omega (arith, has_room script top e w stands kept.lawful fit);
   }
 
 -- The next command of a caller was done.
-module _ (script : Script) (caller : Caller) (after : ℕ) (c : Command) (old new : State) (next : ComesNext script caller c after) (w : World) (stands : StandsFor script (under (caller_activity caller) old) w) (kept : StaysKept script old.frames w) (none : due w ≡ None) where
+module _ (script : Script) (caller : Caller) (after : ℕ) (c : Command) (old new : State) (next : ComesNext script caller c after) (w : World) (stands : StandsFor script (under (caller_activity caller) old) w) (kept : StaysKept script old.first_budget w) (none : due w ≡ None) where
   without : Without script caller after c old w
   without = without_command script old w after c caller next stands
 
@@ -308,7 +308,7 @@ module _ (script : Script) (caller : Caller) (after : ℕ) (c : Command) (old ne
     record {
       stands = without.stands;
       locals = without.locals;
-      kept = command_keeps script w without.world c stands.running (caller_detects_none script old w caller stands) (without.does none) old.frames kept;
+      kept = command_keeps script w without.world c stands.running (caller_detects_none script old w caller stands) (without.does none) old.first_budget kept;
     },
   )
 

@@ -150,13 +150,13 @@ StaysKeptAfter script budget w command = (events : List Event) (after : World) â
 pub record IsAtCommand (script : Script) (caller : Caller) (e : State) (w : World) (command : Command) : Type 0 where
   pub stands : StandsFor script (under (caller_activity caller) e) w
   pub locals : HasLocals (caller_locals caller) w
-  pub kept : StaysKeptAfter script e.frames w command
+  pub kept : StaysKeptAfter script e.first_budget w command
 
 -- A command was performed in this world, for which the engine stood with the heap and the policy of before.
 pub record IsPerformed (script : Script) (top : Activity) (e : State) (w : World) (command : Command) (before : Store) (was : Policy) (answer : Result Done Refusal) : Type 0 where
   pub stood : StandsFor script (under top (record e { store = before; policy = was })) w
   pub answers : CommandAnswers answer (effect w command) before was e.store e.policy
-  pub kept : StaysKeptAfter script e.frames w command
+  pub kept : StaysKeptAfter script e.first_budget w command
 
 -- in some world, where the heap had few holds
 pub record HasPerformed (script : Script) (top : Activity) (e : State) (answer : Result Done Refusal) : Type 0 where

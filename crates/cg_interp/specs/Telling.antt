@@ -49,24 +49,24 @@ Advances old left new still = (length still < length left) ⊎ ((length still �
 
 -- With this activity on top the engine stands for a world of a run.
 abbrev pub IsAtTurn : Script → Activity → State → Type 0
-IsAtTurn script top e = (w : World) × StandsFor script (under top e) w × StaysKept script e.frames w
+IsAtTurn script top e = (w : World) × StandsFor script (under top e) w × StaysKept script e.first_budget w
 
 -- From each such world the machine goes on as is answered, by a step at least.
 abbrev pub TurnsFrom : Script → Activity → State → State → Turned → Type 0
-TurnsFrom script top old new answer = (w : World) → StandsFor script (under top old) w → StaysKept script old.frames w → TurnsWith script (λ still. ⊥) w [] new answer
+TurnsFrom script top old new answer = (w : World) → StandsFor script (under top old) w → StaysKept script old.first_budget w → TurnsWith script (λ still. ⊥) w [] new answer
 
 -- the same of an engine as it stands, where a collection may be on top and have lines left
 abbrev pub IsAtAnyTurn : Script → State → Type 0
-IsAtAnyTurn script e = (w : World) × (left : List Event) × StandsWith script e left w × StaysKept script e.frames w
+IsAtAnyTurn script e = (w : World) × (left : List Event) × StandsWith script e left w × StaysKept script e.first_budget w
 
 abbrev pub TurnsAny : Script → State → State → Turned → Type 0
-TurnsAny script old new answer = (w : World) (left : List Event) → StandsWith script old left w → StaysKept script old.frames w → TurnsWith script (Advances old left new) w left new answer
+TurnsAny script old new answer = (w : World) (left : List Event) → StandsWith script old left w → StaysKept script old.first_budget w → TurnsWith script (Advances old left new) w left new answer
 
 -- A collection is on top of a world of a run, and may take its next step.
 abbrev pub CollectsNext : Script → Bool → Collection → State → Type 0
-CollectsNext script asked c e = (w : World) × (left : List Event) × Collects script asked c e left w × StaysKept script e.frames w
+CollectsNext script asked c e = (w : World) × (left : List Event) × Collects script asked c e left w × StaysKept script e.first_budget w
 
 -- From each such world the machine goes on as is answered.
 abbrev pub CollectTurns : Script → Bool → Collection → State → State → Turned → Type 0
-CollectTurns script asked c old new answer = (w : World) (left : List Event) → Collects script asked c old left w → StaysKept script old.frames w
+CollectTurns script asked c old new answer = (w : World) (left : List Event) → Collects script asked c old left w → StaysKept script old.first_budget w
     → TurnsWith script (Advances (under (activity.Collecting asked c) old) left new) w left new answer

@@ -29,7 +29,7 @@ impl<B: Kind> Engine<B> {
         requires stands { IsAtTurn script.now (activity_of.Script next) self.old }
         ensures turns { TurnsFrom script.now (activity_of.Script next) self.old self.new result }
         ensures fit { IsFit script.now self.new }
-        ensures frames { self.new.frames ≡ self.old.frames }
+        ensures first_budget { self.new.first_budget ≡ self.old.first_budget }
     {
         let mut next = next;
         'commands: loop {
@@ -53,7 +53,7 @@ impl<B: Kind> Engine<B> {
         requires stands { IsAtTurn script.now (activity_of.Script next) self.old }
         ensures turns { TurnsFrom script.now (activity_of.Script next) self.old self.new result }
         ensures fit { IsFit script.now self.new }
-        ensures frames { self.new.frames ≡ self.old.frames }
+        ensures first_budget { self.new.first_budget ≡ self.old.first_budget }
     {
         match self.policy.due() {
             Some(generation) => {
@@ -79,7 +79,7 @@ impl<B: Kind> Engine<B> {
         ensures turns { TurnsFrom script.now (activity_of.Frame locals procedure next) self.old
             self.new result }
         ensures fit { IsFit script.now self.new }
-        ensures frames { self.new.frames ≡ self.old.frames }
+        ensures first_budget { self.new.first_budget ≡ self.old.first_budget }
     {
         let body = body_of(script, procedure);
         let mut next = next;
@@ -110,7 +110,7 @@ impl<B: Kind> Engine<B> {
         ensures steps { (script : AnyScript) → ComesNext script caller command.now after
             → StepsFrom script caller after self.old self.new result }
         ensures fit { StaysFit self.old self.new }
-        ensures frames { self.new.frames ≡ self.old.frames }
+        ensures first_budget { self.new.first_budget ≡ self.old.first_budget }
     {
         // No heap is large, and where no collection runs none of its places has an object.
         self.heap.sound();
@@ -134,7 +134,7 @@ impl<B: Kind> Engine<B> {
         ensures does { (script : AnyScript) (w : World) → IsAtCommand script caller self.old w command.now
             → RunsTo script w command.now (caller_activity caller) self.new result }
         ensures fit { StaysFit self.old self.new }
-        ensures frames { self.new.frames ≡ self.old.frames }
+        ensures first_budget { self.new.first_budget ≡ self.old.first_budget }
     {
         let room = self.make_room(command);
         self.carry_out(caller, command, room)
@@ -152,7 +152,7 @@ impl<B: Kind> Engine<B> {
         ensures does { (script : AnyScript) (w : World) → IsAtCommand script caller self.old w command.now
             → RunsTo script w command.now (caller_activity caller) self.new result }
         ensures fit { StaysFit self.old self.new }
-        ensures frames { self.new.frames ≡ self.old.frames }
+        ensures first_budget { self.new.first_budget ≡ self.old.first_budget }
     {
         let done = perform(
             self.alloc,
@@ -186,7 +186,7 @@ impl<B: Kind> Engine<B> {
         self.heap.sound();
         // The garbage list is an object too.
         let objects = self.heap.live() as usize + 1;
-        let height = self.frames as usize + 2 * (objects + 1) + 8;
+        let height = self.first_budget as usize + 2 * (objects + 1) + 8;
         self.stack.reserve_up_to(height).is_ok()
     }
 }

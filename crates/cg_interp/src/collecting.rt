@@ -36,7 +36,7 @@ impl<B: Kind> Engine<B> {
         requires idle { self.old.policy.running ≡ false }
         requires stands { (script : AnyScript) × IsSpelled script × IsFit script self.old
             × (w : World) × StandsFor script (under top self.old) w
-            × StaysKept script self.old.frames (push (new_collection generation asked w) w) }
+            × StaysKept script self.old.first_budget (push (new_collection generation asked w) w) }
         ensures begins { (script : AnyScript) (w : World) → StandsFor script (under top self.old) w
             → StandsWith script self.new [] (push (new_collection generation asked w) w) }
         ensures keeps { TurnKeeps self.old self.new }
@@ -60,13 +60,13 @@ impl<B: Kind> Engine<B> {
         requires fit { IsFit script.now self.old }
         requires stands { (w : World) × (left : List AnyEvent)
             × StandsWith script.now (under (activity_of.Collecting asked collection) self.old) left w
-            × StaysKept script.now self.old.frames w }
+            × StaysKept script.now self.old.first_budget w }
         ensures turns { (w : World) (left : List AnyEvent)
             → StandsWith script.now (under (activity_of.Collecting asked collection) self.old) left w
-            → StaysKept script.now self.old.frames w
+            → StaysKept script.now self.old.first_budget w
             → TurnsWith script.now (Advances (under (activity_of.Collecting asked collection) self.old) left self.new) w left self.new result }
         ensures fit { IsFit script.now self.new }
-        ensures frames { self.new.frames ≡ self.old.frames }
+        ensures first_budget { self.new.first_budget ≡ self.old.first_budget }
     {
         self.heap.sound();
         self.go_on_collecting(asked, collection, script, steps)
@@ -91,7 +91,7 @@ impl<B: Kind> Engine<B> {
         requires stands { CollectsNext script.now asked collection self.old }
         ensures turns { CollectTurns script.now asked collection self.old self.new result }
         ensures fit { IsFit script.now self.new }
-        ensures frames { self.new.frames ≡ self.old.frames }
+        ensures first_budget { self.new.first_budget ≡ self.old.first_budget }
     {
         let mut collection = collection;
         let answer = collection.step(&mut self.heap, &mut self.policy, script, steps);

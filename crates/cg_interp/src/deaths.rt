@@ -47,7 +47,7 @@ impl<B: Kind> Engine<B> {
         requires fit { IsFit script.now self.old }
         requires stands { IsAtTurn script.now (activity_of.Dying death) self.old }
         ensures turns { (w : World) → StandsFor script.now (under (activity_of.Dying death) self.old) w
-            → StaysKept script.now self.old.frames w → DeathTurns script.now w self.new result }
+            → StaysKept script.now self.old.first_budget w → DeathTurns script.now w self.new result }
         ensures dead { IfDies result (λ o. IsUnheld self.new.store o) }
         ensures room { IfDies result (λ _. 0 < self.new.room) }
         ensures keeps { TurnKeeps self.old self.new }

@@ -44,16 +44,16 @@ fn turn_and_record<B: Kind, K: Sink, L: Ledger>(
     requires spelled { IsSpelled script.now }
     requires fit { IsFit script.now engine.old }
     requires stands { (w : World) × (left : List AnyEvent) × StandsWith script.now engine.old left w
-        × StaysKept script.now engine.old.frames w }
+        × StaysKept script.now engine.old.first_budget w }
     ensures ok { IfOk result (λ told. (w : World) (left : List AnyEvent) → StandsWith script.now engine.old left w
-        → StaysKept script.now engine.old.frames w
+        → StaysKept script.now engine.old.first_budget w
         → RecordsTurn script.now engine.old unfinished.old w left engine.new unfinished.new told (K.written sink.old) (K.written sink.new)) }
     ensures err { OnErr result ((w : World) (left : List AnyEvent) → StandsWith script.now engine.old left w
-        → StaysKept script.now engine.old.frames w
+        → StaysKept script.now engine.old.first_budget w
         → CutsRecord script.now engine.old unfinished.old w left engine.new (K.written sink.old) (K.written sink.new)) }
     ensures cause { HasCause (K.faults sink.old) (K.faults sink.new) result }
     ensures fit { IsFit script.now engine.new }
-    ensures frames { engine.new.frames ≡ engine.old.frames }
+    ensures first_budget { engine.new.first_budget ≡ engine.old.first_budget }
     ensures was_sound { IsSound engine.old.store }
     ensures sound { IsSound engine.new.store }
 {
@@ -97,18 +97,18 @@ fn record_turns<B: Kind, K: Sink, L: Ledger>(
     sink: &mut K,
 ) -> RunEnd
     requires spelled { IsSpelled script.now }
-    requires laws { HasLaws script.now engine.old.frames }
+    requires laws { HasLaws script.now engine.old.first_budget }
     requires fit { IsFit script.now engine.old }
-    requires opens { StandsFor script.now engine.old (opening script.now engine.old.frames) }
+    requires opens { StandsFor script.now engine.old (opening script.now engine.old.first_budget) }
     ensures done { result ≡ RunEnd.Done
-        → WroteRecords script.now engine.old.frames Ended (K.written sink.old) (K.written sink.new) }
+        → WroteRecords script.now engine.old.first_budget Ended (K.written sink.old) (K.written sink.new) }
     ensures spent { result ≡ RunEnd.Budget
-        → WroteRecords script.now engine.old.frames BudgetIsSpent (K.written sink.old) (K.written sink.new) }
+        → WroteRecords script.now engine.old.first_budget BudgetIsSpent (K.written sink.old) (K.written sink.new) }
     ensures part { result ≡ RunEnd.WriteFault
-        → WroteRecordsPart script.now engine.old.frames (K.written sink.old) (K.written sink.new) }
+        → WroteRecordsPart script.now engine.old.first_budget (K.written sink.old) (K.written sink.new) }
     ensures cause { result ≡ RunEnd.WriteFault → Rose (K.faults sink.old) (K.faults sink.new) }
     ensures memory { result ≡ RunEnd.OutOfMemory
-        → WroteRecordsPart script.now engine.old.frames (K.written sink.old) (K.written sink.new) }
+        → WroteRecordsPart script.now engine.old.first_budget (K.written sink.old) (K.written sink.new) }
     ensures later { K.faults sink.old ≤ K.faults sink.new }
 {
     no_run_is_stuck();

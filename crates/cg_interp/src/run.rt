@@ -54,16 +54,16 @@ fn turn_and_write<B: Kind, K: Sink, L: Ledger>(
     requires spelled { IsSpelled script.now }
     requires fit { IsFit script.now engine.old }
     requires stands { (w : World) × (left : List AnyEvent) × StandsWith script.now engine.old left w
-        × StaysKept script.now engine.old.frames w × StaysPrintable script.now left w }
+        × StaysKept script.now engine.old.first_budget w × StaysPrintable script.now left w }
     ensures ok { IfOk result (λ stands. (w : World) (left : List AnyEvent) → StandsWith script.now engine.old left w
-        → StaysKept script.now engine.old.frames w
+        → StaysKept script.now engine.old.first_budget w
         → WritesTurn script.now engine.old w left engine.new stands (K.written sink.old) (K.written sink.new)) }
     ensures err { OnErr result ((w : World) (left : List AnyEvent) → StandsWith script.now engine.old left w
-        → StaysKept script.now engine.old.frames w
+        → StaysKept script.now engine.old.first_budget w
         → CutsTurn script.now engine.old w left engine.new (K.written sink.old) (K.written sink.new)) }
     ensures cause { HasCause (K.faults sink.old) (K.faults sink.new) result }
     ensures fit { IsFit script.now engine.new }
-    ensures frames { engine.new.frames ≡ engine.old.frames }
+    ensures first_budget { engine.new.first_budget ≡ engine.old.first_budget }
     ensures sound { IsSound engine.new.store }
 {
     let answer = engine.turn(script, steps);
@@ -83,15 +83,15 @@ fn run_turns<B: Kind, K: Sink, L: Ledger>(
     sink: &mut K,
 ) -> RunEnd
     requires spelled { IsSpelled script.now }
-    requires laws { HasLaws script.now engine.old.frames }
+    requires laws { HasLaws script.now engine.old.first_budget }
     requires fit { IsFit script.now engine.old }
-    requires opens { StandsFor script.now engine.old (opening script.now engine.old.frames) }
+    requires opens { StandsFor script.now engine.old (opening script.now engine.old.first_budget) }
     ensures done { result ≡ RunEnd.Done
-        → WroteRun script.now engine.old.frames Ended (K.written sink.old) (K.written sink.new) }
+        → WroteRun script.now engine.old.first_budget Ended (K.written sink.old) (K.written sink.new) }
     ensures spent { result ≡ RunEnd.Budget
-        → WroteRun script.now engine.old.frames BudgetIsSpent (K.written sink.old) (K.written sink.new) }
+        → WroteRun script.now engine.old.first_budget BudgetIsSpent (K.written sink.old) (K.written sink.new) }
     ensures part { result ≡ RunEnd.WriteFault
-        → WrotePart script.now engine.old.frames (K.written sink.old) (K.written sink.new) }
+        → WrotePart script.now engine.old.first_budget (K.written sink.old) (K.written sink.new) }
     ensures cause { result ≡ RunEnd.WriteFault → Rose (K.faults sink.old) (K.faults sink.new) }
     ensures memory { result ≢ RunEnd.OutOfMemory }
     ensures later { K.faults sink.old ≤ K.faults sink.new }

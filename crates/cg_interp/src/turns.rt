@@ -24,7 +24,7 @@ impl<B: Kind> Engine<B> {
         requires stands { IsAtAnyTurn script.now self.old }
         ensures turns { TurnsAny script.now self.old self.new result }
         ensures fit { IsFit script.now self.new }
-        ensures frames { self.new.frames ≡ self.old.frames }
+        ensures first_budget { self.new.first_budget ≡ self.old.first_budget }
     {
         match self.stack.pop() {
             Some(top) => self.turn_of(top, script, steps),
@@ -40,7 +40,7 @@ impl<B: Kind> Engine<B> {
         requires stands { IsAtAnyTurn script.now (under top self.old) }
         ensures turns { TurnsAny script.now (under top self.old) self.new result }
         ensures fit { IsFit script.now self.new }
-        ensures frames { self.new.frames ≡ self.old.frames }
+        ensures first_budget { self.new.first_budget ≡ self.old.first_budget }
     {
         match top {
             Activity::Script { next } => self.go_on(script, next),
@@ -66,7 +66,7 @@ impl<B: Kind> Engine<B> {
         ensures turns { (script : AnyScript) →
             TurnsFrom script (activity_of.Releasing release) self.old self.new result }
         ensures fit { StaysFit self.old self.new }
-        ensures frames { self.new.frames ≡ self.old.frames }
+        ensures first_budget { self.new.first_budget ≡ self.old.first_budget }
     {
         self.go_on_releasing(release)
     }
@@ -78,7 +78,7 @@ impl<B: Kind> Engine<B> {
             × IsAtTurn script (activity_of.Shutdown started) self.old }
         ensures turns { (script : AnyScript) → TurnsFrom script (activity_of.Shutdown started) self.old self.new result }
         ensures fit { StaysFit self.old self.new }
-        ensures frames { self.new.frames ≡ self.old.frames }
+        ensures first_budget { self.new.first_budget ≡ self.old.first_budget }
     {
         self.heap.sound();
         if started {
@@ -95,7 +95,7 @@ impl<B: Kind> Engine<B> {
         requires stands { IsAtTurn script.now (activity_of.Dying death) self.old }
         ensures turns { TurnsFrom script.now (activity_of.Dying death) self.old self.new result }
         ensures fit { IsFit script.now self.new }
-        ensures frames { self.new.frames ≡ self.old.frames }
+        ensures first_budget { self.new.first_budget ≡ self.old.first_budget }
     {
         match self.go_on_dying(death, script) {
             Dies::Turned(answer) => answer,

@@ -30,7 +30,7 @@ answer-requires-clause-performed g c =
         performed = record {
           stood = before;
           answers = c.perform-done.ensures.performs w (record { represents = before.represents; locals_are = locals }) (policy_is script _ w before);
-          kept = subst (λ (e : State). StaysKeptAfter script e.frames w c.args.command.now) (sym c.self.view_is) at.kept;
+          kept = subst (λ (e : State). StaysKeptAfter script e.first_budget w c.args.command.now) (sym c.self.view_is) at.kept;
         };
       },
     )
@@ -42,7 +42,7 @@ returns-clause-does g c = λ script w at.
     c.answer.ensures.does script w c.args.command.now c.self.inside.heap c.self.inside.policy (record {
       stood = before;
       answers = c.perform-done.ensures.performs w (record { represents = before.represents; locals_are = locals }) (policy_is script _ w before);
-      kept = subst (λ (e : State). StaysKeptAfter script e.frames w c.args.command.now) (sym c.self.view_is) at.kept;
+      kept = subst (λ (e : State). StaysKeptAfter script e.first_budget w c.args.command.now) (sym c.self.view_is) at.kept;
     })
 
 pub returns-clause-fit : goal.returns-clause-fit

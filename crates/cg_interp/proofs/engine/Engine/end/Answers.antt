@@ -14,7 +14,7 @@ collect-requires-clause-stands g c =
     let s = c.requires.stands in
     let is = sym c.in-Some.is ∙ c.due.ensures ∙ ap (λ (e : State). due_of e.policy) c.self.view_is in
     let step = script_collects c.args.script.now c.args.self.now c.args.next s.0 s.1 c.in-Some.generation (due_in c.args.script.now (under (activity_of.Script c.args.next) c.args.self.now) s.0 (Some c.in-Some.generation) s.1 is) in
-    (c.args.script.now, c.requires.spelled, c.requires.fit, s.0, s.1, kept_after c.args.script.now s.0 (push (new_collection c.in-Some.generation false s.0) s.0) s.1.running c.args.self.now.frames [] step s.2)
+    (c.args.script.now, c.requires.spelled, c.requires.fit, s.0, s.1, kept_after c.args.script.now s.0 (push (new_collection c.in-Some.generation false s.0) s.0) s.1.running c.args.self.now.first_budget [] step s.2)
 
 pub collect-requires-clause-room : goal.collect-requires-clause-room
 collect-requires-clause-room g c = let s = c.requires.stands in omega (arith, has_room c.args.script.now (activity_of.Script c.args.next) c.args.self.now s.0 s.1 (s.2 [] tt).lawful c.requires.fit)

@@ -11,7 +11,7 @@ abbrev pub invariant-commands : goal.invariant-commands
 invariant-commands g l = record {
   comes : ComesFrom l.script (activity_of.Frame l.locals l.procedure l.fn.next) l.fn.self (activity_of.Frame l.locals l.procedure l.next) l.self;
   fit : IsFit l.script l.self;
-  frames : l.self.frames ≡ l.fn.self.frames;
+  first_budget : l.self.first_budget ≡ l.fn.self.first_budget;
 }
 
 abbrev pub decreases-commands : goal.decreases-commands

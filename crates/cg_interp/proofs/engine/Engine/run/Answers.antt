@@ -11,12 +11,12 @@ carry_out-requires-clause-stands g c =
     let room = c.make_room-room.ensures.alone in (
       script,
       spelled,
-      still_fits script c.args.self.now c.make_room-room.new.self room.store room.activities room.frames room.more fit,
+      still_fits script c.args.self.now c.make_room-room.new.self room.store room.activities room.first_budget room.more fit,
       w,
       record {
         stands = same_engine script (under (caller_activity c.args.caller) c.args.self.now) (under (caller_activity c.args.caller) c.make_room-room.new.self) w at.stands room.store room.policy (ap (λ l. caller_activity c.args.caller ∷ l) room.activities) room.budget;
         locals = at.locals;
-        kept = subst (λ n. StaysKeptAfter script n w c.args.command.now) (sym room.frames) at.kept;
+        kept = subst (λ n. StaysKeptAfter script n w c.args.command.now) (sym room.first_budget) at.kept;
       },
     )
 
@@ -26,10 +26,10 @@ returns-clause-does g c = λ script w at.
     c.carry_out.ensures.does script w (record {
       stands = same_engine script (under (caller_activity c.args.caller) c.args.self.now) (under (caller_activity c.args.caller) c.make_room-room.new.self) w at.stands room.store room.policy (ap (λ l. caller_activity c.args.caller ∷ l) room.activities) room.budget;
       locals = at.locals;
-      kept = subst (λ n. StaysKeptAfter script n w c.args.command.now) (sym room.frames) at.kept;
+      kept = subst (λ n. StaysKeptAfter script n w c.args.command.now) (sym room.first_budget) at.kept;
     })
 
 pub returns-clause-fit : goal.returns-clause-fit
 returns-clause-fit g c = λ script fit.
     let room = c.make_room-room.ensures.alone in
-    c.carry_out.ensures.fit script (still_fits script c.args.self.now c.make_room-room.new.self room.store room.activities room.frames room.more fit)
+    c.carry_out.ensures.fit script (still_fits script c.args.self.now c.make_room-room.new.self room.store room.activities room.first_budget room.more fit)

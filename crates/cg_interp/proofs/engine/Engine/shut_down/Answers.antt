@@ -16,7 +16,7 @@ give_up-requires-clause-name g c = greatest_below c.greatest_bound.new.self.stor
 pub collect-requires-clause-idle : goal.collect-requires-clause-idle
 collect-requires-clause-idle g c =
     let (script, spelled, fit, (w, stands, kept)) = c.requires.stands in
-    ap (λ (e : State). e.policy.running) c.greatest_bound.ensures.same ∙ none_runs script c.args.self.now false w stands c.args.self.now.frames (kept [] tt).lawful
+    ap (λ (e : State). e.policy.running) c.greatest_bound.ensures.same ∙ none_runs script c.args.self.now false w stands c.args.self.now.first_budget (kept [] tt).lawful
 
 pub collect-requires-clause-stands : goal.collect-requires-clause-stands
 collect-requires-clause-stands g c =
@@ -29,7 +29,7 @@ collect-requires-clause-stands g c =
       fit,
       last,
       last_stands script c.args.self.now w stands,
-      kept_after script w (push (new_collection 2 false last) last) stands.running c.args.self.now.frames [] (last_steps script c.args.self.now w stands none) kept,
+      kept_after script w (push (new_collection 2 false last) last) stands.running c.args.self.now.first_budget [] (last_steps script c.args.self.now w stands none) kept,
     )
 
 pub returns-in-Some-clause-turns : goal.returns-in-Some-clause-turns

@@ -17,7 +17,7 @@ collect-requires-clause-stands g c =
     let is = sym c.in-Some.is ∙ c.due.ensures ∙ ap (λ (e : State). due_of e.policy) c.self.view_is in
     let step = caller_collects script c.args.self.now w c.args.after c.args.command.now c.args.caller next stands c.in-Some.generation
     (due_in script (under (caller_activity c.args.caller) c.args.self.now) w (Some c.in-Some.generation) stands is) in
-    (script, spelled, fit, w, subst (λ a. StandsFor script (under a c.args.self.now) w) (sym c.activity.ensures) stands, kept_after script w (push (new_collection c.in-Some.generation false w) w) stands.running c.args.self.now.frames [] step kept)
+    (script, spelled, fit, w, subst (λ a. StandsFor script (under a c.args.self.now) w) (sym c.activity.ensures) stands, kept_after script w (push (new_collection c.in-Some.generation false w) w) stands.running c.args.self.now.first_budget [] step kept)
 
 pub collect-requires-clause-room : goal.collect-requires-clause-room
 collect-requires-clause-room g c =
@@ -43,7 +43,7 @@ run-requires-clause-spelled g c =
 pub run-requires-clause-locals : goal.run-requires-clause-locals
 run-requires-clause-locals g c =
     let (script, spelled, fit, next, (w, stands, kept)) = c.requires.stands in
-    subst (λ k. LocalsLive c.args.self.now.store (caller_locals k)) (sym c.at.ensures) (caller_live script c.args.self.now w c.args.self.now.frames c.args.after c.args.caller stands (kept [] tt).lawful)
+    subst (λ k. LocalsLive c.args.self.now.store (caller_locals k)) (sym c.at.ensures) (caller_live script c.args.self.now w c.args.self.now.first_budget c.args.after c.args.caller stands (kept [] tt).lawful)
 
 pub run-requires-clause-may : goal.run-requires-clause-may
 run-requires-clause-may g c =

@@ -15,13 +15,13 @@ turn_of-requires-clause-stands g c =
       s.1,
       subst (λ (e : State). StandsWith c.args.script.now (under c.in-Some.top (record e { activities = c.pop.new.self.activities; room = c.pop.new.self.room })) s.1 s.0) (sym c.self.view_is)
           (stands_alike c.args.script.now c.args.self.now (under c.in-Some.top popped) s.1 s.0 refl refl (sym top_is) refl s.2),
-      subst (λ (e : State). StaysKept c.args.script.now e.frames s.0) (sym c.self.view_is) s.3,
+      subst (λ (e : State). StaysKept c.args.script.now e.first_budget s.0) (sym c.self.view_is) s.3,
     )
 
 pub unreachable-requires : goal.unreachable-requires
 unreachable-requires g c =
     let s = c.requires.stands in
-    something_on_top c.args.script.now c.args.self.now s.1 s.0 c.args.self.now.frames s.2 (s.3 [] tt).lawful (ap (λ (e : State). e.activities) (sym c.self.view_is) ∙ c.in-None.ensures.none)
+    something_on_top c.args.script.now c.args.self.now s.1 s.0 c.args.self.now.first_budget s.2 (s.3 [] tt).lawful (ap (λ (e : State). e.activities) (sym c.self.view_is) ∙ c.in-None.ensures.none)
 
 pub returns-clause-turns : goal.returns-clause-turns
 returns-clause-turns g c = λ w left stands kept.
@@ -32,4 +32,4 @@ returns-clause-turns g c = λ w left stands kept.
     (c.turn_of.ensures.turns w left
     (subst (λ (e : State). StandsWith c.args.script.now (under c.in-Some.top (record e { activities = c.pop.new.self.activities; room = c.pop.new.self.room })) left w) (sym c.self.view_is)
     (stands_alike c.args.script.now c.args.self.now (under c.in-Some.top popped) left w refl refl (sym top_is) refl stands))
-    (subst (λ (e : State). StaysKept c.args.script.now e.frames w) (sym c.self.view_is) kept)))
+    (subst (λ (e : State). StaysKept c.args.script.now e.first_budget w) (sym c.self.view_is) kept)))

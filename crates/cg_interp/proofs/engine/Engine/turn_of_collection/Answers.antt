@@ -11,19 +11,19 @@ go_on_collecting-requires-clause-stands g c =
 
 pub go_on_collecting-requires-clause-few : goal.go_on_collecting-requires-clause-few
 go_on_collecting-requires-clause-few g c =
-    (may_step c.args.script.now c.args.asked c.args.collection c.args.self.now (go_on_collecting-requires-clause-stands g c) (subst (λ e. IsSound e.store) c.self.view_is c.sound.ensures) c.requires.spelled c.requires.fit.frames).few
+    (may_step c.args.script.now c.args.asked c.args.collection c.args.self.now (go_on_collecting-requires-clause-stands g c) (subst (λ e. IsSound e.store) c.self.view_is c.sound.ensures) c.requires.spelled c.requires.fit.first_budget).few
 
 pub go_on_collecting-requires-clause-held : goal.go_on_collecting-requires-clause-held
 go_on_collecting-requires-clause-held g c =
-    (may_step c.args.script.now c.args.asked c.args.collection c.args.self.now (go_on_collecting-requires-clause-stands g c) (subst (λ e. IsSound e.store) c.self.view_is c.sound.ensures) c.requires.spelled c.requires.fit.frames).held
+    (may_step c.args.script.now c.args.asked c.args.collection c.args.self.now (go_on_collecting-requires-clause-stands g c) (subst (λ e. IsSound e.store) c.self.view_is c.sound.ensures) c.requires.spelled c.requires.fit.first_budget).held
 
 pub go_on_collecting-requires-clause-ready : goal.go_on_collecting-requires-clause-ready
 go_on_collecting-requires-clause-ready g c =
-    (may_step c.args.script.now c.args.asked c.args.collection c.args.self.now (go_on_collecting-requires-clause-stands g c) (subst (λ e. IsSound e.store) c.self.view_is c.sound.ensures) c.requires.spelled c.requires.fit.frames).ready
+    (may_step c.args.script.now c.args.asked c.args.collection c.args.self.now (go_on_collecting-requires-clause-stands g c) (subst (λ e. IsSound e.store) c.self.view_is c.sound.ensures) c.requires.spelled c.requires.fit.first_budget).ready
 
 pub go_on_collecting-requires-clause-small : goal.go_on_collecting-requires-clause-small
 go_on_collecting-requires-clause-small g c =
-    (may_step c.args.script.now c.args.asked c.args.collection c.args.self.now (go_on_collecting-requires-clause-stands g c) (subst (λ e. IsSound e.store) c.self.view_is c.sound.ensures) c.requires.spelled c.requires.fit.frames).small
+    (may_step c.args.script.now c.args.asked c.args.collection c.args.self.now (go_on_collecting-requires-clause-stands g c) (subst (λ e. IsSound e.store) c.self.view_is c.sound.ensures) c.requires.spelled c.requires.fit.first_budget).small
 
 pub go_on_collecting-requires-clause-room : goal.go_on_collecting-requires-clause-room
 go_on_collecting-requires-clause-room g c = room_for_step c.args.script.now c.args.asked c.args.collection c.args.self.now (go_on_collecting-requires-clause-stands g c) c.requires.fit

@@ -17,7 +17,7 @@ pub die-requires-clause-stands : goal.die-requires-clause-stands
 die-requires-clause-stands g c =
     let s = c.requires.stands in
     let gives = subst (DeathTurns c.args.script.now s.0 c.go_on_dying.new.self) c.in-Died.is (c.go_on_dying.ensures.turns s.0 s.1 s.2) in
-    (c.args.script.now, gives.before, gives.stands, given_sound c.args.script.now s.0 c.in-Died.object c.args.self.now.frames c.go_on_dying.new.self s.2 gives)
+    (c.args.script.now, gives.before, gives.stands, given_sound c.args.script.now s.0 c.in-Died.object c.args.self.now.first_budget c.go_on_dying.new.self s.2 gives)
 
 pub returns-in-Turned-clause-turns : goal.returns-in-Turned-clause-turns
 returns-in-Turned-clause-turns g c = λ w stands stays.

@@ -11,7 +11,7 @@ pub shut_down-requires-clause-few : goal.shut_down-requires-clause-few
 shut_down-requires-clause-few g c =
     let (script, spelled, fit, (w, stands, kept)) = c.requires.stands in
     let sound = subst (λ e. IsSound e.store) c.self.view_is c.sound.ensures in
-    few_holds script c.args.self.now.frames c.args.self.now.store w stands.represents (kept [] tt).lawful fit.frames (few_objects c.args.self.now.store sound.objects)
+    few_holds script c.args.self.now.first_budget c.args.self.now.store w stands.represents (kept [] tt).lawful fit.first_budget (few_objects c.args.self.now.store sound.objects)
 
 pub shut_down-requires-clause-room : goal.shut_down-requires-clause-room
 shut_down-requires-clause-room g c =
