@@ -119,7 +119,7 @@ impl<B: Kind> Engine<B> {
                 self.collect(caller.activity(), false, generation);
                 Some(Turned::Quiet)
             }
-            None => self.run(caller.at(after), command),
+            None => self.run(caller.with_next(Some(after)), command),
         }
     }
 

@@ -140,7 +140,7 @@ impl<B: Kind> Engine<B> {
             → Makes script ([], with_stack (without_commands w.stack) w) self.new result }
         ensures keeps { TurnKeeps self.old self.new }
     {
-        self.stack.push(caller.stopped().activity());
+        self.stack.push(caller.with_next(None).activity());
         Turned::Quiet
     }
 

@@ -43,7 +43,7 @@ run-requires-clause-spelled g c =
 pub run-requires-clause-locals : goal.run-requires-clause-locals
 run-requires-clause-locals g c =
     let (script, spelled, fit, next, (w, stands, kept)) = c.requires.stands in
-    subst (λ k. LocalsLive c.args.self.now.store (caller_locals k)) (sym c.at.ensures) (caller_live script c.args.self.now w c.args.self.now.first_budget c.args.after c.args.caller stands (kept [] tt).lawful)
+    subst (λ k. LocalsLive c.args.self.now.store (caller_locals k)) (sym c.with_next.ensures) (caller_live script c.args.self.now w c.args.self.now.first_budget c.args.after c.args.caller stands (kept [] tt).lawful)
 
 pub run-requires-clause-may : goal.run-requires-clause-may
 run-requires-clause-may g c =
@@ -55,11 +55,11 @@ run-requires-clause-stands g c =
     let (script, spelled, fit, next, (w, stands, kept)) = c.requires.stands in
     let none = due_in script (under (caller_activity c.args.caller) c.args.self.now) w None stands (sym c.in-None.is ∙ c.due.ensures ∙ ap (λ (e : State). due_of e.policy) c.self.view_is) in
     let at = at_command script c.args.caller c.args.after c.args.command.now c.args.self.now c.args.self.now next w stands kept none in
-    (script, spelled, fit, at.0, subst (λ k. IsAtCommand script k c.args.self.now at.0 c.args.command.now) (sym c.at.ensures) at.1)
+    (script, spelled, fit, at.0, subst (λ k. IsAtCommand script k c.args.self.now at.0 c.args.command.now) (sym c.with_next.ensures) at.1)
 
 pub returns-in-None-clause-steps : goal.returns-in-None-clause-steps
 returns-in-None-clause-steps g c = λ script next.
     steps_from script c.args.caller c.args.after c.args.command.now c.args.self.now c.run.new.self next
     (λ w stands. due_in script (under (caller_activity c.args.caller) c.args.self.now) w None stands (sym c.in-None.is ∙ c.due.ensures ∙ ap (λ (e : State). due_of e.policy) c.self.view_is))
     c.run.result
-    (subst (λ k. (w : World) → IsAtCommand script k c.args.self.now w c.args.command.now → RunsTo script w c.args.command.now (caller_activity k) c.run.new.self c.run.result) c.at.ensures (c.run.ensures.does script))
+    (subst (λ k. (w : World) → IsAtCommand script k c.args.self.now w c.args.command.now → RunsTo script w c.args.command.now (caller_activity k) c.run.new.self c.run.result) c.with_next.ensures (c.run.ensures.does script))
