@@ -7,6 +7,7 @@ use Rattle.std.proofs.KnownBytes.{Appends-trans, Appends-nil}
 use Rattle.std.specs.Io.KnownBytes.{Appends}
 use Rattle.cg_io.specs.Causes.{AppendsFront}
 use Rattle.cg_script.specs.declared.Script.{Script}
+use Rattle.cg_script.specs.Spelled.{IsSpelled}
 use Rattle.cg_heap.specs.Calls.{IsListed, IsSound}
 use Rattle.cg_machine.specs.declared.event.Event.{Event}
 use Rattle.cg_machine.specs.declared.event.Event.TheVariants.{End, BudgetSpent, Left}
@@ -25,8 +26,8 @@ use Rattle.cg_interp.specs.declared.turned.Standing.{Standing}
 use Rattle.cg_interp.specs.declared.turned.Standing.TheVariants as standing
 use Rattle.cg_interp.specs.Engines.{State, StandsFor}
 use Rattle.cg_interp.specs.Collecting.{StandsWith}
-use Rattle.cg_interp.specs.Telling.{TurnsWith, Advances, GoesOnTo}
-use Rattle.cg_interp.specs.Turns.{RunEndsWith}
+use Rattle.cg_interp.specs.Telling.{TurnsWith, Advances, GoesOnTo, IsAtAnyTurn}
+use Rattle.cg_interp.specs.Turns.{RunEndsWith, IsFit}
 use Rattle.cg_interp.specs.Running.{Ran, HasLaws, events_told, standing_after}
 use Rattle.cg_laws.specs.Kept.{StaysKept}
 use Rattle.cg_interp.specs.Graphs.{closing, text_before, text_after, unfinished_after, begins_record, begun_text, candidates_in, detection_on, taken, taken_while}
@@ -131,8 +132,8 @@ module _ (law : NoRunIsStuck) (script : Script) (budget : ℕ) (before : Option 
   kept = kept_so_far script budget None e None so.ran laws first_budget
 
   -- so a turn may be taken
-  pub turn_may_be_recorded : (w : World) × (l : List Event) × StandsWith script e l w × StaysKept script e.first_budget w
-  turn_may_be_recorded = (so_far, left, so.ran.stands, kept)
+  pub turn_may_be_recorded : IsSpelled script → IsFit script e → IsAtAnyTurn script e
+  turn_may_be_recorded spelled fit = record { spelled = spelled; fit = fit; world = so_far; left = left; stands = so.ran.stands; kept = kept }
 
   -- the machine goes on, and this is shown
   module _ (e' : State) (now' : Option (List ℕ)) (events : List Event) (after : World) (goes : Goes script so_far events after) (t : TurnShows script so_far goes.steps e e' unfinished) where

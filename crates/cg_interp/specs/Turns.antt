@@ -108,9 +108,10 @@ pub record IsFit (script : Script) (e : State) : Type 0 where
 abbrev pub HasRoomForOneMore : State → Type 0
 HasRoomForOneMore e = e.first_budget + 2 * (length (objects_of e.store) + 1) + 8 ≤ length e.activities + e.room
 
--- An engine that was fit is fit.
-abbrev pub StaysFit : State → State → Type 0
-StaysFit old new = (script : Script) → IsFit script old → IsFit script new
+-- An engine that was fit is fit, and its first budget is the same.
+pub record StaysFit (old new : State) : Type 0 where
+  pub fit : (script : Script) → IsFit script old → IsFit script new
+  pub first_budget : new.first_budget ≡ old.first_budget
 
 -- The stack may grow higher than before, and nothing else is changed.
 pub record HasMoreRoom (old new : State) : Type 0 where

@@ -1,5 +1,5 @@
-use Rattle.std.proofs.Common.{◌≡◌, ◌≤◌}
-use Rattle.cg_interp.specs.Turns.{IsFit}
+use Rattle.std.proofs.Common.{◌≤◌}
+use Rattle.cg_interp.specs.Turns.{StaysFit}
 use Rattle.cg_interp.specs.Running.{Ran}
 use Rattle.cg_interp.proofs.Falling.{falling}
 use Rattle.cg_interp.proofs.run.run_turns.Given as goal
@@ -8,8 +8,7 @@ use Rattle.cg_interp.proofs.run.run_turns.Given as goal
 abbrev pub invariant-turns : goal.invariant-turns
 invariant-turns g l = record {
   ran : Ran l.script l.fn.engine.first_budget (g.K.Sink.written l.fn.sink) l.engine (g.K.Sink.written l.sink);
-  fit : IsFit l.script l.engine;
-  first_budget : l.engine.first_budget ≡ l.fn.engine.first_budget;
+  fit : StaysFit l.fn.engine l.engine;
   later : g.K.Sink.faults l.fn.sink ≤ g.K.Sink.faults l.sink;
 }
 

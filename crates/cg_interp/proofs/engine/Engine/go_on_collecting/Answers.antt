@@ -1,4 +1,4 @@
-use Rattle.std.proofs.Common.{sym, subst, refl, ◌≤◌, arith}
+use Rattle.std.proofs.Common.{sym, subst, refl, arith}
 use Rattle.cg_interp.specs.declared.turned.Turned.TheVariants as turned
 use Rattle.cg_interp.specs.Engines.{State}
 use Rattle.cg_interp.specs.Telling.{CollectsNext, CollectTurns}
@@ -10,8 +10,7 @@ start-requires-clause-few g c = λ is.
     let e : State = engine_of c.self.inside.heap c.self.inside.policy c.self.inside.stack c.self.inside.budget c.self.inside.first_budget in
     let mid : State = engine_of c.step-answer.new.heap c.step-answer.new.policy c.push-in-Frame.new.self c.self.inside.budget c.self.inside.first_budget in
     let next = subst (λ s. CollectsNext c.args.script.now c.args.asked c.args.collection s) (sym c.self.view_is) c.requires.stands in
-    let low = subst (λ (s : State). s.first_budget ≤ 100000) (sym c.self.view_is) c.requires.fit.first_budget in
-    frame_has_few c.args.script.now c.args.asked c.args.collection e c.step-answer.new.self mid c.push-in-Frame.ensures.top refl c.in-Frame.spec c.in-Frame.ensures.ready.0 c.in-Frame.ensures.steps next c.sound.ensures low
+    frame_has_few c.args.script.now c.args.asked c.args.collection e c.step-answer.new.self mid c.push-in-Frame.ensures.top refl c.in-Frame.spec c.in-Frame.ensures.ready.0 c.in-Frame.ensures.steps next c.sound.ensures
 
 pub start-requires-clause-live : goal.start-requires-clause-live
 start-requires-clause-live g c = λ some is.

@@ -16,15 +16,15 @@ use Rattle.cg_interp.proofs.engine.Engine.go_on_dying.Goals as goal
 
 pub act-answer-requires : goal.act-answer-requires
 act-answer-requires g c =
-    let (w, stands, kept) = c.requires.stands in
+    let at = c.requires.stands in
     let e : State = engine_of c.self.inside.heap c.self.inside.policy c.self.inside.stack c.self.inside.budget c.self.inside.first_budget in
     record {
       stands = (
         e,
-        w,
-        subst (λ (s : State). s.first_budget ≤ MOST_BUDGET) (sym c.self.view_is) c.requires.fit.first_budget,
-        subst (λ s. StandsFor c.args.script.now (under (activity_of.Dying c.args.death) s) w) (sym c.self.view_is) stands,
-        subst (λ (s : State). StaysKept c.args.script.now s.first_budget w) (sym c.self.view_is) kept,
+        at.world,
+        subst (λ (s : State). s.first_budget ≤ MOST_BUDGET) (sym c.self.view_is) at.fit.first_budget,
+        subst (λ s. StandsFor c.args.script.now (under (activity_of.Dying c.args.death) s) at.world) (sym c.self.view_is) at.stands,
+        subst (λ (s : State). StaysKept c.args.script.now s.first_budget at.world) (sym c.self.view_is) at.kept,
       );
     }
 

@@ -2,7 +2,7 @@ use Rattle.std.proofs.Common.{sym, ap, subst, ◌∷◌}
 use Rattle.cg_interp.specs.Engines.{under}
 use Rattle.cg_interp.specs.Callers.{caller_activity, StaysKeptAfter}
 use Rattle.cg_interp.proofs.CallerLemmas.{same_engine}
-use Rattle.cg_interp.proofs.Keeping.{still_fits}
+use Rattle.cg_interp.proofs.Keeping.{fit_then, roomier_fit}
 use Rattle.cg_interp.proofs.engine.Engine.run.Goals as goal
 
 pub carry_out-requires-clause-stands : goal.carry_out-requires-clause-stands
@@ -11,7 +11,7 @@ carry_out-requires-clause-stands g c =
     let room = c.make_room-room.ensures.alone in (
       script,
       spelled,
-      still_fits script c.args.self.now c.make_room-room.new.self room.store room.activities room.first_budget room.more fit,
+      (roomier_fit c.args.self.now c.make_room-room.new.self room).fit script fit,
       w,
       record {
         stands = same_engine script (under (caller_activity c.args.caller) c.args.self.now) (under (caller_activity c.args.caller) c.make_room-room.new.self) w at.stands room.store room.policy (ap (λ l. caller_activity c.args.caller ∷ l) room.activities) room.budget;
@@ -30,6 +30,4 @@ returns-clause-does g c = λ script w at.
     })
 
 pub returns-clause-fit : goal.returns-clause-fit
-returns-clause-fit g c = λ script fit.
-    let room = c.make_room-room.ensures.alone in
-    c.carry_out.ensures.fit script (still_fits script c.args.self.now c.make_room-room.new.self room.store room.activities room.first_budget room.more fit)
+returns-clause-fit g c = fit_then c.args.self.now c.make_room-room.new.self c.carry_out.new.self (roomier_fit c.args.self.now c.make_room-room.new.self c.make_room-room.ensures.alone) c.carry_out.ensures.fit
