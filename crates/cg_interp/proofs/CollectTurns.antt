@@ -15,7 +15,7 @@ use Rattle.cg_machine.specs.declared.event.Event.TheVariants.{Enter, BudgetSpent
 use Rattle.cg_machine.specs.declared.event.FrameSpec.{FrameSpec}
 use Rattle.cg_machine.specs.Program.{body_of}
 use Rattle.cg_machine.specs.World as machine
-use Rattle.cg_machine.specs.World.{World, Numbers, Activity, Dying, Framed, Releasing, Collecting, Finalizer, Running, BudgetIsSpent}
+use Rattle.cg_machine.specs.World.{World, Numbers, Activity, Dying, Framed, Releasing, Collecting, BudgetIsSpent}
 use Rattle.cg_machine.specs.Frame.{Transition, begin_death, start_frame}
 use Rattle.cg_machine.specs.Holdings.{holds}
 use Rattle.cg_machine.specs.Run.{StepTaken, events_of, last_world}

@@ -7,7 +7,6 @@ use Rattle.std.specs.FinMap as fin
 use Rattle.cg_graph.specs.Store.{Store, Node, objects_of, object_from}
 use Rattle.cg_heap.specs.Keeps.{one}
 use Rattle.cg_heap.specs.Calls.{object_number}
-use Rattle.cg_script.specs.declared.Script.{Script}
 use Rattle.cg_policy.specs.Policy.{Policy}
 use Rattle.cg_commands.specs.Growth.{GrowsBy}
 use Rattle.cg_interp.specs.Engines.{State}

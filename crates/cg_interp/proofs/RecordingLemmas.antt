@@ -1,6 +1,5 @@
 -- A run whose records are written, one turn on.
-use Rattle.std.proofs.Common.{◌≡◌, ◌≢◌, refl, sym, ◌∙◌, ap, subst, ℕ, ◌<◌, Bool, true, false, cond, ◌||◌, ◌⊎◌, inl, inr, List, [], ◌∷◌, ◌++◌, map, Option, None, Some, append_assoc, append-nil, codes}
-use Rattle.std.specs.Prelude.{flat_map}
+use Rattle.std.proofs.Common.{◌≡◌, ◌≢◌, refl, sym, ◌∙◌, ap, subst, ℕ, ◌<◌, Bool, true, false, cond, ◌||◌, inl, inr, List, [], ◌∷◌, ◌++◌, Option, None, Some, append_assoc, append-nil, codes}
 use Rattle.std.specs.List.{list_any}
 use Rattle.std.proofs.lemmas.List.Folds.{list_any-append}
 use Rattle.std.proofs.KnownBytes.{Appends-trans, Appends-nil}
@@ -8,18 +7,17 @@ use Rattle.std.specs.Io.KnownBytes.{Appends}
 use Rattle.cg_io.specs.Causes.{AppendsFront}
 use Rattle.cg_script.specs.declared.Script.{Script}
 use Rattle.cg_script.specs.Spelled.{IsSpelled}
-use Rattle.cg_heap.specs.Calls.{IsListed, IsSound}
+use Rattle.cg_heap.specs.Calls.{IsListed}
 use Rattle.cg_machine.specs.declared.event.Event.{Event}
 use Rattle.cg_machine.specs.declared.event.Event.TheVariants.{End, BudgetSpent, Left}
 use Rattle.cg_machine.specs.World.{World, Outcome, Running, Ended, BudgetIsSpent, opening}
-use Rattle.cg_machine.specs.Run.{StepTaken, Run, IsRun, IsWholeRun, world_after, last_world, events_of}
+use Rattle.cg_machine.specs.Run.{StepTaken, IsRun, IsWholeRun, world_after, last_world}
 use Rattle.cg_machine.specs.Laws.{NoRunIsStuck}
 use Rattle.cg_machine.specs.Represents.{Goes}
 use Rattle.cg_machine.proofs.Ending.{Run-append, last_world-append}
 use Rattle.cg_records.specs.Text.{text}
 use Rattle.cg_records.specs.declared.graph.Graph.{Graph}
 use Rattle.cg_interp.specs.declared.graphs.Detection.{Detection}
-use Rattle.cg_interp.specs.declared.graphs.Detection.TheVariants.{First, Second}
 use Rattle.cg_interp.specs.declared.turned.Turned.{Turned}
 use Rattle.cg_interp.specs.declared.turned.Turned.TheVariants as turned
 use Rattle.cg_interp.specs.declared.turned.Standing.{Standing}
@@ -28,11 +26,11 @@ use Rattle.cg_interp.specs.Engines.{State, StandsFor}
 use Rattle.cg_interp.specs.Collecting.{StandsWith}
 use Rattle.cg_interp.specs.Telling.{TurnsWith, Advances, GoesOnTo, IsAtAnyTurn}
 use Rattle.cg_interp.specs.Turns.{RunEndsWith, IsFit}
-use Rattle.cg_interp.specs.Running.{Ran, HasLaws, events_told, standing_after}
+use Rattle.cg_interp.specs.Running.{HasLaws, events_told, standing_after}
 use Rattle.cg_laws.specs.Kept.{StaysKept}
 use Rattle.cg_interp.specs.Graphs.{closing, text_before, text_after, unfinished_after, begins_record, begun_text, candidates_in, detection_on, taken, taken_while}
-use Rattle.cg_interp.specs.Recorded.{Picture, picture, lost_at, legacy_at, RunShows, HasRecords, records_of, wants_memory, WroteRecords, WroteRecordsPart}
-use Rattle.cg_interp.specs.Recording.{RecordsTurn, CutsFindings, CutsRecord, RecordedSo, told_after, recorded_next, text_of_turn, picture_text, text_if_taken, text_so_far, unfinished_so_far}
+use Rattle.cg_interp.specs.Recorded.{Picture, picture, lost_at, legacy_at, RunShows, records_of, wants_memory, WroteRecords, WroteRecordsPart}
+use Rattle.cg_interp.specs.Recording.{RecordsTurn, CutsRecord, RecordedSo, told_after, recorded_next, text_of_turn, picture_text, text_if_taken, text_so_far, unfinished_so_far}
 use Rattle.cg_interp.proofs.LineByLine.{after_front}
 use Rattle.cg_interp.proofs.RunLemmas.{ends_longer, lines_longer, kept_so_far}
 use Rattle.cg_interp.proofs.RecordText.{text_to_end, all_written, unfinished-append, text_so_far-append, front_of_all}

@@ -1,4 +1,3 @@
-use Rattle.std.proofs.Common.{refl}
 use Rattle.std.proofs.KnownBytes.{Appends-nil}
 use Rattle.cg_interp.proofs.RunLemmas.{may_run}
 use Rattle.cg_interp.proofs.RecordingLemmas.{nothing_recorded}
