@@ -15,7 +15,6 @@ use Rattle.cg_machine.specs.Run.{StepTaken, IsRun, IsWholeRun, world_after, last
 use Rattle.cg_machine.specs.Laws.{NoRunIsStuck}
 use Rattle.cg_machine.specs.Represents.{Goes}
 use Rattle.cg_machine.proofs.Ending.{Run-append, last_world-append}
-use Rattle.cg_records.specs.Text.{text}
 use Rattle.cg_records.specs.declared.graph.Graph.{Graph}
 use Rattle.cg_interp.specs.declared.graphs.Detection.{Detection}
 use Rattle.cg_interp.specs.declared.turned.Turned.{Turned}
