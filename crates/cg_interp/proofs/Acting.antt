@@ -99,14 +99,14 @@ act_falls death after old new little same (inr less) =
 
 -- A death has come so far, whatever else is under way.
 abbrev pub CameTo : Script → Store → Death → Store → Death → Type 0
-CameTo script store death now left = (e : State) (w : World) → StandsFor script (under (activity.Dying death) (over store e)) w → StaysKept script e.frames w → ComesTo script w (under (activity.Dying left) (over now e))
+CameTo script store death now left = (e : State) (w : World) → StandsFor script (under (activity.Dying death) (over store e)) w → StaysKept script e.first_budget w → ComesTo script w (under (activity.Dying left) (over now e))
 
 pub came_nowhere : (script : Script) (store : Store) (death : Death) → CameTo script store death store death
 came_nowhere script store death e w stands kept = record { after = w; goes = stays script w; stands = stands }
 
 module _ (script : Script) (store now : Store) (death left : Death) (came : CameTo script store death now left) where
   pub acting_now : IsActing script store death → IsActing script now left
-  acting_now (e, w, few, stands, kept) = let come = came e w stands kept in (e, come.after, few, come.stands, stays_so script w come.after come.goes (IsKept script e.frames) kept)
+  acting_now (e, w, few, stands, kept) = let come = came e w stands kept in (e, come.after, few, come.stands, stays_so script w come.after come.goes (IsKept script e.first_budget) kept)
 
   -- the next action
   module _ (new : Store) (after : Death) (answer : DeathStep) (steps : DeathSteps script now (on_stack left now) new (on_stack after new) answer) (settled : IsSettled left → IsSettled after) (object : after.object ≡ left.object)
@@ -114,34 +114,34 @@ module _ (script : Script) (store now : Store) (death left : Death) (came : Came
     pub came_on : answer ≡ answer_of.Continue → IsGoing after → AreRows new → CameTo script store death new after
     came_on is going rows_after e w stands kept =
         let come = came e w stands kept in
-        let sound = dying_sound script e.frames come.after (stays_so script w come.after come.goes (IsKept script e.frames) kept [] tt).lawful in
+        let sound = dying_sound script e.first_budget come.after (stays_so script w come.after come.goes (IsKept script e.first_budget) kept [] tt).lawful in
         let top = under (activity.Dying after) (over new e) in
         let on = death_continues script (over now e) top left after answer come.after come.stands sound steps settled (inl (going, refl)) refl is refl rows rows_after object falls in
         comes_then script w come.after come.goes top (record { after = on.after; goes = quietly script come.after on.after (death_detects_none script (over now e) left come.after come.stands) on.goes; stands = on.stands })
 
     -- it is the last one
-    pub last_action : HasCause left new answer → (e : State) (w : World) → StandsFor script (under (activity.Dying death) (over store e)) w → StaysKept script e.frames w → LastAction script w e new after answer
+    pub last_action : HasCause left new answer → (e : State) (w : World) → StandsFor script (under (activity.Dying death) (over store e)) w → StaysKept script e.first_budget w → LastAction script w e new after answer
     last_action cause e w stands kept = record { store = now; death = left; comes = came e w stands kept; steps = steps; settled = settled; object = object; falls = falls; cause = cause; rows = rows }
 
 -- what an action needs
 module _ (script : Script) (store : Store) (death : Death) (sound : IsSound store) where
   pub act_few : IsActing script store death → HasFewHolds store
-  act_few (e, w, few, stands, kept) = few_holds script e.frames store w stands.represents (kept [] tt).lawful few (few_objects store sound.objects)
+  act_few (e, w, few, stands, kept) = few_holds script e.first_budget store w stands.represents (kept [] tt).lawful few (few_objects store sound.objects)
 
   pub act_held : IsActing script store death → HasHolds store (held_by death store)
   act_held (e, w, few, stands, kept) = death_held script (over store e) death w stands
 
   pub act_ready : IsActing script store death → IsReadyForDeath death store
-  act_ready (e, w, few, stands, kept) = death_may_step script (over store e) death w e.frames stands (kept [] tt).lawful sound.rows sound.well
+  act_ready (e, w, few, stands, kept) = death_may_step script (over store e) death w e.first_budget stands (kept [] tt).lawful sound.rows sound.well
 
 -- The last action was done, and the engine has what is left of the death on top.
-module _ (script : Script) (w : World) (e new : State) (now : Store) (after : Death) (answer : DeathStep) (kept : StaysKept script e.frames w) (last : LastAction script w e now after answer)
+module _ (script : Script) (w : World) (e new : State) (now : Store) (after : Death) (answer : DeathStep) (kept : StaysKept script e.first_budget w) (last : LastAction script w e now after answer)
     (store : new.store ≡ now) (put : StaysOn after e.activities new.activities) (budget : new.budget ≡ e.budget) where
   abbrev mid : World
   mid = last.comes.after
 
   sound_there : DyingIsSound mid
-  sound_there = dying_sound script e.frames mid (stays_so script w mid last.comes.goes (IsKept script e.frames) kept [] tt).lawful
+  sound_there = dying_sound script e.first_budget mid (stays_so script w mid last.comes.goes (IsKept script e.first_budget) kept [] tt).lawful
 
   steps_there : DeathSteps script last.store (on_stack last.death last.store) new.store (on_stack after new.store) answer
   steps_there = subst (λ st. DeathSteps script last.store (on_stack last.death last.store) st (on_stack after st) answer) (sym store) last.steps

@@ -20,7 +20,7 @@ use Rattle.cg_policy.specs.Policy.{Policy}
 use Rattle.cg_interp.specs.Engines.{State, StandsFor, ActivityShows, ShowsAll, commands_from, frame_of, under, is_collecting, any_collecting}
 use Rattle.cg_interp.specs.declared.caller.Caller.{Caller}
 use Rattle.cg_interp.specs.declared.caller.Caller.TheVariants as caller_of
-use Rattle.cg_interp.specs.Callers.{caller_activity, without_rest, without_rest_in_frame}
+use Rattle.cg_interp.specs.Callers.{caller_activity, with_next, without_rest_in_frame}
 use Rattle.cg_interp.specs.Turns.{Makes}
 use Rattle.cg_interp.proofs.Standing.{IsPlain, plain_frame, plain_script, replaced, spelled}
 
@@ -68,7 +68,7 @@ module _ (script : Script) (old new : State) (w : World) where
   )
 
   -- a command ends what it stands in
-  pub quits : (caller : Caller) → StandsFor script (under (caller_activity caller) old) w → new.store ≡ old.store → new.policy ≡ old.policy → new.activities ≡ caller_activity (without_rest caller) ∷ old.activities → new.budget ≡ old.budget
+  pub quits : (caller : Caller) → StandsFor script (under (caller_activity caller) old) w → new.store ≡ old.store → new.policy ≡ old.policy → new.activities ≡ caller_activity (with_next None caller) ∷ old.activities → new.budget ≡ old.budget
       → Makes script ([], with_stack (without_commands w.stack) w) new turned.Quiet
   quits (caller_of.Script next) stands store policy is budget = (
     refl,

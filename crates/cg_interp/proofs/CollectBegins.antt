@@ -84,11 +84,11 @@ idle_in script budget top e w stands sound kept none = idle_without e.store w so
 
 -- An engine at which a collection is to begin above its top.
 abbrev pub IsAtStart : Bool → ℕ → Own → State → Type 0
-IsAtStart asked g top e = (script : Script) × IsSpelled script × IsFit script e × (w : World) × StandsFor script (under top e) w × StaysKept script e.frames (push (new_collection g asked w) w)
+IsAtStart asked g top e = (script : Script) × IsSpelled script × IsFit script e × (w : World) × StandsFor script (under top e) w × StaysKept script e.first_budget (push (new_collection g asked w) w)
 
 module _ (asked : Bool) (g : ℕ) (top : Own) (e : State) where
   pub starts_small : IsAtStart asked g top e → AreSmall e.policy.numbers
-  starts_small (script, spelled, fit, w, stands, stays) = small_before script asked g top e w stands e.frames spelled fit.frames (stays [] tt)
+  starts_small (script, spelled, fit, w, stands, stays) = small_before script asked g top e w stands e.first_budget spelled fit.first_budget (stays [] tt)
 
   pub starts_clear : IsAtStart asked g top e → IsSound e.store → IsClear e.store
-  starts_clear (script, spelled, fit, w, stands, stays) sound = clear_before script asked g top e w stands e.frames sound (stays [] tt)
+  starts_clear (script, spelled, fit, w, stands, stays) sound = clear_before script asked g top e w stands e.first_budget sound (stays [] tt)

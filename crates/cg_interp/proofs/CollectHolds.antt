@@ -91,7 +91,7 @@ objects_after p store w r = ap length (sym r.objects) ∙ each p
     each p = refl
 
 -- There is room on the stack, above what lies below a collection.
-pub room_above : (script : Script) (e : State) (p : Phase) (w : World) (tops below : List Activity) → Represents (store_after p e.store) w → ShowsAll script e.activities below → w.stack ≡ tops ++ below → IsLawful script e.frames w → IsFit script e → 4 < e.room
+pub room_above : (script : Script) (e : State) (p : Phase) (w : World) (tops below : List Activity) → Represents (store_after p e.store) w → ShowsAll script e.activities below → w.stack ≡ tops ++ below → IsLawful script e.first_budget w → IsFit script e → 4 < e.room
 room_above script e p w tops below r over top lawful fit =
     omega (
       arith,

@@ -1,8 +1,7 @@
 -- What the machine goes on to after each answer of a step of a collection, and what is wanted before a step and within it.
-use Rattle.std.proofs.Common.{◌≡◌, refl, sym, subst, ℕ, ◌+◌, ◌<◌, ◌≤◌, Bool, true, false, List, [], ◌∷◌, IsSome, arith}
+use Rattle.std.proofs.Common.{◌≡◌, refl, sym, subst, ℕ, ◌+◌, ◌<◌, Bool, true, false, List, [], ◌∷◌, IsSome, arith}
 use Rattle.std.specs.Prelude.{IfSome}
 use Rattle.cg_script.specs.declared.Script.{Script}
-use Rattle.cg_script.specs.Spelled.{IsSpelled}
 use Rattle.cg_graph.specs.Store.{Store, IsLive}
 use Rattle.cg_heap.specs.Calls.{IsSound, HasFewHolds}
 use Rattle.cg_machine.specs.declared.event.Event.{Event}
@@ -27,7 +26,7 @@ use Rattle.cg_interp.specs.Stacks.{Stacked}
 use Rattle.cg_interp.specs.Engines.{State, StandsFor, under}
 use Rattle.cg_interp.specs.Collecting.{Collects}
 use Rattle.cg_interp.specs.Telling.{Advances, CollectsNext, CollectTurns}
-use Rattle.cg_interp.specs.Turns.{Makes, DyingIsSound, IsFit}
+use Rattle.cg_interp.specs.Turns.{Makes, DyingIsSound}
 use Rattle.cg_interp.proofs.Lawfully.{few_objects}
 use Rattle.cg_interp.proofs.SmallNumbers.{small_at}
 use Rattle.cg_interp.proofs.CollectHolds.{collection_is_held, few_holds_after, room_above}
@@ -35,7 +34,7 @@ use Rattle.cg_interp.proofs.CollectTurns.{stands_for_step, stands_before, goes_o
 
 -- an engine by its parts
 abbrev pub engine_of : Store → Policy → Stacked → ℕ → ℕ → State
-engine_of store policy stack budget frames = record { store = store; policy = policy; activities = stack.activities; room = stack.room; budget = budget; frames = frames }
+engine_of store policy stack budget first_budget = record { store = store; policy = policy; activities = stack.activities; room = stack.room; budget = budget; first_budget = first_budget }
 
 -- what a step of a collection wants
 pub record MayStep (script : Script) (c : Collection) (e : State) : Type 0 where
@@ -45,26 +44,28 @@ pub record MayStep (script : Script) (c : Collection) (e : State) : Type 0 where
   pub small : AreSmall e.policy.numbers
 
 module _ (script : Script) (asked : Bool) (c : Collection) (e : State) where
-  pub may_step : CollectsNext script asked c e → IsSound e.store → IsSpelled script → e.frames ≤ 100000 → MayStep script c e
-  may_step (w, left, k, stays) sound spelled low =
-      let kept : IsKept script e.frames w = stays [] tt in
+  pub may_step : CollectsNext script asked c e → IsSound e.store → MayStep script c e
+  may_step next sound =
+      let kept : IsKept script e.first_budget next.world = next.kept [] tt in
+      let k = next.collects in
       record {
-        few = few_holds_after script e.frames c.phase e.store w sound k.shows.represents kept.lawful low;
-        held = collection_is_held asked c e.store w k.below k.shows.represents k.shows.top;
+        few = few_holds_after script e.first_budget c.phase e.store next.world sound k.shows.represents kept.lawful next.fit.first_budget;
+        held = collection_is_held asked c e.store next.world k.below k.shows.represents k.shows.top;
         ready = k.ready;
-        small = subst AreSmall (sym k.shows.numbers) (small_at script e.frames w spelled kept.few low c.phase c.generation);
+        small = subst AreSmall (sym k.shows.numbers) (small_at script e.first_budget next.world next.spelled kept.few next.fit.first_budget c.phase c.generation);
       }
 
   -- and room for the activities that it may put on the stack
-  pub room_for_step : CollectsNext script asked c e → IsFit script e → 1 < e.room
-  room_for_step (w, left, k, stays) fit =
-      let kept : IsKept script e.frames w = stays [] tt in
-      let much : 4 < e.room = room_above script e c.phase w (on_stack asked c e.store) k.below k.shows.represents k.over k.shows.top kept.lawful fit in
+  pub room_for_step : CollectsNext script asked c e → 1 < e.room
+  room_for_step next =
+      let kept : IsKept script e.first_budget next.world = next.kept [] tt in
+      let k = next.collects in
+      let much : 4 < e.room = room_above script e c.phase next.world (on_stack asked c e.store) k.below k.shows.represents k.over k.shows.top kept.lawful next.fit in
       omega (arith, much)
 
 module _ (script : Script) (asked : Bool) (c : Collection) (e : State) where
   -- what a step answers, by the lines that are left
-  answered : (left : List Event) (w : World) (k : Collects script asked c e left w) → IsKept script e.frames w → (d : Collection) (new : State) (answer : Rattle.cg_collect.specs.declared.answer.CollectStep.CollectStep)
+  answered : (left : List Event) (w : World) (k : Collects script asked c e left w) → IsKept script e.first_budget w → (d : Collection) (new : State) (answer : Rattle.cg_collect.specs.declared.answer.CollectStep.CollectStep)
       → CollectSteps script c e.store e.policy d new.store new.policy answer → CollectAnswer script asked w k.below left d new.store new.policy answer
   answered left w k kept d new answer steps =
       subst (λ l. CollectAnswer script asked w k.below l d new.store new.policy answer) (sym k.lines) (steps asked w k.below (stands_for_step script asked c e left w k kept))
@@ -84,16 +85,16 @@ module _ (script : Script) (asked : Bool) (c : Collection) (e : State) where
           starts_with script (Advances (under (activity.Collecting asked c) e) left new) w left spec gave.before new answer none gave.goes
           (starts gave.before (stands_before script asked c e left w k d mid top budget gave.before h gave.shows gave.keeps.budget gave.keeps.outcome))
 
-      pub frame_has_few : CollectsNext script asked c e → IsSound mid.store → e.frames ≤ 100000 → HasFewHolds mid.store
-      frame_has_few (w, left, k, stays) sound low =
-          let (none, left_none, gave) = answered left w k (stays [] tt) d mid (answer_of.Frame spec) steps in
-          few_holds_before script e.frames spec mid.store w gave.before (subst (λ st. Represents st gave.before) (store_in_run d.phase mid.store h.runs) gave.shows.represents) gave.goes stays low (few_objects mid.store sound.objects)
+      pub frame_has_few : CollectsNext script asked c e → IsSound mid.store → HasFewHolds mid.store
+      frame_has_few next sound =
+          let (none, left_none, gave) = answered next.left next.world next.collects (next.kept [] tt) d mid (answer_of.Frame spec) steps in
+          few_holds_before script e.first_budget spec mid.store next.world gave.before (subst (λ st. Represents st gave.before) (store_in_run d.phase mid.store h.runs) gave.shows.represents) gave.goes next.kept next.fit.first_budget (few_objects mid.store sound.objects)
 
       pub frame_function_lives : CollectsNext script asked c e → 0 < e.budget → IfSome spec.func (λ f. IsLive mid.store f)
-      frame_function_lives (w, left, k, stays) some =
-          let (none, left_none, gave) = answered left w k (stays [] tt) d mid (answer_of.Frame spec) steps in
-          function_lives script e.frames spec mid.store w gave.before (subst (λ st. Represents st gave.before) (store_in_run d.phase mid.store h.runs) gave.shows.represents) gave.goes stays
-          (omega (arith, some, gave.keeps.budget, k.budget))
+      frame_function_lives next some =
+          let (none, left_none, gave) = answered next.left next.world next.collects (next.kept [] tt) d mid (answer_of.Frame spec) steps in
+          function_lives script e.first_budget spec mid.store next.world gave.before (subst (λ st. Represents st gave.before) (store_in_run d.phase mid.store h.runs) gave.shows.represents) gave.goes next.kept
+          (omega (arith, some, gave.keeps.budget, next.collects.budget))
 
     -- a death
     module _ (o : ℕ) (h : HandsOut d mid.store) (steps : CollectSteps script c e.store e.policy d mid.store mid.policy (answer_of.Died o)) where
@@ -105,9 +106,13 @@ module _ (script : Script) (asked : Bool) (c : Collection) (e : State) where
           (begins gave.before (stands_before script asked c e left w k d mid top budget gave.before h gave.shows gave.keeps.budget gave.keeps.outcome))
 
       pub death_stands : CollectsNext script asked c e → (s : Script) × (w : World) × StandsFor s mid w × DyingIsSound (begin_death o w)
-      death_stands (w, left, k, stays) =
-          let (none, left_none, gave) = answered left w k (stays [] tt) d mid (answer_of.Died o) steps in
-          (script, gave.before, stands_before script asked c e left w k d mid top budget gave.before h gave.shows gave.keeps.budget gave.keeps.outcome, sound_at_death script e.frames w gave.before o stays gave.goes)
+      death_stands next =
+          let (none, left_none, gave) = answered next.left next.world next.collects (next.kept [] tt) d mid (answer_of.Died o) steps in (
+            script,
+            gave.before,
+            stands_before script asked c e next.left next.world next.collects d mid top budget gave.before h gave.shows gave.keeps.budget gave.keeps.outcome,
+            sound_at_death script e.first_budget next.world gave.before o next.kept gave.goes,
+          )
 
   -- its end
   pub turns_to_end : (d : Collection) (new : State) (collected set_aside : ℕ) (answer : Turned) → new.activities ≡ e.activities → new.budget ≡ e.budget → CollectSteps script c e.store e.policy d new.store new.policy (answer_of.Finished collected set_aside)

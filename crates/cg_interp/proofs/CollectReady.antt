@@ -14,7 +14,7 @@ use Rattle.cg_graph.specs.Store.{Store, Node, HasCode, objects_of, object_from, 
 use Rattle.cg_graph.proofs.Members.{either, Includes-append_left, Includes-append_right}
 use Rattle.cg_heap.specs.Calls.{IsSound}
 use Rattle.cg_machine.specs.World as machine
-use Rattle.cg_machine.specs.World.{World, Activity, Collecting, Releasing}
+use Rattle.cg_machine.specs.World.{World, Activity, Collecting}
 use Rattle.cg_machine.specs.Laws.{IsOrderly, IsOfCollection, all_waits, waits_of, collection_waits}
 use Rattle.cg_machine.specs.Represents.{Represents, CollectionWaits}
 use Rattle.cg_machine.specs.Weak.{callback_of, callback_in}

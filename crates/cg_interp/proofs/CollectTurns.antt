@@ -15,7 +15,7 @@ use Rattle.cg_machine.specs.declared.event.Event.TheVariants.{Enter, BudgetSpent
 use Rattle.cg_machine.specs.declared.event.FrameSpec.{FrameSpec}
 use Rattle.cg_machine.specs.Program.{body_of}
 use Rattle.cg_machine.specs.World as machine
-use Rattle.cg_machine.specs.World.{World, Numbers, Activity, Dying, Framed, Releasing, Collecting, Finalizer, Running, BudgetIsSpent}
+use Rattle.cg_machine.specs.World.{World, Numbers, Activity, Dying, Framed, Releasing, Collecting, BudgetIsSpent}
 use Rattle.cg_machine.specs.Frame.{Transition, begin_death, start_frame}
 use Rattle.cg_machine.specs.Holdings.{holds}
 use Rattle.cg_machine.specs.Run.{StepTaken, events_of, last_world}
@@ -69,7 +69,7 @@ runs_in_machine p runs = ap is_some (phase_there p [] runs).1
 
 module _ (script : Script) (asked : Bool) (c : Collection) (e : State) (left : List Event) (w : World) where
   -- A collection that came back on top goes on.
-  came_back : IsSound e.store → IsKept script e.frames w → StandsFor script (under (activity.Collecting asked c) e) w → left ≡ [] → Collects script asked c e left w
+  came_back : IsSound e.store → IsKept script e.first_budget w → StandsFor script (under (activity.Collecting asked c) e) w → left ≡ [] → Collects script asked c e left w
   came_back sound kept stands none =
       let s : ShowsTop script (activity.Collecting asked c) (ShowsAll script e.activities) w.stack = stands.shows in
       let again = resumes script asked c e.store w s.tops s.below sound stands.represents kept.apart kept.lawful.orderly s.shows s.is in
@@ -91,7 +91,7 @@ module _ (script : Script) (asked : Bool) (c : Collection) (e : State) (left : L
       }
 
   -- so does one that is on top
-  pub collects : IsSound e.store → IsKept script e.frames w → StandsWith script (under (activity.Collecting asked c) e) left w → Collects script asked c e left w
+  pub collects : IsSound e.store → IsKept script e.first_budget w → StandsWith script (under (activity.Collecting asked c) e) left w → Collects script asked c e left w
   collects sound kept (inl (stands, none)) = came_back sound kept stands none
   collects sound kept (inr on) =
       let also : on.asked ≡ asked = cc in
@@ -102,13 +102,13 @@ module _ (script : Script) (asked : Bool) (c : Collection) (e : State) (left : L
 
   module _ (k : Collects script asked c e left w) where
     -- heap and policy stand for the world, as a step wants
-    pub stands_for_step : IsKept script e.frames w → CollectionStands asked c e.store e.policy w k.below
+    pub stands_for_step : IsKept script e.first_budget w → CollectionStands asked c e.store e.policy w k.below
     stands_for_step kept = record {
       shows = k.shows;
       running = k.running;
       orderly = kept.lawful.orderly;
       unheld = kept.lawful.unheld;
-      once = (dying_sound script e.frames w kept.lawful).once;
+      once = (dying_sound script e.first_budget w kept.lawful).once;
       alone = count_same script e.activities k.below k.over ∙ none_counted e.activities k.alone;
     }
 

@@ -1,5 +1,5 @@
 -- Room for the death of the object that a command makes, and what is left of it after the command.
-use Rattle.std.proofs.Common.{◌≡◌, refl, sym, ◌∙◌, subst, ℕ, ◌+◌, ◌*◌, ◌≤◌, Bool, true, false, List, [], ◌∷◌, length, arith, sum_by}
+use Rattle.std.proofs.Common.{◌≡◌, refl, sym, ◌∙◌, ap, subst, ℕ, ◌+◌, ◌*◌, ◌≤◌, Bool, true, false, List, [], ◌∷◌, length, arith, sum_by}
 use Rattle.std.specs.Prelude.{if◌then◌else◌, is_ok, OnOk, Result, Ok, Err}
 use Rattle.std.proofs.lemmas.List.{length-map}
 use Rattle.std.proofs.lemmas.List.Sums.{sum_by-cons}
@@ -7,11 +7,10 @@ use Rattle.std.specs.FinMap as fin
 use Rattle.cg_graph.specs.Store.{Store, Node, objects_of, object_from}
 use Rattle.cg_heap.specs.Keeps.{one}
 use Rattle.cg_heap.specs.Calls.{object_number}
-use Rattle.cg_script.specs.declared.Script.{Script}
 use Rattle.cg_policy.specs.Policy.{Policy}
 use Rattle.cg_commands.specs.Growth.{GrowsBy}
 use Rattle.cg_interp.specs.Engines.{State}
-use Rattle.cg_interp.specs.Turns.{IsFit, HasRoomForOneMore}
+use Rattle.cg_interp.specs.Turns.{IsFit, StaysFit, HasRoom, HasRoomForOneMore}
 
 -- as many objects as the heap counts, and the garbage list
 ones : (es : List (ℕ × Node)) → length es ≡ sum_by (λ (e : ℕ × Node). one e.1) es
@@ -27,20 +26,23 @@ when_ok (Ok x) is holds = holds
 when_ok (Err e) is holds = absurd (cc)
 
 -- room for all that was wanted is room for one more
-pub room_for_one_more : (store : Store) (frames count high : ℕ) → count ≡ object_number store → frames + 2 * (count + 1 + 1) + 8 ≤ high → frames + 2 * (length (objects_of store) + 1) + 8 ≤ high
-room_for_one_more store frames count high counted room = omega (arith, objects-number store, counted, room)
+pub room_for_one_more : (store : Store) (first_budget count high : ℕ) → count ≡ object_number store → first_budget + 2 * (count + 1 + 1) + 8 ≤ high → first_budget + 2 * (length (objects_of store) + 1) + 8 ≤ high
+room_for_one_more store first_budget count high counted room = omega (arith, objects-number store, counted, room)
 
 -- a command of which the heap says how far it grew
-pub fit_after : (script : Script) (room : Bool) (old inside : State) → inside ≡ old → (store : Store) (policy : Policy) → GrowsBy room inside.store store → (room ≡ true → HasRoomForOneMore old) → IsFit script old → IsFit script (record inside { store = store; policy = policy })
-fit_after script room old inside same store policy grows one_more fit = record {
-  names = grows.names ∙ here.names;
-  frames = here.frames;
-  room = known room grows.objects (λ is. subst HasRoomForOneMore (sym same) (one_more is));
+pub fit_after : (room : Bool) (old inside : State) → inside ≡ old → (store : Store) (policy : Policy) → GrowsBy room inside.store store → (room ≡ true → HasRoomForOneMore old) → StaysFit old (record inside { store = store; policy = policy })
+fit_after room old inside same store policy grows one_more = record {
+  fit = λ script fit.
+      let here : IsFit script inside = subst (IsFit script) (sym same) fit in
+      record {
+        names = grows.names ∙ here.names;
+        first_budget = here.first_budget;
+        room = known room grows.objects (λ is. subst HasRoomForOneMore (sym same) (one_more is)) here.room;
+      };
+  first_budget = ap (λ (e : State). e.first_budget) same;
 }
   where
-    here : IsFit script inside
-    here = subst (IsFit script) (sym same) fit
-
-    known : (room : Bool) → length (objects_of store) ≤ length (objects_of inside.store) + (if room then 1 else 0) → (room ≡ true → HasRoomForOneMore inside) → inside.frames + 2 * length (objects_of store) + 8 ≤ length inside.activities + inside.room
-    known true less one_more = let more : HasRoomForOneMore inside = one_more refl in omega (arith, less, more)
-    known false less one_more = let had = here.room in omega (arith, less, had)
+    known : (room : Bool) → length (objects_of store) ≤ length (objects_of inside.store) + (if room then 1 else 0) → (room ≡ true → HasRoomForOneMore inside) → HasRoom inside
+        → inside.first_budget + 2 * length (objects_of store) + 8 ≤ length inside.activities + inside.room
+    known true less one_more had = let more : HasRoomForOneMore inside = one_more refl in omega (arith, less, more)
+    known false less one_more had = omega (arith, less, had)

@@ -1,6 +1,6 @@
 -- The members of a graph, as they are written one after the other.
-use Rattle.std.proofs.Common.{◌≡◌, refl, sym, ◌∙◌, ap, subst, ℕ, zero, suc, ◌+◌, ◌<◌, ◌≤◌, ◌⊎◌, inl, inr, true, false, Bool, List, [], ◌∷◌, ◌++◌, Option, None, Some, take, drop, length, append_assoc, append-nil, codes, arith}
-use Rattle.std.specs.Prelude.{flat_map, filter, slice_get, decimal, Result, Ok, Err, OnErr}
+use Rattle.std.proofs.Common.{◌≡◌, refl, sym, ◌∙◌, ap, subst, ℕ, zero, suc, ◌+◌, ◌<◌, ◌⊎◌, inl, inr, true, false, Bool, List, [], ◌∷◌, ◌++◌, Option, None, Some, take, drop, length, append_assoc, append-nil, codes, arith}
+use Rattle.std.specs.Prelude.{flat_map, slice_get, decimal, Result, Ok, Err, OnErr}
 use Rattle.std.proofs.lemmas.Grind.{flat_map-append}
 use Rattle.std.proofs.lemmas.List.Elements.{filter-append}
 use Rattle.std.proofs.lemmas.Bool.{eqb-true}
@@ -15,7 +15,7 @@ use Rattle.cg_value.specs.declared.Entry.{Entry}
 use Rattle.cg_value.specs.declared.Place.{Place}
 use Rattle.cg_script.specs.declared.Script.{Script}
 use Rattle.cg_graph.specs.Value.{references, references_of_value}
-use Rattle.cg_graph.specs.Store.{Store, list_at, place_of, entries_of, count_of, IsLive}
+use Rattle.cg_graph.specs.Store.{Store, list_at, place_of, entries_of, count_of}
 use Rattle.cg_heap.specs.Calls.{IsListed}
 use Rattle.cg_arena.specs.Nodes.{following}
 use Rattle.cg_trial.proofs.Entries.{references_more, references_split}

@@ -80,7 +80,7 @@ at_least script (top ∷ activities) stack shows = by shows.tops shows.some (ap 
     by (a ∷ tops) some sum rest = omega (arith, sum, rest)
 
 -- so there is room on the stack
-pub has_room : (script : Script) (top : Own) (e : State) (w : World) → StandsFor script (under top e) w → IsLawful script e.frames w → IsFit script e → 4 < e.room
+pub has_room : (script : Script) (top : Own) (e : State) (w : World) → StandsFor script (under top e) w → IsLawful script e.first_budget w → IsFit script e → 4 < e.room
 has_room script top e w stands lawful fit =
     let shown : length (top ∷ e.activities) ≤ length w.stack = at_least script (top ∷ e.activities) w.stack stands.shows in
     let same : length (objects_of e.store) ≡ length w.objects = ap length stands.represents.objects in

@@ -1,5 +1,5 @@
 -- What is on top of an engine tells which detection the machine makes next.
-use Rattle.std.proofs.Common.{◌≡◌, ◌≢◌, refl, sym, ◌∙◌, ap, subst, ℕ, ◌<◌, ◌≤◌, Bool, true, false, ◌||◌, inl, inr, List, [], ◌∷◌, ◌++◌, Option, None, Some, length, arith}
+use Rattle.std.proofs.Common.{◌≡◌, ◌≢◌, refl, sym, ◌∙◌, ap, subst, ℕ, ◌≤◌, Bool, true, false, ◌||◌, inl, inr, List, [], ◌∷◌, ◌++◌, Option, None, Some, length, arith}
 use Rattle.cg_script.specs.declared.Script.{Script}
 use Rattle.cg_graph.specs.Store.{Store, list_at}
 use Rattle.cg_value.specs.declared.Place.TheVariants.{Pend}
@@ -22,15 +22,15 @@ use Rattle.cg_collect.specs.Stages.{stage_of, stage_at, stage_after}
 use Rattle.cg_collect.specs.Turns.{ComesNearer}
 use Rattle.cg_interp.specs.Telling.{Advances, IsNearer}
 use Rattle.cg_machine.specs.Represents.{Represents}
-use Rattle.cg_collect.specs.Phases.{lines_left, store_after, machine_phase, collecting, released_over, shown_with, on_stack, collection_of}
+use Rattle.cg_collect.specs.Phases.{lines_left, store_after, machine_phase, collecting, released_over, shown_with}
 use Rattle.cg_collect.specs.Ready.{MayRun, MayGiveUp, GivesUpIn}
 use Rattle.cg_interp.specs.declared.graphs.Detection.{Detection}
 use Rattle.cg_interp.specs.declared.graphs.Detection.TheVariants.{First, Second}
 use Rattle.cg_interp.specs.declared.activity.Activity.{Activity}
 use Rattle.cg_interp.specs.declared.activity.Activity.TheVariants as activity
-use Rattle.cg_interp.specs.Engines.{State, StandsFor, ShowsTop, ShowsAll, HasHandedOut, released_first, death_shown, is_collecting, any_collecting}
-use Rattle.cg_interp.specs.Collecting.{StandsWith, CollectsOnTop, Collects}
-use Rattle.cg_interp.specs.Graphs.{detection_by, detection_of, detection_on, IsOfGenerations, AreOfGenerations}
+use Rattle.cg_interp.specs.Engines.{State, ShowsTop, ShowsAll, released_first, death_shown, is_collecting, any_collecting}
+use Rattle.cg_interp.specs.Collecting.{StandsWith, CollectsOnTop}
+use Rattle.cg_interp.specs.Graphs.{detection_by, detection_on, AreOfGenerations}
 use Rattle.cg_interp.specs.Recorded.{detection_at, next_detection}
 
 -- after a detection none is next

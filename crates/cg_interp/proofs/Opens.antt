@@ -61,12 +61,12 @@ module _ (script : Script) (e : State) (store : e.store ≡ opening_store (lengt
     collecting = ap (λ (p : Policy). p.running) policy ∙ ap any_collecting (sym activities);
   }
 
-  pub opening_fit : e.frames ≤ 100000 → e.frames + 9 ≤ e.room → IsFit script e
+  pub opening_fit : e.first_budget ≤ 100000 → e.first_budget + 9 ≤ e.room → IsFit script e
   opening_fit few room =
       let objects : length (objects_of e.store) ≡ 1 = ap (λ s. length (objects_of s)) store ∙ ap length (opening_objects (length script.names)) in
       let one : length e.activities ≡ 1 = ap length activities in
       record {
         names = ap (λ (s : Store). length s.names) store ∙ length-replicate (length script.names) None;
-        frames = few;
+        first_budget = few;
         room = omega (arith, objects, one, room);
       }

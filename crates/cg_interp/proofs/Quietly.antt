@@ -15,7 +15,7 @@ use Rattle.cg_interp.specs.declared.activity.Activity.{Activity}
 use Rattle.cg_interp.specs.declared.turned.Turned.{Turned}
 use Rattle.cg_interp.specs.declared.turned.Turned.TheVariants as turned
 use Rattle.cg_interp.specs.Engines.{State, StandsFor, under}
-use Rattle.cg_interp.specs.Turns.{GoesTo, GivesDeath, RunEndsWith, Turns}
+use Rattle.cg_interp.specs.Turns.{GoesTo, GivesDeath, RunEndsWith, Turns, StaysFit}
 use Rattle.cg_interp.specs.Telling.{GoesOnTo, TurnsWith, IsAtTurn, TurnsFrom}
 use Rattle.cg_interp.specs.Quietly.{GoesQuietly, ComesTo, ComesFrom}
 
@@ -155,15 +155,17 @@ module _ (script : Script) where
   pub comes_here : (top : Activity) (e : State) → ComesFrom script top e top e
   comes_here top e w stands kept = record { after = w; goes = stays w; stands = stands }
 
-  -- One activity was on top, and now another is, of an engine with as many frames.
-  module _ (top mid_top : Activity) (old mid : State) (comes : ComesFrom script top old mid_top mid) (frames : mid.frames ≡ old.frames) where
-    kept_then : (w : World) (stands : StandsFor script (under top old) w) (kept : StaysKept script old.frames w) → StaysKept script mid.frames (comes w stands kept).after
+  -- One activity was on top, and now another is, of an engine that stayed fit.
+  module _ (top mid_top : Activity) (old mid : State) (comes : ComesFrom script top old mid_top mid) (fit : StaysFit old mid) where
+    kept_then : (w : World) (stands : StandsFor script (under top old) w) (kept : StaysKept script old.first_budget w) → StaysKept script mid.first_budget (comes w stands kept).after
     kept_then w stands kept =
         let come = comes w stands kept in
-        subst (λ n. StaysKept script n come.after) (sym frames) (stays_so w come.after come.goes (IsKept script old.frames) kept)
+        subst (λ n. StaysKept script n come.after) (sym fit.first_budget) (stays_so w come.after come.goes (IsKept script old.first_budget) kept)
 
     pub at_turn_then : IsAtTurn script top old → IsAtTurn script mid_top mid
-    at_turn_then (w, stands, kept) = ((comes w stands kept).after, (comes w stands kept).stands, kept_then w stands kept)
+    at_turn_then at =
+        let come = comes at.world at.stands at.kept in
+        record { spelled = at.spelled; fit = fit.fit script at.fit; world = come.after; stands = come.stands; kept = kept_then at.world at.stands at.kept }
 
     pub comes_from_then : (new_top : Activity) (new : State) → ComesFrom script mid_top mid new_top new → ComesFrom script top old new_top new
     comes_from_then new_top new more w stands kept =

@@ -1,7 +1,6 @@
 -- What is written of the graphs of a run, one after the other, is the text of its records.
-use Rattle.std.proofs.Common.{◌≡◌, refl, sym, ◌∙◌, ap, subst, ℕ, Bool, true, false, List, [], ◌∷◌, ◌++◌, Option, None, Some, append_assoc, append-nil, codes}
+use Rattle.std.proofs.Common.{◌≡◌, refl, sym, ◌∙◌, ap, ℕ, Bool, true, false, List, [], ◌∷◌, ◌++◌, Option, None, Some, append_assoc, codes}
 use Rattle.std.specs.Prelude.{flat_map}
-use Rattle.std.specs.Io.KnownBytes.{Appends}
 use Rattle.cg_io.specs.Causes.{AppendsFront}
 use Rattle.cg_records.specs.declared.graph.Graph.{Graph}
 use Rattle.cg_records.specs.declared.graph.Rec.{Rec}
@@ -10,7 +9,7 @@ use Rattle.cg_records.specs.Text.{text, record_text, graph_text, numbered}
 use Rattle.cg_interp.specs.declared.graphs.Detection.{Detection}
 use Rattle.cg_interp.specs.declared.graphs.Detection.TheVariants.{First, Second}
 use Rattle.cg_interp.specs.Graphs.{taken_while, begins_record, closing}
-use Rattle.cg_interp.specs.Recorded.{Picture, second_in, second_of, begins, records_of}
+use Rattle.cg_interp.specs.Recorded.{Picture, second_of, records_of}
 use Rattle.cg_interp.specs.Recording.{picture_text, text_if_taken, text_so_far, unfinished_so_far}
 
 -- what is written from some graphs on to the end

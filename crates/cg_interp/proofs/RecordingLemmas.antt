@@ -1,37 +1,35 @@
 -- A run whose records are written, one turn on.
-use Rattle.std.proofs.Common.{◌≡◌, ◌≢◌, refl, sym, ◌∙◌, ap, subst, ℕ, ◌<◌, Bool, true, false, cond, ◌||◌, ◌⊎◌, inl, inr, List, [], ◌∷◌, ◌++◌, map, Option, None, Some, append_assoc, append-nil, codes}
-use Rattle.std.specs.Prelude.{flat_map}
+use Rattle.std.proofs.Common.{◌≡◌, ◌≢◌, refl, sym, ◌∙◌, ap, subst, ℕ, ◌<◌, Bool, true, false, cond, ◌||◌, inl, inr, List, [], ◌∷◌, ◌++◌, Option, None, Some, append_assoc, append-nil, codes}
 use Rattle.std.specs.List.{list_any}
 use Rattle.std.proofs.lemmas.List.Folds.{list_any-append}
 use Rattle.std.proofs.KnownBytes.{Appends-trans, Appends-nil}
 use Rattle.std.specs.Io.KnownBytes.{Appends}
 use Rattle.cg_io.specs.Causes.{AppendsFront}
 use Rattle.cg_script.specs.declared.Script.{Script}
-use Rattle.cg_heap.specs.Calls.{IsListed, IsSound}
+use Rattle.cg_script.specs.Spelled.{IsSpelled}
+use Rattle.cg_heap.specs.Calls.{IsListed}
 use Rattle.cg_machine.specs.declared.event.Event.{Event}
 use Rattle.cg_machine.specs.declared.event.Event.TheVariants.{End, BudgetSpent, Left}
 use Rattle.cg_machine.specs.World.{World, Outcome, Running, Ended, BudgetIsSpent, opening}
-use Rattle.cg_machine.specs.Run.{StepTaken, Run, IsRun, IsWholeRun, world_after, last_world, events_of}
+use Rattle.cg_machine.specs.Run.{StepTaken, IsRun, IsWholeRun, world_after, last_world}
 use Rattle.cg_machine.specs.Laws.{NoRunIsStuck}
 use Rattle.cg_machine.specs.Represents.{Goes}
 use Rattle.cg_machine.proofs.Ending.{Run-append, last_world-append}
-use Rattle.cg_records.specs.Text.{text}
 use Rattle.cg_records.specs.declared.graph.Graph.{Graph}
 use Rattle.cg_interp.specs.declared.graphs.Detection.{Detection}
-use Rattle.cg_interp.specs.declared.graphs.Detection.TheVariants.{First, Second}
 use Rattle.cg_interp.specs.declared.turned.Turned.{Turned}
 use Rattle.cg_interp.specs.declared.turned.Turned.TheVariants as turned
 use Rattle.cg_interp.specs.declared.turned.Standing.{Standing}
 use Rattle.cg_interp.specs.declared.turned.Standing.TheVariants as standing
 use Rattle.cg_interp.specs.Engines.{State, StandsFor}
 use Rattle.cg_interp.specs.Collecting.{StandsWith}
-use Rattle.cg_interp.specs.Telling.{TurnsWith, Advances, GoesOnTo}
-use Rattle.cg_interp.specs.Turns.{RunEndsWith}
-use Rattle.cg_interp.specs.Running.{Ran, HasLaws, events_told, standing_after}
+use Rattle.cg_interp.specs.Telling.{TurnsWith, Advances, GoesOnTo, IsAtAnyTurn}
+use Rattle.cg_interp.specs.Turns.{RunEndsWith, IsFit}
+use Rattle.cg_interp.specs.Running.{HasLaws, events_told, standing_after}
 use Rattle.cg_laws.specs.Kept.{StaysKept}
 use Rattle.cg_interp.specs.Graphs.{closing, text_before, text_after, unfinished_after, begins_record, begun_text, candidates_in, detection_on, taken, taken_while}
-use Rattle.cg_interp.specs.Recorded.{Picture, picture, lost_at, legacy_at, RunShows, HasRecords, records_of, wants_memory, WroteRecords, WroteRecordsPart}
-use Rattle.cg_interp.specs.Recording.{RecordsTurn, CutsFindings, CutsRecord, RecordedSo, told_after, recorded_next, text_of_turn, picture_text, text_if_taken, text_so_far, unfinished_so_far}
+use Rattle.cg_interp.specs.Recorded.{Picture, picture, lost_at, legacy_at, RunShows, records_of, wants_memory, WroteRecords, WroteRecordsPart}
+use Rattle.cg_interp.specs.Recording.{RecordsTurn, CutsRecord, RecordedSo, told_after, recorded_next, text_of_turn, picture_text, text_if_taken, text_so_far, unfinished_so_far}
 use Rattle.cg_interp.proofs.LineByLine.{after_front}
 use Rattle.cg_interp.proofs.RunLemmas.{ends_longer, lines_longer, kept_so_far}
 use Rattle.cg_interp.proofs.RecordText.{text_to_end, all_written, unfinished-append, text_so_far-append, front_of_all}
@@ -115,24 +113,24 @@ module _ (script : Script) (old : State) (unfinished : Bool) (w : World) (l : Li
 
 -- the same in every world that the engine stands for
 pub cuts_all : (script : Script) (old : State) (unfinished : Bool) (e : State) (before mid now : Option (List ℕ)) (d : Option Detection) → d ≡ recorded_next unfinished old → (answer : Turned)
-    → ((w : World) (l : List Event) → StandsWith script old l w → StaysKept script old.frames w → TurnsWith script (Advances old l e) w l e answer) → Appends before mid (text_before script old.store unfinished d) → AppendsFront mid now (text_after e.store d)
-    → (w : World) (l : List Event) → StandsWith script old l w → StaysKept script old.frames w → CutsRecord script old unfinished w l e before now
+    → ((w : World) (l : List Event) → StandsWith script old l w → StaysKept script old.first_budget w → TurnsWith script (Advances old l e) w l e answer) → Appends before mid (text_before script old.store unfinished d) → AppendsFront mid now (text_after e.store d)
+    → (w : World) (l : List Event) → StandsWith script old l w → StaysKept script old.first_budget w → CutsRecord script old unfinished w l e before now
 cuts_all script old unfinished e before mid now d is answer turns begun part w l stands kept = cuts_findings script old unfinished w l e before mid now d is answer (turns w l stands kept) begun part
 
 -- What was recorded so far, and the laws.
-module _ (law : NoRunIsStuck) (script : Script) (budget : ℕ) (before : Option (List ℕ)) (e : State) (unfinished : Bool) (now : Option (List ℕ)) (so : RecordedSo script budget before e unfinished now) (laws : HasLaws script budget) (frames : e.frames ≡ budget) where
+module _ (law : NoRunIsStuck) (script : Script) (budget : ℕ) (before : Option (List ℕ)) (e : State) (unfinished : Bool) (now : Option (List ℕ)) (so : RecordedSo script budget before e unfinished now) (laws : HasLaws script budget) (first_budget : e.first_budget ≡ budget) where
   abbrev so_far : World
   so_far = world_after script budget so.ran.steps
 
   abbrev left : List Event
   left = so.ran.left
 
-  abbrev kept : StaysKept script e.frames so_far
-  kept = kept_so_far script budget None e None so.ran laws frames
+  abbrev kept : StaysKept script e.first_budget so_far
+  kept = kept_so_far script budget None e None so.ran laws first_budget
 
   -- so a turn may be taken
-  pub turn_may_be_recorded : (w : World) × (l : List Event) × StandsWith script e l w × StaysKept script e.frames w
-  turn_may_be_recorded = (so_far, left, so.ran.stands, kept)
+  pub turn_may_be_recorded : IsSpelled script → IsFit script e → IsAtAnyTurn script e
+  turn_may_be_recorded spelled fit = record { spelled = spelled; fit = fit; world = so_far; left = left; stands = so.ran.stands; kept = kept }
 
   -- the machine goes on, and this is shown
   module _ (e' : State) (now' : Option (List ℕ)) (events : List Event) (after : World) (goes : Goes script so_far events after) (t : TurnShows script so_far goes.steps e e' unfinished) where
@@ -170,8 +168,8 @@ module _ (law : NoRunIsStuck) (script : Script) (budget : ℕ) (before : Option 
         told = so.ran.told ++ tell;
         left = still;
         run = runs_longer;
-        lines = lines_longer script budget None e None so.ran laws frames events tell still after goes lines;
-        stands = subst (StandsWith script e' still) (sym (ends_longer script budget None e None so.ran laws frames events tell still after goes lines)) stands;
+        lines = lines_longer script budget None e None so.ran laws first_budget events tell still after goes lines;
+        stands = subst (StandsWith script e' still) (sym (ends_longer script budget None e None so.ran laws first_budget events tell still after goes lines)) stands;
         written = tt;
       };
       pictures = pictures;
@@ -188,7 +186,7 @@ module _ (law : NoRunIsStuck) (script : Script) (budget : ℕ) (before : Option 
       steps = longer;
       whole = record { run = runs_longer; whole = over; ends = ap (λ (v : World). v.outcome) (last_world-append (opening script budget) so.ran.steps goes.steps ∙ goes.ends) ∙ ended };
       unrefused =
-          ap (list_any wants_memory) (lines_longer script budget None e None so.ran laws frames events lines [] after goes (ap (λ l. l ++ events) none ∙ told ∙ sym (append-nil lines)) ∙ append-nil (so.ran.told ++ lines))
+          ap (list_any wants_memory) (lines_longer script budget None e None so.ran laws first_budget events lines [] after goes (ap (λ l. l ++ events) none ∙ told ∙ sym (append-nil lines)) ∙ append-nil (so.ran.told ++ lines))
           ∙ list_any-append wants_memory so.ran.told lines
           ∙ both_false (list_any wants_memory so.ran.told) (list_any wants_memory lines) so.unrefused unrefused;
       records = records_of pictures;
@@ -264,7 +262,7 @@ module _ (law : NoRunIsStuck) (script : Script) (budget : ℕ) (before : Option 
   -- A turn, with what is recorded of it, makes what was recorded longer, or ends it.
   module _ (e' : State) (then : Bool) (now' : Option (List ℕ)) (listed : IsListed e.store) (listed' : IsListed e'.store) where
     abbrev pub Recorded : Option Standing → Type 0
-    Recorded told = (w : World) (l : List Event) → StandsWith script e l w → StaysKept script e.frames w → RecordsTurn script e unfinished w l e' then told now now'
+    Recorded told = (w : World) (l : List Event) → StandsWith script e l w → StaysKept script e.first_budget w → RecordsTurn script e unfinished w l e' then told now now'
 
     abbrev Turned_so : Turned → Type 0
     Turned_so answer = TurnsWith script (Advances e left e') so_far left e' answer
@@ -356,7 +354,7 @@ module _ (law : NoRunIsStuck) (script : Script) (budget : ℕ) (before : Option 
     recorded_refused told t = let h = here told t in turned_cut h.answer h.turns (all_front now now' _ h.written)
 
     -- where a line was cut short
-    pub recorded_cut : ((w : World) (l : List Event) → StandsWith script e l w → StaysKept script e.frames w → CutsRecord script e unfinished w l e' now now') → WroteRecordsPart script budget before now'
+    pub recorded_cut : ((w : World) (l : List Event) → StandsWith script e l w → StaysKept script e.first_budget w → CutsRecord script e unfinished w l e' now now') → WroteRecordsPart script budget before now'
     recorded_cut cut = by (cut so_far left so.ran.stands kept)
       where
         by : CutsRecord script e unfinished so_far left e' now now' → WroteRecordsPart script budget before now'

@@ -13,6 +13,7 @@ use Rattle.cg_machine.specs.World.{World, Outcome, Running, Ended, BudgetIsSpent
 use Rattle.cg_machine.specs.Run.{StepTaken, IsRun, world_after, events_of}
 use Rattle.cg_machine.specs.Lines.{line, text_of, IsPrintable}
 use Rattle.cg_script.specs.Spelled.{IsSpelled}
+use Rattle.cg_graph.specs.Store.{Store}
 use Rattle.cg_script.specs.Texts.{TextsAreKnown}
 use Rattle.cg_machine.specs.Printing.{LinesArePrintable}
 use Rattle.cg_machine.specs.Laws.{FrontsBeginWholeTexts}
@@ -30,10 +31,10 @@ use Rattle.cg_interp.specs.Engines.{State, StandsFor}
 use Rattle.cg_interp.specs.Collecting.{StandsWith}
 use Rattle.cg_interp.specs.Telling.{TurnsWith, Advances, GoesOnTo}
 use Rattle.cg_interp.specs.Written.{WroteRun, WrotePart}
-use Rattle.cg_interp.specs.Running.{Ran, HasLaws, StaysPrintable, WritesTurn, CutsTurn, events_told, standing_after}
+use Rattle.cg_interp.specs.Running.{Ran, HasLaws, MayWrite, MayRun, MayOpen, StaysPrintable, WritesTurn, CutsTurn, events_told, standing_after}
 use Rattle.cg_interp.proofs.Sizes.{IsSmall}
 use Rattle.cg_interp.proofs.Falling.{falling, turn_falls}
-use Rattle.cg_interp.specs.Turns.{RunEndsWith}
+use Rattle.cg_interp.specs.Turns.{RunEndsWith, IsFit}
 use Rattle.cg_interp.proofs.LineByLine.{after_front, longer_front}
 
 -- A turn goes somewhere: what it prints besides the lines that were left is the event that is due, and the lines that are
@@ -84,14 +85,23 @@ has_laws kept printable script budget known spelled = record {
   printable = λ steps run. printable script budget steps known spelled.short run;
 }
 
+-- So an engine may run that was made for a script and a budget.
+pub may_run : WorldsStayKept → LinesArePrintable → (script : Script) (heap : Store) (budget : ℕ) → MayOpen script heap budget → (e : State) → StandsFor script e (opening script budget) → IsFit script e → e.first_budget ≡ budget → MayRun script e
+may_run kept printable script heap budget may e stands fit first_budget = record {
+  spelled = may.spelled;
+  fit = fit;
+  opens = subst (λ n. StandsFor script e (opening script n)) (sym first_budget) stands;
+  laws = has_laws kept printable script e.first_budget may.known may.spelled;
+}
+
 -- What ran so far, and the laws.
-module _ (script : Script) (budget : ℕ) (before : Option (List ℕ)) (e : State) (now : Option (List ℕ)) (ran : Ran script budget before e now) (laws : HasLaws script budget) (frames : e.frames ≡ budget) where
+module _ (script : Script) (budget : ℕ) (before : Option (List ℕ)) (e : State) (now : Option (List ℕ)) (ran : Ran script budget before e now) (laws : HasLaws script budget) (first_budget : e.first_budget ≡ budget) where
   -- the world that it left
   abbrev pub so_far : World
   so_far = world_after script budget ran.steps
 
-  pub kept_so_far : StaysKept script e.frames so_far
-  kept_so_far = subst (λ n. StaysKept script n so_far) (sym frames) (laws.kept ran.steps ran.run)
+  pub kept_so_far : StaysKept script e.first_budget so_far
+  kept_so_far = subst (λ n. StaysKept script n so_far) (sym first_budget) (laws.kept ran.steps ran.run)
 
   -- the lines of longer runs
   lines_on : (more : List StepTaken) → events_of (ran.steps ++ more) ≡ ran.told ++ (ran.left ++ events_of more)
@@ -103,8 +113,11 @@ module _ (script : Script) (budget : ℕ) (before : Option (List ℕ)) (e : Stat
       (subst (λ es. Includes es event) (sym (lines_on more)) (Includes-append_right ran.told (ran.left ++ events_of more) event m))
 
   -- so a turn may be taken
-  pub turn_may_be_taken : (w : World) × (left : List Event) × StandsWith script e left w × StaysKept script e.frames w × StaysPrintable script left w
-  turn_may_be_taken = (so_far, ran.left, ran.stands, kept_so_far, printable_so_far)
+  pub turn_may_be_taken : IsSpelled script → IsFit script e → MayWrite script e
+  turn_may_be_taken spelled fit = record {
+    at = record { spelled = spelled; fit = fit; world = so_far; left = ran.left; stands = ran.stands; kept = kept_so_far };
+    printable = printable_so_far;
+  }
 
   abbrev text : List Event → List ℕ
   text es = flat_map (line script.names) es
@@ -156,7 +169,7 @@ module _ (script : Script) (budget : ℕ) (before : Option (List ℕ)) (e : Stat
   -- A turn with its lines makes what ran longer, or ends it.
   module _ (e' : State) (now' : Option (List ℕ)) where
     abbrev pub Wrote : Standing → Type 0
-    Wrote stands = (w : World) (left : List Event) → StandsWith script e left w → StaysKept script e.frames w → WritesTurn script e w left e' stands now now'
+    Wrote stands = (w : World) (left : List Event) → StandsWith script e left w → StaysKept script e.first_budget w → WritesTurn script e w left e' stands now now'
 
     abbrev Turned_so : Turned → Type 0
     Turned_so answer = TurnsWith script (Advances e ran.left e') so_far ran.left e' answer
@@ -204,7 +217,7 @@ module _ (script : Script) (budget : ℕ) (before : Option (List ℕ)) (e : Stat
         go turned.Spent is (none, ends) wrote = ran_whole (BudgetSpent ∷ []) (BudgetSpent ∷ []) [] ends.after ends.goes (ap (λ l. l ++ BudgetSpent ∷ []) none) BudgetIsSpent now' refl ends.ended (λ n. cc) wrote
 
     -- where a line was cut short
-    pub ran_cut : FrontsBeginWholeTexts → ((w : World) (left : List Event) → StandsWith script e left w → StaysKept script e.frames w → CutsTurn script e w left e' now now') → WrotePart script budget before now'
+    pub ran_cut : FrontsBeginWholeTexts → ((w : World) (left : List Event) → StandsWith script e left w → StaysKept script e.first_budget w → CutsTurn script e w left e' now now') → WrotePart script budget before now'
     ran_cut law cut =
         let t = cut so_far ran.left ran.stands kept_so_far in
         let g = went script (Advances e ran.left e') so_far ran.left e' t.answer t.turns in

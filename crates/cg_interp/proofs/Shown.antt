@@ -1,15 +1,14 @@
 -- The graphs that a run shows, as runs grow.
-use Rattle.std.proofs.Common.{◌≡◌, ◌≢◌, refl, sym, ◌∙◌, ap, subst, ℕ, Bool, true, false, List, [], ◌∷◌, ◌++◌, map, Option, None, Some, append_assoc}
+use Rattle.std.proofs.Common.{◌≡◌, ◌≢◌, refl, sym, ◌∙◌, ap, subst, ℕ, false, List, [], ◌∷◌, ◌++◌, map, Option, None, Some, append_assoc}
 use Rattle.cg_script.specs.declared.Script.{Script}
-use Rattle.cg_machine.specs.World.{World, Activity, TopLevel, Framed, Releasing, Dying, Collecting, ShuttingDown, CollectPhase, Start, WeakClearing, WeakCalling, AfterCallback, AfterRelease, Finalizing, AfterFinalizing, Split, Turns, Turn, AfterTurn, Ending, Running}
+use Rattle.cg_machine.specs.World.{World, Activity, TopLevel, Framed, Releasing, Dying, Collecting, ShuttingDown, CollectPhase, Start, WeakClearing, WeakCalling, AfterCallback, AfterRelease, Finalizing, AfterFinalizing, Split, Turns, Turn, AfterTurn, Ending}
 use Rattle.cg_machine.specs.Collect.{SameMembers}
-use Rattle.cg_machine.specs.Run.{StepTaken, Run, last_world}
-use Rattle.cg_machine.specs.Represents.{Goes, detects, is_detection, MakesNoDetection, MakesDetectionsAlone}
+use Rattle.cg_machine.specs.Run.{StepTaken, last_world}
+use Rattle.cg_machine.specs.Represents.{detects, is_detection, MakesNoDetection, MakesDetectionsAlone}
 use Rattle.cg_records.specs.declared.graph.Graph.{Graph}
 use Rattle.cg_records.specs.Reading.{graph}
 use Rattle.cg_interp.specs.declared.graphs.Detection.{Detection}
-use Rattle.cg_interp.specs.declared.graphs.Detection.TheVariants.{First, Second}
-use Rattle.cg_interp.specs.Recorded.{Picture, picture, detection_at, detection_of, next_detection, candidates, lost_at, legacy_at, member_among, IsGraphOf, ShowsStep, RunShows}
+use Rattle.cg_interp.specs.Recorded.{Picture, picture, detection_at, next_detection, candidates, lost_at, legacy_at, member_among, IsGraphOf, ShowsStep, RunShows}
 
 -- a run, and more steps
 pub shows-append : (script : Script) (w : World) (steps more : List StepTaken) (ps qs : List Picture) → RunShows script w steps ps → RunShows script (last_world w steps) more qs → RunShows script w (steps ++ more) (ps ++ qs)

@@ -1,5 +1,5 @@
 -- A turn of the shutdown: the greatest bound name is given up, the last collection starts, or what is left is told.
-use Rattle.std.proofs.Common.{◌≡◌, ◌≢◌, refl, sym, ◌∙◌, ap, subst, ℕ, zero, suc, ◌+◌, ◌<◌, ◌≤◌, Bool, true, false, ◌||◌, cond, List, [], ◌∷◌, ◌++◌, length, drop, Option, None, Some, arith, length-append, sum_by}
+use Rattle.std.proofs.Common.{◌≡◌, refl, sym, ◌∙◌, ap, subst, ℕ, zero, suc, ◌+◌, ◌<◌, ◌≤◌, Bool, true, false, cond, List, [], ◌∷◌, ◌++◌, length, drop, Option, None, Some, arith}
 use Rattle.std.specs.Prelude.{slice_get, option_and_then, count_by}
 use Rattle.std.proofs.lemmas.List.{length-set}
 use Rattle.std.proofs.lemmas.List.Sums.{sum_by-cons}
@@ -7,11 +7,10 @@ use Rattle.cg_value.specs.declared.Val.{Val}
 use Rattle.cg_script.specs.declared.Script.{Script}
 use Rattle.cg_graph.specs.Value.{references_of_value}
 use Rattle.cg_graph.specs.Holdings.{occurrences}
-use Rattle.cg_graph.specs.Store.{Store, IsLive, objects_of}
+use Rattle.cg_graph.specs.Store.{IsLive, objects_of}
 use Rattle.cg_graph.specs.Changes.{held, named}
 use Rattle.cg_heap.specs.Calls.{IsSound, object_number, IsBound, IsGreatestBound}
 use Rattle.cg_heap.proofs.HoldLemmas.{name_holds}
-use Rattle.cg_machine.specs.declared.event.Event.{Event}
 use Rattle.cg_machine.specs.declared.event.Event.TheVariants.{Left, End}
 use Rattle.cg_machine.specs.World.{World, Activity, Releasing, ShuttingDown, Ended, push, with_stack}
 use Rattle.cg_machine.specs.Bounds.{is_top_level, IsOverTopLevel}
@@ -202,10 +201,10 @@ tells_left script e w number stands sound is =
     (ap (λ n. Left n ∷ End ∷ []) same, refl)
 
 -- A turn that gives up a name keeps what an engine has room for.
-pub keeps_unbound : (inside old new : State) → inside ≡ old → (refs : List ℕ) (name : ℕ) → new.store ≡ held refs (named name None inside.store) → length new.activities ≡ length inside.activities + 2 → inside.room ≤ new.room + 2 → new.frames ≡ inside.frames → TurnKeeps old new
-keeps_unbound inside old new same refs name store two room frames = subst (λ e. TurnKeeps e new) same (record {
+pub keeps_unbound : (inside old new : State) → inside ≡ old → (refs : List ℕ) (name : ℕ) → new.store ≡ held refs (named name None inside.store) → length new.activities ≡ length inside.activities + 2 → inside.room ≤ new.room + 2 → new.first_budget ≡ inside.first_budget → TurnKeeps old new
+keeps_unbound inside old new same refs name store two room first_budget = subst (λ e. TurnKeeps e new) same (record {
   objects = omega (arith, ap (λ st. length (objects_of st)) store, (none-held refs (named name None inside.store)).objects);
   room = omega (arith, two, room);
   names = ap (λ st. length st.names) store ∙ length-set inside.store.names name None;
-  frames = frames;
+  first_budget = first_budget;
 })

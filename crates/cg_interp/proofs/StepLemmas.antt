@@ -30,7 +30,7 @@ use Rattle.cg_interp.specs.declared.turned.Turned.TheVariants as turned
 use Rattle.cg_interp.specs.Engines.{State, StandsFor, commands_from, frame_of, under, ShowsAll, any_collecting}
 use Rattle.cg_interp.specs.declared.caller.Caller.{Caller}
 use Rattle.cg_interp.specs.declared.caller.Caller.TheVariants as caller_of
-use Rattle.cg_interp.specs.Callers.{caller_activity, caller_locals, caller_at, told, MayCommand, Does, StartsCollection, ChangesOn, TellsChange, DoesAny, RunsTo, StaysKeptAfter, IsAtCommand, ComesNext, StepsFrom}
+use Rattle.cg_interp.specs.Callers.{caller_activity, caller_locals, with_next, told, MayCommand, Does, StartsCollection, ChangesOn, TellsChange, DoesAny, RunsTo, StaysKeptAfter, IsAtCommand, ComesNext, StepsFrom}
 use Rattle.cg_interp.specs.Quietly.{ComesTo}
 use Rattle.cg_interp.specs.Collecting.{StandsWith}
 use Rattle.cg_interp.specs.Telling.{TurnsWith}
@@ -245,8 +245,8 @@ module _ (script : Script) (e : State) (locals : Locals) (procedure : ℕ) (next
 -- The world without the next command, which is done from there. Where no collection is due it is the step of the machine.
 pub record Without (script : Script) (caller : Caller) (after : ℕ) (c : Command) (e : State) (w : World) : Type 0 where
   pub world : World
-  pub stands : StandsFor script (under (caller_activity (caller_at after caller)) e) world
-  pub locals : HasLocals (caller_locals (caller_at after caller)) world
+  pub stands : StandsFor script (under (caller_activity (with_next (Some after) caller)) e) world
+  pub locals : HasLocals (caller_locals (with_next (Some after) caller)) world
   pub does : due w ≡ None → (events : List Event) (done : World) → CommandStep script world c events done → StepOf script w w.stack events done
 
 -- A caller is on top.
@@ -282,38 +282,38 @@ module _ (script : Script) (e : State) (w : World) where
     caller_doable spelled names same (caller_of.Frame locals procedure next) is = body_doable script spelled names procedure same c (is_there (body_of script procedure) _ next c is)
 
   -- its locals live
-  pub caller_live : (budget after : ℕ) (caller : Caller) → StandsFor script (under (caller_activity caller) e) w → IsLawful script budget w → LocalsLive e.store (caller_locals (caller_at after caller))
+  pub caller_live : (budget after : ℕ) (caller : Caller) → StandsFor script (under (caller_activity caller) e) w → IsLawful script budget w → LocalsLive e.store (caller_locals (with_next (Some after) caller))
   caller_live budget after (caller_of.Script next) stands lawful = tt
   caller_live budget after (caller_of.Frame locals procedure next) stands lawful = locals_are_live script budget e locals procedure next w stands lawful
 
   -- what a command may rest on
-  pub may_command : (top : Own) → StandsFor script (under top e) w → IsKept script e.frames w → IsSound e.store → IsSpelled script → IsFit script e → MayCommand e
+  pub may_command : (top : Own) → StandsFor script (under top e) w → IsKept script e.first_budget w → IsSound e.store → IsSpelled script → IsFit script e → MayCommand e
   may_command top stands kept sound spelled fit = record {
-    few = few_holds script e.frames e.store w stands.represents kept.lawful fit.frames (few_objects e.store sound.objects);
-    last = low_serials script spelled e.frames e.store w stands.represents kept.lawful fit.frames;
-    small = subst AreSmall (sym stands.numbers) (small_numbers script e.frames w spelled kept.few fit.frames);
-    idle = idle_in script e.frames top e w stands sound kept;
+    few = few_holds script e.first_budget e.store w stands.represents kept.lawful fit.first_budget (few_objects e.store sound.objects);
+    last = low_serials script spelled e.first_budget e.store w stands.represents kept.lawful fit.first_budget;
+    small = subst AreSmall (sym stands.numbers) (small_numbers script e.first_budget w spelled kept.few fit.first_budget);
+    idle = idle_in script e.first_budget top e w stands sound kept;
     room = omega (arith, has_room script top e w stands kept.lawful fit);
   }
 
 -- The next command of a caller was done.
-module _ (script : Script) (caller : Caller) (after : ℕ) (c : Command) (old new : State) (next : ComesNext script caller c after) (w : World) (stands : StandsFor script (under (caller_activity caller) old) w) (kept : StaysKept script old.frames w) (none : due w ≡ None) where
+module _ (script : Script) (caller : Caller) (after : ℕ) (c : Command) (old new : State) (next : ComesNext script caller c after) (w : World) (stands : StandsFor script (under (caller_activity caller) old) w) (kept : StaysKept script old.first_budget w) (none : due w ≡ None) where
   without : Without script caller after c old w
   without = without_command script old w after c caller next stands
 
   -- the world that it is done from
-  pub at_command : (world : World) × IsAtCommand script (caller_at after caller) old world c
+  pub at_command : (world : World) × IsAtCommand script (with_next (Some after) caller) old world c
   at_command = (
     without.world,
     record {
       stands = without.stands;
       locals = without.locals;
-      kept = command_keeps script w without.world c stands.running (caller_detects_none script old w caller stands) (without.does none) old.frames kept;
+      kept = command_keeps script w without.world c stands.running (caller_detects_none script old w caller stands) (without.does none) old.first_budget kept;
     },
   )
 
   abbrev top_after : Own
-  top_after = caller_activity (caller_at after caller)
+  top_after = caller_activity (with_next (Some after) caller)
 
   -- what it came to is what the step of its caller comes to
   pub comes : RunsTo script at_command.0 c top_after new None → ComesTo script w (under top_after new)
@@ -325,7 +325,7 @@ module _ (script : Script) (caller : Caller) (after : ℕ) (c : Command) (old ne
   answers answer does = command_turns script w without.world c stands.running (caller_detects_none script old w caller stands) (without.does none) new answer does
 
 pub steps_from : (script : Script) (caller : Caller) (after : ℕ) (c : Command) (old new : State) → ComesNext script caller c after → ((w : World) → StandsFor script (under (caller_activity caller) old) w → due w ≡ None)
-    → (result : Option Turned) → ((w : World) → IsAtCommand script (caller_at after caller) old w c → RunsTo script w c (caller_activity (caller_at after caller)) new result) → StepsFrom script caller after old new result
+    → (result : Option Turned) → ((w : World) → IsAtCommand script (with_next (Some after) caller) old w c → RunsTo script w c (caller_activity (with_next (Some after) caller)) new result) → StepsFrom script caller after old new result
 steps_from script caller after c old new next none None does = λ w stands kept.
     let at = at_command script caller after c old new next w stands kept (none w stands) in comes script caller after c old new next w stands kept (none w stands) (does at.0 at.1)
 steps_from script caller after c old new next none (Some answer) does = λ w stands kept.

@@ -17,20 +17,19 @@ use Rattle.cg_collect.specs.declared.phase.Phase.{Phase}
 use Rattle.cg_collect.specs.declared.phase.Phase.TheVariants as phase_of
 use Rattle.cg_collect.specs.Phases.{store_after}
 use Rattle.cg_records.specs.declared.graph.Graph.{Graph}
-use Rattle.cg_records.specs.declared.graph.Member.{Member}
-use Rattle.cg_records.specs.Text.{numbered, member_text, graph_text}
+use Rattle.cg_records.specs.Text.{numbered, member_text}
 use Rattle.cg_interp.specs.declared.graphs.Detection.{Detection}
 use Rattle.cg_interp.specs.declared.graphs.Detection.TheVariants.{First, Second}
-use Rattle.cg_interp.specs.Engines.{State, StandsFor}
-use Rattle.cg_interp.specs.Collecting.{StandsWith, CollectsOnTop}
+use Rattle.cg_interp.specs.Engines.{State}
+use Rattle.cg_interp.specs.Collecting.{StandsWith}
 use Rattle.cg_interp.specs.Telling.{GoesOnTo, Advances}
 use Rattle.cg_interp.specs.Turns.{RunEndsWith}
-use Rattle.cg_interp.specs.Graphs.{taken, taken_while, begins_record, unfinished_after, detection_on, graph_in, member_in, members_text, candidates_in, heading, findings, begun_text, text_before, text_after, legacy_in, lost_in}
+use Rattle.cg_interp.specs.Graphs.{taken, taken_while, begins_record, unfinished_after, detection_on, graph_in, member_in, members_text, candidates_in, heading, findings, begun_text}
 use Rattle.cg_interp.specs.Recorded.{Picture, picture, next_detection, detection_at, RunShows, IsGraphOf, candidates, member_among}
 use Rattle.cg_records.specs.Reading.{graph}
-use Rattle.cg_interp.specs.Recording.{recorded_next, text_of_turn, picture_text, text_if_taken, text_so_far, unfinished_so_far, graph_of_record}
+use Rattle.cg_interp.specs.Recording.{recorded_next, text_of_turn, picture_text, text_if_taken, text_so_far, unfinished_so_far}
 use Rattle.cg_interp.proofs.Shown.{alone_none, one_alone, shows_one}
-use Rattle.cg_interp.proofs.WorldGraphs.{graph_is, stands_alike, members_alike, all_candidates}
+use Rattle.cg_interp.proofs.WorldGraphs.{graph_is, stands_alike, members_alike}
 use Rattle.cg_interp.proofs.NextDetections.{same_next, at_detection, no_advance}
 
 -- A step that makes a detection ends no run.

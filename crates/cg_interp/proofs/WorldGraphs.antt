@@ -1,6 +1,6 @@
 -- A graph as a heap has it is one of the world that the heap stands for.
-use Rattle.std.proofs.Common.{◌≡◌, ◌≢◌, refl, sym, ◌∙◌, ap, subst, ℕ, zero, suc, ◌+◌, ◌<◌, ◌≤◌, ◌⊎◌, Bool, true, false, cond, inl, inr, List, [], ◌∷◌, ◌++◌, map, Option, None, Some, IsSome, arith}
-use Rattle.std.specs.Prelude.{filter, ◌↔◌, ◌==◌, nat_le, if◌then◌else◌, is_some, option_and_then}
+use Rattle.std.proofs.Common.{◌≡◌, refl, sym, ◌∙◌, ap, subst, ℕ, zero, suc, ◌+◌, ◌<◌, ◌≤◌, ◌⊎◌, Bool, true, false, cond, inl, inr, List, [], ◌∷◌, ◌++◌, map, Option, None, Some, IsSome, arith}
+use Rattle.std.specs.Prelude.{filter, ◌==◌, nat_le, if◌then◌else◌, is_some, option_and_then}
 use Rattle.std.specs.FinMap as fin
 use Rattle.std.proofs.lemmas.Bool.{eqb-true, eq-eqb}
 use Rattle.std.proofs.lemmas.Bool.Decides.{nat_tests}
@@ -11,20 +11,20 @@ use Rattle.cg_graph.specs.Member.{Includes, includes}
 use Rattle.cg_graph.specs.Value.{references}
 use Rattle.cg_graph.specs.Object.{Object, serials, serials_at, is_at, same_place, with_place, object_at, entries_of as object_entries_of}
 use Rattle.cg_graph.specs.Holdings.{occurrences}
-use Rattle.cg_graph.specs.Store.{Store, Node, objects_of, entries_of, place_of, place_in, list_at, count_of, IsLive}
+use Rattle.cg_graph.specs.Store.{Store, Node, objects_of, entries_of, place_of, place_in, list_at, IsLive}
 use Rattle.cg_graph.proofs.Members.{either, cases_of, Includes-of, includes-of, Includes-append_left, Includes-append_right, Includes-append_cases, Includes-map, Includes-map_cases, Includes-filter, Includes-filter_cases}
 use Rattle.cg_graph.proofs.Objects.{occurrences-append}
 use Rattle.cg_death.proofs.Emptying.{entries-agree}
 use Rattle.cg_heap.specs.Calls.{IsListed}
-use Rattle.cg_machine.proofs.Places.{place_at_is, place_is}
+use Rattle.cg_machine.proofs.Places.{place_is}
 use Rattle.cg_machine.specs.World.{World}
 use Rattle.cg_machine.specs.Program.{legacy_of}
 use Rattle.cg_machine.specs.Collect.{SameMembers, merged_place, has_legacy}
 use Rattle.cg_machine.specs.Represents.{Represents}
 use Rattle.cg_machine.proofs.Representing.{count-in_degree}
-use Rattle.cg_trial.proofs.Lists.{occurs, occurs_in, none_or_some}
+use Rattle.cg_trial.proofs.Lists.{occurs_in, none_or_some}
 use Rattle.cg_trial.proofs.Placed.{once_at, where_is, is_there}
-use Rattle.cg_collect.proofs.Standing.{map_alike, same_times, node_of_live, place_there, live_there, object_there, once_among, list_has, lives_at}
+use Rattle.cg_collect.proofs.Standing.{map_alike, same_times, node_of_live, place_there, live_there, object_there, once_among, list_has}
 use Rattle.cg_collect.specs.Starting.{has_legacy_in}
 use Rattle.cg_records.specs.Members.{member}
 use Rattle.cg_interp.specs.declared.graphs.Detection.{Detection}

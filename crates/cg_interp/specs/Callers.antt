@@ -52,20 +52,15 @@ abbrev pub commands_left : Script → Caller → List Command
 commands_left script (caller_of.Script next) = commands_from next (commands_of script.items)
 commands_left script (caller_of.Frame locals procedure next) = commands_from next (body_of script procedure)
 
--- the same caller where the command with this number comes next
-abbrev pub caller_at : ℕ → Caller → Caller
-caller_at number (caller_of.Script next) = caller_of.Script (Some number)
-caller_at number (caller_of.Frame locals procedure next) = caller_of.Frame locals procedure (Some number)
+-- the same caller with another next command, or with none left
+abbrev pub with_next : Option ℕ → Caller → Caller
+with_next next (caller_of.Script was) = caller_of.Script next
+with_next next (caller_of.Frame locals procedure was) = caller_of.Frame locals procedure next
 
--- a frame that has no command left
+-- the same without a command left, if it is a frame
 abbrev pub without_rest_in_frame : Caller → Caller
 without_rest_in_frame (caller_of.Script next) = caller_of.Script next
 without_rest_in_frame (caller_of.Frame locals procedure next) = caller_of.Frame locals procedure None
-
--- the same of the script too
-abbrev pub without_rest : Caller → Caller
-without_rest (caller_of.Script next) = caller_of.Script None
-without_rest (caller_of.Frame locals procedure next) = caller_of.Frame locals procedure None
 
 -- What a command may rest on: few references are held from outside, few objects were made, nothing stands in the places of a
 -- collection where none runs, and there is room for a caller, a release and a death.
@@ -150,13 +145,13 @@ StaysKeptAfter script budget w command = (events : List Event) (after : World) �
 pub record IsAtCommand (script : Script) (caller : Caller) (e : State) (w : World) (command : Command) : Type 0 where
   pub stands : StandsFor script (under (caller_activity caller) e) w
   pub locals : HasLocals (caller_locals caller) w
-  pub kept : StaysKeptAfter script e.frames w command
+  pub kept : StaysKeptAfter script e.first_budget w command
 
 -- A command was performed in this world, for which the engine stood with the heap and the policy of before.
 pub record IsPerformed (script : Script) (top : Activity) (e : State) (w : World) (command : Command) (before : Store) (was : Policy) (answer : Result Done Refusal) : Type 0 where
   pub stood : StandsFor script (under top (record e { store = before; policy = was })) w
   pub answers : CommandAnswers answer (effect w command) before was e.store e.policy
-  pub kept : StaysKeptAfter script e.frames w command
+  pub kept : StaysKeptAfter script e.first_budget w command
 
 -- in some world, where the heap had few holds
 pub record HasPerformed (script : Script) (top : Activity) (e : State) (answer : Result Done Refusal) : Type 0 where
@@ -169,11 +164,11 @@ pub record HasPerformed (script : Script) (top : Activity) (e : State) (answer :
 
 -- This command has the turn, and the one with that number comes after it.
 abbrev pub ComesNext : Script → Caller → Command → ℕ → Type 0
-ComesNext script caller command after = commands_left script caller ≡ command ∷ commands_left script (caller_at after caller)
+ComesNext script caller command after = commands_left script caller ≡ command ∷ commands_left script (with_next (Some after) caller)
 
 -- what the next command of a caller comes to, which was on top
 abbrev pub StepsFrom : Script → Caller → ℕ → State → State → Option Turned → Type 0
-StepsFrom script caller after old new None = ComesFrom script (caller_activity caller) old (caller_activity (caller_at after caller)) new
+StepsFrom script caller after old new None = ComesFrom script (caller_activity caller) old (caller_activity (with_next (Some after) caller)) new
 StepsFrom script caller after old new (Some answer) = TurnsFrom script (caller_activity caller) old new answer
 
 -- Each of these commands is spelled by a script with so many texts.

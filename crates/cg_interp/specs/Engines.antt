@@ -22,14 +22,14 @@ use Rattle.cg_interp.specs.declared.activity.Activity.{Activity}
 use Rattle.cg_interp.specs.declared.activity.Activity.TheVariants as activity
 
 -- the value of an engine: its heap, the numbers of the collector, its activities, the top first, how many more may be
--- pushed, the frames that may still start, and the frames that could start at first
+-- pushed, the budget, which is how many frames may still start, and the budget that the script began with
 pub record State : Type 0 where
   pub store : Store
   pub policy : Policy
   pub activities : List Activity
   pub room : ℕ
   pub budget : ℕ
-  pub frames : ℕ
+  pub first_budget : ℕ
 
 -- an engine with another activity on top
 abbrev pub under : Activity → State → State

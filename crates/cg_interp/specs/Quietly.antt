@@ -36,7 +36,7 @@ pub record ComesTo (script : Script) (w : World) (e : State) : Type 0 where
 -- From each world of a run for which an engine stood with one activity on top it comes to one for which an engine stands
 -- with another.
 abbrev pub ComesFrom : Script → Activity → State → Activity → State → Type 0
-ComesFrom script top old top_now new = (w : World) → StandsFor script (under top old) w → StaysKept script old.frames w → ComesTo script w (under top_now new)
+ComesFrom script top old top_now new = (w : World) → StandsFor script (under top old) w → StaysKept script old.first_budget w → ComesTo script w (under top_now new)
 
 -- What becomes of a release: all its references are given up, or it hands out an object whose death is to begin.
 abbrev pub Released : Script → World → State → Release → Option ℕ → Type 0
@@ -55,13 +55,13 @@ pub record LastAction (script : Script) (w : World) (e : State) (now : Store) (a
   pub cause : HasCause death now answer
   pub rows : AreRows store
 
--- A death is on top of a world of a run, of an engine with few frames.
+-- A death is on top of a world of a run, of an engine with a first budget that is allowed.
 abbrev pub IsActing : Script → Store → Death → Type 0
-IsActing script store death = (e : State) × (w : World) × (e.frames ≤ MOST_BUDGET) × StandsFor script (under (activity.Dying death) (over store e)) w × StaysKept script e.frames w
+IsActing script store death = (e : State) × (w : World) × (e.first_budget ≤ MOST_BUDGET) × StandsFor script (under (activity.Dying death) (over store e)) w × StaysKept script e.first_budget w
 
 -- The actions of a death come to an answer, whatever else is under way.
 abbrev pub Acts : Script → Store → Death → Store → Death → DeathStep → Type 0
-Acts script store death now after answer = (e : State) (w : World) → StandsFor script (under (activity.Dying death) (over store e)) w → StaysKept script e.frames w → LastAction script w e now after answer
+Acts script store death now after answer = (e : State) (w : World) → StandsFor script (under (activity.Dying death) (over store e)) w → StaysKept script e.first_budget w → LastAction script w e now after answer
 
 -- some death is the cause of an answer
 abbrev pub HasSomeCause : Store → DeathStep → Type 0

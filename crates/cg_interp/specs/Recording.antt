@@ -1,5 +1,5 @@
 -- A run whose records are written: its turns, and what was written of them so far. (Ours.)
-use Rattle.std.specs.Prelude.{◌≡◌, ◌⊎◌, ℕ, Bool, true, false, List, [], ◌∷◌, ◌++◌, codes, cond, flat_map, Option, None, Some}
+use Rattle.std.specs.Prelude.{◌≡◌, ◌⊎◌, ℕ, Bool, false, List, [], ◌∷◌, ◌++◌, codes, cond, flat_map, Option, None, Some}
 use Rattle.std.specs.List.{list_any}
 use Rattle.std.specs.Io.KnownBytes.{Appends}
 use Rattle.cg_io.specs.Causes.{AppendsFront}
@@ -17,7 +17,7 @@ use Rattle.cg_interp.specs.Engines.{State}
 use Rattle.cg_interp.specs.Telling.{TurnsWith, Advances}
 use Rattle.cg_interp.specs.Running.{Ran, events_told, standing_after}
 use Rattle.cg_interp.specs.Recorded.{Picture, RunShows, wants_memory}
-use Rattle.cg_interp.specs.Graphs.{taken, unfinished_after, begins_record, taken_while, closing, heading, text_before, text_after, detection_on}
+use Rattle.cg_interp.specs.Graphs.{taken, unfinished_after, begins_record, taken_while, heading, text_before, text_after, detection_on}
 
 -- how the run stands after a turn, or nothing where a command was refused for want of memory
 abbrev pub told_after : Turned → Option Standing

@@ -1,12 +1,17 @@
 -- A run of an engine: its turns, each with its lines, and what they wrote so far. (Ours.)
-use Rattle.std.specs.Prelude.{◌≡◌, ℕ, List, [], ◌∷◌, ◌++◌, Option, flat_map}
+use Rattle.std.specs.Prelude.{◌≡◌, ◌≤◌, ℕ, List, [], ◌∷◌, ◌++◌, Option, flat_map, length}
 use Rattle.std.specs.Io.KnownBytes.{Appends}
 use Rattle.cg_io.specs.Causes.{AppendsFront}
 use Rattle.cg_script.specs.declared.Script.{Script}
+use Rattle.cg_script.specs.declared.limits.TheConstants.{MOST_BUDGET}
+use Rattle.cg_script.specs.Spelled.{IsSpelled}
+use Rattle.cg_script.specs.Texts.{TextsAreKnown}
+use Rattle.cg_graph.specs.Store.{Store}
+use Rattle.cg_graph.specs.Changes.{opening_store}
 use Rattle.cg_graph.specs.Member.{Includes}
 use Rattle.cg_machine.specs.declared.event.Event.{Event}
 use Rattle.cg_machine.specs.declared.event.Event.TheVariants.{End, BudgetSpent, Left}
-use Rattle.cg_machine.specs.World.{World}
+use Rattle.cg_machine.specs.World.{World, opening}
 use Rattle.cg_machine.specs.Run.{StepTaken, Run, IsRun, world_after, events_of}
 use Rattle.cg_machine.specs.Lines.{line, IsPrintable}
 use Rattle.cg_laws.specs.Kept.{StaysKept}
@@ -14,9 +19,10 @@ use Rattle.cg_interp.specs.declared.turned.Turned.{Turned}
 use Rattle.cg_interp.specs.declared.turned.Turned.TheVariants as turned
 use Rattle.cg_interp.specs.declared.turned.Standing.{Standing}
 use Rattle.cg_interp.specs.declared.turned.Standing.TheVariants as standing
-use Rattle.cg_interp.specs.Engines.{State}
+use Rattle.cg_interp.specs.Engines.{State, StandsFor}
+use Rattle.cg_interp.specs.Turns.{IsFit}
 use Rattle.cg_interp.specs.Collecting.{StandsWith}
-use Rattle.cg_interp.specs.Telling.{TurnsWith, Advances}
+use Rattle.cg_interp.specs.Telling.{TurnsWith, Advances, IsAtAnyTurn}
 
 -- the events whose lines are due after a turn
 abbrev pub events_told : Turned → List Event
@@ -58,6 +64,26 @@ StaysPrintable script left w = (steps : List StepTaken) → Run script w steps �
 pub record HasLaws (script : Script) (budget : ℕ) : Type 0 where
   pub kept : (steps : List StepTaken) → IsRun script budget steps → StaysKept script budget (world_after script budget steps)
   pub printable : (steps : List StepTaken) → IsRun script budget steps → (event : Event) → Includes (events_of steps) event → IsPrintable script.names event
+
+-- An engine that may take a turn and write its lines: they and all that are due later can be printed.
+pub record MayWrite (script : Script) (e : State) : Type 0 where
+  pub at : IsAtAnyTurn script e
+  pub printable : StaysPrintable script at.left at.world
+
+-- A fit engine that stands for the opening of the run of a script that some bytes spell. What the laws say holds of its runs.
+pub record MayRun (script : Script) (e : State) : Type 0 where
+  pub spelled : IsSpelled script
+  pub fit : IsFit script e
+  pub opens : StandsFor script e (opening script e.first_budget)
+  pub laws : HasLaws script e.first_budget
+
+-- What a run needs at its opening: a script that some bytes spell, a heap on which nothing has been done, and a budget that is
+-- allowed.
+pub record MayOpen (script : Script) (store : Store) (budget : ℕ) : Type 0 where
+  pub spelled : IsSpelled script
+  pub known : TextsAreKnown script
+  pub empty : store ≡ opening_store (length script.names)
+  pub allowed : budget ≤ MOST_BUDGET
 
 -- A run of the machine so far: its lines are those that were written and those that a collection has left to tell, and the
 -- engine stands for the world that it left.

@@ -1,6 +1,7 @@
 -- What a turn answers where a collection on top may have lines left to tell. (Ours.)
 use Rattle.std.specs.Prelude.{◌≡◌, ◌≢◌, ◌<◌, ◌⊎◌, Bool, List, [], ◌∷◌, ◌++◌, length}
 use Rattle.cg_script.specs.declared.Script.{Script}
+use Rattle.cg_script.specs.Spelled.{IsSpelled}
 use Rattle.cg_graph.specs.Store.{Store}
 use Rattle.cg_machine.specs.declared.event.Event.{Event}
 use Rattle.cg_machine.specs.declared.event.Event.TheVariants.{End, BudgetSpent, Left}
@@ -15,7 +16,7 @@ use Rattle.cg_interp.specs.declared.turned.Turned.{Turned}
 use Rattle.cg_interp.specs.declared.turned.Turned.TheVariants as turned
 use Rattle.cg_interp.specs.Engines.{State, StandsFor, under}
 use Rattle.cg_interp.specs.Collecting.{StandsWith, Collects}
-use Rattle.cg_interp.specs.Turns.{RunEndsWith}
+use Rattle.cg_interp.specs.Turns.{RunEndsWith, IsFit}
 
 -- The machine goes on, or rests where that is allowed: what it prints besides the lines that were left is what is told and
 -- the lines that are left now, for which the engine stands.
@@ -47,26 +48,40 @@ IsNearer activities store rest now = ⊥
 abbrev pub Advances : State → List Event → State → List Event → Type 0
 Advances old left new still = (length still < length left) ⊎ ((length still ≡ length left) × IsNearer old.activities old.store new.activities new.store)
 
--- With this activity on top the engine stands for a world of a run.
-abbrev pub IsAtTurn : Script → Activity → State → Type 0
-IsAtTurn script top e = (w : World) × StandsFor script (under top e) w × StaysKept script e.frames w
+-- A fit engine with this activity on top stands for a world of a run of a script that some bytes spell.
+pub record IsAtTurn (script : Script) (top : Activity) (e : State) : Type 0 where
+  pub spelled : IsSpelled script
+  pub fit : IsFit script e
+  pub world : World
+  pub stands : StandsFor script (under top e) world
+  pub kept : StaysKept script e.first_budget world
 
 -- From each such world the machine goes on as is answered, by a step at least.
 abbrev pub TurnsFrom : Script → Activity → State → State → Turned → Type 0
-TurnsFrom script top old new answer = (w : World) → StandsFor script (under top old) w → StaysKept script old.frames w → TurnsWith script (λ still. ⊥) w [] new answer
+TurnsFrom script top old new answer = (w : World) → StandsFor script (under top old) w → StaysKept script old.first_budget w → TurnsWith script (λ still. ⊥) w [] new answer
 
 -- the same of an engine as it stands, where a collection may be on top and have lines left
-abbrev pub IsAtAnyTurn : Script → State → Type 0
-IsAtAnyTurn script e = (w : World) × (left : List Event) × StandsWith script e left w × StaysKept script e.frames w
+pub record IsAtAnyTurn (script : Script) (e : State) : Type 0 where
+  pub spelled : IsSpelled script
+  pub fit : IsFit script e
+  pub world : World
+  pub left : List Event
+  pub stands : StandsWith script e left world
+  pub kept : StaysKept script e.first_budget world
 
 abbrev pub TurnsAny : Script → State → State → Turned → Type 0
-TurnsAny script old new answer = (w : World) (left : List Event) → StandsWith script old left w → StaysKept script old.frames w → TurnsWith script (Advances old left new) w left new answer
+TurnsAny script old new answer = (w : World) (left : List Event) → StandsWith script old left w → StaysKept script old.first_budget w → TurnsWith script (Advances old left new) w left new answer
 
--- A collection is on top of a world of a run, and may take its next step.
-abbrev pub CollectsNext : Script → Bool → Collection → State → Type 0
-CollectsNext script asked c e = (w : World) × (left : List Event) × Collects script asked c e left w × StaysKept script e.frames w
+-- With a collection on top, which may take its next step, a fit engine stands for a world of such a run.
+pub record CollectsNext (script : Script) (asked : Bool) (c : Collection) (e : State) : Type 0 where
+  pub spelled : IsSpelled script
+  pub fit : IsFit script e
+  pub world : World
+  pub left : List Event
+  pub collects : Collects script asked c e left world
+  pub kept : StaysKept script e.first_budget world
 
 -- From each such world the machine goes on as is answered.
 abbrev pub CollectTurns : Script → Bool → Collection → State → State → Turned → Type 0
-CollectTurns script asked c old new answer = (w : World) (left : List Event) → Collects script asked c old left w → StaysKept script old.frames w
+CollectTurns script asked c old new answer = (w : World) (left : List Event) → Collects script asked c old left w → StaysKept script old.first_budget w
     → TurnsWith script (Advances (under (activity.Collecting asked c) old) left new) w left new answer

@@ -86,31 +86,32 @@ IfDies (dies.Died o) holds = holds o
 abbrev pub StaysOn : Death → List Activity → List Activity → Type 0
 StaysOn d below activities = (IsGoing d × (activities ≡ activity.Dying d ∷ below)) ⊎ (IsOffStack d × (activities ≡ below))
 
--- What a turn in which no object is made keeps: there are no more objects, the stack may grow as high as before, and names
--- and frames are as many.
+-- What a turn in which no object is made keeps: there are no more objects, the stack may grow as high as before, names are
+-- as many, and the first budget is the same.
 pub record TurnKeeps (old new : State) : Type 0 where
   pub objects : length (objects_of new.store) ≤ length (objects_of old.store)
   pub room : length old.activities + old.room ≤ length new.activities + new.room
   pub names : length new.store.names ≡ length old.store.names
-  pub frames : new.frames ≡ old.frames
+  pub first_budget : new.first_budget ≡ old.first_budget
 
--- Room for all that can be under way: the frames, and the deaths and releases of all objects.
+-- Room for all that can be under way: the frames of the first budget, and the deaths and releases of all objects.
 abbrev pub HasRoom : State → Type 0
-HasRoom e = e.frames + 2 * length (objects_of e.store) + 8 ≤ length e.activities + e.room
+HasRoom e = e.first_budget + 2 * length (objects_of e.store) + 8 ≤ length e.activities + e.room
 
 -- what an engine keeps to from turn to turn
 pub record IsFit (script : Script) (e : State) : Type 0 where
   pub names : length e.store.names ≡ length script.names
-  pub frames : e.frames ≤ MOST_BUDGET
+  pub first_budget : e.first_budget ≤ MOST_BUDGET
   pub room : HasRoom e
 
 -- room besides for the death of one more object
 abbrev pub HasRoomForOneMore : State → Type 0
-HasRoomForOneMore e = e.frames + 2 * (length (objects_of e.store) + 1) + 8 ≤ length e.activities + e.room
+HasRoomForOneMore e = e.first_budget + 2 * (length (objects_of e.store) + 1) + 8 ≤ length e.activities + e.room
 
--- An engine that was fit is fit.
-abbrev pub StaysFit : State → State → Type 0
-StaysFit old new = (script : Script) → IsFit script old → IsFit script new
+-- An engine that was fit is fit, and its first budget is the same.
+pub record StaysFit (old new : State) : Type 0 where
+  pub fit : (script : Script) → IsFit script old → IsFit script new
+  pub first_budget : new.first_budget ≡ old.first_budget
 
 -- The stack may grow higher than before, and nothing else is changed.
 pub record HasMoreRoom (old new : State) : Type 0 where
@@ -119,7 +120,7 @@ pub record HasMoreRoom (old new : State) : Type 0 where
   pub policy : new.policy ≡ old.policy
   pub activities : new.activities ≡ old.activities
   pub budget : new.budget ≡ old.budget
-  pub frames : new.frames ≡ old.frames
+  pub first_budget : new.first_budget ≡ old.first_budget
 
 -- The activities may be others, and their room; heap, policy and budget are as before.
 pub record HasOtherStack (old new : State) : Type 0 where

@@ -1,6 +1,6 @@
 //! What has commands: the script, or a frame.
 ghost use Rattle.std.specs.Prelude.{◌≡◌};
-ghost use Rattle.cg_interp.specs.Callers.{caller_activity, caller_locals, caller_at, without_rest, without_rest_in_frame};
+ghost use Rattle.cg_interp.specs.Callers.{caller_activity, caller_locals, with_next, without_rest_in_frame};
 
 use crate::activity::Activity;
 use cg_commands::Locals;
@@ -21,13 +21,13 @@ pub enum Caller {
 }
 
 impl Caller {
-    /// The same where the command with this number comes next.
+    /// The same with another next command, or with none left.
     #[inline(always)]
-    pub fn at(self, number: usize) -> Caller
-        ensures { result ≡ caller_at number self }
+    pub fn with_next(self, next: Option<usize>) -> Caller
+        ensures { result ≡ with_next next self }
     {
         match self {
-            Caller::Script { .. } => Caller::Script { next: Some(number) },
+            Caller::Script { .. } => Caller::Script { next },
             Caller::Frame {
                 locals,
                 procedure,
@@ -35,7 +35,7 @@ impl Caller {
             } => Caller::Frame {
                 locals,
                 procedure,
-                next: Some(number),
+                next,
             },
         }
     }
@@ -76,25 +76,7 @@ impl Caller {
     {
         match self {
             Caller::Script { next } => Caller::Script { next },
-            Caller::Frame {
-                locals,
-                procedure,
-                ..
-            } => Caller::Frame {
-                locals,
-                procedure,
-                next: None,
-            },
-        }
-    }
-
-    /// The same without a command left.
-    pub fn stopped(self) -> Caller
-        ensures { result ≡ without_rest self }
-    {
-        match self {
-            Caller::Script { .. } => Caller::Script { next: None },
-            frame => frame.stopped_frame(),
+            frame => frame.with_next(None),
         }
     }
 }

@@ -24,12 +24,9 @@ impl<B: Kind> Engine<B> {
     /// Goes on with the script, which was on top: with one command after the other, up to one that tells a line or with which
     /// more begins. A collection that is due comes first, also before the end or the shutdown.
     pub fn go_on(&mut self, script: &Script, next: Option<usize>) -> Turned
-        requires spelled { IsSpelled script.now }
-        requires fit { IsFit script.now self.old }
         requires stands { IsAtTurn script.now (activity_of.Script next) self.old }
         ensures turns { TurnsFrom script.now (activity_of.Script next) self.old self.new result }
-        ensures fit { IsFit script.now self.new }
-        ensures frames { self.new.frames ≡ self.old.frames }
+        ensures fit { StaysFit self.old self.new }
     {
         let mut next = next;
         'commands: loop {
@@ -47,13 +44,10 @@ impl<B: Kind> Engine<B> {
 
     /// The script, which was on top, has no command left. A collection that is due comes first.
     fn end(&mut self, script: &Script, next: Option<usize>) -> Turned
-        requires spelled { IsSpelled script.now }
-        requires fit { IsFit script.now self.old }
         requires none { commands_from next (commands_of script.now.items) ≡ [] }
         requires stands { IsAtTurn script.now (activity_of.Script next) self.old }
         ensures turns { TurnsFrom script.now (activity_of.Script next) self.old self.new result }
-        ensures fit { IsFit script.now self.new }
-        ensures frames { self.new.frames ≡ self.old.frames }
+        ensures fit { StaysFit self.old self.new }
     {
         match self.policy.due() {
             Some(generation) => {
@@ -73,13 +67,10 @@ impl<B: Kind> Engine<B> {
         procedure: u32,
         next: Option<usize>,
     ) -> Turned
-        requires spelled { IsSpelled script.now }
-        requires fit { IsFit script.now self.old }
         requires stands { IsAtTurn script.now (activity_of.Frame locals procedure next) self.old }
         ensures turns { TurnsFrom script.now (activity_of.Frame locals procedure next) self.old
             self.new result }
-        ensures fit { IsFit script.now self.new }
-        ensures frames { self.new.frames ≡ self.old.frames }
+        ensures fit { StaysFit self.old self.new }
     {
         let body = body_of(script, procedure);
         let mut next = next;
@@ -105,12 +96,11 @@ impl<B: Kind> Engine<B> {
     /// is due and the caller is to go on: it is not put back.
     #[inline(always)]
     fn step(&mut self, caller: Caller, command: &Command, after: usize) -> Option<Turned>
-        requires stands { (script : AnyScript) × IsSpelled script × IsFit script self.old
-            × ComesNext script caller command.now after × IsAtTurn script (caller_activity caller) self.old }
+        requires stands { (script : AnyScript) × ComesNext script caller command.now after
+            × IsAtTurn script (caller_activity caller) self.old }
         ensures steps { (script : AnyScript) → ComesNext script caller command.now after
             → StepsFrom script caller after self.old self.new result }
         ensures fit { StaysFit self.old self.new }
-        ensures frames { self.new.frames ≡ self.old.frames }
     {
         // No heap is large, and where no collection runs none of its places has an object.
         self.heap.sound();
@@ -119,7 +109,7 @@ impl<B: Kind> Engine<B> {
                 self.collect(caller.activity(), false, generation);
                 Some(Turned::Quiet)
             }
-            None => self.run(caller.at(after), command),
+            None => self.run(caller.with_next(Some(after)), command),
         }
     }
 
@@ -134,7 +124,6 @@ impl<B: Kind> Engine<B> {
         ensures does { (script : AnyScript) (w : World) → IsAtCommand script caller self.old w command.now
             → RunsTo script w command.now (caller_activity caller) self.new result }
         ensures fit { StaysFit self.old self.new }
-        ensures frames { self.new.frames ≡ self.old.frames }
     {
         let room = self.make_room(command);
         self.carry_out(caller, command, room)
@@ -152,7 +141,6 @@ impl<B: Kind> Engine<B> {
         ensures does { (script : AnyScript) (w : World) → IsAtCommand script caller self.old w command.now
             → RunsTo script w command.now (caller_activity caller) self.new result }
         ensures fit { StaysFit self.old self.new }
-        ensures frames { self.new.frames ≡ self.old.frames }
     {
         let done = perform(
             self.alloc,
@@ -186,7 +174,7 @@ impl<B: Kind> Engine<B> {
         self.heap.sound();
         // The garbage list is an object too.
         let objects = self.heap.live() as usize + 1;
-        let height = self.frames as usize + 2 * (objects + 1) + 8;
+        let height = self.first_budget as usize + 2 * (objects + 1) + 8;
         self.stack.reserve_up_to(height).is_ok()
     }
 }

@@ -1,10 +1,9 @@
 //! A collection: how one begins, and its turns.
-ghost use Rattle.std.specs.Prelude.{◌≡◌, ◌<◌, ◌≤◌, List, true, false, []};
+ghost use Rattle.std.specs.Prelude.{◌≡◌, ◌<◌, ◌≤◌, true, false, []};
 ghost use Rattle.cg_heap.specs.Calls.{HasFewHolds};
 ghost use Rattle.cg_death.specs.Activities.{HasHolds};
 ghost use Rattle.cg_machine.specs.World.{World, push};
 ghost use Rattle.cg_machine.specs.Commands.{new_collection};
-ghost use Rattle.cg_machine.specs.declared.event.Event.{Event as AnyEvent};
 ghost use Rattle.cg_machine.specs.declared.event.Event.TheVariants as event_of;
 ghost use Rattle.cg_laws.specs.Kept.{StaysKept};
 ghost use Rattle.cg_script.specs.declared.Script.{Script as AnyScript};
@@ -15,8 +14,8 @@ ghost use Rattle.cg_interp.specs.declared.activity.Activity.TheVariants as activ
 ghost use Rattle.cg_interp.specs.Engines.{StandsFor, under};
 ghost use Rattle.cg_interp.specs.declared.turned.Turned.TheVariants as turned_of;
 ghost use Rattle.cg_interp.specs.Collecting.{StandsWith};
-ghost use Rattle.cg_interp.specs.Telling.{TurnsWith, Advances, CollectsNext, CollectTurns};
-ghost use Rattle.cg_interp.specs.Turns.{IsFit, TurnKeeps};
+ghost use Rattle.cg_interp.specs.Telling.{IsAtAnyTurn, TurnsAny, CollectsNext, CollectTurns};
+ghost use Rattle.cg_interp.specs.Turns.{IsFit, TurnKeeps, StaysFit};
 
 use crate::activity::Activity;
 use crate::engine::Engine;
@@ -36,7 +35,7 @@ impl<B: Kind> Engine<B> {
         requires idle { self.old.policy.running ≡ false }
         requires stands { (script : AnyScript) × IsSpelled script × IsFit script self.old
             × (w : World) × StandsFor script (under top self.old) w
-            × StaysKept script self.old.frames (push (new_collection generation asked w) w) }
+            × StaysKept script self.old.first_budget (push (new_collection generation asked w) w) }
         ensures begins { (script : AnyScript) (w : World) → StandsFor script (under top self.old) w
             → StandsWith script self.new [] (push (new_collection generation asked w) w) }
         ensures keeps { TurnKeeps self.old self.new }
@@ -56,17 +55,10 @@ impl<B: Kind> Engine<B> {
         script: &Script,
         steps: &mut Steps<L>,
     ) -> Turned
-        requires spelled { IsSpelled script.now }
         requires fit { IsFit script.now self.old }
-        requires stands { (w : World) × (left : List AnyEvent)
-            × StandsWith script.now (under (activity_of.Collecting asked collection) self.old) left w
-            × StaysKept script.now self.old.frames w }
-        ensures turns { (w : World) (left : List AnyEvent)
-            → StandsWith script.now (under (activity_of.Collecting asked collection) self.old) left w
-            → StaysKept script.now self.old.frames w
-            → TurnsWith script.now (Advances (under (activity_of.Collecting asked collection) self.old) left self.new) w left self.new result }
-        ensures fit { IsFit script.now self.new }
-        ensures frames { self.new.frames ≡ self.old.frames }
+        requires stands { IsAtAnyTurn script.now (under (activity_of.Collecting asked collection) self.old) }
+        ensures turns { TurnsAny script.now (under (activity_of.Collecting asked collection) self.old) self.new result }
+        ensures fit { StaysFit self.old self.new }
     {
         self.heap.sound();
         self.go_on_collecting(asked, collection, script, steps)
@@ -81,8 +73,6 @@ impl<B: Kind> Engine<B> {
         script: &Script,
         steps: &mut Steps<L>,
     ) -> Turned
-        requires spelled { IsSpelled script.now }
-        requires fit { IsFit script.now self.old }
         requires few { HasFewHolds self.old.store }
         requires held { HasHolds self.old.store (held_by collection) }
         requires ready { IsReadyForCollection script.now collection self.old.store }
@@ -90,8 +80,7 @@ impl<B: Kind> Engine<B> {
         requires room { 1 < self.old.room }
         requires stands { CollectsNext script.now asked collection self.old }
         ensures turns { CollectTurns script.now asked collection self.old self.new result }
-        ensures fit { IsFit script.now self.new }
-        ensures frames { self.new.frames ≡ self.old.frames }
+        ensures keeps { TurnKeeps self.old self.new }
     {
         let mut collection = collection;
         let answer = collection.step(&mut self.heap, &mut self.policy, script, steps);

@@ -140,7 +140,7 @@ impl<B: Kind> Engine<B> {
             → Makes script ([], with_stack (without_commands w.stack) w) self.new result }
         ensures keeps { TurnKeeps self.old self.new }
     {
-        self.stack.push(caller.stopped().activity());
+        self.stack.push(caller.with_next(None).activity());
         Turned::Quiet
     }
 
@@ -169,7 +169,7 @@ impl<B: Kind> Engine<B> {
         requires room { 2 < self.old.room }
         requires stands { (script : AnyScript) × IsSpelled script × IsFit script self.old
             × (command : AnyCommand) × (w : World) × StandsFor script (under (caller_activity caller) self.old) w
-            × (effect w command ≡ Ok (Collects generation)) × StaysKeptAfter script self.old.frames w command }
+            × (effect w command ≡ Ok (Collects generation)) × StaysKeptAfter script self.old.first_budget w command }
         ensures does { (script : AnyScript) (command : AnyCommand) (w : World) → StandsFor script (under (caller_activity caller) self.old) w
             → effect w command ≡ Ok (Collects generation) → DoesAny script w command self.new result }
         ensures keeps { TurnKeeps self.old self.new }

@@ -14,7 +14,7 @@ ghost use Rattle.cg_interp.specs.declared.activity.Activity.TheVariants as activ
 ghost use Rattle.cg_interp.specs.Engines.{StandsFor, under};
 ghost use Rattle.cg_interp.specs.Quietly.{IsActing, Acts, HasSomeCause};
 ghost use Rattle.cg_interp.specs.Telling.{IsAtTurn};
-ghost use Rattle.cg_interp.specs.Turns.{DyingIsSound, DeathTurns, StaysOn, TurnKeeps, HasOtherStack, IfDies, IsFit};
+ghost use Rattle.cg_interp.specs.Turns.{DyingIsSound, DeathTurns, StaysOn, TurnKeeps, HasOtherStack, IfDies};
 
 use crate::activity::Activity;
 use crate::engine::Engine;
@@ -44,10 +44,9 @@ impl<B: Kind> Engine<B> {
     #[inline(always)]
     pub fn go_on_dying(&mut self, death: Death, script: &Script) -> Dies
         requires room { 1 < self.old.room }
-        requires fit { IsFit script.now self.old }
         requires stands { IsAtTurn script.now (activity_of.Dying death) self.old }
         ensures turns { (w : World) → StandsFor script.now (under (activity_of.Dying death) self.old) w
-            → StaysKept script.now self.old.frames w → DeathTurns script.now w self.new result }
+            → StaysKept script.now self.old.first_budget w → DeathTurns script.now w self.new result }
         ensures dead { IfDies result (λ o. IsUnheld self.new.store o) }
         ensures room { IfDies result (λ _. 0 < self.new.room) }
         ensures keeps { TurnKeeps self.old self.new }

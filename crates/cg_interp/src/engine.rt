@@ -17,8 +17,8 @@ pub struct Engine<B: Kind> {
     pub stack: Stack,
     // The frames that may still start.
     pub budget: u32,
-    // The frames that could start at first.
-    pub frames: u32,
+    // The budget that the script began with.
+    pub first_budget: u32,
 }
 
 impl<B: Kind> Model for Engine<B> {
@@ -37,6 +37,6 @@ impl<B: Kind> Model for Engine<B> {
       activities = e.stack.activities;
       room = e.stack.room;
       budget = e.budget;
-      frames = e.frames;
+      first_budget = e.first_budget;
     } };
 }

@@ -1,5 +1,5 @@
 //! The graphs of records, as they are written from a heap.
-ghost use Rattle.std.specs.Prelude.{◌≡◌, ◌≤◌, ◌+◌, ◌++◌, Some, length, flat_map, map, codes, OnOk, OnErr};
+ghost use Rattle.std.specs.Prelude.{◌≡◌, ◌≤◌, ◌+◌, Some, length, flat_map, codes, OnOk, OnErr};
 ghost use Rattle.std.specs.Io.KnownBytes.{Appends};
 ghost use Rattle.cg_io.specs.Causes.{HasCause, AppendsFront};
 ghost use Rattle.cg_graph.specs.Value.{references, references_of_value};

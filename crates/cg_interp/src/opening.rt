@@ -28,7 +28,7 @@ impl<B: Kind> Engine<B> {
         requires budget { budget ≤ MOST_BUDGET }
         ensures stands { IfOk result (λ e. StandsFor script.now e (opening script.now budget)) }
         ensures fit { IfOk result (λ e. IsFit script.now e) }
-        ensures frames { IfOk result (λ e. e.frames ≡ budget) }
+        ensures first_budget { IfOk result (λ e. e.first_budget ≡ budget) }
     {
         // Room for the frames, two for the one object, and eight to spare, which is enough for a collection.
         let mut stack = Stack::new(alloc, budget as usize + 10)?;
@@ -39,7 +39,7 @@ impl<B: Kind> Engine<B> {
             policy: Policy::new(),
             stack,
             budget,
-            frames: budget,
+            first_budget: budget,
         })
     }
 }

@@ -8,15 +8,15 @@ ghost use Rattle.cg_script.specs.Texts.{TextsAreKnown};
 ghost use Rattle.cg_graph.specs.Changes.{opening_store};
 ghost use Rattle.cg_heap.specs.Calls.{IsSound};
 ghost use Rattle.cg_machine.specs.declared.event.Event.{Event as AnyEvent};
-ghost use Rattle.cg_machine.specs.World.{World, Ended, BudgetIsSpent, opening};
+ghost use Rattle.cg_machine.specs.World.{World, Ended, BudgetIsSpent};
 ghost use Rattle.cg_laws.specs.Kept.{StaysKept};
-ghost use Rattle.cg_interp.specs.Engines.{StandsFor};
 ghost use Rattle.cg_interp.specs.Collecting.{StandsWith};
-ghost use Rattle.cg_interp.specs.Turns.{IsFit};
+ghost use Rattle.cg_interp.specs.Turns.{StaysFit};
+ghost use Rattle.cg_interp.specs.Telling.{IsAtAnyTurn};
 ghost use Rattle.cg_interp.specs.Recorded.{WroteRecords, WroteRecordsPart};
 ghost use Rattle.cg_interp.specs.Graphs.{closing};
 ghost use Rattle.cg_interp.specs.Recording.{RecordsTurn, CutsRecord};
-ghost use Rattle.cg_interp.specs.Running.{HasLaws};
+ghost use Rattle.cg_interp.specs.Running.{MayRun, MayOpen};
 
 use crate::engine::Engine;
 use crate::recording::{is_unfinished_after, recorded_of, write_end};
@@ -41,19 +41,15 @@ fn turn_and_record<B: Kind, K: Sink, L: Ledger>(
     unfinished: &mut bool,
     sink: &mut K,
 ) -> Result<Option<Standing>, WriteFailed>
-    requires spelled { IsSpelled script.now }
-    requires fit { IsFit script.now engine.old }
-    requires stands { (w : World) × (left : List AnyEvent) × StandsWith script.now engine.old left w
-        × StaysKept script.now engine.old.frames w }
+    requires stands { IsAtAnyTurn script.now engine.old }
     ensures ok { IfOk result (λ told. (w : World) (left : List AnyEvent) → StandsWith script.now engine.old left w
-        → StaysKept script.now engine.old.frames w
+        → StaysKept script.now engine.old.first_budget w
         → RecordsTurn script.now engine.old unfinished.old w left engine.new unfinished.new told (K.written sink.old) (K.written sink.new)) }
     ensures err { OnErr result ((w : World) (left : List AnyEvent) → StandsWith script.now engine.old left w
-        → StaysKept script.now engine.old.frames w
+        → StaysKept script.now engine.old.first_budget w
         → CutsRecord script.now engine.old unfinished.old w left engine.new (K.written sink.old) (K.written sink.new)) }
     ensures cause { HasCause (K.faults sink.old) (K.faults sink.new) result }
-    ensures fit { IsFit script.now engine.new }
-    ensures frames { engine.new.frames ≡ engine.old.frames }
+    ensures fit { StaysFit engine.old engine.new }
     ensures was_sound { IsSound engine.old.store }
     ensures sound { IsSound engine.new.store }
 {
@@ -96,19 +92,16 @@ fn record_turns<B: Kind, K: Sink, L: Ledger>(
     steps: &mut Steps<L>,
     sink: &mut K,
 ) -> RunEnd
-    requires spelled { IsSpelled script.now }
-    requires laws { HasLaws script.now engine.old.frames }
-    requires fit { IsFit script.now engine.old }
-    requires opens { StandsFor script.now engine.old (opening script.now engine.old.frames) }
+    requires may { MayRun script.now engine.old }
     ensures done { result ≡ RunEnd.Done
-        → WroteRecords script.now engine.old.frames Ended (K.written sink.old) (K.written sink.new) }
+        → WroteRecords script.now engine.old.first_budget Ended (K.written sink.old) (K.written sink.new) }
     ensures spent { result ≡ RunEnd.Budget
-        → WroteRecords script.now engine.old.frames BudgetIsSpent (K.written sink.old) (K.written sink.new) }
+        → WroteRecords script.now engine.old.first_budget BudgetIsSpent (K.written sink.old) (K.written sink.new) }
     ensures part { result ≡ RunEnd.WriteFault
-        → WroteRecordsPart script.now engine.old.frames (K.written sink.old) (K.written sink.new) }
+        → WroteRecordsPart script.now engine.old.first_budget (K.written sink.old) (K.written sink.new) }
     ensures cause { result ≡ RunEnd.WriteFault → Rose (K.faults sink.old) (K.faults sink.new) }
     ensures memory { result ≡ RunEnd.OutOfMemory
-        → WroteRecordsPart script.now engine.old.frames (K.written sink.old) (K.written sink.new) }
+        → WroteRecordsPart script.now engine.old.first_budget (K.written sink.old) (K.written sink.new) }
     ensures later { K.faults sink.old ≤ K.faults sink.new }
 {
     no_run_is_stuck();
@@ -133,10 +126,7 @@ fn open_and_record<B: Kind, K: Sink, L: Ledger>(
     sink: &mut K,
     blank: Blank,
 ) -> RunEnd
-    requires spelled { IsSpelled script.now }
-    requires known { TextsAreKnown script.now }
-    requires heap { heap ≡ opening_store (length script.now.names) }
-    requires budget { budget ≤ MOST_BUDGET }
+    requires may { MayOpen script.now heap budget }
     requires name { blank.name ≡ L.name }
     requires parts { blank.parts ≡ L.parts }
     requires some { 0 < blank.parts }

@@ -1,5 +1,5 @@
 //! A release on top.
-ghost use Rattle.std.specs.Prelude.{◌≡◌, ◌<◌, IfSome};
+ghost use Rattle.std.specs.Prelude.{◌<◌, IfSome};
 ghost use Rattle.cg_script.specs.declared.Script.{Script as AnyScript};
 ghost use Rattle.cg_machine.specs.World.{World};
 ghost use Rattle.cg_machine.specs.Frame.{begin_death};

@@ -8,13 +8,12 @@ ghost use Rattle.cg_script.specs.Texts.{TextsAreKnown};
 ghost use Rattle.cg_graph.specs.Changes.{opening_store};
 ghost use Rattle.cg_heap.specs.Calls.{IsSound};
 ghost use Rattle.cg_machine.specs.declared.event.Event.{Event as AnyEvent};
-ghost use Rattle.cg_machine.specs.World.{World, Ended, BudgetIsSpent, opening};
+ghost use Rattle.cg_machine.specs.World.{World, Ended, BudgetIsSpent};
 ghost use Rattle.cg_laws.specs.Kept.{StaysKept};
-ghost use Rattle.cg_interp.specs.Engines.{StandsFor};
 ghost use Rattle.cg_interp.specs.Collecting.{StandsWith};
-ghost use Rattle.cg_interp.specs.Turns.{IsFit};
+ghost use Rattle.cg_interp.specs.Turns.{StaysFit};
 ghost use Rattle.cg_interp.specs.Written.{WroteRun, WrotePart, WroteKept};
-ghost use Rattle.cg_interp.specs.Running.{HasLaws, StaysPrintable, WritesTurn, CutsTurn};
+ghost use Rattle.cg_interp.specs.Running.{MayWrite, MayRun, MayOpen, WritesTurn, CutsTurn};
 
 use crate::engine::Engine;
 use crate::turned::Standing;
@@ -51,19 +50,15 @@ fn turn_and_write<B: Kind, K: Sink, L: Ledger>(
     text: &mut LineText,
     sink: &mut K,
 ) -> Result<Standing, WriteFailed>
-    requires spelled { IsSpelled script.now }
-    requires fit { IsFit script.now engine.old }
-    requires stands { (w : World) × (left : List AnyEvent) × StandsWith script.now engine.old left w
-        × StaysKept script.now engine.old.frames w × StaysPrintable script.now left w }
+    requires may { MayWrite script.now engine.old }
     ensures ok { IfOk result (λ stands. (w : World) (left : List AnyEvent) → StandsWith script.now engine.old left w
-        → StaysKept script.now engine.old.frames w
+        → StaysKept script.now engine.old.first_budget w
         → WritesTurn script.now engine.old w left engine.new stands (K.written sink.old) (K.written sink.new)) }
     ensures err { OnErr result ((w : World) (left : List AnyEvent) → StandsWith script.now engine.old left w
-        → StaysKept script.now engine.old.frames w
+        → StaysKept script.now engine.old.first_budget w
         → CutsTurn script.now engine.old w left engine.new (K.written sink.old) (K.written sink.new)) }
     ensures cause { HasCause (K.faults sink.old) (K.faults sink.new) result }
-    ensures fit { IsFit script.now engine.new }
-    ensures frames { engine.new.frames ≡ engine.old.frames }
+    ensures fit { StaysFit engine.old engine.new }
     ensures sound { IsSound engine.new.store }
 {
     let answer = engine.turn(script, steps);
@@ -82,16 +77,13 @@ fn run_turns<B: Kind, K: Sink, L: Ledger>(
     steps: &mut Steps<L>,
     sink: &mut K,
 ) -> RunEnd
-    requires spelled { IsSpelled script.now }
-    requires laws { HasLaws script.now engine.old.frames }
-    requires fit { IsFit script.now engine.old }
-    requires opens { StandsFor script.now engine.old (opening script.now engine.old.frames) }
+    requires may { MayRun script.now engine.old }
     ensures done { result ≡ RunEnd.Done
-        → WroteRun script.now engine.old.frames Ended (K.written sink.old) (K.written sink.new) }
+        → WroteRun script.now engine.old.first_budget Ended (K.written sink.old) (K.written sink.new) }
     ensures spent { result ≡ RunEnd.Budget
-        → WroteRun script.now engine.old.frames BudgetIsSpent (K.written sink.old) (K.written sink.new) }
+        → WroteRun script.now engine.old.first_budget BudgetIsSpent (K.written sink.old) (K.written sink.new) }
     ensures part { result ≡ RunEnd.WriteFault
-        → WrotePart script.now engine.old.frames (K.written sink.old) (K.written sink.new) }
+        → WrotePart script.now engine.old.first_budget (K.written sink.old) (K.written sink.new) }
     ensures cause { result ≡ RunEnd.WriteFault → Rose (K.faults sink.old) (K.faults sink.new) }
     ensures memory { result ≢ RunEnd.OutOfMemory }
     ensures later { K.faults sink.old ≤ K.faults sink.new }
@@ -117,10 +109,7 @@ fn open_and_run<B: Kind, K: Sink, L: Ledger>(
     sink: &mut K,
     blank: Blank,
 ) -> RunEnd
-    requires spelled { IsSpelled script.now }
-    requires known { TextsAreKnown script.now }
-    requires heap { heap ≡ opening_store (length script.now.names) }
-    requires budget { budget ≤ MOST_BUDGET }
+    requires may { MayOpen script.now heap budget }
     requires name { blank.name ≡ L.name }
     requires parts { blank.parts ≡ L.parts }
     requires some { 0 < blank.parts }

@@ -2,7 +2,6 @@
 //! is counted.
 ghost use Rattle.std.specs.Prelude.{◌≡◌, ◌<◌, ℕ, Option, [], None, Some, false, true, length};
 ghost use Rattle.cg_script.specs.declared.Script.{Script as AnyScript};
-ghost use Rattle.cg_script.specs.Spelled.{IsSpelled};
 ghost use Rattle.cg_heap.specs.Calls.{HasFewHolds, IsSound};
 ghost use Rattle.cg_graph.specs.Value.{references_of_value};
 ghost use Rattle.cg_death.specs.Activities.{references_left};
@@ -12,7 +11,7 @@ ghost use Rattle.cg_machine.specs.Due.{due};
 ghost use Rattle.cg_machine.specs.Shutdown.{greatest_from};
 ghost use Rattle.cg_interp.specs.declared.activity.Activity.TheVariants as activity_of;
 ghost use Rattle.cg_interp.specs.Engines.{StandsFor, under, commands_from};
-ghost use Rattle.cg_interp.specs.Turns.{Turns, TurnKeeps, IsFit};
+ghost use Rattle.cg_interp.specs.Turns.{Turns, TurnKeeps};
 ghost use Rattle.cg_interp.specs.Telling.{IsAtTurn, TurnsFrom};
 
 use crate::activity::Activity;
@@ -44,8 +43,7 @@ impl<B: Kind> Engine<B> {
     pub fn shut_down(&mut self) -> Turned
         requires few { HasFewHolds self.old.store }
         requires room { 2 < self.old.room }
-        requires stands { (script : AnyScript) × IsSpelled script × IsFit script self.old
-            × IsAtTurn script (activity_of.Shutdown false) self.old }
+        requires stands { (script : AnyScript) × IsAtTurn script (activity_of.Shutdown false) self.old }
         ensures turns { (script : AnyScript) → TurnsFrom script (activity_of.Shutdown false) self.old self.new result }
         ensures keeps { TurnKeeps self.old self.new }
     {

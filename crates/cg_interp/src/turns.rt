@@ -1,7 +1,5 @@
 //! One turn of a run.
-ghost use Rattle.std.specs.Prelude.{◌≡◌};
 ghost use Rattle.cg_script.specs.declared.Script.{Script as AnyScript};
-ghost use Rattle.cg_script.specs.Spelled.{IsSpelled};
 ghost use Rattle.cg_interp.specs.declared.activity.Activity.TheVariants as activity_of;
 ghost use Rattle.cg_interp.specs.Engines.{under};
 ghost use Rattle.cg_interp.specs.Turns.{IsFit, StaysFit};
@@ -19,12 +17,9 @@ use std::sync::ledger::Ledger;
 impl<B: Kind> Engine<B> {
     /// One turn: what is on top goes on.
     pub fn turn<L: Ledger>(&mut self, script: &Script, steps: &mut Steps<L>) -> Turned
-        requires spelled { IsSpelled script.now }
-        requires fit { IsFit script.now self.old }
         requires stands { IsAtAnyTurn script.now self.old }
         ensures turns { TurnsAny script.now self.old self.new result }
-        ensures fit { IsFit script.now self.new }
-        ensures frames { self.new.frames ≡ self.old.frames }
+        ensures fit { StaysFit self.old self.new }
     {
         match self.stack.pop() {
             Some(top) => self.turn_of(top, script, steps),
@@ -35,12 +30,10 @@ impl<B: Kind> Engine<B> {
     /// A turn of the activity that was on top.
     #[inline(always)]
     fn turn_of<L: Ledger>(&mut self, top: Activity, script: &Script, steps: &mut Steps<L>) -> Turned
-        requires spelled { IsSpelled script.now }
         requires fit { IsFit script.now self.old }
         requires stands { IsAtAnyTurn script.now (under top self.old) }
         ensures turns { TurnsAny script.now (under top self.old) self.new result }
-        ensures fit { IsFit script.now self.new }
-        ensures frames { self.new.frames ≡ self.old.frames }
+        ensures fit { StaysFit self.old self.new }
     {
         match top {
             Activity::Script { next } => self.go_on(script, next),
@@ -61,12 +54,10 @@ impl<B: Kind> Engine<B> {
     /// A turn of a release, which was on top.
     #[inline(always)]
     fn turn_of_release(&mut self, release: Release) -> Turned
-        requires stands { (script : AnyScript) × IsFit script self.old
-            × IsAtTurn script (activity_of.Releasing release) self.old }
+        requires stands { (script : AnyScript) × IsAtTurn script (activity_of.Releasing release) self.old }
         ensures turns { (script : AnyScript) →
             TurnsFrom script (activity_of.Releasing release) self.old self.new result }
         ensures fit { StaysFit self.old self.new }
-        ensures frames { self.new.frames ≡ self.old.frames }
     {
         self.go_on_releasing(release)
     }
@@ -74,11 +65,9 @@ impl<B: Kind> Engine<B> {
     /// A turn of the shutdown, which was on top.
     #[inline(always)]
     fn turn_of_shutdown(&mut self, started: bool) -> Turned
-        requires stands { (script : AnyScript) × IsSpelled script × IsFit script self.old
-            × IsAtTurn script (activity_of.Shutdown started) self.old }
+        requires stands { (script : AnyScript) × IsAtTurn script (activity_of.Shutdown started) self.old }
         ensures turns { (script : AnyScript) → TurnsFrom script (activity_of.Shutdown started) self.old self.new result }
         ensures fit { StaysFit self.old self.new }
-        ensures frames { self.new.frames ≡ self.old.frames }
     {
         self.heap.sound();
         if started {
@@ -91,11 +80,9 @@ impl<B: Kind> Engine<B> {
     /// A turn of a death, which was on top.
     #[inline(always)]
     fn turn_of_death(&mut self, script: &Script, death: Death) -> Turned
-        requires fit { IsFit script.now self.old }
         requires stands { IsAtTurn script.now (activity_of.Dying death) self.old }
         ensures turns { TurnsFrom script.now (activity_of.Dying death) self.old self.new result }
-        ensures fit { IsFit script.now self.new }
-        ensures frames { self.new.frames ≡ self.old.frames }
+        ensures fit { StaysFit self.old self.new }
     {
         match self.go_on_dying(death, script) {
             Dies::Turned(answer) => answer,

@@ -1,5 +1,5 @@
 //! The lines of a run, as they are written.
-ghost use Rattle.std.specs.Prelude.{◌≡◌, flat_map, OnOk, OnErr};
+ghost use Rattle.std.specs.Prelude.{flat_map, OnOk, OnErr};
 ghost use Rattle.std.specs.Io.KnownBytes.{Appends};
 ghost use Rattle.cg_io.specs.Causes.{HasCause, AppendsFront};
 ghost use Rattle.cg_graph.specs.Member.{Includes};

@@ -1,4 +1,4 @@
-use Rattle.std.proofs.Common.{sym, ◌∙◌, ap, is_some}
+use Rattle.std.proofs.Common.{◌∙◌, ap, is_some}
 use Rattle.cg_interp.proofs.GraphText.{given_err, on_err, member_cut, references_cut}
 use Rattle.cg_interp.proofs.graphs.write_member.Goals as goal
 

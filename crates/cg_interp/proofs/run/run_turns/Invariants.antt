@@ -1,5 +1,5 @@
-use Rattle.std.proofs.Common.{◌≡◌, ◌≤◌}
-use Rattle.cg_interp.specs.Turns.{IsFit}
+use Rattle.std.proofs.Common.{◌≤◌}
+use Rattle.cg_interp.specs.Turns.{StaysFit}
 use Rattle.cg_interp.specs.Running.{Ran}
 use Rattle.cg_interp.proofs.Falling.{falling}
 use Rattle.cg_interp.proofs.run.run_turns.Given as goal
@@ -7,9 +7,8 @@ use Rattle.cg_interp.proofs.run.run_turns.Given as goal
 -- the text of the run so far was written, and the engine stands for the world that it left
 abbrev pub invariant-turns : goal.invariant-turns
 invariant-turns g l = record {
-  ran : Ran l.script l.fn.engine.frames (g.K.Sink.written l.fn.sink) l.engine (g.K.Sink.written l.sink);
-  fit : IsFit l.script l.engine;
-  frames : l.engine.frames ≡ l.fn.engine.frames;
+  ran : Ran l.script l.fn.engine.first_budget (g.K.Sink.written l.fn.sink) l.engine (g.K.Sink.written l.sink);
+  fit : StaysFit l.fn.engine l.engine;
   later : g.K.Sink.faults l.fn.sink ≤ g.K.Sink.faults l.sink;
 }
 

@@ -4,8 +4,8 @@ use Rattle.cg_interp.proofs.run.turn_and_write.Goals as goal
 
 pub write_answer-requires : goal.write_answer-requires
 write_answer-requires g c =
-    let s = c.requires.stands in
-    told_printable c.args.script.now _ s.0 s.1 _ c.turn-answer.result (c.turn-answer.ensures.turns s.0 s.1 s.2 s.3) s.4
+    let at = c.requires.may.at in
+    told_printable c.args.script.now _ at.world at.left _ c.turn-answer.result (c.turn-answer.ensures.turns at.world at.left at.stands at.kept) c.requires.may.printable
 
 pub returns-in-Ok-clause-ok : goal.returns-in-Ok-clause-ok
 returns-in-Ok-clause-ok g c = λ w left stands kept. record { answer = c.turn-answer.result; is = sym c.standing.ensures; turns = c.turn-answer.ensures.turns w left stands kept; written = c.in-Ok.ensures.ok }

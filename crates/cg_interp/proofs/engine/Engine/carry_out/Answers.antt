@@ -4,7 +4,7 @@ use Rattle.cg_commands.specs.Stands.{HasLocals, LocalsLive}
 use Rattle.cg_interp.specs.Engines.{State, StandsFor, under}
 use Rattle.cg_interp.specs.Callers.{caller_activity, caller_locals, StaysKeptAfter}
 use Rattle.cg_interp.proofs.Fitting.{fit_after}
-use Rattle.cg_interp.proofs.Keeping.{still_fit}
+use Rattle.cg_interp.proofs.Keeping.{still_fit, fit_then}
 use Rattle.cg_interp.proofs.UnderWay.{policy_is}
 use Rattle.cg_interp.proofs.engine.Engine.carry_out.Goals as goal
 
@@ -19,8 +19,8 @@ answer-requires-clause-performed g c =
     let locals = subst (λ l. HasLocals l w) (sym c.locals.ensures) at.locals in (
       script,
       spelled,
-      fit_after script c.args.room c.args.self.now _ c.self.view_is c.perform-done.new.heap c.perform-done.new.policy
-          (c.perform-done.ensures.grows w (record { represents = before.represents; locals_are = locals }) (policy_is script _ w before)) c.requires.one_more fit,
+      (fit_after c.args.room c.args.self.now _ c.self.view_is c.perform-done.new.heap c.perform-done.new.policy
+          (c.perform-done.ensures.grows w (record { represents = before.represents; locals_are = locals }) (policy_is script _ w before)) c.requires.one_more).fit script fit,
       record {
         world = w;
         command = c.args.command.now;
@@ -30,7 +30,7 @@ answer-requires-clause-performed g c =
         performed = record {
           stood = before;
           answers = c.perform-done.ensures.performs w (record { represents = before.represents; locals_are = locals }) (policy_is script _ w before);
-          kept = subst (λ (e : State). StaysKeptAfter script e.frames w c.args.command.now) (sym c.self.view_is) at.kept;
+          kept = subst (λ (e : State). StaysKeptAfter script e.first_budget w c.args.command.now) (sym c.self.view_is) at.kept;
         };
       },
     )
@@ -42,14 +42,15 @@ returns-clause-does g c = λ script w at.
     c.answer.ensures.does script w c.args.command.now c.self.inside.heap c.self.inside.policy (record {
       stood = before;
       answers = c.perform-done.ensures.performs w (record { represents = before.represents; locals_are = locals }) (policy_is script _ w before);
-      kept = subst (λ (e : State). StaysKeptAfter script e.frames w c.args.command.now) (sym c.self.view_is) at.kept;
+      kept = subst (λ (e : State). StaysKeptAfter script e.first_budget w c.args.command.now) (sym c.self.view_is) at.kept;
     })
 
 pub returns-clause-fit : goal.returns-clause-fit
-returns-clause-fit g c = λ some_script fits.
+returns-clause-fit g c =
     let (script, spelled, fit, w, at) = c.requires.stands in
     let before = subst (λ e. StandsFor script (under (caller_activity c.args.caller) e) w) (sym c.self.view_is) at.stands in
     let locals = subst (λ l. HasLocals l w) (sym c.locals.ensures) at.locals in
-    still_fit some_script _ c.answer.new.self c.answer.ensures.keeps
-    (fit_after some_script c.args.room c.args.self.now _ c.self.view_is c.perform-done.new.heap c.perform-done.new.policy
-    (c.perform-done.ensures.grows w (record { represents = before.represents; locals_are = locals }) (policy_is script _ w before)) c.requires.one_more fits)
+    fit_then c.args.self.now _ c.answer.new.self
+    (fit_after c.args.room c.args.self.now _ c.self.view_is c.perform-done.new.heap c.perform-done.new.policy
+    (c.perform-done.ensures.grows w (record { represents = before.represents; locals_are = locals }) (policy_is script _ w before)) c.requires.one_more)
+    (still_fit _ c.answer.new.self c.answer.ensures.keeps)

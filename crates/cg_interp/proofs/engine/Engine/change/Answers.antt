@@ -15,14 +15,14 @@ pub give_up-requires : goal.give_up-requires
 give_up-requires g c =
     let (script, after, changes, sound) = c.requires.stands in
     let top = caller_activity c.args.caller in
-    let e : State = engine_of c.self.inside.heap c.self.inside.policy c.self.inside.stack c.self.inside.budget c.self.inside.frames in
+    let e : State = engine_of c.self.inside.heap c.self.inside.policy c.self.inside.stack c.self.inside.budget c.self.inside.first_budget in
     record { stands = (script, under top e, releasing c.args.given_up after, change_stands script top e c.args.given_up c.new-release.result after c.new-release.ensures (subst (λ s. Changes script top s c.args.given_up after) (sym c.self.view_is) changes), sound) }
 
 pub die_in-requires-clause-stands : goal.die_in-requires-clause-stands
 die_in-requires-clause-stands g c =
     let (script, after, changes, sound) = c.requires.stands in
     let top = caller_activity c.args.caller in
-    let e : State = engine_of c.self.inside.heap c.self.inside.policy c.self.inside.stack c.self.inside.budget c.self.inside.frames in
+    let e : State = engine_of c.self.inside.heap c.self.inside.policy c.self.inside.stack c.self.inside.budget c.self.inside.first_budget in
     let stood = change_stands script top e c.args.given_up c.new-release.result after c.new-release.ensures (subst (λ s. Changes script top s c.args.given_up after) (sym c.self.view_is) changes) in
     let gives = c.in-Some.ensures.releases script (under top e) (releasing c.args.given_up after) stood sound in (
       script,
@@ -35,7 +35,7 @@ die_in-requires-clause-stands g c =
 pub returns-in-Some-clause-gives_up : goal.returns-in-Some-clause-gives_up
 returns-in-Some-clause-gives_up g c = λ script after changes sound.
     let top = caller_activity c.args.caller in
-    let e : State = engine_of c.self.inside.heap c.self.inside.policy c.self.inside.stack c.self.inside.budget c.self.inside.frames in
+    let e : State = engine_of c.self.inside.heap c.self.inside.policy c.self.inside.stack c.self.inside.budget c.self.inside.first_budget in
     let stood = change_stands script top e c.args.given_up c.new-release.result after c.new-release.ensures (subst (λ s. Changes script top s c.args.given_up after) (sym c.self.view_is) changes) in
     let gives = c.in-Some.ensures.releases script (under top e) (releasing c.args.given_up after) stood sound in (
       c.told.ensures,
@@ -51,7 +51,7 @@ returns-in-Some-clause-gives_up g c = λ script after changes sound.
 pub returns-in-None-clause-gives_up : goal.returns-in-None-clause-gives_up
 returns-in-None-clause-gives_up g c = λ script after changes sound.
     let top = caller_activity c.args.caller in
-    let e : State = engine_of c.self.inside.heap c.self.inside.policy c.self.inside.stack c.self.inside.budget c.self.inside.frames in
+    let e : State = engine_of c.self.inside.heap c.self.inside.policy c.self.inside.stack c.self.inside.budget c.self.inside.first_budget in
     let stood = change_stands script top e c.args.given_up c.new-release.result after c.new-release.ensures (subst (λ s. Changes script top s c.args.given_up after) (sym c.self.view_is) changes) in
     let goes = c.in-None.ensures.releases script (under top e) (releasing c.args.given_up after) stood sound in
     c.tell_line.ensures.tells script (releasing c.args.given_up after) (record {

@@ -7,18 +7,18 @@ use Rattle.cg_interp.proofs.engine.Engine.collect.Goals as goal
 
 pub begin-collection-requires-clause-bounded : goal.begin-collection-requires-clause-bounded
 begin-collection-requires-clause-bounded g c =
-    let e : State = engine_of c.self.inside.heap c.self.inside.policy c.self.inside.stack c.self.inside.budget c.self.inside.frames in
+    let e : State = engine_of c.self.inside.heap c.self.inside.policy c.self.inside.stack c.self.inside.budget c.self.inside.first_budget in
     starts_small c.args.asked c.args.generation c.args.top e (subst (λ e. IsAtStart c.args.asked c.args.generation c.args.top e) (sym c.self.view_is) c.requires.stands)
 
 pub begin-collection-requires-clause-clear : goal.begin-collection-requires-clause-clear
 begin-collection-requires-clause-clear g c =
-    let e : State = engine_of c.self.inside.heap c.self.inside.policy c.self.inside.stack c.self.inside.budget c.self.inside.frames in
+    let e : State = engine_of c.self.inside.heap c.self.inside.policy c.self.inside.stack c.self.inside.budget c.self.inside.first_budget in
     starts_clear c.args.asked c.args.generation c.args.top e (subst (λ e. IsAtStart c.args.asked c.args.generation c.args.top e) (sym c.self.view_is) c.requires.stands) c.sound.ensures
 
 pub returns-clause-begins : goal.returns-clause-begins
 returns-clause-begins g c = λ script w stood.
-    let e : State = engine_of c.self.inside.heap c.self.inside.policy c.self.inside.stack c.self.inside.budget c.self.inside.frames in
-    let new : State = engine_of c.begin-collection.new.heap c.begin-collection.new.policy c.push-2.new.self c.self.inside.budget c.self.inside.frames in
+    let e : State = engine_of c.self.inside.heap c.self.inside.policy c.self.inside.stack c.self.inside.budget c.self.inside.first_budget in
+    let new : State = engine_of c.begin-collection.new.heap c.begin-collection.new.policy c.push-2.new.self c.self.inside.budget c.self.inside.first_budget in
     let stands = subst (λ s. StandsFor script (under c.args.top s) w) (sym c.self.view_is) stood in
     let idle = subst (λ (s : State). s.policy.running ≡ false) (sym c.self.view_is) c.requires.idle in
     begins script c.args.asked c.args.generation c.args.top e w stands c.begin-collection.result new idle

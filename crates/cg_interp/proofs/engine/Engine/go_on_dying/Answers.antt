@@ -16,15 +16,15 @@ use Rattle.cg_interp.proofs.engine.Engine.go_on_dying.Goals as goal
 
 pub act-answer-requires : goal.act-answer-requires
 act-answer-requires g c =
-    let (w, stands, kept) = c.requires.stands in
-    let e : State = engine_of c.self.inside.heap c.self.inside.policy c.self.inside.stack c.self.inside.budget c.self.inside.frames in
+    let at = c.requires.stands in
+    let e : State = engine_of c.self.inside.heap c.self.inside.policy c.self.inside.stack c.self.inside.budget c.self.inside.first_budget in
     record {
       stands = (
         e,
-        w,
-        subst (λ (s : State). s.frames ≤ MOST_BUDGET) (sym c.self.view_is) c.requires.fit.frames,
-        subst (λ s. StandsFor c.args.script.now (under (activity_of.Dying c.args.death) s) w) (sym c.self.view_is) stands,
-        subst (λ (s : State). StaysKept c.args.script.now s.frames w) (sym c.self.view_is) kept,
+        at.world,
+        subst (λ (s : State). s.first_budget ≤ MOST_BUDGET) (sym c.self.view_is) at.fit.first_budget,
+        subst (λ s. StandsFor c.args.script.now (under (activity_of.Dying c.args.death) s) at.world) (sym c.self.view_is) at.stands,
+        subst (λ (s : State). StaysKept c.args.script.now s.first_budget at.world) (sym c.self.view_is) at.kept,
       );
     }
 
@@ -33,16 +33,16 @@ unreachable-requires g c = c.act-answer.ensures.more c.in-Continue.is
 
 pub returns-in-Gone-clause-turns : goal.returns-in-Gone-clause-turns
 returns-in-Gone-clause-turns g c = λ w stands kept.
-    let e : State = engine_of c.self.inside.heap c.self.inside.policy c.self.inside.stack c.self.inside.budget c.self.inside.frames in
+    let e : State = engine_of c.self.inside.heap c.self.inside.policy c.self.inside.stack c.self.inside.budget c.self.inside.first_budget in
     let standing = subst (λ s. StandsFor c.args.script.now (under (activity_of.Dying c.args.death) s) w) (sym c.self.view_is) stands in
-    let keeping = subst (λ (s : State). StaysKept c.args.script.now s.frames w) (sym c.self.view_is) kept in
+    let keeping = subst (λ (s : State). StaysKept c.args.script.now s.first_budget w) (sym c.self.view_is) kept in
     last_ends c.args.script.now w e c.put_back.new.self c.act-answer.new.heap c.act-answer.new.death c.act-answer.result keeping (c.act-answer.ensures.acts e w standing keeping) c.put_back.ensures.alone.store c.put_back.ensures.stays c.put_back.ensures.alone.budget c.in-Gone.is c.put_back.ensures.alone.policy (c.act-answer.ensures.over c.in-Gone.is)
 
 pub returns-in-Emit-clause-turns : goal.returns-in-Emit-clause-turns
 returns-in-Emit-clause-turns g c = λ w stands kept.
-    let e : State = engine_of c.self.inside.heap c.self.inside.policy c.self.inside.stack c.self.inside.budget c.self.inside.frames in
+    let e : State = engine_of c.self.inside.heap c.self.inside.policy c.self.inside.stack c.self.inside.budget c.self.inside.first_budget in
     let standing = subst (λ s. StandsFor c.args.script.now (under (activity_of.Dying c.args.death) s) w) (sym c.self.view_is) stands in
-    let keeping = subst (λ (s : State). StaysKept c.args.script.now s.frames w) (sym c.self.view_is) kept in
+    let keeping = subst (λ (s : State). StaysKept c.args.script.now s.first_budget w) (sym c.self.view_is) kept in
     last_tells c.args.script.now w e c.count_freed.new.self c.act-answer.new.heap c.act-answer.new.death c.act-answer.result keeping (c.act-answer.ensures.acts e w standing keeping) (c.count_freed.ensures.store ∙ c.put_back.ensures.alone.store) (subst (StaysOn c.act-answer.new.death c.self.inside.stack.activities) (sym c.count_freed.ensures.activities) c.put_back.ensures.stays) (c.count_freed.ensures.budget ∙ c.put_back.ensures.alone.budget) c.in-Emit.event c.in-Emit.is (c.count_freed.ensures.counts ∙ ap (λ (p : Policy). with_numbers (numbers_after c.in-Emit.event p.numbers) p) c.put_back.ensures.alone.policy)
 
 pub start-requires-clause-few : goal.start-requires-clause-few
@@ -53,16 +53,16 @@ start-requires-clause-live g c = λ some call. let cause = subst (HasSomeCause c
 
 pub returns-in-Frame-clause-turns : goal.returns-in-Frame-clause-turns
 returns-in-Frame-clause-turns g c = λ w stands kept.
-    let e : State = engine_of c.self.inside.heap c.self.inside.policy c.self.inside.stack c.self.inside.budget c.self.inside.frames in
+    let e : State = engine_of c.self.inside.heap c.self.inside.policy c.self.inside.stack c.self.inside.budget c.self.inside.first_budget in
     let standing = subst (λ s. StandsFor c.args.script.now (under (activity_of.Dying c.args.death) s) w) (sym c.self.view_is) stands in
-    let keeping = subst (λ (s : State). StaysKept c.args.script.now s.frames w) (sym c.self.view_is) kept in
+    let keeping = subst (λ (s : State). StaysKept c.args.script.now s.first_budget w) (sym c.self.view_is) kept in
     last_calls c.args.script.now w e c.put_back.new.self c.act-answer.new.heap c.act-answer.new.death c.act-answer.result keeping (c.act-answer.ensures.acts e w standing keeping) c.put_back.ensures.alone.store c.put_back.ensures.stays c.put_back.ensures.alone.budget c.in-Frame.spec c.start.new.self c.start.result c.in-Frame.is c.put_back.ensures.alone.policy (λ u standing. c.start.ensures.starts c.args.script.now u standing)
 
 pub returns-in-Died-clause-turns : goal.returns-in-Died-clause-turns
 returns-in-Died-clause-turns g c = λ w stands kept.
-    let e : State = engine_of c.self.inside.heap c.self.inside.policy c.self.inside.stack c.self.inside.budget c.self.inside.frames in
+    let e : State = engine_of c.self.inside.heap c.self.inside.policy c.self.inside.stack c.self.inside.budget c.self.inside.first_budget in
     let standing = subst (λ s. StandsFor c.args.script.now (under (activity_of.Dying c.args.death) s) w) (sym c.self.view_is) stands in
-    let keeping = subst (λ (s : State). StaysKept c.args.script.now s.frames w) (sym c.self.view_is) kept in
+    let keeping = subst (λ (s : State). StaysKept c.args.script.now s.first_budget w) (sym c.self.view_is) kept in
     last_hands c.args.script.now w e c.put_back.new.self c.act-answer.new.heap c.act-answer.new.death c.act-answer.result keeping (c.act-answer.ensures.acts e w standing keeping) c.put_back.ensures.alone.store c.put_back.ensures.stays c.put_back.ensures.alone.budget c.in-Died.object c.in-Died.is c.put_back.ensures.alone.policy
 
 pub returns-in-Gone-clause-keeps : goal.returns-in-Gone-clause-keeps

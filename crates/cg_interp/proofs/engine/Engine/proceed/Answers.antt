@@ -19,7 +19,7 @@ change-requires-clause-stands g c =
       script,
       p.answers.heap.after,
       changed script c.args.self.now (caller_activity c.args.caller) has.world has.command has.before has.was c.in-Changed.line c.in-Changed.given_up p,
-      stays_sound script c.args.self.now.frames (releasing c.in-Changed.given_up p.answers.heap.after) (p.kept (option_to_list c.in-Changed.line) (releasing c.in-Changed.given_up p.answers.heap.after) may),
+      stays_sound script c.args.self.now.first_budget (releasing c.in-Changed.given_up p.answers.heap.after) (p.kept (option_to_list c.in-Changed.line) (releasing c.in-Changed.given_up p.answers.heap.after) may),
     )
 
 pub returns-in-Changed-clause-does : goal.returns-in-Changed-clause-does
@@ -29,7 +29,7 @@ returns-in-Changed-clause-does g c = λ script w command before was performed.
     runs_to script w command (caller_activity c.args.caller) c.change.new.self c.in-Changed.line (releasing c.in-Changed.given_up p.answers.heap.after) may c.change.result
     (c.change.ensures.gives_up script p.answers.heap.after
     (changed script c.args.self.now (caller_activity c.args.caller) w command before was c.in-Changed.line c.in-Changed.given_up p)
-    (stays_sound script c.args.self.now.frames (releasing c.in-Changed.given_up p.answers.heap.after) (p.kept (option_to_list c.in-Changed.line) (releasing c.in-Changed.given_up p.answers.heap.after) may)))
+    (stays_sound script c.args.self.now.first_budget (releasing c.in-Changed.given_up p.answers.heap.after) (p.kept (option_to_list c.in-Changed.line) (releasing c.in-Changed.given_up p.answers.heap.after) may)))
 
 pub call-requires-clause-few : goal.call-requires-clause-few
 call-requires-clause-few g c =

@@ -4,4 +4,4 @@ use Rattle.cg_interp.proofs.engine.Engine.reserve.Goals as goal
 
 pub returns-clause-one_more : goal.returns-clause-one_more
 returns-clause-one_more g c = λ is.
-    room_for_one_more c.self.inside.heap c.self.inside.frames c.live.result _ c.live.ensures (when_ok c.reserve_up_to.result (sym c.is_ok.ensures.value ∙ is) c.reserve_up_to.ensures.room)
+    room_for_one_more c.self.inside.heap c.self.inside.first_budget c.live.result _ c.live.ensures (when_ok c.reserve_up_to.result (sym c.is_ok.ensures.value ∙ is) c.reserve_up_to.ensures.room)

@@ -2,7 +2,7 @@ use Rattle.std.proofs.Common.{sym, ap, subst, ◌∷◌}
 use Rattle.cg_interp.specs.Engines.{under}
 use Rattle.cg_interp.specs.Callers.{caller_activity, StaysKeptAfter}
 use Rattle.cg_interp.proofs.CallerLemmas.{same_engine}
-use Rattle.cg_interp.proofs.Keeping.{still_fits}
+use Rattle.cg_interp.proofs.Keeping.{fit_then, roomier_fit}
 use Rattle.cg_interp.proofs.engine.Engine.run.Goals as goal
 
 pub carry_out-requires-clause-stands : goal.carry_out-requires-clause-stands
@@ -11,12 +11,12 @@ carry_out-requires-clause-stands g c =
     let room = c.make_room-room.ensures.alone in (
       script,
       spelled,
-      still_fits script c.args.self.now c.make_room-room.new.self room.store room.activities room.frames room.more fit,
+      (roomier_fit c.args.self.now c.make_room-room.new.self room).fit script fit,
       w,
       record {
         stands = same_engine script (under (caller_activity c.args.caller) c.args.self.now) (under (caller_activity c.args.caller) c.make_room-room.new.self) w at.stands room.store room.policy (ap (λ l. caller_activity c.args.caller ∷ l) room.activities) room.budget;
         locals = at.locals;
-        kept = subst (λ n. StaysKeptAfter script n w c.args.command.now) (sym room.frames) at.kept;
+        kept = subst (λ n. StaysKeptAfter script n w c.args.command.now) (sym room.first_budget) at.kept;
       },
     )
 
@@ -26,10 +26,8 @@ returns-clause-does g c = λ script w at.
     c.carry_out.ensures.does script w (record {
       stands = same_engine script (under (caller_activity c.args.caller) c.args.self.now) (under (caller_activity c.args.caller) c.make_room-room.new.self) w at.stands room.store room.policy (ap (λ l. caller_activity c.args.caller ∷ l) room.activities) room.budget;
       locals = at.locals;
-      kept = subst (λ n. StaysKeptAfter script n w c.args.command.now) (sym room.frames) at.kept;
+      kept = subst (λ n. StaysKeptAfter script n w c.args.command.now) (sym room.first_budget) at.kept;
     })
 
 pub returns-clause-fit : goal.returns-clause-fit
-returns-clause-fit g c = λ script fit.
-    let room = c.make_room-room.ensures.alone in
-    c.carry_out.ensures.fit script (still_fits script c.args.self.now c.make_room-room.new.self room.store room.activities room.frames room.more fit)
+returns-clause-fit g c = fit_then c.args.self.now c.make_room-room.new.self c.carry_out.new.self (roomier_fit c.args.self.now c.make_room-room.new.self c.make_room-room.ensures.alone) c.carry_out.ensures.fit

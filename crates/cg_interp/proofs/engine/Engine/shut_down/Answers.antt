@@ -15,21 +15,21 @@ give_up-requires-clause-name g c = greatest_below c.greatest_bound.new.self.stor
 
 pub collect-requires-clause-idle : goal.collect-requires-clause-idle
 collect-requires-clause-idle g c =
-    let (script, spelled, fit, (w, stands, kept)) = c.requires.stands in
-    ap (λ (e : State). e.policy.running) c.greatest_bound.ensures.same ∙ none_runs script c.args.self.now false w stands c.args.self.now.frames (kept [] tt).lawful
+    let (script, at) = c.requires.stands in
+    ap (λ (e : State). e.policy.running) c.greatest_bound.ensures.same ∙ none_runs script c.args.self.now false at.world at.stands c.args.self.now.first_budget (at.kept [] tt).lawful
 
 pub collect-requires-clause-stands : goal.collect-requires-clause-stands
 collect-requires-clause-stands g c =
-    let (script, spelled, fit, (w, stands, kept)) = c.requires.stands in
+    let (script, at) = c.requires.stands in
     let none = sym (sym c.in-None.is ∙ c.greatest_bound.ensures.greatest) in
-    let last : World = starts_last script c.args.self.now w stands in
+    let last : World = starts_last script c.args.self.now at.world at.stands in
     subst (IsAtStart false 2 (activity_of.Shutdown true)) (sym c.greatest_bound.ensures.same) (
       script,
-      spelled,
-      fit,
+      at.spelled,
+      at.fit,
       last,
-      last_stands script c.args.self.now w stands,
-      kept_after script w (push (new_collection 2 false last) last) stands.running c.args.self.now.frames [] (last_steps script c.args.self.now w stands none) kept,
+      last_stands script c.args.self.now at.world at.stands,
+      kept_after script at.world (push (new_collection 2 false last) last) at.stands.running c.args.self.now.first_budget [] (last_steps script c.args.self.now at.world at.stands none) at.kept,
     )
 
 pub returns-in-Some-clause-turns : goal.returns-in-Some-clause-turns

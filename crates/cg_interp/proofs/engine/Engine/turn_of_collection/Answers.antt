@@ -1,33 +1,45 @@
 use Rattle.std.proofs.Common.{subst, []}
 use Rattle.cg_heap.specs.Calls.{IsSound}
+use Rattle.cg_interp.proofs.Keeping.{still_fit}
 use Rattle.cg_interp.proofs.CollectTurns.{collects}
 use Rattle.cg_interp.proofs.CollectMoves.{may_step, room_for_step}
 use Rattle.cg_interp.proofs.engine.Engine.turn_of_collection.Goals as goal
 
 pub go_on_collecting-requires-clause-stands : goal.go_on_collecting-requires-clause-stands
 go_on_collecting-requires-clause-stands g c =
-    let (w, left, stands, stays) = c.requires.stands in
-    (w, left, collects c.args.script.now c.args.asked c.args.collection c.args.self.now left w (subst (λ e. IsSound e.store) c.self.view_is c.sound.ensures) (stays [] tt) stands, stays)
+    let at = c.requires.stands in
+    let sound = subst (λ e. IsSound e.store) c.self.view_is c.sound.ensures in
+    record {
+      spelled = at.spelled;
+      fit = c.requires.fit;
+      world = at.world;
+      left = at.left;
+      collects = collects c.args.script.now c.args.asked c.args.collection c.args.self.now at.left at.world sound (at.kept [] tt) at.stands;
+      kept = at.kept;
+    }
 
 pub go_on_collecting-requires-clause-few : goal.go_on_collecting-requires-clause-few
 go_on_collecting-requires-clause-few g c =
-    (may_step c.args.script.now c.args.asked c.args.collection c.args.self.now (go_on_collecting-requires-clause-stands g c) (subst (λ e. IsSound e.store) c.self.view_is c.sound.ensures) c.requires.spelled c.requires.fit.frames).few
+    (may_step c.args.script.now c.args.asked c.args.collection c.args.self.now (go_on_collecting-requires-clause-stands g c) (subst (λ e. IsSound e.store) c.self.view_is c.sound.ensures)).few
 
 pub go_on_collecting-requires-clause-held : goal.go_on_collecting-requires-clause-held
 go_on_collecting-requires-clause-held g c =
-    (may_step c.args.script.now c.args.asked c.args.collection c.args.self.now (go_on_collecting-requires-clause-stands g c) (subst (λ e. IsSound e.store) c.self.view_is c.sound.ensures) c.requires.spelled c.requires.fit.frames).held
+    (may_step c.args.script.now c.args.asked c.args.collection c.args.self.now (go_on_collecting-requires-clause-stands g c) (subst (λ e. IsSound e.store) c.self.view_is c.sound.ensures)).held
 
 pub go_on_collecting-requires-clause-ready : goal.go_on_collecting-requires-clause-ready
 go_on_collecting-requires-clause-ready g c =
-    (may_step c.args.script.now c.args.asked c.args.collection c.args.self.now (go_on_collecting-requires-clause-stands g c) (subst (λ e. IsSound e.store) c.self.view_is c.sound.ensures) c.requires.spelled c.requires.fit.frames).ready
+    (may_step c.args.script.now c.args.asked c.args.collection c.args.self.now (go_on_collecting-requires-clause-stands g c) (subst (λ e. IsSound e.store) c.self.view_is c.sound.ensures)).ready
 
 pub go_on_collecting-requires-clause-small : goal.go_on_collecting-requires-clause-small
 go_on_collecting-requires-clause-small g c =
-    (may_step c.args.script.now c.args.asked c.args.collection c.args.self.now (go_on_collecting-requires-clause-stands g c) (subst (λ e. IsSound e.store) c.self.view_is c.sound.ensures) c.requires.spelled c.requires.fit.frames).small
+    (may_step c.args.script.now c.args.asked c.args.collection c.args.self.now (go_on_collecting-requires-clause-stands g c) (subst (λ e. IsSound e.store) c.self.view_is c.sound.ensures)).small
 
 pub go_on_collecting-requires-clause-room : goal.go_on_collecting-requires-clause-room
-go_on_collecting-requires-clause-room g c = room_for_step c.args.script.now c.args.asked c.args.collection c.args.self.now (go_on_collecting-requires-clause-stands g c) c.requires.fit
+go_on_collecting-requires-clause-room g c = room_for_step c.args.script.now c.args.asked c.args.collection c.args.self.now (go_on_collecting-requires-clause-stands g c)
 
 pub returns-clause-turns : goal.returns-clause-turns
 returns-clause-turns g c = λ w left stands stays.
     c.go_on_collecting.ensures.turns w left (collects c.args.script.now c.args.asked c.args.collection c.args.self.now left w (subst (λ e. IsSound e.store) c.self.view_is c.sound.ensures) (stays [] tt) stands) stays
+
+pub returns-clause-fit : goal.returns-clause-fit
+returns-clause-fit g c = still_fit c.args.self.now c.go_on_collecting.new.self c.go_on_collecting.ensures.keeps
