@@ -35,12 +35,11 @@ use Rattle.cg_collect.specs.declared.phase.Phase.TheVariants as phase_of
 use Rattle.cg_collect.specs.Phases.{machine_phase, collecting, released_over, lines_left, store_after}
 use Rattle.cg_collect.specs.Ready.{IsHeapApart, OthersHaveCallbacks, IsReadyForCollectionAt, HasItsWalk, HasFewCollected, MayGiveUp, GivesUpIn, MayRun, IsBegun, SparesGarbageList}
 use Rattle.cg_collect.specs.Answers.{CollectionShows, CollectAnswer, CollectSteps, numbers_at}
-use Rattle.cg_collect.specs.Turns.{pass_of, passes_on, TurnSteps, ComesNearer, KeepsObjects, left_in_pass, to_clear, others_cleared}
+use Rattle.cg_collect.specs.Turns.{pass_of, passes_on, ComesNearer, KeepsObjects, TakesTurn, left_in_pass, to_clear, others_cleared}
 use Rattle.cg_collect.specs.Collections.{IsReadyForCollection, KeepsReady, CollectFalls, GivesUpNext, once_given_up, give_up_answer}
 use Rattle.cg_collect.specs.Stages.{detection_at, stage_at, LeavesStage}
 use Rattle.cg_collect.proofs.Staging.{leaves_stage}
-use Rattle.cg_collect.proofs.Worlds.{turn_steps}
-use Rattle.cg_collect.proofs.Keeping.{keeps-released}
+use Rattle.cg_collect.proofs.Keeping.{keeps_all, keeps-released}
 use Rattle.cg_collect.proofs.Looking.{still_unsaved}
 
 -- A release that neither died nor ended went on.
@@ -431,9 +430,15 @@ few_at_most n (phase_of.Stopping number) store few = few.0
 few_at_most n (phase_of.Over number) store few = few.0
 
 -- A collection that is over says so.
-pub turn-over : (script : Script) (facts : Facts) (store : Store) (policy : Policy) (number : ℕ) (turn : Turn)
+pub takes-over : (script : Script) (facts : Facts) (store : Store) (policy : Policy) (number : ℕ) (turn : Turn)
     → turn ≡ record { phase = phase_of.Over number; release = None; collected = 0; answer = answer_of.Finished facts.collected number }
-    → TurnSteps script facts (phase_of.Over number) store policy store policy turn
-turn-over script facts store policy number turn is =
-    turn_steps script facts (phase_of.Over number) store policy store policy turn (phase_of.Over number) None (answer_of.Finished facts.collected number) is
-    (λ asked w below s. record { represents = s.shows.represents; numbers = s.shows.numbers; idle = s.shows.running; stack = s.shows.top; lines = refl })
+    → TakesTurn script facts (phase_of.Over number) store policy store policy turn
+takes-over script facts store policy number turn is =
+    subst (λ (t : Turn). TakesTurn script facts (phase_of.Over number) store policy store policy t) (sym is) (record {
+      steps = λ asked w below s. record { represents = s.shows.represents; numbers = s.shows.numbers; idle = s.shows.running; stack = s.shows.top; lines = refl };
+      ready = tt;
+      walk = tt;
+      falls = λ went. absurd (cc);
+      leaves = inr (record { number = number; over = refl; is = refl });
+      keeps = keeps_all store;
+    })

@@ -5,6 +5,7 @@ pub mod Garbage
 pub mod Sums
 pub mod Untracked
 pub mod Worlds
+pub mod TakingTurns
 pub mod Keeping
 pub mod Looking
 pub mod Turning

@@ -1,5 +1,5 @@
 -- The detection that the last step of a collection made is seen in its stage alone, and in no answer.
-use Rattle.std.proofs.Common.{◌≡◌, refl, sym, subst, ◌+◌, ◌≤◌, ◌⊎◌, ℕ, inl, inr, List, Bool, Option, None, Some, arith}
+use Rattle.std.proofs.Common.{◌≡◌, refl, sym, subst, ◌+◌, ◌≤◌, ◌⊎◌, inl, inr, List, Bool, Option, None, Some, arith}
 use Rattle.cg_script.specs.declared.Script.{Script}
 use Rattle.cg_graph.specs.Store.{Store}
 use Rattle.cg_machine.specs.declared.event.Event.{Event}
@@ -12,7 +12,6 @@ use Rattle.cg_collect.specs.declared.phase.Phase.{Phase}
 use Rattle.cg_collect.specs.declared.phase.Phase.TheVariants as phase_of
 use Rattle.cg_collect.specs.declared.stage.Detection.{Detection}
 use Rattle.cg_collect.specs.declared.stage.Detection.TheVariants.{First, Second}
-use Rattle.cg_collect.specs.declared.stage.Stage.{Stage}
 use Rattle.cg_collect.specs.declared.stage.Stage.TheVariants as stage
 use Rattle.cg_collect.specs.Stages.{detection_at, stage_after, stage_at, LeavesStage}
 use Rattle.cg_collect.specs.Ready.{IsBegun}

@@ -53,30 +53,6 @@ runs_in (phase_of.Saved next number) release runs = absurd runs
 runs_in (phase_of.Stopping number) release runs = absurd runs
 runs_in (phase_of.Over number) release runs = absurd runs
 
--- past the weak phase there is no walk of it
-pub walk_past : (profile : ℕ) (store : Store) (p : Phase) → 4 ≤ pass_of p → HasItsWalk profile store p
-walk_past profile store phase_of.Start late = tt
-walk_past profile store (phase_of.Sizes zero one two frozen) late = tt
-walk_past profile store (phase_of.Telling next) late = tt
-walk_past profile store (phase_of.WeakClearing member weak) late = absurd (omega (arith, late))
-walk_past profile store phase_of.WeakCalling late = tt
-walk_past profile store (phase_of.AfterCallback weak) late = tt
-walk_past profile store (phase_of.AfterRelease weak) late = tt
-walk_past profile store phase_of.Finalizing late = tt
-walk_past profile store (phase_of.AfterFinalizing o) late = tt
-walk_past profile store phase_of.Split late = tt
-walk_past profile store (phase_of.Living next) late = tt
-walk_past profile store (phase_of.Detaching next) late = tt
-walk_past profile store (phase_of.Unlinking member weak) late = tt
-walk_past profile store phase_of.Turns late = tt
-walk_past profile store (phase_of.Turn o) late = tt
-walk_past profile store (phase_of.AfterTurn o) late = tt
-walk_past profile store phase_of.Ending late = tt
-walk_past profile store (phase_of.Uncollectable first next number) late = tt
-walk_past profile store (phase_of.Saved next number) late = tt
-walk_past profile store (phase_of.Stopping number) late = tt
-walk_past profile store (phase_of.Over number) late = tt
-
 -- Nothing was given up, and all is as before.
 module _ (old mid : Collection) (store between : Store) (same : mid ≡ old) (heap : between ≡ store) (none : old.release ≡ None) where
   -- a fact on collection and heap stays one
@@ -103,10 +79,10 @@ module _ (old mid : Collection) (store between : Store) (same : mid ≡ old) (he
 
     -- the turn goes on, or it was the last
     abbrev Left : Type 0
-    Left = TurnLeaves between mid.phase now turn ⊎ TurnEnds mid turn
+    Left = TurnLeaves between mid.phase now turn ⊎ TurnEnds (facts_of mid) mid.phase turn
 
     -- the numbers of a collection that is over
-    over_few : (script : Script) → IsReadyForCollection script old store → (e : TurnEnds mid turn) → (mid.collected ≤ 2000002) × (e.number ≤ 1000001)
+    over_few : (script : Script) → IsReadyForCollection script old store → (e : TurnEnds (facts_of mid) mid.phase turn) → (mid.collected ≤ 2000002) × (e.number ≤ 1000001)
     over_few script ready e = subst (λ (p : Phase). HasFewCollected mid.collected p between) e.over (still_ready script ready).collected
 
     pub turned-few : (script : Script) → IsReadyForCollection script old store → Left → HasFewCollected (mid.collected + turn.collected) turn.phase now

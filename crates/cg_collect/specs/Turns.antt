@@ -2,6 +2,7 @@
 use Rattle.std.specs.Prelude.{◌≡◌, ℕ, ◌+◌, ◌*◌, ◌<◌, ◌≤◌, ◌⊎◌, List, [], length, Option, Some, None, sum_by}
 use Rattle.cg_value.specs.declared.Place.TheVariants.{Cand, Pend}
 use Rattle.cg_script.specs.declared.Script.{Script}
+use Rattle.cg_machine.specs.Program.{profile_of}
 use Rattle.cg_graph.specs.Places.{without_serial}
 use Rattle.cg_graph.specs.Store.{Store, list_at, entries_of, place_of}
 use Rattle.cg_policy.specs.Policy.{Policy}
@@ -17,7 +18,7 @@ use Rattle.cg_collect.specs.declared.phase.Turn.{Turn}
 use Rattle.cg_collect.specs.declared.collection.Facts.{Facts}
 use Rattle.cg_collect.specs.declared.collection.Collection.{Collection}
 use Rattle.cg_collect.specs.Phases.{from_on}
-use Rattle.cg_collect.specs.Ready.{IsReadyForCollectionAt, SparesGarbageList, to_look_at, HasFewCollected, GivesUpIn, RunsFrame, IsBegun}
+use Rattle.cg_collect.specs.Ready.{IsReadyForCollectionAt, HasItsWalk, SparesGarbageList, to_look_at, HasFewCollected, GivesUpIn, RunsFrame, IsBegun}
 use Rattle.cg_collect.specs.Answers.{CollectSteps}
 
 -- a collection with these facts, at a phase, which gives up this first; whether its last step detected is seen in no answer
@@ -139,12 +140,24 @@ pub record TurnLeaves (old : Store) (phase : Phase) (new : Store) (turn : Turn) 
   pub onward : pass_of phase + passes_on phase ≤ pass_of turn.phase
 
 -- A turn of a collection that is over leaves it so, and answers with both numbers.
-pub record TurnEnds (c : Collection) (turn : Turn) : Type 0 where
+pub record TurnEnds (facts : Facts) (phase : Phase) (turn : Turn) : Type 0 where
   pub number : ℕ
-  pub over : c.phase ≡ phase_of.Over number
-  pub is : turn ≡ record { phase = phase_of.Over number; release = None; collected = 0; answer = answer_of.Finished c.collected number }
+  pub over : phase ≡ phase_of.Over number
+  pub is : turn ≡ record { phase = phase_of.Over number; release = None; collected = 0; answer = answer_of.Finished facts.collected number }
 
 -- No object is made, no name gets another value, and no serial is given.
 pub record KeepsObjects (old new : Store) : Type 0 where
   pub objects : MakesNone old new
   pub names : KeepsNames old new
+
+-- A collection takes a turn: what its phase does to heap and policy, and what it leaves and answers.
+pub record TakesTurn (script : Script) (facts : Facts) (phase : Phase) (old : Store) (was : Policy) (new : Store) (now : Policy) (turn : Turn) : Type 0 where
+  -- in every world that heap and policy stood for the machine does so
+  pub steps : TurnSteps script facts phase old was new now turn
+  -- what the next step needs
+  pub ready : StaysReady new facts.generation turn.phase turn.answer
+  pub walk : HasItsWalk (profile_of script.items) new turn.phase
+  -- how it goes on
+  pub falls : TurnFalls old phase new turn
+  pub leaves : TurnLeaves old phase new turn ⊎ TurnEnds facts phase turn
+  pub keeps : KeepsObjects old new

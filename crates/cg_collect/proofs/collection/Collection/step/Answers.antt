@@ -49,17 +49,17 @@ returns-clause-steps g c =
     let same = c.in_default.ensures.none in
     let old : Collection = record c.args.self.now { detected = c.detection-self.result } in
     also-steps c.args.self.now.detected c.give_up.new.self.detected c.args.script.now old c.args.heap.now c.args.policy.now (turned old c.give_up.new.self c.args.heap.now c.give_up.new.heap same.0 same.1 same.2 c.turn-turn.result) c.turn-turn.new.heap c.turn-turn.new.policy c.turn-turn.result.answer
-    (turned-steps old c.give_up.new.self c.args.heap.now c.give_up.new.heap same.0 same.1 same.2 c.turn-turn.result c.turn-turn.new.heap c.args.script.now c.args.policy.now c.turn-turn.new.policy c.turn-turn.ensures.steps)
+    (turned-steps old c.give_up.new.self c.args.heap.now c.give_up.new.heap same.0 same.1 same.2 c.turn-turn.result c.turn-turn.new.heap c.args.script.now c.args.policy.now c.turn-turn.new.policy c.turn-turn.ensures.takes.steps)
 
 pub returns-clause-ready : goal.returns-clause-ready
 returns-clause-ready g c =
     let same = c.in_default.ensures.none in
-    turned-ready (record c.args.self.now { detected = c.detection-self.result }) c.give_up.new.self c.args.heap.now c.give_up.new.heap same.0 same.1 same.2 c.turn-turn.result c.turn-turn.new.heap c.args.script.now (also-ready c.detection-self.result c.args.script.now c.args.self.now c.args.heap.now c.requires.ready) c.turn-turn.ensures.ready c.turn-turn.ensures.walk c.turn-turn.ensures.leaves
+    turned-ready (record c.args.self.now { detected = c.detection-self.result }) c.give_up.new.self c.args.heap.now c.give_up.new.heap same.0 same.1 same.2 c.turn-turn.result c.turn-turn.new.heap c.args.script.now (also-ready c.detection-self.result c.args.script.now c.args.self.now c.args.heap.now c.requires.ready) c.turn-turn.ensures.takes.ready c.turn-turn.ensures.takes.walk c.turn-turn.ensures.takes.leaves
 
 pub returns-clause-falls : goal.returns-clause-falls
 returns-clause-falls g c =
     let same = c.in_default.ensures.none in
-    turned-falls (record c.args.self.now { detected = c.detection-self.result }) c.give_up.new.self c.args.heap.now c.give_up.new.heap same.0 same.1 same.2 c.turn-turn.result c.turn-turn.new.heap c.turn-turn.ensures.falls
+    turned-falls (record c.args.self.now { detected = c.detection-self.result }) c.give_up.new.self c.args.heap.now c.give_up.new.heap same.0 same.1 same.2 c.turn-turn.result c.turn-turn.new.heap c.turn-turn.ensures.takes.falls
 
 pub returns-in-Some-clause-died : goal.returns-in-Some-clause-died
 returns-in-Some-clause-died g c = c.in-Some.ensures.some.unheld
@@ -67,7 +67,7 @@ returns-in-Some-clause-died g c = c.in-Some.ensures.some.unheld
 pub returns-clause-died : goal.returns-clause-died
 returns-clause-died g c =
     let same = c.in_default.ensures.none in
-    turned-died (record c.args.self.now { detected = c.detection-self.result }) c.give_up.new.self c.args.heap.now c.give_up.new.heap same.0 same.1 same.2 c.turn-turn.result c.turn-turn.new.heap c.turn-turn.ensures.leaves
+    turned-died (record c.args.self.now { detected = c.detection-self.result }) c.give_up.new.self c.args.heap.now c.give_up.new.heap same.0 same.1 same.2 c.turn-turn.result c.turn-turn.new.heap c.turn-turn.ensures.takes.leaves
 
 -- What it leaves besides.
 pub returns-in-Some-clause-generation : goal.returns-in-Some-clause-generation
@@ -90,17 +90,17 @@ returns-clause-generation g c =
 pub returns-clause-begun : goal.returns-clause-begun
 returns-clause-begun g c =
     let same = c.in_default.ensures.none in
-    turned-begun (record c.args.self.now { detected = c.detection-self.result }) c.give_up.new.self c.args.heap.now c.give_up.new.heap same.0 same.1 same.2 c.turn-turn.result c.turn-turn.new.heap c.turn-turn.ensures.leaves
+    turned-begun (record c.args.self.now { detected = c.detection-self.result }) c.give_up.new.self c.args.heap.now c.give_up.new.heap same.0 same.1 same.2 c.turn-turn.result c.turn-turn.new.heap c.turn-turn.ensures.takes.leaves
 
 pub returns-clause-objects : goal.returns-clause-objects
 returns-clause-objects g c =
     let same = c.in_default.ensures.none in
-    (turned-keeps (record c.args.self.now { detected = c.detection-self.result }) c.give_up.new.self c.args.heap.now c.give_up.new.heap same.0 same.1 same.2 c.turn-turn.result c.turn-turn.new.heap c.turn-turn.ensures.keeps).objects
+    (turned-keeps (record c.args.self.now { detected = c.detection-self.result }) c.give_up.new.self c.args.heap.now c.give_up.new.heap same.0 same.1 same.2 c.turn-turn.result c.turn-turn.new.heap c.turn-turn.ensures.takes.keeps).objects
 
 pub returns-clause-names : goal.returns-clause-names
 returns-clause-names g c =
     let same = c.in_default.ensures.none in
-    (turned-keeps (record c.args.self.now { detected = c.detection-self.result }) c.give_up.new.self c.args.heap.now c.give_up.new.heap same.0 same.1 same.2 c.turn-turn.result c.turn-turn.new.heap c.turn-turn.ensures.keeps).names
+    (turned-keeps (record c.args.self.now { detected = c.detection-self.result }) c.give_up.new.self c.args.heap.now c.give_up.new.heap same.0 same.1 same.2 c.turn-turn.result c.turn-turn.new.heap c.turn-turn.ensures.takes.keeps).names
 
 pub returns-in-Some-clause-onward : goal.returns-in-Some-clause-onward
 returns-in-Some-clause-onward g c = gives_up-onward (record c.args.self.now { detected = c.detection-self.result }) c.args.heap.now c.give_up.new.self c.give_up.new.heap c.in-Some.answer c.requires.ready.gives_up c.in-Some.ensures.some
@@ -108,7 +108,7 @@ returns-in-Some-clause-onward g c = gives_up-onward (record c.args.self.now { de
 pub returns-clause-onward : goal.returns-clause-onward
 returns-clause-onward g c =
     let same = c.in_default.ensures.none in
-    turned-onward (record c.args.self.now { detected = c.detection-self.result }) c.give_up.new.self c.args.heap.now c.give_up.new.heap same.0 same.1 same.2 c.turn-turn.result c.turn-turn.new.heap c.turn-turn.ensures.leaves
+    turned-onward (record c.args.self.now { detected = c.detection-self.result }) c.give_up.new.self c.args.heap.now c.give_up.new.heap same.0 same.1 same.2 c.turn-turn.result c.turn-turn.new.heap c.turn-turn.ensures.takes.leaves
 
 pub returns-clause-looks : goal.returns-clause-looks
 returns-clause-looks g c =
@@ -130,4 +130,4 @@ returns-clause-detected g c =
 pub returns-clause-stage : goal.returns-clause-stage
 returns-clause-stage g c =
     let same = c.in_default.ensures.none in
-    turned-stage (record c.args.self.now { detected = c.detection-self.result }) c.give_up.new.self c.args.heap.now c.give_up.new.heap same.0 same.1 same.2 c.turn-turn.result c.turn-turn.new.heap c.detection-self.ensures c.turn-turn.ensures.leaves c.turn-turn.ensures.apart
+    turned-stage (record c.args.self.now { detected = c.detection-self.result }) c.give_up.new.self c.args.heap.now c.give_up.new.heap same.0 same.1 same.2 c.turn-turn.result c.turn-turn.new.heap c.detection-self.ensures c.turn-turn.ensures.takes.leaves c.turn-turn.ensures.apart
