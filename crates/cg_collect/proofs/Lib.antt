@@ -5,8 +5,8 @@ pub mod Garbage
 pub mod Sums
 pub mod Untracked
 pub mod Worlds
-pub mod TakingTurns
 pub mod Keeping
+pub mod TakingTurns
 pub mod Looking
 pub mod Turning
 pub mod Saved

@@ -1,5 +1,5 @@
--- How a turn is put together of what its phase does: it goes on, tells a line, runs a frame, or gives something up.
-use Rattle.std.proofs.Common.{◌≡◌, refl, sym, ◌∙◌, ap, subst, ℕ, ◌+◌, ◌≤◌, Option, Some, None, inl, add-zero, arith}
+-- How a turn is put together of what its phase does: it goes on, tells a line, runs a frame, gives something up, or ends.
+use Rattle.std.proofs.Common.{◌≡◌, refl, sym, ◌∙◌, ap, subst, ℕ, ◌+◌, ◌≤◌, Option, Some, None, add-zero, arith}
 use Rattle.cg_script.specs.declared.Script.{Script}
 use Rattle.cg_machine.specs.declared.event.Event.{Event}
 use Rattle.cg_machine.specs.declared.event.FrameSpec.{FrameSpec}
@@ -13,9 +13,10 @@ use Rattle.cg_collect.specs.declared.collection.Facts.{Facts}
 use Rattle.cg_collect.specs.declared.phase.Phase.{Phase}
 use Rattle.cg_collect.specs.declared.phase.Phase.TheVariants as phase_of
 use Rattle.cg_collect.specs.declared.phase.Turn.{Turn}
-use Rattle.cg_collect.specs.Ready.{IsReadyForCollectionAt, HasItsWalk, HasFewCollected, MayGiveUp, GivesUpIn, RunsFrame, SparesGarbageList, IsBegun}
+use Rattle.cg_collect.specs.Ready.{IsReadyForCollectionAt, HasItsWalk, HasFewCollected, MayGiveUp, GivesUpIn, RunsFrame, SparesGarbageList}
 use Rattle.cg_collect.specs.Answers.{CollectSteps}
 use Rattle.cg_collect.specs.Turns.{collection_at, pass_of, passes_on, StaysReady, ComesNearer, HandsOutIn, KeepsObjects, TakesTurn}
+use Rattle.cg_collect.proofs.Keeping.{keeps_all}
 use Rattle.cg_collect.proofs.Worlds.{turn_steps}
 
 -- a turn at a phase that is this one, or that leaves this heap or this policy
@@ -38,20 +39,11 @@ pub leads_to : {turn : Turn} {told next : Phase} {release : Option Release} {ans
     → turn ≡ record { phase = next; release = release; collected = 0; answer = answer }
 leads_to {release = release} {answer = answer} is same = is ∙ ap (λ (p : Phase). record { phase = p; release = release; collected = 0; answer = answer }) same
 
--- only the start comes before all passes, and it goes on
-begun_onward : (n : ℕ) (next : Phase) → 1 ≤ n → n ≤ pass_of next → IsBegun next
-begun_onward n phase_of.Start some onward = absurd (omega (arith, some, onward))
-begun_onward n next some onward = tt
-
-leaves_start : (phase : Phase) → 1 ≤ pass_of phase + passes_on phase
-leaves_start phase_of.Start = omega arith
-leaves_start phase = omega arith
-
 module _ {script : Script} {facts : Facts} {phase : Phase} {old : Store} {was : Policy} {new : Store} {now : Policy} {turn : Turn} {next : Phase} where
   -- a turn that counts nothing
   taken : (release : Option Release) (answer : CollectStep) → turn ≡ record { phase = next; release = release; collected = 0; answer = answer }
       → CollectSteps script (collection_at facts phase None) old was (collection_at facts next release) new now answer → StaysReady new facts.generation next answer → HasItsWalk (profile_of script.items) new next
-      → (answer ≡ answer_of.Continue → ComesNearer old phase None new next release) → GivesUpIn next release → HandsOutIn answer next release
+      → (answer ≡ answer_of.Continue → ComesNearer old phase None new next release) → GivesUpIn next release → HandsOutIn facts phase answer next release
       → ((n : ℕ) → HasFewCollected n phase old → HasFewCollected n next new) → pass_of phase + passes_on phase ≤ pass_of next → KeepsObjects old new
       → TakesTurn script facts phase old was new now turn
   taken release answer is steps ready walk nearer gives_up hands_out few onward keeps =
@@ -59,14 +51,11 @@ module _ {script : Script} {facts : Facts} {phase : Phase} {old : Store} {was : 
         steps = turn_steps script facts phase old was new now (record { phase = next; release = release; collected = 0; answer = answer }) next release answer refl steps;
         ready = ready;
         walk = walk;
+        few = λ n h. subst (λ k. HasFewCollected k next new) (sym (add-zero n)) (few n h);
+        gives_up = gives_up;
+        hands_out = hands_out;
+        onward = onward;
         falls = nearer;
-        leaves = inl (record {
-          few = λ n h. subst (λ k. HasFewCollected k next new) (sym (add-zero n)) (few n h);
-          gives_up = gives_up;
-          hands_out = hands_out;
-          begun = begun_onward (pass_of phase + passes_on phase) next (leaves_start phase) onward;
-          onward = onward;
-        });
         keeps = keeps;
       })
 
@@ -93,3 +82,11 @@ module _ {script : Script} {facts : Facts} {phase : Phase} {old : Store} {was : 
       → ComesNearer old phase None new next (Some release) → MayGiveUp next → ((n : ℕ) → HasFewCollected n phase old → HasFewCollected n next new) → pass_of phase + passes_on phase ≤ pass_of next → KeepsObjects old new
       → TakesTurn script facts phase old was new now turn
   gives_up {release = release} is steps ready walk nearer may few onward keeps = taken (Some release) answer_of.Continue is steps ready walk (λ went. nearer) may tt few onward keeps
+
+-- a collection that is over says so
+pub ends : {script : Script} {facts : Facts} {store : Store} {policy : Policy} {number : ℕ} {turn : Turn} → turn ≡ record { phase = phase_of.Over number; release = None; collected = 0; answer = answer_of.Finished facts.collected number }
+    → TakesTurn script facts (phase_of.Over number) store policy store policy turn
+ends {facts = facts} {store = store} {number = number} is =
+    taken None (answer_of.Finished facts.collected number) is
+    (λ asked w below s. record { represents = s.shows.represents; numbers = s.shows.numbers; idle = s.shows.running; stack = s.shows.top; lines = refl })
+    tt tt (λ went. absurd (cc)) tt (refl, refl, refl) (λ n few. few) (omega arith) (keeps_all store)

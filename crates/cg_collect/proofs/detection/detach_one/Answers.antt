@@ -80,8 +80,7 @@ returns-in-None g c = λ script facts policy.
     let next = next_from store c.sound.ensures.listed Cand o ready.1 c.next.result c.next.ensures in
     let bare = none_first (weak_references_in store.rows o) (sym c.newest_of.ensures ∙ c.in-None.is) in
     let shorter : length (from_on (Some o) (list_at store Cand)) ≡ length (o ∷ from_on c.next.result (list_at store Cand)) = ap length next in
-    at_phase (ap phase_of.Detaching c.in-Some.is) (goes_on c.to-in-None.ensures (turn-passed script facts store policy o c.next.result next bare)
-    (
+    at_phase (ap phase_of.Detaching c.in-Some.is) (goes_on c.to-in-None.ensures (turn-passed script facts store policy o c.next.result next bare) (
       ready.0,
       next_at store c.sound.ensures.listed Cand o ready.1 c.next.result c.next.ensures,
       λ q m. either (ready.2 q m)

@@ -29,8 +29,7 @@ returns-in-Some g c = λ script policy.
 
 pub returns-in-None : goal.returns-in-None
 returns-in-None g c = λ script policy.
-    at_phase (ap phase_of.Living c.in-None.is) (goes_on c.to.ensures (turn-all_living script c.args.facts c.args.heap.now policy c.first.result c.first.ensures)
-    (
+    at_phase (ap phase_of.Living c.in-None.is) (goes_on c.to.ensures (turn-all_living script c.args.facts c.args.heap.now policy c.first.result c.first.ensures) (
       c.requires.ready.0,
       subst (λ n. IsAt n (list_at c.args.heap.now Cand)) (sym c.first.ensures) (at_first (list_at c.args.heap.now Cand)),
       λ o m. inl (subst (λ l. Includes l o) (sym (ap (λ n. from_on n (list_at c.args.heap.now Cand)) c.first.ensures ∙ from_first (list_at c.args.heap.now Cand))) m),

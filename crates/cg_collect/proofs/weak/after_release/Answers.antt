@@ -1,4 +1,4 @@
-use Rattle.std.proofs.Common.{◌≡◌, ◌∙◌, ℕ, List, length, ap, refl, inl, inr, arith}
+use Rattle.std.proofs.Common.{◌≡◌, ◌∙◌, ℕ, List, length, ap, refl, inr, arith}
 use Rattle.std.specs.Prelude.{◌==◌, not, filter}
 use Rattle.cg_value.specs.declared.Place.TheVariants.{Gen, Pend}
 use Rattle.cg_graph.specs.Store.{list_at}
@@ -19,8 +19,7 @@ returns-then-has g c = λ script policy.
     let place = older_place c.args.facts.generation c.requires.generation in
     let wait = ap (λ (l : List ℕ). length l) (others_wait c.args.heap.now c.args.weak c.sound.ensures.listed live c.args.facts.generation c.requires.generation) in
     in_heap (c.move_to.ensures ∙ ap (λ k. moved c.args.weak (Gen k) c.args.heap.now) c.older.ensures)
-    (goes_on c.to.ensures (turn-aged script c.args.facts c.args.heap.now policy c.args.weak c.sound.ensures.listed live c.args.facts.generation c.requires.generation refl)
-    (
+    (goes_on c.to.ensures (turn-aged script c.args.facts c.args.heap.now policy c.args.weak c.sound.ensures.listed live c.args.facts.generation c.requires.generation refl) (
       apart_away c.args.heap.now c.sound.ensures.listed c.args.weak live (Gen (older c.args.facts.generation)) place c.requires.ready.2 (λ e. cc) (λ e. cc) (λ e. cc) (λ e. cc) c.requires.ready.0,
       callbacks_away c.args.heap.now c.sound.ensures.listed c.args.weak live (Gen (older c.args.facts.generation)) place (λ e. cc) c.requires.ready.1,
     )
@@ -37,6 +36,9 @@ returns-else-has g c = λ script policy.
       ready = (c.requires.ready.0, all_have_callbacks c.args.heap.now c.sound.ensures.listed c.args.weak (λ live. absurd (let there = c.has.ensures.1 live in cc)) c.requires.ready.1);
       walk = tt;
       falls = λ went. inr (refl, omega arith);
-      leaves = inl (record { few = λ n few. omega (arith, few, all); gives_up = tt; hands_out = tt; begun = tt; onward = omega arith });
+      few = λ n few. omega (arith, few, all);
+      gives_up = tt;
+      hands_out = tt;
+      onward = omega arith;
       keeps = keeps_all c.args.heap.now;
     }

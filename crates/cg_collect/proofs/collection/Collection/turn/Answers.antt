@@ -7,8 +7,7 @@ use Rattle.cg_collect.specs.declared.phase.Phase.{Phase}
 use Rattle.cg_collect.specs.Ready.{IsWalk, HasItsWalk}
 use Rattle.cg_collect.specs.Looks.{most_looks}
 use Rattle.cg_collect.specs.Collections.{facts_of, own_holds_at}
-use Rattle.cg_collect.proofs.GivingUp.{takes-over}
-use Rattle.cg_collect.proofs.TakingTurns.{at_phase, ready_at}
+use Rattle.cg_collect.proofs.TakingTurns.{at_phase, ready_at, ends}
 use Rattle.cg_collect.proofs.collection.Collection.turn.Goals as goal
 
 pub returns-in-Start-clause-takes : goal.returns-in-Start-clause-takes
@@ -72,7 +71,7 @@ pub returns-in-Stopping-clause-takes : goal.returns-in-Stopping-clause-takes
 returns-in-Stopping-clause-takes g c = at_phase c.in-Stopping.is (c.tell_end.ensures.takes c.args.script.now c.args.heap.now c.args.policy.now)
 
 pub returns-in-Over-clause-takes : goal.returns-in-Over-clause-takes
-returns-in-Over-clause-takes g c = at_phase c.in-Over.is (takes-over c.args.script.now (facts_of c.args.self.now) c.args.heap.now c.args.policy.now c.in-Over.number c.answers.result c.answers.ensures)
+returns-in-Over-clause-takes g c = at_phase c.in-Over.is (ends {number = c.in-Over.number} c.answers.ensures)
 
 pub clear_one-requires-clause-walk : goal.clear_one-requires-clause-walk
 clear_one-requires-clause-walk g c =
