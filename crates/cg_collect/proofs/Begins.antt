@@ -13,6 +13,7 @@ use Rattle.cg_machine.specs.World as machine
 use Rattle.cg_machine.specs.World.{World, Activity, Collecting, Numbers, with_stack, with_objects}
 use Rattle.cg_machine.specs.Effects.{gens_line}
 use Rattle.cg_machine.specs.Collect.{merged, merged_place, begun, survived, has_flag, stats, collectable, lines_if, Sorts, sorted, survivor_count, start_world}
+use Rattle.cg_machine.specs.Program.{profile_of}
 use Rattle.cg_machine.specs.Represents.{Represents}
 use Rattle.cg_machine.proofs.Representing.{in_one}
 use Rattle.cg_heap.specs.Calls.{IsListed}
@@ -26,18 +27,19 @@ use Rattle.cg_collect.specs.declared.phase.Phase.TheVariants as phase_of
 use Rattle.cg_collect.specs.declared.phase.Turn.{Turn}
 use Rattle.cg_collect.specs.Numbers.{AreSmall}
 use Rattle.cg_collect.specs.Phases.{collection_of, lines_left}
-use Rattle.cg_collect.specs.Ready.{IsClear, IsReadyForCollectionAt, HasItsWalk, IsApartUnseen, IsEmptyAt, HasFewCollected, IsBegun}
+use Rattle.cg_collect.specs.Ready.{IsClear, IsReadyForCollectionAt, HasItsWalk, IsApartUnseen, IsEmptyAt, HasFewCollected}
 use Rattle.cg_collect.specs.Answers.{CollectionShows, CollectionStands, WentOn, CollectSteps}
 use Rattle.cg_collect.specs.Stages.{detection_at}
-use Rattle.cg_collect.specs.Turns.{pass_of, collection_at, TurnSteps, StaysReady, TurnLeaves, KeepsObjects}
+use Rattle.cg_collect.specs.Turns.{pass_of, collection_at, TakesTurn}
 use Rattle.cg_collect.specs.Starting.{told_sizes, told_if, told_after_sizes, told_start}
 use Rattle.cg_collect.proofs.Standing.{same_more, map_alike, place_there, objects_on, outside_on, list_has, list_length}
-use Rattle.cg_collect.proofs.Telling.{ready_told, walk_told, few_told, begun_told, late_told, told_lines, turn_to}
+use Rattle.cg_collect.proofs.TakingTurns.{in_policy, leads_to, tells}
+use Rattle.cg_collect.proofs.Telling.{ready_told, walk_told, few_told, late_told, told_lines}
 use Rattle.cg_collect.proofs.Apart.{nobody_waits, apart_unseen}
 use Rattle.cg_collect.proofs.Traces.{Trace, same16}
 use Rattle.cg_collect.proofs.Sorts.{chosen, places, sorts, objects_sorted, survivors_counted}
 use Rattle.cg_collect.proofs.Keeping.{keeps-same}
-use Rattle.cg_collect.proofs.Worlds.{steps_at, turn_steps, with_same_rows, represents_on}
+use Rattle.cg_collect.proofs.Worlds.{steps_at, with_same_rows, represents_on}
 
 -- the phases after the start stand for the weak phase of the machine
 shows_start : (asked : Bool) (facts : Facts) (s b : Bool) (old store : Store) (policy : Policy) (after : World) (below : List Activity)
@@ -67,10 +69,6 @@ few_start : (n : ℕ) (s b : Bool) (old store : Store) → n ≡ 0 → HasFewCol
 few_start n true b old store e = e
 few_start n false b old store e = few_told n b store e
 
-begun_start : (s b : Bool) (old store : Store) → IsBegun (told_start s b old store)
-begun_start true b old store = tt
-begun_start false b old store = begun_told b store
-
 -- no detection is to come next
 pub apart_start : (s b : Bool) (old store : Store) → detection_at (unwrap_or (if s then Some (told_sizes old) else None) (told_if b store)) ≡ None
 apart_start true b old store = refl
@@ -80,9 +78,6 @@ apart_start false false old store = refl
 late_start : (s b : Bool) (old store : Store) → 1 ≤ pass_of (told_start s b old store)
 late_start true b old store = omega arith
 late_start false b old store = omega (arith, late_told b store)
-
-leaves_start : (s b : Bool) (old store : Store) (event : Event) → TurnLeaves old phase_of.Start store (record { phase = told_start s b old store; release = None; collected = 0; answer = answer_of.Emit event })
-leaves_start s b old store event = record { few = λ n h. few_start (n + 0) s b old store (omega (arith, h)); gives_up = tt; hands_out = tt; begun = begun_start s b old store; onward = omega (arith, late_start s b old store) }
 
 -- what the code tells first
 told_start-is : (s b : Bool) (old store : Store) → unwrap_or (if s then Some (told_sizes old) else None) (told_if b store) ≡ told_start s b old store
@@ -209,41 +204,25 @@ module _ (script : Script) (facts : Facts) (s0 s1 s2 s4 s5 s6 : Store) (t : Trac
 -- The turn of the start, with the numbers and the phases that the code has.
 module _ (script : Script) (facts : Facts) (s0 s1 s2 s4 s5 s6 : Store) (t : Trace script facts.generation s0 s1 s2 s4 s5 s6) (listed0 : IsListed s0) (listed4 : IsListed s4) (listed6 : IsListed s6) (clear : IsClear s0)
     (sizes : Option Phase) (sizes_are : sizes ≡ (if has_flag (bits_of facts.flags) stats then Some (told_sizes s0) else None)) (told : Phase) (told_is : told ≡ unwrap_or sizes (told_after_sizes (bits_of facts.flags) s6))
-    (turn : Turn) (tells : turn ≡ record { phase = told; release = None; collected = 0; answer = answer_of.Emit (GcStart facts.generation) }) where
+    (turn : Turn) (is : turn ≡ record { phase = told; release = None; collected = 0; answer = answer_of.Emit (GcStart facts.generation) }) where
   abbrev with_sizes : Bool
   with_sizes = has_flag (bits_of facts.flags) stats
 
   abbrev with_members : Bool
   with_members = has_flag (bits_of facts.flags) collectable
 
-  turn_is : turn ≡ record { phase = told_start with_sizes with_members s0 s6; release = None; collected = 0; answer = answer_of.Emit (GcStart facts.generation) }
-  turn_is =
-      turn_to turn told (told_start with_sizes with_members s0 s6) (answer_of.Emit (GcStart facts.generation)) tells
-      (told_is ∙ ap (λ (x : Option Phase). unwrap_or x (told_after_sizes (bits_of facts.flags) s6)) sizes_are ∙ told_start-is with_sizes with_members s0 s6)
-
   waits_none : IsEmptyAt s6 Pend
   waits_none = nobody_waits script facts.generation s0 s1 s2 s4 s5 s6 t listed0 listed6 clear
 
-  pub turn_start : (policy policy_after : Policy) (survivors : ℕ) → survivors ≡ length (list_at s4 (Gen facts.generation)) → policy_after ≡ with_numbers (survived facts.generation survivors policy.numbers) policy
-      → TurnSteps script facts phase_of.Start s0 policy s6 policy_after turn
-  turn_start policy policy_after survivors count is =
-      subst (λ (p : Policy). TurnSteps script facts phase_of.Start s0 policy s6 p turn) (sym (is ∙ ap (λ (n : ℕ). with_numbers (survived facts.generation n policy.numbers) policy) count))
-      (turn_steps script facts phase_of.Start s0 policy s6 (with_numbers (survived facts.generation (length (list_at s4 (Gen facts.generation))) policy.numbers) policy) turn (told_start with_sizes with_members s0 s6) None
-      (answer_of.Emit (GcStart facts.generation)) turn_is
-      (steps_start script facts s0 s1 s2 s4 s5 s6 t listed0 listed4 listed6 waits_none policy))
+  leads_there : turn ≡ record { phase = told_start with_sizes with_members s0 s6; release = None; collected = 0; answer = answer_of.Emit (GcStart facts.generation) }
+  leads_there = leads_to is (told_is ∙ ap (λ (x : Option Phase). unwrap_or x (told_after_sizes (bits_of facts.flags) s6)) sizes_are ∙ told_start-is with_sizes with_members s0 s6)
 
-  pub ready_after : StaysReady s6 facts.generation turn.phase turn.answer
-  ready_after =
-      subst (λ (x : Turn). StaysReady s6 facts.generation x.phase x.answer) (sym turn_is)
-      (ready_start facts.generation with_sizes with_members s0 s6 listed6 (apart_unseen script facts.generation s0 s1 s2 s4 s5 s6 t listed0 listed6 clear) waits_none)
-
-  pub walk_after : (profile : ℕ) → HasItsWalk profile s6 turn.phase
-  walk_after profile =
-      subst (λ (x : Turn). HasItsWalk profile s6 x.phase) (sym turn_is)
-      (walk_start profile with_sizes with_members s0 s6 listed6 (apart_unseen script facts.generation s0 s1 s2 s4 s5 s6 t listed0 listed6 clear) waits_none)
-
-  pub leaves_after : TurnLeaves s0 phase_of.Start s6 turn
-  leaves_after = subst (λ (x : Turn). TurnLeaves s0 phase_of.Start s6 x) (sym turn_is) (leaves_start with_sizes with_members s0 s6 (GcStart facts.generation))
-
-  pub keeps_after : KeepsObjects s0 s6
-  keeps_after = keeps-same s0 s6 (same_more s0 s1 s6 t.merges.same (same16 script facts.generation s0 s1 s2 s4 s5 s6 t))
+  pub takes_start : (policy policy_after : Policy) (survivors : ℕ) → survivors ≡ length (list_at s4 (Gen facts.generation)) → policy_after ≡ with_numbers (survived facts.generation survivors policy.numbers) policy
+      → TakesTurn script facts phase_of.Start s0 policy s6 policy_after turn
+  takes_start policy policy_after survivors count after =
+      let unseen = apart_unseen script facts.generation s0 s1 s2 s4 s5 s6 t listed0 listed6 clear in
+      in_policy (after ∙ ap (λ (n : ℕ). with_numbers (survived facts.generation n policy.numbers) policy) count)
+      (tells leads_there (steps_start script facts s0 s1 s2 s4 s5 s6 t listed0 listed4 listed6 waits_none policy)
+      (ready_start facts.generation with_sizes with_members s0 s6 listed6 unseen waits_none) (walk_start (profile_of script.items) with_sizes with_members s0 s6 listed6 unseen waits_none)
+      (λ n none. few_start n with_sizes with_members s0 s6 none) (late_start with_sizes with_members s0 s6)
+      (keeps-same s0 s6 (same_more s0 s1 s6 t.merges.same (same16 script facts.generation s0 s1 s2 s4 s5 s6 t))))

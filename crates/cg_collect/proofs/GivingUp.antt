@@ -28,18 +28,15 @@ use Rattle.cg_death.proofs.Calling.{callback-at}
 use Rattle.cg_collect.specs.declared.answer.CollectStep.{CollectStep}
 use Rattle.cg_collect.specs.declared.answer.CollectStep.TheVariants as answer_of
 use Rattle.cg_collect.specs.declared.collection.Collection.{Collection}
-use Rattle.cg_collect.specs.declared.collection.Facts.{Facts}
-use Rattle.cg_collect.specs.declared.phase.Turn.{Turn}
 use Rattle.cg_collect.specs.declared.phase.Phase.{Phase}
 use Rattle.cg_collect.specs.declared.phase.Phase.TheVariants as phase_of
 use Rattle.cg_collect.specs.Phases.{machine_phase, collecting, released_over, lines_left, store_after}
 use Rattle.cg_collect.specs.Ready.{IsHeapApart, OthersHaveCallbacks, IsReadyForCollectionAt, HasItsWalk, HasFewCollected, MayGiveUp, GivesUpIn, MayRun, IsBegun, SparesGarbageList}
 use Rattle.cg_collect.specs.Answers.{CollectionShows, CollectAnswer, CollectSteps, numbers_at}
-use Rattle.cg_collect.specs.Turns.{pass_of, passes_on, TurnSteps, ComesNearer, KeepsObjects, left_in_pass, to_clear, others_cleared}
-use Rattle.cg_collect.specs.Collections.{IsReadyForCollection, KeepsReady, CollectFalls, GivesUpNext, once_given_up, give_up_answer}
-use Rattle.cg_collect.specs.Stages.{detection_at, stage_at, LeavesStage}
-use Rattle.cg_collect.proofs.Staging.{leaves_stage}
-use Rattle.cg_collect.proofs.Worlds.{turn_steps}
+use Rattle.cg_collect.specs.Turns.{pass_of, passes_on, ComesNearer, KeepsObjects, left_in_pass, to_clear, others_cleared}
+use Rattle.cg_collect.specs.Collections.{IsReadyForCollection, KeepsReady, CollectFalls, CollectionEndsWith, GivesUpNext, once_given_up, give_up_answer}
+use Rattle.cg_collect.specs.Stages.{detection_at}
+use Rattle.cg_collect.proofs.Staging.{TakesStep, leaves_stage}
 use Rattle.cg_collect.proofs.Keeping.{keeps-released}
 use Rattle.cg_collect.proofs.Looking.{still_unsaved}
 
@@ -144,7 +141,7 @@ may_give_up : (p : Phase) (r : Option Release) (release : Release) → r ≡ Som
 may_give_up p r release is may = subst (GivesUpIn p) is may
 
 -- A reference that is given up is a step of the machine.
-pub gives_up-steps : (script : Script) (policy : Policy) (c : Collection) (store : Store) (new : Collection) (now : Store) (answer : CollectStep) → GivesUpIn c.phase c.release → GivesUpNext c store new now answer → CollectSteps script c store policy new now policy answer
+gives_up-steps : (script : Script) (policy : Policy) (c : Collection) (store : Store) (new : Collection) (now : Store) (answer : CollectStep) → GivesUpIn c.phase c.release → GivesUpNext c store new now answer → CollectSteps script c store policy new now policy answer
 gives_up-steps script policy c store new now answer gives g asked w below s =
     let may = may_give_up c.phase c.release g.before g.had gives in
     let at = gives_up_at c.phase may in
@@ -326,7 +323,7 @@ module _ (c : Collection) (store : Store) (new : Collection) (now : Store) (answ
   same = unchanged (references_left g.before) store now c.phase may g.heap
 
   -- the heap is ready for the next step
-  pub gives_up-ready : (script : Script) → IsReadyForCollection script c store → KeepsReady script new now answer
+  gives_up-ready : (script : Script) → IsReadyForCollection script c store → KeepsReady script new now answer
   gives_up-ready script ready = subst (λ (n : Collection). KeepsReady script n now answer) (sym g.collection) (subst (KeepsReady script (once_given_up c g.after (release_answer (references_left g.before) now)) now) (sym g.told) (known (release_answer (references_left g.before) now)))
     where
       known : (a : DeathStep) → KeepsReady script (once_given_up c g.after a) now (give_up_answer a)
@@ -356,27 +353,8 @@ module _ (c : Collection) (store : Store) (new : Collection) (now : Store) (answ
       known (death_answer.Died o) = (refl, refl, refl)
       known death_answer.Gone = (refl, refl, refl)
 
-  pub gives_up-generation : new.generation ≡ c.generation
-  gives_up-generation = gives_up-stays.0
-
-  pub gives_up-begun : IsBegun new.phase
-  gives_up-begun = subst IsBegun (sym gives_up-stays.1) (lasts_at c.phase may).begun
-
-  pub gives_up-onward : pass_of c.phase + passes_on c.phase ≤ pass_of new.phase
-  gives_up-onward = omega (arith, (lasts_at c.phase may).onward, ap pass_of gives_up-stays.1)
-
-  -- its stage is that of a step without a detection
-  pub gives_up-detected : c.detected ≡ detection_at c.phase → new.detected ≡ detection_at c.phase
-  gives_up-detected is = gives_up-stays.2 ∙ is
-
-  pub gives_up-stage : c.detected ≡ detection_at c.phase → LeavesStage c.phase (stage_at new.phase new.detected)
-  gives_up-stage is = leaves_stage c.phase new.phase new.detected (gives_up-detected is) gives_up-begun (λ start. absurd (subst MayGiveUp start may)) gives_up-onward
-
-  pub gives_up-keeps : KeepsObjects store now
-  gives_up-keeps = subst (KeepsObjects store) (sym g.heap) (keeps-released (references_left g.before) store)
-
   -- and less is left
-  pub gives_up-falls : answer ≡ answer_of.Continue → CollectFalls c store new now
+  gives_up-falls : answer ≡ answer_of.Continue → CollectFalls c store new now
   gives_up-falls went =
       subst (λ (n : Collection). CollectFalls c store n now) (sym g.collection)
       (subst (λ (r : Option Release). ComesNearer store c.phase r now (once_given_up c g.after (release_answer (references_left g.before) now)).phase (once_given_up c g.after (release_answer (references_left g.before) now)).release) (sym g.had)
@@ -406,34 +384,26 @@ module _ (c : Collection) (store : Store) (new : Collection) (now : Store) (answ
       known (death_answer.Died o) is e = absurd (cc)
       known death_answer.Gone is e = inr (refl, omega (arith, same.left))
 
--- the number of collected objects is never large
-pub few_at_most : (n : ℕ) (p : Phase) (store : Store) → HasFewCollected n p store → n ≤ 2000002
-few_at_most n phase_of.Start store few = omega (arith, few)
-few_at_most n (phase_of.Sizes zero one two frozen) store few = omega (arith, few)
-few_at_most n (phase_of.Telling next) store few = omega (arith, few)
-few_at_most n (phase_of.WeakClearing member weak) store few = omega (arith, few)
-few_at_most n phase_of.WeakCalling store few = omega (arith, few)
-few_at_most n (phase_of.AfterCallback weak) store few = omega (arith, few)
-few_at_most n (phase_of.AfterRelease weak) store few = omega (arith, few)
-few_at_most n phase_of.Finalizing store few = omega (arith, few)
-few_at_most n (phase_of.AfterFinalizing o) store few = omega (arith, few)
-few_at_most n phase_of.Split store few = omega (arith, few)
-few_at_most n (phase_of.Living next) store few = few
-few_at_most n (phase_of.Detaching next) store few = few
-few_at_most n (phase_of.Unlinking member weak) store few = few
-few_at_most n phase_of.Turns store few = few
-few_at_most n (phase_of.Turn o) store few = few
-few_at_most n (phase_of.AfterTurn o) store few = few
-few_at_most n phase_of.Ending store few = few
-few_at_most n (phase_of.Uncollectable first next number) store few = few.0
-few_at_most n (phase_of.Saved next number) store few = few.0
-few_at_most n (phase_of.Stopping number) store few = few.0
-few_at_most n (phase_of.Over number) store few = few.0
+  -- a step that gives up does not end the collection
+  goes_on : (a : DeathStep) → CollectionEndsWith c (give_up_answer a)
+  goes_on (death_answer.Died o) = tt
+  goes_on a = tt
 
--- A collection that is over says so.
-pub turn-over : (script : Script) (facts : Facts) (store : Store) (policy : Policy) (number : ℕ) (turn : Turn)
-    → turn ≡ record { phase = phase_of.Over number; release = None; collected = 0; answer = answer_of.Finished facts.collected number }
-    → TurnSteps script facts (phase_of.Over number) store policy store policy turn
-turn-over script facts store policy number turn is =
-    turn_steps script facts (phase_of.Over number) store policy store policy turn (phase_of.Over number) None (answer_of.Finished facts.collected number) is
-    (λ asked w below s. record { represents = s.shows.represents; numbers = s.shows.numbers; idle = s.shows.running; stack = s.shows.top; lines = refl })
+  pub gives_up-step : (script : Script) (policy : Policy) → IsReadyForCollection script c store → c.detected ≡ detection_at c.phase → TakesStep script c store policy new now policy answer
+  gives_up-step script policy ready is =
+      let begun : IsBegun new.phase = subst IsBegun (sym gives_up-stays.1) (lasts_at c.phase may).begun in
+      let onward : pass_of c.phase + passes_on c.phase ≤ pass_of new.phase = omega (arith, (lasts_at c.phase may).onward, ap pass_of gives_up-stays.1) in
+      record {
+        steps = gives_up-steps script policy c store new now answer gives g;
+        ready = gives_up-ready script ready;
+        falls = gives_up-falls;
+        died = g.unheld;
+        ends = subst (CollectionEndsWith c) (sym g.told) (goes_on (release_answer (references_left g.before) now));
+        generation = gives_up-stays.0;
+        begun = begun;
+        onward = onward;
+        detected = gives_up-stays.2 ∙ is;
+        -- that of a step without a detection
+        stage = leaves_stage c.phase new.phase new.detected (gives_up-stays.2 ∙ is) begun (λ start. absurd (subst MayGiveUp start may)) onward;
+        keeps = subst (KeepsObjects store) (sym g.heap) (keeps-released (references_left g.before) store);
+      }

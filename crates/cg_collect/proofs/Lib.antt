@@ -6,6 +6,7 @@ pub mod Sums
 pub mod Untracked
 pub mod Worlds
 pub mod Keeping
+pub mod TakingTurns
 pub mod Looking
 pub mod Turning
 pub mod Saved

@@ -1,5 +1,5 @@
 -- The detection that the last step of a collection made is seen in its stage alone, and in no answer.
-use Rattle.std.proofs.Common.{◌≡◌, refl, sym, subst, ◌+◌, ◌≤◌, ◌⊎◌, ℕ, inl, inr, List, Bool, Option, None, Some, arith}
+use Rattle.std.proofs.Common.{◌≡◌, refl, sym, subst, ◌+◌, ◌≤◌, ◌⊎◌, inl, inr, List, Bool, Option, None, Some, arith}
 use Rattle.cg_script.specs.declared.Script.{Script}
 use Rattle.cg_graph.specs.Store.{Store}
 use Rattle.cg_machine.specs.declared.event.Event.{Event}
@@ -12,13 +12,12 @@ use Rattle.cg_collect.specs.declared.phase.Phase.{Phase}
 use Rattle.cg_collect.specs.declared.phase.Phase.TheVariants as phase_of
 use Rattle.cg_collect.specs.declared.stage.Detection.{Detection}
 use Rattle.cg_collect.specs.declared.stage.Detection.TheVariants.{First, Second}
-use Rattle.cg_collect.specs.declared.stage.Stage.{Stage}
 use Rattle.cg_collect.specs.declared.stage.Stage.TheVariants as stage
-use Rattle.cg_collect.specs.Stages.{detection_at, stage_after, stage_at, LeavesStage}
+use Rattle.cg_collect.specs.Stages.{detection_at, stage_after, stage_at, stage_of, LeavesStage}
 use Rattle.cg_collect.specs.Ready.{IsBegun}
 use Rattle.cg_collect.specs.Answers.{CollectionShows, CollectionStands, CollectAnswer, CollectSteps}
-use Rattle.cg_collect.specs.Turns.{pass_of, passes_on}
-use Rattle.cg_collect.specs.Collections.{IsReadyForCollection}
+use Rattle.cg_collect.specs.Turns.{pass_of, passes_on, KeepsObjects}
+use Rattle.cg_collect.specs.Collections.{IsReadyForCollection, KeepsReady, CollectFalls, CollectionEndsWith, DiesUnheld}
 
 -- What a collection has of the world, with another detection.
 module _ (detected : Option Detection) (asked : Bool) (c : Collection) (store : Store) (policy : Policy) (w : World) (below : List Activity) where
@@ -78,3 +77,33 @@ left_at old new begun apart onward = without new begun
 pub leaves_stage : (old new : Phase) (detected : Option Detection) → detected ≡ detection_at old → IsBegun new → (old ≡ phase_of.Start → detection_at new ≡ None) → pass_of old + passes_on old ≤ pass_of new
     → LeavesStage old (stage_at new detected)
 leaves_stage old new detected is begun apart onward = subst (λ d. LeavesStage old (stage_at new d)) (sym is) (left_at old new begun apart onward)
+
+-- What a step of a collection does, as its contract says it.
+pub record TakesStep (script : Script) (old : Collection) (store : Store) (policy : Policy) (new : Collection) (now : Store) (policy_now : Policy) (answer : CollectStep) : Type 0 where
+  pub steps : CollectSteps script old store policy new now policy_now answer
+  pub ready : KeepsReady script new now answer
+  pub falls : answer ≡ answer_of.Continue → CollectFalls old store new now
+  pub died : DiesUnheld answer now
+  pub ends : CollectionEndsWith old answer
+  pub generation : new.generation ≡ old.generation
+  pub begun : IsBegun new.phase
+  pub onward : pass_of old.phase + passes_on old.phase ≤ pass_of new.phase
+  pub detected : new.detected ≡ detection_at old.phase
+  pub stage : LeavesStage old.phase (stage_of new)
+  pub keeps : KeepsObjects store now
+
+pub also-step : (detected : Option Detection) (script : Script) (old : Collection) (store : Store) (policy : Policy) (new : Collection) (now : Store) (policy_now : Policy) (answer : CollectStep)
+    → TakesStep script (record old { detected = detected }) store policy new now policy_now answer → TakesStep script old store policy new now policy_now answer
+also-step detected script old store policy new now policy_now answer s = record {
+  steps = also-steps old.detected new.detected script (record old { detected = detected }) store policy new now policy_now answer s.steps;
+  ready = s.ready;
+  falls = s.falls;
+  died = s.died;
+  ends = s.ends;
+  generation = s.generation;
+  begun = s.begun;
+  onward = s.onward;
+  detected = s.detected;
+  stage = s.stage;
+  keeps = s.keeps;
+}

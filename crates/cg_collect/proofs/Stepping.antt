@@ -1,7 +1,6 @@
 -- A step of a collection that gives nothing up is a turn of its phase.
-use Rattle.std.proofs.Common.{◌≡◌, sym, ◌∙◌, ap, subst, ◌+◌, ◌<◌, ◌≤◌, ◌^◌, ◌⊎◌, inl, inr, Option, None, ℕ, arith}
+use Rattle.std.proofs.Common.{◌≡◌, refl, sym, subst, ◌+◌, ◌≤◌, Option, None, ℕ, arith}
 use Rattle.cg_script.specs.declared.Script.{Script}
-use Rattle.cg_machine.specs.Program.{profile_of}
 use Rattle.cg_graph.specs.Store.{Store}
 use Rattle.cg_graph.proofs.Objects.{occurrences-append}
 use Rattle.cg_policy.specs.Policy.{Policy}
@@ -13,14 +12,13 @@ use Rattle.cg_collect.specs.declared.collection.Collection.{Collection}
 use Rattle.cg_collect.specs.declared.phase.Phase.{Phase}
 use Rattle.cg_collect.specs.declared.phase.Phase.TheVariants as phase_of
 use Rattle.cg_collect.specs.declared.phase.Turn.{Turn}
-use Rattle.cg_collect.specs.Ready.{HasItsWalk, HasFewCollected, RunsFrame, MayRun, IsBegun}
+use Rattle.cg_collect.specs.Ready.{IsReadyForCollectionAt, HasFewCollected, RunsFrame, MayRun, IsBegun}
 use Rattle.cg_collect.specs.Answers.{CollectSteps}
-use Rattle.cg_collect.specs.Turns.{pass_of, passes_on, collection_at, collection_after, TurnSteps, TurnFalls, TurnLeaves, TurnEnds, StaysReady, HandsOutIn, KeepsObjects}
+use Rattle.cg_collect.specs.Turns.{pass_of, passes_on, collection_at, collection_after, StaysReady, HandsOutIn, TakesTurn}
 use Rattle.cg_collect.specs.Looks.{most_looks}
-use Rattle.cg_collect.specs.Stages.{detection_at, stage_at, LeavesStage}
-use Rattle.cg_collect.specs.Collections.{IsReadyForCollection, KeepsReady, CollectFalls, DiesUnheld, facts_of, given_up_by, own_holds_at, held_by}
-use Rattle.cg_collect.proofs.Staging.{also-steps, leaves_stage}
-use Rattle.cg_collect.proofs.GivingUp.{few_at_most}
+use Rattle.cg_collect.specs.Stages.{detection_at}
+use Rattle.cg_collect.specs.Collections.{IsReadyForCollection, KeepsReady, CollectFalls, CollectionEndsWith, DiesUnheld, facts_of, given_up_by, own_holds_at, held_by}
+use Rattle.cg_collect.proofs.Staging.{TakesStep, also-steps, leaves_stage}
 
 -- what is held of a collection: what it gives up, and what its phase holds
 pub given_up_held : (c : Collection) (store : Store) → HasHolds store (held_by c) → HasHolds store (given_up_by c.release)
@@ -53,139 +51,84 @@ runs_in (phase_of.Saved next number) release runs = absurd runs
 runs_in (phase_of.Stopping number) release runs = absurd runs
 runs_in (phase_of.Over number) release runs = absurd runs
 
--- past the weak phase there is no walk of it
-pub walk_past : (profile : ℕ) (store : Store) (p : Phase) → 4 ≤ pass_of p → HasItsWalk profile store p
-walk_past profile store phase_of.Start late = tt
-walk_past profile store (phase_of.Sizes zero one two frozen) late = tt
-walk_past profile store (phase_of.Telling next) late = tt
-walk_past profile store (phase_of.WeakClearing member weak) late = absurd (omega (arith, late))
-walk_past profile store phase_of.WeakCalling late = tt
-walk_past profile store (phase_of.AfterCallback weak) late = tt
-walk_past profile store (phase_of.AfterRelease weak) late = tt
-walk_past profile store phase_of.Finalizing late = tt
-walk_past profile store (phase_of.AfterFinalizing o) late = tt
-walk_past profile store phase_of.Split late = tt
-walk_past profile store (phase_of.Living next) late = tt
-walk_past profile store (phase_of.Detaching next) late = tt
-walk_past profile store (phase_of.Unlinking member weak) late = tt
-walk_past profile store phase_of.Turns late = tt
-walk_past profile store (phase_of.Turn o) late = tt
-walk_past profile store (phase_of.AfterTurn o) late = tt
-walk_past profile store phase_of.Ending late = tt
-walk_past profile store (phase_of.Uncollectable first next number) late = tt
-walk_past profile store (phase_of.Saved next number) late = tt
-walk_past profile store (phase_of.Stopping number) late = tt
-walk_past profile store (phase_of.Over number) late = tt
+-- only the start comes before all passes, and it goes on
+begun_onward : (old next : Phase) → pass_of old + passes_on old ≤ pass_of next → IsBegun next
+begun_onward phase_of.Start phase_of.Start onward = absurd (omega (arith, onward))
+begun_onward old phase_of.Start onward = absurd (omega (arith, onward))
+begun_onward old next onward = tt
+
+-- A turn of its phase, where nothing is given up.
+module _ (script : Script) (old : Collection) (store : Store) (policy : Policy) (now : Store) (policy_now : Policy) (turn : Turn) (none : old.release ≡ None) (ready : IsReadyForCollection script old store)
+    (detected : old.detected ≡ detection_at old.phase) (takes : TakesTurn script (facts_of old) old.phase store policy now policy_now turn) (apart : old.phase ≡ phase_of.Start → detection_at turn.phase ≡ None) where
+  abbrev after : Collection
+  after = record old { collected = old.collected + turn.collected; phase = turn.phase; release = turn.release }
+
+  few : HasFewCollected (old.collected + turn.collected) turn.phase now
+  few = takes.few old.collected ready.collected
+
+  next : IsReadyForCollectionAt now old.generation turn.phase → IsReadyForCollection script after now
+  next r = record { generation = ready.generation; phase = r; walk = takes.walk; collected = few; gives_up = takes.gives_up }
+
+  still_ready : (answer : CollectStep) → StaysReady now old.generation turn.phase answer → HandsOutIn (facts_of old) old.phase answer turn.phase turn.release → KeepsReady script after now answer
+  still_ready answer_of.Continue r out = next r
+  still_ready (answer_of.Emit event) r out = next r
+  still_ready (answer_of.Frame spec) r out = (record { runs = runs_in turn.phase turn.release out.0; generation = ready.generation; collected = few; gives_up = takes.gives_up; spares = out.1 }, out.0)
+  still_ready (answer_of.Died o) r out = absurd out
+  still_ready (answer_of.Finished collected set_aside) r out =
+      let numbers = subst (λ (p : Phase). HasFewCollected old.collected p store) out.0 ready.collected in
+      (ready.generation, omega (arith, numbers.0, numbers.1, out.2))
+
+  none_dies : (answer : CollectStep) → HandsOutIn (facts_of old) old.phase answer turn.phase turn.release → DiesUnheld answer now
+  none_dies answer_of.Continue out = tt
+  none_dies (answer_of.Emit event) out = tt
+  none_dies (answer_of.Frame spec) out = tt
+  none_dies (answer_of.Died o) out = absurd out
+  none_dies (answer_of.Finished collected set_aside) out = tt
+
+  ends_with : (answer : CollectStep) → HandsOutIn (facts_of old) old.phase answer turn.phase turn.release → CollectionEndsWith old answer
+  ends_with answer_of.Continue out = tt
+  ends_with (answer_of.Emit event) out = tt
+  ends_with (answer_of.Frame spec) out = tt
+  ends_with (answer_of.Died o) out = absurd out
+  ends_with (answer_of.Finished collected set_aside) out = (out.0, out.2)
+
+  turn-step : TakesStep script old store policy after now policy_now turn.answer
+  turn-step = record {
+    steps = subst (λ r. CollectSteps script (record old { release = r }) store policy after now policy_now turn.answer) (sym none)
+        (also-steps old.detected old.detected script (collection_at (facts_of old) old.phase None) store policy (collection_after (facts_of old) turn) now policy_now turn.answer takes.steps);
+    ready = still_ready turn.answer takes.ready takes.hands_out;
+    falls = λ went. subst (λ r. CollectFalls (record old { release = r }) store after now) (sym none) (takes.falls went);
+    died = none_dies turn.answer takes.hands_out;
+    ends = ends_with turn.answer takes.hands_out;
+    generation = refl;
+    begun = begun_onward old.phase turn.phase takes.onward;
+    onward = takes.onward;
+    detected = detected;
+    stage = leaves_stage old.phase turn.phase old.detected detected (begun_onward old.phase turn.phase takes.onward) apart takes.onward;
+    keeps = takes.keeps;
+  }
 
 -- Nothing was given up, and all is as before.
-module _ (old mid : Collection) (store between : Store) (same : mid ≡ old) (heap : between ≡ store) (none : old.release ≡ None) where
+module _ (old mid : Collection) (store between : Store) (same : (mid ≡ old) × (between ≡ store) × (old.release ≡ None)) where
   -- a fact on collection and heap stays one
   stays : (P : Collection → Store → Type 0) → P old store → P mid between
-  stays P p = subst (λ (c : Collection). P c between) (sym same) (subst (P old) (sym heap) p)
+  stays P p = subst (λ (c : Collection). P c between) (sym same.0) (subst (P old) (sym same.1) p)
 
-  pub still_ready : (script : Script) → IsReadyForCollection script old store → IsReadyForCollection script mid between
-  still_ready script ready = stays (IsReadyForCollection script) ready
+  pub ready_on : (script : Script) → IsReadyForCollection script old store → IsReadyForCollection script mid between
+  ready_on script ready = stays (IsReadyForCollection script) ready
 
-  pub still_held : HasHolds store (held_by old) → HasHolds between (own_holds_at mid.phase)
-  still_held held = stays (λ c st. HasHolds st (own_holds_at c.phase)) (phase_held old store held)
+  pub held_on : HasHolds store (held_by old) → HasHolds between (own_holds_at mid.phase)
+  held_on held = stays (λ c st. HasHolds st (own_holds_at c.phase)) (phase_held old store held)
+
+  pub looks_on : (looked before : ℕ) → looked ≤ before + most_looks mid.generation mid.phase between → looked ≤ before + most_looks old.generation old.phase store
+  looks_on looked before = stays (λ c st. looked ≤ before + most_looks c.generation c.phase st → looked ≤ before + most_looks old.generation old.phase store) (λ few. few)
 
   -- the collection after the turn
-  abbrev pub turned : Turn → Collection
-  turned turn = record mid { collected = mid.collected + turn.collected; phase = turn.phase; release = turn.release }
-
-  module _ (turn : Turn) (now : Store) where
-    pub turned-steps : (script : Script) (policy policy_now : Policy) → TurnSteps script (facts_of mid) mid.phase between policy now policy_now turn → CollectSteps script old store policy (turned turn) now policy_now turn.answer
-    turned-steps script policy policy_now steps =
-        subst (λ (c : Collection). CollectSteps script c store policy (turned turn) now policy_now turn.answer) same
-        (subst (λ r. CollectSteps script (record mid { release = r }) store policy (turned turn) now policy_now turn.answer) (sym (ap (λ (c : Collection). c.release) same ∙ none))
-        (subst (λ st. CollectSteps script (record mid { release = None }) st policy (turned turn) now policy_now turn.answer) heap
-        (also-steps mid.detected mid.detected script (collection_at (facts_of mid) mid.phase None) between policy (collection_after (facts_of mid) turn) now policy_now turn.answer steps)))
-
-    -- the turn goes on, or it was the last
-    abbrev Left : Type 0
-    Left = TurnLeaves between mid.phase now turn ⊎ TurnEnds mid turn
-
-    -- the numbers of a collection that is over
-    over_few : (script : Script) → IsReadyForCollection script old store → (e : TurnEnds mid turn) → (mid.collected ≤ 2000002) × (e.number ≤ 1000001)
-    over_few script ready e = subst (λ (p : Phase). HasFewCollected mid.collected p between) e.over (still_ready script ready).collected
-
-    pub turned-few : (script : Script) → IsReadyForCollection script old store → Left → HasFewCollected (mid.collected + turn.collected) turn.phase now
-    turned-few script ready (inl leaves) = leaves.few mid.collected (still_ready script ready).collected
-    turned-few script ready (inr e) =
-        subst (λ (t : Turn). HasFewCollected (mid.collected + t.collected) t.phase now) (sym e.is)
-        (let few = over_few script ready e in (omega (arith, few.0), few.1))
-
-    pub turned-fits : (script : Script) → IsReadyForCollection script old store → Left → mid.collected + turn.collected < 2 ^ 64
-    turned-fits script ready left = let few = few_at_most (mid.collected + turn.collected) turn.phase now (turned-few script ready left) in omega (arith, few)
-
-    pub turned-begun : Left → IsBegun turn.phase
-    turned-begun (inl leaves) = leaves.begun
-    turned-begun (inr e) = subst (λ (t : Turn). IsBegun t.phase) (sym e.is) tt
-
-    pub turned-onward : Left → pass_of old.phase + passes_on old.phase ≤ pass_of turn.phase
-    turned-onward left = subst (λ (c : Collection). pass_of c.phase + passes_on c.phase ≤ pass_of turn.phase) same (from_mid left)
-      where
-        from_mid : Left → pass_of mid.phase + passes_on mid.phase ≤ pass_of turn.phase
-        from_mid (inl leaves) = leaves.onward
-        from_mid (inr e) = subst (λ (p : Phase). pass_of p + passes_on p ≤ pass_of turn.phase) (sym e.over) (subst (λ (t : Turn). 15 ≤ pass_of t.phase) (sym e.is) (omega arith))
-
-    -- what it detected, and so its stage
-    pub turned-detected : old.detected ≡ detection_at old.phase → (turned turn).detected ≡ detection_at old.phase
-    turned-detected is = ap (λ (c : Collection). c.detected) same ∙ is
-
-    pub turned-stage : old.detected ≡ detection_at old.phase → Left → (mid.phase ≡ phase_of.Start → detection_at turn.phase ≡ None) → LeavesStage old.phase (stage_at turn.phase mid.detected)
-    turned-stage is left apart =
-        leaves_stage old.phase turn.phase mid.detected (turned-detected is) (turned-begun left) (λ start. apart (ap (λ (c : Collection). c.phase) same ∙ start)) (turned-onward left)
-
-    pub turned-ready : (script : Script) → IsReadyForCollection script old store → StaysReady now mid.generation turn.phase turn.answer → HasItsWalk (profile_of script.items) now turn.phase → Left → KeepsReady script (turned turn) now turn.answer
-    turned-ready script ready stays_ready walks (inl leaves) = known turn.answer stays_ready leaves.hands_out
-      where
-        few : HasFewCollected (mid.collected + turn.collected) turn.phase now
-        few = turned-few script ready (inl leaves)
-
-        known : (answer : CollectStep) → StaysReady now mid.generation turn.phase answer → HandsOutIn answer turn.phase turn.release → KeepsReady script (turned turn) now answer
-        known answer_of.Continue r out = record { generation = (still_ready script ready).generation; phase = r; walk = walks; collected = few; gives_up = leaves.gives_up }
-        known (answer_of.Emit event) r out = record { generation = (still_ready script ready).generation; phase = r; walk = walks; collected = few; gives_up = leaves.gives_up }
-        known (answer_of.Frame spec) r out = (
-          record {
-            runs = runs_in turn.phase turn.release out.0;
-            generation = (still_ready script ready).generation;
-            collected = few;
-            gives_up = leaves.gives_up;
-            spares = out.1;
-          },
-          out.0,
-        )
-        known (answer_of.Died o) r out = absurd out
-        known (answer_of.Finished collected set_aside) r out = absurd out
-    turned-ready script ready stays_ready walks (inr e) =
-        subst (λ (t : Turn). KeepsReady script (turned turn) now t.answer) (sym e.is)
-        (let few = over_few script ready e in ((still_ready script ready).generation, omega (arith, few.0, few.1)))
-
-    pub turned-died : Left → DiesUnheld turn.answer now
-    turned-died (inl leaves) = known turn.answer leaves.hands_out
-      where
-        known : (answer : CollectStep) → HandsOutIn answer turn.phase turn.release → DiesUnheld answer now
-        known answer_of.Continue out = tt
-        known (answer_of.Emit event) out = tt
-        known (answer_of.Frame spec) out = tt
-        known (answer_of.Died o) out = absurd out
-        known (answer_of.Finished collected set_aside) out = tt
-    turned-died (inr e) = subst (λ (t : Turn). DiesUnheld t.answer now) (sym e.is) tt
-
-    pub turned-generation : (turned turn).generation ≡ old.generation
-    turned-generation = ap (λ (c : Collection). c.generation) same
-
-    pub turned-looks : (looked before : ℕ) → looked ≤ before + most_looks mid.generation mid.phase between → looked ≤ before + most_looks old.generation old.phase store
-    turned-looks looked before few =
-        subst (λ (c : Collection). looked ≤ before + most_looks c.generation c.phase store) same
-        (subst (λ st. looked ≤ before + most_looks mid.generation mid.phase st) heap few)
-
-    pub turned-keeps : KeepsObjects between now → KeepsObjects store now
-    turned-keeps = subst (λ st. KeepsObjects st now) heap
-
-    pub turned-falls : TurnFalls between mid.phase now turn → turn.answer ≡ answer_of.Continue → CollectFalls old store (turned turn) now
-    turned-falls falls went =
-        subst (λ (c : Collection). CollectFalls c store (turned turn) now) same
-        (subst (λ r. CollectFalls (record mid { release = r }) store (turned turn) now) (sym (ap (λ (c : Collection). c.release) same ∙ none))
-        (subst (λ st. CollectFalls (record mid { release = None }) st (turned turn) now) heap (falls went)))
+  pub turned : (script : Script) (policy : Policy) (now : Store) (policy_now : Policy) (turn : Turn) → IsReadyForCollection script old store → old.detected ≡ detection_at old.phase
+      → TakesTurn script (facts_of mid) mid.phase between policy now policy_now turn → (mid.phase ≡ phase_of.Start → detection_at turn.phase ≡ None)
+      → TakesStep script old store policy (record mid { collected = mid.collected + turn.collected; phase = turn.phase; release = turn.release }) now policy_now turn.answer
+  turned script policy now policy_now turn ready detected =
+      stays
+      (λ c st. TakesTurn script (facts_of c) c.phase st policy now policy_now turn → (c.phase ≡ phase_of.Start → detection_at turn.phase ≡ None)
+      → TakesStep script old store policy (record c { collected = c.collected + turn.collected; phase = turn.phase; release = turn.release }) now policy_now turn.answer)
+      (turn-step script old store policy now policy_now turn same.2 ready detected)

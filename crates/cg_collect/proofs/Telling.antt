@@ -1,5 +1,5 @@
 -- What is told after the start: the sizes, each condemned object, and then the weak phase follows.
-use Rattle.std.proofs.Common.{◌≡◌, ◌≢◌, refl, sym, ◌∙◌, ap, subst, ℕ, ◌+◌, ◌*◌, ◌<◌, ◌≤◌, inl, inr, Bool, true, false, not, List, [], ◌∷◌, ◌++◌, map, Option, Some, None, arith}
+use Rattle.std.proofs.Common.{◌≡◌, ◌≢◌, refl, sym, ◌∙◌, ap, subst, ℕ, ◌*◌, ◌<◌, ◌≤◌, inl, inr, Bool, true, false, not, List, [], ◌∷◌, ◌++◌, map, Option, Some, None, arith}
 use Rattle.std.specs.Prelude.{◌==◌, if◌then◌else◌, bit_and, slice_get}
 use Rattle.std.proofs.lemmas.Bool.{cases_eq, eq-eqb, ne_eqb}
 use Rattle.std.proofs.lemmas.Nat.Bits.{and_pow, bit_at-lt}
@@ -9,7 +9,6 @@ use Rattle.cg_script.specs.declared.Script.{Script}
 use Rattle.cg_graph.specs.Member.{Includes}
 use Rattle.cg_graph.specs.Store.{Store, list_at, place_of}
 use Rattle.cg_graph.proofs.Members.{either, Includes-append_right}
-use Rattle.cg_machine.specs.declared.event.Event.{Event}
 use Rattle.cg_machine.specs.declared.event.Event.TheVariants.{Gens, GcCollectable}
 use Rattle.cg_machine.specs.World.{World, Activity}
 use Rattle.cg_machine.specs.Collect.{has_flag, lines_if, stats, collectable}
@@ -19,16 +18,13 @@ use Rattle.cg_policy.specs.Policy.{Policy}
 use Rattle.cg_policy.specs.Flagset.{bits_of}
 use Rattle.cg_trial.proofs.Lists.{IsAt as Walked, ahead, ahead_is}
 use Rattle.cg_trial.proofs.Placed.{once_at}
-use Rattle.cg_collect.specs.declared.answer.CollectStep.{CollectStep}
 use Rattle.cg_collect.specs.declared.answer.CollectStep.TheVariants as answer_of
 use Rattle.cg_collect.specs.declared.collection.Facts.{Facts}
-use Rattle.cg_collect.specs.declared.phase.Phase.{Phase}
 use Rattle.cg_collect.specs.declared.phase.Phase.TheVariants as phase_of
-use Rattle.cg_collect.specs.declared.phase.Turn.{Turn}
 use Rattle.cg_collect.specs.Phases.{from_on, lines_left}
-use Rattle.cg_collect.specs.Ready.{IsReadyForCollectionAt, IsApartUnseen, IsEmptyAt, IsAt, HasItsWalk, HasFewCollected, IsBegun}
+use Rattle.cg_collect.specs.Ready.{IsReadyForCollectionAt, IsApartUnseen, IsEmptyAt, IsAt, HasItsWalk, HasFewCollected}
 use Rattle.cg_collect.specs.Answers.{CollectionShows, CollectSteps}
-use Rattle.cg_collect.specs.Turns.{pass_of, passes_on, collection_at, TurnLeaves}
+use Rattle.cg_collect.specs.Turns.{pass_of, collection_at}
 use Rattle.cg_collect.specs.Starting.{told_weak, told_if}
 use Rattle.cg_collect.proofs.Moving.{walk_passes, comes_next}
 use Rattle.cg_collect.proofs.Walking.{walk_begins}
@@ -122,30 +118,13 @@ module _ (store : Store) (listed : IsListed store) (apart : IsApartUnseen store)
   walk_told profile true = tt
   walk_told profile false = walk_begins profile store listed apart.1 pending
 
--- a turn that tells the same of another phase
-pub turn_to : (turn : Turn) (told phase : Phase) (answer : CollectStep) → turn ≡ record { phase = told; release = None; collected = 0; answer = answer } → told ≡ phase → turn ≡ record { phase = phase; release = None; collected = 0; answer = answer }
-turn_to turn told phase answer is same = is ∙ ap (λ (p : Phase). record { phase = p; release = None; collected = 0; answer = answer }) same
-
 pub few_told : (n : ℕ) (b : Bool) (store : Store) → n ≡ 0 → HasFewCollected n (told_if b store) store
 few_told n true store e = e
 few_told n false store e = e
 
-pub begun_told : (b : Bool) (store : Store) → IsBegun (told_if b store)
-begun_told true store = tt
-begun_told false store = tt
-
 pub late_told : (b : Bool) (store : Store) → 2 ≤ pass_of (told_if b store)
 late_told true store = omega arith
 late_told false store = omega arith
-
-pub leaves_told : (old now : Store) (phase : Phase) (b : Bool) (event : Event) → ((n : ℕ) → HasFewCollected n phase old → n ≡ 0) → pass_of phase + passes_on phase ≤ 2 → TurnLeaves old phase now (record { phase = told_if b now; release = None; collected = 0; answer = answer_of.Emit event })
-leaves_told old now phase b event none early = record {
-  few = λ n h. few_told (n + 0) b now (let e = none n h in omega (arith, e));
-  gives_up = tt;
-  hands_out = tt;
-  begun = begun_told b now;
-  onward = omega (arith, early, late_told b now);
-}
 
 -- the lines that are left
 module _ (script : Script) (asked : Bool) (facts : Facts) (store : Store) where

@@ -41,7 +41,7 @@ use Rattle.cg_collect.specs.Answers.{CollectSteps}
 use Rattle.cg_collect.specs.Turns.{collection_at}
 use Rattle.cg_collect.proofs.Standing.{node_there, code_there, list_length}
 use Rattle.cg_collect.proofs.Moving.{comes_next}
-use Rattle.cg_collect.proofs.Worlds.{steps_at, represents_same}
+use Rattle.cg_collect.proofs.Worlds.{steps_at, only_tells, represents_same}
 use Rattle.cg_collect.proofs.RowWalks.{from_on-past, from_on-first, head_highest, referent-listed, listed-referent, references-le}
 use Rattle.cg_collect.proofs.Walking.{loses_some, object_found}
 
@@ -171,6 +171,13 @@ module _ (profile : ℕ) (store : Store) (listed : IsListed store) (ok : AreRows
       let same : length (to_look_at store weak) ≡ length (weak_references_in store.rows t) = ap length looks in
       less (length (from_on next (list_at store Cand))) (length (from_on (Some object) (list_at store Cand))) (length store.rows) (length (to_look_at store weak))
       (omega (arith, longer, shorter)) (omega (arith, references-le store.rows t, same))
+
+-- A walk that passes one by tells no line, and stands for the same world.
+pub steps_passing : (script : Script) (facts : Facts) (store : Store) (policy : Policy) (member later weak older : Option ℕ)
+    → CollectSteps script (collection_at facts (phase_of.WeakClearing member weak) None) store policy (collection_at facts (phase_of.WeakClearing later older) None) store policy answer_of.Continue
+steps_passing script facts store policy member later weak older asked w below s =
+    only_tells script asked w below [] [] (collection_at facts (phase_of.WeakClearing later older) None) store policy refl
+    (record { represents = s.shows.represents; numbers = s.shows.numbers; running = s.shows.running; top = s.shows.top })
 
 -- When all were looked at, none is left that is to lose its referent.
 module _ (profile : ℕ) (store : Store) (walk : IsWalk profile store None None) where

@@ -2,6 +2,7 @@
 use Rattle.std.specs.Prelude.{◌≡◌, ℕ, ◌+◌, ◌*◌, ◌<◌, ◌≤◌, ◌⊎◌, List, [], length, Option, Some, None, sum_by}
 use Rattle.cg_value.specs.declared.Place.TheVariants.{Cand, Pend}
 use Rattle.cg_script.specs.declared.Script.{Script}
+use Rattle.cg_machine.specs.Program.{profile_of}
 use Rattle.cg_graph.specs.Places.{without_serial}
 use Rattle.cg_graph.specs.Store.{Store, list_at, entries_of, place_of}
 use Rattle.cg_policy.specs.Policy.{Policy}
@@ -17,7 +18,7 @@ use Rattle.cg_collect.specs.declared.phase.Turn.{Turn}
 use Rattle.cg_collect.specs.declared.collection.Facts.{Facts}
 use Rattle.cg_collect.specs.declared.collection.Collection.{Collection}
 use Rattle.cg_collect.specs.Phases.{from_on}
-use Rattle.cg_collect.specs.Ready.{IsReadyForCollectionAt, SparesGarbageList, to_look_at, HasFewCollected, GivesUpIn, RunsFrame, IsBegun}
+use Rattle.cg_collect.specs.Ready.{IsReadyForCollectionAt, HasItsWalk, SparesGarbageList, to_look_at, HasFewCollected, GivesUpIn, RunsFrame}
 use Rattle.cg_collect.specs.Answers.{CollectSteps}
 
 -- a collection with these facts, at a phase, which gives up this first; whether its last step detected is seen in no answer
@@ -121,30 +122,32 @@ ComesNearer old phase release new phase_now release_now =
 abbrev pub TurnFalls : Store → Phase → Store → Turn → Type 0
 TurnFalls old phase new turn = turn.answer ≡ answer_of.Continue → ComesNearer old phase None new turn.phase turn.release
 
--- A frame is handed out in a phase for it, and a death in none: what is given up hands those out. The turn that ends a
--- collection is told by `TurnEnds`.
-abbrev pub HandsOutIn : CollectStep → Phase → Option Release → Type 0
-HandsOutIn (answer_of.Frame spec) phase release = RunsFrame phase release × SparesGarbageList phase
-HandsOutIn (answer_of.Died o) phase release = ⊥
-HandsOutIn (answer_of.Finished collected set_aside) phase release = ⊥
-HandsOutIn answer phase release = Unit {0}
-
--- What a turn leaves: the number of collected objects is small as before, and what is given up or handed out is so in a phase
--- for it. No earlier pass follows.
-pub record TurnLeaves (old : Store) (phase : Phase) (new : Store) (turn : Turn) : Type 0 where
-  pub few : (n : ℕ) → HasFewCollected n phase old → HasFewCollected (n + turn.collected) turn.phase new
-  pub gives_up : GivesUpIn turn.phase turn.release
-  pub hands_out : HandsOutIn turn.answer turn.phase turn.release
-  pub begun : IsBegun turn.phase
-  pub onward : pass_of phase + passes_on phase ≤ pass_of turn.phase
-
--- A turn of a collection that is over leaves it so, and answers with both numbers.
-pub record TurnEnds (c : Collection) (turn : Turn) : Type 0 where
-  pub number : ℕ
-  pub over : c.phase ≡ phase_of.Over number
-  pub is : turn ≡ record { phase = phase_of.Over number; release = None; collected = 0; answer = answer_of.Finished c.collected number }
+-- A frame is handed out in a phase for it, and a death in none: what is given up hands those out. A collection ends where it
+-- is over, and stays there, with both numbers.
+abbrev pub HandsOutIn : Facts → Phase → CollectStep → Phase → Option Release → Type 0
+HandsOutIn facts phase (answer_of.Frame spec) next release = RunsFrame next release × SparesGarbageList next
+HandsOutIn facts phase (answer_of.Died o) next release = ⊥
+HandsOutIn facts phase (answer_of.Finished collected set_aside) next release = (phase ≡ phase_of.Over set_aside) × (next ≡ phase_of.Over set_aside) × (facts.collected ≡ collected)
+HandsOutIn facts phase answer next release = Unit {0}
 
 -- No object is made, no name gets another value, and no serial is given.
 pub record KeepsObjects (old new : Store) : Type 0 where
   pub objects : MakesNone old new
   pub names : KeepsNames old new
+
+-- A collection takes a turn: what its phase does to heap and policy, and what it leaves and answers.
+pub record TakesTurn (script : Script) (facts : Facts) (phase : Phase) (old : Store) (was : Policy) (new : Store) (now : Policy) (turn : Turn) : Type 0 where
+  -- in every world that heap and policy stood for the machine does so
+  pub steps : TurnSteps script facts phase old was new now turn
+  -- what the next step needs: the number of collected objects is small as before, and what is given up is so in a phase for it
+  pub ready : StaysReady new facts.generation turn.phase turn.answer
+  pub walk : HasItsWalk (profile_of script.items) new turn.phase
+  pub few : (n : ℕ) → HasFewCollected n phase old → HasFewCollected (n + turn.collected) turn.phase new
+  pub gives_up : GivesUpIn turn.phase turn.release
+  -- what is handed out
+  pub hands_out : HandsOutIn facts phase turn.answer turn.phase turn.release
+  -- no earlier pass follows, and the end comes nearer
+  pub onward : pass_of phase + passes_on phase ≤ pass_of turn.phase
+  pub falls : TurnFalls old phase new turn
+  -- what stays
+  pub keeps : KeepsObjects old new

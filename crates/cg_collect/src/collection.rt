@@ -14,7 +14,7 @@ ghost use Rattle.cg_collect.specs.declared.answer.CollectStep.TheVariants as ans
 ghost use Rattle.cg_collect.specs.declared.phase.Phase.TheVariants as phase_of;
 ghost use Rattle.cg_collect.specs.Numbers.{AreSmall};
 ghost use Rattle.cg_collect.specs.Ready.{IsClear, IsReadyForCollectionAt, HasItsWalk, IsBegun};
-ghost use Rattle.cg_collect.specs.Turns.{pass_of, passes_on, TurnSteps, TurnFalls, TurnLeaves, TurnEnds, StaysReady, KeepsObjects};
+ghost use Rattle.cg_collect.specs.Turns.{pass_of, passes_on, TakesTurn};
 ghost use Rattle.cg_collect.specs.Looks.{most_looks};
 ghost use Rattle.cg_collect.specs.Answers.{CollectSteps, CollectionShows};
 ghost use Rattle.cg_collect.specs.Stages.{stage_of, detection_at, LeavesStage};
@@ -189,13 +189,8 @@ impl Collection {
         requires few { HasFewHolds heap.old }
         requires held { HasHolds heap.old (own_holds_at self.now.phase) }
         requires bounded { AreSmall policy.old.numbers }
-        ensures steps { TurnSteps script.now (facts_of self.now) self.now.phase heap.old policy.old heap.new policy.new result }
-        ensures ready { StaysReady heap.new self.now.generation result.phase result.answer }
-        ensures walk { HasItsWalk (profile_of script.now.items) heap.new result.phase }
-        ensures falls { TurnFalls heap.old self.now.phase heap.new result }
-        ensures leaves { TurnLeaves heap.old self.now.phase heap.new result ⊎ TurnEnds self.now result }
+        ensures takes { TakesTurn script.now (facts_of self.now) self.now.phase heap.old policy.old heap.new policy.new result }
         ensures stops { (set_aside : ℕ) → self.now.phase ≡ phase_of.Stopping set_aside → result ≡ stop_turn (facts_of self.now) set_aside }
-        ensures keeps { KeepsObjects heap.old heap.new }
         ensures looks { steps.new ≤ steps.old + most_looks self.now.generation self.now.phase heap.old }
         ensures apart { self.now.phase ≡ phase_of.Start → detection_at result.phase ≡ None }
     {

@@ -10,7 +10,7 @@ ghost use Rattle.cg_policy.specs.Policy.{Policy as Standing};
 ghost use Rattle.cg_collect.specs.declared.collection.Facts.{Facts as AnyFacts};
 ghost use Rattle.cg_collect.specs.declared.phase.Phase.TheVariants as phase_of;
 ghost use Rattle.cg_collect.specs.Ready.{IsReadyForCollectionAt};
-ghost use Rattle.cg_collect.specs.Turns.{TurnSteps, TurnFalls, TurnLeaves, StaysReady, KeepsObjects};
+ghost use Rattle.cg_collect.specs.Turns.{TakesTurn};
 ghost use Rattle.cg_collect.specs.Looks.{most_looks};
 
 use crate::answer::CollectStep;
@@ -27,11 +27,7 @@ use std::sync::ledger::Ledger;
 pub fn detect<B: Kind, L: Ledger>(facts: Facts, heap: &mut Heap<B>, steps: &mut Steps<L>) -> Turn
     requires generation { facts.generation ≤ 2 }
     requires ready { IsReadyForCollectionAt heap.old facts.generation phase_of.Split }
-    ensures steps { (script : AnyScript) (policy : Standing) → TurnSteps script facts phase_of.Split heap.old policy heap.new policy result }
-    ensures ready { StaysReady heap.new facts.generation result.phase result.answer }
-    ensures falls { TurnFalls heap.old phase_of.Split heap.new result }
-    ensures leaves { TurnLeaves heap.old phase_of.Split heap.new result }
-    ensures keeps { KeepsObjects heap.old heap.new }
+    ensures takes { (script : AnyScript) (policy : Standing) → TakesTurn script facts phase_of.Split heap.old policy heap.new policy result }
     ensures looks { steps.new ≤ steps.old + most_looks facts.generation phase_of.Split heap.old }
 {
     heap.sound();
@@ -51,10 +47,7 @@ pub fn detect<B: Kind, L: Ledger>(facts: Facts, heap: &mut Heap<B>, steps: &mut 
 pub fn tell_living<B: Kind>(facts: Facts, heap: &Heap<B>, next: Option<u64>) -> Turn
     requires generation { facts.generation ≤ 2 }
     requires ready { IsReadyForCollectionAt heap.now facts.generation (phase_of.Living next) }
-    ensures steps { (script : AnyScript) (policy : Standing) → TurnSteps script facts (phase_of.Living next) heap.now policy heap.now policy result }
-    ensures ready { StaysReady heap.now facts.generation result.phase result.answer }
-    ensures falls { TurnFalls heap.now (phase_of.Living next) heap.now result }
-    ensures leaves { TurnLeaves heap.now (phase_of.Living next) heap.now result }
+    ensures { (script : AnyScript) (policy : Standing) → TakesTurn script facts (phase_of.Living next) heap.now policy heap.now policy result }
 {
     heap.sound();
     match next {
@@ -67,11 +60,7 @@ pub fn tell_living<B: Kind>(facts: Facts, heap: &Heap<B>, next: Option<u64>) -> 
 /// the next member follow. When none to a member is left, members lose their own referents.
 pub fn detach_one<B: Kind>(heap: &mut Heap<B>, next: Option<u64>) -> Turn
     requires ready { IsReadyForCollectionAt heap.old 0 (phase_of.Detaching next) }
-    ensures steps { (script : AnyScript) (facts : AnyFacts) (policy : Standing) → TurnSteps script facts (phase_of.Detaching next) heap.old policy heap.new policy result }
-    ensures ready { (g : ℕ) → StaysReady heap.new g result.phase result.answer }
-    ensures falls { TurnFalls heap.old (phase_of.Detaching next) heap.new result }
-    ensures leaves { TurnLeaves heap.old (phase_of.Detaching next) heap.new result }
-    ensures keeps { KeepsObjects heap.old heap.new }
+    ensures { (script : AnyScript) (facts : AnyFacts) (policy : Standing) → TakesTurn script facts (phase_of.Detaching next) heap.old policy heap.new policy result }
 {
     let Some(object) = next else {
         return Turn::to(Phase::Unlinking {
@@ -95,11 +84,7 @@ pub fn detach_one<B: Kind>(heap: &mut Heap<B>, next: Option<u64>) -> Turn
 /// them lose it. So each list is gone through once.
 pub fn unlink_one<B: Kind>(heap: &mut Heap<B>, member: Option<u64>, weak: Option<u64>) -> Turn
     requires ready { IsReadyForCollectionAt heap.old 0 (phase_of.Unlinking member weak) }
-    ensures steps { (script : AnyScript) (facts : AnyFacts) (policy : Standing) → TurnSteps script facts (phase_of.Unlinking member weak) heap.old policy heap.new policy result }
-    ensures ready { (g : ℕ) → StaysReady heap.new g result.phase result.answer }
-    ensures falls { TurnFalls heap.old (phase_of.Unlinking member weak) heap.new result }
-    ensures leaves { TurnLeaves heap.old (phase_of.Unlinking member weak) heap.new result }
-    ensures keeps { KeepsObjects heap.old heap.new }
+    ensures { (script : AnyScript) (facts : AnyFacts) (policy : Standing) → TakesTurn script facts (phase_of.Unlinking member weak) heap.old policy heap.new policy result }
 {
     match weak {
         Some(weak) => look_at(heap, member, weak),
@@ -110,11 +95,7 @@ pub fn unlink_one<B: Kind>(heap: &mut Heap<B>, member: Option<u64>, weak: Option
 /// A weak reference that is a member loses its referent, without callback.
 fn look_at<B: Kind>(heap: &mut Heap<B>, member: Option<u64>, weak: u64) -> Turn
     requires ready { IsReadyForCollectionAt heap.old 0 (phase_of.Unlinking member (Some weak)) }
-    ensures steps { (script : AnyScript) (facts : AnyFacts) (policy : Standing) → TurnSteps script facts (phase_of.Unlinking member (Some weak)) heap.old policy heap.new policy result }
-    ensures ready { (g : ℕ) → StaysReady heap.new g result.phase result.answer }
-    ensures falls { TurnFalls heap.old (phase_of.Unlinking member (Some weak)) heap.new result }
-    ensures leaves { TurnLeaves heap.old (phase_of.Unlinking member (Some weak)) heap.new result }
-    ensures keeps { KeepsObjects heap.old heap.new }
+    ensures { (script : AnyScript) (facts : AnyFacts) (policy : Standing) → TakesTurn script facts (phase_of.Unlinking member (Some weak)) heap.old policy heap.new policy result }
 {
     heap.sound();
     let phase = Phase::Unlinking {
@@ -144,11 +125,7 @@ fn is_member<B: Kind>(heap: &Heap<B>, object: u64) -> bool
 /// The weak references to the referent of the next member are looked at; when all members were, they have their turns.
 fn next_member<B: Kind>(heap: &mut Heap<B>, member: Option<u64>) -> Turn
     requires ready { IsReadyForCollectionAt heap.old 0 (phase_of.Unlinking member None) }
-    ensures steps { (script : AnyScript) (facts : AnyFacts) (policy : Standing) → TurnSteps script facts (phase_of.Unlinking member None) heap.old policy heap.new policy result }
-    ensures ready { (g : ℕ) → StaysReady heap.new g result.phase result.answer }
-    ensures falls { TurnFalls heap.old (phase_of.Unlinking member None) heap.new result }
-    ensures leaves { TurnLeaves heap.old (phase_of.Unlinking member None) heap.new result }
-    ensures keeps { KeepsObjects heap.old heap.new }
+    ensures { (script : AnyScript) (facts : AnyFacts) (policy : Standing) → TakesTurn script facts (phase_of.Unlinking member None) heap.old policy heap.new policy result }
 {
     heap.sound();
     match member {

@@ -6,11 +6,10 @@ ghost use Rattle.cg_policy.specs.Flagset.{bits_of};
 ghost use Rattle.cg_graph.specs.Store.{Store, IsLive};
 ghost use Rattle.cg_collect.specs.Phases.{is_saved_at};
 ghost use Rattle.cg_collect.specs.Saving.{with_saved, kept_aside};
-ghost use Rattle.cg_collect.specs.declared.collection.Facts.{Facts as AnyFacts};
 ghost use Rattle.cg_collect.specs.declared.phase.Phase.TheVariants as phase_of;
 ghost use Rattle.cg_collect.specs.Collections.{stop_turn};
 ghost use Rattle.cg_collect.specs.Ready.{IsReadyForCollectionAt};
-ghost use Rattle.cg_collect.specs.Turns.{TurnSteps, TurnFalls, TurnLeaves, StaysReady, KeepsObjects};
+ghost use Rattle.cg_collect.specs.Turns.{TakesTurn};
 
 use crate::collection::Facts;
 use crate::phase::{Phase, Turn, older};
@@ -27,11 +26,7 @@ use cg_value::Place;
 pub fn end<B: Kind>(facts: Facts, heap: &mut Heap<B>, policy: &mut Policy, script: &Script) -> Turn
     requires generation { facts.generation ≤ 2 }
     requires ready { IsReadyForCollectionAt heap.old facts.generation phase_of.Ending }
-    ensures steps { TurnSteps script.now facts phase_of.Ending heap.old policy.old heap.new policy.new result }
-    ensures ready { StaysReady heap.new facts.generation result.phase result.answer }
-    ensures falls { TurnFalls heap.old phase_of.Ending heap.new result }
-    ensures leaves { TurnLeaves heap.old phase_of.Ending heap.new result }
-    ensures keeps { KeepsObjects heap.old heap.new }
+    ensures { TakesTurn script.now facts phase_of.Ending heap.old policy.old heap.new policy.new result }
 {
     heap.sound();
     let number = heap.size(Place::Legacy);
@@ -91,10 +86,7 @@ pub fn tell_uncollectable<B: Kind>(
 ) -> Turn
     requires generation { facts.generation ≤ 2 }
     requires ready { IsReadyForCollectionAt heap.now facts.generation (phase_of.Uncollectable first next number) }
-    ensures steps { (script : AnyScript) (policy : Standing) → TurnSteps script facts (phase_of.Uncollectable first next number) heap.now policy heap.now policy result }
-    ensures ready { StaysReady heap.now facts.generation result.phase result.answer }
-    ensures falls { TurnFalls heap.now (phase_of.Uncollectable first next number) heap.now result }
-    ensures leaves { TurnLeaves heap.now (phase_of.Uncollectable first next number) heap.now result }
+    ensures { (script : AnyScript) (policy : Standing) → TakesTurn script facts (phase_of.Uncollectable first next number) heap.now policy heap.now policy result }
 {
     heap.sound();
     match next {
@@ -123,10 +115,7 @@ pub fn tell_saved<B: Kind>(
 ) -> Turn
     requires generation { facts.generation ≤ 2 }
     requires ready { IsReadyForCollectionAt heap.now facts.generation (phase_of.Saved next number) }
-    ensures steps { (policy : Standing) → TurnSteps script.now facts (phase_of.Saved next number) heap.now policy heap.now policy result }
-    ensures ready { StaysReady heap.now facts.generation result.phase result.answer }
-    ensures falls { TurnFalls heap.now (phase_of.Saved next number) heap.now result }
-    ensures leaves { TurnLeaves heap.now (phase_of.Saved next number) heap.now result }
+    ensures { (policy : Standing) → TakesTurn script.now facts (phase_of.Saved next number) heap.now policy heap.now policy result }
 {
     let Some(object) = next else {
         return Turn::to(Phase::Stopping(number));
@@ -145,10 +134,7 @@ pub fn tell_saved<B: Kind>(
 
 /// Tells the end, with both numbers.
 pub fn tell_end(facts: Facts, number: u64) -> Turn
-    ensures steps { (script : AnyScript) (store : Store) (policy : Standing) → TurnSteps script facts (phase_of.Stopping number) store policy store policy result }
-    ensures ready { (store : Store) (g : ℕ) → StaysReady store g result.phase result.answer }
-    ensures falls { (store : Store) → TurnFalls store (phase_of.Stopping number) store result }
-    ensures leaves { (store : Store) → TurnLeaves store (phase_of.Stopping number) store result }
+    ensures takes { (script : AnyScript) (store : Store) (policy : Standing) → TakesTurn script facts (phase_of.Stopping number) store policy store policy result }
     ensures stops { result ≡ stop_turn facts number }
 {
     let event = Event::GcStop {

@@ -12,7 +12,7 @@ ghost use Rattle.cg_collect.specs.declared.answer.CollectStep.TheVariants as ans
 ghost use Rattle.cg_collect.specs.declared.collection.Facts.{Facts as AnyFacts};
 ghost use Rattle.cg_collect.specs.declared.phase.Phase.TheVariants as phase_of;
 ghost use Rattle.cg_collect.specs.Ready.{IsReadyForCollectionAt};
-ghost use Rattle.cg_collect.specs.Turns.{TurnSteps, TurnFalls, TurnLeaves, StaysReady, KeepsObjects};
+ghost use Rattle.cg_collect.specs.Turns.{TakesTurn};
 
 use crate::phase::{Phase, Turn};
 use cg_death::{Release, finalizer_frame, finalizer_to_run};
@@ -26,11 +26,7 @@ use cg_value::Place;
 pub fn look_at_one<B: Kind>(heap: &mut Heap<B>, script: &Script) -> Turn
     requires ready { IsReadyForCollectionAt heap.old 0 phase_of.Finalizing }
     requires few { HasFewHolds heap.old }
-    ensures steps { (facts : AnyFacts) (policy : Standing) → TurnSteps script.now facts phase_of.Finalizing heap.old policy heap.new policy result }
-    ensures ready { (g : ℕ) → StaysReady heap.new g result.phase result.answer }
-    ensures falls { TurnFalls heap.old phase_of.Finalizing heap.new result }
-    ensures leaves { TurnLeaves heap.old phase_of.Finalizing heap.new result }
-    ensures keeps { KeepsObjects heap.old heap.new }
+    ensures { (facts : AnyFacts) (policy : Standing) → TakesTurn script.now facts phase_of.Finalizing heap.old policy heap.new policy result }
 {
     heap.sound();
     match heap.first(Place::Cand) {
@@ -47,11 +43,7 @@ fn look_at<B: Kind>(heap: &mut Heap<B>, script: &Script, object: u64) -> Turn
     requires ready { IsReadyForCollectionAt heap.old 0 phase_of.Finalizing }
     requires few { HasFewHolds heap.old }
     requires first { slice_get (list_at heap.old place_of.Cand) 0 ≡ Some object }
-    ensures steps { (facts : AnyFacts) (policy : Standing) → TurnSteps script.now facts phase_of.Finalizing heap.old policy heap.new policy result }
-    ensures ready { (g : ℕ) → StaysReady heap.new g result.phase result.answer }
-    ensures falls { TurnFalls heap.old phase_of.Finalizing heap.new result }
-    ensures leaves { TurnLeaves heap.old phase_of.Finalizing heap.new result }
-    ensures keeps { KeepsObjects heap.old heap.new }
+    ensures { (facts : AnyFacts) (policy : Standing) → TakesTurn script.now facts phase_of.Finalizing heap.old policy heap.new policy result }
 {
     heap.sound();
     match finalizer_to_run(heap, script, object) {
@@ -84,10 +76,8 @@ fn run<B: Kind>(heap: &mut Heap<B>, object: u64, proc: u32) -> Turn
 
 /// The frame of a finalizer has ended: the object is given up.
 pub fn after_finalizer(object: u64) -> Turn
-    ensures steps { (script : AnyScript) (facts : AnyFacts) (store : Store) (policy : Standing) → TurnSteps script facts (phase_of.AfterFinalizing object) store policy store policy result }
-    ensures ready { (store : Store) (g : ℕ) → IsReadyForCollectionAt store g (phase_of.AfterFinalizing object) → StaysReady store g result.phase result.answer }
-    ensures falls { (store : Store) → TurnFalls store (phase_of.AfterFinalizing object) store result }
-    ensures leaves { (store : Store) → TurnLeaves store (phase_of.AfterFinalizing object) store result }
+    ensures { (script : AnyScript) (facts : AnyFacts) (store : Store) (policy : Standing) → IsReadyForCollectionAt store facts.generation (phase_of.AfterFinalizing object)
+        → TakesTurn script facts (phase_of.AfterFinalizing object) store policy store policy result }
 {
     Turn::gives_up(Release::of(object), Phase::Finalizing)
 }

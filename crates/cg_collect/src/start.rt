@@ -8,9 +8,9 @@ ghost use Rattle.cg_heap.specs.Calls.{HasFewHolds};
 ghost use Rattle.cg_collect.specs.Numbers.{AreSmall};
 ghost use Rattle.cg_collect.specs.declared.collection.Facts.{Facts as AnyFacts};
 ghost use Rattle.cg_collect.specs.declared.phase.Phase.TheVariants as phase_of;
-ghost use Rattle.cg_collect.specs.Ready.{IsReadyForCollectionAt, HasItsWalk};
+ghost use Rattle.cg_collect.specs.Ready.{IsReadyForCollectionAt};
 ghost use Rattle.cg_collect.specs.Starting.{MergesYounger, GetOlder, told_sizes, told_weak, told_after_sizes};
-ghost use Rattle.cg_collect.specs.Turns.{TurnSteps, TurnFalls, TurnLeaves, StaysReady, KeepsObjects};
+ghost use Rattle.cg_collect.specs.Turns.{TakesTurn};
 ghost use Rattle.cg_collect.specs.Looks.{most_looks};
 ghost use Rattle.cg_collect.specs.Stages.{detection_at};
 
@@ -42,12 +42,7 @@ pub fn start<B: Kind, L: Ledger>(
     requires ready { IsReadyForCollectionAt heap.old facts.generation phase_of.Start }
     requires few { HasFewHolds heap.old }
     requires bounded { AreSmall policy.old.numbers }
-    ensures steps { TurnSteps script.now facts phase_of.Start heap.old policy.old heap.new policy.new result }
-    ensures ready { StaysReady heap.new facts.generation result.phase result.answer }
-    ensures walk { (profile : ℕ) → HasItsWalk profile heap.new result.phase }
-    ensures falls { TurnFalls heap.old phase_of.Start heap.new result }
-    ensures leaves { TurnLeaves heap.old phase_of.Start heap.new result }
-    ensures keeps { KeepsObjects heap.old heap.new }
+    ensures takes { TakesTurn script.now facts phase_of.Start heap.old policy.old heap.new policy.new result }
     ensures looks { steps.new ≤ steps.old + most_looks facts.generation phase_of.Start heap.old }
     ensures apart { detection_at result.phase ≡ None }
 {
@@ -153,11 +148,7 @@ pub fn tell_sizes<B: Kind>(
 ) -> Turn
     requires generation { facts.generation ≤ 2 }
     requires ready { IsReadyForCollectionAt heap.now facts.generation (phase_of.Sizes zero one two frozen) }
-    ensures steps { (script : AnyScript) (policy : Standing) → TurnSteps script facts (phase_of.Sizes zero one two frozen) heap.now policy heap.now policy result }
-    ensures ready { StaysReady heap.now facts.generation result.phase result.answer }
-    ensures walk { (profile : ℕ) → HasItsWalk profile heap.now result.phase }
-    ensures falls { TurnFalls heap.now (phase_of.Sizes zero one two frozen) heap.now result }
-    ensures leaves { TurnLeaves heap.now (phase_of.Sizes zero one two frozen) heap.now result }
+    ensures { (script : AnyScript) (policy : Standing) → TakesTurn script facts (phase_of.Sizes zero one two frozen) heap.now policy heap.now policy result }
 {
     heap.sound();
     let event = Event::Gens {
@@ -172,11 +163,7 @@ pub fn tell_sizes<B: Kind>(
 /// Tells the next condemned object.
 pub fn tell_condemned<B: Kind>(heap: &Heap<B>, next: Option<u64>) -> Turn
     requires ready { IsReadyForCollectionAt heap.now 0 (phase_of.Telling next) }
-    ensures steps { (script : AnyScript) (facts : AnyFacts) (policy : Standing) → TurnSteps script facts (phase_of.Telling next) heap.now policy heap.now policy result }
-    ensures ready { (g : ℕ) → StaysReady heap.now g result.phase result.answer }
-    ensures walk { (profile : ℕ) → HasItsWalk profile heap.now result.phase }
-    ensures falls { TurnFalls heap.now (phase_of.Telling next) heap.now result }
-    ensures leaves { TurnLeaves heap.now (phase_of.Telling next) heap.now result }
+    ensures { (script : AnyScript) (facts : AnyFacts) (policy : Standing) → TakesTurn script facts (phase_of.Telling next) heap.now policy heap.now policy result }
 {
     heap.sound();
     match next {

@@ -9,7 +9,7 @@ ghost use Rattle.cg_heap.specs.Calls.{HasFewHolds};
 ghost use Rattle.cg_collect.specs.declared.collection.Facts.{Facts as AnyFacts};
 ghost use Rattle.cg_collect.specs.declared.phase.Phase.TheVariants as phase_of;
 ghost use Rattle.cg_collect.specs.Ready.{IsReadyForCollectionAt};
-ghost use Rattle.cg_collect.specs.Turns.{TurnSteps, TurnFalls, TurnLeaves, StaysReady, KeepsObjects};
+ghost use Rattle.cg_collect.specs.Turns.{TakesTurn};
 
 use crate::collection::Facts;
 use crate::phase::{Phase, Turn, older};
@@ -26,11 +26,7 @@ pub fn take_turn<B: Kind>(facts: Facts, heap: &mut Heap<B>) -> Turn
     requires generation { facts.generation ≤ 2 }
     requires ready { IsReadyForCollectionAt heap.old facts.generation phase_of.Turns }
     requires few { HasFewHolds heap.old }
-    ensures steps { (script : AnyScript) (policy : Standing) → TurnSteps script facts phase_of.Turns heap.old policy heap.new policy result }
-    ensures ready { StaysReady heap.new facts.generation result.phase result.answer }
-    ensures falls { TurnFalls heap.old phase_of.Turns heap.new result }
-    ensures leaves { TurnLeaves heap.old phase_of.Turns heap.new result }
-    ensures keeps { KeepsObjects heap.old heap.new }
+    ensures { (script : AnyScript) (policy : Standing) → TakesTurn script facts phase_of.Turns heap.old policy heap.new policy result }
 {
     heap.sound();
     match heap.first(Place::Cand) {
@@ -45,11 +41,7 @@ fn begin_turn<B: Kind>(facts: Facts, heap: &mut Heap<B>, object: u64) -> Turn
     requires ready { IsReadyForCollectionAt heap.old facts.generation phase_of.Turns }
     requires few { HasFewHolds heap.old }
     requires first { slice_get (list_at heap.old place_of.Cand) 0 ≡ Some object }
-    ensures steps { (script : AnyScript) (policy : Standing) → TurnSteps script facts phase_of.Turns heap.old policy heap.new policy result }
-    ensures ready { StaysReady heap.new facts.generation result.phase result.answer }
-    ensures falls { TurnFalls heap.old phase_of.Turns heap.new result }
-    ensures leaves { TurnLeaves heap.old phase_of.Turns heap.new result }
-    ensures keeps { KeepsObjects heap.old heap.new }
+    ensures { (script : AnyScript) (policy : Standing) → TakesTurn script facts phase_of.Turns heap.old policy heap.new policy result }
 {
     heap.sound();
     if facts.flags.intersects(Flagset::SAVEALL) {
@@ -75,11 +67,7 @@ pub fn empty_one<B: Kind>(heap: &mut Heap<B>, object: u64) -> Turn
     requires ready { IsReadyForCollectionAt heap.old 0 (phase_of.Turn object) }
     requires few { HasFewHolds heap.old }
     requires held { 0 < outside_of heap.old object }
-    ensures steps { (script : AnyScript) (facts : AnyFacts) (policy : Standing) → TurnSteps script facts (phase_of.Turn object) heap.old policy heap.new policy result }
-    ensures ready { (g : ℕ) → StaysReady heap.new g result.phase result.answer }
-    ensures falls { TurnFalls heap.old (phase_of.Turn object) heap.new result }
-    ensures leaves { TurnLeaves heap.old (phase_of.Turn object) heap.new result }
-    ensures keeps { KeepsObjects heap.old heap.new }
+    ensures { (script : AnyScript) (facts : AnyFacts) (policy : Standing) → TakesTurn script facts (phase_of.Turn object) heap.old policy heap.new policy result }
 {
     heap.sound();
     match heap.detach(object) {
@@ -92,11 +80,7 @@ pub fn empty_one<B: Kind>(heap: &mut Heap<B>, object: u64) -> Turn
 pub fn after_turn<B: Kind>(facts: Facts, heap: &mut Heap<B>, object: u64) -> Turn
     requires generation { facts.generation ≤ 2 }
     requires ready { IsReadyForCollectionAt heap.old facts.generation (phase_of.AfterTurn object) }
-    ensures steps { (script : AnyScript) (policy : Standing) → TurnSteps script facts (phase_of.AfterTurn object) heap.old policy heap.new policy result }
-    ensures ready { StaysReady heap.new facts.generation result.phase result.answer }
-    ensures falls { TurnFalls heap.old (phase_of.AfterTurn object) heap.new result }
-    ensures leaves { TurnLeaves heap.old (phase_of.AfterTurn object) heap.new result }
-    ensures keeps { KeepsObjects heap.old heap.new }
+    ensures { (script : AnyScript) (policy : Standing) → TakesTurn script facts (phase_of.AfterTurn object) heap.old policy heap.new policy result }
 {
     heap.sound();
     if !heap.has(object) {

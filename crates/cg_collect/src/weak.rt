@@ -16,8 +16,8 @@ ghost use Rattle.cg_machine.specs.Program.{profile_of};
 ghost use Rattle.cg_machine.specs.Collect.{is_condemned_in, waits};
 ghost use Rattle.cg_collect.specs.declared.collection.Facts.{Facts as AnyFacts};
 ghost use Rattle.cg_collect.specs.declared.phase.Phase.TheVariants as phase_of;
-ghost use Rattle.cg_collect.specs.Ready.{IsReadyForCollectionAt, IsWalk, HasItsWalk, loses_at, looked_at_for};
-ghost use Rattle.cg_collect.specs.Turns.{TurnSteps, TurnFalls, TurnLeaves, StaysReady, KeepsObjects};
+ghost use Rattle.cg_collect.specs.Ready.{IsReadyForCollectionAt, IsWalk, loses_at, looked_at_for};
+ghost use Rattle.cg_collect.specs.Turns.{TakesTurn};
 
 use crate::answer::CollectStep;
 use crate::collection::Facts;
@@ -41,12 +41,7 @@ pub fn clear_one<B: Kind>(
     requires ready { IsReadyForCollectionAt heap.old 0 (phase_of.WeakClearing member weak) }
     requires walk { IsWalk profile heap.old member weak }
     requires few { HasFewHolds heap.old }
-    ensures steps { (script : AnyScript) → profile_of script.items ≡ profile → (facts : AnyFacts) (policy : Standing) → TurnSteps script facts (phase_of.WeakClearing member weak) heap.old policy heap.new policy result }
-    ensures ready { (g : ℕ) → StaysReady heap.new g result.phase result.answer }
-    ensures walk { HasItsWalk profile heap.new result.phase }
-    ensures falls { TurnFalls heap.old (phase_of.WeakClearing member weak) heap.new result }
-    ensures leaves { TurnLeaves heap.old (phase_of.WeakClearing member weak) heap.new result }
-    ensures keeps { KeepsObjects heap.old heap.new }
+    ensures { (script : AnyScript) → profile_of script.items ≡ profile → (facts : AnyFacts) (policy : Standing) → TakesTurn script facts (phase_of.WeakClearing member weak) heap.old policy heap.new policy result }
 {
     match weak {
         Some(weak) => look_at(heap, profile, member, weak),
@@ -59,12 +54,7 @@ fn look_at<B: Kind>(heap: &mut Heap<B>, profile: u8, member: Option<u64>, weak: 
     requires ready { IsReadyForCollectionAt heap.old 0 (phase_of.WeakClearing member (Some weak)) }
     requires walk { IsWalk profile heap.old member (Some weak) }
     requires few { HasFewHolds heap.old }
-    ensures steps { (script : AnyScript) → profile_of script.items ≡ profile → (facts : AnyFacts) (policy : Standing) → TurnSteps script facts (phase_of.WeakClearing member (Some weak)) heap.old policy heap.new policy result }
-    ensures ready { (g : ℕ) → StaysReady heap.new g result.phase result.answer }
-    ensures walk { HasItsWalk profile heap.new result.phase }
-    ensures falls { TurnFalls heap.old (phase_of.WeakClearing member (Some weak)) heap.new result }
-    ensures leaves { TurnLeaves heap.old (phase_of.WeakClearing member (Some weak)) heap.new result }
-    ensures keeps { KeepsObjects heap.old heap.new }
+    ensures { (script : AnyScript) → profile_of script.items ≡ profile → (facts : AnyFacts) (policy : Standing) → TakesTurn script facts (phase_of.WeakClearing member (Some weak)) heap.old policy heap.new policy result }
 {
     heap.sound();
     let phase = Phase::WeakClearing {
@@ -145,12 +135,7 @@ fn waits<B: Kind>(heap: &Heap<B>, weak: u64) -> bool
 fn next_member<B: Kind>(heap: &mut Heap<B>, profile: u8, member: Option<u64>) -> Turn
     requires ready { IsReadyForCollectionAt heap.old 0 (phase_of.WeakClearing member None) }
     requires walk { IsWalk profile heap.old member None }
-    ensures steps { (script : AnyScript) → profile_of script.items ≡ profile → (facts : AnyFacts) (policy : Standing) → TurnSteps script facts (phase_of.WeakClearing member None) heap.old policy heap.new policy result }
-    ensures ready { (g : ℕ) → StaysReady heap.new g result.phase result.answer }
-    ensures walk { HasItsWalk profile heap.new result.phase }
-    ensures falls { TurnFalls heap.old (phase_of.WeakClearing member None) heap.new result }
-    ensures leaves { TurnLeaves heap.old (phase_of.WeakClearing member None) heap.new result }
-    ensures keeps { KeepsObjects heap.old heap.new }
+    ensures { (script : AnyScript) → profile_of script.items ≡ profile → (facts : AnyFacts) (policy : Standing) → TakesTurn script facts (phase_of.WeakClearing member None) heap.old policy heap.new policy result }
 {
     heap.sound();
     match member {
@@ -177,11 +162,7 @@ fn first_to_look_at<B: Kind>(heap: &Heap<B>, profile: u8, object: u64) -> Option
 /// The first of those that wait has its callback called; when none is left, the finalizers follow.
 pub fn call_one<B: Kind>(heap: &mut Heap<B>) -> Turn
     requires ready { IsReadyForCollectionAt heap.old 0 phase_of.WeakCalling }
-    ensures steps { (script : AnyScript) (facts : AnyFacts) (policy : Standing) → TurnSteps script facts phase_of.WeakCalling heap.old policy heap.new policy result }
-    ensures ready { (g : ℕ) → StaysReady heap.new g result.phase result.answer }
-    ensures falls { TurnFalls heap.old phase_of.WeakCalling heap.new result }
-    ensures leaves { TurnLeaves heap.old phase_of.WeakCalling heap.new result }
-    ensures keeps { KeepsObjects heap.old heap.new }
+    ensures { (script : AnyScript) (facts : AnyFacts) (policy : Standing) → TakesTurn script facts phase_of.WeakCalling heap.old policy heap.new policy result }
 {
     heap.sound();
     match heap.first(Place::Pend) {
@@ -208,11 +189,8 @@ fn frame_of_callback<B: Kind>(heap: &Heap<B>, weak: u64) -> FrameSpec
 
 /// The frame of a callback has ended: the weak reference is given up.
 pub fn after_callback(weak: u64) -> Turn
-    ensures steps { (script : AnyScript) (facts : AnyFacts) (store : Store) (policy : Standing) → IsReadyForCollectionAt store facts.generation (phase_of.AfterCallback weak)
-        → TurnSteps script facts (phase_of.AfterCallback weak) store policy store policy result }
-    ensures ready { (store : Store) (g : ℕ) → IsReadyForCollectionAt store g (phase_of.AfterCallback weak) → StaysReady store g result.phase result.answer }
-    ensures falls { (store : Store) → TurnFalls store (phase_of.AfterCallback weak) store result }
-    ensures leaves { (store : Store) (g : ℕ) → IsReadyForCollectionAt store g (phase_of.AfterCallback weak) → TurnLeaves store (phase_of.AfterCallback weak) store result }
+    ensures { (script : AnyScript) (facts : AnyFacts) (store : Store) (policy : Standing) → IsReadyForCollectionAt store facts.generation (phase_of.AfterCallback weak)
+        → TakesTurn script facts (phase_of.AfterCallback weak) store policy store policy result }
 {
     Turn::gives_up(Release::of(weak), Phase::AfterRelease(weak))
 }
@@ -221,11 +199,7 @@ pub fn after_callback(weak: u64) -> Turn
 pub fn after_release<B: Kind>(facts: Facts, heap: &mut Heap<B>, weak: u64) -> Turn
     requires generation { facts.generation ≤ 2 }
     requires ready { IsReadyForCollectionAt heap.old facts.generation (phase_of.AfterRelease weak) }
-    ensures steps { (script : AnyScript) (policy : Standing) → TurnSteps script facts (phase_of.AfterRelease weak) heap.old policy heap.new policy result }
-    ensures ready { StaysReady heap.new facts.generation result.phase result.answer }
-    ensures falls { TurnFalls heap.old (phase_of.AfterRelease weak) heap.new result }
-    ensures leaves { TurnLeaves heap.old (phase_of.AfterRelease weak) heap.new result }
-    ensures keeps { KeepsObjects heap.old heap.new }
+    ensures { (script : AnyScript) (policy : Standing) → TakesTurn script facts (phase_of.AfterRelease weak) heap.old policy heap.new policy result }
 {
     heap.sound();
     if heap.has(weak) {

@@ -10,7 +10,7 @@ use Rattle.cg_policy.specs.Flagset.{bits_of}
 use Rattle.cg_collect.specs.declared.phase.Turn.{Turn}
 use Rattle.cg_collect.specs.Stages.{detection_at}
 use Rattle.cg_collect.specs.Starting.{told_after_sizes}
-use Rattle.cg_collect.proofs.Begins.{apart_start, still_bounded, turn_start, ready_after, walk_after, leaves_after, keeps_after}
+use Rattle.cg_collect.proofs.Begins.{apart_start, still_bounded, takes_start}
 use Rattle.cg_collect.proofs.start.start.Goals as goal
 
 pub split-requires-clause-back : goal.split-requires-clause-back
@@ -34,8 +34,8 @@ set_legacy_aside-requires g c =
     (splits_off c.args.facts.generation c.merge_younger.new.heap c.split.new.heap c.sound-2.ensures.listed c.split.ensures.listed empty c.split.ensures.unreachable c.split.ensures.reachable c.split.ensures.others c.split.ensures.same)
     c.untrack.ensures c.get_older.ensures c.sound.ensures.listed c.sound-4.ensures.listed c.requires.ready.legacy
 
-pub returns-clause-steps : goal.returns-clause-steps
-returns-clause-steps g c =
+pub returns-clause-takes : goal.returns-clause-takes
+returns-clause-takes g c =
     let empty : list_at c.merge_younger.new.heap Cand ≡ [] =
     empty_merged c.args.facts.generation c.args.heap.now c.merge_younger.new.heap c.merge_younger.ensures c.sound.ensures.listed c.sound-2.ensures.listed Cand (λ e. cc) (λ i e. cc) c.requires.ready.candidates in
     let trace : Trace c.args.script.now c.args.facts.generation c.args.heap.now c.merge_younger.new.heap c.split.new.heap c.untrack.new.heap c.get_older.new.heap c.set_legacy_aside.new.heap = record {
@@ -45,65 +45,9 @@ returns-clause-steps g c =
       gets_older = c.get_older.ensures;
       sets_aside = c.set_legacy_aside.ensures;
     } in
-    turn_start c.args.script.now c.args.facts c.args.heap.now c.merge_younger.new.heap c.split.new.heap c.untrack.new.heap c.get_older.new.heap c.set_legacy_aside.new.heap trace c.sound.ensures.listed c.sound-3.ensures.listed c.sound-5.ensures.listed c.requires.ready
+    takes_start c.args.script.now c.args.facts c.args.heap.now c.merge_younger.new.heap c.split.new.heap c.untrack.new.heap c.get_older.new.heap c.set_legacy_aside.new.heap trace c.sound.ensures.listed c.sound-3.ensures.listed c.sound-5.ensures.listed c.requires.ready
     c.first_phase-next.result c.first_phase-next.ensures c.told_first.result c.told_first.ensures c.tells.result c.tells.ensures
     c.args.policy.now c.survived.new.self c.size-survivors.result c.size-survivors.ensures c.survived.ensures
-
-pub returns-clause-ready : goal.returns-clause-ready
-returns-clause-ready g c =
-    let empty : list_at c.merge_younger.new.heap Cand ≡ [] =
-    empty_merged c.args.facts.generation c.args.heap.now c.merge_younger.new.heap c.merge_younger.ensures c.sound.ensures.listed c.sound-2.ensures.listed Cand (λ e. cc) (λ i e. cc) c.requires.ready.candidates in
-    let trace : Trace c.args.script.now c.args.facts.generation c.args.heap.now c.merge_younger.new.heap c.split.new.heap c.untrack.new.heap c.get_older.new.heap c.set_legacy_aside.new.heap = record {
-      merges = c.merge_younger.ensures;
-      splits = splits_off c.args.facts.generation c.merge_younger.new.heap c.split.new.heap c.sound-2.ensures.listed c.split.ensures.listed empty c.split.ensures.unreachable c.split.ensures.reachable c.split.ensures.others c.split.ensures.same;
-      untracks = c.untrack.ensures;
-      gets_older = c.get_older.ensures;
-      sets_aside = c.set_legacy_aside.ensures;
-    } in
-    ready_after c.args.script.now c.args.facts c.args.heap.now c.merge_younger.new.heap c.split.new.heap c.untrack.new.heap c.get_older.new.heap c.set_legacy_aside.new.heap trace c.sound.ensures.listed c.sound-3.ensures.listed c.sound-5.ensures.listed c.requires.ready
-    c.first_phase-next.result c.first_phase-next.ensures c.told_first.result c.told_first.ensures c.tells.result c.tells.ensures
-
-pub returns-clause-walk : goal.returns-clause-walk
-returns-clause-walk g c =
-    let empty : list_at c.merge_younger.new.heap Cand ≡ [] =
-    empty_merged c.args.facts.generation c.args.heap.now c.merge_younger.new.heap c.merge_younger.ensures c.sound.ensures.listed c.sound-2.ensures.listed Cand (λ e. cc) (λ i e. cc) c.requires.ready.candidates in
-    let trace : Trace c.args.script.now c.args.facts.generation c.args.heap.now c.merge_younger.new.heap c.split.new.heap c.untrack.new.heap c.get_older.new.heap c.set_legacy_aside.new.heap = record {
-      merges = c.merge_younger.ensures;
-      splits = splits_off c.args.facts.generation c.merge_younger.new.heap c.split.new.heap c.sound-2.ensures.listed c.split.ensures.listed empty c.split.ensures.unreachable c.split.ensures.reachable c.split.ensures.others c.split.ensures.same;
-      untracks = c.untrack.ensures;
-      gets_older = c.get_older.ensures;
-      sets_aside = c.set_legacy_aside.ensures;
-    } in
-    walk_after c.args.script.now c.args.facts c.args.heap.now c.merge_younger.new.heap c.split.new.heap c.untrack.new.heap c.get_older.new.heap c.set_legacy_aside.new.heap trace c.sound.ensures.listed c.sound-3.ensures.listed c.sound-5.ensures.listed c.requires.ready
-    c.first_phase-next.result c.first_phase-next.ensures c.told_first.result c.told_first.ensures c.tells.result c.tells.ensures
-
-pub returns-clause-leaves : goal.returns-clause-leaves
-returns-clause-leaves g c =
-    let empty : list_at c.merge_younger.new.heap Cand ≡ [] =
-    empty_merged c.args.facts.generation c.args.heap.now c.merge_younger.new.heap c.merge_younger.ensures c.sound.ensures.listed c.sound-2.ensures.listed Cand (λ e. cc) (λ i e. cc) c.requires.ready.candidates in
-    let trace : Trace c.args.script.now c.args.facts.generation c.args.heap.now c.merge_younger.new.heap c.split.new.heap c.untrack.new.heap c.get_older.new.heap c.set_legacy_aside.new.heap = record {
-      merges = c.merge_younger.ensures;
-      splits = splits_off c.args.facts.generation c.merge_younger.new.heap c.split.new.heap c.sound-2.ensures.listed c.split.ensures.listed empty c.split.ensures.unreachable c.split.ensures.reachable c.split.ensures.others c.split.ensures.same;
-      untracks = c.untrack.ensures;
-      gets_older = c.get_older.ensures;
-      sets_aside = c.set_legacy_aside.ensures;
-    } in
-    leaves_after c.args.script.now c.args.facts c.args.heap.now c.merge_younger.new.heap c.split.new.heap c.untrack.new.heap c.get_older.new.heap c.set_legacy_aside.new.heap trace c.sound.ensures.listed c.sound-3.ensures.listed c.sound-5.ensures.listed c.requires.ready
-    c.first_phase-next.result c.first_phase-next.ensures c.told_first.result c.told_first.ensures c.tells.result c.tells.ensures
-
-pub returns-clause-keeps : goal.returns-clause-keeps
-returns-clause-keeps g c =
-    let empty : list_at c.merge_younger.new.heap Cand ≡ [] =
-    empty_merged c.args.facts.generation c.args.heap.now c.merge_younger.new.heap c.merge_younger.ensures c.sound.ensures.listed c.sound-2.ensures.listed Cand (λ e. cc) (λ i e. cc) c.requires.ready.candidates in
-    let trace : Trace c.args.script.now c.args.facts.generation c.args.heap.now c.merge_younger.new.heap c.split.new.heap c.untrack.new.heap c.get_older.new.heap c.set_legacy_aside.new.heap = record {
-      merges = c.merge_younger.ensures;
-      splits = splits_off c.args.facts.generation c.merge_younger.new.heap c.split.new.heap c.sound-2.ensures.listed c.split.ensures.listed empty c.split.ensures.unreachable c.split.ensures.reachable c.split.ensures.others c.split.ensures.same;
-      untracks = c.untrack.ensures;
-      gets_older = c.get_older.ensures;
-      sets_aside = c.set_legacy_aside.ensures;
-    } in
-    keeps_after c.args.script.now c.args.facts c.args.heap.now c.merge_younger.new.heap c.split.new.heap c.untrack.new.heap c.get_older.new.heap c.set_legacy_aside.new.heap trace c.sound.ensures.listed c.sound-3.ensures.listed c.sound-5.ensures.listed c.requires.ready
-    c.first_phase-next.result c.first_phase-next.ensures c.told_first.result c.told_first.ensures c.tells.result c.tells.ensures
 
 pub returns-clause-looks : goal.returns-clause-looks
 returns-clause-looks g c = omega (arith, c.split.ensures.most, entries-merged c.args.facts.generation c.args.heap.now c.merge_younger.new.heap c.merge_younger.ensures)

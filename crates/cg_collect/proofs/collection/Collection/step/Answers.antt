@@ -1,133 +1,82 @@
-use Rattle.std.proofs.Common.{subst, sym}
-use Rattle.cg_collect.specs.declared.collection.Collection.{Collection}
-use Rattle.cg_collect.proofs.Staging.{also-ready, also-steps}
+use Rattle.std.proofs.Common.{◌+◌, subst, sym, arith}
+use Rattle.std.proofs.lemmas.Grind.{common_steps}
 use Rattle.cg_heap.specs.Calls.{HasFewHolds}
-use Rattle.cg_collect.proofs.GivingUp.{gives_up-steps, gives_up-ready, gives_up-generation, gives_up-begun, gives_up-onward, gives_up-keeps, gives_up-falls, gives_up-detected, gives_up-stage}
-use Rattle.cg_collect.proofs.Stepping.{given_up_held, still_ready, still_held, turned-steps, turned-ready, turned-died, turned-begun, turned-onward, turned-looks, turned-generation, turned-keeps, turned-falls, turned, turned-detected, turned-stage}
+use Rattle.cg_collect.specs.declared.collection.Collection.{Collection}
+use Rattle.cg_collect.proofs.Staging.{TakesStep, also-ready, also-step}
+use Rattle.cg_collect.proofs.GivingUp.{gives_up-step}
+use Rattle.cg_collect.proofs.Stepping.{given_up_held, ready_on, held_on, looks_on, turned}
 use Rattle.cg_collect.proofs.collection.Collection.step.Goals as goal
 
 pub give_up-requires : goal.give_up-requires
 give_up-requires g c = given_up_held (record c.args.self.now { detected = c.detection-self.result }) c.args.heap.now c.requires.held
 
-pub returns-in-Some-clause-steps : goal.returns-in-Some-clause-steps
-returns-in-Some-clause-steps g c =
+-- It gave something up.
+pub returns-in-Some : goal.returns-in-Some
+returns-in-Some g c =
+    let was = c.args.self.now in
+    let now = c.give_up.new.self in
+    let script = c.args.script.now in
+    let s : TakesStep script was c.args.heap.now c.args.policy.now now c.give_up.new.heap c.args.policy.now c.in-Some.answer =
+    also-step c.detection-self.result script was c.args.heap.now c.args.policy.now now c.give_up.new.heap c.args.policy.now c.in-Some.answer
+    (gives_up-step (record was { detected = c.detection-self.result }) c.args.heap.now now c.give_up.new.heap c.in-Some.answer c.requires.ready.gives_up c.in-Some.ensures.some script c.args.policy.now
+    (also-ready c.detection-self.result script was c.args.heap.now c.requires.ready) c.detection-self.ensures) in
+    record {
+      steps = s.steps;
+      ready = s.ready;
+      falls = s.falls;
+      died = s.died;
+      stops = λ set_aside at none. absurd (let had = c.in-Some.ensures.some.had in cc);
+      ends = s.ends;
+      generation = s.generation;
+      begun = s.begun;
+      detected = s.detected;
+      stage = s.stage;
+      onward = s.onward;
+      objects = s.keeps.objects;
+      names = s.keeps.names;
+      looks = omega arith;
+    }
+
+-- Its phase had a turn.
+pub turn-turn-requires : goal.turn-turn-requires
+turn-turn-requires g c =
     let old : Collection = record c.args.self.now { detected = c.detection-self.result } in
-    also-steps c.args.self.now.detected c.give_up.new.self.detected c.args.script.now old c.args.heap.now c.args.policy.now c.give_up.new.self c.give_up.new.heap c.args.policy.now c.in-Some.answer
-    (gives_up-steps c.args.script.now c.args.policy.now old c.args.heap.now c.give_up.new.self c.give_up.new.heap c.in-Some.answer c.requires.ready.gives_up c.in-Some.ensures.some)
-
-pub returns-in-Some-clause-ready : goal.returns-in-Some-clause-ready
-returns-in-Some-clause-ready g c = gives_up-ready (record c.args.self.now { detected = c.detection-self.result }) c.args.heap.now c.give_up.new.self c.give_up.new.heap c.in-Some.answer c.requires.ready.gives_up c.in-Some.ensures.some c.args.script.now (also-ready c.detection-self.result c.args.script.now c.args.self.now c.args.heap.now c.requires.ready)
-
-pub returns-in-Some-clause-falls : goal.returns-in-Some-clause-falls
-returns-in-Some-clause-falls g c = gives_up-falls (record c.args.self.now { detected = c.detection-self.result }) c.args.heap.now c.give_up.new.self c.give_up.new.heap c.in-Some.answer c.requires.ready.gives_up c.in-Some.ensures.some
-
-pub turn-turn-requires-clause-generation : goal.turn-turn-requires-clause-generation
-turn-turn-requires-clause-generation g c =
     let same = c.in_default.ensures.none in
-    (still_ready (record c.args.self.now { detected = c.detection-self.result }) c.give_up.new.self c.args.heap.now c.give_up.new.heap same.0 same.1 same.2 c.args.script.now (also-ready c.detection-self.result c.args.script.now c.args.self.now c.args.heap.now c.requires.ready)).generation
+    let ready = ready_on old c.give_up.new.self c.args.heap.now c.give_up.new.heap same c.args.script.now (also-ready c.detection-self.result c.args.script.now c.args.self.now c.args.heap.now c.requires.ready) in
+    record {
+      generation = ready.generation;
+      ready = ready.phase;
+      walk = ready.walk;
+      few = subst HasFewHolds (sym same.1) c.requires.few;
+      held = held_on old c.give_up.new.self c.args.heap.now c.give_up.new.heap same c.requires.held;
+      bounded = c.requires.bounded;
+    }
 
-pub turn-turn-requires-clause-ready : goal.turn-turn-requires-clause-ready
-turn-turn-requires-clause-ready g c =
+pub returns : goal.returns
+returns g c =
+    let was = c.args.self.now in
+    let old : Collection = record was { detected = c.detection-self.result } in
+    let script = c.args.script.now in
     let same = c.in_default.ensures.none in
-    (still_ready (record c.args.self.now { detected = c.detection-self.result }) c.give_up.new.self c.args.heap.now c.give_up.new.heap same.0 same.1 same.2 c.args.script.now (also-ready c.detection-self.result c.args.script.now c.args.self.now c.args.heap.now c.requires.ready)).phase
-
-pub turn-turn-requires-clause-walk : goal.turn-turn-requires-clause-walk
-turn-turn-requires-clause-walk g c =
-    let same = c.in_default.ensures.none in
-    (still_ready (record c.args.self.now { detected = c.detection-self.result }) c.give_up.new.self c.args.heap.now c.give_up.new.heap same.0 same.1 same.2 c.args.script.now (also-ready c.detection-self.result c.args.script.now c.args.self.now c.args.heap.now c.requires.ready)).walk
-
-pub turn-turn-requires-clause-few : goal.turn-turn-requires-clause-few
-turn-turn-requires-clause-few g c = subst HasFewHolds (sym c.in_default.ensures.none.1) c.requires.few
-
-pub turn-turn-requires-clause-held : goal.turn-turn-requires-clause-held
-turn-turn-requires-clause-held g c =
-    let same = c.in_default.ensures.none in
-    still_held (record c.args.self.now { detected = c.detection-self.result }) c.give_up.new.self c.args.heap.now c.give_up.new.heap same.0 same.1 same.2 c.requires.held
-
-pub returns-clause-steps : goal.returns-clause-steps
-returns-clause-steps g c =
-    let same = c.in_default.ensures.none in
-    let old : Collection = record c.args.self.now { detected = c.detection-self.result } in
-    also-steps c.args.self.now.detected c.give_up.new.self.detected c.args.script.now old c.args.heap.now c.args.policy.now (turned old c.give_up.new.self c.args.heap.now c.give_up.new.heap same.0 same.1 same.2 c.turn-turn.result) c.turn-turn.new.heap c.turn-turn.new.policy c.turn-turn.result.answer
-    (turned-steps old c.give_up.new.self c.args.heap.now c.give_up.new.heap same.0 same.1 same.2 c.turn-turn.result c.turn-turn.new.heap c.args.script.now c.args.policy.now c.turn-turn.new.policy c.turn-turn.ensures.steps)
-
-pub returns-clause-ready : goal.returns-clause-ready
-returns-clause-ready g c =
-    let same = c.in_default.ensures.none in
-    turned-ready (record c.args.self.now { detected = c.detection-self.result }) c.give_up.new.self c.args.heap.now c.give_up.new.heap same.0 same.1 same.2 c.turn-turn.result c.turn-turn.new.heap c.args.script.now (also-ready c.detection-self.result c.args.script.now c.args.self.now c.args.heap.now c.requires.ready) c.turn-turn.ensures.ready c.turn-turn.ensures.walk c.turn-turn.ensures.leaves
-
-pub returns-clause-falls : goal.returns-clause-falls
-returns-clause-falls g c =
-    let same = c.in_default.ensures.none in
-    turned-falls (record c.args.self.now { detected = c.detection-self.result }) c.give_up.new.self c.args.heap.now c.give_up.new.heap same.0 same.1 same.2 c.turn-turn.result c.turn-turn.new.heap c.turn-turn.ensures.falls
-
-pub returns-in-Some-clause-died : goal.returns-in-Some-clause-died
-returns-in-Some-clause-died g c = c.in-Some.ensures.some.unheld
-
-pub returns-clause-died : goal.returns-clause-died
-returns-clause-died g c =
-    let same = c.in_default.ensures.none in
-    turned-died (record c.args.self.now { detected = c.detection-self.result }) c.give_up.new.self c.args.heap.now c.give_up.new.heap same.0 same.1 same.2 c.turn-turn.result c.turn-turn.new.heap c.turn-turn.ensures.leaves
-
--- What it leaves besides.
-pub returns-in-Some-clause-generation : goal.returns-in-Some-clause-generation
-returns-in-Some-clause-generation g c = gives_up-generation (record c.args.self.now { detected = c.detection-self.result }) c.args.heap.now c.give_up.new.self c.give_up.new.heap c.in-Some.answer c.requires.ready.gives_up c.in-Some.ensures.some
-
-pub returns-in-Some-clause-begun : goal.returns-in-Some-clause-begun
-returns-in-Some-clause-begun g c = gives_up-begun (record c.args.self.now { detected = c.detection-self.result }) c.args.heap.now c.give_up.new.self c.give_up.new.heap c.in-Some.answer c.requires.ready.gives_up c.in-Some.ensures.some
-
-pub returns-in-Some-clause-objects : goal.returns-in-Some-clause-objects
-returns-in-Some-clause-objects g c = (gives_up-keeps (record c.args.self.now { detected = c.detection-self.result }) c.args.heap.now c.give_up.new.self c.give_up.new.heap c.in-Some.answer c.requires.ready.gives_up c.in-Some.ensures.some).objects
-
-pub returns-in-Some-clause-names : goal.returns-in-Some-clause-names
-returns-in-Some-clause-names g c = (gives_up-keeps (record c.args.self.now { detected = c.detection-self.result }) c.args.heap.now c.give_up.new.self c.give_up.new.heap c.in-Some.answer c.requires.ready.gives_up c.in-Some.ensures.some).names
-
-pub returns-clause-generation : goal.returns-clause-generation
-returns-clause-generation g c =
-    let same = c.in_default.ensures.none in
-    turned-generation (record c.args.self.now { detected = c.detection-self.result }) c.give_up.new.self c.args.heap.now c.give_up.new.heap same.0 same.1 same.2 c.turn-turn.result c.turn-turn.new.heap
-
-pub returns-clause-begun : goal.returns-clause-begun
-returns-clause-begun g c =
-    let same = c.in_default.ensures.none in
-    turned-begun (record c.args.self.now { detected = c.detection-self.result }) c.give_up.new.self c.args.heap.now c.give_up.new.heap same.0 same.1 same.2 c.turn-turn.result c.turn-turn.new.heap c.turn-turn.ensures.leaves
-
-pub returns-clause-objects : goal.returns-clause-objects
-returns-clause-objects g c =
-    let same = c.in_default.ensures.none in
-    (turned-keeps (record c.args.self.now { detected = c.detection-self.result }) c.give_up.new.self c.args.heap.now c.give_up.new.heap same.0 same.1 same.2 c.turn-turn.result c.turn-turn.new.heap c.turn-turn.ensures.keeps).objects
-
-pub returns-clause-names : goal.returns-clause-names
-returns-clause-names g c =
-    let same = c.in_default.ensures.none in
-    (turned-keeps (record c.args.self.now { detected = c.detection-self.result }) c.give_up.new.self c.args.heap.now c.give_up.new.heap same.0 same.1 same.2 c.turn-turn.result c.turn-turn.new.heap c.turn-turn.ensures.keeps).names
-
-pub returns-in-Some-clause-onward : goal.returns-in-Some-clause-onward
-returns-in-Some-clause-onward g c = gives_up-onward (record c.args.self.now { detected = c.detection-self.result }) c.args.heap.now c.give_up.new.self c.give_up.new.heap c.in-Some.answer c.requires.ready.gives_up c.in-Some.ensures.some
-
-pub returns-clause-onward : goal.returns-clause-onward
-returns-clause-onward g c =
-    let same = c.in_default.ensures.none in
-    turned-onward (record c.args.self.now { detected = c.detection-self.result }) c.give_up.new.self c.args.heap.now c.give_up.new.heap same.0 same.1 same.2 c.turn-turn.result c.turn-turn.new.heap c.turn-turn.ensures.leaves
-
-pub returns-clause-looks : goal.returns-clause-looks
-returns-clause-looks g c =
-    let same = c.in_default.ensures.none in
-    turned-looks (record c.args.self.now { detected = c.detection-self.result }) c.give_up.new.self c.args.heap.now c.give_up.new.heap same.0 same.1 same.2 c.turn-turn.result c.turn-turn.new.heap c.turn-turn.new.steps c.args.steps.now c.turn-turn.ensures.looks
-
--- The detection that it made, and the stage that follows.
-pub returns-in-Some-clause-detected : goal.returns-in-Some-clause-detected
-returns-in-Some-clause-detected g c = gives_up-detected (record c.args.self.now { detected = c.detection-self.result }) c.args.heap.now c.give_up.new.self c.give_up.new.heap c.in-Some.answer c.requires.ready.gives_up c.in-Some.ensures.some c.detection-self.ensures
-
-pub returns-in-Some-clause-stage : goal.returns-in-Some-clause-stage
-returns-in-Some-clause-stage g c = gives_up-stage (record c.args.self.now { detected = c.detection-self.result }) c.args.heap.now c.give_up.new.self c.give_up.new.heap c.in-Some.answer c.requires.ready.gives_up c.in-Some.ensures.some c.detection-self.ensures
-
-pub returns-clause-detected : goal.returns-clause-detected
-returns-clause-detected g c =
-    let same = c.in_default.ensures.none in
-    turned-detected (record c.args.self.now { detected = c.detection-self.result }) c.give_up.new.self c.args.heap.now c.give_up.new.heap same.0 same.1 same.2 c.turn-turn.result c.turn-turn.new.heap c.detection-self.ensures
-
-pub returns-clause-stage : goal.returns-clause-stage
-returns-clause-stage g c =
-    let same = c.in_default.ensures.none in
-    turned-stage (record c.args.self.now { detected = c.detection-self.result }) c.give_up.new.self c.args.heap.now c.give_up.new.heap same.0 same.1 same.2 c.turn-turn.result c.turn-turn.new.heap c.detection-self.ensures c.turn-turn.ensures.leaves c.turn-turn.ensures.apart
+    let turn = c.turn-turn.result in
+    let new : Collection = record c.give_up.new.self { collected = c.give_up.new.self.collected + turn.collected; phase = turn.phase; release = turn.release } in
+    let s : TakesStep script was c.args.heap.now c.args.policy.now new c.turn-turn.new.heap c.turn-turn.new.policy turn.answer =
+    also-step c.detection-self.result script was c.args.heap.now c.args.policy.now new c.turn-turn.new.heap c.turn-turn.new.policy turn.answer
+    (turned old c.give_up.new.self c.args.heap.now c.give_up.new.heap same script c.args.policy.now c.turn-turn.new.heap c.turn-turn.new.policy turn
+    (also-ready c.detection-self.result script was c.args.heap.now c.requires.ready) c.detection-self.ensures c.turn-turn.ensures.takes c.turn-turn.ensures.apart) in
+    record {
+      steps = s.steps;
+      ready = s.ready;
+      falls = s.falls;
+      died = s.died;
+      stops = grind (arith, common_steps);
+      ends = s.ends;
+      generation = s.generation;
+      begun = s.begun;
+      detected = s.detected;
+      stage = s.stage;
+      onward = s.onward;
+      objects = s.keeps.objects;
+      names = s.keeps.names;
+      looks = looks_on old c.give_up.new.self c.args.heap.now c.give_up.new.heap same c.turn-turn.new.steps c.args.steps.now c.turn-turn.ensures.looks;
+    }
