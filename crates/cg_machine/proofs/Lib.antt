@@ -36,6 +36,7 @@ pub mod Left
 pub mod LeftDeaths
 pub mod LeftCollections
 pub mod LeftRuns
+pub mod Advances
 pub mod Rooms
 pub mod RoomsOfRuns
 pub mod Heights
