@@ -12,7 +12,7 @@ use Rattle.cg_script.specs.declared.Script.{Script}
 use Rattle.cg_graph.specs.Member.{Includes, includes}
 use Rattle.cg_graph.specs.Value.{entry_references, reference_in, last_entry, without_last}
 use Rattle.cg_graph.specs.Object.{Object, change, entries_of, is_at, is_in_map, is_tuple, marked, object_at, same_place, serials_at, with_entries, with_place, with_referent, without}
-use Rattle.cg_graph.proofs.Members.{either, Includes-append_cases, Includes-map_cases}
+use Rattle.cg_graph.proofs.Members.{either, Includes-append_cases, Includes-filter_cases, Includes-map_cases}
 use Rattle.cg_machine.specs.declared.event.Event.{Event}
 use Rattle.cg_machine.specs.declared.event.Event.TheVariants.{Alive, BudgetSpent, Cleared, Collected, Enter, Free, GcCollectable, GcSaved, GcStart, GcStop, GcUncollectable, Leave, Value}
 use Rattle.cg_machine.specs.declared.event.FrameSort.{FrameSort}
@@ -26,10 +26,11 @@ use Rattle.cg_machine.specs.Effects.{gens_line}
 use Rattle.cg_machine.specs.Weak.{AllLose, has_weak_references, weak_references_if, loses_referent, callback_of}
 use Rattle.cg_machine.specs.Dying.{death_at, has_finalizers, finalizer_to_run, run_finalizer, run_legacy, after_frame, clear_one, call_one, detach_one, empty_one, dying}
 use Rattle.cg_machine.specs.Collect.{all_saved, begun, collectable, collection_at, lines_if, loses_at_split, get_older, merged, merged_place, older, saved, sorted, stats, survived, survivor_count, uncollectable, StartStep, WeakClearingStep, calls_back, after_release, looks_at, FinalizingStep, SplitStep, takes_turn, TurnsStep, has_flag, save_all, empties, EndStep, PhaseStep, waits}
+use Rattle.cg_machine.specs.Origins.{commands_on}
 use Rattle.cg_machine.specs.Represents.{death_waits}
 use Rattle.cg_machine.specs.Laws.{IsOfCollection, waits_of}
 use Rattle.cg_machine.proofs.Measure.{is_first}
-use Rattle.cg_machine.proofs.Forgotten.{IsLater}
+use Rattle.cg_machine.proofs.Forgotten.{IsLater, later_refl, later_trans, if_alters, change_alters, entries_alter}
 use Rattle.cg_machine.proofs.PrintableTexts.{taken_member}
 
 -- whose entries a step may take: those of an object that dies, or has its turn, and those of a weak reference that is called back
@@ -100,6 +101,23 @@ pub data Advance (script : Script) (v : World) (top : Activity) (below : List Ac
       → Advance script v top below lines (record v { objects = objects; numbers = numbers; stack = tops ++ below })
   StartsFrame : (spec : FrameSpec) (a : Activity) (objects : List Object) → Starts v.objects objects top a spec → Continues v.objects objects top a → Changed top v.objects objects
       → Advance script v top below (start_frame script spec (record v { objects = objects; stack = a ∷ below })).0 (start_frame script spec (record v { objects = objects; stack = a ∷ below })).1
+
+-- what goes on has no commands, and each object was there
+pub continues_idle : (before after : List Object) (a b : Activity) → Continues before after a b → commands_on b ≡ []
+continues_idle before after a b (Dies o phase next waits none) = refl
+continues_idle before after a b (Clears o weak waiting weaks t first lost) = refl
+continues_idle before after a b (Collects c d same begun) = refl
+
+pub changed_origin : (top : Activity) (before after : List Object) → Changed top before after → (y : Object) → Includes after y → (x : Object) × Includes before x × IsLater x y
+changed_origin top before after (Same objects) y m = (y, m, later_refl y)
+changed_origin top before after (Marks f test objects aside) y m = (if_alters f (λ x. (aside x).later) test objects).origin y m
+changed_origin top before after (Takes es s objects owns fewer) y m = (entries_alter es s objects).origin y m
+changed_origin top before after (Saves o objects is) y m = (change_alters _ (λ x. record { serial = refl; code = refl; class = refl; referent = inl refl }) 1 objects).origin y m
+changed_origin top before after (Frees o objects owns) y m = (y, (Includes-filter_cases (λ x. not (x.serial == o)) objects y m).0, later_refl y)
+changed_origin top before after (Then first now last h k) y m =
+    let x = changed_origin top now last k y m in
+    let z = changed_origin top first now h x.0 x.1 in
+    (z.0, z.1, later_trans z.0 x.0 y z.2 x.2)
 
 -- A frame starts where the budget is not spent.
 pub starts_either : (R : List Event → World → Type 0) (script : Script) (spec : FrameSpec) (u : World) → R (BudgetSpent ∷ []) (record u { outcome = BudgetIsSpent })

@@ -10,7 +10,7 @@ use Rattle.cg_machine.specs.Program.{body_of}
 use Rattle.cg_machine.specs.Frame.{start_frame}
 use Rattle.cg_machine.specs.Origins.{commands_on}
 use Rattle.cg_machine.proofs.Tally.{tally}
-use Rattle.cg_machine.proofs.Advances.{Advance, Stands, StartsFrame, Continues, Dies, Clears, Collects, Tops, Ends, Returns, Releases, Kills, GoesOn, Gives, starts_either}
+use Rattle.cg_machine.proofs.Advances.{Advance, Stands, StartsFrame, Continues, continues_idle, Tops, Ends, Returns, Releases, Kills, GoesOn, Gives, starts_either}
 use Rattle.cg_machine.proofs.Invariants.{on}
 
 -- how many commands are left
@@ -38,9 +38,7 @@ starts_makes most b script spec u short h = starts_either (λ lines. IsFew most 
 
 -- a step of another activity brings none
 idle : (before after : List Object) (a b : Activity) → Continues before after a b → length (commands_on b) ≡ 0
-idle before after a b (Dies o phase next waits none) = omega arith
-idle before after a b (Clears o weak waiting weaks t first lost) = omega arith
-idle before after a b (Collects c d same begun) = omega arith
+idle before after a b c = ap length (continues_idle before after a b c)
 
 pub tops_bring_none : (before after : List Object) (top : Activity) (tops below : List Activity) → Tops before after top tops → left_on (tops ++ below) ≡ left_on below
 tops_bring_none before after top tops below (Ends a) = omega arith
