@@ -33,8 +33,7 @@ pub mod Condemned
 pub mod CollectOrderly
 pub mod RunsOrderly
 pub mod Left
-pub mod LeftDeaths
-pub mod LeftCollections
+pub mod LeftSteps
 pub mod LeftRuns
 pub mod Advances
 pub mod Rooms
