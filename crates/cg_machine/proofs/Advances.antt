@@ -1,37 +1,29 @@
 -- What a step of an activity without commands left can be, in a few forms: the end of a frame, a step of a release, of a death or of a
 -- collection. A law that needs no more than that goes by these forms, and not by the phases.
-use Rattle.std.proofs.Common.{◌≡◌, refl, sym, subst, ℕ, ◌+◌, ◌-◌, ◌≤◌, Bool, true, false, not, inl, inr, ◌⊎◌, List, [], ◌∷◌, ◌++◌, length, length-append, map, Option, Some, None, arith}
-use Rattle.std.specs.Prelude.{◌==◌, ◌&&◌, if◌then◌else◌, is_some, option_and_then, option_to_list, unwrap_or}
-use Rattle.std.proofs.lemmas.Bool.{eqb-false, eqb-true}
-use Rattle.std.proofs.lemmas.List.{length-map}
-use Rattle.std.proofs.lemmas.List.Sums.{count_by-le-length}
+use Rattle.std.proofs.Common.{◌≡◌, refl, ℕ, ◌-◌, ◌≤◌, Bool, true, false, not, inl, ◌⊎◌, List, [], ◌∷◌, ◌++◌, length, length-append, map, Option, Some, None, arith}
+use Rattle.std.specs.Prelude.{◌==◌, if◌then◌else◌, option_to_list, unwrap_or}
+use Rattle.std.proofs.lemmas.Bool.{eqb-false}
 use Rattle.cg_value.specs.declared.Entry.{Entry}
-use Rattle.cg_value.specs.declared.Place.{Place}
-use Rattle.cg_value.specs.declared.Place.TheVariants.{Untracked, Gen, Cand, Seen, Legacy as LegacyPlace, Pend}
 use Rattle.cg_script.specs.declared.Script.{Script}
-use Rattle.cg_graph.specs.Member.{Includes, includes}
-use Rattle.cg_graph.specs.Value.{entry_references, reference_in, last_entry, without_last}
-use Rattle.cg_graph.specs.Object.{Object, change, entries_of, is_at, is_in_map, is_tuple, marked, object_at, same_place, serials_at, with_entries, with_place, with_referent, without}
-use Rattle.cg_graph.proofs.Members.{either, Includes-append_cases, Includes-filter_cases, Includes-map_cases}
+use Rattle.cg_graph.specs.Member.{Includes}
+use Rattle.cg_graph.specs.Value.{entry_references, reference_in}
+use Rattle.cg_graph.specs.Object.{Object, change, entries_of, with_entries, without}
+use Rattle.cg_graph.proofs.Members.{Includes-filter_cases}
 use Rattle.cg_machine.specs.declared.event.Event.{Event}
-use Rattle.cg_machine.specs.declared.event.Event.TheVariants.{Alive, BudgetSpent, Cleared, Collected, Enter, Free, GcCollectable, GcSaved, GcStart, GcStop, GcUncollectable, Leave, Value}
-use Rattle.cg_machine.specs.declared.event.FrameSort.{FrameSort}
-use Rattle.cg_machine.specs.declared.event.FrameSort.TheVariants.{Del, Legacy, Callback, Call}
+use Rattle.cg_machine.specs.declared.event.Event.TheVariants.{BudgetSpent, Enter, Value}
+use Rattle.cg_machine.specs.declared.event.FrameSort.TheVariants.{Del, Legacy, Callback}
 use Rattle.cg_machine.specs.declared.event.FrameSpec.{FrameSpec}
-use Rattle.cg_machine.specs.Program.{body_of, legacy_of, profile_of}
-use Rattle.cg_machine.specs.World.{World, Activity, Framed, Releasing, Dying, Collecting, Frame, Numbers, DyingPhase, Finalizer, AfterFinalizer, Clearing, Calling, AfterCall, LegacyFinalizer, AfterLegacy, Detaching, Emptying, Collection, CollectPhase, Start, WeakClearing, WeakCalling, AfterCallback, AfterRelease, Finalizing, AfterFinalizing, Split, Turns, Turn, AfterTurn, Ending, BudgetIsSpent, push, with_stack, with_change, with_objects}
-use Rattle.cg_machine.specs.Holdings.{holds, in_degree, is_collection, is_dying}
-use Rattle.cg_machine.specs.Frame.{Transition, start_frame, frame_end, gives_up_function, begin_death, released, procedure_of}
-use Rattle.cg_machine.specs.Effects.{gens_line}
-use Rattle.cg_machine.specs.Weak.{AllLose, has_weak_references, weak_references_if, loses_referent, callback_of}
-use Rattle.cg_machine.specs.Dying.{death_at, has_finalizers, finalizer_to_run, run_finalizer, run_legacy, after_frame, clear_one, call_one, detach_one, empty_one, dying}
-use Rattle.cg_machine.specs.Collect.{all_saved, begun, collectable, collection_at, lines_if, loses_at_split, get_older, merged, merged_place, older, saved, sorted, stats, survived, survivor_count, uncollectable, StartStep, WeakClearingStep, calls_back, after_release, looks_at, FinalizingStep, SplitStep, takes_turn, TurnsStep, has_flag, save_all, empties, EndStep, PhaseStep, waits}
+use Rattle.cg_machine.specs.Program.{body_of}
+use Rattle.cg_machine.specs.World.{World, Activity, Framed, Releasing, Dying, Collecting, Frame, Numbers, DyingPhase, Finalizer, Clearing, Calling, Emptying, Collection, Start, Turn, BudgetIsSpent}
+use Rattle.cg_machine.specs.Holdings.{holds, is_collection}
+use Rattle.cg_machine.specs.Frame.{Transition, start_frame}
+use Rattle.cg_machine.specs.Weak.{has_weak_references, weak_references_if, loses_referent, callback_of}
+use Rattle.cg_machine.specs.Collect.{begun, saved, survived, waits}
 use Rattle.cg_machine.specs.Origins.{commands_on}
 use Rattle.cg_machine.specs.Represents.{death_waits}
 use Rattle.cg_machine.specs.Laws.{IsOfCollection, waits_of}
 use Rattle.cg_machine.proofs.Measure.{is_first}
 use Rattle.cg_machine.proofs.Forgotten.{IsLater, later_refl, later_trans, if_alters, change_alters, entries_alter}
-use Rattle.cg_machine.proofs.PrintableTexts.{taken_member}
 
 -- whose entries a step may take: those of an object that dies, or has its turn, and those of a weak reference that is called back
 pub data Owns : Activity → ℕ → Type 0 where
@@ -54,11 +46,11 @@ pub data Changed (top : Activity) : List Object → List Object → Type 0 where
   Frees : (o : ℕ) (objects : List Object) → Owns top o → Changed top objects (without o objects)
   Then : (before now after : List Object) → Changed top before now → Changed top now after → Changed top before after
 
--- how the numbers change
-pub data Counted (top : Activity) (objects : List Object) (n : Numbers) : Numbers → Type 0 where
-  Kept : Counted top objects n n
-  Freed : Counted top objects n (record n { zero_count = n.zero_count - 1 })
-  Begins : (c : Collection) (survivors : ℕ) → top ≡ Collecting c → c.phase ≡ Start → survivors ≤ length objects → Counted top objects n (survived c.generation survivors (begun c.generation n))
+-- How the numbers change: one object less is counted, or a collection starts.
+pub data Renumbers (top : Activity) (objects : List Object) (n : Numbers) : Numbers → Type 0 where
+  Kept : Renumbers top objects n n
+  Freed : Renumbers top objects n (record n { zero_count = n.zero_count - 1 })
+  Begins : (c : Collection) (survivors : ℕ) → top ≡ Collecting c → c.phase ≡ Start → survivors ≤ length objects → Renumbers top objects n (survived c.generation survivors (begun c.generation n))
 
 -- A death or a collection goes on. A death that clears weak references has the newest lose the object, and none waits at first.
 abbrev pub ClearsNone : DyingPhase → Type 0
@@ -97,7 +89,7 @@ ShowNoValues lines = (event : Event) → Includes lines event → ShowsNoValue e
 
 -- What a step of the activity on top of `below` can be. It leaves the names, and makes no object.
 pub data Advance (script : Script) (v : World) (top : Activity) (below : List Activity) : List Event → World → Type 0 where
-  Stands : (tops : List Activity) (objects : List Object) (numbers : Numbers) (lines : List Event) → Tops v.objects objects top tops → Changed top v.objects objects → Counted top v.objects v.numbers numbers → ShowNoValues lines
+  Stands : (tops : List Activity) (objects : List Object) (numbers : Numbers) (lines : List Event) → Tops v.objects objects top tops → Changed top v.objects objects → Renumbers top v.objects v.numbers numbers → ShowNoValues lines
       → Advance script v top below lines (record v { objects = objects; numbers = numbers; stack = tops ++ below })
   StartsFrame : (spec : FrameSpec) (a : Activity) (objects : List Object) → Starts v.objects objects top a spec → Continues v.objects objects top a → Changed top v.objects objects
       → Advance script v top below (start_frame script spec (record v { objects = objects; stack = a ∷ below })).0 (start_frame script spec (record v { objects = objects; stack = a ∷ below })).1
@@ -144,292 +136,3 @@ few_option (Some n) = omega arith
 
 pub few_entry : (e : Entry) → length (entry_references e) ≤ 2
 few_entry e = omega (arith, length-append (option_to_list (reference_in e.val)) (option_to_list (reference_in e.key)), few_option (reference_in e.val), few_option (reference_in e.key))
-
--- lines
-no_lines : ShowNoValues []
-no_lines event m = absurd m
-
-one_line : (line : Event) → ShowsNoValue line → ShowNoValues (line ∷ [])
-one_line line h event m = either m (λ e. subst ShowsNoValue e h) (λ none. absurd none)
-
-more_lines : (front back : List Event) → ShowNoValues front → ShowNoValues back → ShowNoValues (front ++ back)
-more_lines front back h k event m = either (Includes-append_cases front back event m) (h event) (k event)
-
-lines_of : (f : ℕ → Event) → ((o : ℕ) → ShowsNoValue (f o)) → (os : List ℕ) → ShowNoValues (map f os)
-lines_of f h os event m = let o = Includes-map_cases f os event m in subst ShowsNoValue o.2 (h o.0)
-
-flagged_lines : (b : Bool) (lines : List Event) → ShowNoValues lines → ShowNoValues (lines_if b lines)
-flagged_lines true lines h = h
-flagged_lines false lines h = no_lines
-
--- objects that change place, mark or referent
-module _ (top : Activity) where
-  placed : (p : Place) (x : Object) → (IsOfCollection p → is_collection top ≡ true) → IsAside top x (with_place p x)
-  placed p x h = record { later = record { serial = refl; code = refl; class = refl; referent = inl refl }; entries = refl; place = inr h }
-
-  placed_mark : (p : Place) (x : Object) → (IsOfCollection p → is_collection top ≡ true) → IsAside top x (marked (with_place p x))
-  placed_mark p x h = record { later = record { serial = refl; code = refl; class = refl; referent = inl refl }; entries = refl; place = inr h }
-
-  moves : (p : Place) (o : ℕ) (objects : List Object) → (IsOfCollection p → is_collection top ≡ true) → Changed top objects (change (with_place p) o objects)
-  moves p o objects h = Marks (with_place p) (λ x. x.serial == o) objects (λ x. placed p x h)
-
-  move_all : (p : Object → Place) (test : Object → Bool) (objects : List Object) → is_collection top ≡ true → Changed top objects (map (λ x. if test x then with_place (p x) x else x) objects)
-  move_all p test objects h = Marks (λ x. with_place (p x) x) test objects (λ x. placed (p x) x (λ k. h))
-
-  move_mark : (p : Place) (o : ℕ) (objects : List Object) → (IsOfCollection p → is_collection top ≡ true) → Changed top objects (change (λ x. marked (with_place p x)) o objects)
-  move_mark p o objects h = Marks (λ x. marked (with_place p x)) (λ x. x.serial == o) objects (λ x. placed_mark p x h)
-
-  loses : (weak : ℕ) (objects : List Object) → Changed top objects (loses_referent weak objects)
-  loses weak objects = Marks (with_referent None) (λ x. x.serial == weak) objects (λ x. record { later = record { serial = refl; code = refl; class = refl; referent = inr refl }; entries = refl; place = inl refl })
-
-  all_lose : (wanted : Object → Bool) (weaks : List ℕ) (objects after : List Object) → AllLose wanted objects weaks after → Changed top objects after
-  all_lose wanted [] objects after lose = subst (Changed top objects) (sym lose.1) (Same objects)
-  all_lose wanted (weak ∷ weaks) objects after lose = Then objects (loses_referent weak objects) after (loses weak objects) (all_lose wanted weaks (loses_referent weak objects) after lose.1)
-
-  save_each : (keeps : List ℕ) (objects : List Object) → is_collection top ≡ true → Changed top objects (all_saved keeps objects)
-  save_each [] objects h = Same objects
-  save_each (o ∷ keeps) objects h = Then objects (saved o objects) (all_saved keeps (saved o objects)) (Saves o objects h) (save_each keeps (saved o objects) h)
-
-  shortens : (o : ℕ) (objects : List Object) → Owns top o → Changed top objects (change (with_entries (without_last (entries_of objects o))) o objects)
-  shortens o objects owns = Takes (without_last (entries_of objects o)) o objects owns (taken_member (length (entries_of objects o) - 1) (entries_of objects o))
-
--- the end of a frame
-pub frame_end_advances : (script : Script) (f : Frame) (below : List Activity) (v : World) → (let t : Transition = frame_end f (with_stack below v) in Advance script v (Framed f) below t.0 t.1)
-frame_end_advances script f below v = by_sort f.sort f.function
-  where
-    popped : Advance script v (Framed f) below (Leave ∷ []) (with_stack below v)
-    popped = Stands [] v.objects v.numbers (Leave ∷ []) (Ends (Framed f)) (Same v.objects) Kept (one_line Leave tt)
-
-    by_sort : (sort : FrameSort) (function : Option ℕ) → Advance script v (Framed f) below (Leave ∷ []) (gives_up_function sort function (with_stack below v))
-    by_sort Del function = popped
-    by_sort Legacy function = popped
-    by_sort Callback function = popped
-    by_sort Call function = Stands (Releasing (option_to_list function) ∷ []) v.objects v.numbers (Leave ∷ []) (Returns f (option_to_list function) (few_option function)) (Same v.objects) Kept (one_line Leave tt)
-
--- a release
-pub released_advances : (script : Script) (references : List ℕ) (below : List Activity) (v : World) → (let t : Transition = released references below (with_stack (Releasing references ∷ below) v) in Advance script v (Releasing references) below t.0 t.1)
-released_advances script [] below v = Stands [] v.objects v.numbers [] (Ends (Releasing [])) (Same v.objects) Kept no_lines
-released_advances script (o ∷ references) below v = either_way (Advance script v (Releasing (o ∷ references)) below) (not (is_dying now o) && (in_degree now o == 0)) ([], begin_death o now) ([], now)
-    (Stands (Dying (record { object = o; phase = Finalizer }) ∷ Releasing references ∷ []) (change dead o v.objects) v.numbers [] (Kills o references)
-    (Marks dead (λ x. x.serial == o) v.objects (λ x. record { later = record { serial = refl; code = refl; class = refl; referent = inr refl }; entries = refl; place = inr (λ k. absurd k) })) Kept no_lines)
-    (Stands (Releasing references ∷ []) v.objects v.numbers [] (Releases o references) (Same v.objects) Kept no_lines)
-  where
-    now : World
-    now = with_stack (Releasing references ∷ below) v
-
-    dead : Object → Object
-    dead x = with_referent None (with_place Untracked x)
-
--- a death
-module _ (script : Script) (o : ℕ) (below : List Activity) (v : World) where
-  abbrev at : DyingPhase → World
-  at phase = death_at o phase below v
-
-  abbrev dying_now : DyingPhase → Activity
-  dying_now phase = Dying (record { object = o; phase = phase })
-
-  abbrev DeathAdvances : DyingPhase → Transition → Type 0
-  DeathAdvances phase t = Advance script v (dying_now phase) below t.0 t.1
-
-  -- nothing waits after
-  nothing : (phase : DyingPhase) (n : ℕ) → Includes [] n → Includes (death_waits phase) n
-  nothing phase n m = absurd m
-
-  goes_on : (phase next : DyingPhase) (objects : List Object) → Continues v.objects objects (dying_now phase) (dying_now next) → Changed (dying_now phase) v.objects objects → DeathAdvances phase ([], record v { objects = objects; stack = dying_now next ∷ below })
-  goes_on phase next objects c h = Stands (dying_now next ∷ []) objects v.numbers [] (GoesOn (dying_now phase) (dying_now next) c) h Kept no_lines
-
-  gives : (phase next : DyingPhase) (references : List ℕ) (objects : List Object) → length references ≤ 2 → Continues v.objects objects (dying_now phase) (dying_now next) → Changed (dying_now phase) v.objects objects
-      → DeathAdvances phase ([], record v { objects = objects; stack = Releasing references ∷ dying_now next ∷ below })
-  gives phase next references objects few c h = Stands (Releasing references ∷ dying_now next ∷ []) objects v.numbers [] (Gives (dying_now phase) (dying_now next) references few c) h Kept no_lines
-
-  finalizer_advances : (m : Option ℕ) → DeathAdvances Finalizer (run_finalizer script o below (at Finalizer) m)
-  finalizer_advances None = goes_on Finalizer (Clearing []) v.objects (Dies o Finalizer (Clearing []) (nothing Finalizer) refl) (Same v.objects)
-  finalizer_advances (Some p) = StartsFrame (record { sort = Del; proc = p; subject = o; func = None }) (dying_now AfterFinalizer) (change (λ x. marked (with_place (Gen 0) x)) o v.objects) (OfFinalizer o p) (Dies o Finalizer AfterFinalizer (nothing Finalizer) tt)
-      (move_mark (dying_now Finalizer) (Gen 0) o v.objects (λ k. absurd k))
-
-  after_frame_advances : (phase next : DyingPhase) → Continues v.objects (change (with_place Untracked) o v.objects) (dying_now phase) (dying_now next) → DeathAdvances phase (after_frame o next below (at phase))
-  after_frame_advances phase next c = either_way (Advance script v (dying_now phase) below) (in_degree (at next) o == 0) ([], with_change (with_place Untracked) o (at next)) (Alive o ∷ [], with_stack below (at phase))
-      (goes_on phase next (change (with_place Untracked) o v.objects) c (moves (dying_now phase) Untracked o v.objects (λ k. absurd k)))
-      (Stands [] v.objects v.numbers (Alive o ∷ []) (Ends (dying_now phase)) (Same v.objects) Kept (one_line (Alive o) tt))
-
-  clearing_advances : (waiting weaks : List ℕ) → weak_references_if has_weak_references v.objects o ≡ weaks → DeathAdvances (Clearing waiting) (clear_one o waiting below (at (Clearing waiting)) weaks)
-  clearing_advances waiting [] e = goes_on (Clearing waiting) (Calling waiting) v.objects (Dies o (Clearing waiting) (Calling waiting) (λ n m. m) tt) (Same v.objects)
-  clearing_advances waiting (weak ∷ weaks) e = Stands (dying_now next ∷ []) (loses_referent weak v.objects) v.numbers (Cleared weak ∷ []) (GoesOn (dying_now (Clearing waiting)) (dying_now next) (Clears o weak waiting weaks (is_some (callback_of v.objects weak)) e refl))
-      (loses (dying_now (Clearing waiting)) weak v.objects) Kept (one_line (Cleared weak) tt)
-    where
-      next : DyingPhase
-      next = Clearing (waiting ++ (if is_some (callback_of v.objects weak) then weak ∷ [] else []))
-
-  calling_advances : (waiting : List ℕ) → DeathAdvances (Calling waiting) (call_one script o below (at (Calling waiting)) waiting)
-  calling_advances [] = goes_on (Calling []) LegacyFinalizer v.objects (Dies o (Calling []) LegacyFinalizer (nothing (Calling [])) tt) (Same v.objects)
-  calling_advances (weak ∷ waiting) =
-      let callback = unwrap_or (callback_of v.objects weak) 0 in
-      let phase = Calling (weak ∷ waiting) in
-      StartsFrame (record { sort = Callback; proc = procedure_of (at phase) callback; subject = weak; func = Some callback }) (dying_now (AfterCall weak callback waiting)) (change (with_entries []) weak v.objects)
-      (OfCallback weak (procedure_of (at phase) callback) (inl refl) (inl (inl refl))) (Dies o phase (AfterCall weak callback waiting) (λ n m. inr m) tt) (Takes [] weak v.objects (CallsBack o weak waiting) (λ e m. absurd m))
-
-  legacy_advances : (m : Option ℕ) → DeathAdvances LegacyFinalizer (run_legacy script o below (at LegacyFinalizer) m)
-  legacy_advances None = goes_on LegacyFinalizer Detaching v.objects (Dies o LegacyFinalizer Detaching (nothing LegacyFinalizer) tt) (Same v.objects)
-  legacy_advances (Some p) = StartsFrame (record { sort = Legacy; proc = p; subject = o; func = None }) (dying_now AfterLegacy) (change (with_place (Gen 0)) o v.objects) (OfLegacy o p) (Dies o LegacyFinalizer AfterLegacy (nothing LegacyFinalizer) tt)
-      (moves (dying_now LegacyFinalizer) (Gen 0) o v.objects (λ k. absurd k))
-
-  detaching_advances : (weaks : List ℕ) → DeathAdvances Detaching (detach_one o below (at Detaching) weaks)
-  detaching_advances [] = goes_on Detaching Emptying v.objects (Dies o Detaching Emptying (nothing Detaching) tt) (Same v.objects)
-  detaching_advances (weak ∷ weaks) = Stands (dying_now Detaching ∷ []) (loses_referent weak v.objects) v.numbers (Cleared weak ∷ []) (GoesOn (dying_now Detaching) (dying_now Detaching) (Dies o Detaching Detaching (nothing Detaching) tt))
-      (loses (dying_now Detaching) weak v.objects) Kept (one_line (Cleared weak) tt)
-
-  emptying_advances : (m : Option Entry) → DeathAdvances Emptying (empty_one o below (at Emptying) m)
-  emptying_advances None = Stands [] (without o v.objects) _ (Free o ∷ []) (Ends (dying_now Emptying)) (Frees o v.objects (Empties o)) Freed (one_line (Free o) tt)
-  emptying_advances (Some entry) = gives Emptying Emptying (entry_references entry) (change (with_entries (without_last (entries_of v.objects o))) o v.objects) (few_entry entry) (Dies o Emptying Emptying (nothing Emptying) tt) (shortens (dying_now Emptying) o v.objects (Empties o))
-
-  pub dying_advances : (phase : DyingPhase) → DeathAdvances phase (dying script o phase below (at phase))
-  dying_advances Finalizer = finalizer_advances (option_and_then (finalizer_to_run script) (object_at v.objects o))
-  dying_advances AfterFinalizer = after_frame_advances AfterFinalizer (Clearing []) (Dies o AfterFinalizer (Clearing []) (nothing AfterFinalizer) refl)
-  dying_advances (Clearing waiting) = clearing_advances waiting (weak_references_if has_weak_references v.objects o) refl
-  dying_advances (Calling waiting) = calling_advances waiting
-  dying_advances (AfterCall weak callback waiting) = gives (AfterCall weak callback waiting) (Calling waiting) (callback ∷ weak ∷ []) v.objects (omega arith) (Dies o (AfterCall weak callback waiting) (Calling waiting) (λ n m. m) tt) (Same v.objects)
-  dying_advances LegacyFinalizer = legacy_advances (option_and_then (legacy_of script) (object_at v.objects o))
-  dying_advances AfterLegacy = after_frame_advances AfterLegacy Detaching (Dies o AfterLegacy Detaching (nothing AfterLegacy) tt)
-  dying_advances Detaching = detaching_advances (weak_references_if (has_finalizers script) v.objects o)
-  dying_advances Emptying = emptying_advances (last_entry (entries_of v.objects o))
-
--- a collection
-module _ (script : Script) (c : Collection) (below : List Activity) (v : World) where
-  abbrev with_phase : CollectPhase → World
-  with_phase phase = collection_at c phase below v
-
-  abbrev collecting : CollectPhase → Activity
-  collecting phase = Collecting (record c { phase = phase })
-
-  abbrev CollectionAdvances : CollectPhase → List Event → World → Type 0
-  CollectionAdvances phase lines after = Advance script v (collecting phase) below lines after
-
-  abbrev place : Place
-  place = Gen (older c.generation)
-
-  yielded : (phase : CollectPhase) (next : Transition) (lines : List Event) (after : World) → lines ≡ next.0 → after ≡ next.1 → CollectionAdvances phase next.0 next.1 → CollectionAdvances phase lines after
-  yielded phase next lines after e k h = subst (λ es. CollectionAdvances phase es after) (sym e) (subst (CollectionAdvances phase next.0) (sym k) h)
-
-  stands : (phase : CollectPhase) (d : Collection) (objects : List Object) (lines : List Event) → d.generation ≡ c.generation → is_first d.phase ≡ false → Changed (collecting phase) v.objects objects → ShowNoValues lines
-      → CollectionAdvances phase lines (record v { objects = objects; stack = Collecting d ∷ below })
-  stands phase d objects lines same begun h none = Stands (Collecting d ∷ []) objects v.numbers lines (GoesOn (collecting phase) (Collecting d) (Collects (record c { phase = phase }) d same begun)) h Kept none
-
-  silent : (phase next : CollectPhase) (objects : List Object) → is_first next ≡ false → Changed (collecting phase) v.objects objects → CollectionAdvances phase [] (record v { objects = objects; stack = collecting next ∷ below })
-  silent phase next objects begun h = stands phase (record c { phase = next }) objects [] refl begun h no_lines
-
-  releases : (phase next : CollectPhase) (references : List ℕ) (objects : List Object) → length references ≤ 2 → is_first next ≡ false → Changed (collecting phase) v.objects objects
-      → CollectionAdvances phase [] (record v { objects = objects; stack = Releasing references ∷ collecting next ∷ below })
-  releases phase next references objects few begun h = Stands (Releasing references ∷ collecting next ∷ []) objects v.numbers [] (Gives (collecting phase) (collecting next) references few (Collects (record c { phase = phase }) (record c { phase = next }) refl begun)) h Kept no_lines
-
-  start_advances : (lines : List Event) (after : World) → StartStep script (with_phase Start) c below lines after → CollectionAdvances Start lines after
-  start_advances lines after step = yielded Start (_, _) lines after step.lines step.world (Stands (collecting (WeakClearing []) ∷ []) (sorted c.generation step.places now) (survived c.generation survivors (begun c.generation v.numbers)) _
-      (GoesOn (collecting Start) (collecting (WeakClearing [])) (Collects (record c { phase = Start }) (record c { phase = WeakClearing [] }) refl refl))
-      (Then v.objects now (sorted c.generation step.places now) (move_all (collecting Start) (λ x. merged_place c.generation x.place) (λ x. true) v.objects refl) (move_all (collecting Start) step.places (is_at (Gen c.generation)) now refl))
-      (Begins (record c { phase = Start }) survivors refl refl few)
-      (more_lines (GcStart c.generation ∷ []) _ (one_line (GcStart c.generation) tt) (more_lines (lines_if (has_flag c.flags stats) (gens_line v.objects ∷ [])) _ (flagged_lines (has_flag c.flags stats) _ (one_line (gens_line v.objects) tt))
-      (flagged_lines (has_flag c.flags collectable) _ (lines_of GcCollectable (λ o. tt) step.collectables)))))
-    where
-      now : List Object
-      now = (merged c.generation v).objects
-
-      survivors : ℕ
-      survivors = survivor_count c.generation step.places now
-
-      few : survivors ≤ length v.objects
-      few = omega (arith, length-map v.objects (λ (x : Object). with_place (merged_place c.generation x.place) x), count_by-le-length (λ x. is_at (Gen c.generation) x && same_place (step.places x) (Gen (older c.generation))) now)
-
-  weak_clearing_advances : (waiting : List ℕ) (lines : List Event) (after : World) → WeakClearingStep (profile_of script.items) c waiting below (with_phase (WeakClearing waiting)) lines after → CollectionAdvances (WeakClearing waiting) lines after
-  weak_clearing_advances waiting lines after (inl step) = yielded (WeakClearing waiting) (_, _) lines after step.yields.0 step.yields.1 (go (waits v.objects step.weak))
-    where
-      lost : List Object
-      lost = loses_referent step.weak v.objects
-
-      loses_it : Changed (collecting (WeakClearing waiting)) v.objects lost
-      loses_it = loses (collecting (WeakClearing waiting)) step.weak v.objects
-
-      go : (t : Bool) → CollectionAdvances (WeakClearing waiting) (Cleared step.weak ∷ []) (if t then collection_at c (WeakClearing (waiting ++ step.weak ∷ [])) below (with_objects (change (with_place Pend) step.weak lost) (with_phase (WeakClearing waiting))) else collection_at c (WeakClearing waiting) below (with_objects lost (with_phase (WeakClearing waiting))))
-      go true = stands (WeakClearing waiting) (record c { phase = WeakClearing (waiting ++ step.weak ∷ []) }) (change (with_place Pend) step.weak lost) _ refl refl (Then v.objects lost (change (with_place Pend) step.weak lost) loses_it (moves (collecting (WeakClearing waiting)) Pend step.weak lost (λ k. refl))) (one_line (Cleared step.weak) tt)
-      go false = stands (WeakClearing waiting) (record c { phase = WeakClearing waiting }) lost _ refl refl loses_it (one_line (Cleared step.weak) tt)
-  weak_clearing_advances waiting lines after (inr step) = yielded (WeakClearing waiting) (_, _) lines after step.1.0 step.1.1 (silent (WeakClearing waiting) (WeakCalling waiting) v.objects refl (Same v.objects))
-
-  weak_calling_advances : (waiting : List ℕ) → (let t : Transition = calls_back script c waiting below (with_phase (WeakCalling waiting)) in CollectionAdvances (WeakCalling waiting) t.0 t.1)
-  weak_calling_advances [] = silent (WeakCalling []) Finalizing v.objects refl (Same v.objects)
-  weak_calling_advances (weak ∷ waiting) =
-      let callback = unwrap_or (callback_of v.objects weak) 0 in
-      let phase = WeakCalling (weak ∷ waiting) in
-      StartsFrame (record { sort = Callback; proc = procedure_of (with_phase phase) callback; subject = weak; func = Some callback }) (collecting (AfterCallback weak waiting)) v.objects
-      (OfCallback weak (procedure_of (with_phase phase) callback) (inl refl) (inr (inl refl, refl))) (Collects (record c { phase = phase }) (record c { phase = AfterCallback weak waiting }) refl refl) (Same v.objects)
-
-  after_release_advances : (weak : ℕ) (waiting : List ℕ) → (let t : Transition = after_release c weak waiting below (with_phase (AfterRelease weak waiting)) in CollectionAdvances (AfterRelease weak waiting) t.0 t.1)
-  after_release_advances weak waiting = either_way (CollectionAdvances (AfterRelease weak waiting)) (is_in_map v.objects weak)
-      ([], collection_at c (WeakCalling waiting) below (with_change (with_place place) weak (with_phase (AfterRelease weak waiting))))
-      ([], collection_at (record c { collected = c.collected + 1 }) (WeakCalling waiting) below (with_phase (AfterRelease weak waiting)))
-      (silent (AfterRelease weak waiting) (WeakCalling waiting) (change (with_place place) weak v.objects) refl (moves (collecting (AfterRelease weak waiting)) place weak v.objects (λ k. refl)))
-      (stands (AfterRelease weak waiting) (record c { collected = c.collected + 1; phase = WeakCalling waiting }) v.objects [] refl refl (Same v.objects) no_lines)
-
-  looks_at_advances : (o : ℕ) (m : Option ℕ) → (let t : Transition = looks_at script c o below (with_phase Finalizing) m in CollectionAdvances Finalizing t.0 t.1)
-  looks_at_advances o None = silent Finalizing Finalizing (change (with_place Seen) o v.objects) refl (moves (collecting Finalizing) Seen o v.objects (λ k. refl))
-  looks_at_advances o (Some p) = StartsFrame (record { sort = Del; proc = p; subject = o; func = None }) (collecting (AfterFinalizing o)) (change (λ x. marked (with_place Seen x)) o v.objects) (OfFinalizer o p)
-      (Collects (record c { phase = Finalizing }) (record c { phase = AfterFinalizing o }) refl refl) (move_mark (collecting Finalizing) Seen o v.objects (λ k. refl))
-
-  finalizing_advances : (lines : List Event) (after : World) → FinalizingStep script c below (with_phase Finalizing) lines after → CollectionAdvances Finalizing lines after
-  finalizing_advances lines after (inl step) = yielded Finalizing _ lines after step.yields.0 step.yields.1 (looks_at_advances step.object (option_and_then (finalizer_to_run script) (object_at v.objects step.object)))
-  finalizing_advances lines after (inr step) = yielded Finalizing (_, _) lines after step.1.0 step.1.1 (silent Finalizing Split _ refl (move_all (collecting Finalizing) (λ x. Cand) (is_at Seen) v.objects refl))
-
-  split_advances : (lines : List Event) (after : World) → SplitStep c below (with_phase Split) lines after → CollectionAdvances Split lines after
-  split_advances lines after step = yielded Split (_, _) lines after step.lines step.world (stands Split (record c { collected = c.collected + length (serials_at step.objects Cand); phase = Turns }) step.objects _ refl refl
-      (Then v.objects now step.objects (move_all (collecting Split) (λ x. place) (λ x. includes step.alive x.serial) v.objects refl) (all_lose (collecting Split) (loses_at_split now) step.cleared now step.objects step.lose))
-      (more_lines (map Alive step.alive) (map Cleared step.cleared) (lines_of Alive (λ o. tt) step.alive) (lines_of Cleared (λ o. tt) step.cleared)))
-    where
-      now : List Object
-      now = get_older c.generation step.alive v.objects
-
-  turn_advances : (x : Object) → (let t : Transition = takes_turn c x below (with_phase Turns) in CollectionAdvances Turns t.0 t.1)
-  turn_advances x = either_way (CollectionAdvances Turns) (has_flag c.flags save_all)
-      (GcSaved x.serial ∷ [], collection_at c Turns below (with_objects (change (with_place place) x.serial (saved x.serial v.objects)) (with_phase Turns)))
-      (if is_tuple x then older_now else goes_now)
-      (stands Turns (record c { phase = Turns }) _ _ refl refl (Then v.objects (saved x.serial v.objects) _ (Saves x.serial v.objects refl) (moves (collecting Turns) place x.serial (saved x.serial v.objects) (λ k. refl))) (one_line (GcSaved x.serial) tt))
-      (either_way (CollectionAdvances Turns) (is_tuple x) older_now goes_now (silent Turns Turns _ refl (moves (collecting Turns) place x.serial v.objects (λ k. refl))) (silent Turns (Turn x.serial) v.objects refl (Same v.objects)))
-    where
-      older_now : Transition
-      older_now = ([], collection_at c Turns below (with_change (with_place place) x.serial (with_phase Turns)))
-
-      goes_now : Transition
-      goes_now = ([], collection_at c (Turn x.serial) below (with_phase Turns))
-
-  turns_advances : (lines : List Event) (after : World) → TurnsStep c below (with_phase Turns) lines after → CollectionAdvances Turns lines after
-  turns_advances lines after (inl step) = yielded Turns _ lines after step.yields.0 step.yields.1 (turn_advances step.object)
-  turns_advances lines after (inr step) = yielded Turns (_, _) lines after step.1.0 step.1.1 (silent Turns Ending v.objects refl (Same v.objects))
-
-  empties_advances : (o : ℕ) (m : Option Entry) → (let t : Transition = empties c o below (with_phase (Turn o)) m in CollectionAdvances (Turn o) t.0 t.1)
-  empties_advances o None = releases (Turn o) (AfterTurn o) (o ∷ []) v.objects (omega arith) refl (Same v.objects)
-  empties_advances o (Some entry) = releases (Turn o) (Turn o) (entry_references entry) _ (few_entry entry) refl (shortens (collecting (Turn o)) o v.objects (HasTurn (record c { phase = Turn o }) o refl))
-
-  end_advances : (lines : List Event) (after : World) → EndStep script c below (with_phase Ending) lines after → CollectionAdvances Ending lines after
-  end_advances lines after step = yielded Ending (_, _) lines after step.lines step.world (Stands [] _ v.numbers _ (Ends (collecting Ending))
-      (Then v.objects (all_saved step.keeps v.objects) _ (save_each (collecting Ending) step.keeps v.objects refl) (move_all (collecting Ending) (λ x. place) (is_at LegacyPlace) (all_saved step.keeps v.objects) refl)) Kept
-      (more_lines (told ++ map GcSaved step.keeps) (stop ∷ asked) (more_lines told (map GcSaved step.keeps) (flagged_lines (has_flag c.flags uncollectable) _ (lines_of GcUncollectable (λ o. tt) step.told)) (lines_of GcSaved (λ o. tt) step.keeps))
-      (more_lines (stop ∷ []) asked (one_line stop tt) (flagged_lines c.asked _ (one_line (Collected (c.collected + length step.told)) tt)))))
-    where
-      told : List Event
-      told = lines_if (has_flag c.flags uncollectable) (map GcUncollectable step.told)
-
-      stop : Event
-      stop = GcStop c.generation c.collected (length step.told)
-
-      asked : List Event
-      asked = lines_if c.asked (Collected (c.collected + length step.told) ∷ [])
-
-  pub phase_advances : (phase : CollectPhase) (lines : List Event) (after : World) → PhaseStep script c phase below (with_phase phase) lines after → CollectionAdvances phase lines after
-  phase_advances Start lines after step = start_advances lines after step
-  phase_advances (WeakClearing waiting) lines after step = weak_clearing_advances waiting lines after step
-  phase_advances (WeakCalling waiting) lines after step = yielded (WeakCalling waiting) _ lines after step.0 step.1 (weak_calling_advances waiting)
-  phase_advances (AfterCallback weak waiting) lines after step = yielded (AfterCallback weak waiting) (_, _) lines after step.0 step.1 (releases (AfterCallback weak waiting) (AfterRelease weak waiting) (weak ∷ []) v.objects (omega arith) refl (Same v.objects))
-  phase_advances (AfterRelease weak waiting) lines after step = yielded (AfterRelease weak waiting) _ lines after step.0 step.1 (after_release_advances weak waiting)
-  phase_advances Finalizing lines after step = finalizing_advances lines after step
-  phase_advances (AfterFinalizing o) lines after step = yielded (AfterFinalizing o) (_, _) lines after step.0 step.1 (releases (AfterFinalizing o) Finalizing (o ∷ []) v.objects (omega arith) refl (Same v.objects))
-  phase_advances Split lines after step = split_advances lines after step
-  phase_advances Turns lines after step = turns_advances lines after step
-  phase_advances (Turn o) lines after step = yielded (Turn o) _ lines after step.0 step.1 (empties_advances o (last_entry (entries_of v.objects o)))
-  phase_advances (AfterTurn o) lines after step = yielded (AfterTurn o) (_, _) lines after step.0 step.1 (silent (AfterTurn o) Turns _ refl (moves (collecting (AfterTurn o)) place o v.objects (λ k. refl)))
-  phase_advances Ending lines after step = end_advances lines after step

@@ -27,7 +27,7 @@ use Rattle.cg_machine.proofs.RunsCalm.{taken_calm, opening_calm}
 use Rattle.cg_machine.proofs.Invariants.{HasCommands, Takes, FromTop, FromFrame, emptied, on, CommandSteps, Steps, any_step, del_shaped}
 use Rattle.cg_machine.proofs.RunsOrderly.{taken_orderly, opening_orderly, orderly_after}
 use Rattle.cg_machine.proofs.Left.{MayChange, ComesFrom, IsCollectionOnTop, from_refl, LeavesIt, leaves_from}
-use Rattle.cg_machine.proofs.Advances.{frame_end_advances, released_advances, dying_advances, phase_advances}
+use Rattle.cg_machine.proofs.Advancing.{frame_end_advances, released_advances, dying_advances, phase_advances}
 use Rattle.cg_machine.proofs.LeftSteps.{starts_leaves, advance_leaves}
 use Rattle.cg_script.specs.declared.Command.TheVariants.{Del}
 

@@ -1,17 +1,15 @@
 -- Releases, deaths and collections leave what lies below them.
-use Rattle.std.proofs.Common.{◌≡◌, refl, sym, ap, subst, ℕ, ◌+◌, true, false, cond, inl, inr, List, [], ◌∷◌, ◌++◌, arith}
+use Rattle.std.proofs.Common.{◌≡◌, refl, sym, ap, subst, ℕ, true, false, cond, inl, inr, List, [], ◌∷◌, ◌++◌, arith}
 use Rattle.std.specs.Prelude.{◌==◌}
 use Rattle.std.proofs.lemmas.Bool.{eq-eqb}
 use Rattle.cg_script.specs.declared.Script.{Script}
 use Rattle.cg_graph.specs.Member.{Includes}
 use Rattle.cg_graph.specs.Object.{Object}
-use Rattle.cg_graph.specs.Holdings.{occurrences}
 use Rattle.cg_graph.proofs.Members.{either, Includes-append_right}
 use Rattle.cg_graph.proofs.Objects.{occurrences-append}
 use Rattle.cg_machine.specs.declared.event.Event.{Event}
 use Rattle.cg_machine.specs.declared.event.FrameSpec.{FrameSpec}
 use Rattle.cg_machine.specs.World.{World, Activity, Collecting, Dying, Emptying}
-use Rattle.cg_machine.specs.Program.{body_of}
 use Rattle.cg_machine.specs.Frame.{start_frame}
 use Rattle.cg_machine.specs.Holdings.{collect_holds, is_collection}
 use Rattle.cg_machine.specs.Laws.{all_waits, collection_waits}

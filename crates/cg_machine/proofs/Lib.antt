@@ -36,6 +36,7 @@ pub mod Left
 pub mod LeftSteps
 pub mod LeftRuns
 pub mod Advances
+pub mod Advancing
 pub mod Rooms
 pub mod RoomsOfRuns
 pub mod Heights

@@ -9,7 +9,7 @@ use Rattle.cg_machine.specs.Frame.{procedure_of}
 use Rattle.cg_machine.specs.Made.{SerialsAreFew}
 use Rattle.cg_machine.proofs.ShapeLaws.{changes_leave}
 use Rattle.cg_machine.proofs.Invariants.{HasCommands, Takes, FromTop, FromFrame, emptied, on, CommandSteps, Steps, by_runs}
-use Rattle.cg_machine.proofs.Advances.{frame_end_advances, released_advances, dying_advances, phase_advances}
+use Rattle.cg_machine.proofs.Advancing.{frame_end_advances, released_advances, dying_advances, phase_advances}
 use Rattle.cg_machine.proofs.Making.{Few, IsFew, starts_makes, advance_makes}
 
 -- A command is taken, for which an object may be made.

@@ -19,7 +19,7 @@ use Rattle.cg_machine.specs.Origins.{all_commands, commands_on, IsOfScript, Worl
 use Rattle.cg_machine.proofs.Shapes.{IsMadeBy, ByList, ByTuple, ByDict, ByInst, ByFunc, ByRef}
 use Rattle.cg_machine.proofs.ShapeLaws.{changes_leave, shape_comes}
 use Rattle.cg_machine.proofs.Invariants.{HasCommands, Takes, FromTop, FromFrame, emptied, on, CommandSteps, Steps, any_step, by_runs}
-use Rattle.cg_machine.proofs.Advances.{frame_end_advances, released_advances, dying_advances, phase_advances}
+use Rattle.cg_machine.proofs.Advancing.{frame_end_advances, released_advances, dying_advances, phase_advances}
 use Rattle.cg_machine.proofs.Origins.{AreOfScript, IsAllOfScript, later_of_script, starts_origin, popped_origin, advance_origin}
 
 module _ (script : Script) where

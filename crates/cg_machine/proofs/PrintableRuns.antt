@@ -1,5 +1,5 @@
 -- Each line of a run of a script that names its own texts alone, each of them short, can be printed.
-use Rattle.std.proofs.Common.{◌≡◌, sym, refl, subst, ℕ, ◌≤◌, inl, List, [], ◌∷◌, length, Some, None, true, false, Option}
+use Rattle.std.proofs.Common.{◌≡◌, sym, refl, subst, ℕ, ◌≤◌, inl, List, [], ◌∷◌, length, Some, None, true, false}
 use Rattle.std.specs.Prelude.{flat_map}
 use Rattle.std.specs.List.{All}
 use Rattle.cg_script.specs.declared.Script.{Script}
@@ -9,9 +9,9 @@ use Rattle.cg_graph.specs.Member.{Includes}
 use Rattle.cg_graph.specs.Object.{Object}
 use Rattle.cg_graph.proofs.Members.{either, Includes-append_left, Includes-append_cases}
 use Rattle.cg_machine.specs.declared.event.Event.{Event}
-use Rattle.cg_machine.specs.declared.event.Event.TheVariants.{Collected, End, Refused, Left}
+use Rattle.cg_machine.specs.declared.event.Event.TheVariants.{Collected, End, Refused}
 use Rattle.cg_machine.specs.declared.event.FrameSort.TheVariants.{Call as CallFrame}
-use Rattle.cg_machine.specs.World.{World, Activity, Framed, Releasing, Dying, Collecting, opening, with_stack, TopLevel, ShuttingDown}
+use Rattle.cg_machine.specs.World.{World, Activity, Framed, Releasing, Dying, Collecting, opening, TopLevel, ShuttingDown}
 use Rattle.cg_machine.specs.Frame.{procedure_of}
 use Rattle.cg_machine.specs.Effects.{Changes}
 use Rattle.cg_machine.specs.Run.{StepTaken, Run, events_of}
@@ -21,7 +21,7 @@ use Rattle.cg_machine.specs.Printing.{LinesArePrintable}
 use Rattle.cg_machine.proofs.Origins.{IsAllOfScript}
 use Rattle.cg_machine.proofs.OriginsOfRuns.{step_origin, opening_origin}
 use Rattle.cg_machine.proofs.PrintableTexts.{HaveTexts, WorldHasTexts, NamesTexts, commands_name_texts, replicated_member, set_member}
-use Rattle.cg_machine.proofs.Advances.{frame_end_advances, released_advances, dying_advances, phase_advances}
+use Rattle.cg_machine.proofs.Advancing.{frame_end_advances, released_advances, dying_advances, phase_advances}
 use Rattle.cg_machine.proofs.PrintableSteps.{Prints, silent, says, starts_prints, advance_prints}
 use Rattle.cg_machine.proofs.PrintableCommands.{shape_prints}
 use Rattle.cg_machine.proofs.Invariants.{Takes, FromTop, FromFrame, emptied, on, AreAnswers, CommandSteps, Steps, any_step, AreLast}

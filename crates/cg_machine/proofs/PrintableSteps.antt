@@ -1,11 +1,11 @@
 -- Releases, deaths and collections print no value, and leave the texts of names and entries: they take entries away, and
 -- append references to the garbage list.
-use Rattle.std.proofs.Common.{◌≡◌, sym, subst, ℕ, not, inl, inr, List, [], ◌∷◌, length, arith}
+use Rattle.std.proofs.Common.{sym, subst, ℕ, not, List, [], ◌∷◌, length}
 use Rattle.std.specs.Prelude.{◌==◌}
 use Rattle.cg_value.specs.declared.Val.TheVariants.{Ref}
 use Rattle.cg_script.specs.declared.Script.{Script}
 use Rattle.cg_graph.specs.Member.{Includes}
-use Rattle.cg_graph.specs.Object.{Object, entries_of, with_entries}
+use Rattle.cg_graph.specs.Object.{Object, with_entries}
 use Rattle.cg_graph.proofs.Members.{either, Includes-filter_cases}
 use Rattle.cg_machine.specs.declared.event.Event.{Event}
 use Rattle.cg_machine.specs.declared.event.Event.TheVariants.{BudgetSpent, Enter, Value}

@@ -9,7 +9,7 @@ use Rattle.cg_machine.specs.Effects.{Changes}
 use Rattle.cg_machine.specs.Bounds.{HasNoRelease}
 use Rattle.cg_machine.proofs.ShapeLaws.{changes_leave, shape_gives_few}
 use Rattle.cg_machine.proofs.Invariants.{HasCommands, Takes, FromTop, FromFrame, emptied, on, CommandSteps, Steps, InEachWorld, by_runs, del_shaped}
-use Rattle.cg_machine.proofs.Advances.{frame_end_advances, released_advances, dying_advances, phase_advances}
+use Rattle.cg_machine.proofs.Advancing.{frame_end_advances, released_advances, dying_advances, phase_advances}
 use Rattle.cg_machine.proofs.Rooms.{Room, HasRoom, starts_room, advance_room}
 use Rattle.cg_script.specs.declared.Command.TheVariants.{Del}
 

@@ -29,7 +29,7 @@ use Rattle.cg_machine.proofs.RunsCalm.{no_death, calm_after, opening_calm}
 use Rattle.cg_machine.proofs.RunsOrderly.{opening_orderly, worlds_orderly, orderly_after}
 use Rattle.cg_machine.proofs.LeftRuns.{LeavesUnder, step_leaves, leaves_below}
 use Rattle.cg_machine.proofs.Standing.{AreFunctions, KnowsFunction, ClearsInOrder, IsKnown, AreKnown, IsAllKnown, function_lives, below_kept, top_kept}
-use Rattle.cg_machine.proofs.Advances.{frame_end_advances, released_advances, dying_advances, phase_advances}
+use Rattle.cg_machine.proofs.Advancing.{frame_end_advances, released_advances, dying_advances, phase_advances}
 use Rattle.cg_machine.proofs.StandingSteps.{starts_known, advance_known}
 
 -- what a step keeps: what is below, and the commands on top

@@ -1,30 +1,23 @@
 -- Releases, deaths and collections leave the functions of frames known, and clear weak references the newest first.
-use Rattle.std.proofs.Common.{◌≡◌, ◌≢◌, refl, sym, ◌∙◌, ap, subst, ℕ, suc, ◌+◌, ◌-◌, ◌≤◌, ◌<◌, Bool, true, false, not, inl, inr, List, [], ◌∷◌, ◌++◌, reverse, Option, Some, None, arith}
-use Rattle.std.specs.Prelude.{◌==◌, ◌&&◌, if◌then◌else◌, filter, flat_map, option_map, unwrap_or}
+use Rattle.std.proofs.Common.{◌≡◌, ◌≢◌, refl, sym, ◌∙◌, ap, subst, ℕ, suc, ◌≤◌, ◌<◌, Bool, true, false, inl, inr, List, [], ◌∷◌, ◌++◌, reverse, Option, Some, None, arith}
+use Rattle.std.specs.Prelude.{◌==◌, if◌then◌else◌, filter, flat_map, option_map, unwrap_or}
 use Rattle.std.proofs.lemmas.Bool.{eqb-false}
 use Rattle.std.proofs.lemmas.List.{reverse-append}
-use Rattle.cg_value.specs.declared.Entry.{Entry}
-use Rattle.cg_value.specs.declared.Place.TheVariants.{Gen, Pend, Seen, Untracked}
 use Rattle.cg_script.specs.declared.Script.{Script}
 use Rattle.cg_graph.specs.Member.{Includes}
-use Rattle.cg_graph.specs.Value.{references, last_entry}
-use Rattle.cg_graph.specs.Object.{Object, change, object_at, entries_of, is_in_map, is_tuple, marked, serials, with_entries, with_place, with_referent}
+use Rattle.cg_graph.specs.Value.{references}
+use Rattle.cg_graph.specs.Object.{Object, object_at, serials, with_referent}
 use Rattle.cg_graph.proofs.Members.{either, Includes-append_cases, Includes-append_left, Includes-map, Includes-map_cases, Includes-filter, Includes-filter_cases}
 use Rattle.cg_machine.specs.declared.event.Event.{Event}
-use Rattle.cg_machine.specs.declared.event.Event.TheVariants.{Alive, BudgetSpent, Enter, GcSaved}
-use Rattle.cg_machine.specs.declared.event.FrameSort.{FrameSort}
-use Rattle.cg_machine.specs.declared.event.FrameSort.TheVariants.{Del, Legacy, Callback, Call}
 use Rattle.cg_machine.specs.declared.event.FrameSpec.{FrameSpec}
-use Rattle.cg_machine.specs.World.{World, Activity, Framed, Releasing, Frame, DyingPhase, Finalizer, AfterFinalizer, Clearing, Calling, AfterCall, LegacyFinalizer, AfterLegacy, Detaching, Emptying, Collection, CollectPhase, Start, WeakClearing, WeakCalling, AfterCallback, AfterRelease, Finalizing, AfterFinalizing, Split, Turns, Turn, AfterTurn, Ending, BudgetIsSpent, with_stack, with_change, with_objects}
-use Rattle.cg_machine.specs.Program.{body_of, legacy_of, profile_of}
+use Rattle.cg_machine.specs.World.{World, Activity, DyingPhase, Clearing}
 use Rattle.cg_machine.specs.Holdings.{holds}
-use Rattle.cg_machine.specs.Frame.{Transition, start_frame, frame_end, gives_up_function, begin_death, released, procedure_of}
-use Rattle.cg_machine.specs.Weak.{has_weak_references, is_reference_to, weak_references, weak_references_if, loses_referent, callback_in, callback_of, is_function}
-use Rattle.cg_machine.specs.Dying.{death_at, has_finalizers, finalizer_to_run, run_finalizer, run_legacy, after_frame, clear_one, call_one, detach_one, empty_one, dying}
-use Rattle.cg_machine.specs.Collect.{collection_at, older, saved, WeakClearingStep, calls_back, after_release, looks_at, FinalizingStep, takes_turn, TurnsStep, has_flag, save_all, empties, PhaseStep, waits}
+use Rattle.cg_machine.specs.Frame.{start_frame}
+use Rattle.cg_machine.specs.Weak.{has_weak_references, is_reference_to, weak_references, loses_referent, callback_in, callback_of, is_function}
+use Rattle.cg_machine.specs.Collect.{waits}
 use Rattle.cg_machine.specs.Laws.{all_waits, waits_of, HasFunction}
 use Rattle.cg_machine.proofs.Serials.{Rises, Rises-filter}
-use Rattle.cg_machine.proofs.Forgotten.{lives_within, entries_alter}
+use Rattle.cg_machine.proofs.Forgotten.{lives_within}
 use Rattle.cg_machine.proofs.FallsDeaths.{Includes-reverse, passed}
 use Rattle.cg_machine.proofs.Lookups.{Includes-reversed, callback_at, callback_first, same_object}
 use Rattle.cg_machine.proofs.Orderly.{waits_held}
