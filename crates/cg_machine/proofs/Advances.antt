@@ -1,29 +1,31 @@
 -- What a step of an activity without commands left can be, in a few forms: the end of a frame, a step of a release, of a death or of a
 -- collection. A law that needs no more than that goes by these forms, and not by the phases.
-use Rattle.std.proofs.Common.{◌≡◌, refl, ℕ, ◌-◌, ◌≤◌, Bool, true, false, not, inl, ◌⊎◌, List, [], ◌∷◌, ◌++◌, length, length-append, map, Option, Some, None, arith}
+use Rattle.std.proofs.Common.{◌≡◌, refl, subst, ℕ, ◌-◌, ◌≤◌, Bool, true, false, not, inl, ◌⊎◌, List, [], ◌∷◌, ◌++◌, length, length-append, map, Option, Some, None, arith}
 use Rattle.std.specs.Prelude.{◌==◌, if◌then◌else◌, option_to_list, unwrap_or}
 use Rattle.std.proofs.lemmas.Bool.{eqb-false}
 use Rattle.cg_value.specs.declared.Entry.{Entry}
+use Rattle.cg_value.specs.declared.Place.{Place}
+use Rattle.cg_value.specs.declared.Place.TheVariants.{Untracked, Gen}
 use Rattle.cg_script.specs.declared.Script.{Script}
 use Rattle.cg_graph.specs.Member.{Includes}
 use Rattle.cg_graph.specs.Value.{entry_references, reference_in}
 use Rattle.cg_graph.specs.Object.{Object, change, entries_of, with_entries, without}
-use Rattle.cg_graph.proofs.Members.{Includes-filter_cases}
+use Rattle.cg_graph.proofs.Members.{Includes-filter_cases, Includes-map_cases}
 use Rattle.cg_machine.specs.declared.event.Event.{Event}
 use Rattle.cg_machine.specs.declared.event.Event.TheVariants.{BudgetSpent, Enter, Value}
 use Rattle.cg_machine.specs.declared.event.FrameSort.TheVariants.{Del, Legacy, Callback}
 use Rattle.cg_machine.specs.declared.event.FrameSpec.{FrameSpec}
 use Rattle.cg_machine.specs.Program.{body_of}
-use Rattle.cg_machine.specs.World.{World, Activity, Framed, Releasing, Dying, Collecting, Frame, Numbers, DyingPhase, Finalizer, Clearing, Calling, Emptying, Collection, Start, Turn, BudgetIsSpent}
+use Rattle.cg_machine.specs.World.{World, Activity, Framed, Releasing, Dying, Collecting, Frame, Numbers, DyingPhase, Finalizer, Clearing, Calling, LegacyFinalizer, Emptying, Collection, Start, Turn, BudgetIsSpent}
 use Rattle.cg_machine.specs.Holdings.{holds, is_collection}
 use Rattle.cg_machine.specs.Frame.{Transition, start_frame}
 use Rattle.cg_machine.specs.Weak.{has_weak_references, weak_references_if, loses_referent, callback_of}
-use Rattle.cg_machine.specs.Collect.{begun, saved, survived, waits}
+use Rattle.cg_machine.specs.Collect.{older, begun, saved, survived, waits}
 use Rattle.cg_machine.specs.Origins.{commands_on}
 use Rattle.cg_machine.specs.Represents.{death_waits}
 use Rattle.cg_machine.specs.Laws.{IsOfCollection, waits_of}
 use Rattle.cg_machine.proofs.Measure.{is_first}
-use Rattle.cg_machine.proofs.Forgotten.{IsLater, later_refl, later_trans, if_alters, change_alters, entries_alter}
+use Rattle.cg_machine.proofs.Forgotten.{IsLater, later_refl, later_trans, change_alters, entries_alter}
 
 -- whose entries a step may take: those of an object that dies, or has its turn, and those of a weak reference that is called back
 pub data Owns : Activity → ℕ → Type 0 where
@@ -31,16 +33,33 @@ pub data Owns : Activity → ℕ → Type 0 where
   CallsBack : (o weak : ℕ) (waiting : List ℕ) → Owns (Dying (record { object = o; phase = Calling (weak ∷ waiting) })) weak
   HasTurn : (c : Collection) (o : ℕ) → c.phase ≡ Turn o → Owns (Collecting c) o
 
--- the same object with its entries; a collection alone puts it at a place of its own
+-- an object whose finalizer or legacy finalizer is to come
+pub data Finalizes : Activity → ℕ → Type 0 where
+  Soon : (o : ℕ) → Finalizes (Dying (record { object = o; phase = Finalizer })) o
+  Late : (o : ℕ) → Finalizes (Dying (record { object = o; phase = LegacyFinalizer })) o
+
+-- of the generations a collection puts objects into its own and the older one
+abbrev pub IsPlaceIn : ℕ → Place → Type 0
+IsPlaceIn g (Gen i) = (i ≡ g) ⊎ (i ≡ older g)
+IsPlaceIn g p = Unit {0}
+
+-- where an object goes
+pub data Moved (top : Activity) (x y : Object) : Type 0 where
+  Rests : x.place ≡ y.place → Moved top x y
+  Untracks : y.place ≡ Untracked → Moved top x y
+  Revives : Finalizes top x.serial → y.place ≡ Gen 0 → Moved top x y
+  Sorts : (c : Collection) → top ≡ Collecting c → IsPlaceIn c.generation y.place → Moved top x y
+
+-- the same object with its entries
 pub record IsAside (top : Activity) (x y : Object) : Type 0 where
   pub later : IsLater x y
   pub entries : y.entries ≡ x.entries
-  pub place : (x.place ≡ y.place) ⊎ (IsOfCollection y.place → is_collection top ≡ true)
+  pub moved : Moved top x y
 
 -- how the objects change
 pub data Changed (top : Activity) : List Object → List Object → Type 0 where
   Same : (objects : List Object) → Changed top objects objects
-  Marks : (f : Object → Object) (test : Object → Bool) (objects : List Object) → ((x : Object) → IsAside top x (f x)) → Changed top objects (map (λ x. if test x then f x else x) objects)
+  Marks : (f : Object → Object) (test : Object → Bool) (objects : List Object) → ((x : Object) → Includes objects x → test x ≡ true → IsAside top x (f x)) → Changed top objects (map (λ x. if test x then f x else x) objects)
   Takes : (es : List Entry) (s : ℕ) (objects : List Object) → Owns top s → ((e : Entry) → Includes es e → Includes (entries_of objects s) e) → Changed top objects (change (with_entries es) s objects)
   Saves : (o : ℕ) (objects : List Object) → is_collection top ≡ true → Changed top objects (saved o objects)
   Frees : (o : ℕ) (objects : List Object) → Owns top o → Changed top objects (without o objects)
@@ -94,15 +113,27 @@ pub data Advance (script : Script) (v : World) (top : Activity) (below : List Ac
   StartsFrame : (spec : FrameSpec) (a : Activity) (objects : List Object) → Starts v.objects objects top a spec → Continues v.objects objects top a → Changed top v.objects objects
       → Advance script v top below (start_frame script spec (record v { objects = objects; stack = a ∷ below })).0 (start_frame script spec (record v { objects = objects; stack = a ∷ below })).1
 
--- what goes on has no commands, and each object was there
+-- what goes on has no commands
 pub continues_idle : (before after : List Object) (a b : Activity) → Continues before after a b → commands_on b ≡ []
 continues_idle before after a b (Dies o phase next waits none) = refl
 continues_idle before after a b (Clears o weak waiting weaks t first lost) = refl
 continues_idle before after a b (Collects c d same begun) = refl
 
+-- where those come from that were changed where a test passes
+pub asides : (top : Activity) (f : Object → Object) (test : Object → Bool) (objects : List Object) → ((x : Object) → Includes objects x → test x ≡ true → IsAside top x (f x))
+    → (y : Object) → Includes (map (λ x. if test x then f x else x) objects) y → (x : Object) × Includes objects x × IsAside top x y
+asides top f test objects h y m =
+    let x = Includes-map_cases (λ x. if test x then f x else x) objects y m in
+    (x.0, x.1, subst (IsAside top x.0) x.2 (one (test x.0) x.0 refl x.1))
+  where
+    one : (b : Bool) (x : Object) → test x ≡ b → Includes objects x → IsAside top x (if b then f x else x)
+    one true x t k = h x k t
+    one false x t k = record { later = later_refl x; entries = refl; moved = Rests refl }
+
+-- each object was there
 pub changed_origin : (top : Activity) (before after : List Object) → Changed top before after → (y : Object) → Includes after y → (x : Object) × Includes before x × IsLater x y
 changed_origin top before after (Same objects) y m = (y, m, later_refl y)
-changed_origin top before after (Marks f test objects aside) y m = (if_alters f (λ x. (aside x).later) test objects).origin y m
+changed_origin top before after (Marks f test objects aside) y m = let x = asides top f test objects aside y m in (x.0, x.1, x.2.later)
 changed_origin top before after (Takes es s objects owns fewer) y m = (entries_alter es s objects).origin y m
 changed_origin top before after (Saves o objects is) y m = (change_alters _ (λ x. record { serial = refl; code = refl; class = refl; referent = inl refl }) 1 objects).origin y m
 changed_origin top before after (Frees o objects owns) y m = (y, (Includes-filter_cases (λ x. not (x.serial == o)) objects y m).0, later_refl y)

@@ -1,7 +1,8 @@
 -- Each step of an activity without commands left has one of the forms of `Advances`: the end of a frame, a release, each phase of a death
 -- and of a collection.
-use Rattle.std.proofs.Common.{◌≡◌, refl, sym, subst, ℕ, ◌+◌, ◌-◌, ◌≤◌, Bool, true, false, not, inl, inr, List, [], ◌∷◌, ◌++◌, length, map, Option, Some, None, arith}
-use Rattle.std.specs.Prelude.{◌==◌, ◌&&◌, if◌then◌else◌, is_some, option_and_then, option_to_list, unwrap_or}
+use Rattle.std.proofs.Common.{◌≡◌, refl, sym, subst, ℕ, ◌+◌, ◌-◌, ◌≤◌, Bool, true, false, not, inl, inr, ◌⊎◌, List, [], ◌∷◌, ◌++◌, length, map, Option, Some, None, arith}
+use Rattle.std.specs.Prelude.{◌==◌, ◌&&◌, ◌||◌, nat_le, if◌then◌else◌, is_some, option_and_then, option_to_list, unwrap_or}
+use Rattle.std.proofs.lemmas.Bool.{eqb-false, eqb-true}
 use Rattle.std.proofs.lemmas.List.{length-map}
 use Rattle.std.proofs.lemmas.List.Sums.{count_by-le-length}
 use Rattle.cg_value.specs.declared.Entry.{Entry}
@@ -10,8 +11,8 @@ use Rattle.cg_value.specs.declared.Place.TheVariants.{Untracked, Gen, Cand, Seen
 use Rattle.cg_script.specs.declared.Script.{Script}
 use Rattle.cg_graph.specs.Member.{Includes, includes}
 use Rattle.cg_graph.specs.Value.{entry_references, last_entry, without_last}
-use Rattle.cg_graph.specs.Object.{Object, change, entries_of, is_at, is_in_map, is_tuple, marked, object_at, same_place, serials_at, with_entries, with_place, with_referent, without}
-use Rattle.cg_graph.proofs.Members.{either, Includes-append_cases, Includes-map_cases}
+use Rattle.cg_graph.specs.Object.{Object, change, entries_of, is_at, is_in_map, is_tracked, is_tuple, marked, object_at, objects_at, same_place, serials_at, with_entries, with_place, with_referent, without}
+use Rattle.cg_graph.proofs.Members.{either, Includes-append_cases, Includes-filter, Includes-map, Includes-map_cases}
 use Rattle.cg_machine.specs.declared.event.Event.{Event}
 use Rattle.cg_machine.specs.declared.event.Event.TheVariants.{Alive, Cleared, Collected, Free, GcCollectable, GcSaved, GcStart, GcStop, GcUncollectable, Leave}
 use Rattle.cg_machine.specs.declared.event.FrameSort.{FrameSort}
@@ -23,12 +24,13 @@ use Rattle.cg_machine.specs.Frame.{Transition, frame_end, gives_up_function, beg
 use Rattle.cg_machine.specs.Effects.{gens_line}
 use Rattle.cg_machine.specs.Weak.{AllLose, has_weak_references, weak_references_if, loses_referent, callback_of}
 use Rattle.cg_machine.specs.Dying.{death_at, has_finalizers, finalizer_to_run, run_finalizer, run_legacy, after_frame, clear_one, call_one, detach_one, empty_one, dying}
-use Rattle.cg_machine.specs.Collect.{all_saved, begun, collectable, collection_at, lines_if, loses_at_split, get_older, merged, merged_place, older, saved, sorted, stats, survived, survivor_count, uncollectable, StartStep, WeakClearingStep, calls_back, after_release, looks_at, FinalizingStep, SplitStep, takes_turn, TurnsStep, has_flag, save_all, empties, EndStep, PhaseStep, waits}
+use Rattle.cg_machine.specs.Collect.{all_saved, begun, collectable, collection_at, lines_if, loses_at_split, get_older, has_none_tracked, merged, merged_place, older, saved, sorted, stats, survived, survivor_count, survivor_place, uncollectable, untrack, untracked_if, StartStep, Survives, WeakClearingStep, calls_back, after_release, looks_at, FinalizingStep, SplitStep, takes_turn, TurnsStep, has_flag, save_all, empties, EndStep, PhaseStep, waits}
 use Rattle.cg_machine.specs.Represents.{death_waits}
-use Rattle.cg_machine.specs.Laws.{IsOfCollection}
+use Rattle.cg_machine.specs.Operands.{is_dict}
 use Rattle.cg_machine.proofs.Measure.{is_first}
 use Rattle.cg_machine.proofs.PrintableTexts.{taken_member}
-use Rattle.cg_machine.proofs.Advances.{Advance, Stands, StartsFrame, Changed, Same, Marks, Takes, Saves, Frees, Then, IsAside, Owns, Empties, CallsBack, HasTurn, Kept, Freed, Begins, Continues, Dies, Clears, Collects, Ends, Returns, Releases, Kills, GoesOn, Gives, OfFinalizer, OfLegacy, OfCallback, ShowsNoValue, ShowNoValues, either_way, few_option, few_entry}
+use Rattle.cg_machine.proofs.Forgotten.{place_later}
+use Rattle.cg_machine.proofs.Advances.{Advance, Stands, StartsFrame, Changed, Same, Marks, Takes, Saves, Frees, Then, IsPlaceIn, Moved, Rests, Untracks, Revives, Sorts, Finalizes, Soon, Late, Owns, Empties, CallsBack, HasTurn, Kept, Freed, Begins, Continues, Dies, Clears, Collects, Ends, Returns, Releases, Kills, GoesOn, Gives, OfFinalizer, OfLegacy, OfCallback, ShowsNoValue, ShowNoValues, either_way, few_option, few_entry}
 
 -- lines
 no_lines : ShowNoValues []
@@ -49,27 +51,25 @@ flagged_lines false lines h = no_lines
 
 -- objects that change place, mark or referent
 module _ (top : Activity) where
-  placed : (p : Place) (x : Object) → (IsOfCollection p → is_collection top ≡ true) → IsAside top x (with_place p x)
-  placed p x h = record { later = record { serial = refl; code = refl; class = refl; referent = inl refl }; entries = refl; place = inr h }
+  moves : (p : Place) (o : ℕ) (objects : List Object) → ((x : Object) → x.serial ≡ o → Moved top x (with_place p x)) → Changed top objects (change (with_place p) o objects)
+  moves p o objects h = Marks (with_place p) (λ x. x.serial == o) objects (λ x m t. record { later = place_later p x; entries = refl; moved = h x (eqb-true x.serial o t) })
 
-  placed_mark : (p : Place) (x : Object) → (IsOfCollection p → is_collection top ≡ true) → IsAside top x (marked (with_place p x))
-  placed_mark p x h = record { later = record { serial = refl; code = refl; class = refl; referent = inl refl }; entries = refl; place = inr h }
+  untracks : (o : ℕ) (objects : List Object) → Changed top objects (change (with_place Untracked) o objects)
+  untracks o objects = moves Untracked o objects (λ x e. Untracks refl)
 
-  moves : (p : Place) (o : ℕ) (objects : List Object) → (IsOfCollection p → is_collection top ≡ true) → Changed top objects (change (with_place p) o objects)
-  moves p o objects h = Marks (with_place p) (λ x. x.serial == o) objects (λ x. placed p x h)
-
-  move_all : (p : Object → Place) (test : Object → Bool) (objects : List Object) → is_collection top ≡ true → Changed top objects (map (λ x. if test x then with_place (p x) x else x) objects)
-  move_all p test objects h = Marks (λ x. with_place (p x) x) test objects (λ x. placed (p x) x (λ k. h))
-
-  move_mark : (p : Place) (o : ℕ) (objects : List Object) → (IsOfCollection p → is_collection top ≡ true) → Changed top objects (change (λ x. marked (with_place p x)) o objects)
-  move_mark p o objects h = Marks (λ x. marked (with_place p x)) (λ x. x.serial == o) objects (λ x. placed_mark p x h)
+  move_mark : (p : Place) (o : ℕ) (objects : List Object) → ((x : Object) → x.serial ≡ o → Moved top x (marked (with_place p x))) → Changed top objects (change (λ x. marked (with_place p x)) o objects)
+  move_mark p o objects h = Marks (λ x. marked (with_place p x)) (λ x. x.serial == o) objects (λ x m t. record { later = record { serial = refl; code = refl; class = refl; referent = inl refl }; entries = refl; moved = h x (eqb-true x.serial o t) })
 
   loses : (weak : ℕ) (objects : List Object) → Changed top objects (loses_referent weak objects)
-  loses weak objects = Marks (with_referent None) (λ x. x.serial == weak) objects (λ x. record { later = record { serial = refl; code = refl; class = refl; referent = inr refl }; entries = refl; place = inl refl })
+  loses weak objects = Marks (with_referent None) (λ x. x.serial == weak) objects (λ x m t. record { later = record { serial = refl; code = refl; class = refl; referent = inr refl }; entries = refl; moved = Rests refl })
 
   all_lose : (wanted : Object → Bool) (weaks : List ℕ) (objects after : List Object) → AllLose wanted objects weaks after → Changed top objects after
   all_lose wanted [] objects after lose = subst (Changed top objects) (sym lose.1) (Same objects)
   all_lose wanted (weak ∷ weaks) objects after lose = Then objects (loses_referent weak objects) after (loses weak objects) (all_lose wanted weaks (loses_referent weak objects) after lose.1)
+
+  -- a collection puts objects at places of its own
+  sorts : (c : Collection) → top ≡ Collecting c → (p : Object → Place) (test : Object → Bool) (objects : List Object) → ((x : Object) → Includes objects x → test x ≡ true → IsPlaceIn c.generation (p x)) → Changed top objects (map (λ x. if test x then with_place (p x) x else x) objects)
+  sorts c is p test objects h = Marks (λ x. with_place (p x) x) test objects (λ x m t. record { later = place_later (p x) x; entries = refl; moved = Sorts c is (h x m t) })
 
   save_each : (keeps : List ℕ) (objects : List Object) → is_collection top ≡ true → Changed top objects (all_saved keeps objects)
   save_each [] objects h = Same objects
@@ -96,7 +96,7 @@ pub released_advances : (script : Script) (references : List ℕ) (below : List 
 released_advances script [] below v = Stands [] v.objects v.numbers [] (Ends (Releasing [])) (Same v.objects) Kept no_lines
 released_advances script (o ∷ references) below v = either_way (Advance script v (Releasing (o ∷ references)) below) (not (is_dying now o) && (in_degree now o == 0)) ([], begin_death o now) ([], now)
     (Stands (Dying (record { object = o; phase = Finalizer }) ∷ Releasing references ∷ []) (change dead o v.objects) v.numbers [] (Kills o references)
-    (Marks dead (λ x. x.serial == o) v.objects (λ x. record { later = record { serial = refl; code = refl; class = refl; referent = inr refl }; entries = refl; place = inr (λ k. absurd k) })) Kept no_lines)
+    (Marks dead (λ x. x.serial == o) v.objects (λ x m t. record { later = record { serial = refl; code = refl; class = refl; referent = inr refl }; entries = refl; moved = Untracks refl })) Kept no_lines)
     (Stands (Releasing references ∷ []) v.objects v.numbers [] (Releases o references) (Same v.objects) Kept no_lines)
   where
     now : World
@@ -130,11 +130,11 @@ module _ (script : Script) (o : ℕ) (below : List Activity) (v : World) where
   finalizer_advances : (m : Option ℕ) → DeathAdvances Finalizer (run_finalizer script o below (at Finalizer) m)
   finalizer_advances None = goes_on Finalizer (Clearing []) v.objects (Dies o Finalizer (Clearing []) (nothing Finalizer) refl) (Same v.objects)
   finalizer_advances (Some p) = StartsFrame (record { sort = Del; proc = p; subject = o; func = None }) (dying_now AfterFinalizer) (change (λ x. marked (with_place (Gen 0) x)) o v.objects) (OfFinalizer o p) (Dies o Finalizer AfterFinalizer (nothing Finalizer) tt)
-      (move_mark (dying_now Finalizer) (Gen 0) o v.objects (λ k. absurd k))
+      (move_mark (dying_now Finalizer) (Gen 0) o v.objects (λ x e. Revives (subst (Finalizes (dying_now Finalizer)) (sym e) (Soon o)) refl))
 
   after_frame_advances : (phase next : DyingPhase) → Continues v.objects (change (with_place Untracked) o v.objects) (dying_now phase) (dying_now next) → DeathAdvances phase (after_frame o next below (at phase))
   after_frame_advances phase next c = either_way (Advance script v (dying_now phase) below) (in_degree (at next) o == 0) ([], with_change (with_place Untracked) o (at next)) (Alive o ∷ [], with_stack below (at phase))
-      (goes_on phase next (change (with_place Untracked) o v.objects) c (moves (dying_now phase) Untracked o v.objects (λ k. absurd k)))
+      (goes_on phase next (change (with_place Untracked) o v.objects) c (untracks (dying_now phase) o v.objects))
       (Stands [] v.objects v.numbers (Alive o ∷ []) (Ends (dying_now phase)) (Same v.objects) Kept (one_line (Alive o) tt))
 
   clearing_advances : (waiting weaks : List ℕ) → weak_references_if has_weak_references v.objects o ≡ weaks → DeathAdvances (Clearing waiting) (clear_one o waiting below (at (Clearing waiting)) weaks)
@@ -156,7 +156,7 @@ module _ (script : Script) (o : ℕ) (below : List Activity) (v : World) where
   legacy_advances : (m : Option ℕ) → DeathAdvances LegacyFinalizer (run_legacy script o below (at LegacyFinalizer) m)
   legacy_advances None = goes_on LegacyFinalizer Detaching v.objects (Dies o LegacyFinalizer Detaching (nothing LegacyFinalizer) tt) (Same v.objects)
   legacy_advances (Some p) = StartsFrame (record { sort = Legacy; proc = p; subject = o; func = None }) (dying_now AfterLegacy) (change (with_place (Gen 0)) o v.objects) (OfLegacy o p) (Dies o LegacyFinalizer AfterLegacy (nothing LegacyFinalizer) tt)
-      (moves (dying_now LegacyFinalizer) (Gen 0) o v.objects (λ k. absurd k))
+      (moves (dying_now LegacyFinalizer) (Gen 0) o v.objects (λ x e. Revives (subst (Finalizes (dying_now LegacyFinalizer)) (sym e) (Late o)) refl))
 
   detaching_advances : (weaks : List ℕ) → DeathAdvances Detaching (detach_one o below (at Detaching) weaks)
   detaching_advances [] = goes_on Detaching Emptying v.objects (Dies o Detaching Emptying (nothing Detaching) tt) (Same v.objects)
@@ -178,6 +178,34 @@ module _ (script : Script) (o : ℕ) (below : List Activity) (v : World) where
   dying_advances Detaching = detaching_advances (weak_references_if (has_finalizers script) v.objects o)
   dying_advances Emptying = emptying_advances (last_entry (entries_of v.objects o))
 
+-- the places of a collection that starts
+merges : (top : Activity) (c : Collection) → top ≡ Collecting c → (x : Object) → Moved top x (with_place (merged_place c.generation x.place) x)
+merges top c is x = go x.place refl
+  where
+    go : (p : Place) → x.place ≡ p → Moved top x (with_place (merged_place c.generation p) x)
+    go (Gen i) e = young (nat_le i c.generation)
+      where
+        young : (b : Bool) → Moved top x (with_place (if b then Gen c.generation else Gen i) x)
+        young true = Sorts c is (inl refl)
+        young false = Rests e
+    go p e = Rests e
+
+stable_place : (g : ℕ) (p : Place) → ¬ ¬ IsPlaceIn g p → IsPlaceIn g p
+stable_place g (Gen i) h = go (i == g) (i == older g) refl refl
+  where
+    go : (a b : Bool) → (i == g) ≡ a → (i == older g) ≡ b → (i ≡ g) ⊎ (i ≡ older g)
+    go true b e k = inl (eqb-true i g e)
+    go false true e k = inr (eqb-true i (older g) k)
+    go false false e k = absurd (h (λ is. either is (eqb-false i g e) (eqb-false i (older g) k)))
+stable_place g p h = tt
+
+survivor_placed : (g : ℕ) (objects : List Object) (x : Object) → IsPlaceIn g (survivor_place g objects x)
+survivor_placed g objects x = go (not (is_tracked x) || (g == 2) && is_dict x && has_none_tracked objects x)
+  where
+    go : (b : Bool) → IsPlaceIn g (if b then Untracked else Gen (older g))
+    go true = tt
+    go false = inr refl
+
 -- a collection
 module _ (script : Script) (c : Collection) (below : List Activity) (v : World) where
   abbrev with_phase : CollectPhase → World
@@ -191,6 +219,9 @@ module _ (script : Script) (c : Collection) (below : List Activity) (v : World) 
 
   abbrev place : Place
   place = Gen (older c.generation)
+
+  moves_to : (phase : CollectPhase) (p : Place) (o : ℕ) (objects : List Object) → IsPlaceIn c.generation p → Changed (collecting phase) objects (change (with_place p) o objects)
+  moves_to phase p o objects h = moves (collecting phase) p o objects (λ x e. Sorts (record c { phase = phase }) refl h)
 
   yielded : (phase : CollectPhase) (next : Transition) (lines : List Event) (after : World) → lines ≡ next.0 → after ≡ next.1 → CollectionAdvances phase next.0 next.1 → CollectionAdvances phase lines after
   yielded phase next lines after e k h = subst (λ es. CollectionAdvances phase es after) (sym e) (subst (CollectionAdvances phase next.0) (sym k) h)
@@ -209,13 +240,20 @@ module _ (script : Script) (c : Collection) (below : List Activity) (v : World) 
   start_advances : (lines : List Event) (after : World) → StartStep script (with_phase Start) c below lines after → CollectionAdvances Start lines after
   start_advances lines after step = yielded Start (_, _) lines after step.lines step.world (Stands (collecting (WeakClearing []) ∷ []) (sorted c.generation step.places now) (survived c.generation survivors (begun c.generation v.numbers)) _
       (GoesOn (collecting Start) (collecting (WeakClearing [])) (Collects (record c { phase = Start }) (record c { phase = WeakClearing [] }) refl refl))
-      (Then v.objects now (sorted c.generation step.places now) (move_all (collecting Start) (λ x. merged_place c.generation x.place) (λ x. true) v.objects refl) (move_all (collecting Start) step.places (is_at (Gen c.generation)) now refl))
+      (Then v.objects now (sorted c.generation step.places now) (Marks (λ x. with_place (merged_place c.generation x.place) x) (λ x. true) v.objects (λ x m t. record { later = place_later (merged_place c.generation x.place) x; entries = refl; moved = merges (collecting Start) (record c { phase = Start }) refl x })) (sorts (collecting Start) (record c { phase = Start }) refl step.places (is_at (Gen c.generation)) now placed_in))
       (Begins (record c { phase = Start }) survivors refl refl few)
       (more_lines (GcStart c.generation ∷ []) _ (one_line (GcStart c.generation) tt) (more_lines (lines_if (has_flag c.flags stats) (gens_line v.objects ∷ [])) _ (flagged_lines (has_flag c.flags stats) _ (one_line (gens_line v.objects) tt))
       (flagged_lines (has_flag c.flags collectable) _ (lines_of GcCollectable (λ o. tt) step.collectables)))))
     where
       now : List Object
       now = (merged c.generation v).objects
+
+      -- an object of the generation that is collected survives, is set aside or is condemned
+      placed_in : (x : Object) → Includes now x → is_at (Gen c.generation) x ≡ true → IsPlaceIn c.generation (step.places x)
+      placed_in x m t = stable_place c.generation (step.places x) (λ out.
+          let member = Includes-filter (is_at (Gen c.generation)) now x t m in
+          let dead : ¬ Survives (merged c.generation (with_phase Start)) (Gen c.generation) x.serial = λ s. out (subst (IsPlaceIn c.generation) (sym (step.sorts.survivors x member s)) (survivor_placed c.generation (untrack c.generation step.chosen now) (untracked_if (step.chosen x) x))) in
+          out (subst (IsPlaceIn c.generation) (sym (step.sorts.condemned x member (record { member = Includes-map (λ (z : Object). z.serial) (objects_at now (Gen c.generation)) x member; no_path = dead }) (λ s. out (subst (IsPlaceIn c.generation) (sym (step.sorts.set_aside x member s)) tt)))) tt))
 
       survivors : ℕ
       survivors = survivor_count c.generation step.places now
@@ -233,7 +271,7 @@ module _ (script : Script) (c : Collection) (below : List Activity) (v : World) 
       loses_it = loses (collecting (WeakClearing waiting)) step.weak v.objects
 
       go : (t : Bool) → CollectionAdvances (WeakClearing waiting) (Cleared step.weak ∷ []) (if t then collection_at c (WeakClearing (waiting ++ step.weak ∷ [])) below (with_objects (change (with_place Pend) step.weak lost) (with_phase (WeakClearing waiting))) else collection_at c (WeakClearing waiting) below (with_objects lost (with_phase (WeakClearing waiting))))
-      go true = stands (WeakClearing waiting) (record c { phase = WeakClearing (waiting ++ step.weak ∷ []) }) (change (with_place Pend) step.weak lost) _ refl refl (Then v.objects lost (change (with_place Pend) step.weak lost) loses_it (moves (collecting (WeakClearing waiting)) Pend step.weak lost (λ k. refl))) (one_line (Cleared step.weak) tt)
+      go true = stands (WeakClearing waiting) (record c { phase = WeakClearing (waiting ++ step.weak ∷ []) }) (change (with_place Pend) step.weak lost) _ refl refl (Then v.objects lost (change (with_place Pend) step.weak lost) loses_it (moves_to (WeakClearing waiting) Pend step.weak lost tt)) (one_line (Cleared step.weak) tt)
       go false = stands (WeakClearing waiting) (record c { phase = WeakClearing waiting }) lost _ refl refl loses_it (one_line (Cleared step.weak) tt)
   weak_clearing_advances waiting lines after (inr step) = yielded (WeakClearing waiting) (_, _) lines after step.1.0 step.1.1 (silent (WeakClearing waiting) (WeakCalling waiting) v.objects refl (Same v.objects))
 
@@ -249,21 +287,21 @@ module _ (script : Script) (c : Collection) (below : List Activity) (v : World) 
   after_release_advances weak waiting = either_way (CollectionAdvances (AfterRelease weak waiting)) (is_in_map v.objects weak)
       ([], collection_at c (WeakCalling waiting) below (with_change (with_place place) weak (with_phase (AfterRelease weak waiting))))
       ([], collection_at (record c { collected = c.collected + 1 }) (WeakCalling waiting) below (with_phase (AfterRelease weak waiting)))
-      (silent (AfterRelease weak waiting) (WeakCalling waiting) (change (with_place place) weak v.objects) refl (moves (collecting (AfterRelease weak waiting)) place weak v.objects (λ k. refl)))
+      (silent (AfterRelease weak waiting) (WeakCalling waiting) (change (with_place place) weak v.objects) refl (moves_to (AfterRelease weak waiting) place weak v.objects (inr refl)))
       (stands (AfterRelease weak waiting) (record c { collected = c.collected + 1; phase = WeakCalling waiting }) v.objects [] refl refl (Same v.objects) no_lines)
 
   looks_at_advances : (o : ℕ) (m : Option ℕ) → (let t : Transition = looks_at script c o below (with_phase Finalizing) m in CollectionAdvances Finalizing t.0 t.1)
-  looks_at_advances o None = silent Finalizing Finalizing (change (with_place Seen) o v.objects) refl (moves (collecting Finalizing) Seen o v.objects (λ k. refl))
+  looks_at_advances o None = silent Finalizing Finalizing (change (with_place Seen) o v.objects) refl (moves_to Finalizing Seen o v.objects tt)
   looks_at_advances o (Some p) = StartsFrame (record { sort = Del; proc = p; subject = o; func = None }) (collecting (AfterFinalizing o)) (change (λ x. marked (with_place Seen x)) o v.objects) (OfFinalizer o p)
-      (Collects (record c { phase = Finalizing }) (record c { phase = AfterFinalizing o }) refl refl) (move_mark (collecting Finalizing) Seen o v.objects (λ k. refl))
+      (Collects (record c { phase = Finalizing }) (record c { phase = AfterFinalizing o }) refl refl) (move_mark (collecting Finalizing) Seen o v.objects (λ x e. Sorts (record c { phase = Finalizing }) refl tt))
 
   finalizing_advances : (lines : List Event) (after : World) → FinalizingStep script c below (with_phase Finalizing) lines after → CollectionAdvances Finalizing lines after
   finalizing_advances lines after (inl step) = yielded Finalizing _ lines after step.yields.0 step.yields.1 (looks_at_advances step.object (option_and_then (finalizer_to_run script) (object_at v.objects step.object)))
-  finalizing_advances lines after (inr step) = yielded Finalizing (_, _) lines after step.1.0 step.1.1 (silent Finalizing Split _ refl (move_all (collecting Finalizing) (λ x. Cand) (is_at Seen) v.objects refl))
+  finalizing_advances lines after (inr step) = yielded Finalizing (_, _) lines after step.1.0 step.1.1 (silent Finalizing Split _ refl (sorts (collecting Finalizing) (record c { phase = Finalizing }) refl (λ x. Cand) (is_at Seen) v.objects (λ x m t. tt)))
 
   split_advances : (lines : List Event) (after : World) → SplitStep c below (with_phase Split) lines after → CollectionAdvances Split lines after
   split_advances lines after step = yielded Split (_, _) lines after step.lines step.world (stands Split (record c { collected = c.collected + length (serials_at step.objects Cand); phase = Turns }) step.objects _ refl refl
-      (Then v.objects now step.objects (move_all (collecting Split) (λ x. place) (λ x. includes step.alive x.serial) v.objects refl) (all_lose (collecting Split) (loses_at_split now) step.cleared now step.objects step.lose))
+      (Then v.objects now step.objects (sorts (collecting Split) (record c { phase = Split }) refl (λ x. place) (λ x. includes step.alive x.serial) v.objects (λ x m t. inr refl)) (all_lose (collecting Split) (loses_at_split now) step.cleared now step.objects step.lose))
       (more_lines (map Alive step.alive) (map Cleared step.cleared) (lines_of Alive (λ o. tt) step.alive) (lines_of Cleared (λ o. tt) step.cleared)))
     where
       now : List Object
@@ -273,8 +311,8 @@ module _ (script : Script) (c : Collection) (below : List Activity) (v : World) 
   turn_advances x = either_way (CollectionAdvances Turns) (has_flag c.flags save_all)
       (GcSaved x.serial ∷ [], collection_at c Turns below (with_objects (change (with_place place) x.serial (saved x.serial v.objects)) (with_phase Turns)))
       (if is_tuple x then older_now else goes_now)
-      (stands Turns (record c { phase = Turns }) _ _ refl refl (Then v.objects (saved x.serial v.objects) _ (Saves x.serial v.objects refl) (moves (collecting Turns) place x.serial (saved x.serial v.objects) (λ k. refl))) (one_line (GcSaved x.serial) tt))
-      (either_way (CollectionAdvances Turns) (is_tuple x) older_now goes_now (silent Turns Turns _ refl (moves (collecting Turns) place x.serial v.objects (λ k. refl))) (silent Turns (Turn x.serial) v.objects refl (Same v.objects)))
+      (stands Turns (record c { phase = Turns }) _ _ refl refl (Then v.objects (saved x.serial v.objects) _ (Saves x.serial v.objects refl) (moves_to Turns place x.serial (saved x.serial v.objects) (inr refl))) (one_line (GcSaved x.serial) tt))
+      (either_way (CollectionAdvances Turns) (is_tuple x) older_now goes_now (silent Turns Turns _ refl (moves_to Turns place x.serial v.objects (inr refl))) (silent Turns (Turn x.serial) v.objects refl (Same v.objects)))
     where
       older_now : Transition
       older_now = ([], collection_at c Turns below (with_change (with_place place) x.serial (with_phase Turns)))
@@ -292,7 +330,7 @@ module _ (script : Script) (c : Collection) (below : List Activity) (v : World) 
 
   end_advances : (lines : List Event) (after : World) → EndStep script c below (with_phase Ending) lines after → CollectionAdvances Ending lines after
   end_advances lines after step = yielded Ending (_, _) lines after step.lines step.world (Stands [] _ v.numbers _ (Ends (collecting Ending))
-      (Then v.objects (all_saved step.keeps v.objects) _ (save_each (collecting Ending) step.keeps v.objects refl) (move_all (collecting Ending) (λ x. place) (is_at LegacyPlace) (all_saved step.keeps v.objects) refl)) Kept
+      (Then v.objects (all_saved step.keeps v.objects) _ (save_each (collecting Ending) step.keeps v.objects refl) (sorts (collecting Ending) (record c { phase = Ending }) refl (λ x. place) (is_at LegacyPlace) (all_saved step.keeps v.objects) (λ x m t. inr refl))) Kept
       (more_lines (told ++ map GcSaved step.keeps) (stop ∷ asked) (more_lines told (map GcSaved step.keeps) (flagged_lines (has_flag c.flags uncollectable) _ (lines_of GcUncollectable (λ o. tt) step.told)) (lines_of GcSaved (λ o. tt) step.keeps))
       (more_lines (stop ∷ []) asked (one_line stop tt) (flagged_lines c.asked _ (one_line (Collected (c.collected + length step.told)) tt)))))
     where
@@ -316,5 +354,5 @@ module _ (script : Script) (c : Collection) (below : List Activity) (v : World) 
   phase_advances Split lines after step = split_advances lines after step
   phase_advances Turns lines after step = turns_advances lines after step
   phase_advances (Turn o) lines after step = yielded (Turn o) _ lines after step.0 step.1 (empties_advances o (last_entry (entries_of v.objects o)))
-  phase_advances (AfterTurn o) lines after step = yielded (AfterTurn o) (_, _) lines after step.0 step.1 (silent (AfterTurn o) Turns _ refl (moves (collecting (AfterTurn o)) place o v.objects (λ k. refl)))
+  phase_advances (AfterTurn o) lines after step = yielded (AfterTurn o) (_, _) lines after step.0 step.1 (silent (AfterTurn o) Turns _ refl (moves_to (AfterTurn o) place o v.objects (inr refl)))
   phase_advances Ending lines after step = end_advances lines after step

@@ -1,5 +1,5 @@
 -- Releases, deaths and collections leave what lies below them.
-use Rattle.std.proofs.Common.{◌≡◌, refl, sym, ap, subst, ℕ, true, false, cond, inl, inr, List, [], ◌∷◌, ◌++◌, arith}
+use Rattle.std.proofs.Common.{◌≡◌, refl, sym, ap, subst, ℕ, true, false, cond, inl, inr, ◌⊎◌, List, [], ◌∷◌, ◌++◌, arith}
 use Rattle.std.specs.Prelude.{◌==◌}
 use Rattle.std.proofs.lemmas.Bool.{eq-eqb}
 use Rattle.cg_script.specs.declared.Script.{Script}
@@ -12,13 +12,13 @@ use Rattle.cg_machine.specs.declared.event.FrameSpec.{FrameSpec}
 use Rattle.cg_machine.specs.World.{World, Activity, Collecting, Dying, Emptying}
 use Rattle.cg_machine.specs.Frame.{start_frame}
 use Rattle.cg_machine.specs.Holdings.{collect_holds, is_collection}
-use Rattle.cg_machine.specs.Laws.{all_waits, collection_waits}
+use Rattle.cg_machine.specs.Laws.{all_waits, collection_waits, IsOfCollection}
 use Rattle.cg_machine.proofs.Saving.{count_cons}
 use Rattle.cg_machine.proofs.Unheld.{Calm, not_dying, popped_free}
 use Rattle.cg_machine.proofs.Releasing.{absent}
 use Rattle.cg_machine.proofs.Orderly.{waits_held}
 use Rattle.cg_machine.proofs.DyingOrderly.{HasOrder}
-use Rattle.cg_machine.proofs.Advances.{Advance, Stands, StartsFrame, Changed, Same, Marks, Takes, Saves, Frees, Then, Owns, Empties, CallsBack, HasTurn, frame_of, starts_either}
+use Rattle.cg_machine.proofs.Advances.{Advance, Stands, StartsFrame, Changed, Same, Marks, Moved, Rests, Untracks, Revives, Sorts, asides, Takes, Saves, Frees, Then, Owns, Empties, CallsBack, HasTurn, frame_of, starts_either}
 use Rattle.cg_machine.proofs.Invariants.{on}
 use Rattle.cg_machine.proofs.Left.{AreFrom, MayChange, IsCollectionOnTop, from_refl, from_trans, from_same, from_entries, from_without, from_saved, LeavesIt, leaves_from, held_may_change, garbage_may_change}
 
@@ -29,6 +29,13 @@ starts_leaves script spec w below u l = starts_either (λ lines. LeavesIt w belo
 collects_on_top : (top : Activity) (below : List Activity) → is_collection top ≡ true → IsCollectionOnTop (top ∷ below)
 collects_on_top (Collecting c) below e = tt
 collects_on_top top below e = absurd (let no : false ≡ true = e in cc)
+
+-- a collection alone puts an object at a place of its own
+moved_place : (top : Activity) (below : List Activity) (x y : Object) → Moved top x y → IsOfCollection y.place → (x.place ≡ y.place) ⊎ IsCollectionOnTop (top ∷ below)
+moved_place top below x y (Rests e) k = inl e
+moved_place top below x y (Untracks e) k = absurd (subst IsOfCollection e k)
+moved_place top below x y (Revives f e) k = absurd (subst IsOfCollection e k)
+moved_place top below x y (Sorts c e h) k = inr (collects_on_top top below (ap is_collection e))
 
 module _ (script : Script) (below : List Activity) (v : World) where
   -- the entries that a step may take are of no object that is dying or waits below
@@ -46,7 +53,7 @@ module _ (script : Script) (below : List Activity) (v : World) where
   module _ (top : Activity) (c : Calm script (on top below v)) (h : HasOrder (on top below v)) where
     changed_from : (before after : List Object) → Changed top before after → AreFrom (on top below v) below before after
     changed_from before after (Same objects) = from_refl (on top below v) below objects
-    changed_from before after (Marks f test objects aside) = from_same (on top below v) below f test (λ x. (aside x).later) (λ x. (aside x).entries) (λ x k. either (aside x).place (λ e. inl e) (λ is. inr (collects_on_top top below (is k)))) objects
+    changed_from before after (Marks f test objects aside) = λ y m. let x = asides top f test objects aside y m in record { was = x.0; member = x.1; later = x.2.later; entries = inl x.2.entries; place = moved_place top below x.0 y x.2.moved }
     changed_from before after (Takes es s objects owns fewer) = from_entries (on top below v) below es s (owner_may_change top s owns c h) objects
     changed_from before after (Saves o objects is) = from_saved (on top below v) below o (garbage_may_change (on top below v) top below refl h) objects
     changed_from before after (Frees o objects owns) = from_without (on top below v) below o objects

@@ -14,7 +14,7 @@ use Rattle.cg_machine.specs.World.{World, Activity}
 use Rattle.cg_machine.specs.Frame.{Transition, start_frame}
 use Rattle.cg_machine.specs.Lines.{IsPrintable}
 use Rattle.cg_machine.proofs.PrintableTexts.{HaveTexts, ObjectsHaveTexts, WorldHasTexts, entries_item, entries_texts, tested_texts, changed_texts}
-use Rattle.cg_machine.proofs.Advances.{Advance, Stands, StartsFrame, Changed, Same, Marks, Takes, Saves, Frees, Then, ShowsNoValue, starts_either}
+use Rattle.cg_machine.proofs.Advances.{Advance, Stands, StartsFrame, Changed, Same, Marks, asides, Takes, Saves, Frees, Then, ShowsNoValue, starts_either}
 
 module _ (texts : List (List ℕ)) where
   -- lines that can be printed
@@ -44,7 +44,7 @@ module _ (texts : List (List ℕ)) where
   -- the objects change
   objects_texts : (top : Activity) (before after : List Object) → Changed top before after → ObjectsHaveTexts (length texts) before → ObjectsHaveTexts (length texts) after
   objects_texts top before after (Same objects) h = h
-  objects_texts top before after (Marks f test objects aside) h = tested_texts (length texts) f (λ x k. subst (HaveTexts (length texts)) (sym (aside x).entries) k) test objects h
+  objects_texts top before after (Marks f test objects aside) h = λ y m. let x = asides top f test objects aside y m in subst (HaveTexts (length texts)) (sym x.2.entries) (h x.0 x.1)
   objects_texts top before after (Takes es s objects owns fewer) h = changed_texts (length texts) (with_entries es) (λ x k e m. entries_texts (length texts) objects s h e (fewer e m)) s objects h
   objects_texts top before after (Saves o objects is) h = changed_texts (length texts) _ (λ x k. entries_item (length texts) x.entries (Ref o) k tt) 1 objects h
   objects_texts top before after (Frees o objects owns) h = λ x m. h x (Includes-filter_cases (λ y. not (y.serial == o)) objects x m).0
