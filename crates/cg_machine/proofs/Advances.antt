@@ -1,6 +1,6 @@
 -- What a step of an activity without commands left can be, in a few forms: the end of a frame, a step of a release, of a death or of a
 -- collection. A law that needs no more than that goes by these forms, and not by the phases.
-use Rattle.std.proofs.Common.{◌≡◌, refl, subst, ℕ, ◌-◌, ◌≤◌, Bool, true, false, not, inl, ◌⊎◌, List, [], ◌∷◌, ◌++◌, length, length-append, map, Option, Some, None, arith}
+use Rattle.std.proofs.Common.{◌≡◌, refl, subst, ℕ, ◌-◌, ◌≤◌, Bool, true, false, not, inl, inr, ◌⊎◌, List, [], ◌∷◌, ◌++◌, length, length-append, map, Option, Some, None, arith}
 use Rattle.std.specs.Prelude.{◌==◌, if◌then◌else◌, option_to_list, unwrap_or}
 use Rattle.std.proofs.lemmas.Bool.{eqb-false}
 use Rattle.cg_value.specs.declared.Entry.{Entry}
@@ -8,9 +8,9 @@ use Rattle.cg_value.specs.declared.Place.{Place}
 use Rattle.cg_value.specs.declared.Place.TheVariants.{Untracked, Gen}
 use Rattle.cg_script.specs.declared.Script.{Script}
 use Rattle.cg_graph.specs.Member.{Includes}
-use Rattle.cg_graph.specs.Value.{entry_references, reference_in}
+use Rattle.cg_graph.specs.Value.{entry_references, reference_in, references}
 use Rattle.cg_graph.specs.Object.{Object, change, entries_of, with_entries, without}
-use Rattle.cg_graph.proofs.Members.{Includes-filter_cases, Includes-map_cases}
+use Rattle.cg_graph.proofs.Members.{either, Includes-append_cases, Includes-filter_cases, Includes-map_cases}
 use Rattle.cg_machine.specs.declared.event.Event.{Event}
 use Rattle.cg_machine.specs.declared.event.Event.TheVariants.{BudgetSpent, Enter, Value}
 use Rattle.cg_machine.specs.declared.event.FrameSort.TheVariants.{Del, Legacy, Callback}
@@ -24,6 +24,7 @@ use Rattle.cg_machine.specs.Collect.{older, begun, saved, survived, waits}
 use Rattle.cg_machine.specs.Origins.{commands_on}
 use Rattle.cg_machine.specs.Represents.{death_waits}
 use Rattle.cg_machine.specs.Laws.{IsOfCollection, waits_of}
+use Rattle.cg_machine.proofs.Lookups.{references_of_member}
 use Rattle.cg_machine.proofs.Measure.{is_first}
 use Rattle.cg_machine.proofs.Forgotten.{IsLater, later_refl, later_trans, change_alters, entries_alter}
 
@@ -141,6 +142,11 @@ changed_origin top before after (Then first now last h k) y m =
     let x = changed_origin top now last k y m in
     let z = changed_origin top first now h x.0 x.1 in
     (z.0, z.1, later_trans z.0 x.0 y z.2 x.2)
+
+-- fewer entries have fewer references
+pub fewer_references : (es entries : List Entry) → ((e : Entry) → Includes es e → Includes entries e) → (n : ℕ) → Includes (references es) n → Includes (references entries) n
+fewer_references [] entries h n m = absurd m
+fewer_references (e ∷ es) entries h n m = either (Includes-append_cases (entry_references e) (references es) n m) (references_of_member entries e n (h e (inl refl))) (fewer_references es entries (λ x i. h x (inr i)) n)
 
 -- A frame starts where the budget is not spent.
 abbrev pub frame_of : Script → FrameSpec → Activity

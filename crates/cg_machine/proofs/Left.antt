@@ -64,29 +64,14 @@ from_if w below f test later entries places objects y m =
     one true x e k = record { was = x; member = k; later = later x; entries = entries x e; place = places x }
     one false x e k = record { was = x; member = k; later = later_refl x; entries = inl refl; place = λ c. inl refl }
 
-pub from_same : (w : World) (below : List Activity) (f : Object → Object) (test : Object → Bool) → ((x : Object) → IsLater x (f x)) → ((x : Object) → (f x).entries ≡ x.entries)
-    → ((x : Object) → IsOfCollection (f x).place → (x.place ≡ (f x).place) ⊎ IsCollectionOnTop w.stack) → (objects : List Object) → AreFrom w below objects (map (λ x. if test x then f x else x) objects)
-from_same w below f test later entries places objects = from_if w below f test later (λ x e. inl (entries x)) places objects
-
 pub from_entries : (w : World) (below : List Activity) (es : List Entry) (s : ℕ) → MayChange w below s → (objects : List Object) → AreFrom w below objects (change (with_entries es) s objects)
 from_entries w below es s t objects = from_if w below (with_entries es) (λ x. x.serial == s) (λ x. record { serial = refl; code = refl; class = refl; referent = inl refl }) (λ x e. inr (subst (MayChange w below) (sym (eqb-true x.serial s e)) t)) (λ x c. inl refl) objects
 
 pub from_without : (w : World) (below : List Activity) (o : ℕ) (objects : List Object) → AreFrom w below objects (without o objects)
 from_without w below o objects y m = from_refl w below objects y (Includes-filter_cases (λ x. not (x.serial == o)) objects y m).0
 
-pub from_lost : (w : World) (below : List Activity) (weak : ℕ) (objects : List Object) → AreFrom w below objects (loses_referent weak objects)
-from_lost w below weak objects = from_same w below (with_referent None) (λ x. x.serial == weak) (λ x. record { serial = refl; code = refl; class = refl; referent = inr refl }) (λ x. refl) (λ x c. inl refl) objects
-
-pub from_all_lost : (w : World) (below : List Activity) (wanted : Object → Bool) (weaks : List ℕ) (objects after : List Object) → AllLose wanted objects weaks after → AreFrom w below objects after
-from_all_lost w below wanted [] objects after lose = subst (AreFrom w below objects) (sym lose.1) (from_refl w below objects)
-from_all_lost w below wanted (weak ∷ weaks) objects after lose = from_trans w below objects (loses_referent weak objects) after (from_lost w below weak objects) (from_all_lost w below wanted weaks (loses_referent weak objects) after lose.1)
-
 pub from_saved : (w : World) (below : List Activity) (s : ℕ) → MayChange w below 1 → (objects : List Object) → AreFrom w below objects (saved s objects)
 from_saved w below s t objects = from_if w below (λ x. with_entries (x.entries ++ item (Ref s) ∷ []) x) (λ x. x.serial == 1) (λ x. record { serial = refl; code = refl; class = refl; referent = inl refl }) (λ x e. inr (subst (MayChange w below) (sym (eqb-true x.serial 1 e)) t)) (λ x c. inl refl) objects
-
-pub from_all_saved : (w : World) (below : List Activity) (keeps : List ℕ) → MayChange w below 1 → (objects : List Object) → AreFrom w below objects (all_saved keeps objects)
-from_all_saved w below [] t objects = from_refl w below objects
-from_all_saved w below (s ∷ keeps) t objects = from_trans w below objects (saved s objects) (all_saved keeps (saved s objects)) (from_saved w below s t objects) (from_all_saved w below keeps t (saved s objects))
 
 -- What a step leaves below it. It makes one object at most
 pub record LeavesIt (w : World) (below : List Activity) (after : World) : Type 0 where

@@ -20,7 +20,7 @@ use Rattle.cg_machine.proofs.Orderly.{waits_held}
 use Rattle.cg_machine.proofs.DyingOrderly.{HasOrder}
 use Rattle.cg_machine.proofs.Advances.{Advance, Stands, StartsFrame, Changed, Same, Marks, Moved, Rests, Untracks, Revives, Sorts, asides, Takes, Saves, Frees, Then, Owns, Empties, CallsBack, HasTurn, frame_of, starts_either}
 use Rattle.cg_machine.proofs.Invariants.{on}
-use Rattle.cg_machine.proofs.Left.{AreFrom, MayChange, IsCollectionOnTop, from_refl, from_trans, from_same, from_entries, from_without, from_saved, LeavesIt, leaves_from, held_may_change, garbage_may_change}
+use Rattle.cg_machine.proofs.Left.{AreFrom, MayChange, IsCollectionOnTop, from_refl, from_trans, from_entries, from_without, from_saved, LeavesIt, leaves_from, held_may_change, garbage_may_change}
 
 -- a frame starts
 pub starts_leaves : (script : Script) (spec : FrameSpec) (w : World) (below : List Activity) (u : World) → LeavesIt w below u → LeavesIt w below (start_frame script spec u).1
