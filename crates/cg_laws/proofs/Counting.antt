@@ -28,15 +28,15 @@ module _ (limits : Limits) (n : Numbers) (budget : ℕ) (before after : List Obj
   continues_counts : (top a : Activity) → Continues before after top a → Settled limits n budget (a ∷ below)
   continues_counts top a (Dies o phase next waits none) = on_top limits n budget (Dying (record { object = o; phase = next })) below refl refl rest
   continues_counts top a (Clears o weak waiting weaks t first lost) = on_top limits n budget a below refl refl rest
-  continues_counts top a (Collects c d same begun) = on_top limits n budget (Collecting d) below refl begun rest
+  continues_counts top a (Collects c d same begun early) = on_top limits n budget (Collecting d) below refl begun rest
 
   tops_count : (top : Activity) (tops : List Activity) → Tops before after top tops → Settled limits n budget (tops ++ below)
   tops_count top tops (Ends a) = rest
   tops_count top tops (Returns f references few) = on_top limits n budget (Releasing references) below refl refl rest
   tops_count top tops (Releases o references) = on_top limits n budget (Releasing references) below refl refl rest
   tops_count top tops (Kills o references) = on_top limits n budget (Dying (record { object = o; phase = Finalizer })) (Releasing references ∷ below) refl refl (on_top limits n budget (Releasing references) below refl refl rest)
-  tops_count top tops (GoesOn b a c) = continues_counts b a c
-  tops_count top tops (Gives b a references few c) = on_top limits n budget (Releasing references) (a ∷ below) refl refl (continues_counts b a c)
+  tops_count top tops (GoesOn b a c held) = continues_counts b a c
+  tops_count top tops (Gives b a references few c held) = on_top limits n budget (Releasing references) (a ∷ below) refl refl (continues_counts b a c)
 
 numbers_count : (limits : Limits) (top : Activity) (objects : List Object) (n now : Numbers) (budget : ℕ) (below : List Activity) → Renumbers top objects n now → length objects ≤ limits.objects → Settled limits n budget below
     → ((c : Collection) → top ≡ Collecting c → c.phase ≡ Start → StartsSettled limits n budget below c.generation) → Settled limits now budget below
@@ -47,4 +47,4 @@ numbers_count limits top objects n now budget below (Begins c survivors is first
 pub advance_counts : (limits : Limits) (script : Script) (top : Activity) (below : List Activity) (v : World) → ((p : ℕ) → length (body_of script p) ≤ limits.longest) → length v.objects ≤ limits.objects → Settled limits v.numbers v.budget below
     → ((c : Collection) → top ≡ Collecting c → c.phase ≡ Start → StartsSettled limits v.numbers v.budget below c.generation) → (lines : List Event) (after : World) → Advance script v top below lines after → IsSettled limits after
 advance_counts limits script top below v short fit rest soon lines after (Stands tops objects numbers ls t c n none) = tops_count limits numbers v.budget v.objects objects below (numbers_count limits top v.objects v.numbers numbers v.budget below n fit rest soon) top tops t
-advance_counts limits script top below v short fit rest soon lines after (StartsFrame spec a objects s c m) = starts_counts limits script spec (record v { objects = objects; stack = a ∷ below }) (short spec.proc) (continues_counts limits v.numbers v.budget v.objects objects below rest top a c)
+advance_counts limits script top below v short fit rest soon lines after (StartsFrame spec a objects s c held m) = starts_counts limits script spec (record v { objects = objects; stack = a ∷ below }) (short spec.proc) (continues_counts limits v.numbers v.budget v.objects objects below rest top a c)

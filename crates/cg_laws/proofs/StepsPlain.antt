@@ -86,20 +86,20 @@ module _ (script : Script) (below : List Activity) (v : World) (top : Activity) 
 continues_alone : (before after : List Object) (top a : Activity) → Continues before after top a → is_collection a ≡ is_collection top
 continues_alone before after top a (Dies o phase next waits none) = refl
 continues_alone before after top a (Clears o weak waiting weaks t first lost) = refl
-continues_alone before after top a (Collects c d same begun) = refl
+continues_alone before after top a (Collects c d same begun early) = refl
 
 tops_alone : (before after : List Object) (top : Activity) (tops below : List Activity) → Tops before after top tops → is_collection top ≡ false → StartsAlone below (tops ++ below)
 tops_alone before after top tops below (Ends a) none = below_alone below
 tops_alone before after top tops below (Returns f references few) none = with_alone (Releasing references) below below refl (below_alone below)
 tops_alone before after top tops below (Releases o references) none = with_alone (Releasing references) below below refl (below_alone below)
 tops_alone before after top tops below (Kills o references) none = with_alone (Dying (record { object = o; phase = Finalizer })) below (Releasing references ∷ below) refl (with_alone (Releasing references) below below refl (below_alone below))
-tops_alone before after top tops below (GoesOn t a c) none = with_alone a below below (continues_alone before after t a c ∙ none) (below_alone below)
-tops_alone before after top tops below (Gives t a references few c) none = with_alone (Releasing references) below (a ∷ below) refl (with_alone a below below (continues_alone before after t a c ∙ none) (below_alone below))
+tops_alone before after top tops below (GoesOn t a c held) none = with_alone a below below (continues_alone before after t a c ∙ none) (below_alone below)
+tops_alone before after top tops below (Gives t a references few c held) none = with_alone (Releasing references) below (a ∷ below) refl (with_alone a below below (continues_alone before after t a c ∙ none) (below_alone below))
 
 advance_plain : (script : Script) (below : List Activity) (v : World) (top : Activity) → Calm script (on top below v) → (lines : List Event) (after : World) → Advance script v top below lines after → is_collection top ≡ false → IsPlain v.objects below after
 advance_plain script below v top c lines after (Stands tops objects numbers ls t h n shown) none = record { stack = tops_alone v.objects objects top tops below t none; list = changed_list script below v top none c v.objects objects h }
-advance_plain script below v top c lines after (StartsFrame spec a objects s g h) none =
-    starts_plain script spec v.objects below (record v { objects = objects; stack = a ∷ below }) (record { stack = tops_alone v.objects objects top (a ∷ []) below (GoesOn top a g) none; list = changed_list script below v top none c v.objects objects h })
+advance_plain script below v top c lines after (StartsFrame spec a objects s g held h) none =
+    starts_plain script spec v.objects below (record v { objects = objects; stack = a ∷ below }) (record { stack = tops_alone v.objects objects top (a ∷ []) below (GoesOn top a g held) none; list = changed_list script below v top none c v.objects objects h })
 
 -- commands are no collection
 no_collection : (a : Activity) → HasCommands a → is_collection a ≡ false

@@ -1,6 +1,6 @@
 -- What a step of an activity without commands left can be, in a few forms: the end of a frame, a step of a release, of a death or of a
 -- collection. A law that needs no more than that goes by these forms, and not by the phases.
-use Rattle.std.proofs.Common.{◌≡◌, refl, subst, ℕ, ◌-◌, ◌≤◌, Bool, true, false, not, inl, inr, ◌⊎◌, List, [], ◌∷◌, ◌++◌, length, length-append, map, Option, Some, None, arith}
+use Rattle.std.proofs.Common.{◌≡◌, ◌≢◌, refl, subst, ℕ, ◌-◌, ◌≤◌, Bool, true, false, not, inl, inr, ◌⊎◌, List, [], ◌∷◌, ◌++◌, length, length-append, map, Option, Some, None, arith}
 use Rattle.std.specs.Prelude.{◌==◌, if◌then◌else◌, option_to_list, unwrap_or}
 use Rattle.std.proofs.lemmas.Bool.{eqb-false}
 use Rattle.cg_value.specs.declared.Entry.{Entry}
@@ -12,12 +12,12 @@ use Rattle.cg_graph.specs.Value.{entry_references, reference_in, references}
 use Rattle.cg_graph.specs.Object.{Object, change, entries_of, with_entries, without}
 use Rattle.cg_graph.proofs.Members.{either, Includes-append_cases, Includes-filter_cases, Includes-map_cases}
 use Rattle.cg_machine.specs.declared.event.Event.{Event}
-use Rattle.cg_machine.specs.declared.event.Event.TheVariants.{BudgetSpent, Enter, Value}
+use Rattle.cg_machine.specs.declared.event.Event.TheVariants.{BudgetSpent, Enter, GcStop, Value}
 use Rattle.cg_machine.specs.declared.event.FrameSort.TheVariants.{Del, Legacy, Callback}
 use Rattle.cg_machine.specs.declared.event.FrameSpec.{FrameSpec}
 use Rattle.cg_machine.specs.Program.{body_of}
-use Rattle.cg_machine.specs.World.{World, Activity, Framed, Releasing, Dying, Collecting, Frame, Numbers, DyingPhase, Finalizer, Clearing, Calling, LegacyFinalizer, Emptying, Collection, Start, Turn, BudgetIsSpent}
-use Rattle.cg_machine.specs.Holdings.{holds, is_collection}
+use Rattle.cg_machine.specs.World.{World, Activity, Framed, Releasing, Dying, Collecting, Frame, Numbers, DyingPhase, Finalizer, Clearing, Calling, LegacyFinalizer, Emptying, Collection, CollectPhase, Start, Split, Turns, Turn, AfterTurn, Ending, BudgetIsSpent}
+use Rattle.cg_machine.specs.Holdings.{collect_holds, holds, is_collection}
 use Rattle.cg_machine.specs.Frame.{Transition, start_frame}
 use Rattle.cg_machine.specs.Weak.{has_weak_references, weak_references_if, loses_referent, callback_of}
 use Rattle.cg_machine.specs.Collect.{older, begun, saved, survived, waits}
@@ -77,11 +77,23 @@ abbrev pub ClearsNone : DyingPhase → Type 0
 ClearsNone (Clearing waiting) = waiting ≡ []
 ClearsNone phase = Unit {0}
 
+-- a phase before the second detection or after the turns
+abbrev pub IsEarly : CollectPhase → Type 0
+IsEarly Turns = ⊥
+IsEarly (Turn o) = ⊥
+IsEarly (AfterTurn o) = ⊥
+IsEarly phase = Unit {0}
+
 pub data Continues (before after : List Object) : Activity → Activity → Type 0 where
   Dies : (o : ℕ) (phase next : DyingPhase) → ((n : ℕ) → Includes (death_waits next) n → Includes (death_waits phase) n) → ClearsNone next → Continues before after (Dying (record { object = o; phase = phase })) (Dying (record { object = o; phase = next }))
   Clears : (o weak : ℕ) (waiting weaks : List ℕ) (b : Bool) → weak_references_if has_weak_references before o ≡ weak ∷ weaks → after ≡ loses_referent weak before
       → Continues before after (Dying (record { object = o; phase = Clearing waiting })) (Dying (record { object = o; phase = Clearing (waiting ++ (if b then weak ∷ [] else [])) }))
-  Collects : (c d : Collection) → d.generation ≡ c.generation → is_first d.phase ≡ false → Continues before after (Collecting c) (Collecting d)
+  Collects : (c d : Collection) → d.generation ≡ c.generation → is_first d.phase ≡ false → (IsEarly c.phase → c.phase ≢ Split → IsEarly d.phase) → Continues before after (Collecting c) (Collecting d)
+
+-- What a collection holds it holds still, or it is given up.
+abbrev pub HoldsOn : List ℕ → Activity → Activity → Type 0
+HoldsOn given (Collecting c) a = (n : ℕ) → Includes (collect_holds c.phase) n → Includes given n ⊎ Includes (holds a) n
+HoldsOn given top a = Unit {0}
 
 -- what stands in place of the activity on top
 pub data Tops (before after : List Object) : Activity → List Activity → Type 0 where
@@ -89,8 +101,8 @@ pub data Tops (before after : List Object) : Activity → List Activity → Type
   Returns : (f : Frame) (references : List ℕ) → length references ≤ 1 → Tops before after (Framed f) (Releasing references ∷ [])
   Releases : (o : ℕ) (references : List ℕ) → Tops before after (Releasing (o ∷ references)) (Releasing references ∷ [])
   Kills : (o : ℕ) (references : List ℕ) → Tops before after (Releasing (o ∷ references)) (Dying (record { object = o; phase = Finalizer }) ∷ Releasing references ∷ [])
-  GoesOn : (top a : Activity) → Continues before after top a → Tops before after top (a ∷ [])
-  Gives : (top a : Activity) (references : List ℕ) → length references ≤ 2 → Continues before after top a → Tops before after top (Releasing references ∷ a ∷ [])
+  GoesOn : (top a : Activity) → Continues before after top a → HoldsOn [] top a → Tops before after top (a ∷ [])
+  Gives : (top a : Activity) (references : List ℕ) → length references ≤ 2 → Continues before after top a → HoldsOn references top a → Tops before after top (Releasing references ∷ a ∷ [])
 
 -- the frame that a death or a collection starts: of a finalizer, of a legacy finalizer, or of the callback of a weak reference that waits
 pub data Starts (before after : List Object) (top a : Activity) : FrameSpec → Type 0 where
@@ -99,26 +111,31 @@ pub data Starts (before after : List Object) (top a : Activity) : FrameSpec → 
   OfCallback : (weak p : ℕ) → Includes (waits_of top) weak → Includes (holds a) (unwrap_or (callback_of before weak) 0) ⊎ Includes (waits_of a) weak × (after ≡ before)
       → Starts before after top a (record { sort = Callback; proc = p; subject = weak; func = Some (unwrap_or (callback_of before weak) 0) })
 
--- a line that shows no value
-abbrev pub ShowsNoValue : Event → Type 0
-ShowsNoValue (Value v) = ⊥
-ShowsNoValue event = Unit {0}
+-- A line shows no value, and a collection stops at its end alone.
+abbrev pub IsEnding : Activity → Type 0
+IsEnding (Collecting c) = c.phase ≡ Ending
+IsEnding top = ⊥
 
-abbrev pub ShowNoValues : List Event → Type 0
-ShowNoValues lines = (event : Event) → Includes lines event → ShowsNoValue event
+abbrev pub IsLineOf : Activity → Event → Type 0
+IsLineOf top (Value v) = ⊥
+IsLineOf top (GcStop g collected found) = IsEnding top
+IsLineOf top event = Unit {0}
+
+abbrev pub AreLinesOf : Activity → List Event → Type 0
+AreLinesOf top lines = (event : Event) → Includes lines event → IsLineOf top event
 
 -- What a step of the activity on top of `below` can be. It leaves the names, and makes no object.
 pub data Advance (script : Script) (v : World) (top : Activity) (below : List Activity) : List Event → World → Type 0 where
-  Stands : (tops : List Activity) (objects : List Object) (numbers : Numbers) (lines : List Event) → Tops v.objects objects top tops → Changed top v.objects objects → Renumbers top v.objects v.numbers numbers → ShowNoValues lines
+  Stands : (tops : List Activity) (objects : List Object) (numbers : Numbers) (lines : List Event) → Tops v.objects objects top tops → Changed top v.objects objects → Renumbers top v.objects v.numbers numbers → AreLinesOf top lines
       → Advance script v top below lines (record v { objects = objects; numbers = numbers; stack = tops ++ below })
-  StartsFrame : (spec : FrameSpec) (a : Activity) (objects : List Object) → Starts v.objects objects top a spec → Continues v.objects objects top a → Changed top v.objects objects
+  StartsFrame : (spec : FrameSpec) (a : Activity) (objects : List Object) → Starts v.objects objects top a spec → Continues v.objects objects top a → HoldsOn [] top a → Changed top v.objects objects
       → Advance script v top below (start_frame script spec (record v { objects = objects; stack = a ∷ below })).0 (start_frame script spec (record v { objects = objects; stack = a ∷ below })).1
 
 -- what goes on has no commands
 pub continues_idle : (before after : List Object) (a b : Activity) → Continues before after a b → commands_on b ≡ []
 continues_idle before after a b (Dies o phase next waits none) = refl
 continues_idle before after a b (Clears o weak waiting weaks t first lost) = refl
-continues_idle before after a b (Collects c d same begun) = refl
+continues_idle before after a b (Collects c d same begun early) = refl
 
 -- where those come from that were changed where a test passes
 pub asides : (top : Activity) (f : Object → Object) (test : Object → Bool) (objects : List Object) → ((x : Object) → Includes objects x → test x ≡ true → IsAside top x (f x))

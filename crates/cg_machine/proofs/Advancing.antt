@@ -1,6 +1,6 @@
 -- Each step of an activity without commands left has one of the forms of `Advances`: the end of a frame, a release, each phase of a death
 -- and of a collection.
-use Rattle.std.proofs.Common.{◌≡◌, refl, sym, subst, ℕ, ◌+◌, ◌-◌, ◌≤◌, Bool, true, false, not, inl, inr, ◌⊎◌, List, [], ◌∷◌, ◌++◌, length, map, Option, Some, None, arith}
+use Rattle.std.proofs.Common.{◌≡◌, ◌≢◌, refl, sym, subst, ℕ, ◌+◌, ◌-◌, ◌≤◌, Bool, true, false, not, inl, inr, ◌⊎◌, List, [], ◌∷◌, ◌++◌, length, map, Option, Some, None, arith}
 use Rattle.std.specs.Prelude.{◌==◌, ◌&&◌, ◌||◌, nat_le, if◌then◌else◌, is_some, option_and_then, option_to_list, unwrap_or}
 use Rattle.std.proofs.lemmas.Bool.{eqb-false, eqb-true}
 use Rattle.std.proofs.lemmas.List.{length-map}
@@ -12,14 +12,14 @@ use Rattle.cg_script.specs.declared.Script.{Script}
 use Rattle.cg_graph.specs.Member.{Includes, includes}
 use Rattle.cg_graph.specs.Value.{entry_references, last_entry, without_last}
 use Rattle.cg_graph.specs.Object.{Object, change, entries_of, is_at, is_in_map, is_tracked, is_tuple, marked, object_at, objects_at, same_place, serials_at, with_entries, with_place, with_referent, without}
-use Rattle.cg_graph.proofs.Members.{either, Includes-append_cases, Includes-filter, Includes-map, Includes-map_cases}
+use Rattle.cg_graph.proofs.Members.{either, Includes-append_cases, Includes-append_left, Includes-filter, Includes-map, Includes-map_cases}
 use Rattle.cg_machine.specs.declared.event.Event.{Event}
 use Rattle.cg_machine.specs.declared.event.Event.TheVariants.{Alive, Cleared, Collected, Free, GcCollectable, GcSaved, GcStart, GcStop, GcUncollectable, Leave}
 use Rattle.cg_machine.specs.declared.event.FrameSort.{FrameSort}
 use Rattle.cg_machine.specs.declared.event.FrameSort.TheVariants.{Del, Legacy, Callback, Call}
 use Rattle.cg_machine.specs.Program.{legacy_of, profile_of}
 use Rattle.cg_machine.specs.World.{World, Activity, Framed, Releasing, Dying, Collecting, Frame, DyingPhase, Finalizer, AfterFinalizer, Clearing, Calling, AfterCall, LegacyFinalizer, AfterLegacy, Detaching, Emptying, Collection, CollectPhase, Start, WeakClearing, WeakCalling, AfterCallback, AfterRelease, Finalizing, AfterFinalizing, Split, Turns, Turn, AfterTurn, Ending, with_stack, with_change, with_objects}
-use Rattle.cg_machine.specs.Holdings.{in_degree, is_collection, is_dying}
+use Rattle.cg_machine.specs.Holdings.{collect_holds, in_degree, is_collection, is_dying}
 use Rattle.cg_machine.specs.Frame.{Transition, frame_end, gives_up_function, begin_death, released, procedure_of}
 use Rattle.cg_machine.specs.Effects.{gens_line}
 use Rattle.cg_machine.specs.Weak.{AllLose, has_weak_references, weak_references_if, loses_referent, callback_of}
@@ -30,24 +30,25 @@ use Rattle.cg_machine.specs.Operands.{is_dict}
 use Rattle.cg_machine.proofs.Measure.{is_first}
 use Rattle.cg_machine.proofs.PrintableTexts.{taken_member}
 use Rattle.cg_machine.proofs.Forgotten.{place_later}
-use Rattle.cg_machine.proofs.Advances.{Advance, Stands, StartsFrame, Changed, Same, Marks, Takes, Saves, Frees, Then, IsPlaceIn, Moved, Rests, Untracks, Revives, Sorts, Finalizes, Soon, Late, Owns, Empties, CallsBack, HasTurn, Kept, Freed, Begins, Continues, Dies, Clears, Collects, Ends, Returns, Releases, Kills, GoesOn, Gives, OfFinalizer, OfLegacy, OfCallback, ShowsNoValue, ShowNoValues, either_way, few_option, few_entry}
+use Rattle.cg_machine.proofs.Advances.{Advance, Stands, StartsFrame, Changed, Same, Marks, Takes, Saves, Frees, Then, IsPlaceIn, Moved, Rests, Untracks, Revives, Sorts, Finalizes, Soon, Late, Owns, Empties, CallsBack, HasTurn, Kept, Freed, Begins, Continues, Dies, Clears, Collects, Ends, Returns, Releases, Kills, GoesOn, Gives, OfFinalizer, OfLegacy, OfCallback, IsLineOf, AreLinesOf, IsEarly, either_way, few_option, few_entry}
 
 -- lines
-no_lines : ShowNoValues []
-no_lines event m = absurd m
+module _ (top : Activity) where
+  no_lines : AreLinesOf top []
+  no_lines event m = absurd m
 
-one_line : (line : Event) → ShowsNoValue line → ShowNoValues (line ∷ [])
-one_line line h event m = either m (λ e. subst ShowsNoValue e h) (λ none. absurd none)
+  one_line : (line : Event) → IsLineOf top line → AreLinesOf top (line ∷ [])
+  one_line line h event m = either m (λ e. subst (IsLineOf top) e h) (λ none. absurd none)
 
-more_lines : (front back : List Event) → ShowNoValues front → ShowNoValues back → ShowNoValues (front ++ back)
-more_lines front back h k event m = either (Includes-append_cases front back event m) (h event) (k event)
+  more_lines : (front back : List Event) → AreLinesOf top front → AreLinesOf top back → AreLinesOf top (front ++ back)
+  more_lines front back h k event m = either (Includes-append_cases front back event m) (h event) (k event)
 
-lines_of : (f : ℕ → Event) → ((o : ℕ) → ShowsNoValue (f o)) → (os : List ℕ) → ShowNoValues (map f os)
-lines_of f h os event m = let o = Includes-map_cases f os event m in subst ShowsNoValue o.2 (h o.0)
+  lines_of : (f : ℕ → Event) → ((o : ℕ) → IsLineOf top (f o)) → (os : List ℕ) → AreLinesOf top (map f os)
+  lines_of f h os event m = let o = Includes-map_cases f os event m in subst (IsLineOf top) o.2 (h o.0)
 
-flagged_lines : (b : Bool) (lines : List Event) → ShowNoValues lines → ShowNoValues (lines_if b lines)
-flagged_lines true lines h = h
-flagged_lines false lines h = no_lines
+  flagged_lines : (b : Bool) (lines : List Event) → AreLinesOf top lines → AreLinesOf top (lines_if b lines)
+  flagged_lines true lines h = h
+  flagged_lines false lines h = no_lines
 
 -- objects that change place, mark or referent
 module _ (top : Activity) where
@@ -83,21 +84,21 @@ pub frame_end_advances : (script : Script) (f : Frame) (below : List Activity) (
 frame_end_advances script f below v = by_sort f.sort f.function
   where
     popped : Advance script v (Framed f) below (Leave ∷ []) (with_stack below v)
-    popped = Stands [] v.objects v.numbers (Leave ∷ []) (Ends (Framed f)) (Same v.objects) Kept (one_line Leave tt)
+    popped = Stands [] v.objects v.numbers (Leave ∷ []) (Ends (Framed f)) (Same v.objects) Kept (one_line (Framed f) Leave tt)
 
     by_sort : (sort : FrameSort) (function : Option ℕ) → Advance script v (Framed f) below (Leave ∷ []) (gives_up_function sort function (with_stack below v))
     by_sort Del function = popped
     by_sort Legacy function = popped
     by_sort Callback function = popped
-    by_sort Call function = Stands (Releasing (option_to_list function) ∷ []) v.objects v.numbers (Leave ∷ []) (Returns f (option_to_list function) (few_option function)) (Same v.objects) Kept (one_line Leave tt)
+    by_sort Call function = Stands (Releasing (option_to_list function) ∷ []) v.objects v.numbers (Leave ∷ []) (Returns f (option_to_list function) (few_option function)) (Same v.objects) Kept (one_line (Framed f) Leave tt)
 
 -- a release
 pub released_advances : (script : Script) (references : List ℕ) (below : List Activity) (v : World) → (let t : Transition = released references below (with_stack (Releasing references ∷ below) v) in Advance script v (Releasing references) below t.0 t.1)
-released_advances script [] below v = Stands [] v.objects v.numbers [] (Ends (Releasing [])) (Same v.objects) Kept no_lines
+released_advances script [] below v = Stands [] v.objects v.numbers [] (Ends (Releasing [])) (Same v.objects) Kept (no_lines (Releasing []))
 released_advances script (o ∷ references) below v = either_way (Advance script v (Releasing (o ∷ references)) below) (not (is_dying now o) && (in_degree now o == 0)) ([], begin_death o now) ([], now)
     (Stands (Dying (record { object = o; phase = Finalizer }) ∷ Releasing references ∷ []) (change dead o v.objects) v.numbers [] (Kills o references)
-    (Marks dead (λ x. x.serial == o) v.objects (λ x m t. record { later = record { serial = refl; code = refl; class = refl; referent = inr refl }; entries = refl; moved = Untracks refl })) Kept no_lines)
-    (Stands (Releasing references ∷ []) v.objects v.numbers [] (Releases o references) (Same v.objects) Kept no_lines)
+    (Marks dead (λ x. x.serial == o) v.objects (λ x m t. record { later = record { serial = refl; code = refl; class = refl; referent = inr refl }; entries = refl; moved = Untracks refl })) Kept (no_lines (Releasing (o ∷ references))))
+    (Stands (Releasing references ∷ []) v.objects v.numbers [] (Releases o references) (Same v.objects) Kept (no_lines (Releasing (o ∷ references))))
   where
     now : World
     now = with_stack (Releasing references ∷ below) v
@@ -121,26 +122,26 @@ module _ (script : Script) (o : ℕ) (below : List Activity) (v : World) where
   nothing phase n m = absurd m
 
   goes_on : (phase next : DyingPhase) (objects : List Object) → Continues v.objects objects (dying_now phase) (dying_now next) → Changed (dying_now phase) v.objects objects → DeathAdvances phase ([], record v { objects = objects; stack = dying_now next ∷ below })
-  goes_on phase next objects c h = Stands (dying_now next ∷ []) objects v.numbers [] (GoesOn (dying_now phase) (dying_now next) c) h Kept no_lines
+  goes_on phase next objects c h = Stands (dying_now next ∷ []) objects v.numbers [] (GoesOn (dying_now phase) (dying_now next) c tt) h Kept (no_lines (dying_now phase))
 
   gives : (phase next : DyingPhase) (references : List ℕ) (objects : List Object) → length references ≤ 2 → Continues v.objects objects (dying_now phase) (dying_now next) → Changed (dying_now phase) v.objects objects
       → DeathAdvances phase ([], record v { objects = objects; stack = Releasing references ∷ dying_now next ∷ below })
-  gives phase next references objects few c h = Stands (Releasing references ∷ dying_now next ∷ []) objects v.numbers [] (Gives (dying_now phase) (dying_now next) references few c) h Kept no_lines
+  gives phase next references objects few c h = Stands (Releasing references ∷ dying_now next ∷ []) objects v.numbers [] (Gives (dying_now phase) (dying_now next) references few c tt) h Kept (no_lines (dying_now phase))
 
   finalizer_advances : (m : Option ℕ) → DeathAdvances Finalizer (run_finalizer script o below (at Finalizer) m)
   finalizer_advances None = goes_on Finalizer (Clearing []) v.objects (Dies o Finalizer (Clearing []) (nothing Finalizer) refl) (Same v.objects)
-  finalizer_advances (Some p) = StartsFrame (record { sort = Del; proc = p; subject = o; func = None }) (dying_now AfterFinalizer) (change (λ x. marked (with_place (Gen 0) x)) o v.objects) (OfFinalizer o p) (Dies o Finalizer AfterFinalizer (nothing Finalizer) tt)
+  finalizer_advances (Some p) = StartsFrame (record { sort = Del; proc = p; subject = o; func = None }) (dying_now AfterFinalizer) (change (λ x. marked (with_place (Gen 0) x)) o v.objects) (OfFinalizer o p) (Dies o Finalizer AfterFinalizer (nothing Finalizer) tt) tt
       (move_mark (dying_now Finalizer) (Gen 0) o v.objects (λ x e. Revives (subst (Finalizes (dying_now Finalizer)) (sym e) (Soon o)) refl))
 
   after_frame_advances : (phase next : DyingPhase) → Continues v.objects (change (with_place Untracked) o v.objects) (dying_now phase) (dying_now next) → DeathAdvances phase (after_frame o next below (at phase))
   after_frame_advances phase next c = either_way (Advance script v (dying_now phase) below) (in_degree (at next) o == 0) ([], with_change (with_place Untracked) o (at next)) (Alive o ∷ [], with_stack below (at phase))
       (goes_on phase next (change (with_place Untracked) o v.objects) c (untracks (dying_now phase) o v.objects))
-      (Stands [] v.objects v.numbers (Alive o ∷ []) (Ends (dying_now phase)) (Same v.objects) Kept (one_line (Alive o) tt))
+      (Stands [] v.objects v.numbers (Alive o ∷ []) (Ends (dying_now phase)) (Same v.objects) Kept (one_line (dying_now phase) (Alive o) tt))
 
   clearing_advances : (waiting weaks : List ℕ) → weak_references_if has_weak_references v.objects o ≡ weaks → DeathAdvances (Clearing waiting) (clear_one o waiting below (at (Clearing waiting)) weaks)
   clearing_advances waiting [] e = goes_on (Clearing waiting) (Calling waiting) v.objects (Dies o (Clearing waiting) (Calling waiting) (λ n m. m) tt) (Same v.objects)
-  clearing_advances waiting (weak ∷ weaks) e = Stands (dying_now next ∷ []) (loses_referent weak v.objects) v.numbers (Cleared weak ∷ []) (GoesOn (dying_now (Clearing waiting)) (dying_now next) (Clears o weak waiting weaks (is_some (callback_of v.objects weak)) e refl))
-      (loses (dying_now (Clearing waiting)) weak v.objects) Kept (one_line (Cleared weak) tt)
+  clearing_advances waiting (weak ∷ weaks) e = Stands (dying_now next ∷ []) (loses_referent weak v.objects) v.numbers (Cleared weak ∷ []) (GoesOn (dying_now (Clearing waiting)) (dying_now next) (Clears o weak waiting weaks (is_some (callback_of v.objects weak)) e refl) tt)
+      (loses (dying_now (Clearing waiting)) weak v.objects) Kept (one_line (dying_now (Clearing waiting)) (Cleared weak) tt)
     where
       next : DyingPhase
       next = Clearing (waiting ++ (if is_some (callback_of v.objects weak) then weak ∷ [] else []))
@@ -151,20 +152,20 @@ module _ (script : Script) (o : ℕ) (below : List Activity) (v : World) where
       let callback = unwrap_or (callback_of v.objects weak) 0 in
       let phase = Calling (weak ∷ waiting) in
       StartsFrame (record { sort = Callback; proc = procedure_of (at phase) callback; subject = weak; func = Some callback }) (dying_now (AfterCall weak callback waiting)) (change (with_entries []) weak v.objects)
-      (OfCallback weak (procedure_of (at phase) callback) (inl refl) (inl (inl refl))) (Dies o phase (AfterCall weak callback waiting) (λ n m. inr m) tt) (Takes [] weak v.objects (CallsBack o weak waiting) (λ e m. absurd m))
+      (OfCallback weak (procedure_of (at phase) callback) (inl refl) (inl (inl refl))) (Dies o phase (AfterCall weak callback waiting) (λ n m. inr m) tt) tt (Takes [] weak v.objects (CallsBack o weak waiting) (λ e m. absurd m))
 
   legacy_advances : (m : Option ℕ) → DeathAdvances LegacyFinalizer (run_legacy script o below (at LegacyFinalizer) m)
   legacy_advances None = goes_on LegacyFinalizer Detaching v.objects (Dies o LegacyFinalizer Detaching (nothing LegacyFinalizer) tt) (Same v.objects)
-  legacy_advances (Some p) = StartsFrame (record { sort = Legacy; proc = p; subject = o; func = None }) (dying_now AfterLegacy) (change (with_place (Gen 0)) o v.objects) (OfLegacy o p) (Dies o LegacyFinalizer AfterLegacy (nothing LegacyFinalizer) tt)
+  legacy_advances (Some p) = StartsFrame (record { sort = Legacy; proc = p; subject = o; func = None }) (dying_now AfterLegacy) (change (with_place (Gen 0)) o v.objects) (OfLegacy o p) (Dies o LegacyFinalizer AfterLegacy (nothing LegacyFinalizer) tt) tt
       (moves (dying_now LegacyFinalizer) (Gen 0) o v.objects (λ x e. Revives (subst (Finalizes (dying_now LegacyFinalizer)) (sym e) (Late o)) refl))
 
   detaching_advances : (weaks : List ℕ) → DeathAdvances Detaching (detach_one o below (at Detaching) weaks)
   detaching_advances [] = goes_on Detaching Emptying v.objects (Dies o Detaching Emptying (nothing Detaching) tt) (Same v.objects)
-  detaching_advances (weak ∷ weaks) = Stands (dying_now Detaching ∷ []) (loses_referent weak v.objects) v.numbers (Cleared weak ∷ []) (GoesOn (dying_now Detaching) (dying_now Detaching) (Dies o Detaching Detaching (nothing Detaching) tt))
-      (loses (dying_now Detaching) weak v.objects) Kept (one_line (Cleared weak) tt)
+  detaching_advances (weak ∷ weaks) = Stands (dying_now Detaching ∷ []) (loses_referent weak v.objects) v.numbers (Cleared weak ∷ []) (GoesOn (dying_now Detaching) (dying_now Detaching) (Dies o Detaching Detaching (nothing Detaching) tt) tt)
+      (loses (dying_now Detaching) weak v.objects) Kept (one_line (dying_now Detaching) (Cleared weak) tt)
 
   emptying_advances : (m : Option Entry) → DeathAdvances Emptying (empty_one o below (at Emptying) m)
-  emptying_advances None = Stands [] (without o v.objects) _ (Free o ∷ []) (Ends (dying_now Emptying)) (Frees o v.objects (Empties o)) Freed (one_line (Free o) tt)
+  emptying_advances None = Stands [] (without o v.objects) _ (Free o ∷ []) (Ends (dying_now Emptying)) (Frees o v.objects (Empties o)) Freed (one_line (dying_now Emptying) (Free o) tt)
   emptying_advances (Some entry) = gives Emptying Emptying (entry_references entry) (change (with_entries (without_last (entries_of v.objects o))) o v.objects) (few_entry entry) (Dies o Emptying Emptying (nothing Emptying) tt) (shortens (dying_now Emptying) o v.objects (Empties o))
 
   pub dying_advances : (phase : DyingPhase) → DeathAdvances phase (dying script o phase below (at phase))
@@ -226,25 +227,32 @@ module _ (script : Script) (c : Collection) (below : List Activity) (v : World) 
   yielded : (phase : CollectPhase) (next : Transition) (lines : List Event) (after : World) → lines ≡ next.0 → after ≡ next.1 → CollectionAdvances phase next.0 next.1 → CollectionAdvances phase lines after
   yielded phase next lines after e k h = subst (λ es. CollectionAdvances phase es after) (sym e) (subst (CollectionAdvances phase next.0) (sym k) h)
 
-  stands : (phase : CollectPhase) (d : Collection) (objects : List Object) (lines : List Event) → d.generation ≡ c.generation → is_first d.phase ≡ false → Changed (collecting phase) v.objects objects → ShowNoValues lines
+  -- the collection goes on at a phase, and holds what it held or gives it up
+  abbrev MayTurn : CollectPhase → CollectPhase → List ℕ → Type 0
+  MayTurn phase next given = (is_first next ≡ false) × (IsEarly phase → phase ≢ Split → IsEarly next) × ((n : ℕ) → Includes (collect_holds phase) n → Includes given n ⊎ Includes (collect_holds next) n)
+
+  stands : (phase : CollectPhase) (d : Collection) (objects : List Object) (lines : List Event) → d.generation ≡ c.generation → MayTurn phase d.phase [] → Changed (collecting phase) v.objects objects → AreLinesOf (collecting phase) lines
       → CollectionAdvances phase lines (record v { objects = objects; stack = Collecting d ∷ below })
-  stands phase d objects lines same begun h none = Stands (Collecting d ∷ []) objects v.numbers lines (GoesOn (collecting phase) (Collecting d) (Collects (record c { phase = phase }) d same begun)) h Kept none
+  stands phase d objects lines same t h shown = Stands (Collecting d ∷ []) objects v.numbers lines (GoesOn (collecting phase) (Collecting d) (Collects (record c { phase = phase }) d same t.0 t.1) t.2) h Kept shown
 
-  silent : (phase next : CollectPhase) (objects : List Object) → is_first next ≡ false → Changed (collecting phase) v.objects objects → CollectionAdvances phase [] (record v { objects = objects; stack = collecting next ∷ below })
-  silent phase next objects begun h = stands phase (record c { phase = next }) objects [] refl begun h no_lines
+  silent : (phase next : CollectPhase) (objects : List Object) → MayTurn phase next [] → Changed (collecting phase) v.objects objects → CollectionAdvances phase [] (record v { objects = objects; stack = collecting next ∷ below })
+  silent phase next objects t h = stands phase (record c { phase = next }) objects [] refl t h (no_lines (collecting phase))
 
-  releases : (phase next : CollectPhase) (references : List ℕ) (objects : List Object) → length references ≤ 2 → is_first next ≡ false → Changed (collecting phase) v.objects objects
+  releases : (phase next : CollectPhase) (references : List ℕ) (objects : List Object) → length references ≤ 2 → MayTurn phase next references → Changed (collecting phase) v.objects objects
       → CollectionAdvances phase [] (record v { objects = objects; stack = Releasing references ∷ collecting next ∷ below })
-  releases phase next references objects few begun h = Stands (Releasing references ∷ collecting next ∷ []) objects v.numbers [] (Gives (collecting phase) (collecting next) references few (Collects (record c { phase = phase }) (record c { phase = next }) refl begun)) h Kept no_lines
+  releases phase next references objects few t h = Stands (Releasing references ∷ collecting next ∷ []) objects v.numbers [] (Gives (collecting phase) (collecting next) references few (Collects (record c { phase = phase }) (record c { phase = next }) refl t.0 t.1) t.2) h Kept (no_lines (collecting phase))
 
   start_advances : (lines : List Event) (after : World) → StartStep script (with_phase Start) c below lines after → CollectionAdvances Start lines after
   start_advances lines after step = yielded Start (_, _) lines after step.lines step.world (Stands (collecting (WeakClearing []) ∷ []) (sorted c.generation step.places now) (survived c.generation survivors (begun c.generation v.numbers)) _
-      (GoesOn (collecting Start) (collecting (WeakClearing [])) (Collects (record c { phase = Start }) (record c { phase = WeakClearing [] }) refl refl))
+      (GoesOn (collecting Start) (collecting (WeakClearing [])) (Collects (record c { phase = Start }) (record c { phase = WeakClearing [] }) refl refl (λ e s. tt)) (λ n m. absurd m))
       (Then v.objects now (sorted c.generation step.places now) (Marks (λ x. with_place (merged_place c.generation x.place) x) (λ x. true) v.objects (λ x m t. record { later = place_later (merged_place c.generation x.place) x; entries = refl; moved = merges (collecting Start) (record c { phase = Start }) refl x })) (sorts (collecting Start) (record c { phase = Start }) refl step.places (is_at (Gen c.generation)) now placed_in))
       (Begins (record c { phase = Start }) survivors refl refl few)
-      (more_lines (GcStart c.generation ∷ []) _ (one_line (GcStart c.generation) tt) (more_lines (lines_if (has_flag c.flags stats) (gens_line v.objects ∷ [])) _ (flagged_lines (has_flag c.flags stats) _ (one_line (gens_line v.objects) tt))
-      (flagged_lines (has_flag c.flags collectable) _ (lines_of GcCollectable (λ o. tt) step.collectables)))))
+      (more_lines now_on (GcStart c.generation ∷ []) _ (one_line now_on (GcStart c.generation) tt) (more_lines now_on (lines_if (has_flag c.flags stats) (gens_line v.objects ∷ [])) _ (flagged_lines now_on (has_flag c.flags stats) _ (one_line now_on (gens_line v.objects) tt))
+      (flagged_lines now_on (has_flag c.flags collectable) _ (lines_of now_on GcCollectable (λ o. tt) step.collectables)))))
     where
+      now_on : Activity
+      now_on = collecting Start
+
       now : List Object
       now = (merged c.generation v).objects
 
@@ -271,38 +279,38 @@ module _ (script : Script) (c : Collection) (below : List Activity) (v : World) 
       loses_it = loses (collecting (WeakClearing waiting)) step.weak v.objects
 
       go : (t : Bool) → CollectionAdvances (WeakClearing waiting) (Cleared step.weak ∷ []) (if t then collection_at c (WeakClearing (waiting ++ step.weak ∷ [])) below (with_objects (change (with_place Pend) step.weak lost) (with_phase (WeakClearing waiting))) else collection_at c (WeakClearing waiting) below (with_objects lost (with_phase (WeakClearing waiting))))
-      go true = stands (WeakClearing waiting) (record c { phase = WeakClearing (waiting ++ step.weak ∷ []) }) (change (with_place Pend) step.weak lost) _ refl refl (Then v.objects lost (change (with_place Pend) step.weak lost) loses_it (moves_to (WeakClearing waiting) Pend step.weak lost tt)) (one_line (Cleared step.weak) tt)
-      go false = stands (WeakClearing waiting) (record c { phase = WeakClearing waiting }) lost _ refl refl loses_it (one_line (Cleared step.weak) tt)
-  weak_clearing_advances waiting lines after (inr step) = yielded (WeakClearing waiting) (_, _) lines after step.1.0 step.1.1 (silent (WeakClearing waiting) (WeakCalling waiting) v.objects refl (Same v.objects))
+      go true = stands (WeakClearing waiting) (record c { phase = WeakClearing (waiting ++ step.weak ∷ []) }) (change (with_place Pend) step.weak lost) _ refl (refl, λ e s. tt, λ n m. inr (Includes-append_left waiting (step.weak ∷ []) n m)) (Then v.objects lost (change (with_place Pend) step.weak lost) loses_it (moves_to (WeakClearing waiting) Pend step.weak lost tt)) (one_line (collecting (WeakClearing waiting)) (Cleared step.weak) tt)
+      go false = stands (WeakClearing waiting) (record c { phase = WeakClearing waiting }) lost _ refl (refl, λ e s. tt, λ n m. inr m) loses_it (one_line (collecting (WeakClearing waiting)) (Cleared step.weak) tt)
+  weak_clearing_advances waiting lines after (inr step) = yielded (WeakClearing waiting) (_, _) lines after step.1.0 step.1.1 (silent (WeakClearing waiting) (WeakCalling waiting) v.objects (refl, λ e s. tt, λ n m. inr m) (Same v.objects))
 
   weak_calling_advances : (waiting : List ℕ) → (let t : Transition = calls_back script c waiting below (with_phase (WeakCalling waiting)) in CollectionAdvances (WeakCalling waiting) t.0 t.1)
-  weak_calling_advances [] = silent (WeakCalling []) Finalizing v.objects refl (Same v.objects)
+  weak_calling_advances [] = silent (WeakCalling []) Finalizing v.objects (refl, λ e s. tt, λ n m. absurd m) (Same v.objects)
   weak_calling_advances (weak ∷ waiting) =
       let callback = unwrap_or (callback_of v.objects weak) 0 in
       let phase = WeakCalling (weak ∷ waiting) in
       StartsFrame (record { sort = Callback; proc = procedure_of (with_phase phase) callback; subject = weak; func = Some callback }) (collecting (AfterCallback weak waiting)) v.objects
-      (OfCallback weak (procedure_of (with_phase phase) callback) (inl refl) (inr (inl refl, refl))) (Collects (record c { phase = phase }) (record c { phase = AfterCallback weak waiting }) refl refl) (Same v.objects)
+      (OfCallback weak (procedure_of (with_phase phase) callback) (inl refl) (inr (inl refl, refl))) (Collects (record c { phase = phase }) (record c { phase = AfterCallback weak waiting }) refl refl (λ e s. tt)) (λ n m. inr m) (Same v.objects)
 
   after_release_advances : (weak : ℕ) (waiting : List ℕ) → (let t : Transition = after_release c weak waiting below (with_phase (AfterRelease weak waiting)) in CollectionAdvances (AfterRelease weak waiting) t.0 t.1)
   after_release_advances weak waiting = either_way (CollectionAdvances (AfterRelease weak waiting)) (is_in_map v.objects weak)
       ([], collection_at c (WeakCalling waiting) below (with_change (with_place place) weak (with_phase (AfterRelease weak waiting))))
       ([], collection_at (record c { collected = c.collected + 1 }) (WeakCalling waiting) below (with_phase (AfterRelease weak waiting)))
-      (silent (AfterRelease weak waiting) (WeakCalling waiting) (change (with_place place) weak v.objects) refl (moves_to (AfterRelease weak waiting) place weak v.objects (inr refl)))
-      (stands (AfterRelease weak waiting) (record c { collected = c.collected + 1; phase = WeakCalling waiting }) v.objects [] refl refl (Same v.objects) no_lines)
+      (silent (AfterRelease weak waiting) (WeakCalling waiting) (change (with_place place) weak v.objects) (refl, λ e s. tt, λ n m. inr m) (moves_to (AfterRelease weak waiting) place weak v.objects (inr refl)))
+      (stands (AfterRelease weak waiting) (record c { collected = c.collected + 1; phase = WeakCalling waiting }) v.objects [] refl (refl, λ e s. tt, λ n m. inr m) (Same v.objects) (no_lines (collecting (AfterRelease weak waiting))))
 
   looks_at_advances : (o : ℕ) (m : Option ℕ) → (let t : Transition = looks_at script c o below (with_phase Finalizing) m in CollectionAdvances Finalizing t.0 t.1)
-  looks_at_advances o None = silent Finalizing Finalizing (change (with_place Seen) o v.objects) refl (moves_to Finalizing Seen o v.objects tt)
+  looks_at_advances o None = silent Finalizing Finalizing (change (with_place Seen) o v.objects) (refl, λ e s. tt, λ n m. absurd m) (moves_to Finalizing Seen o v.objects tt)
   looks_at_advances o (Some p) = StartsFrame (record { sort = Del; proc = p; subject = o; func = None }) (collecting (AfterFinalizing o)) (change (λ x. marked (with_place Seen x)) o v.objects) (OfFinalizer o p)
-      (Collects (record c { phase = Finalizing }) (record c { phase = AfterFinalizing o }) refl refl) (move_mark (collecting Finalizing) Seen o v.objects (λ x e. Sorts (record c { phase = Finalizing }) refl tt))
+      (Collects (record c { phase = Finalizing }) (record c { phase = AfterFinalizing o }) refl refl (λ e s. tt)) (λ n m. absurd m) (move_mark (collecting Finalizing) Seen o v.objects (λ x e. Sorts (record c { phase = Finalizing }) refl tt))
 
   finalizing_advances : (lines : List Event) (after : World) → FinalizingStep script c below (with_phase Finalizing) lines after → CollectionAdvances Finalizing lines after
   finalizing_advances lines after (inl step) = yielded Finalizing _ lines after step.yields.0 step.yields.1 (looks_at_advances step.object (option_and_then (finalizer_to_run script) (object_at v.objects step.object)))
-  finalizing_advances lines after (inr step) = yielded Finalizing (_, _) lines after step.1.0 step.1.1 (silent Finalizing Split _ refl (sorts (collecting Finalizing) (record c { phase = Finalizing }) refl (λ x. Cand) (is_at Seen) v.objects (λ x m t. tt)))
+  finalizing_advances lines after (inr step) = yielded Finalizing (_, _) lines after step.1.0 step.1.1 (silent Finalizing Split _ (refl, λ e s. tt, λ n m. absurd m) (sorts (collecting Finalizing) (record c { phase = Finalizing }) refl (λ x. Cand) (is_at Seen) v.objects (λ x m t. tt)))
 
   split_advances : (lines : List Event) (after : World) → SplitStep c below (with_phase Split) lines after → CollectionAdvances Split lines after
-  split_advances lines after step = yielded Split (_, _) lines after step.lines step.world (stands Split (record c { collected = c.collected + length (serials_at step.objects Cand); phase = Turns }) step.objects _ refl refl
+  split_advances lines after step = yielded Split (_, _) lines after step.lines step.world (stands Split (record c { collected = c.collected + length (serials_at step.objects Cand); phase = Turns }) step.objects _ refl (refl, λ e s. absurd (s refl), λ n m. absurd m)
       (Then v.objects now step.objects (sorts (collecting Split) (record c { phase = Split }) refl (λ x. place) (λ x. includes step.alive x.serial) v.objects (λ x m t. inr refl)) (all_lose (collecting Split) (loses_at_split now) step.cleared now step.objects step.lose))
-      (more_lines (map Alive step.alive) (map Cleared step.cleared) (lines_of Alive (λ o. tt) step.alive) (lines_of Cleared (λ o. tt) step.cleared)))
+      (more_lines (collecting Split) (map Alive step.alive) (map Cleared step.cleared) (lines_of (collecting Split) Alive (λ o. tt) step.alive) (lines_of (collecting Split) Cleared (λ o. tt) step.cleared)))
     where
       now : List Object
       now = get_older c.generation step.alive v.objects
@@ -311,8 +319,8 @@ module _ (script : Script) (c : Collection) (below : List Activity) (v : World) 
   turn_advances x = either_way (CollectionAdvances Turns) (has_flag c.flags save_all)
       (GcSaved x.serial ∷ [], collection_at c Turns below (with_objects (change (with_place place) x.serial (saved x.serial v.objects)) (with_phase Turns)))
       (if is_tuple x then older_now else goes_now)
-      (stands Turns (record c { phase = Turns }) _ _ refl refl (Then v.objects (saved x.serial v.objects) _ (Saves x.serial v.objects refl) (moves_to Turns place x.serial (saved x.serial v.objects) (inr refl))) (one_line (GcSaved x.serial) tt))
-      (either_way (CollectionAdvances Turns) (is_tuple x) older_now goes_now (silent Turns Turns _ refl (moves_to Turns place x.serial v.objects (inr refl))) (silent Turns (Turn x.serial) v.objects refl (Same v.objects)))
+      (stands Turns (record c { phase = Turns }) _ _ refl (refl, λ e s. absurd e, λ n m. absurd m) (Then v.objects (saved x.serial v.objects) _ (Saves x.serial v.objects refl) (moves_to Turns place x.serial (saved x.serial v.objects) (inr refl))) (one_line (collecting Turns) (GcSaved x.serial) tt))
+      (either_way (CollectionAdvances Turns) (is_tuple x) older_now goes_now (silent Turns Turns _ (refl, λ e s. absurd e, λ n m. absurd m) (moves_to Turns place x.serial v.objects (inr refl))) (silent Turns (Turn x.serial) v.objects (refl, λ e s. absurd e, λ n m. absurd m) (Same v.objects)))
     where
       older_now : Transition
       older_now = ([], collection_at c Turns below (with_change (with_place place) x.serial (with_phase Turns)))
@@ -322,18 +330,21 @@ module _ (script : Script) (c : Collection) (below : List Activity) (v : World) 
 
   turns_advances : (lines : List Event) (after : World) → TurnsStep c below (with_phase Turns) lines after → CollectionAdvances Turns lines after
   turns_advances lines after (inl step) = yielded Turns _ lines after step.yields.0 step.yields.1 (turn_advances step.object)
-  turns_advances lines after (inr step) = yielded Turns (_, _) lines after step.1.0 step.1.1 (silent Turns Ending v.objects refl (Same v.objects))
+  turns_advances lines after (inr step) = yielded Turns (_, _) lines after step.1.0 step.1.1 (silent Turns Ending v.objects (refl, λ e s. absurd e, λ n m. absurd m) (Same v.objects))
 
   empties_advances : (o : ℕ) (m : Option Entry) → (let t : Transition = empties c o below (with_phase (Turn o)) m in CollectionAdvances (Turn o) t.0 t.1)
-  empties_advances o None = releases (Turn o) (AfterTurn o) (o ∷ []) v.objects (omega arith) refl (Same v.objects)
-  empties_advances o (Some entry) = releases (Turn o) (Turn o) (entry_references entry) _ (few_entry entry) refl (shortens (collecting (Turn o)) o v.objects (HasTurn (record c { phase = Turn o }) o refl))
+  empties_advances o None = releases (Turn o) (AfterTurn o) (o ∷ []) v.objects (omega arith) (refl, λ e s. absurd e, λ n m. inl m) (Same v.objects)
+  empties_advances o (Some entry) = releases (Turn o) (Turn o) (entry_references entry) _ (few_entry entry) (refl, λ e s. absurd e, λ n m. inr m) (shortens (collecting (Turn o)) o v.objects (HasTurn (record c { phase = Turn o }) o refl))
 
   end_advances : (lines : List Event) (after : World) → EndStep script c below (with_phase Ending) lines after → CollectionAdvances Ending lines after
   end_advances lines after step = yielded Ending (_, _) lines after step.lines step.world (Stands [] _ v.numbers _ (Ends (collecting Ending))
       (Then v.objects (all_saved step.keeps v.objects) _ (save_each (collecting Ending) step.keeps v.objects refl) (sorts (collecting Ending) (record c { phase = Ending }) refl (λ x. place) (is_at LegacyPlace) (all_saved step.keeps v.objects) (λ x m t. inr refl))) Kept
-      (more_lines (told ++ map GcSaved step.keeps) (stop ∷ asked) (more_lines told (map GcSaved step.keeps) (flagged_lines (has_flag c.flags uncollectable) _ (lines_of GcUncollectable (λ o. tt) step.told)) (lines_of GcSaved (λ o. tt) step.keeps))
-      (more_lines (stop ∷ []) asked (one_line stop tt) (flagged_lines c.asked _ (one_line (Collected (c.collected + length step.told)) tt)))))
+      (more_lines now_on (told ++ map GcSaved step.keeps) (stop ∷ asked) (more_lines now_on told (map GcSaved step.keeps) (flagged_lines now_on (has_flag c.flags uncollectable) _ (lines_of now_on GcUncollectable (λ o. tt) step.told)) (lines_of now_on GcSaved (λ o. tt) step.keeps))
+      (more_lines now_on (stop ∷ []) asked (one_line now_on stop refl) (flagged_lines now_on c.asked _ (one_line now_on (Collected (c.collected + length step.told)) tt)))))
     where
+      now_on : Activity
+      now_on = collecting Ending
+
       told : List Event
       told = lines_if (has_flag c.flags uncollectable) (map GcUncollectable step.told)
 
@@ -347,12 +358,12 @@ module _ (script : Script) (c : Collection) (below : List Activity) (v : World) 
   phase_advances Start lines after step = start_advances lines after step
   phase_advances (WeakClearing waiting) lines after step = weak_clearing_advances waiting lines after step
   phase_advances (WeakCalling waiting) lines after step = yielded (WeakCalling waiting) _ lines after step.0 step.1 (weak_calling_advances waiting)
-  phase_advances (AfterCallback weak waiting) lines after step = yielded (AfterCallback weak waiting) (_, _) lines after step.0 step.1 (releases (AfterCallback weak waiting) (AfterRelease weak waiting) (weak ∷ []) v.objects (omega arith) refl (Same v.objects))
+  phase_advances (AfterCallback weak waiting) lines after step = yielded (AfterCallback weak waiting) (_, _) lines after step.0 step.1 (releases (AfterCallback weak waiting) (AfterRelease weak waiting) (weak ∷ []) v.objects (omega arith) (refl, λ e s. tt, λ n m. either m (λ i. inl (inl i)) (λ k. inr k)) (Same v.objects))
   phase_advances (AfterRelease weak waiting) lines after step = yielded (AfterRelease weak waiting) _ lines after step.0 step.1 (after_release_advances weak waiting)
   phase_advances Finalizing lines after step = finalizing_advances lines after step
-  phase_advances (AfterFinalizing o) lines after step = yielded (AfterFinalizing o) (_, _) lines after step.0 step.1 (releases (AfterFinalizing o) Finalizing (o ∷ []) v.objects (omega arith) refl (Same v.objects))
+  phase_advances (AfterFinalizing o) lines after step = yielded (AfterFinalizing o) (_, _) lines after step.0 step.1 (releases (AfterFinalizing o) Finalizing (o ∷ []) v.objects (omega arith) (refl, λ e s. tt, λ n m. inl m) (Same v.objects))
   phase_advances Split lines after step = split_advances lines after step
   phase_advances Turns lines after step = turns_advances lines after step
   phase_advances (Turn o) lines after step = yielded (Turn o) _ lines after step.0 step.1 (empties_advances o (last_entry (entries_of v.objects o)))
-  phase_advances (AfterTurn o) lines after step = yielded (AfterTurn o) (_, _) lines after step.0 step.1 (silent (AfterTurn o) Turns _ refl (moves_to (AfterTurn o) place o v.objects (inr refl)))
+  phase_advances (AfterTurn o) lines after step = yielded (AfterTurn o) (_, _) lines after step.0 step.1 (silent (AfterTurn o) Turns _ (refl, λ e s. absurd e, λ n m. absurd m) (moves_to (AfterTurn o) place o v.objects (inr refl)))
   phase_advances Ending lines after step = end_advances lines after step

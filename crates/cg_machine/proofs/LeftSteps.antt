@@ -61,5 +61,5 @@ module _ (script : Script) (below : List Activity) (v : World) where
 
     pub advance_leaves : (lines : List Event) (after : World) → Advance script v top below lines after → LeavesIt (on top below v) below after
     advance_leaves lines after (Stands tops objects numbers ls t a n none) = leaves_from (on top below v) below (record v { objects = objects; numbers = numbers; stack = tops ++ below }) tops refl (changed_from v.objects objects a)
-    advance_leaves lines after (StartsFrame spec a objects s g m) = starts_leaves script spec (on top below v) below (record v { objects = objects; stack = a ∷ below })
+    advance_leaves lines after (StartsFrame spec a objects s g held m) = starts_leaves script spec (on top below v) below (record v { objects = objects; stack = a ∷ below })
         (leaves_from (on top below v) below (record v { objects = objects; stack = a ∷ below }) (a ∷ []) refl (changed_from v.objects objects m))

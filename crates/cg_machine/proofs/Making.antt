@@ -45,9 +45,9 @@ tops_bring_none before after top tops below (Ends a) = omega arith
 tops_bring_none before after top tops below (Returns f references few) = omega arith
 tops_bring_none before after top tops below (Releases o references) = omega arith
 tops_bring_none before after top tops below (Kills o references) = omega arith
-tops_bring_none before after top tops below (GoesOn a b c) = omega (arith, idle before after a b c)
-tops_bring_none before after top tops below (Gives a b references few c) = omega (arith, idle before after a b c)
+tops_bring_none before after top tops below (GoesOn a b c held) = omega (arith, idle before after a b c)
+tops_bring_none before after top tops below (Gives a b references few c held) = omega (arith, idle before after a b c)
 
 pub advance_makes : (most b : ℕ) (script : Script) (top : Activity) (below : List Activity) (v : World) → ((p : ℕ) → length (body_of script p) ≤ most) → (lines : List Event) (after : World) → Advance script v top below lines after → IsFew most b (on top below v) → IsFew most b after
 advance_makes most b script top below v short lines after (Stands tops objects numbers ls t c n none) h = record { within = omega (arith, h.within, tops_bring_none v.objects objects top tops below t) }
-advance_makes most b script top below v short lines after (StartsFrame spec a objects s c m) h = starts_makes most b script spec (record v { objects = objects; stack = a ∷ below }) (short spec.proc) (record { within = omega (arith, h.within, idle v.objects objects top a c) })
+advance_makes most b script top below v short lines after (StartsFrame spec a objects s c held m) h = starts_makes most b script spec (record v { objects = objects; stack = a ∷ below }) (short spec.proc) (record { within = omega (arith, h.within, idle v.objects objects top a c) })

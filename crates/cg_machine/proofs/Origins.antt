@@ -56,8 +56,8 @@ tops_idle before after top tops below (Ends a) = refl
 tops_idle before after top tops below (Returns f references few) = refl
 tops_idle before after top tops below (Releases o references) = refl
 tops_idle before after top tops below (Kills o references) = refl
-tops_idle before after top tops below (GoesOn a b c) = ap (λ cs. cs ++ flat_map commands_on below) (continues_idle before after a b c)
-tops_idle before after top tops below (Gives a b references few c) = ap (λ cs. cs ++ flat_map commands_on below) (continues_idle before after a b c)
+tops_idle before after top tops below (GoesOn a b c held) = ap (λ cs. cs ++ flat_map commands_on below) (continues_idle before after a b c)
+tops_idle before after top tops below (Gives a b references few c held) = ap (λ cs. cs ++ flat_map commands_on below) (continues_idle before after a b c)
 
 changes_origin : (script : Script) (before after : List Object) (top : Activity) (tops below : List Activity) → Tops before after top tops → Changed top before after → AreOfScript script before (top ∷ below) → AreOfScript script after (tops ++ below)
 changes_origin script before after top tops below t c h = record {
@@ -67,4 +67,4 @@ changes_origin script before after top tops below t c h = record {
 
 pub advance_origin : (script : Script) (top : Activity) (below : List Activity) (v : World) (lines : List Event) (after : World) → Advance script v top below lines after → IsAllOfScript script (on top below v) → IsAllOfScript script after
 advance_origin script top below v lines after (Stands tops objects numbers ls t c n none) h = changes_origin script v.objects objects top tops below t c h
-advance_origin script top below v lines after (StartsFrame spec a objects s c m) h = starts_origin script spec (record v { objects = objects; stack = a ∷ below }) (changes_origin script v.objects objects top (a ∷ []) below (GoesOn top a c) m h)
+advance_origin script top below v lines after (StartsFrame spec a objects s c held m) h = starts_origin script spec (record v { objects = objects; stack = a ∷ below }) (changes_origin script v.objects objects top (a ∷ []) below (GoesOn top a c held) m h)

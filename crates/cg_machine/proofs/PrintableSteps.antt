@@ -14,7 +14,7 @@ use Rattle.cg_machine.specs.World.{World, Activity}
 use Rattle.cg_machine.specs.Frame.{Transition, start_frame}
 use Rattle.cg_machine.specs.Lines.{IsPrintable}
 use Rattle.cg_machine.proofs.PrintableTexts.{HaveTexts, ObjectsHaveTexts, WorldHasTexts, entries_item, entries_texts, tested_texts, changed_texts}
-use Rattle.cg_machine.proofs.Advances.{Advance, Stands, StartsFrame, Changed, Same, Marks, asides, Takes, Saves, Frees, Then, ShowsNoValue, starts_either}
+use Rattle.cg_machine.proofs.Advances.{Advance, Stands, StartsFrame, Changed, Same, Marks, asides, Takes, Saves, Frees, Then, IsLineOf, starts_either}
 
 module _ (texts : List (List ℕ)) where
   -- lines that can be printed
@@ -37,9 +37,9 @@ module _ (texts : List (List ℕ)) where
   starts_prints script spec u h = starts_either Prints script spec u (says BudgetSpent _ tt h) (λ some. says (Enter spec.sort spec.subject) _ tt h)
 
   -- a line without a value
-  no_value : (event : Event) → ShowsNoValue event → IsPrintable texts event
-  no_value (Value v) h = absurd h
-  no_value event h = tt
+  no_value : (top : Activity) (event : Event) → IsLineOf top event → IsPrintable texts event
+  no_value top (Value v) h = absurd h
+  no_value top event h = tt
 
   -- the objects change
   objects_texts : (top : Activity) (before after : List Object) → Changed top before after → ObjectsHaveTexts (length texts) before → ObjectsHaveTexts (length texts) after
@@ -51,5 +51,5 @@ module _ (texts : List (List ℕ)) where
   objects_texts top before after (Then first now last c d) h = objects_texts top now last d (objects_texts top first now c h)
 
   pub advance_prints : (script : Script) (top : Activity) (below : List Activity) (v : World) (lines : List Event) (after : World) → Advance script v top below lines after → WorldHasTexts (length texts) v → Prints lines after
-  advance_prints script top below v lines after (Stands tops objects numbers ls t c n none) h = record { lines = λ event m. no_value event (none event m); known = record { names = h.names; objects = objects_texts top v.objects objects c h.objects } }
-  advance_prints script top below v lines after (StartsFrame spec a objects s c m) h = starts_prints script spec (record v { objects = objects; stack = a ∷ below }) (record { names = h.names; objects = objects_texts top v.objects objects m h.objects })
+  advance_prints script top below v lines after (Stands tops objects numbers ls t c n none) h = record { lines = λ event m. no_value top event (none event m); known = record { names = h.names; objects = objects_texts top v.objects objects c h.objects } }
+  advance_prints script top below v lines after (StartsFrame spec a objects s c held m) h = starts_prints script spec (record v { objects = objects; stack = a ∷ below }) (record { names = h.names; objects = objects_texts top v.objects objects m h.objects })

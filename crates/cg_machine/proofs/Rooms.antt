@@ -36,7 +36,7 @@ starts_room b script spec u none h = starts_either (λ lines. HasRoom b) script 
 continues_room : (b budget : ℕ) (before after : List Object) (top a : Activity) (below : List Activity) → Continues before after top a → Room b budget (top ∷ below) → Room b budget (a ∷ below) × HasNoRelease (a ∷ below)
 continues_room b budget before after top a below (Dies o phase next waits none) h = (record { frames = omega (arith, h.frames); apart = h.apart }, tt)
 continues_room b budget before after top a below (Clears o weak waiting weaks t first lost) h = (record { frames = omega (arith, h.frames); apart = h.apart }, tt)
-continues_room b budget before after top a below (Collects c d same begun) h = (record { frames = omega (arith, h.frames); apart = h.apart }, tt)
+continues_room b budget before after top a below (Collects c d same begun early) h = (record { frames = omega (arith, h.frames); apart = h.apart }, tt)
 
 popped : (top : Activity) (below : List Activity) → AreReleasesApart (top ∷ below) → AreReleasesApart below
 popped (TopLevel commands) below h = h.1
@@ -51,9 +51,9 @@ tops_room b budget before after top tops below (Ends a) h = record { frames = om
 tops_room b budget before after top tops below (Returns f references few) h = record { frames = omega (arith, h.frames); apart = (omega (arith, few), h.apart.0, h.apart.1) }
 tops_room b budget before after top tops below (Releases o references) h = record { frames = omega (arith, h.frames); apart = (omega (arith, h.apart.0), h.apart.1, h.apart.2) }
 tops_room b budget before after top tops below (Kills o references) h = record { frames = omega (arith, h.frames); apart = (omega (arith, h.apart.0), h.apart.1, h.apart.2) }
-tops_room b budget before after top tops below (GoesOn t a c) h = (continues_room b budget before after t a below c h).0
-tops_room b budget before after top tops below (Gives t a references few c) h = let k = continues_room b budget before after t a below c h in record { frames = omega (arith, k.0.frames); apart = (few, k.1, k.0.apart) }
+tops_room b budget before after top tops below (GoesOn t a c held) h = (continues_room b budget before after t a below c h).0
+tops_room b budget before after top tops below (Gives t a references few c held) h = let k = continues_room b budget before after t a below c h in record { frames = omega (arith, k.0.frames); apart = (few, k.1, k.0.apart) }
 
 pub advance_room : (b : ℕ) (script : Script) (top : Activity) (below : List Activity) (v : World) (lines : List Event) (after : World) → Advance script v top below lines after → HasRoom b (on top below v) → HasRoom b after
 advance_room b script top below v lines after (Stands tops objects numbers ls t c n none) h = tops_room b v.budget v.objects objects top tops below t h
-advance_room b script top below v lines after (StartsFrame spec a objects s c m) h = let k = continues_room b v.budget v.objects objects top a below c h in starts_room b script spec (record v { objects = objects; stack = a ∷ below }) k.1 k.0
+advance_room b script top below v lines after (StartsFrame spec a objects s c held m) h = let k = continues_room b v.budget v.objects objects top a below c h in starts_room b script spec (record v { objects = objects; stack = a ∷ below }) k.1 k.0

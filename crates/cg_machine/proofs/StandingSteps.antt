@@ -128,15 +128,15 @@ module _ (script : Script) (below : List Activity) (v : World) (rises : Rises 1 
   continues_known after top a (Clears o weak waiting weaks t first lost) k r =
       let all = passed (unwrap_or (option_map has_weak_references (object_at v.objects o)) false) (weak_references v.objects o) weak weaks first in
       (subst (λ (os : List Object). AreNewer os o (waiting ++ (if t then weak ∷ [] else []))) (sym lost) (still_newer v.next_serial v.objects rises o weak weaks waiting all k t), r)
-  continues_known after top a (Collects c d same begun) k r = (tt, r)
+  continues_known after top a (Collects c d same begun early) k r = (tt, r)
 
   tops_known : (after : List Object) (top : Activity) (tops : List Activity) → Tops v.objects after top tops → IsKnown v.objects top below → AreKnown after below → AreKnown after (tops ++ below)
   tops_known after top tops (Ends a) k r = r
   tops_known after top tops (Returns f references few) k r = (tt, r)
   tops_known after top tops (Releases o references) k r = (tt, r)
   tops_known after top tops (Kills o references) k r = (tt, (tt, r))
-  tops_known after top tops (GoesOn b a c) k r = continues_known after b a c k r
-  tops_known after top tops (Gives b a references few c) k r = (tt, continues_known after b a c k r)
+  tops_known after top tops (GoesOn b a c held) k r = continues_known after b a c k r
+  tops_known after top tops (Gives b a references few c held) k r = (tt, continues_known after b a c k r)
 
   frame_known : (after : List Object) (top a : Activity) (spec : FrameSpec) → Starts v.objects after top a spec → Changed top v.objects after → HasOrder (on top below v) → KnowsFunction after spec.sort spec.subject spec.func (a ∷ below)
   frame_known after top a spec (OfFinalizer o p) c h = refl
@@ -158,4 +158,4 @@ module _ (script : Script) (below : List Activity) (v : World) (rises : Rises 1 
 
   pub advance_known : (top : Activity) (lines : List Event) (after : World) → Advance script v top below lines after → HasOrder (on top below v) → IsKnown v.objects top below → Stays below after
   advance_known top lines after (Stands tops objects numbers ls t c n none) h k = tops_known objects top tops t k
-  advance_known top lines after (StartsFrame spec a objects s c m) h k = starts_known script spec (record v { objects = objects; stack = a ∷ below }) below (frame_known objects top a spec s m h) (continues_known objects top a c k)
+  advance_known top lines after (StartsFrame spec a objects s c held m) h k = starts_known script spec (record v { objects = objects; stack = a ∷ below }) below (frame_known objects top a spec s m h) (continues_known objects top a c k)

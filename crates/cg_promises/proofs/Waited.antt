@@ -78,19 +78,19 @@ module _ (P : ℕ → ℕ → Type 0) where
     continues_waited top a (Clears o weak waiting weaks t first lost) h = push_death o (Clearing (waiting ++ (if t then weak ∷ [] else []))) below
         (λ n m. either (Includes-append_cases waiting (if t then weak ∷ [] else []) n m) (h (record { object = o; phase = Clearing waiting }) (inl refl) n)
         (λ k. subst (λ w. P w o) (perhaps t weak n k) (now_refers weak o (refers_now has_weak_references objects o weak weaks first)))) (pop top below h)
-    continues_waited top a (Collects c d same begun) h = push_other (Collecting d) below (λ e i. cc) (pop top below h)
+    continues_waited top a (Collects c d same begun early) h = push_other (Collecting d) below (λ e i. cc) (pop top below h)
 
     tops_waited : (top : Activity) (tops : List Activity) → Tops objects after top tops → Waited (top ∷ below) → Waited (tops ++ below)
     tops_waited top tops (Ends a) h = pop a below h
     tops_waited top tops (Returns f references few) h = push_other (Releasing references) below (λ d e. cc) (pop top below h)
     tops_waited top tops (Releases o references) h = push_other (Releasing references) below (λ d e. cc) (pop top below h)
     tops_waited top tops (Kills o references) h = push_death o Finalizer (Releasing references ∷ below) (λ weak m. absurd m) (push_other (Releasing references) below (λ d e. cc) (pop top below h))
-    tops_waited top tops (GoesOn b a c) h = continues_waited b a c h
-    tops_waited top tops (Gives b a references few c) h = push_other (Releasing references) (a ∷ below) (λ d e. cc) (continues_waited b a c h)
+    tops_waited top tops (GoesOn b a c held) h = continues_waited b a c h
+    tops_waited top tops (Gives b a references few c held) h = push_other (Releasing references) (a ∷ below) (λ d e. cc) (continues_waited b a c h)
 
   advance_waited : (script : Script) (top : Activity) (below : List Activity) (v : World) → ((weak o : ℕ) → RefersNow v.objects weak o → P weak o) → Waited (top ∷ below) → (lines : List Event) (after : World) → Advance script v top below lines after → Waited after.stack
   advance_waited script top below v refers h lines after (Stands tops objects numbers ls t c n none) = tops_waited v.objects objects below refers top tops t h
-  advance_waited script top below v refers h lines after (StartsFrame spec a objects s c m) = starts script spec (record v { objects = objects; stack = a ∷ below }) (continues_waited v.objects objects below refers top a c h)
+  advance_waited script top below v refers h lines after (StartsFrame spec a objects s c held m) = starts script spec (record v { objects = objects; stack = a ∷ below }) (continues_waited v.objects objects below refers top a c h)
 
   -- a command
   emptied_waited : (a : Activity) (below : List Activity) → HasCommands a → Waited below → Waited (emptied a ∷ below)

@@ -78,16 +78,16 @@ module _ (top : Activity) (age : (c : Collection) → top ≡ Collecting c → c
 continues_young : (before after : List Object) (top a : Activity) → ((c : Collection) → top ≡ Collecting c → c.generation ≤ 2) → Continues before after top a → (c : Collection) → a ≡ Collecting c → c.generation ≤ 2
 continues_young before after top a age (Dies o phase next waits none) c e = cc
 continues_young before after top a age (Clears o weak waiting weaks t first lost) c e = cc
-continues_young before after top a age (Collects b d same begun) c e = let is : d.generation ≡ c.generation = cc in subst (λ n. n ≤ 2) (sym same ∙ is) (age b refl)
+continues_young before after top a age (Collects b d same begun early) c e = let is : d.generation ≡ c.generation = cc in subst (λ n. n ≤ 2) (sym same ∙ is) (age b refl)
 
 tops_young : (before after : List Object) (top : Activity) (tops below : List Activity) → Tops before after top tops → AreYoung after → Young before (top ∷ below) → Young after (tops ++ below)
 tops_young before after top tops below (Ends a) young h = record { places = young; ages = λ c m. h.ages c (inr m) }
 tops_young before after top tops below (Returns f references few) young h = turn_young top (Releasing references) below before after young (λ c e. cc) h
 tops_young before after top tops below (Releases o references) young h = turn_young top (Releasing references) below before after young (λ c e. cc) h
 tops_young before after top tops below (Kills o references) young h = push_young (Dying (record { object = o; phase = Finalizer })) (Releasing references ∷ below) after (λ c e. cc) (turn_young top (Releasing references) below before after young (λ c e. cc) h)
-tops_young before after top tops below (GoesOn t a c) young h = turn_young t a below before after young (continues_young before after t a (λ d e. h.ages d (inl e)) c) h
-tops_young before after top tops below (Gives t a references few c) young h = push_young (Releasing references) (a ∷ below) after (λ d e. cc) (turn_young t a below before after young (continues_young before after t a (λ d e. h.ages d (inl e)) c) h)
+tops_young before after top tops below (GoesOn t a c held) young h = turn_young t a below before after young (continues_young before after t a (λ d e. h.ages d (inl e)) c) h
+tops_young before after top tops below (Gives t a references few c held) young h = push_young (Releasing references) (a ∷ below) after (λ d e. cc) (turn_young t a below before after young (continues_young before after t a (λ d e. h.ages d (inl e)) c) h)
 
 pub advance_young : (script : Script) (top : Activity) (below : List Activity) (v : World) (lines : List Event) (after : World) → Advance script v top below lines after → IsYoungWorld (on top below v) → IsYoungWorld after
 advance_young script top below v lines after (Stands tops objects numbers ls t c n none) h = tops_young v.objects objects top tops below t (changed_young top (λ d e. h.ages d (inl e)) v.objects objects c h.places) h
-advance_young script top below v lines after (StartsFrame spec a objects s c m) h = starts_young script spec (record v { objects = objects; stack = a ∷ below }) (tops_young v.objects objects top (a ∷ []) below (GoesOn top a c) (changed_young top (λ d e. h.ages d (inl e)) v.objects objects m h.places) h)
+advance_young script top below v lines after (StartsFrame spec a objects s c held m) h = starts_young script spec (record v { objects = objects; stack = a ∷ below }) (tops_young v.objects objects top (a ∷ []) below (GoesOn top a c held) (changed_young top (λ d e. h.ages d (inl e)) v.objects objects m h.places) h)

@@ -76,7 +76,7 @@ closes a below tops w after none some was now light = record { top = a; below = 
 continues_idle : (before after : List Object) (top a : Activity) → Continues before after top a → (weight top ≡ 0) × (commands_on top ≡ []) × (weight a ≡ 0)
 continues_idle before after top a (Dies o phase next waits none) = (refl, refl, refl)
 continues_idle before after top a (Clears o weak waiting weaks t first lost) = (refl, refl, refl)
-continues_idle before after top a (Collects c d same begun) = (refl, refl, refl)
+continues_idle before after top a (Collects c d same begun early) = (refl, refl, refl)
 
 module _ (script : Script) (below : List Activity) (v : World) where
   stands : (top : Activity) → (commands_on top ≡ []) → (objects : List Object) (numbers : Numbers) (tops : List Activity) → Tops v.objects objects top tops → Burns (on top below v) (record v { objects = objects; numbers = numbers; stack = tops ++ below })
@@ -95,12 +95,12 @@ module _ (script : Script) (below : List Activity) (v : World) where
   stands top none objects numbers tops (Returns f references few) = closes top below tops (on top below v) _ none (omega arith) refl refl (omega arith)
   stands top none objects numbers tops (Releases o references) = idle top below tops (on top below v) _ refl refl refl refl refl refl
   stands top none objects numbers tops (Kills o references) = idle top below tops (on top below v) _ refl refl refl refl refl refl
-  stands top none objects numbers tops (GoesOn b a c) = let k = continues_idle v.objects objects b a c in idle b below (a ∷ []) (on b below v) _ k.0 k.1 refl refl (omega (arith, k.2)) refl
-  stands top none objects numbers tops (Gives b a references few c) = let k = continues_idle v.objects objects b a c in idle b below (Releasing references ∷ a ∷ []) (on b below v) _ k.0 k.1 refl refl (omega (arith, k.2)) refl
+  stands top none objects numbers tops (GoesOn b a c held) = let k = continues_idle v.objects objects b a c in idle b below (a ∷ []) (on b below v) _ k.0 k.1 refl refl (omega (arith, k.2)) refl
+  stands top none objects numbers tops (Gives b a references few c held) = let k = continues_idle v.objects objects b a c in idle b below (Releasing references ∷ a ∷ []) (on b below v) _ k.0 k.1 refl refl (omega (arith, k.2)) refl
 
   advance_burns : (top : Activity) → (commands_on top ≡ []) → (lines : List Event) (after : World) → Advance script v top below lines after → BurnsSo (on top below v) lines after
   advance_burns top none lines after (Stands tops objects numbers ls t c n shown) quiet running = stands top none objects numbers tops t
-  advance_burns top none lines after (StartsFrame spec a objects s c m) quiet running = absurd (starts_none script spec (record v { objects = objects; stack = a ∷ below }) _ _ (refl, refl) quiet running)
+  advance_burns top none lines after (StartsFrame spec a objects s c held m) quiet running = absurd (starts_none script spec (record v { objects = objects; stack = a ∷ below }) _ _ (refl, refl) quiet running)
 
 -- a command
 fewer : (command : Command) (a b : Activity) → Takes command a b → weight b < weight a
