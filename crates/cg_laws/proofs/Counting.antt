@@ -8,7 +8,8 @@ use Rattle.cg_machine.specs.declared.event.FrameSpec.{FrameSpec}
 use Rattle.cg_machine.specs.World.{World, Activity, Releasing, Dying, Collecting, Collection, Numbers, Start, Finalizer}
 use Rattle.cg_machine.specs.Program.{body_of}
 use Rattle.cg_machine.specs.Frame.{start_frame}
-use Rattle.cg_machine.proofs.Advances.{Advance, Stands, StartsFrame, Renumbers, Kept, Freed, Begins, Continues, Dies, Clears, Collects, Tops, Ends, Returns, Releases, Kills, GoesOn, Gives, starts_either}
+use Rattle.cg_machine.proofs.Advances.{Advance, Stands, StartsFrame, Renumbers, Kept, Freed, Begins, Continues, Dies, Clears, Collects, Tops, Ends, Returns, Releases, Kills, GoesOn, Gives}
+use Rattle.cg_machine.proofs.Starting.{starts_either}
 use Rattle.cg_machine.proofs.Making.{IsFew, left_on, starts_makes}
 use Rattle.cg_laws.proofs.Numbers.{Limits, Settled, StartsSettled, on_top}
 

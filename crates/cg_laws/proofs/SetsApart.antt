@@ -20,6 +20,7 @@ use Rattle.cg_machine.specs.Weak.{loses_referent}
 use Rattle.cg_machine.specs.Laws.{IsOfCollection}
 use Rattle.cg_machine.specs.Collect.{collection_at}
 use Rattle.cg_laws.specs.Apart.{StandsRightly, IsFound, IsGarbageList, handles, IsApart}
+use Rattle.cg_machine.proofs.Starting.{frame_of, starts_either}
 
 -- the objects while a collection is at a phase
 pub record AreApart (objects : List Object) (phase : CollectPhase) : Type 0 where
@@ -70,17 +71,11 @@ restands phase next objects unhandled right h = record { garbage = h.garbage; ri
 
 -- a frame starts
 pub starts_apart : (script : Script) (spec : FrameSpec) (u : World) → IsApart u → IsApart (start_frame script spec u).1
-starts_apart script spec u h = go (u.budget == 0)
+starts_apart script spec u h = starts_either (λ lines. IsApart) script spec u (record { garbage = h.garbage; clear = h.clear; phases = h.phases; unhandled = h.unhandled; unsaved = h.unsaved })
+    (λ some. record { garbage = h.garbage; clear = h.clear; phases = λ c m. h.phases c (below c m); unhandled = λ c m. h.unhandled c (below c m); unsaved = h.unsaved })
   where
-    frame : Activity
-    frame = Framed (record { sort = spec.sort; subject = spec.subject; function = spec.func; commands = body_of script spec.proc })
-
-    below : (c : Collection) → Includes (frame ∷ u.stack) (Collecting c) → Includes u.stack (Collecting c)
-    below c m = either m (λ e. absurd (let no : frame ≡ Collecting c = e in cc)) (λ k. k)
-
-    go : (b : Bool) → (let t : Transition = if b then (BudgetSpent ∷ [], record u { outcome = BudgetIsSpent }) else (Enter spec.sort spec.subject ∷ [], record u { budget = u.budget - 1; stack = frame ∷ u.stack }) in IsApart t.1)
-    go true = record { garbage = h.garbage; clear = h.clear; phases = h.phases; unhandled = h.unhandled; unsaved = h.unsaved }
-    go false = record { garbage = h.garbage; clear = h.clear; phases = λ c m. h.phases c (below c m); unhandled = λ c m. h.unhandled c (below c m); unsaved = h.unsaved }
+    below : (c : Collection) → Includes (frame_of script spec ∷ u.stack) (Collecting c) → Includes u.stack (Collecting c)
+    below c m = either m (λ e. absurd (cc)) (λ k. k)
 
 -- something is given up
 pub gives_up_apart : (given_up : List ℕ) (u : World) → IsApart u → IsApart (push (Releasing given_up) u)

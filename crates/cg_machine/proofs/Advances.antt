@@ -165,24 +165,6 @@ pub fewer_references : (es entries : List Entry) → ((e : Entry) → Includes e
 fewer_references [] entries h n m = absurd m
 fewer_references (e ∷ es) entries h n m = either (Includes-append_cases (entry_references e) (references es) n m) (references_of_member entries e n (h e (inl refl))) (fewer_references es entries (λ x i. h x (inr i)) n)
 
--- A frame starts where the budget is not spent.
-abbrev pub frame_of : Script → FrameSpec → Activity
-frame_of script spec = Framed (record { sort = spec.sort; subject = spec.subject; function = spec.func; commands = body_of script spec.proc })
-
-pub starts_either : (R : List Event → World → Type 0) (script : Script) (spec : FrameSpec) (u : World) → R (BudgetSpent ∷ []) (record u { outcome = BudgetIsSpent })
-    → ((u.budget ≡ 0 → ⊥) → R (Enter spec.sort spec.subject ∷ []) (record u { budget = u.budget - 1; stack = frame_of script spec ∷ u.stack })) → (let t : Transition = start_frame script spec u in R t.0 t.1)
-starts_either R script spec u spent enters = go (u.budget == 0) refl
-  where
-    go : (b : Bool) → (u.budget == 0) ≡ b
-        → (let t : Transition = if b then (BudgetSpent ∷ [], record u { outcome = BudgetIsSpent }) else (Enter spec.sort spec.subject ∷ [], record u { budget = u.budget - 1; stack = frame_of script spec ∷ u.stack }) in R t.0 t.1)
-    go true e = spent
-    go false e = enters (eqb-false u.budget 0 e)
-
--- one or the other
-pub either_way : (R : List Event → World → Type 0) (b : Bool) (x y : Transition) → R x.0 x.1 → R y.0 y.1 → (let t : Transition = if b then x else y in R t.0 t.1)
-either_way R true x y h k = h
-either_way R false x y h k = k
-
 -- what is given up at once
 pub few_option : (m : Option ℕ) → length (option_to_list m) ≤ 1
 few_option None = omega arith

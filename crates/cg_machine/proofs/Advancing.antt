@@ -30,7 +30,8 @@ use Rattle.cg_machine.specs.Operands.{is_dict}
 use Rattle.cg_machine.proofs.Measure.{is_first}
 use Rattle.cg_machine.proofs.PrintableTexts.{taken_member}
 use Rattle.cg_machine.proofs.Forgotten.{place_later}
-use Rattle.cg_machine.proofs.Advances.{Advance, Stands, StartsFrame, Changed, Same, Marks, Takes, Saves, Frees, Then, IsPlaceIn, Moved, Rests, Untracks, Revives, Sorts, Finalizes, Soon, Late, Owns, Empties, CallsBack, HasTurn, Kept, Freed, Begins, Continues, Dies, Clears, Collects, Ends, Returns, Releases, Kills, GoesOn, Gives, OfFinalizer, OfLegacy, OfCallback, IsLineOf, AreLinesOf, IsEarly, either_way, few_option, few_entry}
+use Rattle.cg_machine.proofs.Advances.{Advance, Stands, StartsFrame, Changed, Same, Marks, Takes, Saves, Frees, Then, IsPlaceIn, Moved, Rests, Untracks, Revives, Sorts, Finalizes, Soon, Late, Owns, Empties, CallsBack, HasTurn, Kept, Freed, Begins, Continues, Dies, Clears, Collects, Ends, Returns, Releases, Kills, GoesOn, Gives, OfFinalizer, OfLegacy, OfCallback, IsLineOf, AreLinesOf, IsEarly, few_option, few_entry}
+use Rattle.cg_machine.proofs.Starting.{either_way}
 
 -- lines
 module _ (top : Activity) where

@@ -18,7 +18,8 @@ use Rattle.cg_machine.proofs.Unheld.{Calm, not_dying, popped_free}
 use Rattle.cg_machine.proofs.Releasing.{absent}
 use Rattle.cg_machine.proofs.Orderly.{waits_held}
 use Rattle.cg_machine.proofs.DyingOrderly.{HasOrder}
-use Rattle.cg_machine.proofs.Advances.{Advance, Stands, StartsFrame, Changed, Same, Marks, Moved, Rests, Untracks, Revives, Sorts, asides, Takes, Saves, Frees, Then, Owns, Empties, CallsBack, HasTurn, frame_of, starts_either}
+use Rattle.cg_machine.proofs.Advances.{Advance, Stands, StartsFrame, Changed, Same, Marks, Moved, Rests, Untracks, Revives, Sorts, asides, Takes, Saves, Frees, Then, Owns, Empties, CallsBack, HasTurn}
+use Rattle.cg_machine.proofs.Starting.{frame_of, starts_either}
 use Rattle.cg_machine.proofs.Invariants.{on}
 use Rattle.cg_machine.proofs.Left.{AreFrom, MayChange, IsCollectionOnTop, from_refl, from_trans, from_entries, from_without, from_saved, LeavesIt, leaves_from, held_may_change, garbage_may_change}
 

@@ -1,3 +1,4 @@
+pub mod Starting
 pub mod Garbage
 pub mod Sorting
 pub mod Clearing

@@ -10,7 +10,8 @@ use Rattle.cg_machine.specs.Program.{body_of}
 use Rattle.cg_machine.specs.Frame.{start_frame}
 use Rattle.cg_machine.specs.Origins.{commands_on}
 use Rattle.cg_machine.proofs.Tally.{tally}
-use Rattle.cg_machine.proofs.Advances.{Advance, Stands, StartsFrame, Continues, continues_idle, Tops, Ends, Returns, Releases, Kills, GoesOn, Gives, starts_either}
+use Rattle.cg_machine.proofs.Advances.{Advance, Stands, StartsFrame, Continues, continues_idle, Tops, Ends, Returns, Releases, Kills, GoesOn, Gives}
+use Rattle.cg_machine.proofs.Starting.{starts_either}
 use Rattle.cg_machine.proofs.Invariants.{on}
 
 -- how many commands are left

@@ -15,7 +15,8 @@ use Rattle.cg_machine.specs.World.{World, Activity}
 use Rattle.cg_machine.specs.Frame.{start_frame}
 use Rattle.cg_machine.specs.Origins.{all_commands, commands_on, IsOfScript}
 use Rattle.cg_machine.proofs.Forgotten.{IsLater}
-use Rattle.cg_machine.proofs.Advances.{Advance, Stands, StartsFrame, Changed, changed_origin, continues_idle, Tops, Ends, Returns, Releases, Kills, GoesOn, Gives, starts_either}
+use Rattle.cg_machine.proofs.Advances.{Advance, Stands, StartsFrame, Changed, changed_origin, continues_idle, Tops, Ends, Returns, Releases, Kills, GoesOn, Gives}
+use Rattle.cg_machine.proofs.Starting.{starts_either}
 use Rattle.cg_machine.proofs.Invariants.{on}
 
 -- what is left to do and what is there are of the script

@@ -8,7 +8,8 @@ use Rattle.cg_machine.specs.World.{World, Activity, TopLevel, Framed, Releasing,
 use Rattle.cg_machine.specs.Frame.{start_frame}
 use Rattle.cg_machine.specs.Bounds.{is_frame, HasNoRelease, AreReleasesApart}
 use Rattle.cg_machine.proofs.Tally.{tally, bit}
-use Rattle.cg_machine.proofs.Advances.{Advance, Stands, StartsFrame, Continues, Dies, Clears, Collects, Tops, Ends, Returns, Releases, Kills, GoesOn, Gives, starts_either}
+use Rattle.cg_machine.proofs.Advances.{Advance, Stands, StartsFrame, Continues, Dies, Clears, Collects, Tops, Ends, Returns, Releases, Kills, GoesOn, Gives}
+use Rattle.cg_machine.proofs.Starting.{starts_either}
 use Rattle.cg_machine.proofs.Invariants.{on}
 
 -- how many activities are of a sort

@@ -22,7 +22,8 @@ use Rattle.cg_machine.proofs.FallsDeaths.{Includes-reverse, passed}
 use Rattle.cg_machine.proofs.Lookups.{Includes-reversed, callback_at, callback_first, same_object}
 use Rattle.cg_machine.proofs.Orderly.{waits_held}
 use Rattle.cg_machine.proofs.DyingOrderly.{HasOrder}
-use Rattle.cg_machine.proofs.Advances.{Advance, Stands, StartsFrame, Changed, changed_origin, ClearsNone, Continues, Dies, Clears, Collects, Starts, OfFinalizer, OfLegacy, OfCallback, Tops, Ends, Returns, Releases, Kills, GoesOn, Gives, starts_either}
+use Rattle.cg_machine.proofs.Advances.{Advance, Stands, StartsFrame, Changed, changed_origin, ClearsNone, Continues, Dies, Clears, Collects, Starts, OfFinalizer, OfLegacy, OfCallback, Tops, Ends, Returns, Releases, Kills, GoesOn, Gives}
+use Rattle.cg_machine.proofs.Starting.{starts_either}
 use Rattle.cg_machine.proofs.Invariants.{on}
 use Rattle.cg_machine.proofs.Standing.{AreFunctions, HoldsIn, KnowsFunction, AreNewer, ClearsInOrder, IsKnown, AreKnown, IsAllKnown}
 

@@ -21,7 +21,8 @@ use Rattle.cg_machine.specs.Dying.{after_frame, death_at, call_one, clear_one, d
 use Rattle.cg_machine.specs.Collect.{all_saved, empties, has_flag, looks_at, older, save_all, saved, EndStep, PhaseStep}
 use Rattle.cg_machine.specs.Run.{StepOf}
 use Rattle.cg_machine.specs.Laws.{is_stop}
-use Rattle.cg_machine.proofs.Advances.{Advance, Stands, StartsFrame, IsEnding, IsLineOf, starts_either}
+use Rattle.cg_machine.proofs.Advances.{Advance, Stands, StartsFrame, IsEnding, IsLineOf}
+use Rattle.cg_machine.proofs.Starting.{starts_either}
 use Rattle.cg_machine.proofs.Advancing.{released_advances, dying_advances, phase_advances}
 use Rattle.cg_promises.proofs.FullRuns.{IsRoot, reached_lasts, root_down}
 use Rattle.cg_promises.specs.Reached.{IsReached}

@@ -16,7 +16,8 @@ use Rattle.cg_machine.specs.Frame.{released}
 use Rattle.cg_machine.specs.Dying.{death_at, dying}
 use Rattle.cg_machine.specs.Collect.{collection_at, PhaseStep}
 use Rattle.cg_machine.specs.Laws.{IsLengthened}
-use Rattle.cg_machine.proofs.Advances.{Advance, Stands, StartsFrame, Changed, Same, Marks, Takes, Saves, Frees, Then, Owns, Empties, CallsBack as TakesCallback, HasTurn, asides, starts_either}
+use Rattle.cg_machine.proofs.Advances.{Advance, Stands, StartsFrame, Changed, Same, Marks, Takes, Saves, Frees, Then, Owns, Empties, CallsBack as TakesCallback, HasTurn, asides}
+use Rattle.cg_machine.proofs.Starting.{starts_either}
 use Rattle.cg_machine.proofs.Advancing.{released_advances, dying_advances, phase_advances}
 
 -- each object has the entries that it had, and perhaps more, but for some

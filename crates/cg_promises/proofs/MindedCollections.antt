@@ -21,9 +21,10 @@ use Rattle.cg_machine.specs.Frame.{Transition, procedure_of}
 use Rattle.cg_machine.specs.Weak.{AllLose, callback_of, loses_referent}
 use Rattle.cg_machine.specs.Dying.{finalizer_to_run}
 use Rattle.cg_machine.specs.Collect.{all_saved, calls_back, after_release, collection_at, empties, get_older, has_flag, looks_at, loses_at_split, merged, merged_place, older, save_all, saved, sorted, takes_turn, waits, EndStep, FinalizingStep, PhaseStep, SplitStep, StartStep, TurnsStep, WeakClearingStep}
+use Rattle.cg_machine.proofs.Starting.{either_way}
 use Rattle.cg_machine.proofs.Serials.{Rises}
 use Rattle.cg_promises.proofs.Told.{map_old}
-use Rattle.cg_promises.proofs.Minded.{IsMinded, IsSingle, Keeps, Minded, change_keeps, either_minded, end_minded, give_minded, keeps_same, keeps_trans, lost_keeps, placed, plain_keeps, starts_minded, test_keeps, turn_minded}
+use Rattle.cg_promises.proofs.Minded.{IsMinded, IsSingle, Keeps, Minded, change_keeps, end_minded, give_minded, keeps_same, keeps_trans, lost_keeps, placed, plain_keeps, starts_minded, test_keeps, turn_minded}
 use Rattle.cg_machine.proofs.Moves.{appended_goes}
 use Rattle.cg_promises.proofs.Moved.{shortened_keeps}
 use Rattle.cg_machine.specs.Program.{profile_of}
@@ -114,7 +115,7 @@ module _ (script : Script) (k : ℕ) (c : Collection) (below : List Activity) (v
   first_given weak waiting n (inr m) = inr m
 
   after_release_minded : (weak : ℕ) (waiting : List ℕ) → IsMinded k (at (AfterRelease weak waiting)) → IsMinded k (after_release c weak waiting below (at (AfterRelease weak waiting))).1
-  after_release_minded weak waiting h = either_minded k (is_in_map v.objects weak)
+  after_release_minded weak waiting h = either_way (λ lines. IsMinded k) (is_in_map v.objects weak)
       ([], collection_at c (WeakCalling waiting) below (with_change (with_place (Gen (older c.generation))) weak (at (AfterRelease weak waiting))))
       ([], collection_at (record c { collected = c.collected + 1 }) (WeakCalling waiting) below (at (AfterRelease weak waiting)))
       (goes_to (AfterRelease weak waiting) c (WeakCalling waiting) _ (at_place (Gen (older c.generation)) weak) (λ n m. m) h)

@@ -18,6 +18,7 @@ use Rattle.cg_machine.specs.Weak.{loses_referent}
 use Rattle.cg_machine.specs.World.{World, Activity, Framed, Dying, Death, Collecting, Collection, BudgetIsSpent}
 use Rattle.cg_machine.specs.Laws.{runs_own_frame}
 use Rattle.cg_laws.specs.Apart.{handles}
+use Rattle.cg_machine.proofs.Starting.{frame_of, starts_either}
 
 -- each object of a serial is an untracked tuple
 abbrev pub IsLoose : List Object → ℕ → Type 0
@@ -166,15 +167,4 @@ push_slack next a stack objects handled h = moves_slack Never next objects objec
 
 -- a frame starts
 pub starts_slack : (script : Script) (spec : FrameSpec) (u : World) → IsSlackWorld u → IsSlackWorld (start_frame script spec u).1
-starts_slack script spec u h = go (u.budget == 0)
-  where
-    frame : Activity
-    frame = Framed (record { sort = spec.sort; subject = spec.subject; function = spec.func; commands = body_of script spec.proc })
-
-    go : (t : Bool) → (let s : Transition = if t then (BudgetSpent ∷ [], record u { outcome = BudgetIsSpent }) else (Enter spec.sort spec.subject ∷ [], record u { budget = u.budget - 1; stack = frame ∷ u.stack }) in IsSlackWorld s.1)
-    go true = record { slack = h.slack; handled = h.handled }
-    go false = push_slack u.next_serial frame u.stack u.objects (λ c e. cc) h
-
-pub either_slack : (t : Bool) (x y : Transition) → IsSlackWorld x.1 → IsSlackWorld y.1 → (let s : Transition = if t then x else y in IsSlackWorld s.1)
-either_slack true x y h i = h
-either_slack false x y h i = i
+starts_slack script spec u h = starts_either (λ lines. IsSlackWorld) script spec u (record { slack = h.slack; handled = h.handled }) (λ some. push_slack u.next_serial (frame_of script spec) u.stack u.objects (λ c e. cc) h)

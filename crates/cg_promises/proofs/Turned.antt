@@ -21,7 +21,8 @@ use Rattle.cg_machine.specs.Weak.{callback_of, loses_referent}
 use Rattle.cg_machine.specs.Dying.{finalizer_to_run}
 use Rattle.cg_machine.specs.Collect.{calls_back, collection_at, empties, has_flag, looks_at, older, save_all, saved, takes_turn, waits, FinalizingStep, PhaseStep, TurnsStep, WeakClearingStep}
 use Rattle.cg_laws.proofs.SetsApart.{NoneCollects}
-use Rattle.cg_machine.proofs.Advances.{Advance, Stands, StartsFrame, Continues, Dies, Clears, Collects, IsEarly, Tops, Ends, Returns, Releases, Kills, GoesOn, Gives, frame_of, starts_either}
+use Rattle.cg_machine.proofs.Advances.{Advance, Stands, StartsFrame, Continues, Dies, Clears, Collects, IsEarly, Tops, Ends, Returns, Releases, Kills, GoesOn, Gives}
+use Rattle.cg_machine.proofs.Starting.{frame_of, starts_either}
 use Rattle.cg_machine.proofs.Places.{place_is}
 
 -- a collection that stands at an early phase goes on at one

@@ -14,7 +14,8 @@ use Rattle.cg_machine.specs.declared.event.Event.{Event}
 use Rattle.cg_machine.specs.declared.event.FrameSpec.{FrameSpec}
 use Rattle.cg_machine.specs.World.{World, Activity, Releasing, Dying, Collecting, Collection, Finalizer}
 use Rattle.cg_machine.specs.Frame.{start_frame}
-use Rattle.cg_machine.proofs.Advances.{Advance, Stands, StartsFrame, Changed, Same, Marks, Takes, Saves, Frees, Then, IsPlaceIn, Moved, Rests, Untracks, Revives, Sorts, asides, Continues, Dies, Clears, Collects, Tops, Ends, Returns, Releases, Kills, GoesOn, Gives, frame_of, starts_either}
+use Rattle.cg_machine.proofs.Advances.{Advance, Stands, StartsFrame, Changed, Same, Marks, Takes, Saves, Frees, Then, IsPlaceIn, Moved, Rests, Untracks, Revives, Sorts, asides, Continues, Dies, Clears, Collects, Tops, Ends, Returns, Releases, Kills, GoesOn, Gives}
+use Rattle.cg_machine.proofs.Starting.{frame_of, starts_either}
 use Rattle.cg_machine.proofs.Invariants.{on}
 
 abbrev pub IsYoung : Place → Type 0
