@@ -1,6 +1,6 @@
 -- A step that is no command counts no object but at the start of a collection. A frame takes one from the budget, and brings
 -- the commands of one procedure.
-use Rattle.std.proofs.Common.{◌≡◌, refl, ℕ, ◌+◌, ◌*◌, ◌-◌, ◌≤◌, false, List, [], ◌∷◌, ◌++◌, length, arith}
+use Rattle.std.proofs.Common.{◌≡◌, refl, ℕ, ◌+◌, ◌*◌, ◌≤◌, List, ◌∷◌, ◌++◌, length, arith}
 use Rattle.cg_script.specs.declared.Script.{Script}
 use Rattle.cg_graph.specs.Object.{Object}
 use Rattle.cg_machine.specs.declared.event.Event.{Event}

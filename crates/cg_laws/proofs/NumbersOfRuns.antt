@@ -12,8 +12,7 @@ use Rattle.cg_machine.specs.declared.event.FrameSort.TheVariants.{Call as CallFr
 use Rattle.cg_machine.specs.World.{World, Numbers, Activity, TopLevel, Framed, Releasing, Dying, Collecting, Collection, Start, opening, push, with_stack, ShuttingDown}
 use Rattle.cg_machine.specs.Program.{body_of, commands_of}
 use Rattle.cg_machine.specs.Holdings.{is_collecting}
-use Rattle.cg_machine.specs.Frame.{procedure_of, start_frame, frame_end, released}
-use Rattle.cg_machine.specs.Dying.{dying}
+use Rattle.cg_machine.specs.Frame.{procedure_of, start_frame}
 use Rattle.cg_machine.specs.Effects.{Changes}
 use Rattle.cg_machine.specs.Commands.{new_collection}
 use Rattle.cg_machine.specs.Due.{due, due_generation, is_due}

@@ -1,5 +1,5 @@
 -- What the steps of a collection keep of the objects: each stands rightly, and the garbage list stays untracked.
-use Rattle.std.proofs.Common.{◌≡◌, ◌≢◌, refl, sym, ◌∙◌, ap, subst, ℕ, ◌-◌, ◌≤◌, Bool, true, false, cond, inl, inr, List, [], ◌∷◌, map, Some, None, arith}
+use Rattle.std.proofs.Common.{◌≡◌, ◌≢◌, refl, sym, ◌∙◌, ap, subst, ℕ, ◌≤◌, Bool, true, false, cond, inl, inr, List, [], ◌∷◌, map, Some, None, arith}
 use Rattle.std.specs.Prelude.{◌==◌, if◌then◌else◌, count_by, option_map, unwrap_or}
 use Rattle.std.specs.List.{list_any}
 use Rattle.std.proofs.lemmas.List.Sums.{sum_by-cons}
@@ -10,12 +10,10 @@ use Rattle.cg_graph.specs.Member.{Includes}
 use Rattle.cg_graph.specs.Value.{references}
 use Rattle.cg_graph.specs.Object.{Object, object_at, entries_of, is_at, same_place, with_place, with_referent, objects_at, serials_at}
 use Rattle.cg_graph.proofs.Members.{either, Includes-map_cases, Includes-filter_cases}
-use Rattle.cg_machine.specs.declared.event.Event.TheVariants.{Enter, BudgetSpent}
 use Rattle.cg_machine.specs.declared.event.FrameSpec.{FrameSpec}
-use Rattle.cg_machine.specs.Program.{body_of}
-use Rattle.cg_machine.specs.World.{World, Activity, Framed, Releasing, Collecting, Collection, CollectPhase, BudgetIsSpent, push}
+use Rattle.cg_machine.specs.World.{World, Activity, Releasing, Collecting, Collection, CollectPhase, push}
 use Rattle.cg_machine.specs.Holdings.{is_collection}
-use Rattle.cg_machine.specs.Frame.{Transition, start_frame}
+use Rattle.cg_machine.specs.Frame.{start_frame}
 use Rattle.cg_machine.specs.Weak.{loses_referent}
 use Rattle.cg_machine.specs.Laws.{IsOfCollection}
 use Rattle.cg_machine.specs.Collect.{collection_at}

@@ -1,5 +1,5 @@
 -- A step that is no collection's leaves each object that is set apart where it stood.
-use Rattle.std.proofs.Common.{◌≡◌, ◌≢◌, refl, sym, ◌∙◌, ap, subst, ℕ, Bool, true, false, inr, List, [], ◌∷◌, ◌++◌, Option, Some, None}
+use Rattle.std.proofs.Common.{◌≡◌, ◌≢◌, sym, ◌∙◌, ap, subst, ℕ, Bool, true, false, inr, List, [], ◌∷◌, ◌++◌, Option, Some}
 use Rattle.std.specs.Prelude.{◌||◌, option_map, unwrap_or}
 use Rattle.std.specs.List.{list_any}
 use Rattle.cg_value.specs.declared.Place.{Place}
@@ -12,7 +12,7 @@ use Rattle.cg_machine.specs.World.{World, Activity, Collecting, CollectPhase, St
 use Rattle.cg_machine.specs.Holdings.{is_collection, is_collecting}
 use Rattle.cg_machine.specs.Laws.{IsOfCollection, HadItsPlace, LeavesBelow}
 use Rattle.cg_machine.proofs.Serials.{Rises}
-use Rattle.cg_machine.proofs.Lookups.{found_at, at_member}
+use Rattle.cg_machine.proofs.Lookups.{at_member}
 use Rattle.cg_laws.specs.Apart.{IsInWeakPhase, IsInLatePhase, StandsRightly, IsFound, handles, IsApart}
 use Rattle.cg_laws.proofs.GarbageKept.{NamesNot, entries_name_not, list_stays, names_no_more}
 use Rattle.cg_laws.proofs.StepsPlain.{IsPlain}

@@ -2,7 +2,6 @@
 -- collection. A law that needs no more than that goes by these forms, and not by the phases.
 use Rattle.std.proofs.Common.{◌≡◌, ◌≢◌, refl, subst, ℕ, ◌-◌, ◌≤◌, Bool, true, false, not, inl, inr, ◌⊎◌, List, [], ◌∷◌, ◌++◌, length, length-append, map, Option, Some, None, arith}
 use Rattle.std.specs.Prelude.{◌==◌, if◌then◌else◌, option_to_list, unwrap_or}
-use Rattle.std.proofs.lemmas.Bool.{eqb-false}
 use Rattle.cg_value.specs.declared.Entry.{Entry}
 use Rattle.cg_value.specs.declared.Place.{Place}
 use Rattle.cg_value.specs.declared.Place.TheVariants.{Untracked, Gen}
@@ -12,18 +11,17 @@ use Rattle.cg_graph.specs.Value.{entry_references, reference_in, references}
 use Rattle.cg_graph.specs.Object.{Object, change, entries_of, with_entries, without}
 use Rattle.cg_graph.proofs.Members.{either, Includes-append_cases, Includes-filter_cases, Includes-map_cases}
 use Rattle.cg_machine.specs.declared.event.Event.{Event}
-use Rattle.cg_machine.specs.declared.event.Event.TheVariants.{BudgetSpent, Enter, GcStop, Value}
+use Rattle.cg_machine.specs.declared.event.Event.TheVariants.{GcStop, Value}
 use Rattle.cg_machine.specs.declared.event.FrameSort.TheVariants.{Del, Legacy, Callback}
 use Rattle.cg_machine.specs.declared.event.FrameSpec.{FrameSpec}
-use Rattle.cg_machine.specs.Program.{body_of}
-use Rattle.cg_machine.specs.World.{World, Activity, Framed, Releasing, Dying, Collecting, Frame, Numbers, DyingPhase, Finalizer, Clearing, Calling, LegacyFinalizer, Emptying, Collection, CollectPhase, Start, Split, Turns, Turn, AfterTurn, Ending, BudgetIsSpent}
+use Rattle.cg_machine.specs.World.{World, Activity, Framed, Releasing, Dying, Collecting, Frame, Numbers, DyingPhase, Finalizer, Clearing, Calling, LegacyFinalizer, Emptying, Collection, CollectPhase, Start, Split, Turns, Turn, AfterTurn, Ending}
 use Rattle.cg_machine.specs.Holdings.{collect_holds, holds, is_collection}
-use Rattle.cg_machine.specs.Frame.{Transition, start_frame}
+use Rattle.cg_machine.specs.Frame.{start_frame}
 use Rattle.cg_machine.specs.Weak.{has_weak_references, weak_references_if, loses_referent, callback_of}
 use Rattle.cg_machine.specs.Collect.{older, begun, saved, survived, waits}
 use Rattle.cg_machine.specs.Origins.{commands_on}
 use Rattle.cg_machine.specs.Represents.{death_waits}
-use Rattle.cg_machine.specs.Laws.{IsOfCollection, waits_of}
+use Rattle.cg_machine.specs.Laws.{waits_of}
 use Rattle.cg_machine.proofs.Lookups.{references_of_member}
 use Rattle.cg_machine.proofs.Measure.{is_first}
 use Rattle.cg_machine.proofs.Forgotten.{IsLater, later_refl, later_trans, change_alters, entries_alter}

@@ -1,5 +1,5 @@
 -- What a step leaves below it: the activities, and the entries of objects that are dying there or that wait there.
-use Rattle.std.proofs.Common.{◌≡◌, ◌≢◌, refl, sym, ◌∙◌, subst, ℕ, Bool, true, false, not, inl, inr, ◌⊎◌, List, [], ◌∷◌, ◌++◌, map, None}
+use Rattle.std.proofs.Common.{◌≡◌, ◌≢◌, refl, sym, ◌∙◌, subst, ℕ, Bool, true, false, not, inl, inr, ◌⊎◌, List, [], ◌∷◌, ◌++◌, map}
 use Rattle.std.specs.Prelude.{◌==◌, if◌then◌else◌, flat_map}
 use Rattle.std.proofs.lemmas.Bool.{eqb-true}
 use Rattle.cg_value.specs.declared.Entry.{Entry}
@@ -7,12 +7,11 @@ use Rattle.cg_value.specs.declared.Val.TheVariants.{Ref}
 use Rattle.cg_graph.specs.Value.{item}
 use Rattle.cg_value.specs.declared.KindCode.TheVariants.{List as ListKind, Weak}
 use Rattle.cg_graph.specs.Member.{Includes}
-use Rattle.cg_graph.specs.Object.{Object, change, without, with_entries, with_referent}
+use Rattle.cg_graph.specs.Object.{Object, change, without, with_entries}
 use Rattle.cg_graph.proofs.Members.{either, Includes-append_left, Includes-append_right, Includes-map_cases, Includes-filter_cases}
 use Rattle.cg_machine.specs.World.{World, Activity, Dying, Collecting, Death}
-use Rattle.cg_machine.specs.Weak.{loses_referent, AllLose}
 use Rattle.cg_machine.specs.Holdings.{holds}
-use Rattle.cg_machine.specs.Collect.{saved, all_saved}
+use Rattle.cg_machine.specs.Collect.{saved}
 use Rattle.cg_machine.specs.Laws.{waits_of, all_waits, IsOfCollection}
 use Rattle.cg_machine.proofs.Forgotten.{Forgotten, IsLater, later_refl, later_trans}
 use Rattle.cg_machine.proofs.Orderly.{Orderly}

@@ -13,7 +13,7 @@ use Rattle.cg_machine.specs.declared.event.FrameSpec.{FrameSpec}
 use Rattle.cg_machine.specs.World.{World, Activity}
 use Rattle.cg_machine.specs.Frame.{Transition, start_frame}
 use Rattle.cg_machine.specs.Lines.{IsPrintable}
-use Rattle.cg_machine.proofs.PrintableTexts.{HaveTexts, ObjectsHaveTexts, WorldHasTexts, entries_item, entries_texts, tested_texts, changed_texts}
+use Rattle.cg_machine.proofs.PrintableTexts.{HaveTexts, ObjectsHaveTexts, WorldHasTexts, entries_item, entries_texts, changed_texts}
 use Rattle.cg_machine.proofs.Advances.{Advance, Stands, StartsFrame, Changed, Same, Marks, asides, Takes, Saves, Frees, Then, IsLineOf}
 use Rattle.cg_machine.proofs.Starting.{starts_either}
 

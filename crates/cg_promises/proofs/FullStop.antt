@@ -1,24 +1,18 @@
 -- The step in which a full collection stops is that of its end.
-use Rattle.std.proofs.Common.{◌≡◌, ◌≢◌, refl, sym, ◌∙◌, ap, subst, ℕ, ◌-◌, ◌<◌, Bool, true, false, not, ◌&&◌, inl, inr, ◌⊎◌, List, [], ◌∷◌, ◌++◌, map, Option, Some, None, arith}
-use Rattle.std.specs.Prelude.{◌==◌, count_by, if◌then◌else◌, option_and_then}
-use Rattle.cg_value.specs.declared.Entry.{Entry}
-use Rattle.cg_value.specs.declared.Place.TheVariants.{Untracked, Gen, Legacy}
+use Rattle.std.proofs.Common.{◌≡◌, ◌≢◌, refl, sym, ◌∙◌, ap, subst, ℕ, ◌<◌, Bool, true, false, inl, inr, ◌⊎◌, List, [], ◌∷◌, ◌++◌, map, arith}
+use Rattle.std.specs.Prelude.{◌==◌, count_by, if◌then◌else◌}
+use Rattle.cg_value.specs.declared.Place.TheVariants.{Gen, Legacy}
 use Rattle.cg_value.specs.declared.Val.TheVariants.{Ref}
 use Rattle.cg_script.specs.declared.Script.{Script}
 use Rattle.cg_graph.specs.Member.{Includes}
-use Rattle.cg_graph.specs.Value.{item, last_entry, references}
-use Rattle.cg_graph.specs.Object.{Object, entries_of, is_at, is_in_map, is_tuple, object_at, with_entries, with_place}
-use Rattle.cg_graph.proofs.Members.{either, Includes-append_cases, Includes-map, Includes-map_cases}
+use Rattle.cg_graph.specs.Value.{item, references}
+use Rattle.cg_graph.specs.Object.{Object, is_at, with_entries, with_place}
+use Rattle.cg_graph.proofs.Members.{either, Includes-map}
 use Rattle.cg_machine.specs.declared.event.Event.{Event}
 use Rattle.cg_machine.specs.declared.event.Event.TheVariants.{BudgetSpent, Enter, GcStop}
-use Rattle.cg_machine.specs.declared.event.FrameSpec.{FrameSpec}
-use Rattle.cg_machine.specs.Program.{body_of, legacy_of}
-use Rattle.cg_machine.specs.World.{World, Activity, TopLevel, Framed, Releasing, Dying, Collecting, Collection, DyingPhase, Finalizer, AfterFinalizer, Clearing, Calling, AfterCall, LegacyFinalizer, AfterLegacy, Detaching, Emptying, CollectPhase, Start, WeakClearing, WeakCalling, AfterCallback, AfterRelease, Finalizing, AfterFinalizing, Split, Turns, Turn, AfterTurn, Ending, BudgetIsSpent, with_change, with_stack, ShuttingDown}
-use Rattle.cg_machine.specs.Holdings.{collect_holds, in_degree, is_dying}
-use Rattle.cg_machine.specs.Frame.{Transition, begin_death, released, start_frame}
-use Rattle.cg_machine.specs.Weak.{has_weak_references, weak_references_if}
-use Rattle.cg_machine.specs.Dying.{after_frame, death_at, call_one, clear_one, detach_one, dying, empty_one, finalizer_to_run, has_finalizers, run_finalizer, run_legacy}
-use Rattle.cg_machine.specs.Collect.{all_saved, empties, has_flag, looks_at, older, save_all, saved, EndStep, PhaseStep}
+use Rattle.cg_machine.specs.World.{World, Activity, TopLevel, Framed, Releasing, Dying, Collecting, Collection, CollectPhase, Start, Ending, with_stack, ShuttingDown}
+use Rattle.cg_machine.specs.Holdings.{collect_holds}
+use Rattle.cg_machine.specs.Collect.{all_saved, older, saved, EndStep, PhaseStep}
 use Rattle.cg_machine.specs.Run.{StepOf}
 use Rattle.cg_machine.specs.Laws.{is_stop}
 use Rattle.cg_machine.proofs.Advances.{Advance, Stands, StartsFrame, IsEnding, IsLineOf}

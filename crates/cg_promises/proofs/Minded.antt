@@ -1,6 +1,6 @@
 -- What nothing holds is dying: of the parts of a world. A step that moves what entries or activities held to another activity
 -- keeps it so. A weak reference has one entry at most, so that no more is lost when its callback is taken out.
-use Rattle.std.proofs.Common.{◌≡◌, ◌≢◌, refl, sym, ◌∙◌, subst, ℕ, ◌-◌, ◌<◌, Bool, true, false, inl, inr, ◌⊎◌, List, [], ◌∷◌, ◌++◌, length, map, Option, None}
+use Rattle.std.proofs.Common.{◌≡◌, ◌≢◌, refl, sym, ◌∙◌, subst, ℕ, ◌<◌, Bool, true, false, inl, inr, ◌⊎◌, List, [], ◌∷◌, ◌++◌, length, map, Option, None}
 use Rattle.std.specs.Prelude.{◌==◌, ◌||◌, if◌then◌else◌, flat_map}
 use Rattle.std.specs.List.{list_any}
 use Rattle.cg_value.specs.declared.Val.{Val}
@@ -11,11 +11,9 @@ use Rattle.cg_graph.specs.Value.{references}
 use Rattle.cg_graph.specs.Object.{Object, change, serials, with_place, with_referent}
 use Rattle.cg_graph.specs.Holdings.{entry_holdings, graph_of, name_holdings}
 use Rattle.cg_graph.proofs.Members.{either, Includes-append_left, Includes-append_right, Includes-append_cases, Includes-map, Includes-map_cases}
-use Rattle.cg_machine.specs.declared.event.Event.TheVariants.{Enter, BudgetSpent}
 use Rattle.cg_machine.specs.declared.event.FrameSpec.{FrameSpec}
-use Rattle.cg_machine.specs.Program.{body_of}
-use Rattle.cg_machine.specs.Frame.{Transition, start_frame}
-use Rattle.cg_machine.specs.World.{World, Activity, Framed, Releasing, BudgetIsSpent}
+use Rattle.cg_machine.specs.Frame.{start_frame}
+use Rattle.cg_machine.specs.World.{World, Activity, Releasing}
 use Rattle.cg_machine.specs.Holdings.{holdings, holds, in_degree, is_death_of}
 use Rattle.cg_machine.proofs.Starting.{frame_of, starts_either}
 use Rattle.cg_machine.proofs.Releasing.{entry_holder, no_times, none_holds}

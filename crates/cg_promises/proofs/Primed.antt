@@ -1,6 +1,6 @@
 -- While a collection is under way no condemned object has a legacy finalizer, and those that were looked at have no finalizer to
 -- run.
-use Rattle.std.proofs.Common.{◌≡◌, ◌≢◌, refl, sym, ◌∙◌, ap, subst, ℕ, ◌+◌, ◌-◌, Bool, true, false, not, ◌&&◌, inl, inr, ◌⊎◌, List, [], ◌∷◌, ◌++◌, map, length, Option, Some, None, arith}
+use Rattle.std.proofs.Common.{◌≡◌, ◌≢◌, refl, sym, ◌∙◌, ap, subst, ℕ, ◌+◌, Bool, true, false, not, ◌&&◌, inl, inr, ◌⊎◌, List, [], ◌∷◌, ◌++◌, map, length, Option, Some, None, arith}
 use Rattle.std.specs.Prelude.{◌==◌, ◌||◌, if◌then◌else◌, is_some, nat_le, option_and_then, unwrap_or}
 use Rattle.std.proofs.lemmas.Bool.{eqb-true}
 use Rattle.cg_value.specs.declared.Entry.{Entry}
@@ -14,11 +14,11 @@ use Rattle.cg_graph.specs.Value.{entry_references, item, last_entry, without_las
 use Rattle.cg_graph.specs.Object.{Object, change, object_at, objects_at, entries_of, is_at, is_in_map, is_tracked, is_tuple, marked, same_place, serials_at, with_entries, with_place, with_referent}
 use Rattle.cg_graph.proofs.Members.{either, Includes-filter, Includes-map, Includes-map_cases}
 use Rattle.cg_machine.specs.declared.event.Event.{Event}
-use Rattle.cg_machine.specs.declared.event.Event.TheVariants.{BudgetSpent, Enter, GcSaved}
+use Rattle.cg_machine.specs.declared.event.Event.TheVariants.{GcSaved}
 use Rattle.cg_machine.specs.declared.event.FrameSort.TheVariants.{Del, Callback}
 use Rattle.cg_machine.specs.declared.event.FrameSpec.{FrameSpec}
-use Rattle.cg_machine.specs.Program.{body_of, finalizer_of, legacy_of, profile_of}
-use Rattle.cg_machine.specs.World.{World, Activity, Framed, Releasing, Collecting, Collection, CollectPhase, Start, WeakClearing, WeakCalling, AfterCallback, AfterRelease, Finalizing, AfterFinalizing, Split, Turns, Turn, AfterTurn, Ending, BudgetIsSpent, with_change, with_objects}
+use Rattle.cg_machine.specs.Program.{finalizer_of, legacy_of, profile_of}
+use Rattle.cg_machine.specs.World.{World, Activity, Releasing, Collecting, Collection, CollectPhase, Start, WeakClearing, WeakCalling, AfterCallback, AfterRelease, Finalizing, AfterFinalizing, Split, Turns, Turn, AfterTurn, Ending, with_change, with_objects}
 use Rattle.cg_machine.specs.Frame.{Transition, procedure_of, start_frame}
 use Rattle.cg_machine.specs.Weak.{AllLose, callback_of, loses_referent}
 use Rattle.cg_machine.specs.Dying.{finalizer_to_run}

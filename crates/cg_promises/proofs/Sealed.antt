@@ -1,6 +1,6 @@
 -- The members of a final set, while its collection goes on: only members and releases hold them, they refer to nothing weakly
 -- and nothing to them, no finalizer of theirs is to run, and no frame has them. What a step has to do to keep that.
-use Rattle.std.proofs.Common.{◌≡◌, ◌≢◌, refl, sym, ◌∙◌, ap, subst, ℕ, ◌-◌, ◌<◌, ◌≤◌, Bool, true, false, inl, inr, ◌⊎◌, List, [], ◌∷◌, map, Option, Some, None, arith}
+use Rattle.std.proofs.Common.{◌≡◌, ◌≢◌, refl, sym, ◌∙◌, ap, subst, ℕ, ◌<◌, ◌≤◌, Bool, true, false, inl, inr, ◌⊎◌, List, [], ◌∷◌, map, Option, Some, None, arith}
 use Rattle.std.specs.Prelude.{◌==◌, ◌||◌, if◌then◌else◌, is_some}
 use Rattle.std.specs.List.{list_any}
 use Rattle.std.proofs.lemmas.Bool.{eqb-true}
@@ -17,8 +17,8 @@ use Rattle.cg_graph.proofs.Members.{either, or_right, Includes-map, Includes-map
 use Rattle.cg_machine.specs.declared.event.Event.{Event}
 use Rattle.cg_machine.specs.declared.event.Event.TheVariants.{BudgetSpent, Enter, Free}
 use Rattle.cg_machine.specs.declared.event.FrameSpec.{FrameSpec}
-use Rattle.cg_machine.specs.Program.{body_of, finalizer_of, legacy_of}
-use Rattle.cg_machine.specs.World.{World, Activity, TopLevel, Framed, Releasing, Dying, Death, Collecting, Collection, CollectPhase, Turns, Turn, AfterTurn, Ending, BudgetIsSpent, ShuttingDown}
+use Rattle.cg_machine.specs.Program.{finalizer_of, legacy_of}
+use Rattle.cg_machine.specs.World.{World, Activity, TopLevel, Framed, Releasing, Dying, Death, Collecting, Collection, CollectPhase, Turns, Turn, AfterTurn, Ending, ShuttingDown}
 use Rattle.cg_machine.specs.Holdings.{dying_holds, holds, is_collection, is_death_of}
 use Rattle.cg_machine.specs.Frame.{Transition, Yields, start_frame}
 use Rattle.cg_machine.specs.Weak.{loses_referent}

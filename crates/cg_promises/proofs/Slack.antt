@@ -1,6 +1,6 @@
 -- Untracked objects, of the parts of a world: what they refer to, and what a change of the objects keeps of that. Beside it,
 -- what a collection gives up and places anew is no tuple.
-use Rattle.std.proofs.Common.{◌≡◌, ◌≢◌, refl, sym, ◌∙◌, subst, ℕ, ◌-◌, ◌<◌, Bool, true, false, inl, inr, ◌⊎◌, List, [], ◌∷◌, map, None}
+use Rattle.std.proofs.Common.{◌≡◌, ◌≢◌, refl, sym, ◌∙◌, subst, ℕ, ◌<◌, Bool, true, false, inl, inr, ◌⊎◌, List, ◌∷◌, map, None}
 use Rattle.std.specs.Prelude.{◌==◌, if◌then◌else◌}
 use Rattle.cg_value.specs.declared.Place.{Place}
 use Rattle.cg_value.specs.declared.Place.TheVariants.{Untracked}
@@ -9,13 +9,11 @@ use Rattle.cg_graph.specs.Member.{Includes}
 use Rattle.cg_graph.specs.Value.{references}
 use Rattle.cg_graph.specs.Object.{Object, is_tuple, with_place, with_referent}
 use Rattle.cg_graph.proofs.Members.{either, Includes-map_cases}
-use Rattle.cg_machine.specs.declared.event.Event.TheVariants.{Enter, BudgetSpent}
 use Rattle.cg_machine.specs.declared.event.FrameSpec.{FrameSpec}
-use Rattle.cg_machine.specs.Program.{body_of}
-use Rattle.cg_machine.specs.Frame.{Transition, start_frame}
+use Rattle.cg_machine.specs.Frame.{start_frame}
 use Rattle.cg_machine.specs.Operands.{is_dict}
 use Rattle.cg_machine.specs.Weak.{loses_referent}
-use Rattle.cg_machine.specs.World.{World, Activity, Framed, Dying, Death, Collecting, Collection, BudgetIsSpent}
+use Rattle.cg_machine.specs.World.{World, Activity, Dying, Death, Collecting, Collection}
 use Rattle.cg_machine.specs.Laws.{runs_own_frame}
 use Rattle.cg_laws.specs.Apart.{handles}
 use Rattle.cg_machine.proofs.Starting.{frame_of, starts_either}

@@ -1,25 +1,19 @@
 -- The stack that a step of a collection leaves, and that an object which has its turn without SAVEALL was in its final set.
-use Rattle.std.proofs.Common.{◌≡◌, ◌≢◌, refl, sym, ◌∙◌, ap, subst, ℕ, ◌+◌, ◌-◌, Bool, true, false, inl, inr, List, [], ◌∷◌, ◌++◌, map, length, Option, Some, None}
-use Rattle.std.specs.Prelude.{◌==◌, if◌then◌else◌, option_and_then, unwrap_or}
+use Rattle.std.proofs.Common.{◌≡◌, ◌≢◌, refl, sym, ◌∙◌, ap, subst, ℕ, ◌+◌, Bool, true, false, inl, inr, List, [], ◌∷◌, ◌++◌, map, length, Option, Some, None}
+use Rattle.std.specs.Prelude.{◌==◌, if◌then◌else◌}
 use Rattle.cg_value.specs.declared.Entry.{Entry}
-use Rattle.cg_value.specs.declared.Place.TheVariants.{Cand, Gen, Pend, Seen}
+use Rattle.cg_value.specs.declared.Place.TheVariants.{Cand, Gen}
 use Rattle.cg_value.specs.declared.Val.TheVariants.{Ref}
 use Rattle.cg_script.specs.declared.Script.{Script}
 use Rattle.cg_graph.specs.Member.{Includes}
 use Rattle.cg_graph.specs.Value.{entry_references, item, last_entry, without_last}
-use Rattle.cg_graph.specs.Object.{Object, change, object_at, entries_of, is_at, is_in_map, is_tuple, marked, objects_at, same_place, serials_at, with_entries, with_place}
+use Rattle.cg_graph.specs.Object.{Object, change, entries_of, is_at, is_tuple, objects_at, same_place, serials_at, with_entries, with_place}
 use Rattle.cg_graph.proofs.Members.{either, Includes-filter, Includes-filter_cases, Includes-map, Includes-map_cases}
 use Rattle.cg_machine.specs.declared.event.Event.{Event}
-use Rattle.cg_machine.specs.declared.event.Event.TheVariants.{BudgetSpent, Enter, GcSaved}
-use Rattle.cg_machine.specs.declared.event.FrameSort.TheVariants.{Del, Callback}
-use Rattle.cg_machine.specs.declared.event.FrameSpec.{FrameSpec}
-use Rattle.cg_machine.specs.Program.{body_of, profile_of}
-use Rattle.cg_machine.specs.World.{World, Activity, Framed, Releasing, Dying, Death, Collecting, Collection, CollectPhase, Start, WeakClearing, WeakCalling, AfterCallback, AfterRelease, Finalizing, AfterFinalizing, Split, Turns, Turn, AfterTurn, Ending, BudgetIsSpent, with_change, with_objects}
-use Rattle.cg_machine.specs.Holdings.{is_collection}
-use Rattle.cg_machine.specs.Frame.{Transition, procedure_of, start_frame}
-use Rattle.cg_machine.specs.Weak.{callback_of, loses_referent}
-use Rattle.cg_machine.specs.Dying.{finalizer_to_run}
-use Rattle.cg_machine.specs.Collect.{calls_back, collection_at, empties, has_flag, looks_at, older, save_all, saved, takes_turn, waits, FinalizingStep, PhaseStep, TurnsStep, WeakClearingStep}
+use Rattle.cg_machine.specs.declared.event.Event.TheVariants.{GcSaved}
+use Rattle.cg_machine.specs.World.{World, Activity, Releasing, Collecting, Collection, CollectPhase, Start, WeakClearing, WeakCalling, AfterCallback, AfterRelease, Finalizing, AfterFinalizing, Split, Turns, Turn, AfterTurn, Ending, with_change, with_objects}
+use Rattle.cg_machine.specs.Frame.{Transition}
+use Rattle.cg_machine.specs.Collect.{collection_at, empties, has_flag, older, save_all, saved, takes_turn, PhaseStep, TurnsStep}
 use Rattle.cg_laws.proofs.SetsApart.{NoneCollects}
 use Rattle.cg_machine.proofs.Advances.{Advance, Stands, StartsFrame, Continues, Dies, Clears, Collects, IsEarly, Tops, Ends, Returns, Releases, Kills, GoesOn, Gives}
 use Rattle.cg_machine.proofs.Starting.{frame_of, starts_either}

@@ -1,25 +1,14 @@
 -- While no frame begins, commands only become fewer, and what has no commands binds no name. So names stay until the next command
 -- of what was on top is taken.
-use Rattle.std.proofs.Common.{◌≡◌, ◌≢◌, refl, sym, ap, subst, ℕ, suc, ◌+◌, ◌<◌, ◌≤◌, Bool, true, false, inl, inr, ◌⊎◌, List, [], ◌∷◌, ◌++◌, length, Option, Some, None, arith}
-use Rattle.std.specs.Prelude.{not, ◌==◌, ◌&&◌, if◌then◌else◌, count_by, option_and_then, option_to_list}
+use Rattle.std.proofs.Common.{◌≡◌, ◌≢◌, refl, ap, ℕ, suc, ◌<◌, ◌≤◌, true, false, inl, inr, ◌⊎◌, List, [], ◌∷◌, ◌++◌, length, Option, arith}
+use Rattle.std.specs.Prelude.{count_by}
 use Rattle.cg_value.specs.declared.Val.{Val}
-use Rattle.cg_value.specs.declared.Entry.{Entry}
-use Rattle.cg_value.specs.declared.Place.TheVariants.{Untracked}
 use Rattle.cg_script.specs.declared.Script.{Script}
 use Rattle.cg_script.specs.declared.Command.{Command}
-use Rattle.cg_graph.specs.Value.{last_entry}
-use Rattle.cg_graph.specs.Object.{Object, object_at, entries_of, is_in_map, is_tuple, with_place}
+use Rattle.cg_graph.specs.Object.{Object}
 use Rattle.cg_machine.specs.declared.event.Event.{Event}
-use Rattle.cg_machine.specs.declared.event.Event.TheVariants.{Alive}
-use Rattle.cg_machine.specs.declared.event.FrameSort.{FrameSort}
-use Rattle.cg_machine.specs.declared.event.FrameSort.TheVariants.{Del, Legacy, Callback, Call}
-use Rattle.cg_machine.specs.World.{World, Numbers, Activity, TopLevel, Framed, Releasing, Dying, Collecting, ShuttingDown, Frame, DyingPhase, Finalizer, AfterFinalizer, Clearing, Calling, AfterCall, LegacyFinalizer, AfterLegacy, Detaching, Emptying, Collection, CollectPhase, Start, WeakClearing, WeakCalling, AfterCallback, AfterRelease, Finalizing, AfterFinalizing, Split, Turns, Turn, AfterTurn, Ending, Running, Ended, push, with_change, with_stack}
-use Rattle.cg_machine.specs.Holdings.{in_degree, is_dying}
-use Rattle.cg_machine.specs.Frame.{Transition, Yields, frame_end, gives_up_function, begin_death, released}
-use Rattle.cg_machine.specs.Weak.{has_weak_references, weak_references_if}
-use Rattle.cg_machine.specs.Dying.{death_at, has_finalizers, finalizer_to_run, run_finalizer, run_legacy, after_frame, clear_one, call_one, detach_one, empty_one, dying}
-use Rattle.cg_machine.specs.Collect.{calls_back, after_release, collection_at, empties, has_flag, looks_at, save_all, takes_turn, waits, PhaseStep, WeakClearingStep, FinalizingStep, TurnsStep}
-use Rattle.cg_machine.specs.Program.{legacy_of, profile_of}
+use Rattle.cg_machine.specs.World.{World, Numbers, Activity, TopLevel, Framed, Releasing, Dying, Collecting, ShuttingDown, Running, Ended, push}
+use Rattle.cg_machine.specs.Collect.{waits}
 use Rattle.cg_machine.specs.Origins.{commands_on}
 use Rattle.cg_machine.specs.Commands.{new_collection}
 use Rattle.cg_machine.specs.Laws.{is_enter}

@@ -12,8 +12,7 @@ use Rattle.cg_graph.proofs.Members.{either, Includes-append_cases, Includes-map_
 use Rattle.cg_machine.specs.declared.event.Event.{Event}
 use Rattle.cg_machine.specs.declared.event.Event.TheVariants.{Enter, Cleared, BudgetSpent}
 use Rattle.cg_machine.specs.declared.event.FrameSpec.{FrameSpec}
-use Rattle.cg_machine.specs.Program.{body_of}
-use Rattle.cg_machine.specs.World.{World, Activity, Framed, Dying, Death, DyingPhase, AfterFinalizer, AfterLegacy, BudgetIsSpent}
+use Rattle.cg_machine.specs.World.{World, Activity, Dying, Death, DyingPhase, AfterFinalizer, AfterLegacy, BudgetIsSpent}
 use Rattle.cg_machine.specs.Frame.{Transition, Yields, start_frame}
 use Rattle.cg_machine.specs.Weak.{AllLose, loses_referent}
 use Rattle.cg_machine.proofs.Starting.{frame_of, starts_either}
