@@ -8,7 +8,7 @@ use Rattle.cg_machine.specs.declared.event.FrameSpec.{FrameSpec}
 use Rattle.cg_machine.specs.World.{World, Activity, Releasing, Dying, Collecting, Collection, Numbers, Start, Finalizer}
 use Rattle.cg_machine.specs.Program.{body_of}
 use Rattle.cg_machine.specs.Frame.{start_frame}
-use Rattle.cg_machine.proofs.Advances.{Advance, Stands, StartsFrame, Renumbers, Kept, Freed, Begins, Continues, Dies, Clears, Collects, Tops, Ends, Returns, Releases, Kills, GoesOn, Gives}
+use Rattle.cg_machine.proofs.Advances.{Advance, Plainly, WithFrame, Renumbers, SameCounts, OneLess, BegunCounts, Continues, DeathGoesOn, DeathClears, CollectionGoesOn, Tops, TopEnds, GivesFunction, GivesReference, BeginsDeath, TopGoesOn, GivesReferences}
 use Rattle.cg_machine.proofs.Starting.{starts_either}
 use Rattle.cg_machine.proofs.Making.{IsFew, left_on, starts_makes}
 use Rattle.cg_laws.proofs.Numbers.{Limits, Settled, StartsSettled, on_top}
@@ -27,25 +27,25 @@ starts_counts limits script spec u short h =
 -- what stands in place of the activity on top
 module _ (limits : Limits) (n : Numbers) (budget : ℕ) (before after : List Object) (below : List Activity) (rest : Settled limits n budget below) where
   continues_counts : (top a : Activity) → Continues before after top a → Settled limits n budget (a ∷ below)
-  continues_counts top a (Dies o phase next waits none) = on_top limits n budget (Dying (record { object = o; phase = next })) below refl refl rest
-  continues_counts top a (Clears o weak waiting weaks t first lost) = on_top limits n budget a below refl refl rest
-  continues_counts top a (Collects c d same begun early) = on_top limits n budget (Collecting d) below refl begun rest
+  continues_counts top a (DeathGoesOn o phase next waits none) = on_top limits n budget (Dying (record { object = o; phase = next })) below refl refl rest
+  continues_counts top a (DeathClears o weak waiting weaks t first lost) = on_top limits n budget a below refl refl rest
+  continues_counts top a (CollectionGoesOn c d same begun early) = on_top limits n budget (Collecting d) below refl begun rest
 
   tops_count : (top : Activity) (tops : List Activity) → Tops before after top tops → Settled limits n budget (tops ++ below)
-  tops_count top tops (Ends a) = rest
-  tops_count top tops (Returns f references few) = on_top limits n budget (Releasing references) below refl refl rest
-  tops_count top tops (Releases o references) = on_top limits n budget (Releasing references) below refl refl rest
-  tops_count top tops (Kills o references) = on_top limits n budget (Dying (record { object = o; phase = Finalizer })) (Releasing references ∷ below) refl refl (on_top limits n budget (Releasing references) below refl refl rest)
-  tops_count top tops (GoesOn b a c held) = continues_counts b a c
-  tops_count top tops (Gives b a references few c held) = on_top limits n budget (Releasing references) (a ∷ below) refl refl (continues_counts b a c)
+  tops_count top tops (TopEnds a) = rest
+  tops_count top tops (GivesFunction f references few) = on_top limits n budget (Releasing references) below refl refl rest
+  tops_count top tops (GivesReference o references) = on_top limits n budget (Releasing references) below refl refl rest
+  tops_count top tops (BeginsDeath o references) = on_top limits n budget (Dying (record { object = o; phase = Finalizer })) (Releasing references ∷ below) refl refl (on_top limits n budget (Releasing references) below refl refl rest)
+  tops_count top tops (TopGoesOn b a c held) = continues_counts b a c
+  tops_count top tops (GivesReferences b a references few c held) = on_top limits n budget (Releasing references) (a ∷ below) refl refl (continues_counts b a c)
 
 numbers_count : (limits : Limits) (top : Activity) (objects : List Object) (n now : Numbers) (budget : ℕ) (below : List Activity) → Renumbers top objects n now → length objects ≤ limits.objects → Settled limits n budget below
     → ((c : Collection) → top ≡ Collecting c → c.phase ≡ Start → StartsSettled limits n budget below c.generation) → Settled limits now budget below
-numbers_count limits top objects n now budget below Kept fit rest soon = rest
-numbers_count limits top objects n now budget below Freed fit rest soon = record { spent = rest.spent; within = omega (arith, rest.within); pending = rest.pending; total = rest.total; still = rest.still }
-numbers_count limits top objects n now budget below (Begins c survivors is first few) fit rest soon = soon c is first survivors (omega (arith, few, fit))
+numbers_count limits top objects n now budget below SameCounts fit rest soon = rest
+numbers_count limits top objects n now budget below OneLess fit rest soon = record { spent = rest.spent; within = omega (arith, rest.within); pending = rest.pending; total = rest.total; still = rest.still }
+numbers_count limits top objects n now budget below (BegunCounts c survivors is first few) fit rest soon = soon c is first survivors (omega (arith, few, fit))
 
 pub advance_counts : (limits : Limits) (script : Script) (top : Activity) (below : List Activity) (v : World) → ((p : ℕ) → length (body_of script p) ≤ limits.longest) → length v.objects ≤ limits.objects → Settled limits v.numbers v.budget below
     → ((c : Collection) → top ≡ Collecting c → c.phase ≡ Start → StartsSettled limits v.numbers v.budget below c.generation) → (lines : List Event) (after : World) → Advance script v top below lines after → IsSettled limits after
-advance_counts limits script top below v short fit rest soon lines after (Stands tops objects numbers ls t c n none) = tops_count limits numbers v.budget v.objects objects below (numbers_count limits top v.objects v.numbers numbers v.budget below n fit rest soon) top tops t
-advance_counts limits script top below v short fit rest soon lines after (StartsFrame spec a objects s c held m) = starts_counts limits script spec (record v { objects = objects; stack = a ∷ below }) (short spec.proc) (continues_counts limits v.numbers v.budget v.objects objects below rest top a c)
+advance_counts limits script top below v short fit rest soon lines after (Plainly tops objects numbers ls t c n none) = tops_count limits numbers v.budget v.objects objects below (numbers_count limits top v.objects v.numbers numbers v.budget below n fit rest soon) top tops t
+advance_counts limits script top below v short fit rest soon lines after (WithFrame spec a objects s c held m) = starts_counts limits script spec (record v { objects = objects; stack = a ∷ below }) (short spec.proc) (continues_counts limits v.numbers v.budget v.objects objects below rest top a c)

@@ -18,7 +18,7 @@ use Rattle.cg_machine.specs.Weak.{loses_referent}
 use Rattle.cg_machine.specs.Laws.{IsOfCollection}
 use Rattle.cg_machine.specs.Collect.{collection_at}
 use Rattle.cg_laws.specs.Apart.{StandsRightly, IsFound, IsGarbageList, handles, IsApart}
-use Rattle.cg_machine.proofs.Starting.{frame_of, starts_either}
+use Rattle.cg_machine.proofs.Starting.{begun_frame, starts_either}
 
 -- the objects while a collection is at a phase
 pub record AreApart (objects : List Object) (phase : CollectPhase) : Type 0 where
@@ -72,7 +72,7 @@ pub starts_apart : (script : Script) (spec : FrameSpec) (u : World) → IsApart 
 starts_apart script spec u h = starts_either (λ lines. IsApart) script spec u (record { garbage = h.garbage; clear = h.clear; phases = h.phases; unhandled = h.unhandled; unsaved = h.unsaved })
     (λ some. record { garbage = h.garbage; clear = h.clear; phases = λ c m. h.phases c (below c m); unhandled = λ c m. h.unhandled c (below c m); unsaved = h.unsaved })
   where
-    below : (c : Collection) → Includes (frame_of script spec ∷ u.stack) (Collecting c) → Includes u.stack (Collecting c)
+    below : (c : Collection) → Includes (begun_frame script spec ∷ u.stack) (Collecting c) → Includes u.stack (Collecting c)
     below c m = either m (λ e. absurd (cc)) (λ k. k)
 
 -- something is given up

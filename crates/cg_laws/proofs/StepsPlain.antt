@@ -21,8 +21,8 @@ use Rattle.cg_machine.specs.Due.{due, is_due, due_generation}
 use Rattle.cg_machine.specs.Run.{Step}
 use Rattle.cg_machine.proofs.ShapeLaws.{changes_leave}
 use Rattle.cg_machine.proofs.Unheld.{Calm}
-use Rattle.cg_machine.proofs.Advances.{Advance, Stands, StartsFrame, Changed, Same, Marks, Takes, Saves, Frees, Then, Moved, Rests, Untracks, Revives, Sorts, Finalizes, Soon, Late, asides, Continues, Dies, Clears, Collects, Tops, Ends, Returns, Releases, Kills, GoesOn, Gives, fewer_references}
-use Rattle.cg_machine.proofs.Starting.{frame_of, starts_either}
+use Rattle.cg_machine.proofs.Advances.{Advance, Plainly, WithFrame, HasChanged, NothingChanges, ChangesEach, LosesEntries, GetsEntry, LosesObject, Followed, IsMoved, StaysThere, IsUntracked, IsRevived, IsPlaced, Finalizes, Soon, Late, asides, Continues, DeathGoesOn, DeathClears, CollectionGoesOn, Tops, TopEnds, GivesFunction, GivesReference, BeginsDeath, TopGoesOn, GivesReferences, fewer_references}
+use Rattle.cg_machine.proofs.Starting.{begun_frame, starts_either}
 use Rattle.cg_machine.proofs.Advancing.{frame_end_advances, released_advances, dying_advances, phase_advances}
 use Rattle.cg_machine.proofs.Invariants.{HasCommands, emptied, on, CommandSteps, Steps, any_step, del_shaped, last_has}
 use Rattle.cg_laws.proofs.GarbageKept.{HasGarbageList, KeepsList, entries_name_not, same_list, list_kept, list_trans, without_kept}
@@ -47,7 +47,7 @@ pub record IsPlain (objects : List Object) (below : List Activity) (after : Worl
 
 -- a frame starts
 starts_plain : (script : Script) (spec : FrameSpec) (objects : List Object) (below : List Activity) (u : World) → IsPlain objects below u → IsPlain objects below (start_frame script spec u).1
-starts_plain script spec objects below u h = starts_either (λ lines. IsPlain objects below) script spec u (record { stack = h.stack; list = h.list }) (λ some. record { stack = with_alone (frame_of script spec) below u.stack refl h.stack; list = h.list })
+starts_plain script spec objects below u h = starts_either (λ lines. IsPlain objects below) script spec u (record { stack = h.stack; list = h.list }) (λ some. record { stack = with_alone (begun_frame script spec) below u.stack refl h.stack; list = h.list })
 
 -- what dies is not the garbage list
 finalizes_other : (script : Script) (below : List Activity) (v : World) (top : Activity) (o : ℕ) → Finalizes top o → Calm script (on top below v) → o ≢ 1
@@ -59,42 +59,42 @@ module _ (script : Script) (below : List Activity) (v : World) (top : Activity) 
   no_collection_here : is_collection top ≡ true → ⊥
   no_collection_here e = let no : true ≡ false = sym e ∙ none in cc
 
-  list_place : (x y : Object) → Moved top x y → x.serial ≡ 1 → x.place ≡ Untracked → y.place ≡ Untracked
-  list_place x y (Rests e) i p = sym e ∙ p
-  list_place x y (Untracks e) i p = e
-  list_place x y (Revives f e) i p = absurd (finalizes_other script below v top x.serial f c i)
-  list_place x y (Sorts d is k) i p = absurd (no_collection_here (ap is_collection is))
+  list_place : (x y : Object) → IsMoved top x y → x.serial ≡ 1 → x.place ≡ Untracked → y.place ≡ Untracked
+  list_place x y (StaysThere e) i p = sym e ∙ p
+  list_place x y (IsUntracked e) i p = e
+  list_place x y (IsRevived f e) i p = absurd (finalizes_other script below v top x.serial f c i)
+  list_place x y (IsPlaced d is k) i p = absurd (no_collection_here (ap is_collection is))
 
-  changed_list : (before after : List Object) → Changed top before after → KeepsList before after
-  changed_list before after (Same objects) = same_list objects
-  changed_list before after (Marks f test objects aside) = λ y m e.
+  changed_list : (before after : List Object) → HasChanged top before after → KeepsList before after
+  changed_list before after (NothingChanges objects) = same_list objects
+  changed_list before after (ChangesEach f test objects aside) = λ y m e.
       let x = asides top f test objects aside y m in
       let i : x.0.serial ≡ 1 = sym x.2.later.serial ∙ e in
       record { was = x.0; member = x.1; serial = i; code = x.2.later.code; place = list_place x.0 y x.2.moved i; names = λ o h. subst (λ es. ¬ Includes (references es) o) (sym x.2.entries) (h x.0 x.1 i) }
-  changed_list before after (Takes es s objects owns fewer) = list_kept (with_entries es) s objects (λ x. refl) (λ x m i e.
+  changed_list before after (LosesEntries es s objects owns fewer) = list_kept (with_entries es) s objects (λ x. refl) (λ x m i e.
       record { was = x; member = m; serial = e; code = refl; place = λ p. p; names = λ o h k. entries_name_not objects o h (subst (λ n. Includes (references (entries_of objects n)) o) (sym i ∙ e) (fewer_references es (entries_of objects s) fewer o k)) })
-  changed_list before after (Saves o objects is) = absurd (no_collection_here is)
-  changed_list before after (Frees o objects owns) = without_kept o objects
-  changed_list before after (Then first now last h k) = list_trans first now last (changed_list first now h) (changed_list now last k)
+  changed_list before after (GetsEntry o objects is) = absurd (no_collection_here is)
+  changed_list before after (LosesObject o objects owns) = without_kept o objects
+  changed_list before after (Followed first now last h k) = list_trans first now last (changed_list first now h) (changed_list now last k)
 
 -- what goes on is no collection where the top is none
 continues_alone : (before after : List Object) (top a : Activity) → Continues before after top a → is_collection a ≡ is_collection top
-continues_alone before after top a (Dies o phase next waits none) = refl
-continues_alone before after top a (Clears o weak waiting weaks t first lost) = refl
-continues_alone before after top a (Collects c d same begun early) = refl
+continues_alone before after top a (DeathGoesOn o phase next waits none) = refl
+continues_alone before after top a (DeathClears o weak waiting weaks t first lost) = refl
+continues_alone before after top a (CollectionGoesOn c d same begun early) = refl
 
 tops_alone : (before after : List Object) (top : Activity) (tops below : List Activity) → Tops before after top tops → is_collection top ≡ false → StartsAlone below (tops ++ below)
-tops_alone before after top tops below (Ends a) none = below_alone below
-tops_alone before after top tops below (Returns f references few) none = with_alone (Releasing references) below below refl (below_alone below)
-tops_alone before after top tops below (Releases o references) none = with_alone (Releasing references) below below refl (below_alone below)
-tops_alone before after top tops below (Kills o references) none = with_alone (Dying (record { object = o; phase = Finalizer })) below (Releasing references ∷ below) refl (with_alone (Releasing references) below below refl (below_alone below))
-tops_alone before after top tops below (GoesOn t a c held) none = with_alone a below below (continues_alone before after t a c ∙ none) (below_alone below)
-tops_alone before after top tops below (Gives t a references few c held) none = with_alone (Releasing references) below (a ∷ below) refl (with_alone a below below (continues_alone before after t a c ∙ none) (below_alone below))
+tops_alone before after top tops below (TopEnds a) none = below_alone below
+tops_alone before after top tops below (GivesFunction f references few) none = with_alone (Releasing references) below below refl (below_alone below)
+tops_alone before after top tops below (GivesReference o references) none = with_alone (Releasing references) below below refl (below_alone below)
+tops_alone before after top tops below (BeginsDeath o references) none = with_alone (Dying (record { object = o; phase = Finalizer })) below (Releasing references ∷ below) refl (with_alone (Releasing references) below below refl (below_alone below))
+tops_alone before after top tops below (TopGoesOn t a c held) none = with_alone a below below (continues_alone before after t a c ∙ none) (below_alone below)
+tops_alone before after top tops below (GivesReferences t a references few c held) none = with_alone (Releasing references) below (a ∷ below) refl (with_alone a below below (continues_alone before after t a c ∙ none) (below_alone below))
 
 advance_plain : (script : Script) (below : List Activity) (v : World) (top : Activity) → Calm script (on top below v) → (lines : List Event) (after : World) → Advance script v top below lines after → is_collection top ≡ false → IsPlain v.objects below after
-advance_plain script below v top c lines after (Stands tops objects numbers ls t h n shown) none = record { stack = tops_alone v.objects objects top tops below t none; list = changed_list script below v top none c v.objects objects h }
-advance_plain script below v top c lines after (StartsFrame spec a objects s g held h) none =
-    starts_plain script spec v.objects below (record v { objects = objects; stack = a ∷ below }) (record { stack = tops_alone v.objects objects top (a ∷ []) below (GoesOn top a g held) none; list = changed_list script below v top none c v.objects objects h })
+advance_plain script below v top c lines after (Plainly tops objects numbers ls t h n shown) none = record { stack = tops_alone v.objects objects top tops below t none; list = changed_list script below v top none c v.objects objects h }
+advance_plain script below v top c lines after (WithFrame spec a objects s g held h) none =
+    starts_plain script spec v.objects below (record v { objects = objects; stack = a ∷ below }) (record { stack = tops_alone v.objects objects top (a ∷ []) below (TopGoesOn top a g held) none; list = changed_list script below v top none c v.objects objects h })
 
 -- commands are no collection
 no_collection : (a : Activity) → HasCommands a → is_collection a ≡ false

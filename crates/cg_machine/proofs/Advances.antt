@@ -28,9 +28,9 @@ use Rattle.cg_machine.proofs.Forgotten.{IsLater, later_refl, later_trans, change
 
 -- whose entries a step may take: those of an object that dies, or has its turn, and those of a weak reference that is called back
 pub data Owns : Activity → ℕ → Type 0 where
-  Empties : (o : ℕ) → Owns (Dying (record { object = o; phase = Emptying })) o
-  CallsBack : (o weak : ℕ) (waiting : List ℕ) → Owns (Dying (record { object = o; phase = Calling (weak ∷ waiting) })) weak
-  HasTurn : (c : Collection) (o : ℕ) → c.phase ≡ Turn o → Owns (Collecting c) o
+  OfEmptied : (o : ℕ) → Owns (Dying (record { object = o; phase = Emptying })) o
+  OfCalled : (o weak : ℕ) (waiting : List ℕ) → Owns (Dying (record { object = o; phase = Calling (weak ∷ waiting) })) weak
+  OfTurn : (c : Collection) (o : ℕ) → c.phase ≡ Turn o → Owns (Collecting c) o
 
 -- an object whose finalizer or legacy finalizer is to come
 pub data Finalizes : Activity → ℕ → Type 0 where
@@ -43,32 +43,32 @@ IsPlaceIn g (Gen i) = (i ≡ g) ⊎ (i ≡ older g)
 IsPlaceIn g p = Unit {0}
 
 -- where an object goes
-pub data Moved (top : Activity) (x y : Object) : Type 0 where
-  Rests : x.place ≡ y.place → Moved top x y
-  Untracks : y.place ≡ Untracked → Moved top x y
-  Revives : Finalizes top x.serial → y.place ≡ Gen 0 → Moved top x y
-  Sorts : (c : Collection) → top ≡ Collecting c → IsPlaceIn c.generation y.place → Moved top x y
+pub data IsMoved (top : Activity) (x y : Object) : Type 0 where
+  StaysThere : x.place ≡ y.place → IsMoved top x y
+  IsUntracked : y.place ≡ Untracked → IsMoved top x y
+  IsRevived : Finalizes top x.serial → y.place ≡ Gen 0 → IsMoved top x y
+  IsPlaced : (c : Collection) → top ≡ Collecting c → IsPlaceIn c.generation y.place → IsMoved top x y
 
 -- the same object with its entries
-pub record IsAside (top : Activity) (x y : Object) : Type 0 where
+pub record KeepsEntries (top : Activity) (x y : Object) : Type 0 where
   pub later : IsLater x y
   pub entries : y.entries ≡ x.entries
-  pub moved : Moved top x y
+  pub moved : IsMoved top x y
 
 -- how the objects change
-pub data Changed (top : Activity) : List Object → List Object → Type 0 where
-  Same : (objects : List Object) → Changed top objects objects
-  Marks : (f : Object → Object) (test : Object → Bool) (objects : List Object) → ((x : Object) → Includes objects x → test x ≡ true → IsAside top x (f x)) → Changed top objects (map (λ x. if test x then f x else x) objects)
-  Takes : (es : List Entry) (s : ℕ) (objects : List Object) → Owns top s → ((e : Entry) → Includes es e → Includes (entries_of objects s) e) → Changed top objects (change (with_entries es) s objects)
-  Saves : (o : ℕ) (objects : List Object) → is_collection top ≡ true → Changed top objects (saved o objects)
-  Frees : (o : ℕ) (objects : List Object) → Owns top o → Changed top objects (without o objects)
-  Then : (before now after : List Object) → Changed top before now → Changed top now after → Changed top before after
+pub data HasChanged (top : Activity) : List Object → List Object → Type 0 where
+  NothingChanges : (objects : List Object) → HasChanged top objects objects
+  ChangesEach : (f : Object → Object) (test : Object → Bool) (objects : List Object) → ((x : Object) → Includes objects x → test x ≡ true → KeepsEntries top x (f x)) → HasChanged top objects (map (λ x. if test x then f x else x) objects)
+  LosesEntries : (es : List Entry) (s : ℕ) (objects : List Object) → Owns top s → ((e : Entry) → Includes es e → Includes (entries_of objects s) e) → HasChanged top objects (change (with_entries es) s objects)
+  GetsEntry : (o : ℕ) (objects : List Object) → is_collection top ≡ true → HasChanged top objects (saved o objects)
+  LosesObject : (o : ℕ) (objects : List Object) → Owns top o → HasChanged top objects (without o objects)
+  Followed : (before now after : List Object) → HasChanged top before now → HasChanged top now after → HasChanged top before after
 
 -- How the numbers change: one object less is counted, or a collection starts.
 pub data Renumbers (top : Activity) (objects : List Object) (n : Numbers) : Numbers → Type 0 where
-  Kept : Renumbers top objects n n
-  Freed : Renumbers top objects n (record n { zero_count = n.zero_count - 1 })
-  Begins : (c : Collection) (survivors : ℕ) → top ≡ Collecting c → c.phase ≡ Start → survivors ≤ length objects → Renumbers top objects n (survived c.generation survivors (begun c.generation n))
+  SameCounts : Renumbers top objects n n
+  OneLess : Renumbers top objects n (record n { zero_count = n.zero_count - 1 })
+  BegunCounts : (c : Collection) (survivors : ℕ) → top ≡ Collecting c → c.phase ≡ Start → survivors ≤ length objects → Renumbers top objects n (survived c.generation survivors (begun c.generation n))
 
 -- A death or a collection goes on. A death that clears weak references has the newest lose the object, and none waits at first.
 abbrev pub ClearsNone : DyingPhase → Type 0
@@ -83,10 +83,10 @@ IsEarly (AfterTurn o) = ⊥
 IsEarly phase = Unit {0}
 
 pub data Continues (before after : List Object) : Activity → Activity → Type 0 where
-  Dies : (o : ℕ) (phase next : DyingPhase) → ((n : ℕ) → Includes (death_waits next) n → Includes (death_waits phase) n) → ClearsNone next → Continues before after (Dying (record { object = o; phase = phase })) (Dying (record { object = o; phase = next }))
-  Clears : (o weak : ℕ) (waiting weaks : List ℕ) (b : Bool) → weak_references_if has_weak_references before o ≡ weak ∷ weaks → after ≡ loses_referent weak before
+  DeathGoesOn : (o : ℕ) (phase next : DyingPhase) → ((n : ℕ) → Includes (death_waits next) n → Includes (death_waits phase) n) → ClearsNone next → Continues before after (Dying (record { object = o; phase = phase })) (Dying (record { object = o; phase = next }))
+  DeathClears : (o weak : ℕ) (waiting weaks : List ℕ) (b : Bool) → weak_references_if has_weak_references before o ≡ weak ∷ weaks → after ≡ loses_referent weak before
       → Continues before after (Dying (record { object = o; phase = Clearing waiting })) (Dying (record { object = o; phase = Clearing (waiting ++ (if b then weak ∷ [] else [])) }))
-  Collects : (c d : Collection) → d.generation ≡ c.generation → is_first d.phase ≡ false → (IsEarly c.phase → c.phase ≢ Split → IsEarly d.phase) → Continues before after (Collecting c) (Collecting d)
+  CollectionGoesOn : (c d : Collection) → d.generation ≡ c.generation → is_first d.phase ≡ false → (IsEarly c.phase → c.phase ≢ Split → IsEarly d.phase) → Continues before after (Collecting c) (Collecting d)
 
 -- What a collection holds it holds still, or it is given up.
 abbrev pub HoldsOn : List ℕ → Activity → Activity → Type 0
@@ -95,19 +95,19 @@ HoldsOn given top a = Unit {0}
 
 -- what stands in place of the activity on top
 pub data Tops (before after : List Object) : Activity → List Activity → Type 0 where
-  Ends : (top : Activity) → Tops before after top []
-  Returns : (f : Frame) (references : List ℕ) → length references ≤ 1 → Tops before after (Framed f) (Releasing references ∷ [])
-  Releases : (o : ℕ) (references : List ℕ) → Tops before after (Releasing (o ∷ references)) (Releasing references ∷ [])
-  Kills : (o : ℕ) (references : List ℕ) → Tops before after (Releasing (o ∷ references)) (Dying (record { object = o; phase = Finalizer }) ∷ Releasing references ∷ [])
-  GoesOn : (top a : Activity) → Continues before after top a → HoldsOn [] top a → Tops before after top (a ∷ [])
-  Gives : (top a : Activity) (references : List ℕ) → length references ≤ 2 → Continues before after top a → HoldsOn references top a → Tops before after top (Releasing references ∷ a ∷ [])
+  TopEnds : (top : Activity) → Tops before after top []
+  GivesFunction : (f : Frame) (references : List ℕ) → length references ≤ 1 → Tops before after (Framed f) (Releasing references ∷ [])
+  GivesReference : (o : ℕ) (references : List ℕ) → Tops before after (Releasing (o ∷ references)) (Releasing references ∷ [])
+  BeginsDeath : (o : ℕ) (references : List ℕ) → Tops before after (Releasing (o ∷ references)) (Dying (record { object = o; phase = Finalizer }) ∷ Releasing references ∷ [])
+  TopGoesOn : (top a : Activity) → Continues before after top a → HoldsOn [] top a → Tops before after top (a ∷ [])
+  GivesReferences : (top a : Activity) (references : List ℕ) → length references ≤ 2 → Continues before after top a → HoldsOn references top a → Tops before after top (Releasing references ∷ a ∷ [])
 
 -- the frame that a death or a collection starts: of a finalizer, of a legacy finalizer, or of the callback of a weak reference that waits
-pub data Starts (before after : List Object) (top a : Activity) : FrameSpec → Type 0 where
-  OfFinalizer : (o p : ℕ) → Starts before after top a (record { sort = Del; proc = p; subject = o; func = None })
-  OfLegacy : (o p : ℕ) → Starts before after top a (record { sort = Legacy; proc = p; subject = o; func = None })
+pub data FrameOf (before after : List Object) (top a : Activity) : FrameSpec → Type 0 where
+  OfFinalizer : (o p : ℕ) → FrameOf before after top a (record { sort = Del; proc = p; subject = o; func = None })
+  OfLegacy : (o p : ℕ) → FrameOf before after top a (record { sort = Legacy; proc = p; subject = o; func = None })
   OfCallback : (weak p : ℕ) → Includes (waits_of top) weak → Includes (holds a) (unwrap_or (callback_of before weak) 0) ⊎ Includes (waits_of a) weak × (after ≡ before)
-      → Starts before after top a (record { sort = Callback; proc = p; subject = weak; func = Some (unwrap_or (callback_of before weak) 0) })
+      → FrameOf before after top a (record { sort = Callback; proc = p; subject = weak; func = Some (unwrap_or (callback_of before weak) 0) })
 
 -- A line shows no value, and a collection stops at its end alone.
 abbrev pub IsEnding : Activity → Type 0
@@ -124,36 +124,36 @@ AreLinesOf top lines = (event : Event) → Includes lines event → IsLineOf top
 
 -- What a step of the activity on top of `below` can be. It leaves the names, and makes no object.
 pub data Advance (script : Script) (v : World) (top : Activity) (below : List Activity) : List Event → World → Type 0 where
-  Stands : (tops : List Activity) (objects : List Object) (numbers : Numbers) (lines : List Event) → Tops v.objects objects top tops → Changed top v.objects objects → Renumbers top v.objects v.numbers numbers → AreLinesOf top lines
+  Plainly : (tops : List Activity) (objects : List Object) (numbers : Numbers) (lines : List Event) → Tops v.objects objects top tops → HasChanged top v.objects objects → Renumbers top v.objects v.numbers numbers → AreLinesOf top lines
       → Advance script v top below lines (record v { objects = objects; numbers = numbers; stack = tops ++ below })
-  StartsFrame : (spec : FrameSpec) (a : Activity) (objects : List Object) → Starts v.objects objects top a spec → Continues v.objects objects top a → HoldsOn [] top a → Changed top v.objects objects
+  WithFrame : (spec : FrameSpec) (a : Activity) (objects : List Object) → FrameOf v.objects objects top a spec → Continues v.objects objects top a → HoldsOn [] top a → HasChanged top v.objects objects
       → Advance script v top below (start_frame script spec (record v { objects = objects; stack = a ∷ below })).0 (start_frame script spec (record v { objects = objects; stack = a ∷ below })).1
 
 -- what goes on has no commands
 pub continues_idle : (before after : List Object) (a b : Activity) → Continues before after a b → commands_on b ≡ []
-continues_idle before after a b (Dies o phase next waits none) = refl
-continues_idle before after a b (Clears o weak waiting weaks t first lost) = refl
-continues_idle before after a b (Collects c d same begun early) = refl
+continues_idle before after a b (DeathGoesOn o phase next waits none) = refl
+continues_idle before after a b (DeathClears o weak waiting weaks t first lost) = refl
+continues_idle before after a b (CollectionGoesOn c d same begun early) = refl
 
 -- where those come from that were changed where a test passes
-pub asides : (top : Activity) (f : Object → Object) (test : Object → Bool) (objects : List Object) → ((x : Object) → Includes objects x → test x ≡ true → IsAside top x (f x))
-    → (y : Object) → Includes (map (λ x. if test x then f x else x) objects) y → (x : Object) × Includes objects x × IsAside top x y
+pub asides : (top : Activity) (f : Object → Object) (test : Object → Bool) (objects : List Object) → ((x : Object) → Includes objects x → test x ≡ true → KeepsEntries top x (f x))
+    → (y : Object) → Includes (map (λ x. if test x then f x else x) objects) y → (x : Object) × Includes objects x × KeepsEntries top x y
 asides top f test objects h y m =
     let x = Includes-map_cases (λ x. if test x then f x else x) objects y m in
-    (x.0, x.1, subst (IsAside top x.0) x.2 (one (test x.0) x.0 refl x.1))
+    (x.0, x.1, subst (KeepsEntries top x.0) x.2 (one (test x.0) x.0 refl x.1))
   where
-    one : (b : Bool) (x : Object) → test x ≡ b → Includes objects x → IsAside top x (if b then f x else x)
+    one : (b : Bool) (x : Object) → test x ≡ b → Includes objects x → KeepsEntries top x (if b then f x else x)
     one true x t k = h x k t
-    one false x t k = record { later = later_refl x; entries = refl; moved = Rests refl }
+    one false x t k = record { later = later_refl x; entries = refl; moved = StaysThere refl }
 
 -- each object was there
-pub changed_origin : (top : Activity) (before after : List Object) → Changed top before after → (y : Object) → Includes after y → (x : Object) × Includes before x × IsLater x y
-changed_origin top before after (Same objects) y m = (y, m, later_refl y)
-changed_origin top before after (Marks f test objects aside) y m = let x = asides top f test objects aside y m in (x.0, x.1, x.2.later)
-changed_origin top before after (Takes es s objects owns fewer) y m = (entries_alter es s objects).origin y m
-changed_origin top before after (Saves o objects is) y m = (change_alters _ (λ x. record { serial = refl; code = refl; class = refl; referent = inl refl }) 1 objects).origin y m
-changed_origin top before after (Frees o objects owns) y m = (y, (Includes-filter_cases (λ x. not (x.serial == o)) objects y m).0, later_refl y)
-changed_origin top before after (Then first now last h k) y m =
+pub changed_origin : (top : Activity) (before after : List Object) → HasChanged top before after → (y : Object) → Includes after y → (x : Object) × Includes before x × IsLater x y
+changed_origin top before after (NothingChanges objects) y m = (y, m, later_refl y)
+changed_origin top before after (ChangesEach f test objects aside) y m = let x = asides top f test objects aside y m in (x.0, x.1, x.2.later)
+changed_origin top before after (LosesEntries es s objects owns fewer) y m = (entries_alter es s objects).origin y m
+changed_origin top before after (GetsEntry o objects is) y m = (change_alters _ (λ x. record { serial = refl; code = refl; class = refl; referent = inl refl }) 1 objects).origin y m
+changed_origin top before after (LosesObject o objects owns) y m = (y, (Includes-filter_cases (λ x. not (x.serial == o)) objects y m).0, later_refl y)
+changed_origin top before after (Followed first now last h k) y m =
     let x = changed_origin top now last k y m in
     let z = changed_origin top first now h x.0 x.1 in
     (z.0, z.1, later_trans z.0 x.0 y z.2 x.2)

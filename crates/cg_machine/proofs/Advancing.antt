@@ -30,7 +30,7 @@ use Rattle.cg_machine.specs.Operands.{is_dict}
 use Rattle.cg_machine.proofs.Measure.{is_first}
 use Rattle.cg_machine.proofs.PrintableTexts.{taken_member}
 use Rattle.cg_machine.proofs.Forgotten.{place_later}
-use Rattle.cg_machine.proofs.Advances.{Advance, Stands, StartsFrame, Changed, Same, Marks, Takes, Saves, Frees, Then, IsPlaceIn, Moved, Rests, Untracks, Revives, Sorts, Finalizes, Soon, Late, Owns, Empties, CallsBack, HasTurn, Kept, Freed, Begins, Continues, Dies, Clears, Collects, Ends, Returns, Releases, Kills, GoesOn, Gives, OfFinalizer, OfLegacy, OfCallback, IsLineOf, AreLinesOf, IsEarly, few_option, few_entry}
+use Rattle.cg_machine.proofs.Advances.{Advance, Plainly, WithFrame, HasChanged, NothingChanges, ChangesEach, LosesEntries, GetsEntry, LosesObject, Followed, IsPlaceIn, IsMoved, StaysThere, IsUntracked, IsRevived, IsPlaced, Finalizes, Soon, Late, Owns, OfEmptied, OfCalled, OfTurn, SameCounts, OneLess, BegunCounts, Continues, DeathGoesOn, DeathClears, CollectionGoesOn, TopEnds, GivesFunction, GivesReference, BeginsDeath, TopGoesOn, GivesReferences, OfFinalizer, OfLegacy, OfCallback, IsLineOf, AreLinesOf, IsEarly, few_option, few_entry}
 use Rattle.cg_machine.proofs.Starting.{either_way}
 
 -- lines
@@ -53,53 +53,53 @@ module _ (top : Activity) where
 
 -- objects that change place, mark or referent
 module _ (top : Activity) where
-  moves : (p : Place) (o : ℕ) (objects : List Object) → ((x : Object) → x.serial ≡ o → Moved top x (with_place p x)) → Changed top objects (change (with_place p) o objects)
-  moves p o objects h = Marks (with_place p) (λ x. x.serial == o) objects (λ x m t. record { later = place_later p x; entries = refl; moved = h x (eqb-true x.serial o t) })
+  moves : (p : Place) (o : ℕ) (objects : List Object) → ((x : Object) → x.serial ≡ o → IsMoved top x (with_place p x)) → HasChanged top objects (change (with_place p) o objects)
+  moves p o objects h = ChangesEach (with_place p) (λ x. x.serial == o) objects (λ x m t. record { later = place_later p x; entries = refl; moved = h x (eqb-true x.serial o t) })
 
-  untracks : (o : ℕ) (objects : List Object) → Changed top objects (change (with_place Untracked) o objects)
-  untracks o objects = moves Untracked o objects (λ x e. Untracks refl)
+  untracks : (o : ℕ) (objects : List Object) → HasChanged top objects (change (with_place Untracked) o objects)
+  untracks o objects = moves Untracked o objects (λ x e. IsUntracked refl)
 
-  move_mark : (p : Place) (o : ℕ) (objects : List Object) → ((x : Object) → x.serial ≡ o → Moved top x (marked (with_place p x))) → Changed top objects (change (λ x. marked (with_place p x)) o objects)
-  move_mark p o objects h = Marks (λ x. marked (with_place p x)) (λ x. x.serial == o) objects (λ x m t. record { later = record { serial = refl; code = refl; class = refl; referent = inl refl }; entries = refl; moved = h x (eqb-true x.serial o t) })
+  move_mark : (p : Place) (o : ℕ) (objects : List Object) → ((x : Object) → x.serial ≡ o → IsMoved top x (marked (with_place p x))) → HasChanged top objects (change (λ x. marked (with_place p x)) o objects)
+  move_mark p o objects h = ChangesEach (λ x. marked (with_place p x)) (λ x. x.serial == o) objects (λ x m t. record { later = record { serial = refl; code = refl; class = refl; referent = inl refl }; entries = refl; moved = h x (eqb-true x.serial o t) })
 
-  loses : (weak : ℕ) (objects : List Object) → Changed top objects (loses_referent weak objects)
-  loses weak objects = Marks (with_referent None) (λ x. x.serial == weak) objects (λ x m t. record { later = record { serial = refl; code = refl; class = refl; referent = inr refl }; entries = refl; moved = Rests refl })
+  loses : (weak : ℕ) (objects : List Object) → HasChanged top objects (loses_referent weak objects)
+  loses weak objects = ChangesEach (with_referent None) (λ x. x.serial == weak) objects (λ x m t. record { later = record { serial = refl; code = refl; class = refl; referent = inr refl }; entries = refl; moved = StaysThere refl })
 
-  all_lose : (wanted : Object → Bool) (weaks : List ℕ) (objects after : List Object) → AllLose wanted objects weaks after → Changed top objects after
-  all_lose wanted [] objects after lose = subst (Changed top objects) (sym lose.1) (Same objects)
-  all_lose wanted (weak ∷ weaks) objects after lose = Then objects (loses_referent weak objects) after (loses weak objects) (all_lose wanted weaks (loses_referent weak objects) after lose.1)
+  all_lose : (wanted : Object → Bool) (weaks : List ℕ) (objects after : List Object) → AllLose wanted objects weaks after → HasChanged top objects after
+  all_lose wanted [] objects after lose = subst (HasChanged top objects) (sym lose.1) (NothingChanges objects)
+  all_lose wanted (weak ∷ weaks) objects after lose = Followed objects (loses_referent weak objects) after (loses weak objects) (all_lose wanted weaks (loses_referent weak objects) after lose.1)
 
   -- a collection puts objects at places of its own
-  sorts : (c : Collection) → top ≡ Collecting c → (p : Object → Place) (test : Object → Bool) (objects : List Object) → ((x : Object) → Includes objects x → test x ≡ true → IsPlaceIn c.generation (p x)) → Changed top objects (map (λ x. if test x then with_place (p x) x else x) objects)
-  sorts c is p test objects h = Marks (λ x. with_place (p x) x) test objects (λ x m t. record { later = place_later (p x) x; entries = refl; moved = Sorts c is (h x m t) })
+  sorts : (c : Collection) → top ≡ Collecting c → (p : Object → Place) (test : Object → Bool) (objects : List Object) → ((x : Object) → Includes objects x → test x ≡ true → IsPlaceIn c.generation (p x)) → HasChanged top objects (map (λ x. if test x then with_place (p x) x else x) objects)
+  sorts c is p test objects h = ChangesEach (λ x. with_place (p x) x) test objects (λ x m t. record { later = place_later (p x) x; entries = refl; moved = IsPlaced c is (h x m t) })
 
-  save_each : (keeps : List ℕ) (objects : List Object) → is_collection top ≡ true → Changed top objects (all_saved keeps objects)
-  save_each [] objects h = Same objects
-  save_each (o ∷ keeps) objects h = Then objects (saved o objects) (all_saved keeps (saved o objects)) (Saves o objects h) (save_each keeps (saved o objects) h)
+  save_each : (keeps : List ℕ) (objects : List Object) → is_collection top ≡ true → HasChanged top objects (all_saved keeps objects)
+  save_each [] objects h = NothingChanges objects
+  save_each (o ∷ keeps) objects h = Followed objects (saved o objects) (all_saved keeps (saved o objects)) (GetsEntry o objects h) (save_each keeps (saved o objects) h)
 
-  shortens : (o : ℕ) (objects : List Object) → Owns top o → Changed top objects (change (with_entries (without_last (entries_of objects o))) o objects)
-  shortens o objects owns = Takes (without_last (entries_of objects o)) o objects owns (taken_member (length (entries_of objects o) - 1) (entries_of objects o))
+  shortens : (o : ℕ) (objects : List Object) → Owns top o → HasChanged top objects (change (with_entries (without_last (entries_of objects o))) o objects)
+  shortens o objects owns = LosesEntries (without_last (entries_of objects o)) o objects owns (taken_member (length (entries_of objects o) - 1) (entries_of objects o))
 
 -- the end of a frame
 pub frame_end_advances : (script : Script) (f : Frame) (below : List Activity) (v : World) → (let t : Transition = frame_end f (with_stack below v) in Advance script v (Framed f) below t.0 t.1)
 frame_end_advances script f below v = by_sort f.sort f.function
   where
     popped : Advance script v (Framed f) below (Leave ∷ []) (with_stack below v)
-    popped = Stands [] v.objects v.numbers (Leave ∷ []) (Ends (Framed f)) (Same v.objects) Kept (one_line (Framed f) Leave tt)
+    popped = Plainly [] v.objects v.numbers (Leave ∷ []) (TopEnds (Framed f)) (NothingChanges v.objects) SameCounts (one_line (Framed f) Leave tt)
 
     by_sort : (sort : FrameSort) (function : Option ℕ) → Advance script v (Framed f) below (Leave ∷ []) (gives_up_function sort function (with_stack below v))
     by_sort Del function = popped
     by_sort Legacy function = popped
     by_sort Callback function = popped
-    by_sort Call function = Stands (Releasing (option_to_list function) ∷ []) v.objects v.numbers (Leave ∷ []) (Returns f (option_to_list function) (few_option function)) (Same v.objects) Kept (one_line (Framed f) Leave tt)
+    by_sort Call function = Plainly (Releasing (option_to_list function) ∷ []) v.objects v.numbers (Leave ∷ []) (GivesFunction f (option_to_list function) (few_option function)) (NothingChanges v.objects) SameCounts (one_line (Framed f) Leave tt)
 
 -- a release
 pub released_advances : (script : Script) (references : List ℕ) (below : List Activity) (v : World) → (let t : Transition = released references below (with_stack (Releasing references ∷ below) v) in Advance script v (Releasing references) below t.0 t.1)
-released_advances script [] below v = Stands [] v.objects v.numbers [] (Ends (Releasing [])) (Same v.objects) Kept (no_lines (Releasing []))
+released_advances script [] below v = Plainly [] v.objects v.numbers [] (TopEnds (Releasing [])) (NothingChanges v.objects) SameCounts (no_lines (Releasing []))
 released_advances script (o ∷ references) below v = either_way (Advance script v (Releasing (o ∷ references)) below) (not (is_dying now o) && (in_degree now o == 0)) ([], begin_death o now) ([], now)
-    (Stands (Dying (record { object = o; phase = Finalizer }) ∷ Releasing references ∷ []) (change dead o v.objects) v.numbers [] (Kills o references)
-    (Marks dead (λ x. x.serial == o) v.objects (λ x m t. record { later = record { serial = refl; code = refl; class = refl; referent = inr refl }; entries = refl; moved = Untracks refl })) Kept (no_lines (Releasing (o ∷ references))))
-    (Stands (Releasing references ∷ []) v.objects v.numbers [] (Releases o references) (Same v.objects) Kept (no_lines (Releasing (o ∷ references))))
+    (Plainly (Dying (record { object = o; phase = Finalizer }) ∷ Releasing references ∷ []) (change dead o v.objects) v.numbers [] (BeginsDeath o references)
+    (ChangesEach dead (λ x. x.serial == o) v.objects (λ x m t. record { later = record { serial = refl; code = refl; class = refl; referent = inr refl }; entries = refl; moved = IsUntracked refl })) SameCounts (no_lines (Releasing (o ∷ references))))
+    (Plainly (Releasing references ∷ []) v.objects v.numbers [] (GivesReference o references) (NothingChanges v.objects) SameCounts (no_lines (Releasing (o ∷ references))))
   where
     now : World
     now = with_stack (Releasing references ∷ below) v
@@ -122,75 +122,75 @@ module _ (script : Script) (o : ℕ) (below : List Activity) (v : World) where
   nothing : (phase : DyingPhase) (n : ℕ) → Includes [] n → Includes (death_waits phase) n
   nothing phase n m = absurd m
 
-  goes_on : (phase next : DyingPhase) (objects : List Object) → Continues v.objects objects (dying_now phase) (dying_now next) → Changed (dying_now phase) v.objects objects → DeathAdvances phase ([], record v { objects = objects; stack = dying_now next ∷ below })
-  goes_on phase next objects c h = Stands (dying_now next ∷ []) objects v.numbers [] (GoesOn (dying_now phase) (dying_now next) c tt) h Kept (no_lines (dying_now phase))
+  goes_on : (phase next : DyingPhase) (objects : List Object) → Continues v.objects objects (dying_now phase) (dying_now next) → HasChanged (dying_now phase) v.objects objects → DeathAdvances phase ([], record v { objects = objects; stack = dying_now next ∷ below })
+  goes_on phase next objects c h = Plainly (dying_now next ∷ []) objects v.numbers [] (TopGoesOn (dying_now phase) (dying_now next) c tt) h SameCounts (no_lines (dying_now phase))
 
-  gives : (phase next : DyingPhase) (references : List ℕ) (objects : List Object) → length references ≤ 2 → Continues v.objects objects (dying_now phase) (dying_now next) → Changed (dying_now phase) v.objects objects
+  gives : (phase next : DyingPhase) (references : List ℕ) (objects : List Object) → length references ≤ 2 → Continues v.objects objects (dying_now phase) (dying_now next) → HasChanged (dying_now phase) v.objects objects
       → DeathAdvances phase ([], record v { objects = objects; stack = Releasing references ∷ dying_now next ∷ below })
-  gives phase next references objects few c h = Stands (Releasing references ∷ dying_now next ∷ []) objects v.numbers [] (Gives (dying_now phase) (dying_now next) references few c tt) h Kept (no_lines (dying_now phase))
+  gives phase next references objects few c h = Plainly (Releasing references ∷ dying_now next ∷ []) objects v.numbers [] (GivesReferences (dying_now phase) (dying_now next) references few c tt) h SameCounts (no_lines (dying_now phase))
 
   finalizer_advances : (m : Option ℕ) → DeathAdvances Finalizer (run_finalizer script o below (at Finalizer) m)
-  finalizer_advances None = goes_on Finalizer (Clearing []) v.objects (Dies o Finalizer (Clearing []) (nothing Finalizer) refl) (Same v.objects)
-  finalizer_advances (Some p) = StartsFrame (record { sort = Del; proc = p; subject = o; func = None }) (dying_now AfterFinalizer) (change (λ x. marked (with_place (Gen 0) x)) o v.objects) (OfFinalizer o p) (Dies o Finalizer AfterFinalizer (nothing Finalizer) tt) tt
-      (move_mark (dying_now Finalizer) (Gen 0) o v.objects (λ x e. Revives (subst (Finalizes (dying_now Finalizer)) (sym e) (Soon o)) refl))
+  finalizer_advances None = goes_on Finalizer (Clearing []) v.objects (DeathGoesOn o Finalizer (Clearing []) (nothing Finalizer) refl) (NothingChanges v.objects)
+  finalizer_advances (Some p) = WithFrame (record { sort = Del; proc = p; subject = o; func = None }) (dying_now AfterFinalizer) (change (λ x. marked (with_place (Gen 0) x)) o v.objects) (OfFinalizer o p) (DeathGoesOn o Finalizer AfterFinalizer (nothing Finalizer) tt) tt
+      (move_mark (dying_now Finalizer) (Gen 0) o v.objects (λ x e. IsRevived (subst (Finalizes (dying_now Finalizer)) (sym e) (Soon o)) refl))
 
   after_frame_advances : (phase next : DyingPhase) → Continues v.objects (change (with_place Untracked) o v.objects) (dying_now phase) (dying_now next) → DeathAdvances phase (after_frame o next below (at phase))
   after_frame_advances phase next c = either_way (Advance script v (dying_now phase) below) (in_degree (at next) o == 0) ([], with_change (with_place Untracked) o (at next)) (Alive o ∷ [], with_stack below (at phase))
       (goes_on phase next (change (with_place Untracked) o v.objects) c (untracks (dying_now phase) o v.objects))
-      (Stands [] v.objects v.numbers (Alive o ∷ []) (Ends (dying_now phase)) (Same v.objects) Kept (one_line (dying_now phase) (Alive o) tt))
+      (Plainly [] v.objects v.numbers (Alive o ∷ []) (TopEnds (dying_now phase)) (NothingChanges v.objects) SameCounts (one_line (dying_now phase) (Alive o) tt))
 
   clearing_advances : (waiting weaks : List ℕ) → weak_references_if has_weak_references v.objects o ≡ weaks → DeathAdvances (Clearing waiting) (clear_one o waiting below (at (Clearing waiting)) weaks)
-  clearing_advances waiting [] e = goes_on (Clearing waiting) (Calling waiting) v.objects (Dies o (Clearing waiting) (Calling waiting) (λ n m. m) tt) (Same v.objects)
-  clearing_advances waiting (weak ∷ weaks) e = Stands (dying_now next ∷ []) (loses_referent weak v.objects) v.numbers (Cleared weak ∷ []) (GoesOn (dying_now (Clearing waiting)) (dying_now next) (Clears o weak waiting weaks (is_some (callback_of v.objects weak)) e refl) tt)
-      (loses (dying_now (Clearing waiting)) weak v.objects) Kept (one_line (dying_now (Clearing waiting)) (Cleared weak) tt)
+  clearing_advances waiting [] e = goes_on (Clearing waiting) (Calling waiting) v.objects (DeathGoesOn o (Clearing waiting) (Calling waiting) (λ n m. m) tt) (NothingChanges v.objects)
+  clearing_advances waiting (weak ∷ weaks) e = Plainly (dying_now next ∷ []) (loses_referent weak v.objects) v.numbers (Cleared weak ∷ []) (TopGoesOn (dying_now (Clearing waiting)) (dying_now next) (DeathClears o weak waiting weaks (is_some (callback_of v.objects weak)) e refl) tt)
+      (loses (dying_now (Clearing waiting)) weak v.objects) SameCounts (one_line (dying_now (Clearing waiting)) (Cleared weak) tt)
     where
       next : DyingPhase
       next = Clearing (waiting ++ (if is_some (callback_of v.objects weak) then weak ∷ [] else []))
 
   calling_advances : (waiting : List ℕ) → DeathAdvances (Calling waiting) (call_one script o below (at (Calling waiting)) waiting)
-  calling_advances [] = goes_on (Calling []) LegacyFinalizer v.objects (Dies o (Calling []) LegacyFinalizer (nothing (Calling [])) tt) (Same v.objects)
+  calling_advances [] = goes_on (Calling []) LegacyFinalizer v.objects (DeathGoesOn o (Calling []) LegacyFinalizer (nothing (Calling [])) tt) (NothingChanges v.objects)
   calling_advances (weak ∷ waiting) =
       let callback = unwrap_or (callback_of v.objects weak) 0 in
       let phase = Calling (weak ∷ waiting) in
-      StartsFrame (record { sort = Callback; proc = procedure_of (at phase) callback; subject = weak; func = Some callback }) (dying_now (AfterCall weak callback waiting)) (change (with_entries []) weak v.objects)
-      (OfCallback weak (procedure_of (at phase) callback) (inl refl) (inl (inl refl))) (Dies o phase (AfterCall weak callback waiting) (λ n m. inr m) tt) tt (Takes [] weak v.objects (CallsBack o weak waiting) (λ e m. absurd m))
+      WithFrame (record { sort = Callback; proc = procedure_of (at phase) callback; subject = weak; func = Some callback }) (dying_now (AfterCall weak callback waiting)) (change (with_entries []) weak v.objects)
+      (OfCallback weak (procedure_of (at phase) callback) (inl refl) (inl (inl refl))) (DeathGoesOn o phase (AfterCall weak callback waiting) (λ n m. inr m) tt) tt (LosesEntries [] weak v.objects (OfCalled o weak waiting) (λ e m. absurd m))
 
   legacy_advances : (m : Option ℕ) → DeathAdvances LegacyFinalizer (run_legacy script o below (at LegacyFinalizer) m)
-  legacy_advances None = goes_on LegacyFinalizer Detaching v.objects (Dies o LegacyFinalizer Detaching (nothing LegacyFinalizer) tt) (Same v.objects)
-  legacy_advances (Some p) = StartsFrame (record { sort = Legacy; proc = p; subject = o; func = None }) (dying_now AfterLegacy) (change (with_place (Gen 0)) o v.objects) (OfLegacy o p) (Dies o LegacyFinalizer AfterLegacy (nothing LegacyFinalizer) tt) tt
-      (moves (dying_now LegacyFinalizer) (Gen 0) o v.objects (λ x e. Revives (subst (Finalizes (dying_now LegacyFinalizer)) (sym e) (Late o)) refl))
+  legacy_advances None = goes_on LegacyFinalizer Detaching v.objects (DeathGoesOn o LegacyFinalizer Detaching (nothing LegacyFinalizer) tt) (NothingChanges v.objects)
+  legacy_advances (Some p) = WithFrame (record { sort = Legacy; proc = p; subject = o; func = None }) (dying_now AfterLegacy) (change (with_place (Gen 0)) o v.objects) (OfLegacy o p) (DeathGoesOn o LegacyFinalizer AfterLegacy (nothing LegacyFinalizer) tt) tt
+      (moves (dying_now LegacyFinalizer) (Gen 0) o v.objects (λ x e. IsRevived (subst (Finalizes (dying_now LegacyFinalizer)) (sym e) (Late o)) refl))
 
   detaching_advances : (weaks : List ℕ) → DeathAdvances Detaching (detach_one o below (at Detaching) weaks)
-  detaching_advances [] = goes_on Detaching Emptying v.objects (Dies o Detaching Emptying (nothing Detaching) tt) (Same v.objects)
-  detaching_advances (weak ∷ weaks) = Stands (dying_now Detaching ∷ []) (loses_referent weak v.objects) v.numbers (Cleared weak ∷ []) (GoesOn (dying_now Detaching) (dying_now Detaching) (Dies o Detaching Detaching (nothing Detaching) tt) tt)
-      (loses (dying_now Detaching) weak v.objects) Kept (one_line (dying_now Detaching) (Cleared weak) tt)
+  detaching_advances [] = goes_on Detaching Emptying v.objects (DeathGoesOn o Detaching Emptying (nothing Detaching) tt) (NothingChanges v.objects)
+  detaching_advances (weak ∷ weaks) = Plainly (dying_now Detaching ∷ []) (loses_referent weak v.objects) v.numbers (Cleared weak ∷ []) (TopGoesOn (dying_now Detaching) (dying_now Detaching) (DeathGoesOn o Detaching Detaching (nothing Detaching) tt) tt)
+      (loses (dying_now Detaching) weak v.objects) SameCounts (one_line (dying_now Detaching) (Cleared weak) tt)
 
   emptying_advances : (m : Option Entry) → DeathAdvances Emptying (empty_one o below (at Emptying) m)
-  emptying_advances None = Stands [] (without o v.objects) _ (Free o ∷ []) (Ends (dying_now Emptying)) (Frees o v.objects (Empties o)) Freed (one_line (dying_now Emptying) (Free o) tt)
-  emptying_advances (Some entry) = gives Emptying Emptying (entry_references entry) (change (with_entries (without_last (entries_of v.objects o))) o v.objects) (few_entry entry) (Dies o Emptying Emptying (nothing Emptying) tt) (shortens (dying_now Emptying) o v.objects (Empties o))
+  emptying_advances None = Plainly [] (without o v.objects) _ (Free o ∷ []) (TopEnds (dying_now Emptying)) (LosesObject o v.objects (OfEmptied o)) OneLess (one_line (dying_now Emptying) (Free o) tt)
+  emptying_advances (Some entry) = gives Emptying Emptying (entry_references entry) (change (with_entries (without_last (entries_of v.objects o))) o v.objects) (few_entry entry) (DeathGoesOn o Emptying Emptying (nothing Emptying) tt) (shortens (dying_now Emptying) o v.objects (OfEmptied o))
 
   pub dying_advances : (phase : DyingPhase) → DeathAdvances phase (dying script o phase below (at phase))
   dying_advances Finalizer = finalizer_advances (option_and_then (finalizer_to_run script) (object_at v.objects o))
-  dying_advances AfterFinalizer = after_frame_advances AfterFinalizer (Clearing []) (Dies o AfterFinalizer (Clearing []) (nothing AfterFinalizer) refl)
+  dying_advances AfterFinalizer = after_frame_advances AfterFinalizer (Clearing []) (DeathGoesOn o AfterFinalizer (Clearing []) (nothing AfterFinalizer) refl)
   dying_advances (Clearing waiting) = clearing_advances waiting (weak_references_if has_weak_references v.objects o) refl
   dying_advances (Calling waiting) = calling_advances waiting
-  dying_advances (AfterCall weak callback waiting) = gives (AfterCall weak callback waiting) (Calling waiting) (callback ∷ weak ∷ []) v.objects (omega arith) (Dies o (AfterCall weak callback waiting) (Calling waiting) (λ n m. m) tt) (Same v.objects)
+  dying_advances (AfterCall weak callback waiting) = gives (AfterCall weak callback waiting) (Calling waiting) (callback ∷ weak ∷ []) v.objects (omega arith) (DeathGoesOn o (AfterCall weak callback waiting) (Calling waiting) (λ n m. m) tt) (NothingChanges v.objects)
   dying_advances LegacyFinalizer = legacy_advances (option_and_then (legacy_of script) (object_at v.objects o))
-  dying_advances AfterLegacy = after_frame_advances AfterLegacy Detaching (Dies o AfterLegacy Detaching (nothing AfterLegacy) tt)
+  dying_advances AfterLegacy = after_frame_advances AfterLegacy Detaching (DeathGoesOn o AfterLegacy Detaching (nothing AfterLegacy) tt)
   dying_advances Detaching = detaching_advances (weak_references_if (has_finalizers script) v.objects o)
   dying_advances Emptying = emptying_advances (last_entry (entries_of v.objects o))
 
 -- the places of a collection that starts
-merges : (top : Activity) (c : Collection) → top ≡ Collecting c → (x : Object) → Moved top x (with_place (merged_place c.generation x.place) x)
+merges : (top : Activity) (c : Collection) → top ≡ Collecting c → (x : Object) → IsMoved top x (with_place (merged_place c.generation x.place) x)
 merges top c is x = go x.place refl
   where
-    go : (p : Place) → x.place ≡ p → Moved top x (with_place (merged_place c.generation p) x)
+    go : (p : Place) → x.place ≡ p → IsMoved top x (with_place (merged_place c.generation p) x)
     go (Gen i) e = young (nat_le i c.generation)
       where
-        young : (b : Bool) → Moved top x (with_place (if b then Gen c.generation else Gen i) x)
-        young true = Sorts c is (inl refl)
-        young false = Rests e
-    go p e = Rests e
+        young : (b : Bool) → IsMoved top x (with_place (if b then Gen c.generation else Gen i) x)
+        young true = IsPlaced c is (inl refl)
+        young false = StaysThere e
+    go p e = StaysThere e
 
 stable_place : (g : ℕ) (p : Place) → ¬ ¬ IsPlaceIn g p → IsPlaceIn g p
 stable_place g (Gen i) h = go (i == g) (i == older g) refl refl
@@ -222,8 +222,8 @@ module _ (script : Script) (c : Collection) (below : List Activity) (v : World) 
   abbrev place : Place
   place = Gen (older c.generation)
 
-  moves_to : (phase : CollectPhase) (p : Place) (o : ℕ) (objects : List Object) → IsPlaceIn c.generation p → Changed (collecting phase) objects (change (with_place p) o objects)
-  moves_to phase p o objects h = moves (collecting phase) p o objects (λ x e. Sorts (record c { phase = phase }) refl h)
+  moves_to : (phase : CollectPhase) (p : Place) (o : ℕ) (objects : List Object) → IsPlaceIn c.generation p → HasChanged (collecting phase) objects (change (with_place p) o objects)
+  moves_to phase p o objects h = moves (collecting phase) p o objects (λ x e. IsPlaced (record c { phase = phase }) refl h)
 
   yielded : (phase : CollectPhase) (next : Transition) (lines : List Event) (after : World) → lines ≡ next.0 → after ≡ next.1 → CollectionAdvances phase next.0 next.1 → CollectionAdvances phase lines after
   yielded phase next lines after e k h = subst (λ es. CollectionAdvances phase es after) (sym e) (subst (CollectionAdvances phase next.0) (sym k) h)
@@ -232,22 +232,22 @@ module _ (script : Script) (c : Collection) (below : List Activity) (v : World) 
   abbrev MayTurn : CollectPhase → CollectPhase → List ℕ → Type 0
   MayTurn phase next given = (is_first next ≡ false) × (IsEarly phase → phase ≢ Split → IsEarly next) × ((n : ℕ) → Includes (collect_holds phase) n → Includes given n ⊎ Includes (collect_holds next) n)
 
-  stands : (phase : CollectPhase) (d : Collection) (objects : List Object) (lines : List Event) → d.generation ≡ c.generation → MayTurn phase d.phase [] → Changed (collecting phase) v.objects objects → AreLinesOf (collecting phase) lines
+  stands : (phase : CollectPhase) (d : Collection) (objects : List Object) (lines : List Event) → d.generation ≡ c.generation → MayTurn phase d.phase [] → HasChanged (collecting phase) v.objects objects → AreLinesOf (collecting phase) lines
       → CollectionAdvances phase lines (record v { objects = objects; stack = Collecting d ∷ below })
-  stands phase d objects lines same t h shown = Stands (Collecting d ∷ []) objects v.numbers lines (GoesOn (collecting phase) (Collecting d) (Collects (record c { phase = phase }) d same t.0 t.1) t.2) h Kept shown
+  stands phase d objects lines same t h shown = Plainly (Collecting d ∷ []) objects v.numbers lines (TopGoesOn (collecting phase) (Collecting d) (CollectionGoesOn (record c { phase = phase }) d same t.0 t.1) t.2) h SameCounts shown
 
-  silent : (phase next : CollectPhase) (objects : List Object) → MayTurn phase next [] → Changed (collecting phase) v.objects objects → CollectionAdvances phase [] (record v { objects = objects; stack = collecting next ∷ below })
+  silent : (phase next : CollectPhase) (objects : List Object) → MayTurn phase next [] → HasChanged (collecting phase) v.objects objects → CollectionAdvances phase [] (record v { objects = objects; stack = collecting next ∷ below })
   silent phase next objects t h = stands phase (record c { phase = next }) objects [] refl t h (no_lines (collecting phase))
 
-  releases : (phase next : CollectPhase) (references : List ℕ) (objects : List Object) → length references ≤ 2 → MayTurn phase next references → Changed (collecting phase) v.objects objects
+  releases : (phase next : CollectPhase) (references : List ℕ) (objects : List Object) → length references ≤ 2 → MayTurn phase next references → HasChanged (collecting phase) v.objects objects
       → CollectionAdvances phase [] (record v { objects = objects; stack = Releasing references ∷ collecting next ∷ below })
-  releases phase next references objects few t h = Stands (Releasing references ∷ collecting next ∷ []) objects v.numbers [] (Gives (collecting phase) (collecting next) references few (Collects (record c { phase = phase }) (record c { phase = next }) refl t.0 t.1) t.2) h Kept (no_lines (collecting phase))
+  releases phase next references objects few t h = Plainly (Releasing references ∷ collecting next ∷ []) objects v.numbers [] (GivesReferences (collecting phase) (collecting next) references few (CollectionGoesOn (record c { phase = phase }) (record c { phase = next }) refl t.0 t.1) t.2) h SameCounts (no_lines (collecting phase))
 
   start_advances : (lines : List Event) (after : World) → StartStep script (with_phase Start) c below lines after → CollectionAdvances Start lines after
-  start_advances lines after step = yielded Start (_, _) lines after step.lines step.world (Stands (collecting (WeakClearing []) ∷ []) (sorted c.generation step.places now) (survived c.generation survivors (begun c.generation v.numbers)) _
-      (GoesOn (collecting Start) (collecting (WeakClearing [])) (Collects (record c { phase = Start }) (record c { phase = WeakClearing [] }) refl refl (λ e s. tt)) (λ n m. absurd m))
-      (Then v.objects now (sorted c.generation step.places now) (Marks (λ x. with_place (merged_place c.generation x.place) x) (λ x. true) v.objects (λ x m t. record { later = place_later (merged_place c.generation x.place) x; entries = refl; moved = merges (collecting Start) (record c { phase = Start }) refl x })) (sorts (collecting Start) (record c { phase = Start }) refl step.places (is_at (Gen c.generation)) now placed_in))
-      (Begins (record c { phase = Start }) survivors refl refl few)
+  start_advances lines after step = yielded Start (_, _) lines after step.lines step.world (Plainly (collecting (WeakClearing []) ∷ []) (sorted c.generation step.places now) (survived c.generation survivors (begun c.generation v.numbers)) _
+      (TopGoesOn (collecting Start) (collecting (WeakClearing [])) (CollectionGoesOn (record c { phase = Start }) (record c { phase = WeakClearing [] }) refl refl (λ e s. tt)) (λ n m. absurd m))
+      (Followed v.objects now (sorted c.generation step.places now) (ChangesEach (λ x. with_place (merged_place c.generation x.place) x) (λ x. true) v.objects (λ x m t. record { later = place_later (merged_place c.generation x.place) x; entries = refl; moved = merges (collecting Start) (record c { phase = Start }) refl x })) (sorts (collecting Start) (record c { phase = Start }) refl step.places (is_at (Gen c.generation)) now placed_in))
+      (BegunCounts (record c { phase = Start }) survivors refl refl few)
       (more_lines now_on (GcStart c.generation ∷ []) _ (one_line now_on (GcStart c.generation) tt) (more_lines now_on (lines_if (has_flag c.flags stats) (gens_line v.objects ∷ [])) _ (flagged_lines now_on (has_flag c.flags stats) _ (one_line now_on (gens_line v.objects) tt))
       (flagged_lines now_on (has_flag c.flags collectable) _ (lines_of now_on GcCollectable (λ o. tt) step.collectables)))))
     where
@@ -276,33 +276,33 @@ module _ (script : Script) (c : Collection) (below : List Activity) (v : World) 
       lost : List Object
       lost = loses_referent step.weak v.objects
 
-      loses_it : Changed (collecting (WeakClearing waiting)) v.objects lost
+      loses_it : HasChanged (collecting (WeakClearing waiting)) v.objects lost
       loses_it = loses (collecting (WeakClearing waiting)) step.weak v.objects
 
       go : (t : Bool) → CollectionAdvances (WeakClearing waiting) (Cleared step.weak ∷ []) (if t then collection_at c (WeakClearing (waiting ++ step.weak ∷ [])) below (with_objects (change (with_place Pend) step.weak lost) (with_phase (WeakClearing waiting))) else collection_at c (WeakClearing waiting) below (with_objects lost (with_phase (WeakClearing waiting))))
-      go true = stands (WeakClearing waiting) (record c { phase = WeakClearing (waiting ++ step.weak ∷ []) }) (change (with_place Pend) step.weak lost) _ refl (refl, λ e s. tt, λ n m. inr (Includes-append_left waiting (step.weak ∷ []) n m)) (Then v.objects lost (change (with_place Pend) step.weak lost) loses_it (moves_to (WeakClearing waiting) Pend step.weak lost tt)) (one_line (collecting (WeakClearing waiting)) (Cleared step.weak) tt)
+      go true = stands (WeakClearing waiting) (record c { phase = WeakClearing (waiting ++ step.weak ∷ []) }) (change (with_place Pend) step.weak lost) _ refl (refl, λ e s. tt, λ n m. inr (Includes-append_left waiting (step.weak ∷ []) n m)) (Followed v.objects lost (change (with_place Pend) step.weak lost) loses_it (moves_to (WeakClearing waiting) Pend step.weak lost tt)) (one_line (collecting (WeakClearing waiting)) (Cleared step.weak) tt)
       go false = stands (WeakClearing waiting) (record c { phase = WeakClearing waiting }) lost _ refl (refl, λ e s. tt, λ n m. inr m) loses_it (one_line (collecting (WeakClearing waiting)) (Cleared step.weak) tt)
-  weak_clearing_advances waiting lines after (inr step) = yielded (WeakClearing waiting) (_, _) lines after step.1.0 step.1.1 (silent (WeakClearing waiting) (WeakCalling waiting) v.objects (refl, λ e s. tt, λ n m. inr m) (Same v.objects))
+  weak_clearing_advances waiting lines after (inr step) = yielded (WeakClearing waiting) (_, _) lines after step.1.0 step.1.1 (silent (WeakClearing waiting) (WeakCalling waiting) v.objects (refl, λ e s. tt, λ n m. inr m) (NothingChanges v.objects))
 
   weak_calling_advances : (waiting : List ℕ) → (let t : Transition = calls_back script c waiting below (with_phase (WeakCalling waiting)) in CollectionAdvances (WeakCalling waiting) t.0 t.1)
-  weak_calling_advances [] = silent (WeakCalling []) Finalizing v.objects (refl, λ e s. tt, λ n m. absurd m) (Same v.objects)
+  weak_calling_advances [] = silent (WeakCalling []) Finalizing v.objects (refl, λ e s. tt, λ n m. absurd m) (NothingChanges v.objects)
   weak_calling_advances (weak ∷ waiting) =
       let callback = unwrap_or (callback_of v.objects weak) 0 in
       let phase = WeakCalling (weak ∷ waiting) in
-      StartsFrame (record { sort = Callback; proc = procedure_of (with_phase phase) callback; subject = weak; func = Some callback }) (collecting (AfterCallback weak waiting)) v.objects
-      (OfCallback weak (procedure_of (with_phase phase) callback) (inl refl) (inr (inl refl, refl))) (Collects (record c { phase = phase }) (record c { phase = AfterCallback weak waiting }) refl refl (λ e s. tt)) (λ n m. inr m) (Same v.objects)
+      WithFrame (record { sort = Callback; proc = procedure_of (with_phase phase) callback; subject = weak; func = Some callback }) (collecting (AfterCallback weak waiting)) v.objects
+      (OfCallback weak (procedure_of (with_phase phase) callback) (inl refl) (inr (inl refl, refl))) (CollectionGoesOn (record c { phase = phase }) (record c { phase = AfterCallback weak waiting }) refl refl (λ e s. tt)) (λ n m. inr m) (NothingChanges v.objects)
 
   after_release_advances : (weak : ℕ) (waiting : List ℕ) → (let t : Transition = after_release c weak waiting below (with_phase (AfterRelease weak waiting)) in CollectionAdvances (AfterRelease weak waiting) t.0 t.1)
   after_release_advances weak waiting = either_way (CollectionAdvances (AfterRelease weak waiting)) (is_in_map v.objects weak)
       ([], collection_at c (WeakCalling waiting) below (with_change (with_place place) weak (with_phase (AfterRelease weak waiting))))
       ([], collection_at (record c { collected = c.collected + 1 }) (WeakCalling waiting) below (with_phase (AfterRelease weak waiting)))
       (silent (AfterRelease weak waiting) (WeakCalling waiting) (change (with_place place) weak v.objects) (refl, λ e s. tt, λ n m. inr m) (moves_to (AfterRelease weak waiting) place weak v.objects (inr refl)))
-      (stands (AfterRelease weak waiting) (record c { collected = c.collected + 1; phase = WeakCalling waiting }) v.objects [] refl (refl, λ e s. tt, λ n m. inr m) (Same v.objects) (no_lines (collecting (AfterRelease weak waiting))))
+      (stands (AfterRelease weak waiting) (record c { collected = c.collected + 1; phase = WeakCalling waiting }) v.objects [] refl (refl, λ e s. tt, λ n m. inr m) (NothingChanges v.objects) (no_lines (collecting (AfterRelease weak waiting))))
 
   looks_at_advances : (o : ℕ) (m : Option ℕ) → (let t : Transition = looks_at script c o below (with_phase Finalizing) m in CollectionAdvances Finalizing t.0 t.1)
   looks_at_advances o None = silent Finalizing Finalizing (change (with_place Seen) o v.objects) (refl, λ e s. tt, λ n m. absurd m) (moves_to Finalizing Seen o v.objects tt)
-  looks_at_advances o (Some p) = StartsFrame (record { sort = Del; proc = p; subject = o; func = None }) (collecting (AfterFinalizing o)) (change (λ x. marked (with_place Seen x)) o v.objects) (OfFinalizer o p)
-      (Collects (record c { phase = Finalizing }) (record c { phase = AfterFinalizing o }) refl refl (λ e s. tt)) (λ n m. absurd m) (move_mark (collecting Finalizing) Seen o v.objects (λ x e. Sorts (record c { phase = Finalizing }) refl tt))
+  looks_at_advances o (Some p) = WithFrame (record { sort = Del; proc = p; subject = o; func = None }) (collecting (AfterFinalizing o)) (change (λ x. marked (with_place Seen x)) o v.objects) (OfFinalizer o p)
+      (CollectionGoesOn (record c { phase = Finalizing }) (record c { phase = AfterFinalizing o }) refl refl (λ e s. tt)) (λ n m. absurd m) (move_mark (collecting Finalizing) Seen o v.objects (λ x e. IsPlaced (record c { phase = Finalizing }) refl tt))
 
   finalizing_advances : (lines : List Event) (after : World) → FinalizingStep script c below (with_phase Finalizing) lines after → CollectionAdvances Finalizing lines after
   finalizing_advances lines after (inl step) = yielded Finalizing _ lines after step.yields.0 step.yields.1 (looks_at_advances step.object (option_and_then (finalizer_to_run script) (object_at v.objects step.object)))
@@ -310,7 +310,7 @@ module _ (script : Script) (c : Collection) (below : List Activity) (v : World) 
 
   split_advances : (lines : List Event) (after : World) → SplitStep c below (with_phase Split) lines after → CollectionAdvances Split lines after
   split_advances lines after step = yielded Split (_, _) lines after step.lines step.world (stands Split (record c { collected = c.collected + length (serials_at step.objects Cand); phase = Turns }) step.objects _ refl (refl, λ e s. absurd (s refl), λ n m. absurd m)
-      (Then v.objects now step.objects (sorts (collecting Split) (record c { phase = Split }) refl (λ x. place) (λ x. includes step.alive x.serial) v.objects (λ x m t. inr refl)) (all_lose (collecting Split) (loses_at_split now) step.cleared now step.objects step.lose))
+      (Followed v.objects now step.objects (sorts (collecting Split) (record c { phase = Split }) refl (λ x. place) (λ x. includes step.alive x.serial) v.objects (λ x m t. inr refl)) (all_lose (collecting Split) (loses_at_split now) step.cleared now step.objects step.lose))
       (more_lines (collecting Split) (map Alive step.alive) (map Cleared step.cleared) (lines_of (collecting Split) Alive (λ o. tt) step.alive) (lines_of (collecting Split) Cleared (λ o. tt) step.cleared)))
     where
       now : List Object
@@ -320,8 +320,8 @@ module _ (script : Script) (c : Collection) (below : List Activity) (v : World) 
   turn_advances x = either_way (CollectionAdvances Turns) (has_flag c.flags save_all)
       (GcSaved x.serial ∷ [], collection_at c Turns below (with_objects (change (with_place place) x.serial (saved x.serial v.objects)) (with_phase Turns)))
       (if is_tuple x then older_now else goes_now)
-      (stands Turns (record c { phase = Turns }) _ _ refl (refl, λ e s. absurd e, λ n m. absurd m) (Then v.objects (saved x.serial v.objects) _ (Saves x.serial v.objects refl) (moves_to Turns place x.serial (saved x.serial v.objects) (inr refl))) (one_line (collecting Turns) (GcSaved x.serial) tt))
-      (either_way (CollectionAdvances Turns) (is_tuple x) older_now goes_now (silent Turns Turns _ (refl, λ e s. absurd e, λ n m. absurd m) (moves_to Turns place x.serial v.objects (inr refl))) (silent Turns (Turn x.serial) v.objects (refl, λ e s. absurd e, λ n m. absurd m) (Same v.objects)))
+      (stands Turns (record c { phase = Turns }) _ _ refl (refl, λ e s. absurd e, λ n m. absurd m) (Followed v.objects (saved x.serial v.objects) _ (GetsEntry x.serial v.objects refl) (moves_to Turns place x.serial (saved x.serial v.objects) (inr refl))) (one_line (collecting Turns) (GcSaved x.serial) tt))
+      (either_way (CollectionAdvances Turns) (is_tuple x) older_now goes_now (silent Turns Turns _ (refl, λ e s. absurd e, λ n m. absurd m) (moves_to Turns place x.serial v.objects (inr refl))) (silent Turns (Turn x.serial) v.objects (refl, λ e s. absurd e, λ n m. absurd m) (NothingChanges v.objects)))
     where
       older_now : Transition
       older_now = ([], collection_at c Turns below (with_change (with_place place) x.serial (with_phase Turns)))
@@ -331,15 +331,15 @@ module _ (script : Script) (c : Collection) (below : List Activity) (v : World) 
 
   turns_advances : (lines : List Event) (after : World) → TurnsStep c below (with_phase Turns) lines after → CollectionAdvances Turns lines after
   turns_advances lines after (inl step) = yielded Turns _ lines after step.yields.0 step.yields.1 (turn_advances step.object)
-  turns_advances lines after (inr step) = yielded Turns (_, _) lines after step.1.0 step.1.1 (silent Turns Ending v.objects (refl, λ e s. absurd e, λ n m. absurd m) (Same v.objects))
+  turns_advances lines after (inr step) = yielded Turns (_, _) lines after step.1.0 step.1.1 (silent Turns Ending v.objects (refl, λ e s. absurd e, λ n m. absurd m) (NothingChanges v.objects))
 
   empties_advances : (o : ℕ) (m : Option Entry) → (let t : Transition = empties c o below (with_phase (Turn o)) m in CollectionAdvances (Turn o) t.0 t.1)
-  empties_advances o None = releases (Turn o) (AfterTurn o) (o ∷ []) v.objects (omega arith) (refl, λ e s. absurd e, λ n m. inl m) (Same v.objects)
-  empties_advances o (Some entry) = releases (Turn o) (Turn o) (entry_references entry) _ (few_entry entry) (refl, λ e s. absurd e, λ n m. inr m) (shortens (collecting (Turn o)) o v.objects (HasTurn (record c { phase = Turn o }) o refl))
+  empties_advances o None = releases (Turn o) (AfterTurn o) (o ∷ []) v.objects (omega arith) (refl, λ e s. absurd e, λ n m. inl m) (NothingChanges v.objects)
+  empties_advances o (Some entry) = releases (Turn o) (Turn o) (entry_references entry) _ (few_entry entry) (refl, λ e s. absurd e, λ n m. inr m) (shortens (collecting (Turn o)) o v.objects (OfTurn (record c { phase = Turn o }) o refl))
 
   end_advances : (lines : List Event) (after : World) → EndStep script c below (with_phase Ending) lines after → CollectionAdvances Ending lines after
-  end_advances lines after step = yielded Ending (_, _) lines after step.lines step.world (Stands [] _ v.numbers _ (Ends (collecting Ending))
-      (Then v.objects (all_saved step.keeps v.objects) _ (save_each (collecting Ending) step.keeps v.objects refl) (sorts (collecting Ending) (record c { phase = Ending }) refl (λ x. place) (is_at LegacyPlace) (all_saved step.keeps v.objects) (λ x m t. inr refl))) Kept
+  end_advances lines after step = yielded Ending (_, _) lines after step.lines step.world (Plainly [] _ v.numbers _ (TopEnds (collecting Ending))
+      (Followed v.objects (all_saved step.keeps v.objects) _ (save_each (collecting Ending) step.keeps v.objects refl) (sorts (collecting Ending) (record c { phase = Ending }) refl (λ x. place) (is_at LegacyPlace) (all_saved step.keeps v.objects) (λ x m t. inr refl))) SameCounts
       (more_lines now_on (told ++ map GcSaved step.keeps) (stop ∷ asked) (more_lines now_on told (map GcSaved step.keeps) (flagged_lines now_on (has_flag c.flags uncollectable) _ (lines_of now_on GcUncollectable (λ o. tt) step.told)) (lines_of now_on GcSaved (λ o. tt) step.keeps))
       (more_lines now_on (stop ∷ []) asked (one_line now_on stop refl) (flagged_lines now_on c.asked _ (one_line now_on (Collected (c.collected + length step.told)) tt)))))
     where
@@ -359,10 +359,10 @@ module _ (script : Script) (c : Collection) (below : List Activity) (v : World) 
   phase_advances Start lines after step = start_advances lines after step
   phase_advances (WeakClearing waiting) lines after step = weak_clearing_advances waiting lines after step
   phase_advances (WeakCalling waiting) lines after step = yielded (WeakCalling waiting) _ lines after step.0 step.1 (weak_calling_advances waiting)
-  phase_advances (AfterCallback weak waiting) lines after step = yielded (AfterCallback weak waiting) (_, _) lines after step.0 step.1 (releases (AfterCallback weak waiting) (AfterRelease weak waiting) (weak ∷ []) v.objects (omega arith) (refl, λ e s. tt, λ n m. either m (λ i. inl (inl i)) (λ k. inr k)) (Same v.objects))
+  phase_advances (AfterCallback weak waiting) lines after step = yielded (AfterCallback weak waiting) (_, _) lines after step.0 step.1 (releases (AfterCallback weak waiting) (AfterRelease weak waiting) (weak ∷ []) v.objects (omega arith) (refl, λ e s. tt, λ n m. either m (λ i. inl (inl i)) (λ k. inr k)) (NothingChanges v.objects))
   phase_advances (AfterRelease weak waiting) lines after step = yielded (AfterRelease weak waiting) _ lines after step.0 step.1 (after_release_advances weak waiting)
   phase_advances Finalizing lines after step = finalizing_advances lines after step
-  phase_advances (AfterFinalizing o) lines after step = yielded (AfterFinalizing o) (_, _) lines after step.0 step.1 (releases (AfterFinalizing o) Finalizing (o ∷ []) v.objects (omega arith) (refl, λ e s. tt, λ n m. inl m) (Same v.objects))
+  phase_advances (AfterFinalizing o) lines after step = yielded (AfterFinalizing o) (_, _) lines after step.0 step.1 (releases (AfterFinalizing o) Finalizing (o ∷ []) v.objects (omega arith) (refl, λ e s. tt, λ n m. inl m) (NothingChanges v.objects))
   phase_advances Split lines after step = split_advances lines after step
   phase_advances Turns lines after step = turns_advances lines after step
   phase_advances (Turn o) lines after step = yielded (Turn o) _ lines after step.0 step.1 (empties_advances o (last_entry (entries_of v.objects o)))

@@ -24,7 +24,7 @@ use Rattle.cg_machine.specs.Weak.{has_weak_references, weak_references_if, loses
 use Rattle.cg_machine.specs.Dying.{death_at, has_finalizers, finalizer_to_run, run_finalizer, run_legacy, after_frame, clear_one, call_one, detach_one, empty_one, dying}
 use Rattle.cg_machine.specs.Collect.{is_condemned}
 use Rattle.cg_machine.specs.Represents.{death_waits}
-use Rattle.cg_machine.proofs.Starting.{frame_of, starts_either}
+use Rattle.cg_machine.proofs.Starting.{begun_frame, starts_either}
 use Rattle.cg_machine.proofs.Serials.{Rises}
 use Rattle.cg_machine.proofs.Saving.{count_cons}
 use Rattle.cg_machine.proofs.FallsDeaths.{refers_first}
@@ -53,7 +53,7 @@ false_true e = absurd (cc)
 
 -- a frame starts
 pub starts_orderly : (script : Script) (spec : FrameSpec) (u : World) → (IsClearing u.stack → ⊥) → ((o : ℕ) → Includes (call_holds spec.sort spec.func) o → Includes (serials u.objects) o) → HasOrder u → HasOrder (start_frame script spec u).1
-starts_orderly script spec u still held h = starts_either (λ lines. HasOrder) script spec u h (λ some. push_orderly (frame_of script spec) u.objects u.names u.stack refl still held (λ d e. cc) (λ c o e. cc) h)
+starts_orderly script spec u still held h = starts_either (λ lines. HasOrder) script spec u h (λ some. push_orderly (begun_frame script spec) u.objects u.names u.stack refl still held (λ d e. cc) (λ c o e. cc) h)
 
 -- something is given up
 pub gives_up_orderly : (given_up : List ℕ) (u : World) → (IsClearing u.stack → ⊥) → ((o : ℕ) → Includes given_up o → Includes (serials u.objects) o) → HasOrder u → HasOrder (push (Releasing given_up) u)

@@ -10,7 +10,7 @@ use Rattle.cg_machine.specs.Program.{body_of}
 use Rattle.cg_machine.specs.Frame.{start_frame}
 use Rattle.cg_machine.specs.Origins.{commands_on}
 use Rattle.cg_machine.proofs.Tally.{tally}
-use Rattle.cg_machine.proofs.Advances.{Advance, Stands, StartsFrame, Continues, continues_idle, Tops, Ends, Returns, Releases, Kills, GoesOn, Gives}
+use Rattle.cg_machine.proofs.Advances.{Advance, Plainly, WithFrame, Continues, continues_idle, Tops, TopEnds, GivesFunction, GivesReference, BeginsDeath, TopGoesOn, GivesReferences}
 use Rattle.cg_machine.proofs.Starting.{starts_either}
 use Rattle.cg_machine.proofs.Invariants.{on}
 
@@ -42,13 +42,13 @@ idle : (before after : List Object) (a b : Activity) → Continues before after 
 idle before after a b c = ap length (continues_idle before after a b c)
 
 pub tops_bring_none : (before after : List Object) (top : Activity) (tops below : List Activity) → Tops before after top tops → left_on (tops ++ below) ≡ left_on below
-tops_bring_none before after top tops below (Ends a) = omega arith
-tops_bring_none before after top tops below (Returns f references few) = omega arith
-tops_bring_none before after top tops below (Releases o references) = omega arith
-tops_bring_none before after top tops below (Kills o references) = omega arith
-tops_bring_none before after top tops below (GoesOn a b c held) = omega (arith, idle before after a b c)
-tops_bring_none before after top tops below (Gives a b references few c held) = omega (arith, idle before after a b c)
+tops_bring_none before after top tops below (TopEnds a) = omega arith
+tops_bring_none before after top tops below (GivesFunction f references few) = omega arith
+tops_bring_none before after top tops below (GivesReference o references) = omega arith
+tops_bring_none before after top tops below (BeginsDeath o references) = omega arith
+tops_bring_none before after top tops below (TopGoesOn a b c held) = omega (arith, idle before after a b c)
+tops_bring_none before after top tops below (GivesReferences a b references few c held) = omega (arith, idle before after a b c)
 
 pub advance_makes : (most b : ℕ) (script : Script) (top : Activity) (below : List Activity) (v : World) → ((p : ℕ) → length (body_of script p) ≤ most) → (lines : List Event) (after : World) → Advance script v top below lines after → IsFew most b (on top below v) → IsFew most b after
-advance_makes most b script top below v short lines after (Stands tops objects numbers ls t c n none) h = record { within = omega (arith, h.within, tops_bring_none v.objects objects top tops below t) }
-advance_makes most b script top below v short lines after (StartsFrame spec a objects s c held m) h = starts_makes most b script spec (record v { objects = objects; stack = a ∷ below }) (short spec.proc) (record { within = omega (arith, h.within, idle v.objects objects top a c) })
+advance_makes most b script top below v short lines after (Plainly tops objects numbers ls t c n none) h = record { within = omega (arith, h.within, tops_bring_none v.objects objects top tops below t) }
+advance_makes most b script top below v short lines after (WithFrame spec a objects s c held m) h = starts_makes most b script spec (record v { objects = objects; stack = a ∷ below }) (short spec.proc) (record { within = omega (arith, h.within, idle v.objects objects top a c) })

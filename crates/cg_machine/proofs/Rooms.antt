@@ -8,7 +8,7 @@ use Rattle.cg_machine.specs.World.{World, Activity, TopLevel, Framed, Releasing,
 use Rattle.cg_machine.specs.Frame.{start_frame}
 use Rattle.cg_machine.specs.Bounds.{is_frame, HasNoRelease, AreReleasesApart}
 use Rattle.cg_machine.proofs.Tally.{tally, bit}
-use Rattle.cg_machine.proofs.Advances.{Advance, Stands, StartsFrame, Continues, Dies, Clears, Collects, Tops, Ends, Returns, Releases, Kills, GoesOn, Gives}
+use Rattle.cg_machine.proofs.Advances.{Advance, Plainly, WithFrame, Continues, DeathGoesOn, DeathClears, CollectionGoesOn, Tops, TopEnds, GivesFunction, GivesReference, BeginsDeath, TopGoesOn, GivesReferences}
 use Rattle.cg_machine.proofs.Starting.{starts_either}
 use Rattle.cg_machine.proofs.Invariants.{on}
 
@@ -35,9 +35,9 @@ starts_room b script spec u none h = starts_either (λ lines. HasRoom b) script 
 
 -- what stands in place of the activity on top
 continues_room : (b budget : ℕ) (before after : List Object) (top a : Activity) (below : List Activity) → Continues before after top a → Room b budget (top ∷ below) → Room b budget (a ∷ below) × HasNoRelease (a ∷ below)
-continues_room b budget before after top a below (Dies o phase next waits none) h = (record { frames = omega (arith, h.frames); apart = h.apart }, tt)
-continues_room b budget before after top a below (Clears o weak waiting weaks t first lost) h = (record { frames = omega (arith, h.frames); apart = h.apart }, tt)
-continues_room b budget before after top a below (Collects c d same begun early) h = (record { frames = omega (arith, h.frames); apart = h.apart }, tt)
+continues_room b budget before after top a below (DeathGoesOn o phase next waits none) h = (record { frames = omega (arith, h.frames); apart = h.apart }, tt)
+continues_room b budget before after top a below (DeathClears o weak waiting weaks t first lost) h = (record { frames = omega (arith, h.frames); apart = h.apart }, tt)
+continues_room b budget before after top a below (CollectionGoesOn c d same begun early) h = (record { frames = omega (arith, h.frames); apart = h.apart }, tt)
 
 popped : (top : Activity) (below : List Activity) → AreReleasesApart (top ∷ below) → AreReleasesApart below
 popped (TopLevel commands) below h = h.1
@@ -48,13 +48,13 @@ popped (Collecting c) below h = h.1
 popped (ShuttingDown started) below h = h.1
 
 tops_room : (b budget : ℕ) (before after : List Object) (top : Activity) (tops below : List Activity) → Tops before after top tops → Room b budget (top ∷ below) → Room b budget (tops ++ below)
-tops_room b budget before after top tops below (Ends a) h = record { frames = omega (arith, h.frames); apart = popped a below h.apart }
-tops_room b budget before after top tops below (Returns f references few) h = record { frames = omega (arith, h.frames); apart = (omega (arith, few), h.apart.0, h.apart.1) }
-tops_room b budget before after top tops below (Releases o references) h = record { frames = omega (arith, h.frames); apart = (omega (arith, h.apart.0), h.apart.1, h.apart.2) }
-tops_room b budget before after top tops below (Kills o references) h = record { frames = omega (arith, h.frames); apart = (omega (arith, h.apart.0), h.apart.1, h.apart.2) }
-tops_room b budget before after top tops below (GoesOn t a c held) h = (continues_room b budget before after t a below c h).0
-tops_room b budget before after top tops below (Gives t a references few c held) h = let k = continues_room b budget before after t a below c h in record { frames = omega (arith, k.0.frames); apart = (few, k.1, k.0.apart) }
+tops_room b budget before after top tops below (TopEnds a) h = record { frames = omega (arith, h.frames); apart = popped a below h.apart }
+tops_room b budget before after top tops below (GivesFunction f references few) h = record { frames = omega (arith, h.frames); apart = (omega (arith, few), h.apart.0, h.apart.1) }
+tops_room b budget before after top tops below (GivesReference o references) h = record { frames = omega (arith, h.frames); apart = (omega (arith, h.apart.0), h.apart.1, h.apart.2) }
+tops_room b budget before after top tops below (BeginsDeath o references) h = record { frames = omega (arith, h.frames); apart = (omega (arith, h.apart.0), h.apart.1, h.apart.2) }
+tops_room b budget before after top tops below (TopGoesOn t a c held) h = (continues_room b budget before after t a below c h).0
+tops_room b budget before after top tops below (GivesReferences t a references few c held) h = let k = continues_room b budget before after t a below c h in record { frames = omega (arith, k.0.frames); apart = (few, k.1, k.0.apart) }
 
 pub advance_room : (b : ℕ) (script : Script) (top : Activity) (below : List Activity) (v : World) (lines : List Event) (after : World) → Advance script v top below lines after → HasRoom b (on top below v) → HasRoom b after
-advance_room b script top below v lines after (Stands tops objects numbers ls t c n none) h = tops_room b v.budget v.objects objects top tops below t h
-advance_room b script top below v lines after (StartsFrame spec a objects s c held m) h = let k = continues_room b v.budget v.objects objects top a below c h in starts_room b script spec (record v { objects = objects; stack = a ∷ below }) k.1 k.0
+advance_room b script top below v lines after (Plainly tops objects numbers ls t c n none) h = tops_room b v.budget v.objects objects top tops below t h
+advance_room b script top below v lines after (WithFrame spec a objects s c held m) h = let k = continues_room b v.budget v.objects objects top a below c h in starts_room b script spec (record v { objects = objects; stack = a ∷ below }) k.1 k.0

@@ -22,7 +22,7 @@ use Rattle.cg_machine.proofs.FallsDeaths.{Includes-reverse, passed}
 use Rattle.cg_machine.proofs.Lookups.{Includes-reversed, callback_at, callback_first, same_object}
 use Rattle.cg_machine.proofs.Orderly.{waits_held}
 use Rattle.cg_machine.proofs.DyingOrderly.{HasOrder}
-use Rattle.cg_machine.proofs.Advances.{Advance, Stands, StartsFrame, Changed, changed_origin, ClearsNone, Continues, Dies, Clears, Collects, Starts, OfFinalizer, OfLegacy, OfCallback, Tops, Ends, Returns, Releases, Kills, GoesOn, Gives}
+use Rattle.cg_machine.proofs.Advances.{Advance, Plainly, WithFrame, HasChanged, changed_origin, ClearsNone, Continues, DeathGoesOn, DeathClears, CollectionGoesOn, FrameOf, OfFinalizer, OfLegacy, OfCallback, Tops, TopEnds, GivesFunction, GivesReference, BeginsDeath, TopGoesOn, GivesReferences}
 use Rattle.cg_machine.proofs.Starting.{starts_either}
 use Rattle.cg_machine.proofs.Invariants.{on}
 use Rattle.cg_machine.proofs.Standing.{AreFunctions, HoldsIn, KnowsFunction, AreNewer, ClearsInOrder, IsKnown, AreKnown, IsAllKnown}
@@ -125,21 +125,21 @@ fresh_in_order objects o phase none = tt
 -- a step of another activity
 module _ (script : Script) (below : List Activity) (v : World) (rises : Rises 1 v.next_serial v.objects) where
   continues_known : (after : List Object) (top a : Activity) → Continues v.objects after top a → IsKnown v.objects top below → AreKnown after below → AreKnown after (a ∷ below)
-  continues_known after top a (Dies o phase next waits none) k r = (fresh_in_order after o next none, r)
-  continues_known after top a (Clears o weak waiting weaks t first lost) k r =
+  continues_known after top a (DeathGoesOn o phase next waits none) k r = (fresh_in_order after o next none, r)
+  continues_known after top a (DeathClears o weak waiting weaks t first lost) k r =
       let all = passed (unwrap_or (option_map has_weak_references (object_at v.objects o)) false) (weak_references v.objects o) weak weaks first in
       (subst (λ (os : List Object). AreNewer os o (waiting ++ (if t then weak ∷ [] else []))) (sym lost) (still_newer v.next_serial v.objects rises o weak weaks waiting all k t), r)
-  continues_known after top a (Collects c d same begun early) k r = (tt, r)
+  continues_known after top a (CollectionGoesOn c d same begun early) k r = (tt, r)
 
   tops_known : (after : List Object) (top : Activity) (tops : List Activity) → Tops v.objects after top tops → IsKnown v.objects top below → AreKnown after below → AreKnown after (tops ++ below)
-  tops_known after top tops (Ends a) k r = r
-  tops_known after top tops (Returns f references few) k r = (tt, r)
-  tops_known after top tops (Releases o references) k r = (tt, r)
-  tops_known after top tops (Kills o references) k r = (tt, (tt, r))
-  tops_known after top tops (GoesOn b a c held) k r = continues_known after b a c k r
-  tops_known after top tops (Gives b a references few c held) k r = (tt, continues_known after b a c k r)
+  tops_known after top tops (TopEnds a) k r = r
+  tops_known after top tops (GivesFunction f references few) k r = (tt, r)
+  tops_known after top tops (GivesReference o references) k r = (tt, r)
+  tops_known after top tops (BeginsDeath o references) k r = (tt, (tt, r))
+  tops_known after top tops (TopGoesOn b a c held) k r = continues_known after b a c k r
+  tops_known after top tops (GivesReferences b a references few c held) k r = (tt, continues_known after b a c k r)
 
-  frame_known : (after : List Object) (top a : Activity) (spec : FrameSpec) → Starts v.objects after top a spec → Changed top v.objects after → HasOrder (on top below v) → KnowsFunction after spec.sort spec.subject spec.func (a ∷ below)
+  frame_known : (after : List Object) (top a : Activity) (spec : FrameSpec) → FrameOf v.objects after top a spec → HasChanged top v.objects after → HasOrder (on top below v) → KnowsFunction after spec.sort spec.subject spec.func (a ∷ below)
   frame_known after top a spec (OfFinalizer o p) c h = refl
   frame_known after top a spec (OfLegacy o p) c h = refl
   frame_known after top a spec (OfCallback weak p waits held) c h = (called, refl, record {
@@ -158,5 +158,5 @@ module _ (script : Script) (below : List Activity) (v : World) (rises : Rises 1 
       waits_there = Includes-append_left (waits_of top) (all_waits below) weak waits
 
   pub advance_known : (top : Activity) (lines : List Event) (after : World) → Advance script v top below lines after → HasOrder (on top below v) → IsKnown v.objects top below → Stays below after
-  advance_known top lines after (Stands tops objects numbers ls t c n none) h k = tops_known objects top tops t k
-  advance_known top lines after (StartsFrame spec a objects s c held m) h k = starts_known script spec (record v { objects = objects; stack = a ∷ below }) below (frame_known objects top a spec s m h) (continues_known objects top a c k)
+  advance_known top lines after (Plainly tops objects numbers ls t c n none) h k = tops_known objects top tops t k
+  advance_known top lines after (WithFrame spec a objects s c held m) h k = starts_known script spec (record v { objects = objects; stack = a ∷ below }) below (frame_known objects top a spec s m h) (continues_known objects top a c k)

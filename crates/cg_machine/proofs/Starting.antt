@@ -11,15 +11,15 @@ use Rattle.cg_machine.specs.World.{World, Activity, Framed, BudgetIsSpent}
 use Rattle.cg_machine.specs.Frame.{Transition, start_frame}
 
 -- A frame starts where the budget is not spent.
-abbrev pub frame_of : Script → FrameSpec → Activity
-frame_of script spec = Framed (record { sort = spec.sort; subject = spec.subject; function = spec.func; commands = body_of script spec.proc })
+abbrev pub begun_frame : Script → FrameSpec → Activity
+begun_frame script spec = Framed (record { sort = spec.sort; subject = spec.subject; function = spec.func; commands = body_of script spec.proc })
 
 pub starts_either : (R : List Event → World → Type 0) (script : Script) (spec : FrameSpec) (u : World) → R (BudgetSpent ∷ []) (record u { outcome = BudgetIsSpent })
-    → ((u.budget ≡ 0 → ⊥) → R (Enter spec.sort spec.subject ∷ []) (record u { budget = u.budget - 1; stack = frame_of script spec ∷ u.stack })) → (let t : Transition = start_frame script spec u in R t.0 t.1)
+    → ((u.budget ≡ 0 → ⊥) → R (Enter spec.sort spec.subject ∷ []) (record u { budget = u.budget - 1; stack = begun_frame script spec ∷ u.stack })) → (let t : Transition = start_frame script spec u in R t.0 t.1)
 starts_either R script spec u spent enters = go (u.budget == 0) refl
   where
     go : (b : Bool) → (u.budget == 0) ≡ b
-        → (let t : Transition = if b then (BudgetSpent ∷ [], record u { outcome = BudgetIsSpent }) else (Enter spec.sort spec.subject ∷ [], record u { budget = u.budget - 1; stack = frame_of script spec ∷ u.stack }) in R t.0 t.1)
+        → (let t : Transition = if b then (BudgetSpent ∷ [], record u { outcome = BudgetIsSpent }) else (Enter spec.sort spec.subject ∷ [], record u { budget = u.budget - 1; stack = begun_frame script spec ∷ u.stack }) in R t.0 t.1)
     go true e = spent
     go false e = enters (eqb-false u.budget 0 e)
 

@@ -15,7 +15,7 @@ use Rattle.cg_machine.specs.Holdings.{collect_holds}
 use Rattle.cg_machine.specs.Collect.{all_saved, older, saved, EndStep, PhaseStep}
 use Rattle.cg_machine.specs.Run.{StepOf}
 use Rattle.cg_machine.specs.Laws.{is_stop}
-use Rattle.cg_machine.proofs.Advances.{Advance, Stands, StartsFrame, IsEnding, IsLineOf}
+use Rattle.cg_machine.proofs.Advances.{Advance, Plainly, WithFrame, IsEnding, IsLineOf}
 use Rattle.cg_machine.proofs.Starting.{starts_either}
 use Rattle.cg_machine.proofs.Advancing.{released_advances, dying_advances, phase_advances}
 use Rattle.cg_promises.proofs.FullRuns.{IsRoot, reached_lasts, root_down}
@@ -35,8 +35,8 @@ one_event : (event : Event) → is_stop event ≡ false → NoStop (event ∷ []
 one_event event e x m = either m (λ i. subst (λ z. is_stop z ≡ false) i e) (λ k. absurd k)
 
 advance_quiet : (script : Script) (v : World) (top : Activity) (below : List Activity) (lines : List Event) (after : World) → (IsEnding top → ⊥) → Advance script v top below lines after → NoStop lines
-advance_quiet script v top below lines after on (Stands tops objects numbers ls t c n shown) = λ event m. quiet_line top event on (shown event m)
-advance_quiet script v top below lines after on (StartsFrame spec a objects s c held m) = starts_either (λ es w. NoStop es) script spec (record v { objects = objects; stack = a ∷ below }) (one_event BudgetSpent refl) (λ some. one_event (Enter spec.sort spec.subject) refl)
+advance_quiet script v top below lines after on (Plainly tops objects numbers ls t c n shown) = λ event m. quiet_line top event on (shown event m)
+advance_quiet script v top below lines after on (WithFrame spec a objects s c held m) = starts_either (λ es w. NoStop es) script spec (record v { objects = objects; stack = a ∷ below }) (one_event BudgetSpent refl) (λ some. one_event (Enter spec.sort spec.subject) refl)
 
 at_end : (phase : CollectPhase) → (phase ≡ Ending) ⊎ (phase ≢ Ending)
 at_end Ending = inl refl

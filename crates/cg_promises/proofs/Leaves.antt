@@ -16,7 +16,7 @@ use Rattle.cg_machine.specs.Frame.{released}
 use Rattle.cg_machine.specs.Dying.{death_at, dying}
 use Rattle.cg_machine.specs.Collect.{collection_at, PhaseStep}
 use Rattle.cg_machine.specs.Laws.{IsLengthened}
-use Rattle.cg_machine.proofs.Advances.{Advance, Stands, StartsFrame, Changed, Same, Marks, Takes, Saves, Frees, Then, Owns, Empties, CallsBack as TakesCallback, HasTurn, asides}
+use Rattle.cg_machine.proofs.Advances.{Advance, Plainly, WithFrame, HasChanged, NothingChanges, ChangesEach, LosesEntries, GetsEntry, LosesObject, Followed, Owns, OfEmptied, OfCalled, OfTurn, asides}
 use Rattle.cg_machine.proofs.Starting.{starts_either}
 use Rattle.cg_machine.proofs.Advancing.{released_advances, dying_advances, phase_advances}
 
@@ -41,20 +41,20 @@ if_lengthens Except f test objects serial longer y m =
     one false x t = (refl, inl (same_entries x x refl))
 
 -- the objects change
-changed_lengthens : (top : Activity) (before after : List Object) → Changed top before after → Lengthens (Owns top) before after
-changed_lengthens top before after (Same objects) = λ y m. (y, m, refl, inl (same_entries y y refl))
-changed_lengthens top before after (Marks f test objects aside) = λ y m. let x = asides top f test objects aside y m in (x.0, x.1, sym x.2.later.serial, inl (same_entries x.0 y x.2.entries))
-changed_lengthens top before after (Takes es s objects owns fewer) = if_lengthens (Owns top) (with_entries es) (λ x. x.serial == s) objects (λ x. refl) (λ x t. inr (subst (Owns top) (sym (eqb-true x.serial s t)) owns))
-changed_lengthens top before after (Saves o objects is) = if_lengthens (Owns top) (λ x. with_entries (x.entries ++ item (Ref o) ∷ []) x) (λ x. x.serial == 1) objects (λ x. refl) (λ x t. inl (item (Ref o) ∷ [], refl))
-changed_lengthens top before after (Frees o objects owns) = λ y m. (y, (Includes-filter_cases (λ x. not (x.serial == o)) objects y m).0, refl, inl (same_entries y y refl))
-changed_lengthens top before after (Then first now last h k) = λ y m.
+changed_lengthens : (top : Activity) (before after : List Object) → HasChanged top before after → Lengthens (Owns top) before after
+changed_lengthens top before after (NothingChanges objects) = λ y m. (y, m, refl, inl (same_entries y y refl))
+changed_lengthens top before after (ChangesEach f test objects aside) = λ y m. let x = asides top f test objects aside y m in (x.0, x.1, sym x.2.later.serial, inl (same_entries x.0 y x.2.entries))
+changed_lengthens top before after (LosesEntries es s objects owns fewer) = if_lengthens (Owns top) (with_entries es) (λ x. x.serial == s) objects (λ x. refl) (λ x t. inr (subst (Owns top) (sym (eqb-true x.serial s t)) owns))
+changed_lengthens top before after (GetsEntry o objects is) = if_lengthens (Owns top) (λ x. with_entries (x.entries ++ item (Ref o) ∷ []) x) (λ x. x.serial == 1) objects (λ x. refl) (λ x t. inl (item (Ref o) ∷ [], refl))
+changed_lengthens top before after (LosesObject o objects owns) = λ y m. (y, (Includes-filter_cases (λ x. not (x.serial == o)) objects y m).0, refl, inl (same_entries y y refl))
+changed_lengthens top before after (Followed first now last h k) = λ y m.
     let a = changed_lengthens top now last k y m in
     let b = changed_lengthens top first now h a.0 a.1 in
     (b.0, b.1, b.2 ∙ a.2, either a.3 (λ l. either b.3 (λ j. inl (j.0 ++ l.0, l.1 ∙ ap (λ es. es ++ l.0) j.1 ∙ append_assoc b.0.entries j.0 l.0)) (λ o. inr (subst (Owns top) a.2 o))) (λ o. inr o))
 
 advance_lengthens : (script : Script) (v : World) (top : Activity) (below : List Activity) (lines : List Event) (after : World) → Advance script v top below lines after → Lengthens (Owns top) v.objects after.objects
-advance_lengthens script v top below lines after (Stands tops objects numbers ls t c n shown) = changed_lengthens top v.objects objects c
-advance_lengthens script v top below lines after (StartsFrame spec a objects s c held m) =
+advance_lengthens script v top below lines after (Plainly tops objects numbers ls t c n shown) = changed_lengthens top v.objects objects c
+advance_lengthens script v top below lines after (WithFrame spec a objects s c held m) =
     let l = changed_lengthens top v.objects objects m in
     starts_either (λ es w. Lengthens (Owns top) v.objects w.objects) script spec (record v { objects = objects; stack = a ∷ below }) l (λ some. l)
 
@@ -69,19 +69,19 @@ CallsBack phase n = ⊥
 
 -- what each sort of activity takes
 owned_by_release : (top : Activity) (n : ℕ) → Owns top n → (refs : List ℕ) → top ≡ Releasing refs → ⊥
-owned_by_release top n (Empties o) refs e = cc
-owned_by_release top n (TakesCallback o weak waiting) refs e = cc
-owned_by_release top n (HasTurn c o t) refs e = cc
+owned_by_release top n (OfEmptied o) refs e = cc
+owned_by_release top n (OfCalled o weak waiting) refs e = cc
+owned_by_release top n (OfTurn c o t) refs e = cc
 
 owned_by_death : (top : Activity) (n : ℕ) → Owns top n → (d : Death) → top ≡ Dying d → (d.object ≡ n) ⊎ CallsBack d.phase n
-owned_by_death top n (Empties o) d e = let same : record { object = o; phase = Emptying } ≡ d = cc in inl (ap (λ (z : Death). z.object) (sym same))
-owned_by_death top n (TakesCallback o weak waiting) d e = let same : record { object = o; phase = Calling (weak ∷ waiting) } ≡ d = cc in inr (subst (λ (z : Death). CallsBack z.phase weak) same refl)
-owned_by_death top n (HasTurn c o t) d e = absurd (cc)
+owned_by_death top n (OfEmptied o) d e = let same : record { object = o; phase = Emptying } ≡ d = cc in inl (ap (λ (z : Death). z.object) (sym same))
+owned_by_death top n (OfCalled o weak waiting) d e = let same : record { object = o; phase = Calling (weak ∷ waiting) } ≡ d = cc in inr (subst (λ (z : Death). CallsBack z.phase weak) same refl)
+owned_by_death top n (OfTurn c o t) d e = absurd (cc)
 
 owned_by_collection : (top : Activity) (n : ℕ) → Owns top n → (c : Collection) → top ≡ Collecting c → c.phase ≡ Turn n
-owned_by_collection top n (HasTurn b o t) c e = let same : b ≡ c = cc in subst (λ (z : Collection). z.phase ≡ Turn o) same t
-owned_by_collection top n (Empties o) c e = absurd (cc)
-owned_by_collection top n (TakesCallback o weak waiting) c e = absurd (cc)
+owned_by_collection top n (OfTurn b o t) c e = let same : b ≡ c = cc in subst (λ (z : Collection). z.phase ≡ Turn o) same t
+owned_by_collection top n (OfEmptied o) c e = absurd (cc)
+owned_by_collection top n (OfCalled o weak waiting) c e = absurd (cc)
 
 pub released_lengthens : (refs : List ℕ) (below : List Activity) (script : Script) (v : World) → Lengthens Nowhere v.objects (released refs below (with_stack (Releasing refs ∷ below) v)).1.objects
 released_lengthens refs below script v = owned_only (Owns (Releasing refs)) Nowhere v.objects _ (λ n o. owned_by_release (Releasing refs) n o refs refl) (advance_lengthens script v (Releasing refs) below _ _ (released_advances script refs below v))

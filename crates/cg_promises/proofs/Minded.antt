@@ -15,7 +15,7 @@ use Rattle.cg_machine.specs.declared.event.FrameSpec.{FrameSpec}
 use Rattle.cg_machine.specs.Frame.{start_frame}
 use Rattle.cg_machine.specs.World.{World, Activity, Releasing}
 use Rattle.cg_machine.specs.Holdings.{holdings, holds, in_degree, is_death_of}
-use Rattle.cg_machine.proofs.Starting.{frame_of, starts_either}
+use Rattle.cg_machine.proofs.Starting.{begun_frame, starts_either}
 use Rattle.cg_machine.proofs.Releasing.{entry_holder, no_times, none_holds}
 use Rattle.cg_script.specs.declared.Script.{Script}
 use Rattle.cg_machine.specs.Weak.{loses_referent}
@@ -153,7 +153,7 @@ push_minded k a objects names stack deaths h = stack_minded k objects objects na
 
 -- a frame starts
 pub starts_minded : (k : ℕ) (script : Script) (spec : FrameSpec) (u : World) → IsMinded k u → IsMinded k (start_frame script spec u).1
-starts_minded k script spec u h = starts_either (λ lines. IsMinded k) script spec u (record { minds = h.minds; single = h.single; count = h.count }) (λ some. push_minded k (frame_of script spec) u.objects u.names u.stack (λ n. refl) h)
+starts_minded k script spec u h = starts_either (λ lines. IsMinded k) script spec u (record { minds = h.minds; single = h.single; count = h.count }) (λ some. push_minded k (begun_frame script spec) u.objects u.names u.stack (λ n. refl) h)
 
 -- what nothing holds has in-degree 0, and the other way round
 pub free_degree : (w : World) (o : ℕ) → IsFree w.objects w.names w.stack o → in_degree w o ≡ 0

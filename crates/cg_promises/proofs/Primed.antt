@@ -25,7 +25,7 @@ use Rattle.cg_machine.specs.Dying.{finalizer_to_run}
 use Rattle.cg_machine.specs.Operands.{is_dict}
 use Rattle.cg_machine.specs.Collect.{IsGarbage, IsSetAside, IsMemberOf, Survives, all_saved, calls_back, after_release, collection_at, empties, get_older, has_flag, has_legacy, has_none_tracked, looks_at, loses_at_split, merged, merged_place, older, save_all, saved, sorted, survivor_place, takes_turn, untrack, untracked_if, waits, EndStep, FinalizingStep, PhaseStep, SplitStep, Sorts, StartStep, TurnsStep, WeakClearingStep}
 use Rattle.cg_machine.specs.Laws.{HadItsPlace, IsOfCollection}
-use Rattle.cg_machine.proofs.Starting.{frame_of, starts_either}
+use Rattle.cg_machine.proofs.Starting.{begun_frame, starts_either}
 use Rattle.cg_machine.proofs.Serials.{Rises, Rises-map}
 use Rattle.cg_machine.proofs.Forgotten.{lives_within}
 use Rattle.cg_machine.proofs.Lookups.{at_member, same_object}
@@ -171,7 +171,7 @@ pub over_primed : (script : Script) (a : Activity) (objects : List Object) (stac
 over_primed script a objects stack apart h = record { no_legacy = h.no_legacy; ran = λ c m. either m (λ e. absurd (apart c e)) (h.ran c) }
 
 starts_primed : (script : Script) (spec : FrameSpec) (u : World) → Primed script u.objects u.stack → (let s : Transition = start_frame script spec u in Primed script s.1.objects s.1.stack)
-starts_primed script spec u h = starts_either (λ lines w. Primed script w.objects w.stack) script spec u h (λ some. over_primed script (frame_of script spec) u.objects u.stack (λ c e. cc) h)
+starts_primed script spec u h = starts_either (λ lines w. Primed script w.objects w.stack) script spec u h (λ some. over_primed script (begun_frame script spec) u.objects u.stack (λ c e. cc) h)
 
 -- the steps of a collection
 module _ (script : Script) (c : Collection) (below : List Activity) (v : World) (rises : Rises 1 v.next_serial v.objects) (alone : NoneCollects below) where

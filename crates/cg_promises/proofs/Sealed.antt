@@ -24,7 +24,7 @@ use Rattle.cg_machine.specs.Frame.{Transition, Yields, start_frame}
 use Rattle.cg_machine.specs.Weak.{loses_referent}
 use Rattle.cg_machine.specs.Collect.{has_flag, save_all}
 use Rattle.cg_machine.specs.Laws.{is_stop, named}
-use Rattle.cg_machine.proofs.Starting.{frame_of, starts_either}
+use Rattle.cg_machine.proofs.Starting.{begun_frame, starts_either}
 use Rattle.cg_machine.proofs.Forgotten.{IsLater, some_later, none_later}
 
 -- the phases after the second detection
@@ -297,7 +297,7 @@ module _ (script : Script) (members : List ℕ) where
   -- a frame starts
   pub starts_sealed : (spec : FrameSpec) (u : World) → (¬ Includes members spec.subject) → ((g : ℕ) → spec.func ≡ Some g → ¬ Includes members g) → Sealed script members u.objects u.names u.stack u.next_serial → (let s : Transition = start_frame script spec u in Passes script members s.0 s.1)
   starts_sealed spec u subject function h = starts_either (Passes script members) script spec u (record { sealed = h; lines = one_still members BudgetSpent refl (λ n m. absurd m) })
-      (λ some. record { sealed = push_sealed (frame_of script spec) u.stack u.objects u.names u.next_serial (subject, function) refl h; lines = one_still members (Enter spec.sort spec.subject) refl (λ n m k. absurd (either m (λ e. subject (subst (Includes members) (sym e) k)) (λ no. no))) })
+      (λ some. record { sealed = push_sealed (begun_frame script spec) u.stack u.objects u.names u.next_serial (subject, function) refl h; lines = one_still members (Enter spec.sort spec.subject) refl (λ n m k. absurd (either m (λ e. subject (subst (Includes members) (sym e) k)) (λ no. no))) })
 
   pub yields_sealed : (t : Transition) (events : List Event) (after : World) → Yields t events after → Passes script members t.0 t.1 → Passes script members events after
   yields_sealed t events after step h = subst (λ es. Passes script members es after) (sym step.0) (subst (Passes script members t.0) (sym step.1) h)

@@ -16,7 +16,7 @@ use Rattle.cg_machine.specs.Weak.{loses_referent}
 use Rattle.cg_machine.specs.World.{World, Activity, Dying, Death, Collecting, Collection}
 use Rattle.cg_machine.specs.Laws.{runs_own_frame}
 use Rattle.cg_laws.specs.Apart.{handles}
-use Rattle.cg_machine.proofs.Starting.{frame_of, starts_either}
+use Rattle.cg_machine.proofs.Starting.{begun_frame, starts_either}
 
 -- each object of a serial is an untracked tuple
 abbrev pub IsLoose : List Object → ℕ → Type 0
@@ -165,4 +165,4 @@ push_slack next a stack objects handled h = moves_slack Never next objects objec
 
 -- a frame starts
 pub starts_slack : (script : Script) (spec : FrameSpec) (u : World) → IsSlackWorld u → IsSlackWorld (start_frame script spec u).1
-starts_slack script spec u h = starts_either (λ lines. IsSlackWorld) script spec u (record { slack = h.slack; handled = h.handled }) (λ some. push_slack u.next_serial (frame_of script spec) u.stack u.objects (λ c e. cc) h)
+starts_slack script spec u h = starts_either (λ lines. IsSlackWorld) script spec u (record { slack = h.slack; handled = h.handled }) (λ some. push_slack u.next_serial (begun_frame script spec) u.stack u.objects (λ c e. cc) h)

@@ -15,8 +15,8 @@ use Rattle.cg_machine.specs.World.{World, Activity, Releasing, Collecting, Colle
 use Rattle.cg_machine.specs.Frame.{Transition}
 use Rattle.cg_machine.specs.Collect.{collection_at, empties, has_flag, older, save_all, saved, takes_turn, PhaseStep, TurnsStep}
 use Rattle.cg_laws.proofs.SetsApart.{NoneCollects}
-use Rattle.cg_machine.proofs.Advances.{Advance, Stands, StartsFrame, Continues, Dies, Clears, Collects, IsEarly, Tops, Ends, Returns, Releases, Kills, GoesOn, Gives}
-use Rattle.cg_machine.proofs.Starting.{frame_of, starts_either}
+use Rattle.cg_machine.proofs.Advances.{Advance, Plainly, WithFrame, Continues, DeathGoesOn, DeathClears, CollectionGoesOn, IsEarly, Tops, TopEnds, GivesFunction, GivesReference, BeginsDeath, TopGoesOn, GivesReferences}
+use Rattle.cg_machine.proofs.Starting.{begun_frame, starts_either}
 use Rattle.cg_machine.proofs.Places.{place_is}
 
 -- a collection that stands at an early phase goes on at one
@@ -28,25 +28,25 @@ module _ (script : Script) (v : World) (c : Collection) (below : List Activity) 
   over_early a stack none h early other d m = either m (λ e. absurd (none d e)) (h early other d)
 
   continues_early : (before after : List Object) (top a : Activity) → Continues before after top a → top ≡ Collecting c → AreEarly (a ∷ below)
-  continues_early before after top a (Dies o phase next fewer none) e = absurd (cc)
-  continues_early before after top a (Clears o weak waiting weaks t first lost) e = absurd (cc)
-  continues_early before after top a (Collects b next same begun on) e = λ early other d m.
+  continues_early before after top a (DeathGoesOn o phase next fewer none) e = absurd (cc)
+  continues_early before after top a (DeathClears o weak waiting weaks t first lost) e = absurd (cc)
+  continues_early before after top a (CollectionGoesOn b next same begun on) e = λ early other d m.
       let is : b ≡ c = cc in
       either m (λ i. let same : next ≡ d = cc in subst (λ (z : Collection). IsEarly z.phase) same (on (subst (λ (z : Collection). IsEarly z.phase) (sym is) early) (subst (λ (z : Collection). z.phase ≢ Split) (sym is) other))) (λ k. absurd (alone d k))
 
   tops_early : (before after : List Object) (top : Activity) (tops : List Activity) → Tops before after top tops → top ≡ Collecting c → AreEarly (tops ++ below)
-  tops_early before after top tops (Ends a) e = λ early other d m. absurd (alone d m)
-  tops_early before after top tops (Returns f references few) e = absurd (cc)
-  tops_early before after top tops (Releases o references) e = absurd (cc)
-  tops_early before after top tops (Kills o references) e = absurd (cc)
-  tops_early before after top tops (GoesOn t a k held) e = continues_early before after t a k e
-  tops_early before after top tops (Gives t a references few k held) e = over_early (Releasing references) (a ∷ below) (λ d i. cc) (continues_early before after t a k e)
+  tops_early before after top tops (TopEnds a) e = λ early other d m. absurd (alone d m)
+  tops_early before after top tops (GivesFunction f references few) e = absurd (cc)
+  tops_early before after top tops (GivesReference o references) e = absurd (cc)
+  tops_early before after top tops (BeginsDeath o references) e = absurd (cc)
+  tops_early before after top tops (TopGoesOn t a k held) e = continues_early before after t a k e
+  tops_early before after top tops (GivesReferences t a references few k held) e = over_early (Releasing references) (a ∷ below) (λ d i. cc) (continues_early before after t a k e)
 
   pub early_after : (lines : List Event) (after : World) → Advance script v (Collecting c) below lines after → AreEarly after.stack
-  early_after lines after (Stands tops objects numbers ls t k n shown) = tops_early v.objects objects (Collecting c) tops t refl
-  early_after lines after (StartsFrame spec a objects s k held m) =
+  early_after lines after (Plainly tops objects numbers ls t k n shown) = tops_early v.objects objects (Collecting c) tops t refl
+  early_after lines after (WithFrame spec a objects s k held m) =
       let early = continues_early v.objects objects (Collecting c) a k refl in
-      starts_either (λ es w. AreEarly w.stack) script spec (record v { objects = objects; stack = a ∷ below }) early (λ some. over_early (frame_of script spec) (a ∷ below) (λ d i. cc) early)
+      starts_either (λ es w. AreEarly w.stack) script spec (record v { objects = objects; stack = a ∷ below }) early (λ some. over_early (begun_frame script spec) (a ∷ below) (λ d i. cc) early)
 
 -- what is condemned was in the final set, and so is what has its turn
 abbrev pub Finals : (ℕ → Type 0) → Collection → List Object → Type 0

@@ -16,8 +16,8 @@ use Rattle.cg_machine.specs.Weak.{has_weak_references, is_reference_to, weak_ref
 use Rattle.cg_machine.specs.Commands.{new_collection}
 use Rattle.cg_machine.specs.Represents.{death_waits}
 use Rattle.cg_machine.specs.Run.{Step}
-use Rattle.cg_machine.proofs.Advances.{Advance, Stands, StartsFrame, Continues, Dies, Clears, Collects, Tops, Ends, Returns, Releases, Kills, GoesOn, Gives}
-use Rattle.cg_machine.proofs.Starting.{frame_of, starts_either}
+use Rattle.cg_machine.proofs.Advances.{Advance, Plainly, WithFrame, Continues, DeathGoesOn, DeathClears, CollectionGoesOn, Tops, TopEnds, GivesFunction, GivesReference, BeginsDeath, TopGoesOn, GivesReferences}
+use Rattle.cg_machine.proofs.Starting.{begun_frame, starts_either}
 use Rattle.cg_machine.proofs.Advancing.{frame_end_advances, released_advances, dying_advances, phase_advances}
 use Rattle.cg_machine.proofs.RunsCalm.{no_death}
 use Rattle.cg_machine.proofs.ShapeLaws.{changes_leave}
@@ -58,7 +58,7 @@ module _ (P : ℕ → ℕ → Type 0) where
   push_death o phase stack waits h d m = either m (λ e. let same : record { object = o; phase = phase } ≡ d = cc in subst (λ (z : Death). (weak : ℕ) → Includes (death_waits z.phase) weak → P weak z.object) same waits) (h d)
 
   starts : (script : Script) (spec : FrameSpec) (u : World) → Waited u.stack → Waited (start_frame script spec u).1.stack
-  starts script spec u h = starts_either (λ lines w. Waited w.stack) script spec u h (λ some. push_other (frame_of script spec) u.stack (λ d e. cc) h)
+  starts script spec u h = starts_either (λ lines w. Waited w.stack) script spec u h (λ some. push_other (begun_frame script spec) u.stack (λ d e. cc) h)
 
   -- what goes on in a step of another activity
   module _ (objects after : List Object) (below : List Activity) (now_refers : (weak o : ℕ) → RefersNow objects weak o → P weak o) where
@@ -67,23 +67,23 @@ module _ (P : ℕ → ℕ → Type 0) where
     perhaps false weak n m = absurd m
 
     continues_waited : (top a : Activity) → Continues objects after top a → Waited (top ∷ below) → Waited (a ∷ below)
-    continues_waited top a (Dies o phase next waits none) h = push_death o next below (λ weak m. h (record { object = o; phase = phase }) (inl refl) weak (waits weak m)) (pop top below h)
-    continues_waited top a (Clears o weak waiting weaks t first lost) h = push_death o (Clearing (waiting ++ (if t then weak ∷ [] else []))) below
+    continues_waited top a (DeathGoesOn o phase next waits none) h = push_death o next below (λ weak m. h (record { object = o; phase = phase }) (inl refl) weak (waits weak m)) (pop top below h)
+    continues_waited top a (DeathClears o weak waiting weaks t first lost) h = push_death o (Clearing (waiting ++ (if t then weak ∷ [] else []))) below
         (λ n m. either (Includes-append_cases waiting (if t then weak ∷ [] else []) n m) (h (record { object = o; phase = Clearing waiting }) (inl refl) n)
         (λ k. subst (λ w. P w o) (perhaps t weak n k) (now_refers weak o (refers_now has_weak_references objects o weak weaks first)))) (pop top below h)
-    continues_waited top a (Collects c d same begun early) h = push_other (Collecting d) below (λ e i. cc) (pop top below h)
+    continues_waited top a (CollectionGoesOn c d same begun early) h = push_other (Collecting d) below (λ e i. cc) (pop top below h)
 
     tops_waited : (top : Activity) (tops : List Activity) → Tops objects after top tops → Waited (top ∷ below) → Waited (tops ++ below)
-    tops_waited top tops (Ends a) h = pop a below h
-    tops_waited top tops (Returns f references few) h = push_other (Releasing references) below (λ d e. cc) (pop top below h)
-    tops_waited top tops (Releases o references) h = push_other (Releasing references) below (λ d e. cc) (pop top below h)
-    tops_waited top tops (Kills o references) h = push_death o Finalizer (Releasing references ∷ below) (λ weak m. absurd m) (push_other (Releasing references) below (λ d e. cc) (pop top below h))
-    tops_waited top tops (GoesOn b a c held) h = continues_waited b a c h
-    tops_waited top tops (Gives b a references few c held) h = push_other (Releasing references) (a ∷ below) (λ d e. cc) (continues_waited b a c h)
+    tops_waited top tops (TopEnds a) h = pop a below h
+    tops_waited top tops (GivesFunction f references few) h = push_other (Releasing references) below (λ d e. cc) (pop top below h)
+    tops_waited top tops (GivesReference o references) h = push_other (Releasing references) below (λ d e. cc) (pop top below h)
+    tops_waited top tops (BeginsDeath o references) h = push_death o Finalizer (Releasing references ∷ below) (λ weak m. absurd m) (push_other (Releasing references) below (λ d e. cc) (pop top below h))
+    tops_waited top tops (TopGoesOn b a c held) h = continues_waited b a c h
+    tops_waited top tops (GivesReferences b a references few c held) h = push_other (Releasing references) (a ∷ below) (λ d e. cc) (continues_waited b a c h)
 
   advance_waited : (script : Script) (top : Activity) (below : List Activity) (v : World) → ((weak o : ℕ) → RefersNow v.objects weak o → P weak o) → Waited (top ∷ below) → (lines : List Event) (after : World) → Advance script v top below lines after → Waited after.stack
-  advance_waited script top below v refers h lines after (Stands tops objects numbers ls t c n none) = tops_waited v.objects objects below refers top tops t h
-  advance_waited script top below v refers h lines after (StartsFrame spec a objects s c held m) = starts script spec (record v { objects = objects; stack = a ∷ below }) (continues_waited v.objects objects below refers top a c h)
+  advance_waited script top below v refers h lines after (Plainly tops objects numbers ls t c n none) = tops_waited v.objects objects below refers top tops t h
+  advance_waited script top below v refers h lines after (WithFrame spec a objects s c held m) = starts script spec (record v { objects = objects; stack = a ∷ below }) (continues_waited v.objects objects below refers top a c h)
 
   -- a command
   emptied_waited : (a : Activity) (below : List Activity) → HasCommands a → Waited below → Waited (emptied a ∷ below)

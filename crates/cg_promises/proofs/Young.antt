@@ -14,8 +14,8 @@ use Rattle.cg_machine.specs.declared.event.Event.{Event}
 use Rattle.cg_machine.specs.declared.event.FrameSpec.{FrameSpec}
 use Rattle.cg_machine.specs.World.{World, Activity, Releasing, Dying, Collecting, Collection, Finalizer}
 use Rattle.cg_machine.specs.Frame.{start_frame}
-use Rattle.cg_machine.proofs.Advances.{Advance, Stands, StartsFrame, Changed, Same, Marks, Takes, Saves, Frees, Then, IsPlaceIn, Moved, Rests, Untracks, Revives, Sorts, asides, Continues, Dies, Clears, Collects, Tops, Ends, Returns, Releases, Kills, GoesOn, Gives}
-use Rattle.cg_machine.proofs.Starting.{frame_of, starts_either}
+use Rattle.cg_machine.proofs.Advances.{Advance, Plainly, WithFrame, HasChanged, NothingChanges, ChangesEach, LosesEntries, GetsEntry, LosesObject, Followed, IsPlaceIn, IsMoved, StaysThere, IsUntracked, IsRevived, IsPlaced, asides, Continues, DeathGoesOn, DeathClears, CollectionGoesOn, Tops, TopEnds, GivesFunction, GivesReference, BeginsDeath, TopGoesOn, GivesReferences}
+use Rattle.cg_machine.proofs.Starting.{begun_frame, starts_either}
 use Rattle.cg_machine.proofs.Invariants.{on}
 
 abbrev pub IsYoung : Place → Type 0
@@ -53,7 +53,7 @@ pub turn_young : (a b : Activity) (below : List Activity) (before after : List O
 turn_young a b below before after young age h = record { places = young; ages = λ c m. either m (age c) (λ k. h.ages c (inr k)) }
 
 pub starts_young : (script : Script) (spec : FrameSpec) (u : World) → IsYoungWorld u → IsYoungWorld (start_frame script spec u).1
-starts_young script spec u h = starts_either (λ lines. IsYoungWorld) script spec u (record { places = h.places; ages = h.ages }) (λ some. push_young (frame_of script spec) u.stack u.objects (λ c e. cc) h)
+starts_young script spec u h = starts_either (λ lines. IsYoungWorld) script spec u (record { places = h.places; ages = h.ages }) (λ some. push_young (begun_frame script spec) u.stack u.objects (λ c e. cc) h)
 
 -- where the objects go in a step of another activity
 place_young : (g : ℕ) (p : Place) → g ≤ 2 → IsPlaceIn g p → IsYoung p
@@ -61,34 +61,34 @@ place_young g (Gen i) age h = either h (λ e. omega (arith, age, e)) (λ e. omeg
 place_young g p age h = tt
 
 module _ (top : Activity) (age : (c : Collection) → top ≡ Collecting c → c.generation ≤ 2) where
-  moved_young : (x y : Object) → Moved top x y → IsYoung x.place → IsYoung y.place
-  moved_young x y (Rests e) h = subst IsYoung e h
-  moved_young x y (Untracks e) h = subst IsYoung (sym e) tt
-  moved_young x y (Revives f e) h = subst IsYoung (sym e) (omega arith)
-  moved_young x y (Sorts c is k) h = place_young c.generation y.place (age c is) k
+  moved_young : (x y : Object) → IsMoved top x y → IsYoung x.place → IsYoung y.place
+  moved_young x y (StaysThere e) h = subst IsYoung e h
+  moved_young x y (IsUntracked e) h = subst IsYoung (sym e) tt
+  moved_young x y (IsRevived f e) h = subst IsYoung (sym e) (omega arith)
+  moved_young x y (IsPlaced c is k) h = place_young c.generation y.place (age c is) k
 
-  changed_young : (before after : List Object) → Changed top before after → AreYoung before → AreYoung after
-  changed_young before after (Same objects) h = h
-  changed_young before after (Marks f test objects aside) h = λ y m. let x = asides top f test objects aside y m in moved_young x.0 y x.2.moved (h x.0 x.1)
-  changed_young before after (Takes es s objects owns fewer) h = entries_young es s objects h
-  changed_young before after (Saves o objects is) h = test_young (λ x. with_entries (x.entries ++ item (Ref o) ∷ []) x) (λ x. x.serial == 1) objects (λ x m t k. k) h
-  changed_young before after (Frees o objects owns) h = λ x m. h x (Includes-filter_cases (λ (z : Object). not (z.serial == o)) objects x m).0
-  changed_young before after (Then first now last c d) h = changed_young now last d (changed_young first now c h)
+  changed_young : (before after : List Object) → HasChanged top before after → AreYoung before → AreYoung after
+  changed_young before after (NothingChanges objects) h = h
+  changed_young before after (ChangesEach f test objects aside) h = λ y m. let x = asides top f test objects aside y m in moved_young x.0 y x.2.moved (h x.0 x.1)
+  changed_young before after (LosesEntries es s objects owns fewer) h = entries_young es s objects h
+  changed_young before after (GetsEntry o objects is) h = test_young (λ x. with_entries (x.entries ++ item (Ref o) ∷ []) x) (λ x. x.serial == 1) objects (λ x m t k. k) h
+  changed_young before after (LosesObject o objects owns) h = λ x m. h x (Includes-filter_cases (λ (z : Object). not (z.serial == o)) objects x m).0
+  changed_young before after (Followed first now last c d) h = changed_young now last d (changed_young first now c h)
 
 -- what goes on
 continues_young : (before after : List Object) (top a : Activity) → ((c : Collection) → top ≡ Collecting c → c.generation ≤ 2) → Continues before after top a → (c : Collection) → a ≡ Collecting c → c.generation ≤ 2
-continues_young before after top a age (Dies o phase next waits none) c e = cc
-continues_young before after top a age (Clears o weak waiting weaks t first lost) c e = cc
-continues_young before after top a age (Collects b d same begun early) c e = let is : d.generation ≡ c.generation = cc in subst (λ n. n ≤ 2) (sym same ∙ is) (age b refl)
+continues_young before after top a age (DeathGoesOn o phase next waits none) c e = cc
+continues_young before after top a age (DeathClears o weak waiting weaks t first lost) c e = cc
+continues_young before after top a age (CollectionGoesOn b d same begun early) c e = let is : d.generation ≡ c.generation = cc in subst (λ n. n ≤ 2) (sym same ∙ is) (age b refl)
 
 tops_young : (before after : List Object) (top : Activity) (tops below : List Activity) → Tops before after top tops → AreYoung after → Young before (top ∷ below) → Young after (tops ++ below)
-tops_young before after top tops below (Ends a) young h = record { places = young; ages = λ c m. h.ages c (inr m) }
-tops_young before after top tops below (Returns f references few) young h = turn_young top (Releasing references) below before after young (λ c e. cc) h
-tops_young before after top tops below (Releases o references) young h = turn_young top (Releasing references) below before after young (λ c e. cc) h
-tops_young before after top tops below (Kills o references) young h = push_young (Dying (record { object = o; phase = Finalizer })) (Releasing references ∷ below) after (λ c e. cc) (turn_young top (Releasing references) below before after young (λ c e. cc) h)
-tops_young before after top tops below (GoesOn t a c held) young h = turn_young t a below before after young (continues_young before after t a (λ d e. h.ages d (inl e)) c) h
-tops_young before after top tops below (Gives t a references few c held) young h = push_young (Releasing references) (a ∷ below) after (λ d e. cc) (turn_young t a below before after young (continues_young before after t a (λ d e. h.ages d (inl e)) c) h)
+tops_young before after top tops below (TopEnds a) young h = record { places = young; ages = λ c m. h.ages c (inr m) }
+tops_young before after top tops below (GivesFunction f references few) young h = turn_young top (Releasing references) below before after young (λ c e. cc) h
+tops_young before after top tops below (GivesReference o references) young h = turn_young top (Releasing references) below before after young (λ c e. cc) h
+tops_young before after top tops below (BeginsDeath o references) young h = push_young (Dying (record { object = o; phase = Finalizer })) (Releasing references ∷ below) after (λ c e. cc) (turn_young top (Releasing references) below before after young (λ c e. cc) h)
+tops_young before after top tops below (TopGoesOn t a c held) young h = turn_young t a below before after young (continues_young before after t a (λ d e. h.ages d (inl e)) c) h
+tops_young before after top tops below (GivesReferences t a references few c held) young h = push_young (Releasing references) (a ∷ below) after (λ d e. cc) (turn_young t a below before after young (continues_young before after t a (λ d e. h.ages d (inl e)) c) h)
 
 pub advance_young : (script : Script) (top : Activity) (below : List Activity) (v : World) (lines : List Event) (after : World) → Advance script v top below lines after → IsYoungWorld (on top below v) → IsYoungWorld after
-advance_young script top below v lines after (Stands tops objects numbers ls t c n none) h = tops_young v.objects objects top tops below t (changed_young top (λ d e. h.ages d (inl e)) v.objects objects c h.places) h
-advance_young script top below v lines after (StartsFrame spec a objects s c held m) h = starts_young script spec (record v { objects = objects; stack = a ∷ below }) (tops_young v.objects objects top (a ∷ []) below (GoesOn top a c held) (changed_young top (λ d e. h.ages d (inl e)) v.objects objects m h.places) h)
+advance_young script top below v lines after (Plainly tops objects numbers ls t c n none) h = tops_young v.objects objects top tops below t (changed_young top (λ d e. h.ages d (inl e)) v.objects objects c h.places) h
+advance_young script top below v lines after (WithFrame spec a objects s c held m) h = starts_young script spec (record v { objects = objects; stack = a ∷ below }) (tops_young v.objects objects top (a ∷ []) below (TopGoesOn top a c held) (changed_young top (λ d e. h.ages d (inl e)) v.objects objects m h.places) h)

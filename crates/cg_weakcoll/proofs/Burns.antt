@@ -13,7 +13,7 @@ use Rattle.cg_machine.specs.Origins.{commands_on}
 use Rattle.cg_machine.specs.Commands.{new_collection}
 use Rattle.cg_machine.specs.Laws.{is_enter}
 use Rattle.cg_machine.specs.Run.{Step}
-use Rattle.cg_machine.proofs.Advances.{Advance, Stands, StartsFrame, Continues, Dies, Clears, Collects, Tops, Ends, Returns, Releases, Kills, GoesOn, Gives}
+use Rattle.cg_machine.proofs.Advances.{Advance, Plainly, WithFrame, Continues, DeathGoesOn, DeathClears, CollectionGoesOn, Tops, TopEnds, GivesFunction, GivesReference, BeginsDeath, TopGoesOn, GivesReferences}
 use Rattle.cg_machine.proofs.Advancing.{frame_end_advances, released_advances, dying_advances, phase_advances}
 use Rattle.cg_machine.proofs.Tally.{tally}
 use Rattle.cg_machine.proofs.ShapeLaws.{changes_leave}
@@ -63,13 +63,13 @@ closes a below tops w after none some was now light = record { top = a; below = 
 
 -- what goes on in a step of another activity
 continues_idle : (before after : List Object) (top a : Activity) → Continues before after top a → (weight top ≡ 0) × (commands_on top ≡ []) × (weight a ≡ 0)
-continues_idle before after top a (Dies o phase next waits none) = (refl, refl, refl)
-continues_idle before after top a (Clears o weak waiting weaks t first lost) = (refl, refl, refl)
-continues_idle before after top a (Collects c d same begun early) = (refl, refl, refl)
+continues_idle before after top a (DeathGoesOn o phase next waits none) = (refl, refl, refl)
+continues_idle before after top a (DeathClears o weak waiting weaks t first lost) = (refl, refl, refl)
+continues_idle before after top a (CollectionGoesOn c d same begun early) = (refl, refl, refl)
 
 module _ (script : Script) (below : List Activity) (v : World) where
   stands : (top : Activity) → (commands_on top ≡ []) → (objects : List Object) (numbers : Numbers) (tops : List Activity) → Tops v.objects objects top tops → Burns (on top below v) (record v { objects = objects; numbers = numbers; stack = tops ++ below })
-  stands top none objects numbers tops (Ends a) = ends a none
+  stands top none objects numbers tops (TopEnds a) = ends a none
     where
       w : World
       w = record v { objects = objects; numbers = numbers; stack = below }
@@ -81,15 +81,15 @@ module _ (script : Script) (below : List Activity) (v : World) where
       ends (Dying d) e = idle (Dying d) below [] (on (Dying d) below v) w refl refl refl refl refl refl
       ends (Collecting c) e = idle (Collecting c) below [] (on (Collecting c) below v) w refl refl refl refl refl refl
       ends (ShuttingDown started) e = closes (ShuttingDown started) below [] (on (ShuttingDown started) below v) w e (omega arith) refl refl (omega arith)
-  stands top none objects numbers tops (Returns f references few) = closes top below tops (on top below v) _ none (omega arith) refl refl (omega arith)
-  stands top none objects numbers tops (Releases o references) = idle top below tops (on top below v) _ refl refl refl refl refl refl
-  stands top none objects numbers tops (Kills o references) = idle top below tops (on top below v) _ refl refl refl refl refl refl
-  stands top none objects numbers tops (GoesOn b a c held) = let k = continues_idle v.objects objects b a c in idle b below (a ∷ []) (on b below v) _ k.0 k.1 refl refl (omega (arith, k.2)) refl
-  stands top none objects numbers tops (Gives b a references few c held) = let k = continues_idle v.objects objects b a c in idle b below (Releasing references ∷ a ∷ []) (on b below v) _ k.0 k.1 refl refl (omega (arith, k.2)) refl
+  stands top none objects numbers tops (GivesFunction f references few) = closes top below tops (on top below v) _ none (omega arith) refl refl (omega arith)
+  stands top none objects numbers tops (GivesReference o references) = idle top below tops (on top below v) _ refl refl refl refl refl refl
+  stands top none objects numbers tops (BeginsDeath o references) = idle top below tops (on top below v) _ refl refl refl refl refl refl
+  stands top none objects numbers tops (TopGoesOn b a c held) = let k = continues_idle v.objects objects b a c in idle b below (a ∷ []) (on b below v) _ k.0 k.1 refl refl (omega (arith, k.2)) refl
+  stands top none objects numbers tops (GivesReferences b a references few c held) = let k = continues_idle v.objects objects b a c in idle b below (Releasing references ∷ a ∷ []) (on b below v) _ k.0 k.1 refl refl (omega (arith, k.2)) refl
 
   advance_burns : (top : Activity) → (commands_on top ≡ []) → (lines : List Event) (after : World) → Advance script v top below lines after → BurnsSo (on top below v) lines after
-  advance_burns top none lines after (Stands tops objects numbers ls t c n shown) quiet running = stands top none objects numbers tops t
-  advance_burns top none lines after (StartsFrame spec a objects s c held m) quiet running = absurd (starts_none script spec (record v { objects = objects; stack = a ∷ below }) _ _ (refl, refl) quiet running)
+  advance_burns top none lines after (Plainly tops objects numbers ls t c n shown) quiet running = stands top none objects numbers tops t
+  advance_burns top none lines after (WithFrame spec a objects s c held m) quiet running = absurd (starts_none script spec (record v { objects = objects; stack = a ∷ below }) _ _ (refl, refl) quiet running)
 
 -- a command
 fewer : (command : Command) (a b : Activity) → Takes command a b → weight b < weight a

@@ -15,7 +15,7 @@ use Rattle.cg_machine.specs.declared.event.FrameSpec.{FrameSpec}
 use Rattle.cg_machine.specs.World.{World, Activity, Dying, Death, DyingPhase, AfterFinalizer, AfterLegacy, BudgetIsSpent}
 use Rattle.cg_machine.specs.Frame.{Transition, Yields, start_frame}
 use Rattle.cg_machine.specs.Weak.{AllLose, loses_referent}
-use Rattle.cg_machine.proofs.Starting.{frame_of, starts_either}
+use Rattle.cg_machine.proofs.Starting.{begun_frame, starts_either}
 
 -- no frame of the dying object itself runs
 abbrev pub is_frameless : DyingPhase → Bool
@@ -168,7 +168,7 @@ module _ (objects : List Object) (next : ℕ) where
 
   pub starts_going : (script : Script) (spec : FrameSpec) (u : World) → Waned Never objects u.objects → (let s : Transition = start_frame script spec u in Goes objects next s.0 s.1)
   starts_going script spec u waned = starts_either (Goes objects next) script spec u (steady (BudgetSpent ∷ []) (record u { outcome = BudgetIsSpent }) (other_line BudgetSpent tt) waned)
-      (λ some. steady (Enter spec.sort spec.subject ∷ []) (record u { budget = u.budget - 1; stack = frame_of script spec ∷ u.stack }) (other_line (Enter spec.sort spec.subject) tt) waned)
+      (λ some. steady (Enter spec.sort spec.subject ∷ []) (record u { budget = u.budget - 1; stack = begun_frame script spec ∷ u.stack }) (other_line (Enter spec.sort spec.subject) tt) waned)
 
   pub yields_going : (t : Transition) (events : List Event) (after : World) → Yields t events after → Goes objects next t.0 t.1 → Goes objects next events after
   yields_going t events after step h = subst (λ es. Goes objects next es after) (sym step.0) (subst (Goes objects next t.0) (sym step.1) h)
