@@ -32,7 +32,7 @@ module _ (limits : Limits) (n : Numbers) (budget : ℕ) (before after : List Obj
   continues_counts top a (CollectionGoesOn c d same begun early) = on_top limits n budget (Collecting d) below refl begun rest
 
   tops_count : (top : Activity) (tops : List Activity) → Tops before after top tops → Settled limits n budget (tops ++ below)
-  tops_count top tops (TopEnds a) = rest
+  tops_count top tops (TopEnds a gone) = rest
   tops_count top tops (GivesFunction f references few) = on_top limits n budget (Releasing references) below refl refl rest
   tops_count top tops (GivesReference o references) = on_top limits n budget (Releasing references) below refl refl rest
   tops_count top tops (BeginsDeath o references) = on_top limits n budget (Dying (record { object = o; phase = Finalizer })) (Releasing references ∷ below) refl refl (on_top limits n budget (Releasing references) below refl refl rest)

@@ -84,7 +84,7 @@ continues_alone before after top a (DeathClears o weak waiting weaks t first los
 continues_alone before after top a (CollectionGoesOn c d same begun early) = refl
 
 tops_alone : (before after : List Object) (top : Activity) (tops below : List Activity) → Tops before after top tops → is_collection top ≡ false → StartsAlone below (tops ++ below)
-tops_alone before after top tops below (TopEnds a) none = below_alone below
+tops_alone before after top tops below (TopEnds a gone) none = below_alone below
 tops_alone before after top tops below (GivesFunction f references few) none = with_alone (Releasing references) below below refl (below_alone below)
 tops_alone before after top tops below (GivesReference o references) none = with_alone (Releasing references) below below refl (below_alone below)
 tops_alone before after top tops below (BeginsDeath o references) none = with_alone (Dying (record { object = o; phase = Finalizer })) below (Releasing references ∷ below) refl (with_alone (Releasing references) below below refl (below_alone below))

@@ -9,7 +9,7 @@ use Rattle.cg_script.specs.declared.Script.{Script}
 use Rattle.cg_graph.specs.Member.{Includes}
 use Rattle.cg_graph.specs.Value.{entry_references, reference_in, references}
 use Rattle.cg_graph.specs.Object.{Object, change, entries_of, with_entries, without}
-use Rattle.cg_graph.proofs.Members.{either, Includes-append_cases, Includes-filter_cases, Includes-map_cases}
+use Rattle.cg_graph.proofs.Members.{either, Includes-append_cases, Includes-filter_cases, Includes-map, Includes-map_cases}
 use Rattle.cg_machine.specs.declared.event.Event.{Event}
 use Rattle.cg_machine.specs.declared.event.Event.TheVariants.{GcStop, Value}
 use Rattle.cg_machine.specs.declared.event.FrameSort.TheVariants.{Del, Legacy, Callback}
@@ -53,6 +53,7 @@ pub data IsMoved (top : Activity) (x y : Object) : Type 0 where
 pub record KeepsEntries (top : Activity) (x y : Object) : Type 0 where
   pub later : IsLater x y
   pub entries : y.entries ≡ x.entries
+  pub finalized : x.finalized ≡ true → y.finalized ≡ true
   pub moved : IsMoved top x y
 
 -- how the objects change
@@ -93,9 +94,14 @@ abbrev pub HoldsOn : List ℕ → Activity → Activity → Type 0
 HoldsOn given (Collecting c) a = (n : ℕ) → Includes (collect_holds c.phase) n → Includes given n ⊎ Includes (holds a) n
 HoldsOn given top a = Unit {0}
 
+-- one that ends holds nothing
+abbrev pub HoldsNone : Activity → Type 0
+HoldsNone (Collecting c) = collect_holds c.phase ≡ []
+HoldsNone top = Unit {0}
+
 -- what stands in place of the activity on top
 pub data Tops (before after : List Object) : Activity → List Activity → Type 0 where
-  TopEnds : (top : Activity) → Tops before after top []
+  TopEnds : (top : Activity) → HoldsNone top → Tops before after top []
   GivesFunction : (f : Frame) (references : List ℕ) → length references ≤ 1 → Tops before after (Framed f) (Releasing references ∷ [])
   GivesReference : (o : ℕ) (references : List ℕ) → Tops before after (Releasing (o ∷ references)) (Releasing references ∷ [])
   BeginsDeath : (o : ℕ) (references : List ℕ) → Tops before after (Releasing (o ∷ references)) (Dying (record { object = o; phase = Finalizer }) ∷ Releasing references ∷ [])
@@ -135,16 +141,17 @@ continues_idle before after a b (DeathGoesOn o phase next waits none) = refl
 continues_idle before after a b (DeathClears o weak waiting weaks t first lost) = refl
 continues_idle before after a b (CollectionGoesOn c d same begun early) = refl
 
--- where those come from that were changed where a test passes
-pub asides : (top : Activity) (f : Object → Object) (test : Object → Bool) (objects : List Object) → ((x : Object) → Includes objects x → test x ≡ true → KeepsEntries top x (f x))
-    → (y : Object) → Includes (map (λ x. if test x then f x else x) objects) y → (x : Object) × Includes objects x × KeepsEntries top x y
-asides top f test objects h y m =
-    let x = Includes-map_cases (λ x. if test x then f x else x) objects y m in
-    (x.0, x.1, subst (KeepsEntries top x.0) x.2 (one (test x.0) x.0 refl x.1))
-  where
-    one : (b : Bool) (x : Object) → test x ≡ b → Includes objects x → KeepsEntries top x (if b then f x else x)
-    one true x t k = h x k t
-    one false x t k = record { later = later_refl x; entries = refl; moved = StaysThere refl }
+-- where those come from that were changed where a test passes, and where they are
+module _ (top : Activity) (f : Object → Object) (test : Object → Bool) (objects : List Object) (h : (x : Object) → Includes objects x → test x ≡ true → KeepsEntries top x (f x)) where
+  aside_at : (b : Bool) (x : Object) → test x ≡ b → Includes objects x → KeepsEntries top x (if b then f x else x)
+  aside_at true x t k = h x k t
+  aside_at false x t k = record { later = later_refl x; entries = refl; finalized = λ e. e; moved = StaysThere refl }
+
+  pub asides : (y : Object) → Includes (map (λ x. if test x then f x else x) objects) y → (x : Object) × Includes objects x × KeepsEntries top x y
+  asides y m = let x = Includes-map_cases (λ x. if test x then f x else x) objects y m in (x.0, x.1, subst (KeepsEntries top x.0) x.2 (aside_at (test x.0) x.0 refl x.1))
+
+  pub asides_last : (x : Object) → Includes objects x → (y : Object) × Includes (map (λ x. if test x then f x else x) objects) y × KeepsEntries top x y
+  asides_last x m = (if test x then f x else x, Includes-map (λ x. if test x then f x else x) objects x m, aside_at (test x) x refl m)
 
 -- each object was there
 pub changed_origin : (top : Activity) (before after : List Object) → HasChanged top before after → (y : Object) → Includes after y → (x : Object) × Includes before x × IsLater x y

@@ -54,16 +54,16 @@ module _ (top : Activity) where
 -- objects that change place, mark or referent
 module _ (top : Activity) where
   moves : (p : Place) (o : ℕ) (objects : List Object) → ((x : Object) → x.serial ≡ o → IsMoved top x (with_place p x)) → HasChanged top objects (change (with_place p) o objects)
-  moves p o objects h = ChangesEach (with_place p) (λ x. x.serial == o) objects (λ x m t. record { later = place_later p x; entries = refl; moved = h x (eqb-true x.serial o t) })
+  moves p o objects h = ChangesEach (with_place p) (λ x. x.serial == o) objects (λ x m t. record { later = place_later p x; entries = refl; finalized = λ e. e; moved = h x (eqb-true x.serial o t) })
 
   untracks : (o : ℕ) (objects : List Object) → HasChanged top objects (change (with_place Untracked) o objects)
   untracks o objects = moves Untracked o objects (λ x e. IsUntracked refl)
 
   move_mark : (p : Place) (o : ℕ) (objects : List Object) → ((x : Object) → x.serial ≡ o → IsMoved top x (marked (with_place p x))) → HasChanged top objects (change (λ x. marked (with_place p x)) o objects)
-  move_mark p o objects h = ChangesEach (λ x. marked (with_place p x)) (λ x. x.serial == o) objects (λ x m t. record { later = record { serial = refl; code = refl; class = refl; referent = inl refl }; entries = refl; moved = h x (eqb-true x.serial o t) })
+  move_mark p o objects h = ChangesEach (λ x. marked (with_place p x)) (λ x. x.serial == o) objects (λ x m t. record { later = record { serial = refl; code = refl; class = refl; referent = inl refl }; entries = refl; finalized = λ e. refl; moved = h x (eqb-true x.serial o t) })
 
   loses : (weak : ℕ) (objects : List Object) → HasChanged top objects (loses_referent weak objects)
-  loses weak objects = ChangesEach (with_referent None) (λ x. x.serial == weak) objects (λ x m t. record { later = record { serial = refl; code = refl; class = refl; referent = inr refl }; entries = refl; moved = StaysThere refl })
+  loses weak objects = ChangesEach (with_referent None) (λ x. x.serial == weak) objects (λ x m t. record { later = record { serial = refl; code = refl; class = refl; referent = inr refl }; entries = refl; finalized = λ e. e; moved = StaysThere refl })
 
   all_lose : (wanted : Object → Bool) (weaks : List ℕ) (objects after : List Object) → AllLose wanted objects weaks after → HasChanged top objects after
   all_lose wanted [] objects after lose = subst (HasChanged top objects) (sym lose.1) (NothingChanges objects)
@@ -71,7 +71,7 @@ module _ (top : Activity) where
 
   -- a collection puts objects at places of its own
   sorts : (c : Collection) → top ≡ Collecting c → (p : Object → Place) (test : Object → Bool) (objects : List Object) → ((x : Object) → Includes objects x → test x ≡ true → IsPlaceIn c.generation (p x)) → HasChanged top objects (map (λ x. if test x then with_place (p x) x else x) objects)
-  sorts c is p test objects h = ChangesEach (λ x. with_place (p x) x) test objects (λ x m t. record { later = place_later (p x) x; entries = refl; moved = IsPlaced c is (h x m t) })
+  sorts c is p test objects h = ChangesEach (λ x. with_place (p x) x) test objects (λ x m t. record { later = place_later (p x) x; entries = refl; finalized = λ e. e; moved = IsPlaced c is (h x m t) })
 
   save_each : (keeps : List ℕ) (objects : List Object) → is_collection top ≡ true → HasChanged top objects (all_saved keeps objects)
   save_each [] objects h = NothingChanges objects
@@ -85,7 +85,7 @@ pub frame_end_advances : (script : Script) (f : Frame) (below : List Activity) (
 frame_end_advances script f below v = by_sort f.sort f.function
   where
     popped : Advance script v (Framed f) below (Leave ∷ []) (with_stack below v)
-    popped = Plainly [] v.objects v.numbers (Leave ∷ []) (TopEnds (Framed f)) (NothingChanges v.objects) SameCounts (one_line (Framed f) Leave tt)
+    popped = Plainly [] v.objects v.numbers (Leave ∷ []) (TopEnds (Framed f) tt) (NothingChanges v.objects) SameCounts (one_line (Framed f) Leave tt)
 
     by_sort : (sort : FrameSort) (function : Option ℕ) → Advance script v (Framed f) below (Leave ∷ []) (gives_up_function sort function (with_stack below v))
     by_sort Del function = popped
@@ -95,10 +95,10 @@ frame_end_advances script f below v = by_sort f.sort f.function
 
 -- a release
 pub released_advances : (script : Script) (references : List ℕ) (below : List Activity) (v : World) → (let t : Transition = released references below (with_stack (Releasing references ∷ below) v) in Advance script v (Releasing references) below t.0 t.1)
-released_advances script [] below v = Plainly [] v.objects v.numbers [] (TopEnds (Releasing [])) (NothingChanges v.objects) SameCounts (no_lines (Releasing []))
+released_advances script [] below v = Plainly [] v.objects v.numbers [] (TopEnds (Releasing []) tt) (NothingChanges v.objects) SameCounts (no_lines (Releasing []))
 released_advances script (o ∷ references) below v = either_way (Advance script v (Releasing (o ∷ references)) below) (not (is_dying now o) && (in_degree now o == 0)) ([], begin_death o now) ([], now)
     (Plainly (Dying (record { object = o; phase = Finalizer }) ∷ Releasing references ∷ []) (change dead o v.objects) v.numbers [] (BeginsDeath o references)
-    (ChangesEach dead (λ x. x.serial == o) v.objects (λ x m t. record { later = record { serial = refl; code = refl; class = refl; referent = inr refl }; entries = refl; moved = IsUntracked refl })) SameCounts (no_lines (Releasing (o ∷ references))))
+    (ChangesEach dead (λ x. x.serial == o) v.objects (λ x m t. record { later = record { serial = refl; code = refl; class = refl; referent = inr refl }; entries = refl; finalized = λ e. e; moved = IsUntracked refl })) SameCounts (no_lines (Releasing (o ∷ references))))
     (Plainly (Releasing references ∷ []) v.objects v.numbers [] (GivesReference o references) (NothingChanges v.objects) SameCounts (no_lines (Releasing (o ∷ references))))
   where
     now : World
@@ -137,7 +137,7 @@ module _ (script : Script) (o : ℕ) (below : List Activity) (v : World) where
   after_frame_advances : (phase next : DyingPhase) → Continues v.objects (change (with_place Untracked) o v.objects) (dying_now phase) (dying_now next) → DeathAdvances phase (after_frame o next below (at phase))
   after_frame_advances phase next c = either_way (Advance script v (dying_now phase) below) (in_degree (at next) o == 0) ([], with_change (with_place Untracked) o (at next)) (Alive o ∷ [], with_stack below (at phase))
       (goes_on phase next (change (with_place Untracked) o v.objects) c (untracks (dying_now phase) o v.objects))
-      (Plainly [] v.objects v.numbers (Alive o ∷ []) (TopEnds (dying_now phase)) (NothingChanges v.objects) SameCounts (one_line (dying_now phase) (Alive o) tt))
+      (Plainly [] v.objects v.numbers (Alive o ∷ []) (TopEnds (dying_now phase) tt) (NothingChanges v.objects) SameCounts (one_line (dying_now phase) (Alive o) tt))
 
   clearing_advances : (waiting weaks : List ℕ) → weak_references_if has_weak_references v.objects o ≡ weaks → DeathAdvances (Clearing waiting) (clear_one o waiting below (at (Clearing waiting)) weaks)
   clearing_advances waiting [] e = goes_on (Clearing waiting) (Calling waiting) v.objects (DeathGoesOn o (Clearing waiting) (Calling waiting) (λ n m. m) tt) (NothingChanges v.objects)
@@ -166,7 +166,7 @@ module _ (script : Script) (o : ℕ) (below : List Activity) (v : World) where
       (loses (dying_now Detaching) weak v.objects) SameCounts (one_line (dying_now Detaching) (Cleared weak) tt)
 
   emptying_advances : (m : Option Entry) → DeathAdvances Emptying (empty_one o below (at Emptying) m)
-  emptying_advances None = Plainly [] (without o v.objects) _ (Free o ∷ []) (TopEnds (dying_now Emptying)) (LosesObject o v.objects (OfEmptied o)) OneLess (one_line (dying_now Emptying) (Free o) tt)
+  emptying_advances None = Plainly [] (without o v.objects) _ (Free o ∷ []) (TopEnds (dying_now Emptying) tt) (LosesObject o v.objects (OfEmptied o)) OneLess (one_line (dying_now Emptying) (Free o) tt)
   emptying_advances (Some entry) = gives Emptying Emptying (entry_references entry) (change (with_entries (without_last (entries_of v.objects o))) o v.objects) (few_entry entry) (DeathGoesOn o Emptying Emptying (nothing Emptying) tt) (shortens (dying_now Emptying) o v.objects (OfEmptied o))
 
   pub dying_advances : (phase : DyingPhase) → DeathAdvances phase (dying script o phase below (at phase))
@@ -246,7 +246,7 @@ module _ (script : Script) (c : Collection) (below : List Activity) (v : World) 
   start_advances : (lines : List Event) (after : World) → StartStep script (with_phase Start) c below lines after → CollectionAdvances Start lines after
   start_advances lines after step = yielded Start (_, _) lines after step.lines step.world (Plainly (collecting (WeakClearing []) ∷ []) (sorted c.generation step.places now) (survived c.generation survivors (begun c.generation v.numbers)) _
       (TopGoesOn (collecting Start) (collecting (WeakClearing [])) (CollectionGoesOn (record c { phase = Start }) (record c { phase = WeakClearing [] }) refl refl (λ e s. tt)) (λ n m. absurd m))
-      (Followed v.objects now (sorted c.generation step.places now) (ChangesEach (λ x. with_place (merged_place c.generation x.place) x) (λ x. true) v.objects (λ x m t. record { later = place_later (merged_place c.generation x.place) x; entries = refl; moved = merges (collecting Start) (record c { phase = Start }) refl x })) (sorts (collecting Start) (record c { phase = Start }) refl step.places (is_at (Gen c.generation)) now placed_in))
+      (Followed v.objects now (sorted c.generation step.places now) (ChangesEach (λ x. with_place (merged_place c.generation x.place) x) (λ x. true) v.objects (λ x m t. record { later = place_later (merged_place c.generation x.place) x; entries = refl; finalized = λ e. e; moved = merges (collecting Start) (record c { phase = Start }) refl x })) (sorts (collecting Start) (record c { phase = Start }) refl step.places (is_at (Gen c.generation)) now placed_in))
       (BegunCounts (record c { phase = Start }) survivors refl refl few)
       (more_lines now_on (GcStart c.generation ∷ []) _ (one_line now_on (GcStart c.generation) tt) (more_lines now_on (lines_if (has_flag c.flags stats) (gens_line v.objects ∷ [])) _ (flagged_lines now_on (has_flag c.flags stats) _ (one_line now_on (gens_line v.objects) tt))
       (flagged_lines now_on (has_flag c.flags collectable) _ (lines_of now_on GcCollectable (λ o. tt) step.collectables)))))
@@ -338,7 +338,7 @@ module _ (script : Script) (c : Collection) (below : List Activity) (v : World) 
   empties_advances o (Some entry) = releases (Turn o) (Turn o) (entry_references entry) _ (few_entry entry) (refl, λ e s. absurd e, λ n m. inr m) (shortens (collecting (Turn o)) o v.objects (OfTurn (record c { phase = Turn o }) o refl))
 
   end_advances : (lines : List Event) (after : World) → EndStep script c below (with_phase Ending) lines after → CollectionAdvances Ending lines after
-  end_advances lines after step = yielded Ending (_, _) lines after step.lines step.world (Plainly [] _ v.numbers _ (TopEnds (collecting Ending))
+  end_advances lines after step = yielded Ending (_, _) lines after step.lines step.world (Plainly [] _ v.numbers _ (TopEnds (collecting Ending) refl)
       (Followed v.objects (all_saved step.keeps v.objects) _ (save_each (collecting Ending) step.keeps v.objects refl) (sorts (collecting Ending) (record c { phase = Ending }) refl (λ x. place) (is_at LegacyPlace) (all_saved step.keeps v.objects) (λ x m t. inr refl))) SameCounts
       (more_lines now_on (told ++ map GcSaved step.keeps) (stop ∷ asked) (more_lines now_on told (map GcSaved step.keeps) (flagged_lines now_on (has_flag c.flags uncollectable) _ (lines_of now_on GcUncollectable (λ o. tt) step.told)) (lines_of now_on GcSaved (λ o. tt) step.keeps))
       (more_lines now_on (stop ∷ []) asked (one_line now_on stop refl) (flagged_lines now_on c.asked _ (one_line now_on (Collected (c.collected + length step.told)) tt)))))

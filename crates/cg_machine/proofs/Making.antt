@@ -42,7 +42,7 @@ idle : (before after : List Object) (a b : Activity) → Continues before after 
 idle before after a b c = ap length (continues_idle before after a b c)
 
 pub tops_bring_none : (before after : List Object) (top : Activity) (tops below : List Activity) → Tops before after top tops → left_on (tops ++ below) ≡ left_on below
-tops_bring_none before after top tops below (TopEnds a) = omega arith
+tops_bring_none before after top tops below (TopEnds a gone) = omega arith
 tops_bring_none before after top tops below (GivesFunction f references few) = omega arith
 tops_bring_none before after top tops below (GivesReference o references) = omega arith
 tops_bring_none before after top tops below (BeginsDeath o references) = omega arith

@@ -53,7 +53,7 @@ popped_origin script objects a below h = record { commands = λ command m. h.com
 
 -- what stands in place of the activity on top has none
 tops_idle : (before after : List Object) (top : Activity) (tops below : List Activity) → Tops before after top tops → flat_map commands_on (tops ++ below) ≡ flat_map commands_on below
-tops_idle before after top tops below (TopEnds a) = refl
+tops_idle before after top tops below (TopEnds a gone) = refl
 tops_idle before after top tops below (GivesFunction f references few) = refl
 tops_idle before after top tops below (GivesReference o references) = refl
 tops_idle before after top tops below (BeginsDeath o references) = refl

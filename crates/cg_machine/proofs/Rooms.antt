@@ -48,7 +48,7 @@ popped (Collecting c) below h = h.1
 popped (ShuttingDown started) below h = h.1
 
 tops_room : (b budget : ℕ) (before after : List Object) (top : Activity) (tops below : List Activity) → Tops before after top tops → Room b budget (top ∷ below) → Room b budget (tops ++ below)
-tops_room b budget before after top tops below (TopEnds a) h = record { frames = omega (arith, h.frames); apart = popped a below h.apart }
+tops_room b budget before after top tops below (TopEnds a gone) h = record { frames = omega (arith, h.frames); apart = popped a below h.apart }
 tops_room b budget before after top tops below (GivesFunction f references few) h = record { frames = omega (arith, h.frames); apart = (omega (arith, few), h.apart.0, h.apart.1) }
 tops_room b budget before after top tops below (GivesReference o references) h = record { frames = omega (arith, h.frames); apart = (omega (arith, h.apart.0), h.apart.1, h.apart.2) }
 tops_room b budget before after top tops below (BeginsDeath o references) h = record { frames = omega (arith, h.frames); apart = (omega (arith, h.apart.0), h.apart.1, h.apart.2) }

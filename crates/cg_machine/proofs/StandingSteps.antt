@@ -132,7 +132,7 @@ module _ (script : Script) (below : List Activity) (v : World) (rises : Rises 1 
   continues_known after top a (CollectionGoesOn c d same begun early) k r = (tt, r)
 
   tops_known : (after : List Object) (top : Activity) (tops : List Activity) → Tops v.objects after top tops → IsKnown v.objects top below → AreKnown after below → AreKnown after (tops ++ below)
-  tops_known after top tops (TopEnds a) k r = r
+  tops_known after top tops (TopEnds a gone) k r = r
   tops_known after top tops (GivesFunction f references few) k r = (tt, r)
   tops_known after top tops (GivesReference o references) k r = (tt, r)
   tops_known after top tops (BeginsDeath o references) k r = (tt, (tt, r))

@@ -35,7 +35,7 @@ module _ (script : Script) (v : World) (c : Collection) (below : List Activity) 
       either m (λ i. let same : next ≡ d = cc in subst (λ (z : Collection). IsEarly z.phase) same (on (subst (λ (z : Collection). IsEarly z.phase) (sym is) early) (subst (λ (z : Collection). z.phase ≢ Split) (sym is) other))) (λ k. absurd (alone d k))
 
   tops_early : (before after : List Object) (top : Activity) (tops : List Activity) → Tops before after top tops → top ≡ Collecting c → AreEarly (tops ++ below)
-  tops_early before after top tops (TopEnds a) e = λ early other d m. absurd (alone d m)
+  tops_early before after top tops (TopEnds a gone) e = λ early other d m. absurd (alone d m)
   tops_early before after top tops (GivesFunction f references few) e = absurd (cc)
   tops_early before after top tops (GivesReference o references) e = absurd (cc)
   tops_early before after top tops (BeginsDeath o references) e = absurd (cc)

@@ -74,7 +74,7 @@ module _ (P : ℕ → ℕ → Type 0) where
     continues_waited top a (CollectionGoesOn c d same begun early) h = push_other (Collecting d) below (λ e i. cc) (pop top below h)
 
     tops_waited : (top : Activity) (tops : List Activity) → Tops objects after top tops → Waited (top ∷ below) → Waited (tops ++ below)
-    tops_waited top tops (TopEnds a) h = pop a below h
+    tops_waited top tops (TopEnds a gone) h = pop a below h
     tops_waited top tops (GivesFunction f references few) h = push_other (Releasing references) below (λ d e. cc) (pop top below h)
     tops_waited top tops (GivesReference o references) h = push_other (Releasing references) below (λ d e. cc) (pop top below h)
     tops_waited top tops (BeginsDeath o references) h = push_death o Finalizer (Releasing references ∷ below) (λ weak m. absurd m) (push_other (Releasing references) below (λ d e. cc) (pop top below h))

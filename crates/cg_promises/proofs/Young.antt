@@ -82,7 +82,7 @@ continues_young before after top a age (DeathClears o weak waiting weaks t first
 continues_young before after top a age (CollectionGoesOn b d same begun early) c e = let is : d.generation ≡ c.generation = cc in subst (λ n. n ≤ 2) (sym same ∙ is) (age b refl)
 
 tops_young : (before after : List Object) (top : Activity) (tops below : List Activity) → Tops before after top tops → AreYoung after → Young before (top ∷ below) → Young after (tops ++ below)
-tops_young before after top tops below (TopEnds a) young h = record { places = young; ages = λ c m. h.ages c (inr m) }
+tops_young before after top tops below (TopEnds a gone) young h = record { places = young; ages = λ c m. h.ages c (inr m) }
 tops_young before after top tops below (GivesFunction f references few) young h = turn_young top (Releasing references) below before after young (λ c e. cc) h
 tops_young before after top tops below (GivesReference o references) young h = turn_young top (Releasing references) below before after young (λ c e. cc) h
 tops_young before after top tops below (BeginsDeath o references) young h = push_young (Dying (record { object = o; phase = Finalizer })) (Releasing references ∷ below) after (λ c e. cc) (turn_young top (Releasing references) below before after young (λ c e. cc) h)

@@ -69,7 +69,7 @@ continues_idle before after top a (CollectionGoesOn c d same begun early) = (ref
 
 module _ (script : Script) (below : List Activity) (v : World) where
   stands : (top : Activity) → (commands_on top ≡ []) → (objects : List Object) (numbers : Numbers) (tops : List Activity) → Tops v.objects objects top tops → Burns (on top below v) (record v { objects = objects; numbers = numbers; stack = tops ++ below })
-  stands top none objects numbers tops (TopEnds a) = ends a none
+  stands top none objects numbers tops (TopEnds a gone) = ends a none
     where
       w : World
       w = record v { objects = objects; numbers = numbers; stack = below }
