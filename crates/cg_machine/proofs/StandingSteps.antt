@@ -142,14 +142,18 @@ module _ (script : Script) (below : List Activity) (v : World) (rises : Rises 1 
   frame_known : (after : List Object) (top a : Activity) (spec : FrameSpec) → FrameOf v.objects after top a spec → HasChanged top v.objects after → HasOrder (on top below v) → KnowsFunction after spec.sort spec.subject spec.func (a ∷ below)
   frame_known after top a spec (OfFinalizer o p) c h = refl
   frame_known after top a spec (OfLegacy o p) c h = refl
-  frame_known after top a spec (OfCallback weak p waits held) c h = (called, refl, record {
-    functions = λ y m e.
-        let x = changed_origin top v.objects after c y m in
-        let code : y.code ≡ x.0.code = x.2.code in
-        let same : is_function y ≡ is_function x.0 = cc in
-        same ∙ callback_functions (on top below v) rises h weak waits_there x.0 x.1 (sym x.2.serial ∙ e);
-    held = either held (λ m. inl (Includes-append_left (holds a) (flat_map holds below) called m)) (λ m. inr (Includes-append_left (waits_of a) (all_waits below) weak m.0, subst (λ os. HoldsIn os weak called) (sym m.1) (callback_held (on top below v) rises h weak waits_there)));
-  })
+  frame_known after top a spec (OfCallback weak p waits held) c h = (
+    called,
+    refl,
+    record {
+      functions = λ y m e.
+          let x = changed_origin top v.objects after c y m in
+          let code : y.code ≡ x.0.code = x.2.code in
+          let same : is_function y ≡ is_function x.0 = cc in
+          same ∙ callback_functions (on top below v) rises h weak waits_there x.0 x.1 (sym x.2.serial ∙ e);
+      held = either held (λ m. inl (Includes-append_left (holds a) (flat_map holds below) called m)) (λ m. inr (Includes-append_left (waits_of a) (all_waits below) weak m.0, subst (λ os. HoldsIn os weak called) (sym m.1) (callback_held (on top below v) rises h weak waits_there)));
+    },
+  )
     where
       called : ℕ
       called = unwrap_or (callback_of v.objects weak) 0

@@ -35,9 +35,9 @@ pub starts_none : (script : Script) (spec : FrameSpec) (u : World) (events : Lis
 starts_none script spec u events after step quiet running = starts_either (λ es w. events ≡ es → after ≡ w → ⊥) script spec u
     (λ e k. let no : BudgetIsSpent ≡ Running = sym (ap (λ (z : World). z.outcome) k) ∙ running in cc)
     (λ some e k.
-        let none : count_by is_enter (Enter spec.sort spec.subject ∷ []) ≡ 0 = ap (count_by is_enter) (sym e) ∙ quiet in
-        let one : count_by is_enter (Enter spec.sort spec.subject ∷ []) ≡ 1 + count_by is_enter [] = sum_by-cons (λ x. cond (is_enter x) 1 0) (Enter spec.sort spec.subject) [] in
-        omega (arith, none, one)) step.0 step.1
+    let none : count_by is_enter (Enter spec.sort spec.subject ∷ []) ≡ 0 = ap (count_by is_enter) (sym e) ∙ quiet in
+    let one : count_by is_enter (Enter spec.sort spec.subject ∷ []) ≡ 1 + count_by is_enter [] = sum_by-cons (λ x. cond (is_enter x) 1 0) (Enter spec.sort spec.subject) [] in
+    omega (arith, none, one)) step.0 step.1
 
 module _ (script : Script) (kept : ℕ → Type 0) (start : List Object) (below : List Activity) (v : World) (rises : Rises 1 v.next_serial v.objects) (held : (o : ℕ) → kept o → IsKeptBy kept start v.names below o) (there : (o : ℕ) → kept o → (x : Object) × Includes start x × (x.serial ≡ o))
     (lives : (x : Object) → Includes start x → kept x.serial → (y : Object) × Includes v.objects y × Fares x y) where
