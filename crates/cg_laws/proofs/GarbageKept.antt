@@ -1,14 +1,14 @@
 -- What no step but a collection's does to the garbage list: it stays an untracked list, and names nothing that it did not name.
-use Rattle.std.proofs.Common.{◌≡◌, ◌≢◌, refl, sym, ◌∙◌, ap, subst, ℕ, Bool, true, false, not, List, [], ◌∷◌, ◌++◌, map, None}
-use Rattle.std.specs.Prelude.{◌==◌, if◌then◌else◌}
+use Rattle.std.proofs.Common.{◌≡◌, ◌≢◌, refl, sym, ◌∙◌, ap, subst, ℕ, Bool, true, false, not, List, [], ◌∷◌, ◌++◌, map, Option, Some, None}
+use Rattle.std.specs.Prelude.{◌==◌, if◌then◌else◌, option_map, unwrap_or}
 use Rattle.std.proofs.lemmas.Bool.{eqb-true}
 use Rattle.cg_value.specs.declared.Place.{Place}
 use Rattle.cg_value.specs.declared.Place.TheVariants.{Untracked}
 use Rattle.cg_graph.specs.Member.{Includes}
 use Rattle.cg_graph.specs.Value.{references}
-use Rattle.cg_graph.specs.Object.{Object, change, without, with_place, with_referent}
+use Rattle.cg_graph.specs.Object.{Object, change, entries_of, object_at, without, with_place}
 use Rattle.cg_graph.proofs.Members.{either, Includes-append_cases, Includes-map_cases, Includes-filter_cases}
-use Rattle.cg_machine.specs.Weak.{loses_referent}
+use Rattle.cg_machine.proofs.Lookups.{found_at}
 use Rattle.cg_laws.specs.Apart.{IsGarbageList}
 
 -- the garbage list is an untracked list
@@ -18,6 +18,14 @@ HasGarbageList objects = (x : Object) → Includes objects x → x.serial ≡ 1 
 -- it does not name an object
 abbrev pub NamesNot : List Object → ℕ → Type 0
 NamesNot objects o = (x : Object) → Includes objects x → x.serial ≡ 1 → ¬ Includes (references x.entries) o
+
+-- what the garbage list names, by its entries and by its objects
+pub entries_name_not : (objects : List Object) (o : ℕ) → NamesNot objects o → ¬ Includes (references (entries_of objects 1)) o
+entries_name_not objects o h = go (object_at objects 1) refl
+  where
+    go : (m : Option Object) → object_at objects 1 ≡ m → ¬ Includes (references (unwrap_or (option_map (λ (x : Object). x.entries) m) [])) o
+    go None e k = k
+    go (Some x) e k = let found = found_at objects 1 x e in h x found.0 found.1 k
 
 -- what the garbage list is after a step: of the same kind, untracked where it was, and without new names
 pub record IsOfList (before : List Object) (y : Object) : Type 0 where
@@ -54,15 +62,6 @@ list_kept f s objects same keeps y m e =
 pub other_kept : (f : Object → Object) (s : ℕ) (objects : List Object) → ((x : Object) → (f x).serial ≡ x.serial) → s ≢ 1 → KeepsList objects (change f s objects)
 other_kept f s objects same apart = list_kept f s objects same (λ x m i e. absurd (apart (sym i ∙ e)))
 
-pub untracked_kept : (s : ℕ) (objects : List Object) → KeepsList objects (change (with_place Untracked) s objects)
-untracked_kept s objects = list_kept (with_place Untracked) s objects (λ x. refl) (λ x m i e. record { was = x; member = m; serial = e; code = refl; place = λ p. refl; names = λ o h. h x m e })
-
-pub dead_kept : (s : ℕ) (objects : List Object) → KeepsList objects (change (λ x. with_referent None (with_place Untracked x)) s objects)
-dead_kept s objects = list_kept (λ x. with_referent None (with_place Untracked x)) s objects (λ x. refl) (λ x m i e. record { was = x; member = m; serial = e; code = refl; place = λ p. refl; names = λ o h. h x m e })
-
-pub lost_kept : (s : ℕ) (objects : List Object) → KeepsList objects (loses_referent s objects)
-lost_kept s objects = list_kept (with_referent None) s objects (λ x. refl) (λ x m i e. record { was = x; member = m; serial = e; code = refl; place = λ p. p; names = λ o h. h x m e })
-
 pub without_kept : (s : ℕ) (objects : List Object) → KeepsList objects (without s objects)
 without_kept s objects y m e = same_list objects y (Includes-filter_cases (λ x. not (x.serial == s)) objects y m).0 e
 
@@ -78,3 +77,9 @@ places_kept f objects still y m e =
 -- an object is made
 pub new_kept : (objects : List Object) (new : Object) → new.serial ≢ 1 → KeepsList objects (objects ++ new ∷ [])
 new_kept objects new apart y m e = either (Includes-append_cases objects (new ∷ []) y m) (λ k. same_list objects y k e) (λ k. either k (λ i. absurd (apart (ap (λ (z : Object). z.serial) i ∙ e))) (λ n. absurd n))
+
+pub list_trans : (before now after : List Object) → KeepsList before now → KeepsList now after → KeepsList before after
+list_trans before now after h k z m e =
+    let y = k z m e in
+    let x = h y.was y.member y.serial in
+    record { was = x.was; member = x.member; serial = x.serial; code = y.code ∙ x.code; place = λ p. y.place (x.place p); names = λ o n. y.names o (names_no_more before now h o n) }

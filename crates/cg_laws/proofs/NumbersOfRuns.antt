@@ -7,12 +7,12 @@ use Rattle.std.proofs.lemmas.Nat.{mul-le}
 use Rattle.cg_script.specs.declared.Script.{Script}
 use Rattle.cg_script.specs.declared.Command.{Command}
 use Rattle.cg_graph.specs.Object.{Object}
+use Rattle.cg_machine.specs.declared.event.Event.{Event}
 use Rattle.cg_machine.specs.declared.event.FrameSort.TheVariants.{Call as CallFrame}
 use Rattle.cg_machine.specs.World.{World, Numbers, Activity, TopLevel, Framed, Releasing, Dying, Collecting, Collection, Start, opening, push, with_stack, ShuttingDown}
 use Rattle.cg_machine.specs.Program.{body_of, commands_of}
 use Rattle.cg_machine.specs.Holdings.{is_collecting}
-use Rattle.cg_machine.specs.Frame.{procedure_of, start_frame, frame_end, released}
-use Rattle.cg_machine.specs.Dying.{dying}
+use Rattle.cg_machine.specs.Frame.{procedure_of, start_frame}
 use Rattle.cg_machine.specs.Effects.{Changes}
 use Rattle.cg_machine.specs.Commands.{new_collection}
 use Rattle.cg_machine.specs.Due.{due, due_generation, is_due}
@@ -27,7 +27,9 @@ use Rattle.cg_machine.proofs.Ending.{sound_after}
 use Rattle.cg_machine.proofs.Sound.{opening_sound}
 use Rattle.cg_laws.specs.Few.{AreFew, NumbersAreFew}
 use Rattle.cg_laws.proofs.Numbers.{CountsOne, Limits, Settled, StartsSettled, asked_settles, due_settles, shape_counts, off_top, raised, full_settles}
-use Rattle.cg_laws.proofs.Counting.{IsSettled, dying_counts, frame_end_counts, phase_counts, released_counts, starts_counts}
+use Rattle.cg_machine.proofs.Advances.{Advance}
+use Rattle.cg_machine.proofs.Advancing.{frame_end_advances, released_advances, dying_advances, phase_advances}
+use Rattle.cg_laws.proofs.Counting.{IsSettled, advance_counts, starts_counts}
 
 -- What holds between steps. A collection on top that is about to start leaves the numbers settled too.
 pub record CountedAt (limits : Limits) (n : Numbers) (budget : ℕ) (c : Collection) (below : List Activity) : Type 0 where
@@ -56,8 +58,8 @@ counted_now limits n budget (Collecting c ∷ below) h = (below, h.now)
 counted_now limits n budget stack h = (stack, h)
 
 -- a step leaves a settled world
-settles : (limits : Limits) (after next : World) → after ≡ next → IsSettled limits next → IsCounted limits after
-settles limits after next e h = subst (IsCounted limits) (sym e) (settled_counted limits next.numbers next.budget next.stack h)
+counted : (limits : Limits) (after : World) → IsSettled limits after → IsCounted limits after
+counted limits after s = settled_counted limits after.numbers after.budget after.stack s
 
 -- A command is done, which counts one object at most, or asks for a collection.
 module _ (limits : Limits) (script : Script) (short : (p : ℕ) → length (body_of script p) ≤ limits.longest) (a : Activity) (below : List Activity) (v : World) (ha : HasCommands a) (h : Settled limits (raised v.numbers) v.budget (a ∷ below)) where
@@ -86,17 +88,14 @@ module _ (limits : Limits) (script : Script) (short : (p : ℕ) → length (body
   emptied_counts (ShuttingDown started) same k = fewer (ShuttingDown started) (omega arith) (ap is_starting same)
   emptied_counts top same k = absurd k
 
-  counted : (after : World) → IsSettled limits after → IsCounted limits after
-  counted after s = settled_counted limits after.numbers after.budget after.stack s
-
   command_counts : (w : World) (command : Command) → CommandSteps script (λ w events. IsCounted limits) w command now a below
   command_counts w command = record {
-    stays = λ lines answers. counted now stays;
-    stops = λ lines answers. counted (on (emptied a) below v) (emptied_counts a refl ha);
+    stays = λ lines answers. counted limits now stays;
+    stops = λ lines answers. counted limits (on (emptied a) below v) (emptied_counts a refl ha);
     changes = λ wants_memory lines given_up after shape.
         let l = changes_leave now command wants_memory lines given_up after shape in
-        counted (push (Releasing given_up) after) (gives_up given_up after l.stack l.budget (shape_counts now command (Changes wants_memory lines given_up after) shape));
-    calls = λ f k. counted (start_frame script (record { sort = CallFrame; proc = procedure_of now f.serial; subject = f.serial; func = Some f.serial }) now).1 (starts_counts limits script (record { sort = CallFrame; proc = procedure_of now f.serial; subject = f.serial; func = Some f.serial }) now (short (procedure_of now f.serial)) stays);
+        counted limits (push (Releasing given_up) after) (gives_up given_up after l.stack l.budget (shape_counts now command (Changes wants_memory lines given_up after) shape));
+    calls = λ f k. counted limits (start_frame script (record { sort = CallFrame; proc = procedure_of now f.serial; subject = f.serial; func = Some f.serial }) now).1 (starts_counts limits script (record { sort = CallFrame; proc = procedure_of now f.serial; subject = f.serial; func = Some f.serial }) now (short (procedure_of now f.serial)) stays);
     asks = λ g low e. record { now = stays; soon = λ first. asked_settles limits v.numbers v.budget (a ∷ below) g h };
   }
 
@@ -124,6 +123,10 @@ taken limits command a b below v (FromFrame f commands left) h =
 
 -- any step
 module _ (limits : Limits) (script : Script) (short : (p : ℕ) → length (body_of script p) ≤ limits.longest) where
+  advances : (top : Activity) (below : List Activity) (v : World) → length v.objects ≤ limits.objects → Settled limits v.numbers v.budget below → ((c : Collection) → top ≡ Collecting c → c.phase ≡ Start → StartsSettled limits v.numbers v.budget below c.generation)
+      → (lines : List Event) (after : World) → Advance script v top below lines after → IsCounted limits after
+  advances top below v fit rest soon lines after step = counted limits after (advance_counts limits script top below v short fit rest soon lines after step)
+
   keeps_counted : Steps script (λ w. (length w.objects ≤ limits.objects) × IsCounted limits w) (λ w events. IsCounted limits)
   keeps_counted = record {
     starts_due = λ a below v ha g e k. due_counts limits (on a below v) (on_commands limits a below v ha k.1) g e;
@@ -134,10 +137,10 @@ module _ (limits : Limits) (script : Script) (short : (p : ℕ) → length (body
         let now : Settled limits v.numbers v.budget (ShuttingDown true ∷ below) = record { spent = k.1.spent; within = omega (arith, k.1.within); pending = k.1.pending; total = k.1.total; still = k.1.still } in
         record { now = now; soon = λ first. full_settles limits v.numbers v.budget (ShuttingDown true ∷ below) now };
     commands = λ command a b below v takes hb k. command_counts limits script short b below v hb (taken limits command a b below v takes k.1) (on a below v) command;
-    frame_ends = λ f below v left k. settles limits (frame_end f (with_stack below v)).1 (frame_end f (with_stack below v)).1 refl (frame_end_counts limits f below v k.1);
-    releases = λ references below v k. settles limits (released references below (on (Releasing references) below v)).1 (released references below (on (Releasing references) below v)).1 refl (released_counts limits references below v k.1);
-    dies = λ d below v k. settles limits (dying script d.object d.phase below (on (Dying d) below v)).1 (dying script d.object d.phase below (on (Dying d) below v)).1 refl (dying_counts limits script d.object below v short (off_top limits v.numbers v.budget (Dying d) below k.1) d.phase);
-    collects = λ c below v events after step k. settled_counted limits after.numbers after.budget after.stack (phase_counts limits script c below v short k.1.now k.0 c.phase k.1.soon events after step);
+    frame_ends = λ f below v left k. advances (Framed f) below v k.0 (off_top limits v.numbers v.budget (Framed f) below k.1) (λ c e. cc) _ _ (frame_end_advances script f below v);
+    releases = λ references below v k. advances (Releasing references) below v k.0 (off_top limits v.numbers v.budget (Releasing references) below k.1) (λ c e. cc) _ _ (released_advances script references below v);
+    dies = λ d below v k. advances (Dying d) below v k.0 (off_top limits v.numbers v.budget (Dying d) below k.1) (λ c e. cc) _ _ (dying_advances script d.object below v d.phase);
+    collects = λ c below v events after step k. advances (Collecting c) below v k.0 k.1.now (λ d e. subst (λ (z : Collection). z.phase ≡ Start → StartsSettled limits v.numbers v.budget below z.generation) (let same : c ≡ d = cc in same) k.1.soon) events after (phase_advances script c below v c.phase events after step);
   }
 
 -- serials rise, so there are fewer objects than serials

@@ -1,5 +1,5 @@
 -- What the steps of a collection keep of the objects: each stands rightly, and the garbage list stays untracked.
-use Rattle.std.proofs.Common.{◌≡◌, ◌≢◌, refl, sym, ◌∙◌, ap, subst, ℕ, ◌-◌, ◌≤◌, Bool, true, false, cond, inl, inr, List, [], ◌∷◌, map, Some, None, arith}
+use Rattle.std.proofs.Common.{◌≡◌, ◌≢◌, refl, sym, ◌∙◌, ap, subst, ℕ, ◌≤◌, Bool, true, false, cond, inl, inr, List, [], ◌∷◌, map, Some, None, arith}
 use Rattle.std.specs.Prelude.{◌==◌, if◌then◌else◌, count_by, option_map, unwrap_or}
 use Rattle.std.specs.List.{list_any}
 use Rattle.std.proofs.lemmas.List.Sums.{sum_by-cons}
@@ -10,16 +10,15 @@ use Rattle.cg_graph.specs.Member.{Includes}
 use Rattle.cg_graph.specs.Value.{references}
 use Rattle.cg_graph.specs.Object.{Object, object_at, entries_of, is_at, same_place, with_place, with_referent, objects_at, serials_at}
 use Rattle.cg_graph.proofs.Members.{either, Includes-map_cases, Includes-filter_cases}
-use Rattle.cg_machine.specs.declared.event.Event.TheVariants.{Enter, BudgetSpent}
 use Rattle.cg_machine.specs.declared.event.FrameSpec.{FrameSpec}
-use Rattle.cg_machine.specs.Program.{body_of}
-use Rattle.cg_machine.specs.World.{World, Activity, Framed, Releasing, Collecting, Collection, CollectPhase, BudgetIsSpent, push}
+use Rattle.cg_machine.specs.World.{World, Activity, Releasing, Collecting, Collection, CollectPhase, push}
 use Rattle.cg_machine.specs.Holdings.{is_collection}
-use Rattle.cg_machine.specs.Frame.{Transition, start_frame}
+use Rattle.cg_machine.specs.Frame.{start_frame}
 use Rattle.cg_machine.specs.Weak.{loses_referent}
 use Rattle.cg_machine.specs.Laws.{IsOfCollection}
 use Rattle.cg_machine.specs.Collect.{collection_at}
 use Rattle.cg_laws.specs.Apart.{StandsRightly, IsFound, IsGarbageList, handles, IsApart}
+use Rattle.cg_machine.proofs.Starting.{begun_frame, starts_either}
 
 -- the objects while a collection is at a phase
 pub record AreApart (objects : List Object) (phase : CollectPhase) : Type 0 where
@@ -70,17 +69,11 @@ restands phase next objects unhandled right h = record { garbage = h.garbage; ri
 
 -- a frame starts
 pub starts_apart : (script : Script) (spec : FrameSpec) (u : World) → IsApart u → IsApart (start_frame script spec u).1
-starts_apart script spec u h = go (u.budget == 0)
+starts_apart script spec u h = starts_either (λ lines. IsApart) script spec u (record { garbage = h.garbage; clear = h.clear; phases = h.phases; unhandled = h.unhandled; unsaved = h.unsaved })
+    (λ some. record { garbage = h.garbage; clear = h.clear; phases = λ c m. h.phases c (below c m); unhandled = λ c m. h.unhandled c (below c m); unsaved = h.unsaved })
   where
-    frame : Activity
-    frame = Framed (record { sort = spec.sort; subject = spec.subject; function = spec.func; commands = body_of script spec.proc })
-
-    below : (c : Collection) → Includes (frame ∷ u.stack) (Collecting c) → Includes u.stack (Collecting c)
-    below c m = either m (λ e. absurd (let no : frame ≡ Collecting c = e in cc)) (λ k. k)
-
-    go : (b : Bool) → (let t : Transition = if b then (BudgetSpent ∷ [], record u { outcome = BudgetIsSpent }) else (Enter spec.sort spec.subject ∷ [], record u { budget = u.budget - 1; stack = frame ∷ u.stack }) in IsApart t.1)
-    go true = record { garbage = h.garbage; clear = h.clear; phases = h.phases; unhandled = h.unhandled; unsaved = h.unsaved }
-    go false = record { garbage = h.garbage; clear = h.clear; phases = λ c m. h.phases c (below c m); unhandled = λ c m. h.unhandled c (below c m); unsaved = h.unsaved }
+    below : (c : Collection) → Includes (begun_frame script spec ∷ u.stack) (Collecting c) → Includes u.stack (Collecting c)
+    below c m = either m (λ e. absurd (cc)) (λ k. k)
 
 -- something is given up
 pub gives_up_apart : (given_up : List ℕ) (u : World) → IsApart u → IsApart (push (Releasing given_up) u)

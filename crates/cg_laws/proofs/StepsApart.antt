@@ -1,5 +1,5 @@
 -- A step that is no collection's leaves each object that is set apart where it stood.
-use Rattle.std.proofs.Common.{◌≡◌, ◌≢◌, refl, sym, ◌∙◌, ap, subst, ℕ, Bool, true, false, inr, List, [], ◌∷◌, ◌++◌, Option, Some, None}
+use Rattle.std.proofs.Common.{◌≡◌, ◌≢◌, sym, ◌∙◌, ap, subst, ℕ, Bool, true, false, inr, List, [], ◌∷◌, ◌++◌, Option, Some}
 use Rattle.std.specs.Prelude.{◌||◌, option_map, unwrap_or}
 use Rattle.std.specs.List.{list_any}
 use Rattle.cg_value.specs.declared.Place.{Place}
@@ -12,9 +12,9 @@ use Rattle.cg_machine.specs.World.{World, Activity, Collecting, CollectPhase, St
 use Rattle.cg_machine.specs.Holdings.{is_collection, is_collecting}
 use Rattle.cg_machine.specs.Laws.{IsOfCollection, HadItsPlace, LeavesBelow}
 use Rattle.cg_machine.proofs.Serials.{Rises}
-use Rattle.cg_machine.proofs.Lookups.{found_at, at_member}
+use Rattle.cg_machine.proofs.Lookups.{at_member}
 use Rattle.cg_laws.specs.Apart.{IsInWeakPhase, IsInLatePhase, StandsRightly, IsFound, handles, IsApart}
-use Rattle.cg_laws.proofs.GarbageKept.{NamesNot, list_stays, names_no_more}
+use Rattle.cg_laws.proofs.GarbageKept.{NamesNot, entries_name_not, list_stays, names_no_more}
 use Rattle.cg_laws.proofs.StepsPlain.{IsPlain}
 
 -- what is found is set apart
@@ -28,14 +28,7 @@ found_is_apart Frozen h = absurd h
 found_is_apart Back h = absurd h
 found_is_apart Pend h = absurd h
 
--- what the garbage list names, by its entries and by its objects
-pub entries_name_not : (objects : List Object) (o : ℕ) → NamesNot objects o → ¬ Includes (references (entries_of objects 1)) o
-entries_name_not objects o h = go (object_at objects 1) refl
-  where
-    go : (m : Option Object) → object_at objects 1 ≡ m → ¬ Includes (references (unwrap_or (option_map (λ (x : Object). x.entries) m) [])) o
-    go None e k = k
-    go (Some x) e k = let found = found_at objects 1 x e in h x found.0 found.1 k
-
+-- what the garbage list names, by its objects
 pub objects_name_not : (high : ℕ) (objects : List Object) (o : ℕ) → Rises 1 high objects → (¬ Includes (references (entries_of objects 1)) o) → NamesNot objects o
 objects_name_not high objects o rises h x m e k =
     let at : object_at objects 1 ≡ Some x = subst (λ s. object_at objects s ≡ Some x) e (at_member 1 high objects x rises m) in

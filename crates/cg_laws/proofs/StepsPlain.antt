@@ -1,34 +1,31 @@
 -- A step that is no collection's puts no collection on the stack but one that is to start where none was, and keeps the garbage list.
-use Rattle.std.proofs.Common.{◌≡◌, ◌≢◌, refl, sym, ◌∙◌, ap, subst, ℕ, ◌<◌, ◌-◌, Bool, true, false, not, inl, inr, ◌⊎◌, List, [], ◌∷◌, ◌++◌, Option, Some, None}
-use Rattle.std.specs.Prelude.{◌==◌, ◌&&◌, if◌then◌else◌, is_some, option_to_list, option_and_then, unwrap_or}
+use Rattle.std.proofs.Common.{◌≡◌, ◌≢◌, refl, sym, ◌∙◌, ap, subst, ℕ, ◌<◌, Bool, true, false, not, inl, inr, ◌⊎◌, List, [], ◌∷◌, ◌++◌, Some, None}
+use Rattle.std.specs.Prelude.{◌&&◌, if◌then◌else◌}
 use Rattle.std.specs.List.{list_any}
-use Rattle.cg_value.specs.declared.Entry.{Entry}
-use Rattle.cg_value.specs.declared.Place.TheVariants.{Untracked, Gen}
+use Rattle.cg_value.specs.declared.Place.TheVariants.{Untracked}
 use Rattle.cg_script.specs.declared.Script.{Script}
 use Rattle.cg_script.specs.declared.Command.{Command}
 use Rattle.cg_graph.specs.Member.{Includes}
-use Rattle.cg_graph.specs.Value.{entry_references, last_entry, without_last}
-use Rattle.cg_graph.specs.Object.{Object, object_at, change, entries_of, with_place, with_entries, marked}
+use Rattle.cg_graph.specs.Value.{references}
+use Rattle.cg_graph.specs.Object.{Object, entries_of, with_entries}
 use Rattle.cg_graph.proofs.Members.{either}
 use Rattle.cg_machine.specs.declared.event.Event.{Event}
-use Rattle.cg_machine.specs.declared.event.Event.TheVariants.{Alive, Enter, BudgetSpent}
-use Rattle.cg_machine.specs.declared.event.FrameSort.{FrameSort}
-use Rattle.cg_machine.specs.declared.event.FrameSort.TheVariants.{Del, Legacy, Callback, Call as CallFrame}
+use Rattle.cg_machine.specs.declared.event.FrameSort.TheVariants.{Del, Call as CallFrame}
 use Rattle.cg_machine.specs.declared.event.FrameSpec.{FrameSpec}
-use Rattle.cg_machine.specs.Program.{body_of, legacy_of}
-use Rattle.cg_machine.specs.World.{World, Activity, TopLevel, Framed, Releasing, Dying, Collecting, Frame, DyingPhase, Finalizer, AfterFinalizer, Clearing, Calling, AfterCall, LegacyFinalizer, AfterLegacy, Detaching, Emptying, Collection, Start, BudgetIsSpent, with_stack, with_change, ShuttingDown}
-use Rattle.cg_machine.specs.Holdings.{is_collection, is_collecting, in_degree, is_dying}
-use Rattle.cg_machine.specs.Frame.{Transition, start_frame, frame_end, gives_up_function, begin_death, released, procedure_of}
-use Rattle.cg_machine.specs.Weak.{has_weak_references, weak_references_if, loses_referent, callback_of}
-use Rattle.cg_machine.specs.Dying.{death_at, has_finalizers, finalizer_to_run, run_finalizer, run_legacy, after_frame, clear_one, call_one, detach_one, empty_one, dying}
+use Rattle.cg_machine.specs.World.{World, Activity, TopLevel, Framed, Releasing, Dying, Collecting, Finalizer, Collection, Start, with_stack, ShuttingDown}
+use Rattle.cg_machine.specs.Holdings.{is_collection, is_collecting}
+use Rattle.cg_machine.specs.Frame.{start_frame, procedure_of}
 use Rattle.cg_machine.specs.Effects.{Changes}
 use Rattle.cg_machine.specs.Commands.{new_collection}
 use Rattle.cg_machine.specs.Due.{due, is_due, due_generation}
 use Rattle.cg_machine.specs.Run.{Step}
 use Rattle.cg_machine.proofs.ShapeLaws.{changes_leave}
 use Rattle.cg_machine.proofs.Unheld.{Calm}
+use Rattle.cg_machine.proofs.Advances.{Advance, Plainly, WithFrame, HasChanged, NothingChanges, ChangesEach, LosesEntries, GetsEntry, LosesObject, Followed, IsMoved, StaysThere, IsUntracked, IsRevived, IsPlaced, Finalizes, Soon, Late, asides, Continues, DeathGoesOn, DeathClears, CollectionGoesOn, Tops, TopEnds, GivesFunction, GivesReference, BeginsDeath, TopGoesOn, GivesReferences, fewer_references}
+use Rattle.cg_machine.proofs.Starting.{begun_frame, starts_either}
+use Rattle.cg_machine.proofs.Advancing.{frame_end_advances, released_advances, dying_advances, phase_advances}
 use Rattle.cg_machine.proofs.Invariants.{HasCommands, emptied, on, CommandSteps, Steps, any_step, del_shaped, last_has}
-use Rattle.cg_laws.proofs.GarbageKept.{HasGarbageList, KeepsList, same_list, list_kept, other_kept, untracked_kept, dead_kept, lost_kept, without_kept}
+use Rattle.cg_laws.proofs.GarbageKept.{HasGarbageList, KeepsList, entries_name_not, same_list, list_kept, list_trans, without_kept}
 use Rattle.cg_laws.proofs.GarbageCommands.{shape_kept}
 use Rattle.cg_script.specs.declared.Command.TheVariants.{Del}
 use Rattle.cg_machine.proofs.Sound.{HasBottom}
@@ -50,106 +47,54 @@ pub record IsPlain (objects : List Object) (below : List Activity) (after : Worl
 
 -- a frame starts
 starts_plain : (script : Script) (spec : FrameSpec) (objects : List Object) (below : List Activity) (u : World) → IsPlain objects below u → IsPlain objects below (start_frame script spec u).1
-starts_plain script spec objects below u h = go (u.budget == 0)
-  where
-    frame : Activity
-    frame = Framed (record { sort = spec.sort; subject = spec.subject; function = spec.func; commands = body_of script spec.proc })
+starts_plain script spec objects below u h = starts_either (λ lines. IsPlain objects below) script spec u (record { stack = h.stack; list = h.list }) (λ some. record { stack = with_alone (begun_frame script spec) below u.stack refl h.stack; list = h.list })
 
-    go : (b : Bool) → (let t : Transition = if b then (BudgetSpent ∷ [], record u { outcome = BudgetIsSpent }) else (Enter spec.sort spec.subject ∷ [], record u { budget = u.budget - 1; stack = frame ∷ u.stack }) in IsPlain objects below t.1)
-    go true = record { stack = h.stack; list = h.list }
-    go false = record { stack = with_alone frame below u.stack refl h.stack; list = h.list }
+-- what dies is not the garbage list
+finalizes_other : (script : Script) (below : List Activity) (v : World) (top : Activity) (o : ℕ) → Finalizes top o → Calm script (on top below v) → o ≢ 1
+finalizes_other script below v top o (Soon d) c = c.stack.0.root
+finalizes_other script below v top o (Late d) c = c.stack.0.unheld.root
 
--- a frame ends
-frame_end_plain : (f : Frame) (below : List Activity) (v : World) → IsPlain v.objects below (frame_end f (with_stack below v)).1
-frame_end_plain f below v = by_sort f.sort f.function
-  where
-    popped : IsPlain v.objects below (with_stack below v)
-    popped = record { stack = below_alone below; list = same_list v.objects }
+-- the objects change
+module _ (script : Script) (below : List Activity) (v : World) (top : Activity) (none : is_collection top ≡ false) (c : Calm script (on top below v)) where
+  no_collection_here : is_collection top ≡ true → ⊥
+  no_collection_here e = let no : true ≡ false = sym e ∙ none in cc
 
-    by_sort : (sort : FrameSort) (function : Option ℕ) → IsPlain v.objects below (gives_up_function sort function (with_stack below v))
-    by_sort Del function = popped
-    by_sort Legacy function = popped
-    by_sort Callback function = popped
-    by_sort CallFrame function = record { stack = with_alone (Releasing (option_to_list function)) below below refl (below_alone below); list = same_list v.objects }
+  list_place : (x y : Object) → IsMoved top x y → x.serial ≡ 1 → x.place ≡ Untracked → y.place ≡ Untracked
+  list_place x y (StaysThere e) i p = sym e ∙ p
+  list_place x y (IsUntracked e) i p = e
+  list_place x y (IsRevived f e) i p = absurd (finalizes_other script below v top x.serial f c i)
+  list_place x y (IsPlaced d is k) i p = absurd (no_collection_here (ap is_collection is))
 
--- a release
-released_plain : (references : List ℕ) (below : List Activity) (v : World) → IsPlain v.objects below (released references below (with_stack (Releasing references ∷ below) v)).1
-released_plain [] below v = record { stack = below_alone below; list = same_list v.objects }
-released_plain (o ∷ references) below v = go (not (is_dying now o) && (in_degree now o == 0))
-  where
-    now : World
-    now = with_stack (Releasing references ∷ below) v
+  changed_list : (before after : List Object) → HasChanged top before after → KeepsList before after
+  changed_list before after (NothingChanges objects) = same_list objects
+  changed_list before after (ChangesEach f test objects aside) = λ y m e.
+      let x = asides top f test objects aside y m in
+      let i : x.0.serial ≡ 1 = sym x.2.later.serial ∙ e in
+      record { was = x.0; member = x.1; serial = i; code = x.2.later.code; place = list_place x.0 y x.2.moved i; names = λ o h. subst (λ es. ¬ Includes (references es) o) (sym x.2.entries) (h x.0 x.1 i) }
+  changed_list before after (LosesEntries es s objects owns fewer) = list_kept (with_entries es) s objects (λ x. refl) (λ x m i e.
+      record { was = x; member = m; serial = e; code = refl; place = λ p. p; names = λ o h k. entries_name_not objects o h (subst (λ n. Includes (references (entries_of objects n)) o) (sym i ∙ e) (fewer_references es (entries_of objects s) fewer o k)) })
+  changed_list before after (GetsEntry o objects is) = absurd (no_collection_here is)
+  changed_list before after (LosesObject o objects owns) = without_kept o objects
+  changed_list before after (Followed first now last h k) = list_trans first now last (changed_list first now h) (changed_list now last k)
 
-    rest : StartsAlone below (Releasing references ∷ below)
-    rest = with_alone (Releasing references) below below refl (below_alone below)
+-- what goes on is no collection where the top is none
+continues_alone : (before after : List Object) (top a : Activity) → Continues before after top a → is_collection a ≡ is_collection top
+continues_alone before after top a (DeathGoesOn o phase next waits none) = refl
+continues_alone before after top a (DeathClears o weak waiting weaks t first lost) = refl
+continues_alone before after top a (CollectionGoesOn c d same begun early) = refl
 
-    go : (b : Bool) → (let t : Transition = if b then ([], begin_death o now) else ([], now) in IsPlain v.objects below t.1)
-    go true = record { stack = with_alone (Dying (record { object = o; phase = Finalizer })) below (Releasing references ∷ below) refl rest; list = dead_kept o v.objects }
-    go false = record { stack = rest; list = same_list v.objects }
+tops_alone : (before after : List Object) (top : Activity) (tops below : List Activity) → Tops before after top tops → is_collection top ≡ false → StartsAlone below (tops ++ below)
+tops_alone before after top tops below (TopEnds a gone) none = below_alone below
+tops_alone before after top tops below (GivesFunction f references few) none = with_alone (Releasing references) below below refl (below_alone below)
+tops_alone before after top tops below (GivesReference o references) none = with_alone (Releasing references) below below refl (below_alone below)
+tops_alone before after top tops below (BeginsDeath o references) none = with_alone (Dying (record { object = o; phase = Finalizer })) below (Releasing references ∷ below) refl (with_alone (Releasing references) below below refl (below_alone below))
+tops_alone before after top tops below (TopGoesOn t a c held) none = with_alone a below below (continues_alone before after t a c ∙ none) (below_alone below)
+tops_alone before after top tops below (GivesReferences t a references few c held) none = with_alone (Releasing references) below (a ∷ below) refl (with_alone a below below (continues_alone before after t a c ∙ none) (below_alone below))
 
--- a death
-module _ (script : Script) (o : ℕ) (below : List Activity) (v : World) where
-  abbrev at : DyingPhase → World
-  at phase = death_at o phase below v
-
-  abbrev dying_now : DyingPhase → Activity
-  dying_now phase = Dying (record { object = o; phase = phase })
-
-  dies_on : (phase : DyingPhase) → StartsAlone below (dying_now phase ∷ below)
-  dies_on phase = with_alone (dying_now phase) below below refl (below_alone below)
-
-  goes_to : (next : DyingPhase) (objects : List Object) → KeepsList v.objects objects → IsPlain v.objects below (record v { objects = objects; stack = dying_now next ∷ below })
-  goes_to next objects list = record { stack = dies_on next; list = list }
-
-  gives : (references : List ℕ) (next : DyingPhase) (objects : List Object) → KeepsList v.objects objects → IsPlain v.objects below (record v { objects = objects; stack = Releasing references ∷ dying_now next ∷ below })
-  gives references next objects list = record { stack = with_alone (Releasing references) below (dying_now next ∷ below) refl (dies_on next); list = list }
-
-  finalizer_plain : (m : Option ℕ) → o ≢ 1 → IsPlain v.objects below (run_finalizer script o below (at Finalizer) m).1
-  finalizer_plain None apart = goes_to (Clearing []) v.objects (same_list v.objects)
-  finalizer_plain (Some p) apart = starts_plain script (record { sort = Del; proc = p; subject = o; func = None }) v.objects below (death_at o AfterFinalizer below (with_change (λ x. marked (with_place (Gen 0) x)) o (at Finalizer)))
-      (goes_to AfterFinalizer (change (λ x. marked (with_place (Gen 0) x)) o v.objects) (other_kept (λ x. marked (with_place (Gen 0) x)) o v.objects (λ x. refl) apart))
-
-  after_frame_plain : (phase next : DyingPhase) → IsPlain v.objects below (after_frame o next below (at phase)).1
-  after_frame_plain phase next = go (in_degree (at next) o == 0)
-    where
-      go : (b : Bool) → (let t : Transition = if b then ([], with_change (with_place Untracked) o (at next)) else (Alive o ∷ [], with_stack below (at phase)) in IsPlain v.objects below t.1)
-      go true = goes_to next (change (with_place Untracked) o v.objects) (untracked_kept o v.objects)
-      go false = record { stack = below_alone below; list = same_list v.objects }
-
-  clearing_plain : (waiting weaks : List ℕ) → IsPlain v.objects below (clear_one o waiting below (at (Clearing waiting)) weaks).1
-  clearing_plain waiting [] = goes_to (Calling waiting) v.objects (same_list v.objects)
-  clearing_plain waiting (weak ∷ weaks) = goes_to (Clearing (waiting ++ (if is_some (callback_of v.objects weak) then weak ∷ [] else []))) (loses_referent weak v.objects) (lost_kept weak v.objects)
-
-  calling_plain : (waiting : List ℕ) → IsPlain v.objects below (call_one script o below (at (Calling waiting)) waiting).1
-  calling_plain [] = goes_to LegacyFinalizer v.objects (same_list v.objects)
-  calling_plain (weak ∷ waiting) =
-      let callback = unwrap_or (callback_of v.objects weak) 0 in
-      starts_plain script (record { sort = Callback; proc = procedure_of (at (Calling (weak ∷ waiting))) callback; subject = weak; func = Some callback }) v.objects below (death_at o (AfterCall weak callback waiting) below (with_change (with_entries []) weak (at (Calling (weak ∷ waiting)))))
-      (goes_to (AfterCall weak callback waiting) (change (with_entries []) weak v.objects) (list_kept (with_entries []) weak v.objects (λ x. refl) (λ x m i e. record { was = x; member = m; serial = e; code = refl; place = λ p. p; names = λ s h k. k })))
-
-  legacy_plain : (m : Option ℕ) → o ≢ 1 → IsPlain v.objects below (run_legacy script o below (at LegacyFinalizer) m).1
-  legacy_plain None apart = goes_to Detaching v.objects (same_list v.objects)
-  legacy_plain (Some p) apart = starts_plain script (record { sort = Legacy; proc = p; subject = o; func = None }) v.objects below (death_at o AfterLegacy below (with_change (with_place (Gen 0)) o (at LegacyFinalizer)))
-      (goes_to AfterLegacy (change (with_place (Gen 0)) o v.objects) (other_kept (with_place (Gen 0)) o v.objects (λ x. refl) apart))
-
-  detaching_plain : (weaks : List ℕ) → IsPlain v.objects below (detach_one o below (at Detaching) weaks).1
-  detaching_plain [] = goes_to Emptying v.objects (same_list v.objects)
-  detaching_plain (weak ∷ weaks) = goes_to Detaching (loses_referent weak v.objects) (lost_kept weak v.objects)
-
-  emptying_plain : (m : Option Entry) → o ≢ 1 → IsPlain v.objects below (empty_one o below (at Emptying) m).1
-  emptying_plain None apart = record { stack = below_alone below; list = without_kept o v.objects }
-  emptying_plain (Some entry) apart = gives (entry_references entry) Emptying (change (with_entries (without_last (entries_of v.objects o))) o v.objects) (other_kept (with_entries (without_last (entries_of v.objects o))) o v.objects (λ x. refl) apart)
-
-  dying_plain : (phase : DyingPhase) → Calm script (at phase) → IsPlain v.objects below (dying script o phase below (at phase)).1
-  dying_plain Finalizer c = finalizer_plain (option_and_then (finalizer_to_run script) (object_at v.objects o)) c.stack.0.root
-  dying_plain AfterFinalizer c = after_frame_plain AfterFinalizer (Clearing [])
-  dying_plain (Clearing waiting) c = clearing_plain waiting (weak_references_if has_weak_references v.objects o)
-  dying_plain (Calling waiting) c = calling_plain waiting
-  dying_plain (AfterCall weak callback waiting) c = gives (callback ∷ weak ∷ []) (Calling waiting) v.objects (same_list v.objects)
-  dying_plain LegacyFinalizer c = legacy_plain (option_and_then (legacy_of script) (object_at v.objects o)) c.stack.0.unheld.root
-  dying_plain AfterLegacy c = after_frame_plain AfterLegacy Detaching
-  dying_plain Detaching c = detaching_plain (weak_references_if (has_finalizers script) v.objects o)
-  dying_plain Emptying c = emptying_plain (last_entry (entries_of v.objects o)) c.stack.0.unheld.root
+advance_plain : (script : Script) (below : List Activity) (v : World) (top : Activity) → Calm script (on top below v) → (lines : List Event) (after : World) → Advance script v top below lines after → is_collection top ≡ false → IsPlain v.objects below after
+advance_plain script below v top c lines after (Plainly tops objects numbers ls t h n shown) none = record { stack = tops_alone v.objects objects top tops below t none; list = changed_list script below v top none c v.objects objects h }
+advance_plain script below v top c lines after (WithFrame spec a objects s g held h) none =
+    starts_plain script spec v.objects below (record v { objects = objects; stack = a ∷ below }) (record { stack = tops_alone v.objects objects top (a ∷ []) below (TopGoesOn top a g held) none; list = changed_list script below v top none c v.objects objects h })
 
 -- commands are no collection
 no_collection : (a : Activity) → HasCommands a → is_collection a ≡ false
@@ -232,10 +177,10 @@ steps_plain script = record {
   gives_up = λ name below v e k. (command_plain script (Del name) (ShuttingDown false) (ShuttingDown false) below v tt k.0 k.1).changes false [] _ _ (del_shaped (on (ShuttingDown false) below v) name);
   collects_last = λ below v k none. record { stack = begins_alone (ShuttingDown true) 2 false below (on (ShuttingDown false) below v) tt (none_below below k.3); list = same_list v.objects };
   commands = λ command a b below v takes hb k. command_plain script command a b below v hb k.0 k.1;
-  frame_ends = λ f below v left k none. frame_end_plain f below v;
-  releases = λ references below v k none. released_plain references below v;
-  dies = λ d below v k none. dying_plain script d.object below v d.phase k.2;
-  collects = λ c below v events after step k none. let no : true ≡ false = none in absurd (cc);
+  frame_ends = λ f below v left k. advance_plain script below v (Framed f) k.2 _ _ (frame_end_advances script f below v);
+  releases = λ references below v k. advance_plain script below v (Releasing references) k.2 _ _ (released_advances script references below v);
+  dies = λ d below v k. advance_plain script below v (Dying d) k.2 _ _ (dying_advances script d.object below v d.phase);
+  collects = λ c below v events after step k. advance_plain script below v (Collecting c) k.2 events after (phase_advances script c below v c.phase events after step);
 }
 
 pub step_plain : (script : Script) (w : World) (events : List Event) (after : World) → Step script w events after → HasGarbageList w.objects → 1 < w.next_serial → Calm script w → HasBottom w.stack → IsPlainUnder w.objects w.stack after

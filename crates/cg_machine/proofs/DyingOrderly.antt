@@ -15,15 +15,16 @@ use Rattle.cg_graph.proofs.Objects.{occurrences-append}
 use Rattle.cg_machine.specs.declared.event.FrameSort.{FrameSort}
 use Rattle.cg_machine.specs.declared.event.FrameSort.TheVariants.{Del, Legacy, Callback, Call}
 use Rattle.cg_machine.specs.declared.event.FrameSpec.{FrameSpec}
-use Rattle.cg_machine.specs.declared.event.Event.TheVariants.{Alive, Enter, BudgetSpent}
-use Rattle.cg_machine.specs.Program.{body_of, legacy_of}
-use Rattle.cg_machine.specs.World.{push, World, Activity, Framed, Releasing, Dying, Frame, Death, DyingPhase, Finalizer, AfterFinalizer, Clearing, Calling, AfterCall, LegacyFinalizer, AfterLegacy, Detaching, Emptying, BudgetIsSpent, with_stack, with_change}
+use Rattle.cg_machine.specs.declared.event.Event.TheVariants.{Alive}
+use Rattle.cg_machine.specs.Program.{legacy_of}
+use Rattle.cg_machine.specs.World.{push, World, Activity, Framed, Releasing, Dying, Frame, Death, DyingPhase, Finalizer, AfterFinalizer, Clearing, Calling, AfterCall, LegacyFinalizer, AfterLegacy, Detaching, Emptying, with_stack, with_change}
 use Rattle.cg_machine.specs.Frame.{Transition, start_frame, frame_end, gives_up_function, begin_death, released, procedure_of}
 use Rattle.cg_machine.specs.Holdings.{holds, call_holds, dying_holds, in_degree, is_dying}
 use Rattle.cg_machine.specs.Weak.{has_weak_references, weak_references_if, loses_referent, callback_in, callback_of}
 use Rattle.cg_machine.specs.Dying.{death_at, has_finalizers, finalizer_to_run, run_finalizer, run_legacy, after_frame, clear_one, call_one, detach_one, empty_one, dying}
 use Rattle.cg_machine.specs.Collect.{is_condemned}
 use Rattle.cg_machine.specs.Represents.{death_waits}
+use Rattle.cg_machine.proofs.Starting.{begun_frame, starts_either}
 use Rattle.cg_machine.proofs.Serials.{Rises}
 use Rattle.cg_machine.proofs.Saving.{count_cons}
 use Rattle.cg_machine.proofs.FallsDeaths.{refers_first}
@@ -52,14 +53,7 @@ false_true e = absurd (cc)
 
 -- a frame starts
 pub starts_orderly : (script : Script) (spec : FrameSpec) (u : World) → (IsClearing u.stack → ⊥) → ((o : ℕ) → Includes (call_holds spec.sort spec.func) o → Includes (serials u.objects) o) → HasOrder u → HasOrder (start_frame script spec u).1
-starts_orderly script spec u still held h = go (u.budget == 0)
-  where
-    frame : Activity
-    frame = Framed (record { sort = spec.sort; subject = spec.subject; function = spec.func; commands = body_of script spec.proc })
-
-    go : (b : Bool) → (let t : Transition = if b then (BudgetSpent ∷ [], record u { outcome = BudgetIsSpent }) else (Enter spec.sort spec.subject ∷ [], record u { budget = u.budget - 1; stack = frame ∷ u.stack }) in HasOrder t.1)
-    go true = h
-    go false = push_orderly frame u.objects u.names u.stack refl still held (λ d e. cc) (λ c o e. cc) h
+starts_orderly script spec u still held h = starts_either (λ lines. HasOrder) script spec u h (λ some. push_orderly (begun_frame script spec) u.objects u.names u.stack refl still held (λ d e. cc) (λ c o e. cc) h)
 
 -- something is given up
 pub gives_up_orderly : (given_up : List ℕ) (u : World) → (IsClearing u.stack → ⊥) → ((o : ℕ) → Includes given_up o → Includes (serials u.objects) o) → HasOrder u → HasOrder (push (Releasing given_up) u)

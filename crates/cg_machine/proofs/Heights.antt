@@ -23,7 +23,8 @@ use Rattle.cg_machine.proofs.Ending.{sound_after}
 use Rattle.cg_machine.proofs.Releasing.{absent, no_times}
 use Rattle.cg_machine.proofs.Orderly.{waits_held}
 use Rattle.cg_machine.proofs.RunsOrderly.{worlds_orderly}
-use Rattle.cg_machine.proofs.Rooms.{how_many, Room, few_option}
+use Rattle.cg_machine.proofs.Advances.{few_option}
+use Rattle.cg_machine.proofs.Rooms.{how_many, Room}
 use Rattle.cg_machine.proofs.RoomsOfRuns.{runs_have_room}
 
 -- the counts of the law, as sums

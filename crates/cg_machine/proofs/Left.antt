@@ -1,5 +1,5 @@
 -- What a step leaves below it: the activities, and the entries of objects that are dying there or that wait there.
-use Rattle.std.proofs.Common.{◌≡◌, ◌≢◌, refl, sym, ◌∙◌, subst, ℕ, Bool, true, false, not, inl, inr, ◌⊎◌, List, [], ◌∷◌, ◌++◌, map, None}
+use Rattle.std.proofs.Common.{◌≡◌, ◌≢◌, refl, sym, ◌∙◌, subst, ℕ, Bool, true, false, not, inl, inr, ◌⊎◌, List, [], ◌∷◌, ◌++◌, map}
 use Rattle.std.specs.Prelude.{◌==◌, if◌then◌else◌, flat_map}
 use Rattle.std.proofs.lemmas.Bool.{eqb-true}
 use Rattle.cg_value.specs.declared.Entry.{Entry}
@@ -7,12 +7,11 @@ use Rattle.cg_value.specs.declared.Val.TheVariants.{Ref}
 use Rattle.cg_graph.specs.Value.{item}
 use Rattle.cg_value.specs.declared.KindCode.TheVariants.{List as ListKind, Weak}
 use Rattle.cg_graph.specs.Member.{Includes}
-use Rattle.cg_graph.specs.Object.{Object, change, without, with_entries, with_referent}
+use Rattle.cg_graph.specs.Object.{Object, change, without, with_entries}
 use Rattle.cg_graph.proofs.Members.{either, Includes-append_left, Includes-append_right, Includes-map_cases, Includes-filter_cases}
 use Rattle.cg_machine.specs.World.{World, Activity, Dying, Collecting, Death}
-use Rattle.cg_machine.specs.Weak.{loses_referent, AllLose}
 use Rattle.cg_machine.specs.Holdings.{holds}
-use Rattle.cg_machine.specs.Collect.{saved, all_saved}
+use Rattle.cg_machine.specs.Collect.{saved}
 use Rattle.cg_machine.specs.Laws.{waits_of, all_waits, IsOfCollection}
 use Rattle.cg_machine.proofs.Forgotten.{Forgotten, IsLater, later_refl, later_trans}
 use Rattle.cg_machine.proofs.Orderly.{Orderly}
@@ -64,29 +63,14 @@ from_if w below f test later entries places objects y m =
     one true x e k = record { was = x; member = k; later = later x; entries = entries x e; place = places x }
     one false x e k = record { was = x; member = k; later = later_refl x; entries = inl refl; place = λ c. inl refl }
 
-pub from_same : (w : World) (below : List Activity) (f : Object → Object) (test : Object → Bool) → ((x : Object) → IsLater x (f x)) → ((x : Object) → (f x).entries ≡ x.entries)
-    → ((x : Object) → IsOfCollection (f x).place → (x.place ≡ (f x).place) ⊎ IsCollectionOnTop w.stack) → (objects : List Object) → AreFrom w below objects (map (λ x. if test x then f x else x) objects)
-from_same w below f test later entries places objects = from_if w below f test later (λ x e. inl (entries x)) places objects
-
 pub from_entries : (w : World) (below : List Activity) (es : List Entry) (s : ℕ) → MayChange w below s → (objects : List Object) → AreFrom w below objects (change (with_entries es) s objects)
 from_entries w below es s t objects = from_if w below (with_entries es) (λ x. x.serial == s) (λ x. record { serial = refl; code = refl; class = refl; referent = inl refl }) (λ x e. inr (subst (MayChange w below) (sym (eqb-true x.serial s e)) t)) (λ x c. inl refl) objects
 
 pub from_without : (w : World) (below : List Activity) (o : ℕ) (objects : List Object) → AreFrom w below objects (without o objects)
 from_without w below o objects y m = from_refl w below objects y (Includes-filter_cases (λ x. not (x.serial == o)) objects y m).0
 
-pub from_lost : (w : World) (below : List Activity) (weak : ℕ) (objects : List Object) → AreFrom w below objects (loses_referent weak objects)
-from_lost w below weak objects = from_same w below (with_referent None) (λ x. x.serial == weak) (λ x. record { serial = refl; code = refl; class = refl; referent = inr refl }) (λ x. refl) (λ x c. inl refl) objects
-
-pub from_all_lost : (w : World) (below : List Activity) (wanted : Object → Bool) (weaks : List ℕ) (objects after : List Object) → AllLose wanted objects weaks after → AreFrom w below objects after
-from_all_lost w below wanted [] objects after lose = subst (AreFrom w below objects) (sym lose.1) (from_refl w below objects)
-from_all_lost w below wanted (weak ∷ weaks) objects after lose = from_trans w below objects (loses_referent weak objects) after (from_lost w below weak objects) (from_all_lost w below wanted weaks (loses_referent weak objects) after lose.1)
-
 pub from_saved : (w : World) (below : List Activity) (s : ℕ) → MayChange w below 1 → (objects : List Object) → AreFrom w below objects (saved s objects)
 from_saved w below s t objects = from_if w below (λ x. with_entries (x.entries ++ item (Ref s) ∷ []) x) (λ x. x.serial == 1) (λ x. record { serial = refl; code = refl; class = refl; referent = inl refl }) (λ x e. inr (subst (MayChange w below) (sym (eqb-true x.serial 1 e)) t)) (λ x c. inl refl) objects
-
-pub from_all_saved : (w : World) (below : List Activity) (keeps : List ℕ) → MayChange w below 1 → (objects : List Object) → AreFrom w below objects (all_saved keeps objects)
-from_all_saved w below [] t objects = from_refl w below objects
-from_all_saved w below (s ∷ keeps) t objects = from_trans w below objects (saved s objects) (all_saved keeps (saved s objects)) (from_saved w below s t objects) (from_all_saved w below keeps t (saved s objects))
 
 -- What a step leaves below it. It makes one object at most
 pub record LeavesIt (w : World) (below : List Activity) (after : World) : Type 0 where

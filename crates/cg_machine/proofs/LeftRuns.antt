@@ -27,8 +27,8 @@ use Rattle.cg_machine.proofs.RunsCalm.{taken_calm, opening_calm}
 use Rattle.cg_machine.proofs.Invariants.{HasCommands, Takes, FromTop, FromFrame, emptied, on, CommandSteps, Steps, any_step, del_shaped}
 use Rattle.cg_machine.proofs.RunsOrderly.{taken_orderly, opening_orderly, orderly_after}
 use Rattle.cg_machine.proofs.Left.{MayChange, ComesFrom, IsCollectionOnTop, from_refl, LeavesIt, leaves_from}
-use Rattle.cg_machine.proofs.LeftDeaths.{starts_leaves, frame_end_leaves, released_leaves, dying_leaves}
-use Rattle.cg_machine.proofs.LeftCollections.{phase_leaves}
+use Rattle.cg_machine.proofs.Advancing.{frame_end_advances, released_advances, dying_advances, phase_advances}
+use Rattle.cg_machine.proofs.LeftSteps.{starts_leaves, advance_leaves}
 use Rattle.cg_script.specs.declared.Command.TheVariants.{Del}
 
 -- what a step leaves, if there is an activity to take it
@@ -94,10 +94,10 @@ steps_leave_it script = record {
   gives_up = λ name below v e k. (command_leaves script (ShuttingDown false) (ShuttingDown false) below v tt (λ o i. i) k.0.0.rises k.0.1 k.1 (Del name)).changes false [] _ _ (del_shaped (on (ShuttingDown false) below v) name);
   collects_last = λ below v k. let w : World = on (ShuttingDown false) below v in leaves_from w below (push (new_collection 2 false w) (on (ShuttingDown true) below v)) (new_collection 2 false w ∷ ShuttingDown true ∷ []) refl (from_refl w below v.objects);
   commands = λ command a b below v takes hb k. command_leaves script a b below v hb (taken_held command a b takes) k.0.0.rises (taken_calm script below v command a b takes k.0.1) (taken_orderly command a b below v takes k.1) command;
-  frame_ends = λ f below v left k. frame_end_leaves f below v;
-  releases = λ references below v k. released_leaves references below v;
-  dies = λ d below v k. dying_leaves script d.object below v d.phase k.0.1 k.1;
-  collects = λ c below v events after step k. phase_leaves script c below v c.phase events after step k.1;
+  frame_ends = λ f below v left k. advance_leaves script below v (Framed f) k.0.1 k.1 _ _ (frame_end_advances script f below v);
+  releases = λ references below v k. advance_leaves script below v (Releasing references) k.0.1 k.1 _ _ (released_advances script references below v);
+  dies = λ d below v k. advance_leaves script below v (Dying d) k.0.1 k.1 _ _ (dying_advances script d.object below v d.phase);
+  collects = λ c below v events after step k. advance_leaves script below v (Collecting c) k.0.1 k.1 events after (phase_advances script c below v c.phase events after step);
 }
 
 pub step_leaves : (script : Script) (w : World) (events : List Event) (after : World) → Step script w events after → Sound w → Calm script w → HasOrder w → LeavesUnder w w.stack after

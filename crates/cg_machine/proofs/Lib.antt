@@ -1,3 +1,4 @@
+pub mod Starting
 pub mod Garbage
 pub mod Sorting
 pub mod Clearing
@@ -33,9 +34,10 @@ pub mod Condemned
 pub mod CollectOrderly
 pub mod RunsOrderly
 pub mod Left
-pub mod LeftDeaths
-pub mod LeftCollections
+pub mod LeftSteps
 pub mod LeftRuns
+pub mod Advances
+pub mod Advancing
 pub mod Rooms
 pub mod RoomsOfRuns
 pub mod Heights

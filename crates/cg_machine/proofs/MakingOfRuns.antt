@@ -3,13 +3,14 @@ use Rattle.std.proofs.Common.{◌≡◌, sym, ap, subst, ℕ, ◌+◌, ◌*◌, 
 use Rattle.cg_script.specs.declared.Script.{Script}
 use Rattle.cg_script.specs.declared.Command.{Command}
 use Rattle.cg_machine.specs.declared.event.FrameSort.TheVariants.{Call as CallFrame}
-use Rattle.cg_machine.specs.World.{World, Activity, TopLevel, Framed, Releasing, ShuttingDown}
+use Rattle.cg_machine.specs.World.{World, Activity, TopLevel, Framed, Releasing, Dying, Collecting, ShuttingDown}
 use Rattle.cg_machine.specs.Program.{body_of, commands_of}
 use Rattle.cg_machine.specs.Frame.{procedure_of}
 use Rattle.cg_machine.specs.Made.{SerialsAreFew}
 use Rattle.cg_machine.proofs.ShapeLaws.{changes_leave}
 use Rattle.cg_machine.proofs.Invariants.{HasCommands, Takes, FromTop, FromFrame, emptied, on, CommandSteps, Steps, by_runs}
-use Rattle.cg_machine.proofs.Making.{Few, IsFew, starts_makes, frame_end_makes, released_makes, dying_makes, phase_makes}
+use Rattle.cg_machine.proofs.Advancing.{frame_end_advances, released_advances, dying_advances, phase_advances}
+use Rattle.cg_machine.proofs.Making.{Few, IsFew, starts_makes, advance_makes}
 
 -- A command is taken, for which an object may be made.
 taken : (most b serial budget : ℕ) (command : Command) (a c : Activity) (below : List Activity) → Takes command a c → Few most b serial budget (a ∷ below) → Few most b (serial + 1) budget (c ∷ below)
@@ -45,10 +46,10 @@ module _ (most b : ℕ) (script : Script) (short : (p : ℕ) → length (body_of
     gives_up = λ name below v e k. record { within = omega (arith, k.1.within) };
     collects_last = λ below v k. record { within = omega (arith, k.1.within) };
     commands = λ command a c below v takes hc k. command_makes (on a below v) command c below v hc (taken most b v.next_serial v.budget command a c below takes k.1);
-    frame_ends = λ f below v left k. frame_end_makes most b f below v k.1;
-    releases = λ references below v k. released_makes most b references below v k.1;
-    dies = λ d below v k. dying_makes most b script d.object below v short (record { within = omega (arith, k.1.within) }) d.phase;
-    collects = λ c below v events after step k. phase_makes most b script c below v short (record { within = omega (arith, k.1.within) }) c.phase events after step;
+    frame_ends = λ f below v left k. advance_makes most b script (Framed f) below v short _ _ (frame_end_advances script f below v) k.1;
+    releases = λ references below v k. advance_makes most b script (Releasing references) below v short _ _ (released_advances script references below v) k.1;
+    dies = λ d below v k. advance_makes most b script (Dying d) below v short _ _ (dying_advances script d.object below v d.phase) k.1;
+    collects = λ c below v events after step k. advance_makes most b script (Collecting c) below v short events after (phase_advances script c below v c.phase events after step) k.1;
   }
 
 pub few_serials : SerialsAreFew

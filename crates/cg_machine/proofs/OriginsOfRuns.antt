@@ -11,7 +11,7 @@ use Rattle.cg_graph.proofs.Members.{either, Includes-append_left, Includes-appen
 use Rattle.cg_machine.specs.declared.event.Event.{Event}
 use Rattle.cg_machine.specs.declared.event.FrameSort.TheVariants.{Call as CallFrame}
 use Rattle.cg_machine.specs.Program.{commands_of, procedures}
-use Rattle.cg_machine.specs.World.{World, Activity, TopLevel, Framed, Dying, Collecting, opening, ShuttingDown}
+use Rattle.cg_machine.specs.World.{World, Activity, TopLevel, Framed, Releasing, Dying, Collecting, opening, ShuttingDown}
 use Rattle.cg_machine.specs.Frame.{procedure_of}
 use Rattle.cg_machine.specs.Effects.{Changes}
 use Rattle.cg_machine.specs.Run.{Step}
@@ -19,7 +19,8 @@ use Rattle.cg_machine.specs.Origins.{all_commands, commands_on, IsOfScript, Worl
 use Rattle.cg_machine.proofs.Shapes.{IsMadeBy, ByList, ByTuple, ByDict, ByInst, ByFunc, ByRef}
 use Rattle.cg_machine.proofs.ShapeLaws.{changes_leave, shape_comes}
 use Rattle.cg_machine.proofs.Invariants.{HasCommands, Takes, FromTop, FromFrame, emptied, on, CommandSteps, Steps, any_step, by_runs}
-use Rattle.cg_machine.proofs.Origins.{AreOfScript, IsAllOfScript, later_of_script, starts_origin, frame_end_origin, released_origin, popped_origin, dying_origin, phase_origin}
+use Rattle.cg_machine.proofs.Advancing.{frame_end_advances, released_advances, dying_advances, phase_advances}
+use Rattle.cg_machine.proofs.Origins.{AreOfScript, IsAllOfScript, later_of_script, starts_origin, popped_origin, advance_origin}
 
 module _ (script : Script) where
   made_of_script : (command : Command) → Includes (all_commands script) command → (y : Object) (code : KindCode) (class : Option ℕ) → y.code ≡ code → y.class ≡ class → IsMadeBy command code class → IsOfScript script y
@@ -63,10 +64,10 @@ module _ (script : Script) where
     gives_up = λ name below v e k. record { commands = k.1.commands; objects = k.1.objects };
     collects_last = λ below v k. record { commands = k.1.commands; objects = k.1.objects };
     commands = λ command a b below v takes hb k. command_origin (on a below v) command b below v hb (taken command a b below v.objects takes k.1);
-    frame_ends = λ f below v left k. frame_end_origin script f below v k.1;
-    releases = λ references below v k. released_origin script references below v k.1;
-    dies = λ d below v k. dying_origin script d.object below v (popped_origin script v.objects (Dying d) below k.1) d.phase;
-    collects = λ c below v events after step k. phase_origin script c below v (popped_origin script v.objects (Collecting c) below k.1) c.phase events after step;
+    frame_ends = λ f below v left k. advance_origin script (Framed f) below v _ _ (frame_end_advances script f below v) k.1;
+    releases = λ references below v k. advance_origin script (Releasing references) below v _ _ (released_advances script references below v) k.1;
+    dies = λ d below v k. advance_origin script (Dying d) below v _ _ (dying_advances script d.object below v d.phase) k.1;
+    collects = λ c below v events after step k. advance_origin script (Collecting c) below v events after (phase_advances script c below v c.phase events after step) k.1;
   }
 
   pub step_origin : (w : World) (events : List Event) (after : World) → Step script w events after → IsAllOfScript script w → IsAllOfScript script after

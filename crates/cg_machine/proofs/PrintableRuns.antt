@@ -1,5 +1,5 @@
 -- Each line of a run of a script that names its own texts alone, each of them short, can be printed.
-use Rattle.std.proofs.Common.{◌≡◌, sym, refl, subst, ℕ, ◌≤◌, inl, List, [], ◌∷◌, length, Some, None, true, false, Option}
+use Rattle.std.proofs.Common.{◌≡◌, sym, refl, subst, ℕ, ◌≤◌, inl, List, [], ◌∷◌, length, Some, None, true, false}
 use Rattle.std.specs.Prelude.{flat_map}
 use Rattle.std.specs.List.{All}
 use Rattle.cg_script.specs.declared.Script.{Script}
@@ -9,9 +9,9 @@ use Rattle.cg_graph.specs.Member.{Includes}
 use Rattle.cg_graph.specs.Object.{Object}
 use Rattle.cg_graph.proofs.Members.{either, Includes-append_left, Includes-append_cases}
 use Rattle.cg_machine.specs.declared.event.Event.{Event}
-use Rattle.cg_machine.specs.declared.event.Event.TheVariants.{Collected, End, Refused, Left}
+use Rattle.cg_machine.specs.declared.event.Event.TheVariants.{Collected, End, Refused}
 use Rattle.cg_machine.specs.declared.event.FrameSort.TheVariants.{Call as CallFrame}
-use Rattle.cg_machine.specs.World.{World, Activity, Releasing, opening, with_stack, TopLevel, ShuttingDown}
+use Rattle.cg_machine.specs.World.{World, Activity, Framed, Releasing, Dying, Collecting, opening, TopLevel, ShuttingDown}
 use Rattle.cg_machine.specs.Frame.{procedure_of}
 use Rattle.cg_machine.specs.Effects.{Changes}
 use Rattle.cg_machine.specs.Run.{StepTaken, Run, events_of}
@@ -21,7 +21,8 @@ use Rattle.cg_machine.specs.Printing.{LinesArePrintable}
 use Rattle.cg_machine.proofs.Origins.{IsAllOfScript}
 use Rattle.cg_machine.proofs.OriginsOfRuns.{step_origin, opening_origin}
 use Rattle.cg_machine.proofs.PrintableTexts.{HaveTexts, WorldHasTexts, NamesTexts, commands_name_texts, replicated_member, set_member}
-use Rattle.cg_machine.proofs.PrintableSteps.{Prints, silent, says, starts_prints, frame_end_prints, released_prints, dying_prints, phase_prints}
+use Rattle.cg_machine.proofs.Advancing.{frame_end_advances, released_advances, dying_advances, phase_advances}
+use Rattle.cg_machine.proofs.PrintableSteps.{Prints, silent, says, starts_prints, advance_prints}
 use Rattle.cg_machine.proofs.PrintableCommands.{shape_prints}
 use Rattle.cg_machine.proofs.Invariants.{Takes, FromTop, FromFrame, emptied, on, AreAnswers, CommandSteps, Steps, any_step, AreLast}
 
@@ -68,10 +69,10 @@ module _ (script : Script) (known : TextsAreKnown script) (short : All (λ text.
     gives_up = λ name below v e k. silent script.names _ (record { names = λ u m. either (set_member v.names name None (Some u) m) (λ i. k.1.names u i) (λ n. absurd (let no : None ≡ Some u = n in cc)); objects = k.1.objects });
     collects_last = λ below v k. silent script.names _ k.1;
     commands = λ command a b below v takes hb k. command_prints (on a below v) command b below v k.1 (taken_names command a b below takes k.0);
-    frame_ends = λ f below v left k. frame_end_prints script.names f (with_stack below v) k.1;
-    releases = λ references below v k. released_prints script.names references below (on (Releasing references) below v) k.1;
-    dies = λ d below v k. dying_prints script.names script d.object below v k.1 d.phase;
-    collects = λ c below v events after step k. phase_prints script.names script c below v k.1 c.phase events after step;
+    frame_ends = λ f below v left k. advance_prints script.names script (Framed f) below v _ _ (frame_end_advances script f below v) k.1;
+    releases = λ references below v k. advance_prints script.names script (Releasing references) below v _ _ (released_advances script references below v) k.1;
+    dies = λ d below v k. advance_prints script.names script (Dying d) below v _ _ (dying_advances script d.object below v d.phase) k.1;
+    collects = λ c below v events after step k. advance_prints script.names script (Collecting c) below v events after (phase_advances script c below v c.phase events after step) k.1;
   }
 
   run_prints : (w : World) (steps : List StepTaken) → Run script w steps → IsAllOfScript script w → WorldHasTexts (length script.names) w → (event : Event) → Includes (events_of steps) event → IsPrintable script.names event

@@ -3,13 +3,14 @@ use Rattle.std.proofs.Common.{◌≡◌, sym, subst, ℕ, ◌≤◌, List, ◌�
 use Rattle.cg_script.specs.declared.Script.{Script}
 use Rattle.cg_script.specs.declared.Command.{Command}
 use Rattle.cg_machine.specs.declared.event.FrameSort.TheVariants.{Call as CallFrame}
-use Rattle.cg_machine.specs.World.{World, Activity, TopLevel, Framed, Releasing, ShuttingDown}
+use Rattle.cg_machine.specs.World.{World, Activity, TopLevel, Framed, Releasing, Dying, Collecting, ShuttingDown}
 use Rattle.cg_machine.specs.Frame.{procedure_of}
 use Rattle.cg_machine.specs.Effects.{Changes}
 use Rattle.cg_machine.specs.Bounds.{HasNoRelease}
 use Rattle.cg_machine.proofs.ShapeLaws.{changes_leave, shape_gives_few}
 use Rattle.cg_machine.proofs.Invariants.{HasCommands, Takes, FromTop, FromFrame, emptied, on, CommandSteps, Steps, InEachWorld, by_runs, del_shaped}
-use Rattle.cg_machine.proofs.Rooms.{Room, HasRoom, starts_room, frame_end_room, released_room, dying_room, phase_room}
+use Rattle.cg_machine.proofs.Advancing.{frame_end_advances, released_advances, dying_advances, phase_advances}
+use Rattle.cg_machine.proofs.Rooms.{Room, HasRoom, starts_room, advance_room}
 use Rattle.cg_script.specs.declared.Command.TheVariants.{Del}
 
 -- what has commands on top has no release there
@@ -52,10 +53,10 @@ module _ (b : ℕ) (script : Script) where
     gives_up = λ name below v e k. (command_room (on (ShuttingDown false) below v) (Del name) (ShuttingDown false) below v tt k.1).changes false [] _ _ (del_shaped (on (ShuttingDown false) below v) name);
     collects_last = λ below v k. record { frames = omega (arith, k.1.frames); apart = (tt, k.1.apart) };
     commands = λ command a c below v takes hc k. command_room (on a below v) command c below v hc (taken b v.budget command a c below takes k.1);
-    frame_ends = λ f below v left k. frame_end_room b f below v k.1;
-    releases = λ references below v k. released_room b references below v k.1;
-    dies = λ d below v k. dying_room b script d.object below v (record { frames = omega (arith, k.1.frames); apart = k.1.apart }) d.phase;
-    collects = λ c below v events after step k. phase_room b script c below v k.1.apart.0 (record { frames = omega (arith, k.1.frames); apart = k.1.apart.1 }) c.phase events after step;
+    frame_ends = λ f below v left k. advance_room b script (Framed f) below v _ _ (frame_end_advances script f below v) k.1;
+    releases = λ references below v k. advance_room b script (Releasing references) below v _ _ (released_advances script references below v) k.1;
+    dies = λ d below v k. advance_room b script (Dying d) below v _ _ (dying_advances script d.object below v d.phase) k.1;
+    collects = λ c below v events after step k. advance_room b script (Collecting c) below v events after (phase_advances script c below v c.phase events after step) k.1;
   }
 
 pub runs_have_room : (script : Script) (budget : ℕ) → InEachWorld script budget (HasRoom budget)

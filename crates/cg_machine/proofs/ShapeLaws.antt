@@ -24,7 +24,7 @@ use Rattle.cg_machine.specs.Operands.{is_dict, value_of}
 use Rattle.cg_machine.proofs.Serials.{Rises-map, Rises-change, Rises-new}
 use Rattle.cg_machine.proofs.CommandLaws.{Each, Leaves, LeavesStack}
 use Rattle.cg_machine.proofs.Forgotten.{IsLater, later_refl, change_alters, map_alters, place_later}
-use Rattle.cg_machine.proofs.Rooms.{few_option, few_entry}
+use Rattle.cg_machine.proofs.Advances.{few_option, few_entry}
 use Rattle.cg_machine.proofs.Shapes.{IsMadeBy, IsWordOf, IsEdit, Shape, Binds, Makes, Edits, Puts, Shows, Tells, Stays, Sets, Freezes, Unfreezes, StartsFrame, StartsCollection, Ends, Inspects, AsksWhy, effect_shaped, Word, ValueIn, KeyIn, TellsNumbers, value_at_member, IsAtHand}
 
 -- from the shapes of effects to a law on effects

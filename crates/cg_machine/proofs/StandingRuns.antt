@@ -9,7 +9,7 @@ use Rattle.cg_graph.proofs.Members.{Includes-append_right, Includes-map_cases}
 use Rattle.cg_machine.specs.declared.event.Event.{Event}
 use Rattle.cg_machine.specs.declared.event.FrameSort.{FrameSort}
 use Rattle.cg_machine.specs.declared.event.FrameSort.TheVariants.{Del, Legacy, Callback, Call}
-use Rattle.cg_machine.specs.World.{World, Activity, TopLevel, Framed, Dying, Frame, Death, opening, ShuttingDown}
+use Rattle.cg_machine.specs.World.{World, Activity, TopLevel, Framed, Releasing, Dying, Collecting, Frame, Death, opening, ShuttingDown}
 use Rattle.cg_machine.specs.Holdings.{holds}
 use Rattle.cg_machine.specs.Frame.{procedure_of, start_frame}
 use Rattle.cg_machine.specs.Run.{StepTaken, Step, Run, last_world}
@@ -29,7 +29,8 @@ use Rattle.cg_machine.proofs.RunsCalm.{no_death, calm_after, opening_calm}
 use Rattle.cg_machine.proofs.RunsOrderly.{opening_orderly, worlds_orderly, orderly_after}
 use Rattle.cg_machine.proofs.LeftRuns.{LeavesUnder, step_leaves, leaves_below}
 use Rattle.cg_machine.proofs.Standing.{AreFunctions, KnowsFunction, ClearsInOrder, IsKnown, AreKnown, IsAllKnown, function_lives, below_kept, top_kept}
-use Rattle.cg_machine.proofs.StandingSteps.{starts_known, frame_end_known, released_known, dying_known, phase_known}
+use Rattle.cg_machine.proofs.Advancing.{frame_end_advances, released_advances, dying_advances, phase_advances}
+use Rattle.cg_machine.proofs.StandingSteps.{starts_known, advance_known}
 
 -- what a step keeps: what is below, and the commands on top
 abbrev Kept : List Object → List Activity → Type 0
@@ -81,10 +82,10 @@ module _ (script : Script) where
     gives_up = λ name below v e k kept. (tt, (tt, kept.1));
     collects_last = λ below v k kept. (tt, (tt, kept.1));
     commands = λ command a b below v takes hb k. command_known command a b below v takes hb k.0.0.rises;
-    frame_ends = λ f below v left k kept. frame_end_known f below v kept.1;
-    releases = λ references below v k kept. released_known references below v kept.1;
-    dies = λ d below v k kept. dying_known script d.object below v k.0.0.rises d.phase k.0.2 k.1.0 kept.1;
-    collects = λ c below v events after step k kept. phase_known script c below v k.0.0.rises c.phase events after step k.0.2 kept.1;
+    frame_ends = λ f below v left k kept. advance_known script below v k.0.0.rises (Framed f) _ _ (frame_end_advances script f below v) k.0.2 k.1.0 kept.1;
+    releases = λ references below v k kept. advance_known script below v k.0.0.rises (Releasing references) _ _ (released_advances script references below v) k.0.2 k.1.0 kept.1;
+    dies = λ d below v k kept. advance_known script below v k.0.0.rises (Dying d) _ _ (dying_advances script d.object below v d.phase) k.0.2 k.1.0 kept.1;
+    collects = λ c below v events after step k kept. advance_known script below v k.0.0.rises (Collecting c) events after (phase_advances script c below v c.phase events after step) k.0.2 k.1.0 kept.1;
   }
 
   step_kept : (w : World) (events : List Event) (after : World) → Step script w events after → Sound w × Calm script w × HasOrder w → IsAllKnown w → Kept after.objects w.stack

@@ -1,35 +1,31 @@
 -- Releases, deaths and collections leave the functions of frames known, and clear weak references the newest first.
-use Rattle.std.proofs.Common.{◌≡◌, ◌≢◌, refl, sym, ◌∙◌, ap, subst, ℕ, suc, ◌+◌, ◌-◌, ◌≤◌, ◌<◌, Bool, true, false, not, inl, inr, List, [], ◌∷◌, ◌++◌, reverse, Option, Some, None, arith}
-use Rattle.std.specs.Prelude.{◌==◌, ◌&&◌, if◌then◌else◌, filter, is_some, option_map, option_and_then, unwrap_or}
+use Rattle.std.proofs.Common.{◌≡◌, ◌≢◌, refl, sym, ◌∙◌, ap, subst, ℕ, suc, ◌≤◌, ◌<◌, Bool, true, false, inl, inr, List, [], ◌∷◌, ◌++◌, reverse, Option, Some, None, arith}
+use Rattle.std.specs.Prelude.{◌==◌, if◌then◌else◌, filter, flat_map, option_map, unwrap_or}
 use Rattle.std.proofs.lemmas.Bool.{eqb-false}
 use Rattle.std.proofs.lemmas.List.{reverse-append}
-use Rattle.cg_value.specs.declared.Entry.{Entry}
-use Rattle.cg_value.specs.declared.Place.TheVariants.{Gen, Pend, Seen, Untracked}
 use Rattle.cg_script.specs.declared.Script.{Script}
 use Rattle.cg_graph.specs.Member.{Includes}
-use Rattle.cg_graph.specs.Value.{references, last_entry}
-use Rattle.cg_graph.specs.Object.{Object, change, object_at, entries_of, is_in_map, is_tuple, marked, serials, with_entries, with_place, with_referent}
-use Rattle.cg_graph.proofs.Members.{either, Includes-append_cases, Includes-map, Includes-map_cases, Includes-filter, Includes-filter_cases}
+use Rattle.cg_graph.specs.Value.{references}
+use Rattle.cg_graph.specs.Object.{Object, object_at, serials, with_referent}
+use Rattle.cg_graph.proofs.Members.{either, Includes-append_cases, Includes-append_left, Includes-map, Includes-map_cases, Includes-filter, Includes-filter_cases}
 use Rattle.cg_machine.specs.declared.event.Event.{Event}
-use Rattle.cg_machine.specs.declared.event.Event.TheVariants.{Alive, BudgetSpent, Enter, GcSaved}
-use Rattle.cg_machine.specs.declared.event.FrameSort.{FrameSort}
-use Rattle.cg_machine.specs.declared.event.FrameSort.TheVariants.{Del, Legacy, Callback, Call}
 use Rattle.cg_machine.specs.declared.event.FrameSpec.{FrameSpec}
-use Rattle.cg_machine.specs.World.{World, Activity, Framed, Releasing, Frame, DyingPhase, Finalizer, AfterFinalizer, Clearing, Calling, AfterCall, LegacyFinalizer, AfterLegacy, Detaching, Emptying, Collection, CollectPhase, Start, WeakClearing, WeakCalling, AfterCallback, AfterRelease, Finalizing, AfterFinalizing, Split, Turns, Turn, AfterTurn, Ending, BudgetIsSpent, with_stack, with_change, with_objects}
-use Rattle.cg_machine.specs.Program.{body_of, legacy_of, profile_of}
-use Rattle.cg_machine.specs.Holdings.{in_degree, is_dying}
-use Rattle.cg_machine.specs.Frame.{Transition, start_frame, frame_end, gives_up_function, begin_death, released, procedure_of}
-use Rattle.cg_machine.specs.Weak.{has_weak_references, is_reference_to, weak_references, weak_references_if, loses_referent, callback_in, callback_of, is_function}
-use Rattle.cg_machine.specs.Dying.{death_at, has_finalizers, finalizer_to_run, run_finalizer, run_legacy, after_frame, clear_one, call_one, detach_one, empty_one, dying}
-use Rattle.cg_machine.specs.Collect.{collection_at, older, saved, WeakClearingStep, calls_back, after_release, looks_at, FinalizingStep, takes_turn, TurnsStep, has_flag, save_all, empties, PhaseStep, waits}
-use Rattle.cg_machine.specs.Laws.{all_waits, HasFunction}
+use Rattle.cg_machine.specs.World.{World, Activity, DyingPhase, Clearing}
+use Rattle.cg_machine.specs.Holdings.{holds}
+use Rattle.cg_machine.specs.Frame.{start_frame}
+use Rattle.cg_machine.specs.Weak.{has_weak_references, is_reference_to, weak_references, loses_referent, callback_in, callback_of, is_function}
+use Rattle.cg_machine.specs.Collect.{waits}
+use Rattle.cg_machine.specs.Laws.{all_waits, waits_of, HasFunction}
 use Rattle.cg_machine.proofs.Serials.{Rises, Rises-filter}
-use Rattle.cg_machine.proofs.Forgotten.{lives_within, entries_alter}
+use Rattle.cg_machine.proofs.Forgotten.{lives_within}
 use Rattle.cg_machine.proofs.FallsDeaths.{Includes-reverse, passed}
 use Rattle.cg_machine.proofs.Lookups.{Includes-reversed, callback_at, callback_first, same_object}
 use Rattle.cg_machine.proofs.Orderly.{waits_held}
 use Rattle.cg_machine.proofs.DyingOrderly.{HasOrder}
-use Rattle.cg_machine.proofs.Standing.{AreFunctions, HoldsIn, KnowsFunction, AreNewer, ClearsInOrder, AreKnown, IsAllKnown}
+use Rattle.cg_machine.proofs.Advances.{Advance, Plainly, WithFrame, HasChanged, changed_origin, ClearsNone, Continues, DeathGoesOn, DeathClears, CollectionGoesOn, FrameOf, OfFinalizer, OfLegacy, OfCallback, Tops, TopEnds, GivesFunction, GivesReference, BeginsDeath, TopGoesOn, GivesReferences}
+use Rattle.cg_machine.proofs.Starting.{starts_either}
+use Rattle.cg_machine.proofs.Invariants.{on}
+use Rattle.cg_machine.proofs.Standing.{AreFunctions, HoldsIn, KnowsFunction, AreNewer, ClearsInOrder, IsKnown, AreKnown, IsAllKnown}
 
 -- the first of falling serials is the greatest
 greatest_first : (low high : ℕ) (xs : List Object) → Rises low high xs → (weak : ℕ) (weaks : List ℕ) → reverse (serials xs) ≡ weak ∷ weaks → (q : ℕ) → Includes (serials xs) q → q ≤ weak
@@ -117,165 +113,54 @@ module _ (w : World) (rises : Rises 1 w.next_serial w.objects) (h : HasOrder w) 
 abbrev pub Stays : List Activity → World → Type 0
 Stays below next = AreKnown next.objects below → IsAllKnown next
 
--- one or the other
-pub either_stays : (below : List Activity) (t : Bool) (x y : Transition) → Stays below x.1 → Stays below y.1 → (let s : Transition = if t then x else y in Stays below s.1)
-either_stays below true x y h k = h
-either_stays below false x y h k = k
-
 -- a frame starts, whose function is known
 pub starts_known : (script : Script) (spec : FrameSpec) (u : World) (below : List Activity) → KnowsFunction u.objects spec.sort spec.subject spec.func u.stack → Stays below u → Stays below (start_frame script spec u).1
-starts_known script spec u below knows h = go (u.budget == 0)
-  where
-    frame : Activity
-    frame = Framed (record { sort = spec.sort; subject = spec.subject; function = spec.func; commands = body_of script spec.proc })
+starts_known script spec u below knows h = starts_either (λ lines. Stays below) script spec u h (λ some r. (knows, h r))
 
-    go : (t : Bool) → (let s : Transition = if t then (BudgetSpent ∷ [], record u { outcome = BudgetIsSpent }) else (Enter spec.sort spec.subject ∷ [], record u { budget = u.budget - 1; stack = frame ∷ u.stack }) in Stays below s.1)
-    go true = h
-    go false = λ r. (knows, h r)
+-- no weak reference waits at first
+fresh_in_order : (objects : List Object) (o : ℕ) (phase : DyingPhase) → ClearsNone phase → ClearsInOrder objects o phase
+fresh_in_order objects o (Clearing waiting) none = λ v q m. absurd (subst (λ ws. Includes ws v) none m)
+fresh_in_order objects o phase none = tt
 
--- a frame ends
-pub frame_end_known : (f : Frame) (below : List Activity) (v : World) → Stays below (frame_end f (with_stack below v)).1
-frame_end_known f below v = by_sort f.sort f.function
-  where
-    by_sort : (sort : FrameSort) (function : Option ℕ) → Stays below (gives_up_function sort function (with_stack below v))
-    by_sort Del function = λ r. r
-    by_sort Legacy function = λ r. r
-    by_sort Callback function = λ r. r
-    by_sort Call function = λ r. (tt, r)
+-- a step of another activity
+module _ (script : Script) (below : List Activity) (v : World) (rises : Rises 1 v.next_serial v.objects) where
+  continues_known : (after : List Object) (top a : Activity) → Continues v.objects after top a → IsKnown v.objects top below → AreKnown after below → AreKnown after (a ∷ below)
+  continues_known after top a (DeathGoesOn o phase next waits none) k r = (fresh_in_order after o next none, r)
+  continues_known after top a (DeathClears o weak waiting weaks t first lost) k r =
+      let all = passed (unwrap_or (option_map has_weak_references (object_at v.objects o)) false) (weak_references v.objects o) weak weaks first in
+      (subst (λ (os : List Object). AreNewer os o (waiting ++ (if t then weak ∷ [] else []))) (sym lost) (still_newer v.next_serial v.objects rises o weak weaks waiting all k t), r)
+  continues_known after top a (CollectionGoesOn c d same begun early) k r = (tt, r)
 
--- a release
-pub released_known : (references : List ℕ) (below : List Activity) (v : World) → Stays below (released references below (with_stack (Releasing references ∷ below) v)).1
-released_known [] below v = λ r. r
-released_known (o ∷ references) below v = either_stays below (not (is_dying now o) && (in_degree now o == 0)) ([], begin_death o now) ([], now) (λ r. (tt, (tt, r))) (λ r. (tt, r))
-  where
-    now : World
-    now = with_stack (Releasing references ∷ below) v
+  tops_known : (after : List Object) (top : Activity) (tops : List Activity) → Tops v.objects after top tops → IsKnown v.objects top below → AreKnown after below → AreKnown after (tops ++ below)
+  tops_known after top tops (TopEnds a gone) k r = r
+  tops_known after top tops (GivesFunction f references few) k r = (tt, r)
+  tops_known after top tops (GivesReference o references) k r = (tt, r)
+  tops_known after top tops (BeginsDeath o references) k r = (tt, (tt, r))
+  tops_known after top tops (TopGoesOn b a c held) k r = continues_known after b a c k r
+  tops_known after top tops (GivesReferences b a references few c held) k r = (tt, continues_known after b a c k r)
 
--- a death
-module _ (script : Script) (o : ℕ) (below : List Activity) (v : World) (rises : Rises 1 v.next_serial v.objects) where
-  abbrev at : DyingPhase → World
-  at phase = death_at o phase below v
-
-  finalizer_known : (m : Option ℕ) → Stays below (run_finalizer script o below (at Finalizer) m).1
-  finalizer_known None = λ r. ((λ s q m. absurd m), r)
-  finalizer_known (Some p) = starts_known script (record { sort = Del; proc = p; subject = o; func = None }) (death_at o AfterFinalizer below (with_change (λ x. marked (with_place (Gen 0) x)) o (at Finalizer))) below refl (λ r. (tt, r))
-
-  after_frame_known : (phase next : DyingPhase) → ((objects : List Object) → ClearsInOrder objects o next) → Stays below (after_frame o next below (at phase)).1
-  after_frame_known phase next fresh = either_stays below (in_degree (at next) o == 0) ([], with_change (with_place Untracked) o (at next)) (Alive o ∷ [], with_stack below (at phase)) (λ r. (fresh (change (with_place Untracked) o v.objects), r)) (λ r. r)
-
-  clearing_known : (waiting weaks : List ℕ) → weak_references_if has_weak_references v.objects o ≡ weaks → AreNewer v.objects o waiting → Stays below (clear_one o waiting below (at (Clearing waiting)) weaks).1
-  clearing_known waiting [] e newer = λ r. (tt, r)
-  clearing_known waiting (weak ∷ weaks) e newer =
-      let all = passed (unwrap_or (option_map has_weak_references (object_at v.objects o)) false) (weak_references v.objects o) weak weaks e in
-      λ r. (still_newer v.next_serial v.objects rises o weak weaks waiting all newer (is_some (callback_of v.objects weak)), r)
-
-  calling_known : (waiting : List ℕ) → HasOrder (at (Calling waiting)) → Stays below (call_one script o below (at (Calling waiting)) waiting).1
-  calling_known [] h = λ r. (tt, r)
-  calling_known (weak ∷ waiting) h = starts_known script (record { sort = Callback; proc = procedure_of (at (Calling (weak ∷ waiting))) called; subject = weak; func = Some called }) (death_at o (AfterCall weak called waiting) below (with_change (with_entries []) weak (at (Calling (weak ∷ waiting))))) below
-      (called, refl, record { functions = still; held = inl (inl refl) }) (λ r. (tt, r))
+  frame_known : (after : List Object) (top a : Activity) (spec : FrameSpec) → FrameOf v.objects after top a spec → HasChanged top v.objects after → HasOrder (on top below v) → KnowsFunction after spec.sort spec.subject spec.func (a ∷ below)
+  frame_known after top a spec (OfFinalizer o p) c h = refl
+  frame_known after top a spec (OfLegacy o p) c h = refl
+  frame_known after top a spec (OfCallback weak p waits held) c h = (
+    called,
+    refl,
+    record {
+      functions = λ y m e.
+          let x = changed_origin top v.objects after c y m in
+          let code : y.code ≡ x.0.code = x.2.code in
+          let same : is_function y ≡ is_function x.0 = cc in
+          same ∙ callback_functions (on top below v) rises h weak waits_there x.0 x.1 (sym x.2.serial ∙ e);
+      held = either held (λ m. inl (Includes-append_left (holds a) (flat_map holds below) called m)) (λ m. inr (Includes-append_left (waits_of a) (all_waits below) weak m.0, subst (λ os. HoldsIn os weak called) (sym m.1) (callback_held (on top below v) rises h weak waits_there)));
+    },
+  )
     where
       called : ℕ
       called = unwrap_or (callback_of v.objects weak) 0
 
-      still : AreFunctions (change (with_entries []) weak v.objects) called
-      still y m e =
-          let x = (entries_alter [] weak v.objects).origin y m in
-          let code : y.code ≡ x.0.code = x.2.code in
-          let same : is_function y ≡ is_function x.0 = cc in
-          same ∙ callback_functions (at (Calling (weak ∷ waiting))) rises h weak (inl refl) x.0 x.1 (sym x.2.serial ∙ e)
+      waits_there : Includes (all_waits (top ∷ below)) weak
+      waits_there = Includes-append_left (waits_of top) (all_waits below) weak waits
 
-  legacy_known : (m : Option ℕ) → Stays below (run_legacy script o below (at LegacyFinalizer) m).1
-  legacy_known None = λ r. (tt, r)
-  legacy_known (Some p) = starts_known script (record { sort = Legacy; proc = p; subject = o; func = None }) (death_at o AfterLegacy below (with_change (with_place (Gen 0)) o (at LegacyFinalizer))) below refl (λ r. (tt, r))
-
-  detaching_known : (weaks : List ℕ) → Stays below (detach_one o below (at Detaching) weaks).1
-  detaching_known [] = λ r. (tt, r)
-  detaching_known (weak ∷ weaks) = λ r. (tt, r)
-
-  emptying_known : (m : Option Entry) → Stays below (empty_one o below (at Emptying) m).1
-  emptying_known None = λ r. r
-  emptying_known (Some entry) = λ r. (tt, (tt, r))
-
-  pub dying_known : (phase : DyingPhase) → HasOrder (at phase) → ClearsInOrder v.objects o phase → Stays below (dying script o phase below (at phase)).1
-  dying_known Finalizer h k = finalizer_known (option_and_then (finalizer_to_run script) (object_at v.objects o))
-  dying_known AfterFinalizer h k = after_frame_known AfterFinalizer (Clearing []) (λ objects s q m. absurd m)
-  dying_known (Clearing waiting) h k = clearing_known waiting (weak_references_if has_weak_references v.objects o) refl k
-  dying_known (Calling waiting) h k = calling_known waiting h
-  dying_known (AfterCall weak called waiting) h k = λ r. (tt, (tt, r))
-  dying_known LegacyFinalizer h k = legacy_known (option_and_then (legacy_of script) (object_at v.objects o))
-  dying_known AfterLegacy h k = after_frame_known AfterLegacy Detaching (λ objects. tt)
-  dying_known Detaching h k = detaching_known (weak_references_if (has_finalizers script) v.objects o)
-  dying_known Emptying h k = emptying_known (last_entry (entries_of v.objects o))
-
--- a collection
-module _ (script : Script) (c : Collection) (below : List Activity) (v : World) (rises : Rises 1 v.next_serial v.objects) where
-  abbrev with_phase : CollectPhase → World
-  with_phase phase = collection_at c phase below v
-
-  -- the world that a step leaves, by what it is
-  to : (after next : World) → after ≡ next → Stays below next → Stays below after
-  to after next e k = subst (Stays below) (sym e) k
-
-  weak_clearing_known : (waiting : List ℕ) (events : List Event) (after : World) → WeakClearingStep (profile_of script.items) c waiting below (with_phase (WeakClearing waiting)) events after → Stays below after
-  weak_clearing_known waiting events after (inl step) = to after _ step.yields.1 (go (waits v.objects step.weak))
-    where
-      lost : List Object
-      lost = loses_referent step.weak v.objects
-
-      go : (t : Bool) → Stays below (if t then collection_at c (WeakClearing (waiting ++ step.weak ∷ [])) below (with_objects (change (with_place Pend) step.weak lost) (with_phase (WeakClearing waiting))) else collection_at c (WeakClearing waiting) below (with_objects lost (with_phase (WeakClearing waiting))))
-      go true = λ r. (tt, r)
-      go false = λ r. (tt, r)
-  weak_clearing_known waiting events after (inr step) = to after _ step.1.1 (λ r. (tt, r))
-
-  weak_calling_known : (waiting : List ℕ) → HasOrder (with_phase (WeakCalling waiting)) → Stays below (calls_back script c waiting below (with_phase (WeakCalling waiting))).1
-  weak_calling_known [] h = λ r. (tt, r)
-  weak_calling_known (weak ∷ waiting) h =
-      let now = with_phase (WeakCalling (weak ∷ waiting)) in
-      let called = unwrap_or (callback_of v.objects weak) 0 in
-      starts_known script (record { sort = Callback; proc = procedure_of (with_phase (WeakCalling (weak ∷ waiting))) called; subject = weak; func = Some called }) (with_phase (AfterCallback weak waiting)) below
-      (called, refl, record { functions = callback_functions now rises h weak (inl refl); held = inr (inl refl, callback_held now rises h weak (inl refl)) }) (λ r. (tt, r))
-
-  after_release_known : (weak : ℕ) (waiting : List ℕ) → Stays below (after_release c weak waiting below (with_phase (AfterRelease weak waiting))).1
-  after_release_known weak waiting = either_stays below (is_in_map v.objects weak)
-      ([], collection_at c (WeakCalling waiting) below (with_change (with_place (Gen (older c.generation))) weak (with_phase (AfterRelease weak waiting))))
-      ([], collection_at (record c { collected = c.collected + 1 }) (WeakCalling waiting) below (with_phase (AfterRelease weak waiting)))
-      (λ r. (tt, r)) (λ r. (tt, r))
-
-  looks_at_known : (o : ℕ) (m : Option ℕ) → Stays below (looks_at script c o below (with_phase Finalizing) m).1
-  looks_at_known o None = λ r. (tt, r)
-  looks_at_known o (Some p) = starts_known script (record { sort = Del; proc = p; subject = o; func = None }) (collection_at c (AfterFinalizing o) below (with_change (λ x. marked (with_place Seen x)) o (with_phase Finalizing))) below refl (λ r. (tt, r))
-
-  finalizing_known : (events : List Event) (after : World) → FinalizingStep script c below (with_phase Finalizing) events after → Stays below after
-  finalizing_known events after (inl step) = to after _ step.yields.1 (looks_at_known step.object (option_and_then (finalizer_to_run script) (object_at v.objects step.object)))
-  finalizing_known events after (inr step) = to after _ step.1.1 (λ r. (tt, r))
-
-  turn_known : (x : Object) → Stays below (takes_turn c x below (with_phase Turns)).1
-  turn_known x = go (has_flag c.flags save_all) (is_tuple x)
-    where
-      go : (s t : Bool) → (let next : Transition = if s then (GcSaved x.serial ∷ [], collection_at c Turns below (with_objects (change (with_place (Gen (older c.generation))) x.serial (saved x.serial v.objects)) (with_phase Turns)))
-          else if t then ([], collection_at c Turns below (with_change (with_place (Gen (older c.generation))) x.serial (with_phase Turns))) else ([], collection_at c (Turn x.serial) below (with_phase Turns)) in Stays below next.1)
-      go true t = λ r. (tt, r)
-      go false true = λ r. (tt, r)
-      go false false = λ r. (tt, r)
-
-  turns_known : (events : List Event) (after : World) → TurnsStep c below (with_phase Turns) events after → Stays below after
-  turns_known events after (inl step) = to after _ step.yields.1 (turn_known step.object)
-  turns_known events after (inr step) = to after _ step.1.1 (λ r. (tt, r))
-
-  empties_known : (o : ℕ) (m : Option Entry) → Stays below (empties c o below (with_phase (Turn o)) m).1
-  empties_known o None = λ r. (tt, (tt, r))
-  empties_known o (Some entry) = λ r. (tt, (tt, r))
-
-  pub phase_known : (phase : CollectPhase) (events : List Event) (after : World) → PhaseStep script c phase below (with_phase phase) events after → HasOrder (with_phase phase) → Stays below after
-  phase_known Start events after step h = to after _ step.world (λ r. (tt, r))
-  phase_known (WeakClearing waiting) events after step h = weak_clearing_known waiting events after step
-  phase_known (WeakCalling waiting) events after step h = to after _ step.1 (weak_calling_known waiting h)
-  phase_known (AfterCallback weak waiting) events after step h = to after _ step.1 (λ r. (tt, (tt, r)))
-  phase_known (AfterRelease weak waiting) events after step h = to after _ step.1 (after_release_known weak waiting)
-  phase_known Finalizing events after step h = finalizing_known events after step
-  phase_known (AfterFinalizing o) events after step h = to after _ step.1 (λ r. (tt, (tt, r)))
-  phase_known Split events after step h = to after _ step.world (λ r. (tt, r))
-  phase_known Turns events after step h = turns_known events after step
-  phase_known (Turn o) events after step h = to after _ step.1 (empties_known o (last_entry (entries_of v.objects o)))
-  phase_known (AfterTurn o) events after step h = to after _ step.1 (λ r. (tt, r))
-  phase_known Ending events after step h = to after _ step.world (λ r. r)
+  pub advance_known : (top : Activity) (lines : List Event) (after : World) → Advance script v top below lines after → HasOrder (on top below v) → IsKnown v.objects top below → Stays below after
+  advance_known top lines after (Plainly tops objects numbers ls t c n none) h k = tops_known objects top tops t k
+  advance_known top lines after (WithFrame spec a objects s c held m) h k = starts_known script spec (record v { objects = objects; stack = a ∷ below }) below (frame_known objects top a spec s m h) (continues_known objects top a c k)

@@ -50,9 +50,6 @@ is_split (Turn o) = inr (λ e. cc)
 is_split (AfterTurn o) = inr (λ e. cc)
 is_split Ending = inr (λ e. cc)
 
-early_begun : (phase : CollectPhase) → IsEarly phase → phase ≢ Start
-early_begun phase early e = subst IsEarly e early
-
 module _ (script : Script) (kept garbage aside : ℕ → Type 0) (start : List Object) (names : List (Option Val)) (below : List Activity) where
   abbrev StandAll : List Object → Type 0
   StandAll objects = (y : Object) → Includes objects y → StandsSo kept garbage aside y
@@ -136,7 +133,7 @@ module _ (script : Script) (kept garbage aside : ℕ → Type 0) (start : List O
       phase_early h.collection w fit.sound.rises h.same h.alike h.stands events after quiet running h.collection.phase h.early on (subst (λ st. StepOf script (with_stack st w) st events after) h.is step.step)
 
   no_stop_yet : (w : World) (events : List Event) (after : World) → Step script w events after → (h : Early w) → 0 < count_by is_stop events → ⊥
-  no_stop_yet w events after step h more = either (phase_quiet script h.collection h.collection.phase below (with_stack (Collecting h.collection ∷ below) w) events after (early_begun h.collection.phase h.early) (subst (λ st. StepOf script (with_stack st w) st events after) h.is step.step))
+  no_stop_yet w events after step h more = either (phase_quiet script h.collection below w events after (subst (λ st. StepOf script (with_stack st w) st events after) h.is step.step))
       (λ e. subst IsEarly e h.early) (λ q. let none = none_stops events q in omega (arith, none, more))
 
   pub finds_split : (w : World) (steps : List StepTaken) (stop : StepTaken) → Run script w (steps ++ stop ∷ []) → Fit script w → count_by is_enter (events_of steps) ≡ 0 → 0 < count_by is_stop stop.events → Early w → FoundSplit w steps

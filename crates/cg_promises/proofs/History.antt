@@ -28,10 +28,11 @@ use Rattle.cg_machine.proofs.Unheld.{IsStack}
 use Rattle.cg_laws.specs.Apart.{IsApart}
 use Rattle.cg_laws.proofs.RunsApart.{runs_apart}
 use Rattle.cg_laws.proofs.StepsPlain.{IsPlainUnder, step_plain}
+use Rattle.cg_machine.proofs.Advancing.{phase_advances}
 use Rattle.cg_promises.proofs.Leaves.{CallsBack, dying_takes, phase_takes, released_lengthens}
 use Rattle.cg_promises.proofs.Sealing.{alone_below}
 use Rattle.cg_promises.proofs.ToldRuns.{Fit, opening_fit, run_back, run_front, run_fit, step_fit}
-use Rattle.cg_promises.proofs.Turned.{AreFinal, FinalAt, IsEarly, final_stays, late_final, phase_stack}
+use Rattle.cg_promises.proofs.Turned.{AreFinal, FinalAt, early_after, final_stays, late_final}
 use Rattle.cg_promises.proofs.Waited.{Waited, step_waited}
 use Rattle.cg_machine.specs.Program.{declares_shutdown}
 use Rattle.cg_machine.specs.Shutdown.{greatest_bound, shut_down, after_commands}
@@ -104,8 +105,7 @@ module _ (script : Script) (budget : ℕ) where
         let taken : PhaseStep script c c.phase below (with_stack (Collecting c ∷ below) w) step.events step.world = subst (λ st. StepOf script (with_stack st w) st step.events step.world) top goes.step in
         late_final (WasFinal script budget longer) script c below w alone c.phase step.events step.world taken
         (λ o clears phase k. record { before = done; split = step; after = []; is = refl; splits = record { collection = c; below = below; top = top; phase = phase; clears = clears }; member = k })
-        (λ d m early other. phase_stack (λ st. (b : Collection) → Includes st (Collecting b) → IsEarly b.phase) (λ a st none death k b i. either i (λ e. absurd (let no : false ≡ true = sym none ∙ ap is_collection e in cc)) (k b)) script c below w (λ b i. absurd (alone b i)) c.phase
-        (λ b s e i. either i (λ k. let same : b ≡ e = cc in subst (λ (z : Collection). IsEarly z.phase) same (s early other)) (λ k. absurd (alone e k))) step.events step.world taken d m)
+        (λ d m early other. early_after script w c below alone step.events step.world (phase_advances script c below w c.phase step.events step.world taken) early other d m)
         (h c (subst (λ st. Includes st (Collecting c)) (sym top) (inl refl)))
 
     step_final : (stack : List Activity) → (world done).stack ≡ stack → AreFinal (WasFinal script budget longer) (world done).objects (world done).stack → AreFinal (WasFinal script budget longer) step.world.objects step.world.stack
@@ -176,7 +176,7 @@ module _ (script : Script) (budget : ℕ) where
     may (TopLevel commands ∷ below) top taken = let k = by_top_level commands below (due (on (TopLevel commands) below (world before))) refl taken in (k.0, none_due (TopLevel commands ∷ below) top k.1)
     may (Framed f ∷ below) top taken = let k = by_frame f f.commands refl below (due (on (Framed f) below (world before))) refl taken in (k.0, none_due (Framed f ∷ below) top k.1)
     may (ShuttingDown started ∷ below) top taken = unchanged _ taken.1 (shut_objects started (greatest_bound (on (ShuttingDown started) below (world before))) below (on (ShuttingDown started) below (world before)))
-    may (Releasing refs ∷ below) top taken = let z = released_lengthens refs below (world before) y (subst (λ (w : World). Includes w.objects y) taken.1 my) in
+    may (Releasing refs ∷ below) top taken = let z = released_lengthens refs below script (world before) y (subst (λ (w : World). Includes w.objects y) taken.1 my) in
         either z.3 (λ l. shorter (subst (λ q. IsLengthened q y) (is_x z.0 z.1 z.2) l)) (λ no. no)
     may (Dying d ∷ below) top taken =
         let z = dying_takes script d.object below (world before) d.phase y (subst (λ (w : World). Includes w.objects y) taken.1 my) in

@@ -1,5 +1,5 @@
 -- A full collection in which no frame begins keeps what is kept, up to its stop.
-use Rattle.std.proofs.Common.{◌≡◌, ◌≢◌, refl, sym, ◌∙◌, ap, subst, ℕ, ◌+◌, ◌-◌, Bool, true, false, not, ◌&&◌, inl, inr, List, [], ◌∷◌, ◌++◌, map, length, Option, Some, None, arith}
+use Rattle.std.proofs.Common.{◌≡◌, ◌≢◌, refl, sym, ◌∙◌, ap, subst, ℕ, ◌+◌, Bool, true, false, not, ◌&&◌, inl, inr, List, [], ◌∷◌, ◌++◌, map, length, Option, Some, None, arith}
 use Rattle.std.specs.Prelude.{◌==◌, cond, count_by, if◌then◌else◌, is_some, option_and_then}
 use Rattle.std.proofs.lemmas.Bool.{eqb-true}
 use Rattle.std.proofs.lemmas.List.Sums.{sum_by-cons}
@@ -12,9 +12,9 @@ use Rattle.cg_graph.specs.Value.{entry_references, last_entry, without_last}
 use Rattle.cg_graph.specs.Object.{Object, change, entries_of, is_at, is_in_map, is_tuple, object_at, objects_at, serials_at, with_place, with_referent}
 use Rattle.cg_graph.proofs.Members.{either, or_left, or_right, true_and, Includes-filter_cases, Includes-map_cases}
 use Rattle.cg_machine.specs.declared.event.Event.{Event}
-use Rattle.cg_machine.specs.declared.event.Event.TheVariants.{Alive, BudgetSpent, Enter, GcSaved, GcUncollectable, Collected}
+use Rattle.cg_machine.specs.declared.event.Event.TheVariants.{Alive, Enter, GcSaved, GcUncollectable, Collected}
 use Rattle.cg_machine.specs.declared.event.FrameSpec.{FrameSpec}
-use Rattle.cg_machine.specs.Program.{body_of, legacy_of, profile_of}
+use Rattle.cg_machine.specs.Program.{legacy_of, profile_of}
 use Rattle.cg_machine.specs.World.{World, Activity, TopLevel, Framed, Releasing, Dying, Collecting, Collection, DyingPhase, Finalizer, AfterFinalizer, Clearing, Calling, AfterCall, LegacyFinalizer, AfterLegacy, Detaching, Emptying, CollectPhase, Start, WeakClearing, WeakCalling, AfterCallback, AfterRelease, Finalizing, AfterFinalizing, Split, Turns, Turn, AfterTurn, Ending, Running, BudgetIsSpent, with_change, with_objects, with_stack, ShuttingDown}
 use Rattle.cg_machine.specs.Holdings.{in_degree, is_dying}
 use Rattle.cg_machine.specs.Frame.{Transition, Yields, begin_death, released, start_frame}
@@ -23,6 +23,7 @@ use Rattle.cg_machine.specs.Dying.{after_frame, call_one, clear_one, death_at, d
 use Rattle.cg_machine.specs.Collect.{after_release, calls_back, collection_at, empties, get_older, has_flag, is_condemned, lines_if, looks_at, loses_at_split, older, save_all, saved, takes_turn, uncollectable, waits, FinalizingStep, PhaseStep, SplitStep, TurnsStep, WeakClearingStep}
 use Rattle.cg_machine.specs.Run.{StepOf}
 use Rattle.cg_machine.specs.Laws.{is_enter, is_stop}
+use Rattle.cg_machine.proofs.Starting.{starts_either}
 use Rattle.cg_machine.proofs.Lookups.{same_object}
 use Rattle.cg_machine.proofs.Serials.{Rises}
 use Rattle.cg_promises.proofs.Kept.{Fares, Full, IsBare, IsKeptBy, Leaves, all_lose_leaves, entries_leave, leaves_same, leaves_trans, lives_on, lost_leaves, never_released, placed_leaves, saved_leaves, test_leaves, turns_of, without_leaves}
@@ -31,17 +32,12 @@ use Rattle.cg_promises.proofs.SlackStart.{not_false}
 
 -- no frame begins
 pub starts_none : (script : Script) (spec : FrameSpec) (u : World) (events : List Event) (after : World) → Yields (start_frame script spec u) events after → count_by is_enter events ≡ 0 → after.outcome ≡ Running → ⊥
-starts_none script spec u events after step quiet running = go (u.budget == 0) step
-  where
-    frame : Activity
-    frame = Framed (record { sort = spec.sort; subject = spec.subject; function = spec.func; commands = body_of script spec.proc })
-
-    go : (t : Bool) → Yields (if t then (BudgetSpent ∷ [], record u { outcome = BudgetIsSpent }) else (Enter spec.sort spec.subject ∷ [], record u { budget = u.budget - 1; stack = frame ∷ u.stack })) events after → ⊥
-    go true s = let no : BudgetIsSpent ≡ Running = sym (ap (λ (z : World). z.outcome) s.1) ∙ running in cc
-    go false s =
-        let none : count_by is_enter (Enter spec.sort spec.subject ∷ []) ≡ 0 = ap (count_by is_enter) (sym s.0) ∙ quiet in
-        let one : count_by is_enter (Enter spec.sort spec.subject ∷ []) ≡ 1 + count_by is_enter [] = sum_by-cons (λ x. cond (is_enter x) 1 0) (Enter spec.sort spec.subject) [] in
-        omega (arith, none, one)
+starts_none script spec u events after step quiet running = starts_either (λ es w. events ≡ es → after ≡ w → ⊥) script spec u
+    (λ e k. let no : BudgetIsSpent ≡ Running = sym (ap (λ (z : World). z.outcome) k) ∙ running in cc)
+    (λ some e k.
+    let none : count_by is_enter (Enter spec.sort spec.subject ∷ []) ≡ 0 = ap (count_by is_enter) (sym e) ∙ quiet in
+    let one : count_by is_enter (Enter spec.sort spec.subject ∷ []) ≡ 1 + count_by is_enter [] = sum_by-cons (λ x. cond (is_enter x) 1 0) (Enter spec.sort spec.subject) [] in
+    omega (arith, none, one)) step.0 step.1
 
 module _ (script : Script) (kept : ℕ → Type 0) (start : List Object) (below : List Activity) (v : World) (rises : Rises 1 v.next_serial v.objects) (held : (o : ℕ) → kept o → IsKeptBy kept start v.names below o) (there : (o : ℕ) → kept o → (x : Object) × Includes start x × (x.serial ≡ o))
     (lives : (x : Object) → Includes start x → kept x.serial → (y : Object) × Includes v.objects y × Fares x y) where

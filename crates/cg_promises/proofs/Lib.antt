@@ -29,7 +29,6 @@ pub mod SlackCollections
 pub mod SlackCommands
 pub mod SlackRuns
 pub mod Young
-pub mod YoungCollections
 pub mod YoungRuns
 pub mod FullStart
 pub mod Kept

@@ -1,6 +1,6 @@
 -- What nothing holds is dying: of the parts of a world. A step that moves what entries or activities held to another activity
 -- keeps it so. A weak reference has one entry at most, so that no more is lost when its callback is taken out.
-use Rattle.std.proofs.Common.{◌≡◌, ◌≢◌, refl, sym, ◌∙◌, subst, ℕ, ◌-◌, ◌<◌, Bool, true, false, inl, inr, ◌⊎◌, List, [], ◌∷◌, ◌++◌, length, map, Option, None}
+use Rattle.std.proofs.Common.{◌≡◌, ◌≢◌, refl, sym, ◌∙◌, subst, ℕ, ◌<◌, Bool, true, false, inl, inr, ◌⊎◌, List, [], ◌∷◌, ◌++◌, length, map, Option, None}
 use Rattle.std.specs.Prelude.{◌==◌, ◌||◌, if◌then◌else◌, flat_map}
 use Rattle.std.specs.List.{list_any}
 use Rattle.cg_value.specs.declared.Val.{Val}
@@ -11,12 +11,11 @@ use Rattle.cg_graph.specs.Value.{references}
 use Rattle.cg_graph.specs.Object.{Object, change, serials, with_place, with_referent}
 use Rattle.cg_graph.specs.Holdings.{entry_holdings, graph_of, name_holdings}
 use Rattle.cg_graph.proofs.Members.{either, Includes-append_left, Includes-append_right, Includes-append_cases, Includes-map, Includes-map_cases}
-use Rattle.cg_machine.specs.declared.event.Event.TheVariants.{Enter, BudgetSpent}
 use Rattle.cg_machine.specs.declared.event.FrameSpec.{FrameSpec}
-use Rattle.cg_machine.specs.Program.{body_of}
-use Rattle.cg_machine.specs.Frame.{Transition, start_frame}
-use Rattle.cg_machine.specs.World.{World, Activity, Framed, Releasing, BudgetIsSpent}
+use Rattle.cg_machine.specs.Frame.{start_frame}
+use Rattle.cg_machine.specs.World.{World, Activity, Releasing}
 use Rattle.cg_machine.specs.Holdings.{holdings, holds, in_degree, is_death_of}
+use Rattle.cg_machine.proofs.Starting.{begun_frame, starts_either}
 use Rattle.cg_machine.proofs.Releasing.{entry_holder, no_times, none_holds}
 use Rattle.cg_script.specs.declared.Script.{Script}
 use Rattle.cg_machine.specs.Weak.{loses_referent}
@@ -154,14 +153,7 @@ push_minded k a objects names stack deaths h = stack_minded k objects objects na
 
 -- a frame starts
 pub starts_minded : (k : ℕ) (script : Script) (spec : FrameSpec) (u : World) → IsMinded k u → IsMinded k (start_frame script spec u).1
-starts_minded k script spec u h = go (u.budget == 0)
-  where
-    frame : Activity
-    frame = Framed (record { sort = spec.sort; subject = spec.subject; function = spec.func; commands = body_of script spec.proc })
-
-    go : (t : Bool) → (let s : Transition = if t then (BudgetSpent ∷ [], record u { outcome = BudgetIsSpent }) else (Enter spec.sort spec.subject ∷ [], record u { budget = u.budget - 1; stack = frame ∷ u.stack }) in IsMinded k s.1)
-    go true = record { minds = h.minds; single = h.single; count = h.count }
-    go false = push_minded k frame u.objects u.names u.stack (λ n. refl) h
+starts_minded k script spec u h = starts_either (λ lines. IsMinded k) script spec u (record { minds = h.minds; single = h.single; count = h.count }) (λ some. push_minded k (begun_frame script spec) u.objects u.names u.stack (λ n. refl) h)
 
 -- what nothing holds has in-degree 0, and the other way round
 pub free_degree : (w : World) (o : ℕ) → IsFree w.objects w.names w.stack o → in_degree w o ≡ 0
@@ -175,7 +167,3 @@ free_degree w o f = no_times o (holdings w) (λ m. either (Includes-append_cases
 
 pub degree_free : (w : World) (o : ℕ) → in_degree w o ≡ 0 → IsFree w.objects w.names w.stack o
 degree_free w o e = let h = none_holds w o e in record { names_none = h.names; root_not = h.root; entries_none = h.entries; stack_none = h.stack }
-
-pub either_minded : (k : ℕ) (t : Bool) (x y : Transition) → IsMinded k x.1 → IsMinded k y.1 → (let s : Transition = if t then x else y in IsMinded k s.1)
-either_minded k true x y h i = h
-either_minded k false x y h i = i

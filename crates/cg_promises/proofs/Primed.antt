@@ -1,6 +1,6 @@
 -- While a collection is under way no condemned object has a legacy finalizer, and those that were looked at have no finalizer to
 -- run.
-use Rattle.std.proofs.Common.{◌≡◌, ◌≢◌, refl, sym, ◌∙◌, ap, subst, ℕ, ◌+◌, ◌-◌, Bool, true, false, not, ◌&&◌, inl, inr, ◌⊎◌, List, [], ◌∷◌, ◌++◌, map, length, Option, Some, None, arith}
+use Rattle.std.proofs.Common.{◌≡◌, ◌≢◌, refl, sym, ◌∙◌, ap, subst, ℕ, ◌+◌, Bool, true, false, not, ◌&&◌, inl, inr, ◌⊎◌, List, [], ◌∷◌, ◌++◌, map, length, Option, Some, None, arith}
 use Rattle.std.specs.Prelude.{◌==◌, ◌||◌, if◌then◌else◌, is_some, nat_le, option_and_then, unwrap_or}
 use Rattle.std.proofs.lemmas.Bool.{eqb-true}
 use Rattle.cg_value.specs.declared.Entry.{Entry}
@@ -14,17 +14,18 @@ use Rattle.cg_graph.specs.Value.{entry_references, item, last_entry, without_las
 use Rattle.cg_graph.specs.Object.{Object, change, object_at, objects_at, entries_of, is_at, is_in_map, is_tracked, is_tuple, marked, same_place, serials_at, with_entries, with_place, with_referent}
 use Rattle.cg_graph.proofs.Members.{either, Includes-filter, Includes-map, Includes-map_cases}
 use Rattle.cg_machine.specs.declared.event.Event.{Event}
-use Rattle.cg_machine.specs.declared.event.Event.TheVariants.{BudgetSpent, Enter, GcSaved}
+use Rattle.cg_machine.specs.declared.event.Event.TheVariants.{GcSaved}
 use Rattle.cg_machine.specs.declared.event.FrameSort.TheVariants.{Del, Callback}
 use Rattle.cg_machine.specs.declared.event.FrameSpec.{FrameSpec}
-use Rattle.cg_machine.specs.Program.{body_of, finalizer_of, legacy_of, profile_of}
-use Rattle.cg_machine.specs.World.{World, Activity, Framed, Releasing, Collecting, Collection, CollectPhase, Start, WeakClearing, WeakCalling, AfterCallback, AfterRelease, Finalizing, AfterFinalizing, Split, Turns, Turn, AfterTurn, Ending, BudgetIsSpent, with_change, with_objects}
+use Rattle.cg_machine.specs.Program.{finalizer_of, legacy_of, profile_of}
+use Rattle.cg_machine.specs.World.{World, Activity, Releasing, Collecting, Collection, CollectPhase, Start, WeakClearing, WeakCalling, AfterCallback, AfterRelease, Finalizing, AfterFinalizing, Split, Turns, Turn, AfterTurn, Ending, with_change, with_objects}
 use Rattle.cg_machine.specs.Frame.{Transition, procedure_of, start_frame}
 use Rattle.cg_machine.specs.Weak.{AllLose, callback_of, loses_referent}
 use Rattle.cg_machine.specs.Dying.{finalizer_to_run}
 use Rattle.cg_machine.specs.Operands.{is_dict}
 use Rattle.cg_machine.specs.Collect.{IsGarbage, IsSetAside, IsMemberOf, Survives, all_saved, calls_back, after_release, collection_at, empties, get_older, has_flag, has_legacy, has_none_tracked, looks_at, loses_at_split, merged, merged_place, older, save_all, saved, sorted, survivor_place, takes_turn, untrack, untracked_if, waits, EndStep, FinalizingStep, PhaseStep, SplitStep, Sorts, StartStep, TurnsStep, WeakClearingStep}
 use Rattle.cg_machine.specs.Laws.{HadItsPlace, IsOfCollection}
+use Rattle.cg_machine.proofs.Starting.{begun_frame, starts_either}
 use Rattle.cg_machine.proofs.Serials.{Rises, Rises-map}
 use Rattle.cg_machine.proofs.Forgotten.{lives_within}
 use Rattle.cg_machine.proofs.Lookups.{at_member, same_object}
@@ -170,14 +171,7 @@ pub over_primed : (script : Script) (a : Activity) (objects : List Object) (stac
 over_primed script a objects stack apart h = record { no_legacy = h.no_legacy; ran = λ c m. either m (λ e. absurd (apart c e)) (h.ran c) }
 
 starts_primed : (script : Script) (spec : FrameSpec) (u : World) → Primed script u.objects u.stack → (let s : Transition = start_frame script spec u in Primed script s.1.objects s.1.stack)
-starts_primed script spec u h = go (u.budget == 0)
-  where
-    frame : Activity
-    frame = Framed (record { sort = spec.sort; subject = spec.subject; function = spec.func; commands = body_of script spec.proc })
-
-    go : (t : Bool) → (let s : Transition = if t then (BudgetSpent ∷ [], record u { outcome = BudgetIsSpent }) else (Enter spec.sort spec.subject ∷ [], record u { budget = u.budget - 1; stack = frame ∷ u.stack }) in Primed script s.1.objects s.1.stack)
-    go true = h
-    go false = over_primed script frame u.objects u.stack (λ c e. cc) h
+starts_primed script spec u h = starts_either (λ lines w. Primed script w.objects w.stack) script spec u h (λ some. over_primed script (begun_frame script spec) u.objects u.stack (λ c e. cc) h)
 
 -- the steps of a collection
 module _ (script : Script) (c : Collection) (below : List Activity) (v : World) (rises : Rises 1 v.next_serial v.objects) (alone : NoneCollects below) where

@@ -1,6 +1,6 @@
 -- The members of a final set, while its collection goes on: only members and releases hold them, they refer to nothing weakly
 -- and nothing to them, no finalizer of theirs is to run, and no frame has them. What a step has to do to keep that.
-use Rattle.std.proofs.Common.{◌≡◌, ◌≢◌, refl, sym, ◌∙◌, ap, subst, ℕ, ◌-◌, ◌<◌, ◌≤◌, Bool, true, false, inl, inr, ◌⊎◌, List, [], ◌∷◌, map, Option, Some, None, arith}
+use Rattle.std.proofs.Common.{◌≡◌, ◌≢◌, refl, sym, ◌∙◌, ap, subst, ℕ, ◌<◌, ◌≤◌, Bool, true, false, inl, inr, ◌⊎◌, List, [], ◌∷◌, map, Option, Some, None, arith}
 use Rattle.std.specs.Prelude.{◌==◌, ◌||◌, if◌then◌else◌, is_some}
 use Rattle.std.specs.List.{list_any}
 use Rattle.std.proofs.lemmas.Bool.{eqb-true}
@@ -17,13 +17,14 @@ use Rattle.cg_graph.proofs.Members.{either, or_right, Includes-map, Includes-map
 use Rattle.cg_machine.specs.declared.event.Event.{Event}
 use Rattle.cg_machine.specs.declared.event.Event.TheVariants.{BudgetSpent, Enter, Free}
 use Rattle.cg_machine.specs.declared.event.FrameSpec.{FrameSpec}
-use Rattle.cg_machine.specs.Program.{body_of, finalizer_of, legacy_of}
-use Rattle.cg_machine.specs.World.{World, Activity, TopLevel, Framed, Releasing, Dying, Death, Collecting, Collection, CollectPhase, Turns, Turn, AfterTurn, Ending, BudgetIsSpent, ShuttingDown}
+use Rattle.cg_machine.specs.Program.{finalizer_of, legacy_of}
+use Rattle.cg_machine.specs.World.{World, Activity, TopLevel, Framed, Releasing, Dying, Death, Collecting, Collection, CollectPhase, Turns, Turn, AfterTurn, Ending, ShuttingDown}
 use Rattle.cg_machine.specs.Holdings.{dying_holds, holds, is_collection, is_death_of}
 use Rattle.cg_machine.specs.Frame.{Transition, Yields, start_frame}
 use Rattle.cg_machine.specs.Weak.{loses_referent}
 use Rattle.cg_machine.specs.Collect.{has_flag, save_all}
 use Rattle.cg_machine.specs.Laws.{is_stop, named}
+use Rattle.cg_machine.proofs.Starting.{begun_frame, starts_either}
 use Rattle.cg_machine.proofs.Forgotten.{IsLater, some_later, none_later}
 
 -- the phases after the second detection
@@ -295,18 +296,8 @@ module _ (script : Script) (members : List ℕ) where
 
   -- a frame starts
   pub starts_sealed : (spec : FrameSpec) (u : World) → (¬ Includes members spec.subject) → ((g : ℕ) → spec.func ≡ Some g → ¬ Includes members g) → Sealed script members u.objects u.names u.stack u.next_serial → (let s : Transition = start_frame script spec u in Passes script members s.0 s.1)
-  starts_sealed spec u subject function h = go (u.budget == 0)
-    where
-      frame : Activity
-      frame = Framed (record { sort = spec.sort; subject = spec.subject; function = spec.func; commands = body_of script spec.proc })
-
-      go : (t : Bool) → (let s : Transition = if t then (BudgetSpent ∷ [], record u { outcome = BudgetIsSpent }) else (Enter spec.sort spec.subject ∷ [], record u { budget = u.budget - 1; stack = frame ∷ u.stack }) in Passes script members s.0 s.1)
-      go true = record { sealed = h; lines = one_still members BudgetSpent refl (λ n m. absurd m) }
-      go false = record { sealed = push_sealed frame u.stack u.objects u.names u.next_serial (subject, function) refl h; lines = one_still members (Enter spec.sort spec.subject) refl (λ n m k. absurd (either m (λ e. subject (subst (Includes members) (sym e) k)) (λ no. no))) }
+  starts_sealed spec u subject function h = starts_either (Passes script members) script spec u (record { sealed = h; lines = one_still members BudgetSpent refl (λ n m. absurd m) })
+      (λ some. record { sealed = push_sealed (begun_frame script spec) u.stack u.objects u.names u.next_serial (subject, function) refl h; lines = one_still members (Enter spec.sort spec.subject) refl (λ n m k. absurd (either m (λ e. subject (subst (Includes members) (sym e) k)) (λ no. no))) })
 
   pub yields_sealed : (t : Transition) (events : List Event) (after : World) → Yields t events after → Passes script members t.0 t.1 → Passes script members events after
   yields_sealed t events after step h = subst (λ es. Passes script members es after) (sym step.0) (subst (Passes script members t.0) (sym step.1) h)
-
-  pub either_sealed : (t : Bool) (x y : Transition) → Passes script members x.0 x.1 → Passes script members y.0 y.1 → (let s : Transition = if t then x else y in Passes script members s.0 s.1)
-  either_sealed true x y h i = h
-  either_sealed false x y h i = i

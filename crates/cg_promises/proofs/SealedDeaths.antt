@@ -23,12 +23,13 @@ use Rattle.cg_machine.specs.Frame.{Transition, frame_end, gives_up_function, beg
 use Rattle.cg_machine.specs.Weak.{has_weak_references, is_reference_to, weak_references, weak_references_if, loses_referent, callback_in, callback_of}
 use Rattle.cg_machine.specs.Dying.{death_at, has_finalizers, finalizer_to_run, run_finalizer, run_legacy, after_frame, clear_one, call_one, detach_one, empty_one, dying}
 use Rattle.cg_machine.specs.Collect.{collection_at, empties, has_flag, older, save_all, saved, takes_turn, PhaseStep}
+use Rattle.cg_machine.proofs.Starting.{either_way}
 use Rattle.cg_machine.proofs.Serials.{Rises}
 use Rattle.cg_machine.proofs.Lookups.{callback_first, found_at, references_take, same_object}
 use Rattle.cg_promises.proofs.Moved.{entries_of_member, last_none}
 use Rattle.cg_promises.proofs.Told.{without_gone}
 use Rattle.cg_promises.proofs.ToldDeaths.{reversed_back}
-use Rattle.cg_promises.proofs.Sealed.{Comes, Excused, Fewer, Fits, IsDone, IsLate, IsLesser, IsMeek, Passes, Sealed, Shrinks, change_shrinks, either_sealed, gen_apart, goes_sealed, loosen, lost_shrinks, none_out, one_still, others_come, place_sealed, placed_lesser, pop_sealed, push_sealed, same_shrinks, shrinks_sealed, shrunk, starts_sealed, still_excused, turn_sealed, untracked_apart, yields_sealed}
+use Rattle.cg_promises.proofs.Sealed.{Comes, Excused, Fewer, Fits, IsDone, IsLate, IsLesser, IsMeek, Passes, Sealed, Shrinks, change_shrinks, gen_apart, goes_sealed, loosen, lost_shrinks, none_out, one_still, others_come, place_sealed, placed_lesser, pop_sealed, push_sealed, same_shrinks, shrinks_sealed, shrunk, starts_sealed, still_excused, turn_sealed, untracked_apart, yields_sealed}
 
 -- a weak reference that is found refers
 weak_refers : (test : Object → Bool) (objects : List Object) (o weak : ℕ) (weaks : List ℕ) → weak_references_if test objects o ≡ weak ∷ weaks → (x : Object) × Includes objects x × (x.serial ≡ weak) × (x.referent ≢ None)
@@ -82,7 +83,7 @@ module _ (script : Script) (members : List ℕ) where
 
   pub released_sealed : (refs : List ℕ) (below : List Activity) (v : World) → Sealed script members v.objects v.names (Releasing refs ∷ below) v.next_serial → (let s : Transition = released refs below (with_stack (Releasing refs ∷ below) v) in Passes script members s.0 s.1)
   released_sealed [] below v h = record { sealed = pop_sealed script members (Releasing []) below v.objects v.objects v.names v.next_serial (shrunk script members v.objects v.objects v.next_serial (same_shrinks v.objects)) refl (λ n m l. refl) h; lines = none_out members }
-  released_sealed (o ∷ refs) below v h = either_sealed script members (not (is_dying now o) && (in_degree now o == 0)) ([], begin_death o now) ([], now)
+  released_sealed (o ∷ refs) below v h = either_way (Passes script members) (not (is_dying now o) && (in_degree now o == 0)) ([], begin_death o now) ([], now)
       (record {
         sealed = place_sealed script members dead o v.objects v.names (Dying (record { object = o; phase = Finalizer }) ∷ Releasing refs ∷ below) v.next_serial
             (λ x. record { later = record { serial = refl; code = refl; class = refl; referent = inr refl }; finalized = λ e. e; place = λ e. absurd (untracked_apart e) }) (λ x. refl)
@@ -177,7 +178,7 @@ module _ (script : Script) (members : List ℕ) where
         go false t = refl
 
     after_frame_sealed : (phase next : DyingPhase) → Includes (dying_holds o phase) o → dying_holds o next ≡ [] → SealedAt phase → Does (after_frame o next below (at phase))
-    after_frame_sealed phase next holds none h = either_sealed script members (in_degree (at next) o == 0) ([], with_change (with_place Untracked) o (at next)) (Alive o ∷ [], with_stack below (at phase))
+    after_frame_sealed phase next holds none h = either_way (Passes script members) (in_degree (at next) o == 0) ([], with_change (with_place Untracked) o (at next)) (Alive o ∷ [], with_stack below (at phase))
         (silent phase next (change (with_place Untracked) o v.objects) (changed phase (with_place Untracked) (placed_lesser script members Untracked untracked_apart) (λ x. refl) (held phase h o holds) h) (λ n m. absurd (subst (λ ns. Includes ns n) none m)) h)
         (record {
           sealed = pop_sealed script members (dying_now phase) below v.objects v.objects v.names v.next_serial same refl (λ n m l. apart (held phase h o holds) n m) h;

@@ -1,6 +1,6 @@
 -- Untracked objects, of the parts of a world: what they refer to, and what a change of the objects keeps of that. Beside it,
 -- what a collection gives up and places anew is no tuple.
-use Rattle.std.proofs.Common.{◌≡◌, ◌≢◌, refl, sym, ◌∙◌, subst, ℕ, ◌-◌, ◌<◌, Bool, true, false, inl, inr, ◌⊎◌, List, [], ◌∷◌, map, None}
+use Rattle.std.proofs.Common.{◌≡◌, ◌≢◌, refl, sym, ◌∙◌, subst, ℕ, ◌<◌, Bool, true, false, inl, inr, ◌⊎◌, List, ◌∷◌, map, None}
 use Rattle.std.specs.Prelude.{◌==◌, if◌then◌else◌}
 use Rattle.cg_value.specs.declared.Place.{Place}
 use Rattle.cg_value.specs.declared.Place.TheVariants.{Untracked}
@@ -9,15 +9,14 @@ use Rattle.cg_graph.specs.Member.{Includes}
 use Rattle.cg_graph.specs.Value.{references}
 use Rattle.cg_graph.specs.Object.{Object, is_tuple, with_place, with_referent}
 use Rattle.cg_graph.proofs.Members.{either, Includes-map_cases}
-use Rattle.cg_machine.specs.declared.event.Event.TheVariants.{Enter, BudgetSpent}
 use Rattle.cg_machine.specs.declared.event.FrameSpec.{FrameSpec}
-use Rattle.cg_machine.specs.Program.{body_of}
-use Rattle.cg_machine.specs.Frame.{Transition, start_frame}
+use Rattle.cg_machine.specs.Frame.{start_frame}
 use Rattle.cg_machine.specs.Operands.{is_dict}
 use Rattle.cg_machine.specs.Weak.{loses_referent}
-use Rattle.cg_machine.specs.World.{World, Activity, Framed, Dying, Death, Collecting, Collection, BudgetIsSpent}
+use Rattle.cg_machine.specs.World.{World, Activity, Dying, Death, Collecting, Collection}
 use Rattle.cg_machine.specs.Laws.{runs_own_frame}
 use Rattle.cg_laws.specs.Apart.{handles}
+use Rattle.cg_machine.proofs.Starting.{begun_frame, starts_either}
 
 -- each object of a serial is an untracked tuple
 abbrev pub IsLoose : List Object → ℕ → Type 0
@@ -166,15 +165,4 @@ push_slack next a stack objects handled h = moves_slack Never next objects objec
 
 -- a frame starts
 pub starts_slack : (script : Script) (spec : FrameSpec) (u : World) → IsSlackWorld u → IsSlackWorld (start_frame script spec u).1
-starts_slack script spec u h = go (u.budget == 0)
-  where
-    frame : Activity
-    frame = Framed (record { sort = spec.sort; subject = spec.subject; function = spec.func; commands = body_of script spec.proc })
-
-    go : (t : Bool) → (let s : Transition = if t then (BudgetSpent ∷ [], record u { outcome = BudgetIsSpent }) else (Enter spec.sort spec.subject ∷ [], record u { budget = u.budget - 1; stack = frame ∷ u.stack }) in IsSlackWorld s.1)
-    go true = record { slack = h.slack; handled = h.handled }
-    go false = push_slack u.next_serial frame u.stack u.objects (λ c e. cc) h
-
-pub either_slack : (t : Bool) (x y : Transition) → IsSlackWorld x.1 → IsSlackWorld y.1 → (let s : Transition = if t then x else y in IsSlackWorld s.1)
-either_slack true x y h i = h
-either_slack false x y h i = i
+starts_slack script spec u h = starts_either (λ lines. IsSlackWorld) script spec u (record { slack = h.slack; handled = h.handled }) (λ some. push_slack u.next_serial (begun_frame script spec) u.stack u.objects (λ c e. cc) h)

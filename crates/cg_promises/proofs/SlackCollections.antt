@@ -22,13 +22,14 @@ use Rattle.cg_machine.specs.Frame.{Transition, procedure_of}
 use Rattle.cg_machine.specs.Weak.{AllLose, callback_of, loses_referent}
 use Rattle.cg_machine.specs.Dying.{finalizer_to_run}
 use Rattle.cg_machine.specs.Collect.{all_saved, calls_back, after_release, collection_at, empties, get_older, has_flag, is_condemned, is_condemned_in, loses_in_weak_phase, looks_at, loses_at_split, merged, merged_place, older, save_all, saved, sorted, takes_turn, waits, EndStep, FinalizingStep, PhaseStep, SplitStep, StartStep, Survives, TurnsStep, WeakClearingStep}
+use Rattle.cg_machine.proofs.Starting.{either_way}
 use Rattle.cg_machine.proofs.Serials.{Rises, Rises-map}
 use Rattle.cg_machine.proofs.Lookups.{same_object}
 use Rattle.cg_machine.proofs.Forgotten.{lives_within}
 use Rattle.cg_machine.proofs.DyingOrderly.{HasOrder}
 use Rattle.cg_laws.specs.Apart.{handles}
 use Rattle.cg_laws.proofs.SetsApart.{is_tracked_at}
-use Rattle.cg_promises.proofs.Slack.{AreNoTuples, Fine, IsNoTuple, IsSlackWorld, Never, Slack, Still, either_slack, excused_on, lost_still, moves_slack, placed_goes, push_slack, starts_slack, still_same, still_trans, test_still, turn_slack}
+use Rattle.cg_promises.proofs.Slack.{AreNoTuples, Fine, IsNoTuple, IsSlackWorld, Never, Slack, Still, excused_on, lost_still, moves_slack, placed_goes, push_slack, starts_slack, still_same, still_trans, test_still, turn_slack}
 use Rattle.cg_promises.proofs.SlackDeaths.{shortened_still}
 use Rattle.cg_promises.proofs.SlackStart.{Anew, merge_still, sort_still}
 use Rattle.cg_machine.specs.Program.{profile_of}
@@ -178,7 +179,7 @@ module _ (script : Script) (c : Collection) (below : List Activity) (v : World) 
   handed phase o m h = one_still Never (Gen (older c.generation)) o v.objects (older_tracked (older c.generation)) (λ x i s t. absurd (false_true (sym t ∙ (at_hand phase h o m).1 x i s)))
 
   after_release_slack : (weak : ℕ) (waiting : List ℕ) → IsSlackWorld (at (AfterRelease weak waiting)) → IsSlackWorld (after_release c weak waiting below (at (AfterRelease weak waiting))).1
-  after_release_slack weak waiting h = either_slack (is_in_map v.objects weak)
+  after_release_slack weak waiting h = either_way (λ lines. IsSlackWorld) (is_in_map v.objects weak)
       ([], collection_at c (WeakCalling waiting) below (with_change (with_place (Gen (older c.generation))) weak (at (AfterRelease weak waiting))))
       ([], collection_at (record c { collected = c.collected + 1 }) (WeakCalling waiting) below (at (AfterRelease weak waiting)))
       (goes_to (AfterRelease weak waiting) c (WeakCalling waiting) (change (with_place (Gen (older c.generation))) weak v.objects) (handed (AfterRelease weak waiting) weak (inl refl) h) (λ o m. absurd m) h)

@@ -21,11 +21,12 @@ use Rattle.cg_machine.specs.Frame.{frame_end, gives_up_function, begin_death, re
 use Rattle.cg_machine.specs.Weak.{has_weak_references, weak_references_if, loses_referent, callback_of}
 use Rattle.cg_machine.specs.Laws.{runs_own_frame}
 use Rattle.cg_machine.specs.Dying.{death_at, has_finalizers, finalizer_to_run, run_finalizer, run_legacy, after_frame, clear_one, call_one, detach_one, empty_one, dying}
+use Rattle.cg_machine.proofs.Starting.{either_way}
 use Rattle.cg_machine.proofs.Serials.{Rises}
 use Rattle.cg_machine.proofs.Lookups.{at_member, references_take}
 use Rattle.cg_promises.proofs.Told.{without_gone}
 use Rattle.cg_promises.proofs.Moved.{entries_of_member}
-use Rattle.cg_promises.proofs.Slack.{Excused, Fine, IsSlackWorld, Never, Slack, Still, either_slack, end_slack, excused_on, goes_same, lost_still, moves_slack, push_slack, starts_slack, still_same, test_still, turn_slack}
+use Rattle.cg_promises.proofs.Slack.{Excused, Fine, IsSlackWorld, Never, Slack, Still, end_slack, excused_on, goes_same, lost_still, moves_slack, push_slack, starts_slack, still_same, test_still, turn_slack}
 
 -- a tuple has no finalizer
 pub tuple_code : (x : Object) → is_tuple x ≡ true → x.code ≡ Tuple
@@ -90,7 +91,7 @@ frame_end_slack f below v h = by_sort f.sort f.function
 -- a release
 pub released_slack : (references : List ℕ) (below : List Activity) (v : World) → IsSlackWorld (with_stack (Releasing references ∷ below) v) → IsSlackWorld (released references below (with_stack (Releasing references ∷ below) v)).1
 released_slack [] below v h = end_slack v.next_serial (Releasing []) below v.objects (λ d e. cc) h
-released_slack (o ∷ refs) below v h = either_slack (not (is_dying now o) && (in_degree now o == 0)) ([], begin_death o now) ([], now)
+released_slack (o ∷ refs) below v h = either_way (λ lines. IsSlackWorld) (not (is_dying now o) && (in_degree now o == 0)) ([], begin_death o now) ([], now)
     (moves_slack (λ n. n ≡ o) v.next_serial v.objects (change dead o v.objects) (Releasing (o ∷ refs) ∷ below) (death ∷ Releasing refs ∷ below)
     (test_still (λ n. n ≡ o) dead (λ x. x.serial == o) v.objects (λ x m t. record { stays = record { serial = refl; code = refl; untracked = λ a u. refl }; loses = inl (eqb-true x.serial o t) }))
     (λ n e. inl (inr (record { object = o; phase = Finalizer }, inl refl, sym e, refl)))
@@ -159,7 +160,7 @@ module _ (script : Script) (o : ℕ) (below : List Activity) (v : World) (rises 
 
   -- the hold of its own frame ends
   after_frame_slack : (phase next : DyingPhase) → runs_own_frame phase ≡ true → runs_own_frame next ≡ false → IsSlackWorld (at phase) → IsSlackWorld (after_frame o next below (at phase)).1
-  after_frame_slack phase next own e h = either_slack (in_degree (at next) o == 0) ([], with_change (with_place Untracked) o (at next)) (Alive o ∷ [], with_stack below (at phase))
+  after_frame_slack phase next own e h = either_way (λ lines. IsSlackWorld) (in_degree (at next) o == 0) ([], with_change (with_place Untracked) o (at next)) (Alive o ∷ [], with_stack below (at phase))
       (death_slack (λ n. n ≡ o) phase next (change (with_place Untracked) o v.objects) (test_still (λ n. n ≡ o) (with_place Untracked) (λ x. x.serial == o) v.objects (λ x m t. record { stays = record { serial = refl; code = refl; untracked = λ a u. refl }; loses = inl (eqb-true x.serial o t) }))
       (λ n i. subst (Fine (dying_now next ∷ below) (change (with_place Untracked) o v.objects)) (sym i) (fades next (change (with_place Untracked) o v.objects) e)) (λ r. fades next (change (with_place Untracked) o v.objects) e) h)
       (moves_slack Never v.next_serial v.objects v.objects (dying_now phase ∷ below) below same (λ n no. absurd no) (excused_here phase below v.objects (λ d m. m) (λ r. absurd (let no : true ≡ false = sym own ∙ r in cc))) (λ c m. h.handled c (inr m)) h)

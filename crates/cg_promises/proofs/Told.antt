@@ -1,6 +1,6 @@
 -- What a step does to the objects and what it prints of them: an object comes from one that was there, which is marked if
 -- that was, or has the next serial. A step begins a frame or frees an object in its only line, or names what is there.
-use Rattle.std.proofs.Common.{◌≡◌, refl, sym, ◌∙◌, ap, subst, ℕ, ◌-◌, ◌≤◌, Bool, true, false, not, inl, inr, ◌⊎◌, List, [], ◌∷◌, map, None}
+use Rattle.std.proofs.Common.{◌≡◌, refl, sym, ◌∙◌, ap, subst, ℕ, ◌≤◌, Bool, true, false, not, inl, inr, ◌⊎◌, List, [], ◌∷◌, map, None}
 use Rattle.std.specs.Prelude.{◌==◌, if◌then◌else◌}
 use Rattle.std.proofs.lemmas.Bool.{eqb-true, eq-eqb}
 use Rattle.cg_value.specs.declared.Entry.{Entry}
@@ -14,11 +14,11 @@ use Rattle.cg_machine.specs.declared.event.Event.TheVariants.{Enter, Free, Budge
 use Rattle.cg_machine.specs.declared.event.FrameSort.{FrameSort}
 use Rattle.cg_machine.specs.declared.event.FrameSort.TheVariants.{Del, Legacy, Callback, Call}
 use Rattle.cg_machine.specs.declared.event.FrameSpec.{FrameSpec}
-use Rattle.cg_machine.specs.Program.{body_of}
-use Rattle.cg_machine.specs.World.{World, Framed, BudgetIsSpent}
+use Rattle.cg_machine.specs.World.{World, BudgetIsSpent}
 use Rattle.cg_machine.specs.Frame.{Transition, Yields, start_frame}
 use Rattle.cg_machine.specs.Weak.{loses_referent}
 use Rattle.cg_machine.specs.Laws.{named}
+use Rattle.cg_machine.proofs.Starting.{starts_either}
 
 -- the same object later: its finalizer does not become one that has not run
 pub record Marks (x y : Object) : Type 0 where
@@ -173,15 +173,8 @@ module _ (objects : List Object) (next : ℕ) where
   tells events after told old serial = record { follows = λ y m. inl (old.origin y m); serial = serial; told = inl told; lasts = λ n m. inl (old.lasts n m) }
 
   pub starts_told : (script : Script) (spec : FrameSpec) (u : World) → Old objects u.objects → next ≤ u.next_serial → Enters spec.sort objects u.objects spec.subject → (let s : Transition = start_frame script spec u in Goes objects next s.0 s.1)
-  starts_told script spec u old serial enters = go (u.budget == 0)
-    where
-      go : (t : Bool) → (let s : Transition = if t then (BudgetSpent ∷ [], record u { outcome = BudgetIsSpent }) else (Enter spec.sort spec.subject ∷ [], record u { budget = u.budget - 1; stack = Framed (record { sort = spec.sort; subject = spec.subject; function = spec.func; commands = body_of script spec.proc }) ∷ u.stack }) in Goes objects next s.0 s.1)
-      go true = tells (BudgetSpent ∷ []) (record u { outcome = BudgetIsSpent }) (one_told BudgetSpent (tt, λ n m. absurd m)) old serial
-      go false = record { follows = λ y m. inl (old.origin y m); serial = serial; told = inr (Enter spec.sort spec.subject, refl, enters); lasts = λ n m. inl (old.lasts n m) }
+  starts_told script spec u old serial enters = starts_either (Goes objects next) script spec u (tells (BudgetSpent ∷ []) (record u { outcome = BudgetIsSpent }) (one_told BudgetSpent (tt, λ n m. absurd m)) old serial)
+      (λ some. record { follows = λ y m. inl (old.origin y m); serial = serial; told = inr (Enter spec.sort spec.subject, refl, enters); lasts = λ n m. inl (old.lasts n m) })
 
   pub yields_told : (t : Transition) (events : List Event) (after : World) → Yields t events after → Goes objects next t.0 t.1 → Goes objects next events after
   yields_told t events after step h = subst (λ es. Goes objects next es after) (sym step.0) (subst (Goes objects next t.0) (sym step.1) h)
-
-  pub either_told : (t : Bool) (x y : Transition) → Goes objects next x.0 x.1 → Goes objects next y.0 y.1 → (let s : Transition = if t then x else y in Goes objects next s.0 s.1)
-  either_told true x y h k = h
-  either_told false x y h k = k

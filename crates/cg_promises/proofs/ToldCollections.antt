@@ -21,9 +21,10 @@ use Rattle.cg_machine.specs.Dying.{finalizer_to_run}
 use Rattle.cg_machine.specs.Effects.{gens_line}
 use Rattle.cg_machine.specs.Collect.{SameMembers, all_saved, calls_back, after_release, collectable, collection_at, empties, get_older, has_flag, is_saved, lines_if, looks_at, loses_at_split, merged, merged_place, older, replaced_place, save_all, saved, sorted, start_world, stats, takes_turn, uncollectable, waits, EndStep, FinalizingStep, IsMemberOf, PhaseStep, SplitStep, StartStep, TurnsStep, WeakClearingStep}
 use Rattle.cg_machine.specs.Laws.{named}
+use Rattle.cg_machine.proofs.Starting.{either_way}
 use Rattle.cg_machine.proofs.Condemned.{present, Includes-of_count}
 use Rattle.cg_machine.proofs.Sorting.{Reach-inside}
-use Rattle.cg_promises.proofs.Told.{Marks, Old, IsPlain, IsTold, Goes, same_old, old_trans, map_old, if_old, change_old, place_old, place_marks, entries_old, lost_old, old_lives, quiet, one_told, tells, starts_told, yields_told, either_told}
+use Rattle.cg_promises.proofs.Told.{Marks, Old, IsPlain, IsTold, Goes, same_old, old_trans, map_old, if_old, change_old, place_old, place_marks, entries_old, lost_old, old_lives, quiet, one_told, tells, starts_told, yields_told}
 use Rattle.cg_promises.proofs.ToldDeaths.{begins}
 use Rattle.cg_machine.specs.Program.{profile_of}
 
@@ -156,7 +157,7 @@ module _ (script : Script) (c : Collection) (below : List Activity) (v : World) 
       starts_told v.objects v.next_serial script (record { sort = Callback; proc = procedure_of (at (WeakCalling (weak ∷ waiting))) callback; subject = weak; func = Some callback }) (at (AfterCallback weak waiting)) same (omega arith) (held weak (inl refl))
 
   after_release_told : (weak : ℕ) (waiting : List ℕ) → Does (after_release c weak waiting below (at (AfterRelease weak waiting)))
-  after_release_told weak waiting = either_told v.objects v.next_serial (is_in_map v.objects weak)
+  after_release_told weak waiting = either_way (Goes v.objects v.next_serial) (is_in_map v.objects weak)
       ([], collection_at c (WeakCalling waiting) below (with_change (with_place (Gen (older c.generation))) weak (at (AfterRelease weak waiting))))
       ([], collection_at (record c { collected = c.collected + 1 }) (WeakCalling waiting) below (at (AfterRelease weak waiting)))
       (silent (collection_at c (WeakCalling waiting) below (with_change (with_place (Gen (older c.generation))) weak (at (AfterRelease weak waiting)))) (place_old (Gen (older c.generation)) weak v.objects) refl)

@@ -18,8 +18,9 @@ use Rattle.cg_machine.specs.Holdings.{dying_holds, in_degree, is_dying}
 use Rattle.cg_machine.specs.Frame.{Transition, frame_end, gives_up_function, begin_death, released, procedure_of}
 use Rattle.cg_machine.specs.Weak.{has_weak_references, weak_references_if, weak_references, is_reference_to, loses_referent, callback_of}
 use Rattle.cg_machine.specs.Dying.{death_at, has_finalizers, finalizer_to_run, run_finalizer, run_legacy, after_frame, clear_one, call_one, detach_one, empty_one, dying}
+use Rattle.cg_machine.proofs.Starting.{either_way}
 use Rattle.cg_machine.proofs.Lookups.{found_at}
-use Rattle.cg_promises.proofs.Told.{Old, Begins, Goes, same_old, change_old, place_old, entries_old, lost_old, without_old, without_gone, without_lasts, marked_all, quiet, one_told, tells, starts_told, either_told}
+use Rattle.cg_promises.proofs.Told.{Old, Begins, Goes, same_old, change_old, place_old, entries_old, lost_old, without_old, without_gone, without_lasts, marked_all, quiet, one_told, tells, starts_told}
 
 -- a finalizer that is to run has not run
 pub to_run_unmarked : (script : Script) (objects : List Object) (o p : ℕ) → option_and_then (finalizer_to_run script) (object_at objects o) ≡ Some p → (x : Object) × Includes objects x × (x.serial ≡ o) × (x.finalized ≡ false)
@@ -64,7 +65,7 @@ frame_end_told f u = by_sort f.sort f.function
 -- a release
 pub released_told : (references : List ℕ) (below : List Activity) (v : World) → (let s : Transition = released references below (with_stack (Releasing references ∷ below) v) in Goes v.objects v.next_serial s.0 s.1)
 released_told [] below v = quiet v.objects v.next_serial (with_stack below v) (same_old v.objects) (omega arith)
-released_told (o ∷ references) below v = either_told v.objects v.next_serial (not (is_dying now o) && (in_degree now o == 0)) ([], begin_death o now) ([], now)
+released_told (o ∷ references) below v = either_way (Goes v.objects v.next_serial) (not (is_dying now o) && (in_degree now o == 0)) ([], begin_death o now) ([], now)
     (quiet v.objects v.next_serial (begin_death o now) (change_old (λ x. with_referent None (with_place Untracked x)) (λ x. record { serial = refl; code = refl; class = refl; finalized = λ e. e }) o v.objects) (omega arith))
     (quiet v.objects v.next_serial now (same_old v.objects) (omega arith))
   where
@@ -91,7 +92,7 @@ module _ (script : Script) (o : ℕ) (below : List Activity) (v : World) (lives 
       (change_old (λ x. marked (with_place (Gen 0) x)) (λ x. record { serial = refl; code = refl; class = refl; finalized = λ k. refl }) o v.objects) (omega arith) (begins script (λ x. marked (with_place (Gen 0) x)) v.objects o p (λ x. refl) e)
 
   after_frame_told : (phase next : DyingPhase) → Tells (after_frame o next below (at phase))
-  after_frame_told phase next = either_told v.objects v.next_serial (in_degree (at next) o == 0) ([], with_change (with_place Untracked) o (at next)) (Alive o ∷ [], with_stack below (at phase))
+  after_frame_told phase next = either_way (Goes v.objects v.next_serial) (in_degree (at next) o == 0) ([], with_change (with_place Untracked) o (at next)) (Alive o ∷ [], with_stack below (at phase))
       (silent (with_change (with_place Untracked) o (at next)) (place_old Untracked o v.objects) refl)
       (tells v.objects v.next_serial (Alive o ∷ []) (with_stack below (at phase)) (one_told v.objects v.next_serial (Alive o) (tt, λ n m. either m (λ e. inl (subst (Includes (serials v.objects)) e lives)) (λ k. absurd k))) same (omega arith))
 

@@ -1,122 +1,52 @@
 -- The stack that a step of a collection leaves, and that an object which has its turn without SAVEALL was in its final set.
-use Rattle.std.proofs.Common.{◌≡◌, ◌≢◌, refl, sym, ◌∙◌, ap, subst, ℕ, ◌+◌, ◌-◌, Bool, true, false, inl, inr, List, [], ◌∷◌, ◌++◌, map, length, Option, Some, None}
-use Rattle.std.specs.Prelude.{◌==◌, if◌then◌else◌, option_and_then, unwrap_or}
+use Rattle.std.proofs.Common.{◌≡◌, ◌≢◌, refl, sym, ◌∙◌, ap, subst, ℕ, ◌+◌, Bool, true, false, inl, inr, List, [], ◌∷◌, ◌++◌, map, length, Option, Some, None}
+use Rattle.std.specs.Prelude.{◌==◌, if◌then◌else◌}
 use Rattle.cg_value.specs.declared.Entry.{Entry}
-use Rattle.cg_value.specs.declared.Place.TheVariants.{Cand, Gen, Pend, Seen}
+use Rattle.cg_value.specs.declared.Place.TheVariants.{Cand, Gen}
 use Rattle.cg_value.specs.declared.Val.TheVariants.{Ref}
 use Rattle.cg_script.specs.declared.Script.{Script}
 use Rattle.cg_graph.specs.Member.{Includes}
 use Rattle.cg_graph.specs.Value.{entry_references, item, last_entry, without_last}
-use Rattle.cg_graph.specs.Object.{Object, change, object_at, entries_of, is_at, is_in_map, is_tuple, marked, objects_at, same_place, serials_at, with_entries, with_place}
+use Rattle.cg_graph.specs.Object.{Object, change, entries_of, is_at, is_tuple, objects_at, same_place, serials_at, with_entries, with_place}
 use Rattle.cg_graph.proofs.Members.{either, Includes-filter, Includes-filter_cases, Includes-map, Includes-map_cases}
 use Rattle.cg_machine.specs.declared.event.Event.{Event}
-use Rattle.cg_machine.specs.declared.event.Event.TheVariants.{BudgetSpent, Enter, GcSaved}
-use Rattle.cg_machine.specs.declared.event.FrameSort.TheVariants.{Del, Callback}
-use Rattle.cg_machine.specs.declared.event.FrameSpec.{FrameSpec}
-use Rattle.cg_machine.specs.Program.{body_of, profile_of}
-use Rattle.cg_machine.specs.World.{World, Activity, Framed, Releasing, Dying, Death, Collecting, Collection, CollectPhase, Start, WeakClearing, WeakCalling, AfterCallback, AfterRelease, Finalizing, AfterFinalizing, Split, Turns, Turn, AfterTurn, Ending, BudgetIsSpent, with_change, with_objects}
-use Rattle.cg_machine.specs.Holdings.{is_collection}
-use Rattle.cg_machine.specs.Frame.{Transition, procedure_of, start_frame}
-use Rattle.cg_machine.specs.Weak.{callback_of, loses_referent}
-use Rattle.cg_machine.specs.Dying.{finalizer_to_run}
-use Rattle.cg_machine.specs.Collect.{calls_back, collection_at, empties, has_flag, looks_at, older, save_all, saved, takes_turn, waits, FinalizingStep, PhaseStep, TurnsStep, WeakClearingStep}
+use Rattle.cg_machine.specs.declared.event.Event.TheVariants.{GcSaved}
+use Rattle.cg_machine.specs.World.{World, Activity, Releasing, Collecting, Collection, CollectPhase, Start, WeakClearing, WeakCalling, AfterCallback, AfterRelease, Finalizing, AfterFinalizing, Split, Turns, Turn, AfterTurn, Ending, with_change, with_objects}
+use Rattle.cg_machine.specs.Frame.{Transition}
+use Rattle.cg_machine.specs.Collect.{collection_at, empties, has_flag, older, save_all, saved, takes_turn, PhaseStep, TurnsStep}
 use Rattle.cg_laws.proofs.SetsApart.{NoneCollects}
+use Rattle.cg_machine.proofs.Advances.{Advance, Plainly, WithFrame, Continues, DeathGoesOn, DeathClears, CollectionGoesOn, IsEarly, Tops, TopEnds, GivesFunction, GivesReference, BeginsDeath, TopGoesOn, GivesReferences}
+use Rattle.cg_machine.proofs.Starting.{begun_frame, starts_either}
 use Rattle.cg_machine.proofs.Places.{place_is}
 
--- a phase of which nothing is said below, and after which such a phase comes
-abbrev pub IsEarly : CollectPhase → Type 0
-IsEarly Turns = ⊥
-IsEarly (Turn o) = ⊥
-IsEarly (AfterTurn o) = ⊥
-IsEarly phase = Unit {0}
+-- a collection that stands at an early phase goes on at one
+module _ (script : Script) (v : World) (c : Collection) (below : List Activity) (alone : NoneCollects below) where
+  abbrev AreEarly : List Activity → Type 0
+  AreEarly stack = IsEarly c.phase → c.phase ≢ Split → (d : Collection) → Includes stack (Collecting d) → IsEarly d.phase
 
-abbrev pub Steps : CollectPhase → CollectPhase → Type 0
-Steps phase next = IsEarly phase → phase ≢ Split → IsEarly next
+  over_early : (a : Activity) (stack : List Activity) → ((d : Collection) → a ≢ Collecting d) → AreEarly stack → AreEarly (a ∷ stack)
+  over_early a stack none h early other d m = either m (λ e. absurd (none d e)) (h early other d)
 
--- what holds of the stack below, and of one more that is no death, holds of the stack after
-module _ (Q : List Activity → Type 0) (pushes : (a : Activity) (stack : List Activity) → is_collection a ≡ false → ((d : Death) → a ≢ Dying d) → Q stack → Q (a ∷ stack)) (script : Script) (c : Collection) (below : List Activity) (v : World) (h : Q below) where
-  abbrev at : CollectPhase → World
-  at phase = collection_at c phase below v
+  continues_early : (before after : List Object) (top a : Activity) → Continues before after top a → top ≡ Collecting c → AreEarly (a ∷ below)
+  continues_early before after top a (DeathGoesOn o phase next fewer none) e = absurd (cc)
+  continues_early before after top a (DeathClears o weak waiting weaks t first lost) e = absurd (cc)
+  continues_early before after top a (CollectionGoesOn b next same begun on) e = λ early other d m.
+      let is : b ≡ c = cc in
+      either m (λ i. let same : next ≡ d = cc in subst (λ (z : Collection). IsEarly z.phase) same (on (subst (λ (z : Collection). IsEarly z.phase) (sym is) early) (subst (λ (z : Collection). z.phase ≢ Split) (sym is) other))) (λ k. absurd (alone d k))
 
-  -- the collection goes on top again, early after early
-  abbrev Tops : CollectPhase → Type 0
-  Tops phase = (d : Collection) → Steps phase d.phase → Q (Collecting d ∷ below)
+  tops_early : (before after : List Object) (top : Activity) (tops : List Activity) → Tops before after top tops → top ≡ Collecting c → AreEarly (tops ++ below)
+  tops_early before after top tops (TopEnds a gone) e = λ early other d m. absurd (alone d m)
+  tops_early before after top tops (GivesFunction f references few) e = absurd (cc)
+  tops_early before after top tops (GivesReference o references) e = absurd (cc)
+  tops_early before after top tops (BeginsDeath o references) e = absurd (cc)
+  tops_early before after top tops (TopGoesOn t a k held) e = continues_early before after t a k e
+  tops_early before after top tops (GivesReferences t a references few k held) e = over_early (Releasing references) (a ∷ below) (λ d i. cc) (continues_early before after t a k e)
 
-  to : (after next : World) → after ≡ next → Q next.stack → Q after.stack
-  to after next e k = subst (λ (w : World). Q w.stack) (sym e) k
-
-  starts : (spec : FrameSpec) (u : World) → Q u.stack → Q (start_frame script spec u).1.stack
-  starts spec u k = go (u.budget == 0)
-    where
-      frame : Activity
-      frame = Framed (record { sort = spec.sort; subject = spec.subject; function = spec.func; commands = body_of script spec.proc })
-
-      go : (t : Bool) → (let s : Transition = if t then (BudgetSpent ∷ [], record u { outcome = BudgetIsSpent }) else (Enter spec.sort spec.subject ∷ [], record u { budget = u.budget - 1; stack = frame ∷ u.stack }) in Q s.1.stack)
-      go true = k
-      go false = pushes frame u.stack refl (λ d e. cc) k
-
-  either_stack : (t : Bool) (x y : Transition) → Q x.1.stack → Q y.1.stack → (let s : Transition = if t then x else y in Q s.1.stack)
-  either_stack true x y k l = k
-  either_stack false x y k l = l
-
-  weak_clearing_stack : (waiting : List ℕ) → Tops (WeakClearing waiting) → (events : List Event) (after : World) → WeakClearingStep (profile_of script.items) c waiting below (at (WeakClearing waiting)) events after → Q after.stack
-  weak_clearing_stack waiting top events after (inl step) = to after _ step.yields.1 (go (waits v.objects step.weak))
-    where
-      lost : List Object
-      lost = loses_referent step.weak v.objects
-
-      go : (t : Bool) → (let w : World = if t then collection_at c (WeakClearing (waiting ++ step.weak ∷ [])) below (with_objects (change (with_place Pend) step.weak lost) (at (WeakClearing waiting))) else collection_at c (WeakClearing waiting) below (with_objects lost (at (WeakClearing waiting))) in Q w.stack)
-      go true = top (record c { phase = WeakClearing (waiting ++ step.weak ∷ []) }) (λ e s. tt)
-      go false = top (record c { phase = WeakClearing waiting }) (λ e s. tt)
-  weak_clearing_stack waiting top events after (inr step) = to after _ step.1.1 (top (record c { phase = WeakCalling waiting }) (λ e s. tt))
-
-  weak_calling_stack : (waiting : List ℕ) → Tops (WeakCalling waiting) → Q (calls_back script c waiting below (at (WeakCalling waiting))).1.stack
-  weak_calling_stack [] top = top (record c { phase = Finalizing }) (λ e s. tt)
-  weak_calling_stack (weak ∷ waiting) top =
-      let callback = unwrap_or (callback_of v.objects weak) 0 in
-      starts (record { sort = Callback; proc = procedure_of (at (WeakCalling (weak ∷ waiting))) callback; subject = weak; func = Some callback }) (at (AfterCallback weak waiting)) (top (record c { phase = AfterCallback weak waiting }) (λ e s. tt))
-
-  looks_at_stack : (o : ℕ) (m : Option ℕ) → Tops Finalizing → Q (looks_at script c o below (at Finalizing) m).1.stack
-  looks_at_stack o None top = top (record c { phase = Finalizing }) (λ e s. tt)
-  looks_at_stack o (Some p) top = starts (record { sort = Del; proc = p; subject = o; func = None }) (collection_at c (AfterFinalizing o) below (with_change (λ x. marked (with_place Seen x)) o (at Finalizing))) (top (record c { phase = AfterFinalizing o }) (λ e s. tt))
-
-  turn_stack : (x : Object) → Tops Turns → Q (takes_turn c x below (at Turns)).1.stack
-  turn_stack x top = go (has_flag c.flags save_all) (is_tuple x)
-    where
-      go : (s t : Bool) → (let next : Transition = if s then (GcSaved x.serial ∷ [], collection_at c Turns below (with_objects (change (with_place (Gen (older c.generation))) x.serial (saved x.serial v.objects)) (at Turns)))
-          else if t then ([], collection_at c Turns below (with_change (with_place (Gen (older c.generation))) x.serial (at Turns))) else ([], collection_at c (Turn x.serial) below (at Turns)) in Q next.1.stack)
-      go true t = top (record c { phase = Turns }) (λ e s. absurd e)
-      go false true = top (record c { phase = Turns }) (λ e s. absurd e)
-      go false false = top (record c { phase = Turn x.serial }) (λ e s. absurd e)
-
-  empties_stack : (o : ℕ) (m : Option Entry) → Tops (Turn o) → Q (empties c o below (at (Turn o)) m).1.stack
-  empties_stack o None top = pushes (Releasing (o ∷ [])) _ refl (λ d e. cc) (top (record c { phase = AfterTurn o }) (λ e s. absurd e))
-  empties_stack o (Some entry) top = pushes (Releasing (entry_references entry)) _ refl (λ d e. cc) (top (record c { phase = Turn o }) (λ e s. absurd e))
-
-  finalizing_stack : (events : List Event) (after : World) → Tops Finalizing → FinalizingStep script c below (at Finalizing) events after → Q after.stack
-  finalizing_stack events after top (inl step) = to after _ step.yields.1 (looks_at_stack step.object (option_and_then (finalizer_to_run script) (object_at v.objects step.object)) top)
-  finalizing_stack events after top (inr step) = to after _ step.1.1 (top (record c { phase = Split }) (λ e s. tt))
-
-  turns_stack : (events : List Event) (after : World) → Tops Turns → TurnsStep c below (at Turns) events after → Q after.stack
-  turns_stack events after top (inl step) = to after _ step.yields.1 (turn_stack step.object top)
-  turns_stack events after top (inr step) = to after _ step.1.1 (top (record c { phase = Ending }) (λ e s. absurd e))
-
-  pub phase_stack : (phase : CollectPhase) → Tops phase → (events : List Event) (after : World) → PhaseStep script c phase below (at phase) events after → Q after.stack
-  phase_stack Start top events after step = to after _ step.world (top (record c { phase = WeakClearing [] }) (λ e s. tt))
-  phase_stack (WeakClearing waiting) top events after step = weak_clearing_stack waiting top events after step
-  phase_stack (WeakCalling waiting) top events after step = to after _ step.1 (weak_calling_stack waiting top)
-  phase_stack (AfterCallback weak waiting) top events after step = to after _ step.1 (pushes (Releasing (weak ∷ [])) _ refl (λ d e. cc) (top (record c { phase = AfterRelease weak waiting }) (λ e s. tt)))
-  phase_stack (AfterRelease weak waiting) top events after step = to after _ step.1 (either_stack (is_in_map v.objects weak)
-      ([], collection_at c (WeakCalling waiting) below (with_change (with_place (Gen (older c.generation))) weak (at (AfterRelease weak waiting))))
-      ([], collection_at (record c { collected = c.collected + 1 }) (WeakCalling waiting) below (at (AfterRelease weak waiting)))
-      (top (record c { phase = WeakCalling waiting }) (λ e s. tt)) (top (record c { collected = c.collected + 1; phase = WeakCalling waiting }) (λ e s. tt)))
-  phase_stack Finalizing top events after step = finalizing_stack events after top step
-  phase_stack (AfterFinalizing o) top events after step = to after _ step.1 (pushes (Releasing (o ∷ [])) _ refl (λ d e. cc) (top (record c { phase = Finalizing }) (λ e s. tt)))
-  phase_stack Split top events after step = to after _ step.world (top (record c { collected = c.collected + length (serials_at step.objects Cand); phase = Turns }) (λ e s. absurd (s refl)))
-  phase_stack Turns top events after step = turns_stack events after top step
-  phase_stack (Turn o) top events after step = to after _ step.1 (empties_stack o (last_entry (entries_of v.objects o)) top)
-  phase_stack (AfterTurn o) top events after step = to after _ step.1 (top (record c { phase = Turns }) (λ e s. absurd e))
-  phase_stack Ending top events after step = to after _ step.world h
+  pub early_after : (lines : List Event) (after : World) → Advance script v (Collecting c) below lines after → AreEarly after.stack
+  early_after lines after (Plainly tops objects numbers ls t k n shown) = tops_early v.objects objects (Collecting c) tops t refl
+  early_after lines after (WithFrame spec a objects s k held m) =
+      let early = continues_early v.objects objects (Collecting c) a k refl in
+      starts_either (λ es w. AreEarly w.stack) script spec (record v { objects = objects; stack = a ∷ below }) early (λ some. over_early (begun_frame script spec) (a ∷ below) (λ d i. cc) early)
 
 -- what is condemned was in the final set, and so is what has its turn
 abbrev pub Finals : (ℕ → Type 0) → Collection → List Object → Type 0

@@ -12,7 +12,7 @@ use Rattle.cg_graph.specs.Value.{put}
 use Rattle.cg_graph.specs.Object.{Object, first_place, is_tracked, with_entries, with_place}
 use Rattle.cg_graph.proofs.Members.{either, Includes-append_cases}
 use Rattle.cg_machine.specs.declared.event.FrameSort.TheVariants.{Call}
-use Rattle.cg_machine.specs.World.{World, Numbers, Activity, TopLevel, Framed, Releasing, opening, push, with_change, ShuttingDown}
+use Rattle.cg_machine.specs.World.{World, Numbers, Activity, TopLevel, Framed, Releasing, Dying, Collecting, opening, push, with_change, ShuttingDown}
 use Rattle.cg_machine.specs.Holdings.{is_collecting}
 use Rattle.cg_machine.specs.Frame.{procedure_of}
 use Rattle.cg_machine.specs.Effects.{Calls, Changes, Collects, Effect, Quits, frozen, may_track, tracked_by, unfrozen, Explains}
@@ -23,8 +23,8 @@ use Rattle.cg_machine.specs.Run.{Run, StepTaken, last_world}
 use Rattle.cg_machine.proofs.Invariants.{CommandSteps, FromFrame, FromTop, HasCommands, Steps, Takes, any_step, emptied, on, del_shaped}
 use Rattle.cg_machine.proofs.ShapeLaws.{changes_leave}
 use Rattle.cg_machine.proofs.Shapes.{Shape, Binds, Makes, Edits, Puts, Shows, Tells, Stays, Sets, Freezes, Unfreezes, StartsFrame, StartsCollection, Ends, Inspects, AsksWhy}
-use Rattle.cg_promises.proofs.Young.{AreYoung, IsYoung, IsYoungWorld, Young, entries_young, frame_end_young, map_young, push_young, dying_young, released_young, starts_young, test_young, turn_young}
-use Rattle.cg_promises.proofs.YoungCollections.{phase_young}
+use Rattle.cg_machine.proofs.Advancing.{frame_end_advances, released_advances, dying_advances, phase_advances}
+use Rattle.cg_promises.proofs.Young.{AreYoung, IsYoung, IsYoungWorld, Young, entries_young, map_young, push_young, advance_young, starts_young, test_young, turn_young}
 use Rattle.cg_script.specs.declared.Command.TheVariants.{Del}
 
 -- a collection that is due
@@ -139,10 +139,10 @@ young_steps script = record {
   gives_up = λ name below v e k. (command_young script below v (on (ShuttingDown false) below v) (Del name) (ShuttingDown false) tt k).changes false [] _ _ (del_shaped (on (ShuttingDown false) below v) name);
   collects_last = λ below v k. begun_young script below v (ShuttingDown true) 2 false (omega arith) (turn_young (ShuttingDown false) (ShuttingDown true) below v.objects v.objects k.places (λ c e. cc) k);
   commands = λ command a b below v takes hb k. command_young script below v (on a below v) command b hb (taken_young script below v command a b takes k);
-  frame_ends = λ f below v left k. frame_end_young f below v k;
-  releases = λ references below v k. released_young references below v k;
-  dies = λ d below v k. dying_young script d.object below v d.phase k;
-  collects = λ c below v events after step k. phase_young script c below v c.phase events after step k;
+  frame_ends = λ f below v left k. advance_young script (Framed f) below v _ _ (frame_end_advances script f below v) k;
+  releases = λ references below v k. advance_young script (Releasing references) below v _ _ (released_advances script references below v) k;
+  dies = λ d below v k. advance_young script (Dying d) below v _ _ (dying_advances script d.object below v d.phase) k;
+  collects = λ c below v events after step k. advance_young script (Collecting c) below v events after (phase_advances script c below v c.phase events after step) k;
 }
 
 pub young_after : (script : Script) (w : World) (steps : List StepTaken) → Run script w steps → IsYoungWorld w → IsYoungWorld (last_world w steps)

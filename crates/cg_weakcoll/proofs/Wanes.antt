@@ -12,10 +12,10 @@ use Rattle.cg_graph.proofs.Members.{either, Includes-append_cases, Includes-map_
 use Rattle.cg_machine.specs.declared.event.Event.{Event}
 use Rattle.cg_machine.specs.declared.event.Event.TheVariants.{Enter, Cleared, BudgetSpent}
 use Rattle.cg_machine.specs.declared.event.FrameSpec.{FrameSpec}
-use Rattle.cg_machine.specs.Program.{body_of}
-use Rattle.cg_machine.specs.World.{World, Activity, Framed, Dying, Death, DyingPhase, AfterFinalizer, AfterLegacy, BudgetIsSpent}
+use Rattle.cg_machine.specs.World.{World, Activity, Dying, Death, DyingPhase, AfterFinalizer, AfterLegacy, BudgetIsSpent}
 use Rattle.cg_machine.specs.Frame.{Transition, Yields, start_frame}
 use Rattle.cg_machine.specs.Weak.{AllLose, loses_referent}
+use Rattle.cg_machine.proofs.Starting.{begun_frame, starts_either}
 
 -- no frame of the dying object itself runs
 abbrev pub is_frameless : DyingPhase → Bool
@@ -167,15 +167,8 @@ module _ (objects : List Object) (next : ℕ) where
   }
 
   pub starts_going : (script : Script) (spec : FrameSpec) (u : World) → Waned Never objects u.objects → (let s : Transition = start_frame script spec u in Goes objects next s.0 s.1)
-  starts_going script spec u waned = go (u.budget == 0)
-    where
-      go : (t : Bool) → (let s : Transition = if t then (BudgetSpent ∷ [], record u { outcome = BudgetIsSpent }) else (Enter spec.sort spec.subject ∷ [], record u { budget = u.budget - 1; stack = Framed (record { sort = spec.sort; subject = spec.subject; function = spec.func; commands = body_of script spec.proc }) ∷ u.stack }) in Goes objects next s.0 s.1)
-      go true = steady (BudgetSpent ∷ []) (record u { outcome = BudgetIsSpent }) (other_line BudgetSpent tt) waned
-      go false = steady (Enter spec.sort spec.subject ∷ []) (record u { budget = u.budget - 1; stack = Framed (record { sort = spec.sort; subject = spec.subject; function = spec.func; commands = body_of script spec.proc }) ∷ u.stack }) (other_line (Enter spec.sort spec.subject) tt) waned
+  starts_going script spec u waned = starts_either (Goes objects next) script spec u (steady (BudgetSpent ∷ []) (record u { outcome = BudgetIsSpent }) (other_line BudgetSpent tt) waned)
+      (λ some. steady (Enter spec.sort spec.subject ∷ []) (record u { budget = u.budget - 1; stack = begun_frame script spec ∷ u.stack }) (other_line (Enter spec.sort spec.subject) tt) waned)
 
   pub yields_going : (t : Transition) (events : List Event) (after : World) → Yields t events after → Goes objects next t.0 t.1 → Goes objects next events after
   yields_going t events after step h = subst (λ es. Goes objects next es after) (sym step.0) (subst (Goes objects next t.0) (sym step.1) h)
-
-  pub either_going : (t : Bool) (x y : Transition) → Goes objects next x.0 x.1 → Goes objects next y.0 y.1 → (let s : Transition = if t then x else y in Goes objects next s.0 s.1)
-  either_going true x y h k = h
-  either_going false x y h k = k

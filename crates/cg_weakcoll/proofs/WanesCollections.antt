@@ -19,7 +19,8 @@ use Rattle.cg_machine.specs.Dying.{finalizer_to_run}
 use Rattle.cg_machine.specs.Effects.{gens_line}
 use Rattle.cg_machine.specs.Collect.{all_saved, calls_back, after_release, collectable, collection_at, empties, get_older, has_flag, lines_if, looks_at, loses_at_split, merged, merged_place, older, replaced_place, save_all, saved, sorted, start_world, stats, takes_turn, uncollectable, waits, EndStep, FinalizingStep, PhaseStep, SplitStep, StartStep, TurnsStep, WeakClearingStep}
 use Rattle.cg_machine.specs.Program.{profile_of}
-use Rattle.cg_weakcoll.proofs.Wanes.{ClearNone, IsLost, Waned, Never, Goes, wanes_for, waned_for, waned_none, same_waned, waned_trans, map_waned, if_waned, placed_waned, place_waned, entries_waned, lost_waned, lost_none, all_lose_waned, all_lose_none, none_cleared, other_line, others_more, others_both, others_each, steady, clears, starts_going, yields_going, either_going}
+use Rattle.cg_machine.proofs.Starting.{either_way}
+use Rattle.cg_weakcoll.proofs.Wanes.{ClearNone, IsLost, Waned, Never, Goes, wanes_for, waned_for, waned_none, same_waned, waned_trans, map_waned, if_waned, placed_waned, place_waned, entries_waned, lost_waned, lost_none, all_lose_waned, all_lose_none, none_cleared, other_line, others_more, others_both, others_each, steady, clears, starts_going, yields_going}
 
 saved_waned : (o : ℕ) (objects : List Object) → Waned Never objects (saved o objects)
 saved_waned o objects = if_waned Never (λ x. with_entries (x.entries ++ item (Ref o) ∷ []) x) (λ x. x.serial == 1) (λ x e. record { serial = refl; code = refl; referent = inl refl }) objects
@@ -105,7 +106,7 @@ module _ (script : Script) (c : Collection) (below : List Activity) (v : World) 
   aged o = place_waned (Gen (older c.generation)) o v.objects
 
   after_release_going : (weak : ℕ) (waiting : List ℕ) → Does (after_release c weak waiting below (at (AfterRelease weak waiting)))
-  after_release_going weak waiting = either_going v.objects v.next_serial (is_in_map v.objects weak)
+  after_release_going weak waiting = either_way (Goes v.objects v.next_serial) (is_in_map v.objects weak)
       ([], collection_at c (WeakCalling waiting) below (with_change (with_place (Gen (older c.generation))) weak (at (AfterRelease weak waiting))))
       ([], collection_at (record c { collected = c.collected + 1 }) (WeakCalling waiting) below (at (AfterRelease weak waiting)))
       (silent (collection_at c (WeakCalling waiting) below (with_change (with_place (Gen (older c.generation))) weak (at (AfterRelease weak waiting)))) (aged weak))

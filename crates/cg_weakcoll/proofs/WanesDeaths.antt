@@ -22,10 +22,11 @@ use Rattle.cg_machine.specs.Frame.{Transition, frame_end, gives_up_function, beg
 use Rattle.cg_machine.specs.Weak.{has_weak_references, weak_references_if, loses_referent, callback_of}
 use Rattle.cg_machine.specs.Dying.{death_at, has_finalizers, finalizer_to_run, run_finalizer, run_legacy, after_frame, clear_one, call_one, detach_one, empty_one, dying}
 use Rattle.cg_machine.specs.Run.{Step, StepOf}
+use Rattle.cg_machine.proofs.Starting.{either_way}
 use Rattle.cg_machine.proofs.Lookups.{found_at}
 use Rattle.cg_machine.proofs.LeftRuns.{LeavesUnder}
 use Rattle.cg_promises.proofs.Told.{without_gone}
-use Rattle.cg_weakcoll.proofs.Wanes.{IsFading, is_frameless, IsLost, Waned, Never, Goes, wanes_for, same_waned, if_waned, place_waned, entries_waned, without_waned, lost_waned, lost_none, other_line, none_cleared, steady, clears, starts_going, either_going}
+use Rattle.cg_weakcoll.proofs.Wanes.{IsFading, is_frameless, IsLost, Waned, Never, Goes, wanes_for, same_waned, if_waned, place_waned, entries_waned, without_waned, lost_waned, lost_none, other_line, none_cleared, steady, clears, starts_going}
 
 -- a frame ends
 pub frame_end_going : (f : Frame) (u : World) → (let s : Transition = frame_end f u in Goes u.objects u.next_serial s.0 s.1)
@@ -40,7 +41,7 @@ frame_end_going f u = by_sort f.sort f.function
 -- a release: what begins to die refers to nothing any more
 pub released_going : (references : List ℕ) (below : List Activity) (v : World) → (let s : Transition = released references below (with_stack (Releasing references ∷ below) v) in Goes v.objects v.next_serial s.0 s.1)
 released_going [] below v = steady v.objects v.next_serial [] (with_stack below v) none_cleared (same_waned Never v.objects)
-released_going (o ∷ references) below v = either_going v.objects v.next_serial (not (is_dying now o) && (in_degree now o == 0)) ([], begin_death o now) ([], now) dies (steady v.objects v.next_serial [] now none_cleared (same_waned Never v.objects))
+released_going (o ∷ references) below v = either_way (Goes v.objects v.next_serial) (not (is_dying now o) && (in_degree now o == 0)) ([], begin_death o now) ([], now) dies (steady v.objects v.next_serial [] now none_cleared (same_waned Never v.objects))
   where
     now : World
     now = with_stack (Releasing references ∷ below) v
@@ -85,7 +86,7 @@ module _ (script : Script) (o : ℕ) (below : List Activity) (v : World) where
   finalizer_going (Some p) = starts_going v.objects v.next_serial script (record { sort = Del; proc = p; subject = o; func = None }) (death_at o AfterFinalizer below (with_change (λ x. marked (with_place (Gen 0) x)) o (at Finalizer))) revived
 
   after_frame_going : (phase next : DyingPhase) → Does (after_frame o next below (at phase))
-  after_frame_going phase next = either_going v.objects v.next_serial (in_degree (at next) o == 0) ([], with_change (with_place Untracked) o (at next)) (Alive o ∷ [], with_stack below (at phase))
+  after_frame_going phase next = either_way (Goes v.objects v.next_serial) (in_degree (at next) o == 0) ([], with_change (with_place Untracked) o (at next)) (Alive o ∷ [], with_stack below (at phase))
       (silent (with_change (with_place Untracked) o (at next)) (place_waned Untracked o v.objects))
       (steady v.objects v.next_serial (Alive o ∷ []) (with_stack below (at phase)) (other_line (Alive o) tt) same)
 
