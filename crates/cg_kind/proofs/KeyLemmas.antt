@@ -50,19 +50,27 @@ pub record Lacks (es : List Entry) (key : Val) : Type 0 where
   pub value : value_at es key ≡ None
   pub rest : without_key es key ≡ es
 
-none_from : (key : Val) (k : ℕ) (es : List Entry) → position_from (has_key key) k es ≡ None → Lacks es key
-none_from key k [] at = record { entry = refl; value = refl; rest = refl }
-none_from key k (x ∷ es) at =
-    let (entry, value, rest) = go (same_value x.key key) at (none_from key (k + 1) es) in
+pub lacks_key : (key : Val) (es : List Entry) → entry_at es key ≡ None → Lacks es key
+lacks_key key [] none = record { entry = refl; value = refl; rest = refl }
+lacks_key key (x ∷ es) none =
+    let (entry, value, rest) = go (same_value x.key key) none (lacks_key key es) in
     record { entry = entry; value = value; rest = rest }
   where
-    go : (b : Bool) → cond b (Some k) (position_from (has_key key) (k + 1) es) ≡ None → (position_from (has_key key) (k + 1) es ≡ None → Lacks es key)
+    go : (b : Bool) → cond b (Some x) (entry_at es key) ≡ None → (entry_at es key ≡ None → Lacks es key)
         → ((if b then Some x else entry_at es key) ≡ None) × ((if b then Some x.val else value_at es key) ≡ None) × ((if b then es else x ∷ without_key es key) ≡ x ∷ es)
+    go true none next = absurd (cc)
+    go false none next = let there = next none in (there.entry, there.value, ap (λ l. x ∷ l) there.rest)
+
+none_from : (key : Val) (k : ℕ) (es : List Entry) → position_from (has_key key) k es ≡ None → entry_at es key ≡ None
+none_from key k [] at = refl
+none_from key k (x ∷ es) at = go (same_value x.key key) at (none_from key (k + 1) es)
+  where
+    go : (b : Bool) → cond b (Some k) (position_from (has_key key) (k + 1) es) ≡ None → (position_from (has_key key) (k + 1) es ≡ None → entry_at es key ≡ None) → (if b then Some x else entry_at es key) ≡ None
     go true at next = absurd (cc)
-    go false at next = let there = next at in (there.entry, there.value, ap (λ l. x ∷ l) there.rest)
+    go false at next = next at
 
 pub key_missing : (es : List Entry) (key : Val) → position (has_key key) es ≡ None → Lacks es key
-key_missing es key at = none_from key 0 es (sym (position_from-zero (has_key key) es) ∙ at)
+key_missing es key at = lacks_key key es (none_from key 0 es (sym (position_from-zero (has_key key) es) ∙ at))
 
 -- the entry of a key stands at its first position
 pub stands_somewhere : (key : Val) (es : List Entry) (e : Entry) → entry_at es key ≡ Some e → (i : ℕ) × Stands es key i e
