@@ -64,12 +64,20 @@ impl Kind for AnyKind {
         pass_on!(self, kind => kind.find(at, key))
     }
 
+    fn value_of(&self, at: usize, key: Val) -> Option<Val> {
+        pass_on!(self, kind => kind.value_of(at, key))
+    }
+
     fn put(&mut self, at: usize, key: Val, val: Val) -> Result<Option<Val>, AllocError> {
         pass_on!(self, kind => kind.put(at, key, val))
     }
 
     fn take(&mut self, at: usize, i: usize) -> Entry {
         pass_on!(self, kind => kind.take(at, i))
+    }
+
+    fn take_key(&mut self, at: usize, key: Val) -> Option<Entry> {
+        pass_on!(self, kind => kind.take_key(at, key))
     }
 
     fn detach(&mut self, at: usize) -> Option<Entry> {

@@ -1,4 +1,3 @@
-mod KeyLemmas
 mod BoxLemmas
 pub mod ReferenceLemmas
 pub mod CallerLemmas

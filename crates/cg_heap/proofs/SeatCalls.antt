@@ -2,16 +2,17 @@
 use Rattle.std.proofs.Common.{◌≡◌, ◌≢◌, ℕ, suc, ◌+◌, ◌-◌, ◌<◌, ◌≤◌, List, [], ◌∷◌, ◌++◌, length, remove, slice_get, Option, Some, None, IsSome, refl, sym, ap, ◌∙◌, subst, inl, inr, arith, length-append}
 use Rattle.std.specs.Prelude.{All}
 use Rattle.std.proofs.lemmas.Bool.{cases_eq}
-use Rattle.std.proofs.lemmas.Option.{some_pair_parts}
+use Rattle.std.proofs.lemmas.Option.{some_pair_parts, slice_get_within}
 use Rattle.std.specs.FinMap as fin
 use Rattle.cg_value.specs.declared.Val.{Val}
 use Rattle.cg_value.specs.declared.Entry.{Entry}
 use Rattle.cg_value.specs.declared.KindCode.{KindCode}
 use Rattle.cg_value.specs.declared.KindCode.TheVariants.{List as ListKind}
 use Rattle.cg_kind.specs.Bodies.{Bodies}
-use Rattle.cg_kind.specs.Calls.{AreItems, CanPut, value_under, after_put, after_take, spare_after_leave}
+use Rattle.cg_kind.specs.Calls.{AreItems, CanPut, value_under, after_put, after_take, after_take_key, spare_after_leave}
+use Rattle.cg_kind.proofs.KeyLemmas.{stands_somewhere, after_take-key}
 use Rattle.cg_graph.specs.Holdings.{occurrences}
-use Rattle.cg_graph.specs.Value.{references, entry_references, references_of_value, item, without_last}
+use Rattle.cg_graph.specs.Value.{references, entry_references, references_of_value, item, without_last, without_key, entry_at as entry_under}
 use Rattle.cg_graph.specs.Places.{place_number, leaves_list}
 use Rattle.cg_graph.specs.Rows.{Row}
 use Rattle.cg_graph.specs.Store.{Store, Node, count_of, IsLive, HasCode, entries_of, entries_in}
@@ -242,6 +243,22 @@ module _ {all : List Bodies} {v : Nodes} {names : List (Option Val)} {last : ℕ
         (is ∙ ap (λ es. boxes_with_body all code body es (spare_after_leave code (spare_in_box all code body))) ((λ j. after_take (code_is j) (entries_are j) i) ∙ takes (code_of old o) can.1 (entries_of old o) i))
         room_left
         number' less few
+
+    -- the entry of a key
+    pub some_with_key : (key : Val) (e : Entry) → Some e ≡ entry_under (entries_in_box all code body) key → 0 < length (entries_of old o)
+    some_with_key key e under =
+        let (i, there) = stands_somewhere key (entries_in_box all code body) e (sym under) in
+        omega (arith, slice_get_within (entries_of old o) i e (entry_here i e there.here))
+
+    pub after_taking_key : CanTake old o → (key : Val) (e : Entry) → Some e ≡ entry_under (entries_in_box all code body) key → (all' : List Bodies) → all' ≡ boxes_with_body all code body (after_take_key code (entries_in_box all code body) key) (spare_after_leave code (spare_in_box all code body)) → (number' : ℕ) → number' ≡ number_less o number → HasFewHolds old
+        → Closed all' v names last rows objects number' (held (entry_references e) (rewritten o (without_key (entries_of old o) key) old))
+    after_taking_key can key e under all' is number' less few =
+        let (i, there) = stands_somewhere key (entries_in_box all code body) e (sym under) in
+        let rest : without_key (entries_of old o) key ≡ remove (entries_of old o) i = subst (λ es. without_key es key ≡ remove es i) entries_are there.rest in
+        subst (λ es. Closed all' v names last rows objects number' (held (entry_references e) (rewritten o es old))) (sym rest)
+        (after_taking can i e there.here all'
+        (is ∙ ap (λ es. boxes_with_body all code body es (spare_after_leave code (spare_in_box all code body))) (sym (after_take-key code (entries_in_box all code body) key i e there)))
+        number' less few)
 
     pub after_detaching : (e : Entry) → entries_in_box all code body ≡ without_last (entries_in_box all code body) ++ e ∷ [] → (all' : List Bodies) → all' ≡ boxes_with_body all code body (without_last (entries_in_box all code body)) (spare_after_leave code (spare_in_box all code body)) → (number' : ℕ) → number' ≡ number_less o number → HasFewHolds old
         → Closed all' v names last rows objects number' (held (entry_references e) (rewritten o (without_last (entries_of old o)) old))

@@ -23,7 +23,7 @@ use Rattle.cg_heap.specs.Calls.{IsSound, code_of, value_in, with_put, tracked_if
 use Rattle.cg_heap.proofs.ReferenceLemmas.{name-le, entry-le, occurrences-append, occurrences-one, one_if}
 use Rattle.cg_heap.proofs.CallerLemmas.{lives_on, live_of_kind, kinds-rewritten, total-held, total-unheld, total-rewritten, total-moved, total-made, total-gone, opening_total}
 use Rattle.cg_heap.proofs.HoldLemmas.{outside_grows, outside-held, outside-unheld, outside-rewritten, outside-moved, outside-made, outside-gone, entry_holds}
-use Rattle.cg_heap.proofs.KeyLemmas.{stands_somewhere}
+use Rattle.cg_kind.proofs.KeyLemmas.{stands_somewhere}
 use Rattle.cg_heap.proofs.RowLemmas.{in_no_row, no_own_row, no_referent, waits_live}
 
 -- its holds are among those of the heap, which are no more than so many, and the last serial is known

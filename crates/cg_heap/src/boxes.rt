@@ -2,9 +2,9 @@
 ghost use Rattle.std.specs.Prelude.{◌≡◌, ◌≢◌, ◌<◌, ◌≤◌, ◌+◌, ◌-◌, ◌++◌, ◌∷◌, ◌↔◌, [], IsTrue, length, map, IfOk, OnOk, OnErr, IfSome, OnSome, IfNone, IsNone, IsSome, IsOk, None, Some, position, slice_get};
 ghost use Rattle.std.specs.FinMap as fin;
 ghost use Rattle.cg_value.specs.declared.KindCode.TheVariants as code;
-ghost use Rattle.cg_graph.specs.Value.{item, without_last, value_at};
+ghost use Rattle.cg_graph.specs.Value.{item, without_last, value_at, entry_at as entry_under};
 ghost use Rattle.cg_kind.specs.Bodies.{Holds, entries_at, spare_at, with_body};
-ghost use Rattle.cg_kind.specs.Calls.{has_key, IsParts, CanPut, value_under, after_put, after_take, spare_after_leave};
+ghost use Rattle.cg_kind.specs.Calls.{has_key, IsParts, CanPut, value_under, after_put, after_take, after_take_key, spare_after_leave};
 ghost use Rattle.cg_heap.specs.Boxes.{six_kinds, code_index, bodies_at, HasBody, entries_in_box, spare_in_box, boxes_with_body, boxes_without};
 ghost use Rattle.cg_heap.specs.Calls.{IsMutable};
 
@@ -129,10 +129,7 @@ impl<B: Kind> Boxes<B> {
         ensures { result ≡ value_at (entries_in_box self.now seat.code seat.body) key }
     {
         let kind = &self.kinds[index_of(seat.code)];
-        match kind.find(seat.body, key) {
-            Some(i) => Some(kind.entry_at(seat.body, i).val),
-            None => None,
-        }
+        kind.value_of(seat.body, key)
     }
 
     /// Puts a value under a key, and answers the one that it replaces.
@@ -164,6 +161,20 @@ impl<B: Kind> Boxes<B> {
     {
         let kind = &mut self.kinds[index_of(seat.code)];
         let entry = kind.take(seat.body, i);
+        entry
+    }
+
+    /// Takes the first entry with this key out, where the kind lets it go.
+    pub fn take_key(&mut self, seat: Seat, key: Val) -> Option<Entry>
+        requires { HasBody self.old seat.code seat.body }
+        ensures entry { result ≡ entry_under (entries_in_box self.old seat.code seat.body) key }
+        ensures rest { OnSome result (self.new ≡ boxes_with_body self.old seat.code seat.body
+            (after_take_key seat.code (entries_in_box self.old seat.code seat.body) key)
+            (spare_after_leave seat.code (spare_in_box self.old seat.code seat.body))) }
+        ensures none { IfNone result (self.new ≡ self.old) }
+    {
+        let kind = &mut self.kinds[index_of(seat.code)];
+        let entry = kind.take_key(seat.body, key);
         entry
     }
 

@@ -545,7 +545,9 @@ fn an_entry_is_taken_by_its_key(rt: HostRuntime) -> Result<(), Fail> {
         (Step::GiveUp(3), Answer::Died(false)),
         (Step::GiveUp(3), Answer::Died(true)),
     ];
-    drive(&rt, alloc, six(alloc)?, &rows)
+    drive(&rt, alloc, six(alloc)?, &rows)?;
+    // A kind that does not write the calls by key has the bodies of the trait.
+    drive(&rt, alloc, six_of_one(alloc)?, &rows)
 }
 
 #[test]

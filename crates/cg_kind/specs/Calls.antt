@@ -6,7 +6,7 @@ use Rattle.cg_value.specs.declared.Val.TheVariants.{None as Nothing, Int}
 use Rattle.cg_value.specs.declared.Entry.{Entry}
 use Rattle.cg_value.specs.declared.KindCode.{KindCode}
 use Rattle.cg_value.specs.declared.KindCode.TheVariants.{List as ListKind, Tuple, Dict, Inst, Func, Weak}
-use Rattle.cg_graph.specs.Value.{same_value, item, value_at, put}
+use Rattle.cg_graph.specs.Value.{same_value, item, value_at, put, without_key}
 
 -- the entry has this key
 abbrev pub has_key : Val → Entry → Bool
@@ -55,6 +55,13 @@ after_take ListKind entries i = remove entries i
 after_take Dict entries i = remove entries i
 after_take Inst entries i = remove entries i
 after_take _ entries i = entries
+
+-- the same where the entry is the one under a key
+abbrev pub after_take_key : KindCode → List Entry → Val → List Entry
+after_take_key ListKind entries key = without_key entries key
+after_take_key Dict entries key = without_key entries key
+after_take_key Inst entries key = without_key entries key
+after_take_key _ entries key = entries
 
 -- the spare after an entry has left: a list has room for one item more
 abbrev pub spare_after_leave : KindCode → ℕ → ℕ

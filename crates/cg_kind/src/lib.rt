@@ -8,9 +8,9 @@ ghost use Rattle.std.specs.Prelude.{◌≡◌, ◌≢◌, ◌<◌, ◌≤◌, �
 ghost use Rattle.std.specs.FinMap as fin;
 ghost use Rattle.cg_value.specs.declared.KindCode.{KindCode};
 ghost use Rattle.cg_value.specs.declared.KindCode.TheVariants as code;
-ghost use Rattle.cg_graph.specs.Value.{item, without_last};
+ghost use Rattle.cg_graph.specs.Value.{item, without_last, value_at, entry_at as entry_under};
 ghost use Rattle.cg_kind.specs.Bodies.{Bodies, Holds, entries_at, spare_at, with_body};
-ghost use Rattle.cg_kind.specs.Calls.{has_key, IsParts, CanPut, value_under, after_put, after_take, spare_after_leave};
+ghost use Rattle.cg_kind.specs.Calls.{has_key, IsParts, CanPut, value_under, after_put, after_take, after_take_key, spare_after_leave};
 
 use cg_value::{Entry, KindCode, Val};
 use std::alloc::AllocError;
@@ -57,6 +57,18 @@ pub trait Kind: Drop {
         requires { Holds (bodies self.now) at }
         ensures { result ≡ position (has_key key) (entries_at (bodies self.now) at) };
 
+    /// The value of the first entry with this key, `None` exactly where there is none. A kind may know it without the
+    /// position.
+    fn value_of(&self, at: usize, key: Val) -> Option<Val>
+        requires { Holds (bodies self.now) at }
+        ensures { result ≡ value_at (entries_at (bodies self.now) at) key }
+    {
+        match self.find(at, key) {
+            Some(i) => Some(self.entry_at(at, i).val),
+            None => None,
+        }
+    }
+
     /// Puts a value at an index of a list, or under a key of a dictionary or an instance, and answers the value that it
     /// replaces. `Ok(None)` comes exactly for a new key, and a refusal only for one, for want of memory.
     ///
@@ -84,6 +96,23 @@ pub trait Kind: Drop {
             (after_take (kind self.old) (entries_at (bodies self.old) at) i)
             (spare_after_leave (kind self.old) (spare_at (bodies self.old) at)) }
         ensures same_kind { kind self.new ≡ kind self.old };
+
+    /// Takes the first entry with this key as `take` takes one at a position, `None` exactly where there is none. A kind
+    /// may find it without the position.
+    fn take_key(&mut self, at: usize, key: Val) -> Option<Entry>
+        requires { Holds (bodies self.old) at }
+        ensures entry { result ≡ entry_under (entries_at (bodies self.old) at) key }
+        ensures rest { OnSome result (bodies self.new ≡ with_body (bodies self.old) at
+            (after_take_key (kind self.old) (entries_at (bodies self.old) at) key)
+            (spare_after_leave (kind self.old) (spare_at (bodies self.old) at))) }
+        ensures none { IfNone result (bodies self.new ≡ bodies self.old) }
+        ensures same_kind { kind self.new ≡ kind self.old }
+    {
+        match self.find(at, key) {
+            Some(i) => Some(self.take(at, i)),
+            None => None,
+        }
+    }
 
     /// Takes the last entry off, whatever the kind. `None` comes exactly where there is none.
     fn detach(&mut self, at: usize) -> Option<Entry>
@@ -150,12 +179,20 @@ impl Kind for Box<dyn Kind> {
         (**self).find(at, key)
     }
 
+    fn value_of(&self, at: usize, key: Val) -> Option<Val> {
+        (**self).value_of(at, key)
+    }
+
     fn put(&mut self, at: usize, key: Val, val: Val) -> Result<Option<Val>, AllocError> {
         (**self).put(at, key, val)
     }
 
     fn take(&mut self, at: usize, i: usize) -> Entry {
         (**self).take(at, i)
+    }
+
+    fn take_key(&mut self, at: usize, key: Val) -> Option<Entry> {
+        (**self).take_key(at, key)
     }
 
     fn detach(&mut self, at: usize) -> Option<Entry> {

@@ -7,7 +7,7 @@ use Rattle.std.specs.Option.{is_some}
 use Rattle.std.specs.Option.{option_to_list}
 use Rattle.std.proofs.lemmas.Bool.{cases_lt, cases_eq}
 use Rattle.std.proofs.lemmas.Bool.Decides.{nat_tests}
-use Rattle.std.proofs.lemmas.List.{length-set, get_or-set_same, get_or-set_other, get_or_append_left, get_or_push, get_or_past, length_push, length-map, take-append-le}
+use Rattle.std.proofs.lemmas.List.{length-set, get_or-set_same, get_or-set_other, get_or_append_left, get_or_push, get_or_past, get_or_default, length_push, length-map, take-append-le}
 use Rattle.std.proofs.lemmas.Grind.{flat_map-append}
 use Rattle.cg_kinds.specs.Order.{indexes, pairs_before, renamed, AreHomes, AreStarts, AreClosed, IsSound}
 use Rattle.cg_kinds.proofs.SlotLemmas.{pair_within, gap_later, before_all, few_pairs}
@@ -372,6 +372,27 @@ pub place_only : (slots : List (Option ℕ)) (homes : List ℕ) → AreHomes slo
 place_only slots homes are index slot place pair is =
     let there = has_slot slots place index is in
     sym there.before ∙ ap (pairs_before slots) (one_slot slots homes are index slot there.slot pair there.pair)
+
+-- the slot that an index has as its home, seen from the index's place
+pub record HasHome (slots : List (Option ℕ)) (homes order : List ℕ) (index place home : ℕ) : Type 0 where
+  pub pair : get_or slots home None ≡ Some index
+  pub one : (other : ℕ) → get_or slots home None ≡ Some other → other ≡ index
+  pub before : pairs_before slots home ≡ place
+  pub count : length homes ≡ length order
+
+pub home_of : (slots : List (Option ℕ)) (homes : List ℕ) → AreHomes slots homes → (order : List ℕ) → indexes slots ≡ order → (index place : ℕ) → slice_get order place ≡ Some index
+    → (home : ℕ) → home ≡ get_or homes index home → HasHome slots homes order index place home
+home_of slots homes are order is index place at home told =
+    let there = has_slot slots place index (ap (λ l. slice_get l place) is ∙ at) in
+    let low : index < length homes = are.within there.slot index there.pair in
+    let at_home : home ≡ get_or homes index 0 = told ∙ get_or_default homes index home 0 low in
+    let pair : get_or slots home None ≡ Some index = ap (λ s. get_or slots s None) at_home ∙ are.home index low in
+    record {
+      pair = pair;
+      one = λ other found. some_is other index (sym found ∙ pair);
+      before = sym (place_only slots homes are index home place pair (ap (λ l. slice_get l place) is ∙ at));
+      count = sym are.each ∙ ap length is;
+    }
 
 all_indexes : (P : ℕ → Type 0) (slots : List (Option ℕ)) → ((slot index : ℕ) → get_or slots slot None ≡ Some index → P index) → All P (indexes slots)
 all_indexes P slots each = λ k d within.

@@ -1,13 +1,16 @@
 -- The pairs of a map as the entries of a dictionary or an instance.
-use Rattle.std.proofs.Common.{◌≡◌, ℕ, ◌+◌, Bool, true, false, List, [], ◌∷◌, Some, cond, refl, sym, ap, ◌∙◌, map}
-use Rattle.std.specs.Prelude.{position}
+use Rattle.std.proofs.Common.{◌≡◌, ℕ, ◌+◌, Bool, true, false, List, [], ◌∷◌, Option, Some, None, cond, refl, sym, ap, ◌∙◌, map}
+use Rattle.std.specs.Prelude.{position, IfNone}
 use Rattle.std.specs.List.{position_from}
 use Rattle.std.specs.Map.{lookup, keys_of}
 use Rattle.std.proofs.lemmas.Iterator.Adapters.{position_from-zero}
 use Rattle.indexmap.specs.IndexMap.{insert_entry}
 use Rattle.cg_value.specs.declared.Val.{Val}
-use Rattle.cg_graph.specs.Value.{same_value, value_at, put}
+use Rattle.cg_graph.specs.Value.{same_value, value_at, put, entry_at, without_key}
+use Rattle.cg_value.specs.declared.Entry.{Entry}
+use Rattle.cg_kind.specs.Bodies.{body_of}
 use Rattle.cg_kind.specs.Calls.{has_key}
+use Rattle.cg_kind.proofs.KeyLemmas.{lacks_key}
 use Rattle.cg_kinds.specs.Pairs.{pair_entry}
 use Rattle.cg_kinds.proofs.KeyLemmas.{equal, equal-same_value}
 
@@ -43,3 +46,8 @@ module _ (key : Val) where
       map-choice pair_entry (equal key p.0) ((p.0, val) ∷ ps) (p ∷ insert_entry equal ps key val)
       ∙ ap (λ b. cond b (pair_entry (p.0, val) ∷ map pair_entry ps) (pair_entry p ∷ map pair_entry (insert_entry equal ps key val))) (equal-same_value key p.0)
       ∙ ap (λ es. cond (same_value p.0 key) (pair_entry (p.0, val) ∷ map pair_entry ps) (pair_entry p ∷ es)) (insert-pairs val ps)
+
+-- where no entry is taken, all stay
+pub none_taken : (key : Val) (taken : Option Entry) (es now : List Entry) → taken ≡ entry_at es key → now ≡ without_key es key → IfNone taken (body_of now 0 ≡ body_of es 0)
+none_taken key None es now is rest = ap (λ l. body_of l 0) (rest ∙ (lacks_key key es (sym is)).rest)
+none_taken key (Some e) es now is rest = tt

@@ -19,6 +19,7 @@ use Rattle.cg_value.specs.declared.Val.{Val}
 use Rattle.cg_value.specs.declared.Entry.{Entry}
 use Rattle.cg_graph.specs.Value.{same_value, value_at, put}
 use Rattle.cg_kind.specs.Calls.{has_key}
+use Rattle.cg_kind.proofs.KeyLemmas.{Stands, key_found}
 use Rattle.cg_kinds.specs.Order.{renamed, IsSound}
 use Rattle.cg_kinds.specs.Pairs.{pair_entry, pairs_of, nothing, picked, ordered, IsOrderOf, IsSoundOrder}
 use Rattle.cg_kinds.proofs.KeyLemmas.{equal, equal-same_value, same_is}
@@ -282,6 +283,27 @@ has_index key es val some = by (position (has_key key) es) refl
 -- the entry at a place of the order
 pub picked_slice : (es : List Entry) (order : List ℕ) (i index : ℕ) → slice_get order i ≡ Some index → slice_get (picked es order) i ≡ Some (get_or es index nothing)
 picked_slice es order i index at = slice_get-map (λ n. get_or es n nothing) order i ∙ ap (option_map (λ n. get_or es n nothing)) at
+
+-- the entry of a key that the map has at an index, at the index's place in the order
+pub record StandsIn (es : List Entry) (order : List ℕ) (key : Val) (index : ℕ) : Type 0 where
+  pub place : ℕ
+  pub at : slice_get order place ≡ Some index
+  pub below : index < length order
+  pub there : Stands (picked es order) key place (get_or es index nothing)
+
+pub ordered_stands : (pairs : List (Val × Val)) (order : List ℕ) → length order ≡ length pairs → IsSound order → IsDistinct equal (keys_of pairs) → (index : ℕ) (key : Val) → position (has_key key) (pairs_of pairs) ≡ Some index
+    → StandsIn (pairs_of pairs) order key index
+ordered_stands pairs order long sound distinct index key found =
+    let below : index < length order = omega (arith, (position-Some (has_key key) (pairs_of pairs) index nothing found).0, long, length-map pairs pair_entry) in
+    let p = sound.placed index below in
+    record {
+      place = p.place;
+      at = p.at;
+      below = below;
+      there = key_found (picked (pairs_of pairs) order) key p.place (get_or (pairs_of pairs) index nothing)
+          (ordered_some pairs order long sound distinct index p.place p.at p.only key found)
+          (picked_slice (pairs_of pairs) order p.place index p.at);
+    }
 
 -- what is left where the last entry has come to the place of the one that is gone
 pub picked_take : (es now : List Entry) (order : List ℕ) (i index : ℕ) → length order ≡ length es → index < length order → All (IsOther order index) (remove order i) → now ≡ swap_remove es index nothing

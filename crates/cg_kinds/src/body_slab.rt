@@ -56,12 +56,20 @@ impl<C: Contents> Kind for BodySlab<C> {
         self.slab[at].find(key)
     }
 
+    fn value_of(&self, at: usize, key: Val) -> Option<Val> {
+        self.slab[at].value_of(key)
+    }
+
     fn put(&mut self, at: usize, key: Val, val: Val) -> Result<Option<Val>, AllocError> {
         self.slab[at].put(key, val)
     }
 
     fn take(&mut self, at: usize, i: usize) -> Entry {
         self.slab[at].take(i)
+    }
+
+    fn take_key(&mut self, at: usize, key: Val) -> Option<Entry> {
+        self.slab[at].take_key(key)
     }
 
     fn detach(&mut self, at: usize) -> Option<Entry> {

@@ -2,9 +2,9 @@
 ghost use Rattle.std.specs.Prelude.{◌≡◌, ◌≢◌, ◌<◌, ◌≤◌, ◌-◌, ◌++◌, ◌∷◌, ◌↔◌, [], length, IfOk, OnOk, OnErr, IfSome, OnSome, IfNone, IsNone, IsSome, IsOk, Some, position, slice_get};
 ghost use Rattle.cg_value.specs.declared.KindCode.{KindCode};
 ghost use Rattle.cg_value.specs.declared.KindCode.TheVariants as code;
-ghost use Rattle.cg_graph.specs.Value.{item, without_last};
+ghost use Rattle.cg_graph.specs.Value.{item, without_last, value_at, entry_at as entry_under};
 ghost use Rattle.cg_kind.specs.Bodies.{Body, body_of};
-ghost use Rattle.cg_kind.specs.Calls.{has_key, IsParts, CanPut, value_under, after_put, after_take, spare_after_leave};
+ghost use Rattle.cg_kind.specs.Calls.{has_key, IsParts, CanPut, value_under, after_put, after_take, after_take_key, spare_after_leave};
 
 use cg_value::{Entry, KindCode, Val};
 use std::alloc::{AllocError, Global};
@@ -32,6 +32,15 @@ pub trait Contents: Drop {
     fn find(&self, key: Val) -> Option<usize>
         ensures { result ≡ position (has_key key) (body self.now).entries };
 
+    fn value_of(&self, key: Val) -> Option<Val>
+        ensures { result ≡ value_at (body self.now).entries key }
+    {
+        match self.find(key) {
+            Some(i) => Some(self.entry_at(i).val),
+            None => None,
+        }
+    }
+
     fn put(&mut self, key: Val, val: Val) -> Result<Option<Val>, AllocError>
         requires { CanPut kind (body self.old).entries key }
         ensures ok { OnOk result (body self.new ≡
@@ -45,6 +54,18 @@ pub trait Contents: Drop {
         ensures entry { slice_get (body self.old).entries i ≡ Some result }
         ensures rest { body self.new ≡ body_of (after_take kind (body self.old).entries i)
             (spare_after_leave kind (body self.old).spare) };
+
+    fn take_key(&mut self, key: Val) -> Option<Entry>
+        ensures entry { result ≡ entry_under (body self.old).entries key }
+        ensures rest { OnSome result (body self.new ≡ body_of (after_take_key kind (body self.old).entries key)
+            (spare_after_leave kind (body self.old).spare)) }
+        ensures none { IfNone result (body self.new ≡ body self.old) }
+    {
+        match self.find(key) {
+            Some(i) => Some(self.take(i)),
+            None => None,
+        }
+    }
 
     fn detach(&mut self) -> Option<Entry>
         ensures last { IfSome result (λ e. (body self.old).entries ≡

@@ -5,27 +5,42 @@ ghost use Rattle.cg_kind.specs.Calls.{IsParts};
 
 use crate::DictKind;
 use crate::table::Table;
-use crate::tests::{Answer, make, put, take};
+use crate::tests::{Answer, make, put, take, take_key};
 use cg_kind::Kind;
 use cg_value::{Entry, Val};
 use std::alloc::{AllocError, Global};
 use std::process::Abort;
 use std::test::Fail;
 
-/// Takes the pair at a place, which a search for its key must find.
+/// What a pair is taken by.
+#[derive(Clone, Copy, Debug, Drop)]
+enum By {
+    Place,
+    Key,
+}
+
+/// Takes the pair at a place by that or by its key; a search for the key must find the place.
 fn drop_key<K: Kind>(
     rt: &impl Abort,
     kind: &mut K,
     at: usize,
     place: usize,
     key: u64,
+    by: By,
 ) -> Result<(), Fail>
     requires { Holds (K.bodies kind.old) at }
     ensures { Holds (K.bodies kind.new) at }
 {
     assert_eq!(rt; kind.find(at, Val::Ref(key)), Some(place));
-    assert_eq!(rt; take(kind, at, place), Answer::Entry(Val::Ref(key), 7));
+    assert_eq!(rt; kind.value_of(at, Val::Ref(key)), Some(Val::Int(7)));
+    let dropped = match by {
+        By::Place => take(kind, at, place),
+        By::Key => take_key(kind, at, Val::Ref(key)),
+    };
+    assert_eq!(rt; dropped, Answer::Entry(Val::Ref(key), 7));
     assert_eq!(rt; kind.find(at, Val::Ref(key)), None);
+    assert_eq!(rt; kind.value_of(at, Val::Ref(key)), None);
+    assert_eq!(rt; take_key(kind, at, Val::Ref(key)), Answer::Nothing);
     Ok(())
 }
 
@@ -42,51 +57,51 @@ fn filled<K: Kind>(kind: &mut K, count: u64) -> Result<usize, AllocError>
 }
 
 /// Drops the oldest key, so many times.
-fn drop_oldest<K: Kind>(rt: &impl Abort, kind: &mut K, count: u64) -> Result<(), Fail>
+fn drop_oldest<K: Kind>(rt: &impl Abort, kind: &mut K, count: u64, by: By) -> Result<(), Fail>
     requires { IsParts (K.kind kind.old) [] }
 {
     let at = filled(kind, count)?;
     'keys: for key in 0..count {
-        drop_key(rt, kind, at, 0, key)?;
+        drop_key(rt, kind, at, 0, key, by)?;
     }
     assert_eq!(rt; kind.len(at), 0);
     Ok(())
 }
 
 /// Drops the newest key, so many times.
-fn drop_newest<K: Kind>(rt: &impl Abort, kind: &mut K, count: u64) -> Result<(), Fail>
+fn drop_newest<K: Kind>(rt: &impl Abort, kind: &mut K, count: u64, by: By) -> Result<(), Fail>
     requires { IsParts (K.kind kind.old) [] }
 {
     let at = filled(kind, count)?;
     'keys: for gone in 0..count {
         let key = count - 1 - gone;
-        drop_key(rt, kind, at, key as usize, key)?;
+        drop_key(rt, kind, at, key as usize, key, by)?;
     }
     assert_eq!(rt; kind.len(at), 0);
     Ok(())
 }
 
 /// Drops the two keys in the middle of twice so many, so many times.
-fn drop_middle<K: Kind>(rt: &impl Abort, kind: &mut K, half: u32) -> Result<(), Fail>
+fn drop_middle<K: Kind>(rt: &impl Abort, kind: &mut K, half: u32, by: By) -> Result<(), Fail>
     requires { IsParts (K.kind kind.old) [] }
 {
     let at = filled(kind, half as u64 * 2)?;
     'keys: for gone in 0..half {
         let left = half - gone;
-        drop_key(rt, kind, at, left as usize, half as u64 + gone as u64)?;
-        drop_key(rt, kind, at, left as usize - 1, left as u64 - 1)?;
+        drop_key(rt, kind, at, left as usize, half as u64 + gone as u64, by)?;
+        drop_key(rt, kind, at, left as usize - 1, left as u64 - 1, by)?;
     }
     assert_eq!(rt; kind.len(at), 0);
     Ok(())
 }
 
 /// Drops the oldest of a thousand keys and puts a new one, so many times.
-fn drop_and_put<K: Kind>(rt: &impl Abort, kind: &mut K, count: u32) -> Result<(), Fail>
+fn drop_and_put<K: Kind>(rt: &impl Abort, kind: &mut K, count: u32, by: By) -> Result<(), Fail>
     requires { IsParts (K.kind kind.old) [] }
 {
     let at = filled(kind, 1_000)?;
     'keys: for key in 0..count {
-        drop_key(rt, kind, at, 0, key as u64)?;
+        drop_key(rt, kind, at, 0, key as u64, by)?;
         put(kind, at, Val::Ref(key as u64 + 1_000), 7)?;
     }
     assert_eq!(rt; kind.len(at), 1_000);
@@ -95,22 +110,26 @@ fn drop_and_put<K: Kind>(rt: &impl Abort, kind: &mut K, count: u32) -> Result<()
 
 #[test]
 fn a_hundred_thousand_keys_go_oldest_first(rt: HostRuntime) -> Result<(), Fail> {
-    drop_oldest(&rt, &mut DictKind::new(rt.alloc()), 100_000)
+    drop_oldest(&rt, &mut DictKind::new(rt.alloc()), 100_000, By::Place)?;
+    drop_oldest(&rt, &mut DictKind::new(rt.alloc()), 100_000, By::Key)
 }
 
 #[test]
 fn a_hundred_thousand_keys_go_newest_first(rt: HostRuntime) -> Result<(), Fail> {
-    drop_newest(&rt, &mut DictKind::new(rt.alloc()), 100_000)
+    drop_newest(&rt, &mut DictKind::new(rt.alloc()), 100_000, By::Place)?;
+    drop_newest(&rt, &mut DictKind::new(rt.alloc()), 100_000, By::Key)
 }
 
 #[test]
 fn a_hundred_thousand_keys_go_from_the_middle(rt: HostRuntime) -> Result<(), Fail> {
-    drop_middle(&rt, &mut DictKind::new(rt.alloc()), 50_000)
+    drop_middle(&rt, &mut DictKind::new(rt.alloc()), 50_000, By::Place)?;
+    drop_middle(&rt, &mut DictKind::new(rt.alloc()), 50_000, By::Key)
 }
 
 #[test]
 fn a_hundred_thousand_keys_come_and_go_in_turn(rt: HostRuntime) -> Result<(), Fail> {
-    drop_and_put(&rt, &mut DictKind::new(rt.alloc()), 100_000)
+    drop_and_put(&rt, &mut DictKind::new(rt.alloc()), 100_000, By::Place)?;
+    drop_and_put(&rt, &mut DictKind::new(rt.alloc()), 100_000, By::Key)
 }
 
 /// Puts a value under a key of a plain list of entries.
@@ -125,13 +144,24 @@ pub fn put_plainly(entries: &mut Vec<Entry>, key: Val, val: Val) -> Result<(), A
     Ok(())
 }
 
-/// A table has these entries, and finds the key of each.
+/// Takes the entry of a key out of a plain list of entries.
+pub fn take_plainly(entries: &mut Vec<Entry>, key: Val) -> Option<Entry> {
+    'entries: for i in 0..entries.len() {
+        if entries[i].key == key {
+            return Some(entries.remove(i));
+        }
+    }
+    None
+}
+
+/// A table has these entries, and finds the key and the value of each.
 fn assert_has(rt: &impl Abort, table: &Table, entries: &[Entry]) -> Result<(), Fail> {
     assert_eq!(rt; table.len(), entries.len());
     'entries: for i in 0..entries.len() {
         if i < table.len() {
             assert_eq!(rt; table.entry_at(i), entries[i]);
             assert_eq!(rt; table.find(entries[i].key), Some(i));
+            assert_eq!(rt; table.value_of(entries[i].key), Some(entries[i].val));
         }
     }
     Ok(())
@@ -147,6 +177,10 @@ fn step(
     let place = (draw / 8) as usize % (entries.len() + 1);
     if draw % 8 < 3 && place < entries.len() && place < table.len() {
         assert_eq!(rt; table.take(place), entries.remove(place));
+    } else if draw % 8 == 3 {
+        let key = Val::Int((draw / 8 % 600) as i64);
+        assert_eq!(rt; table.take_key(key), take_plainly(entries, key));
+        assert_eq!(rt; table.value_of(key), None);
     } else {
         let key = Val::Int((draw / 8 % 600) as i64);
         let val = Val::Int((draw % 1000) as i64);
@@ -179,4 +213,53 @@ fn steps_at_random_are_those_of_a_plain_list(rt: HostRuntime) -> Result<(), Fail
         assert_eq!(&rt; table.detach(), entries.pop());
     }
     Ok(())
+}
+
+/// A table with the keys below a number, each with ten times itself.
+fn tenfold(alloc: Global, count: u32) -> Result<Table, AllocError> {
+    let mut table = Table::new(alloc);
+    'keys: for key in 0..count {
+        let _ = table.put(Val::Int(key as i64), Val::Int(key as i64 * 10))?;
+    }
+    Ok(table)
+}
+
+/// The pair of a key below 1,000, with ten times it.
+fn pair_of(key: u32) -> Entry {
+    Entry {
+        key: Val::Int(key as i64),
+        val: Val::Int(key as i64 * 10),
+    }
+}
+
+/// The keys at these positions are these, each with ten times itself.
+fn assert_keys(rt: &impl Abort, table: &Table, keys: &[u32]) -> Result<(), Fail> {
+    assert_eq!(rt; table.len(), keys.len());
+    'keys: for i in 0..keys.len() {
+        if i < table.len() {
+            assert_eq!(rt; table.entry_at(i), pair_of(keys[i]));
+        }
+    }
+    Ok(())
+}
+
+#[test]
+fn keys_that_come_again_go_last(rt: HostRuntime) -> Result<(), Fail> {
+    let mut table = tenfold(rt.alloc(), 24)?;
+    // The newest goes while the map keeps the order, the others from an order that the oldest brought.
+    'gone: for key in [23, 0, 12, 1, 22] {
+        assert_eq!(&rt; table.take_key(Val::Int(key as i64)), Some(pair_of(key)));
+        assert_eq!(&rt; table.take_key(Val::Int(key as i64)), None);
+    }
+    'again: for key in [12, 0] {
+        let _ = table.put(Val::Int(key as i64), Val::Int(key as i64 * 10))?;
+    }
+    assert_eq!(&rt; table.take_key(Val::Int(20)), Some(pair_of(20)));
+    assert_keys(
+        &rt,
+        &table,
+        &[
+            2, 3, 4, 5, 6, 7, 8, 9, 10, 11, 13, 14, 15, 16, 17, 18, 19, 21, 12, 0,
+        ],
+    )
 }

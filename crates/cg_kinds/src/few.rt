@@ -1,7 +1,7 @@
 //! A few pairs, which are searched one after the other.
 ghost use Rattle.std.specs.Prelude.{◌≡◌, ◌<◌, ◌≤◌, ◌↔◌, ◌++◌, ◌∷◌, [], length, IsTrue, None, IfOk, IfNone, IsNone, OnOk, OnErr, OnSome, option_to_list, position, slice_get, remove};
 ghost use Rattle.std.specs.List.{position_from};
-ghost use Rattle.cg_graph.specs.Value.{value_at, put};
+ghost use Rattle.cg_graph.specs.Value.{value_at, put, without_key, entry_at as entry_under};
 ghost use Rattle.cg_kind.specs.Calls.{has_key};
 ghost use Rattle.cg_kinds.specs.Pairs.{AreKeysOnce};
 
@@ -132,6 +132,16 @@ impl Few {
         place_in(self.pairs.as_slice(), key)
     }
 
+    /// The value under a key.
+    pub fn value_of(&self, key: Val) -> Option<Val>
+        ensures { result ≡ value_at self.now key }
+    {
+        match self.find(key) {
+            Some(at) => Some(self.entry_at(at).val),
+            None => None,
+        }
+    }
+
     /// Another value for a key, where it is there; it answers the one that the key had.
     pub fn replace(&mut self, key: Val, val: Val) -> Option<Val>
         ensures replaced { result ≡ value_at self.old key }
@@ -159,6 +169,17 @@ impl Few {
         ensures rest { self.new ≡ remove self.old i }
     {
         self.pairs.remove(i)
+    }
+
+    /// Takes the pair under a key, if there is one; those behind it move down by one.
+    pub fn take_key(&mut self, key: Val) -> Option<Entry>
+        ensures entry { result ≡ entry_under self.old key }
+        ensures rest { self.new ≡ without_key self.old key }
+    {
+        match self.find(key) {
+            Some(at) => Some(self.take(at)),
+            None => None,
+        }
     }
 
     /// Takes the last pair, if there is one.

@@ -1,6 +1,6 @@
 //! The pairs of a dictionary or an instance: a few in a list, or any number in a map.
 ghost use Rattle.std.specs.Prelude.{◌≡◌, ◌<◌, ◌++◌, [], length, IfOk, IsOk, IsNone, IsSome, OnOk, OnErr, option_to_list, position, slice_get, remove};
-ghost use Rattle.cg_graph.specs.Value.{value_at, put};
+ghost use Rattle.cg_graph.specs.Value.{value_at, put, without_key, entry_at as entry_under};
 ghost use Rattle.cg_kind.specs.Calls.{has_key};
 ghost use Rattle.cg_kinds.specs.Held.{entries_held};
 
@@ -58,6 +58,16 @@ impl Held {
         }
     }
 
+    /// The value under a key.
+    pub fn value_of(&self, key: Val) -> Option<Val>
+        ensures { result ≡ value_at (entries_held self.now) key }
+    {
+        match self {
+            Held::Few(few) => few.value_of(key),
+            Held::Many(table) => table.value_of(key),
+        }
+    }
+
     /// A present key gets the value, and a new one goes last. It answers the value that the key had.
     pub fn put(&mut self, key: Val, val: Val) -> Result<Option<Val>, AllocError>
         ensures ok { OnOk result (entries_held self.new ≡ put (entries_held self.old) key val) }
@@ -110,6 +120,17 @@ impl Held {
         match self {
             Held::Few(few) => few.take(i),
             Held::Many(table) => table.take(i),
+        }
+    }
+
+    /// Takes the pair under a key, if there is one; those behind it move down by one.
+    pub fn take_key(&mut self, key: Val) -> Option<Entry>
+        ensures entry { result ≡ entry_under (entries_held self.old) key }
+        ensures rest { entries_held self.new ≡ without_key (entries_held self.old) key }
+    {
+        match self {
+            Held::Few(few) => few.take_key(key),
+            Held::Many(table) => table.take_key(key),
         }
     }
 

@@ -4,8 +4,8 @@ ghost use Rattle.std.specs.Prelude.{[]};
 ghost use Rattle.cg_kind.specs.Bodies.{Holds};
 ghost use Rattle.cg_kind.specs.Calls.{IsParts};
 
-use crate::drop_tests::{next, put_plainly};
-use crate::tests::{entries, make, put, take};
+use crate::drop_tests::{next, put_plainly, take_plainly};
+use crate::tests::{Answer, answer_of, entries, make, put, take, take_key};
 use crate::{DictKind, InstKind};
 use cg_kind::Kind;
 use cg_value::{Entry, Val};
@@ -13,7 +13,7 @@ use std::alloc::Global;
 use std::process::Abort;
 use std::test::Fail;
 
-/// An object has these entries, and finds the key of each.
+/// An object has these entries, and finds the key and the value of each.
 fn assert_has<K: Kind>(
     rt: &impl Abort,
     alloc: Global,
@@ -26,6 +26,7 @@ fn assert_has<K: Kind>(
     assert_eq!(rt; entries(alloc, kind, at)?.as_slice(), expected);
     'expected: for i in 0..expected.len() {
         assert_eq!(rt; kind.find(at, expected[i].key), Some(i));
+        assert_eq!(rt; kind.value_of(at, expected[i].key), Some(expected[i].val));
     }
     Ok(())
 }
@@ -66,6 +67,26 @@ fn take_both<K: Kind>(kind: &mut K, at: usize, plain: &mut Vec<Entry>, place: us
     }
 }
 
+/// Takes the entry of a key out of an object and out of a plain list, where there is one.
+fn take_key_of_both<K: Kind>(
+    rt: &impl Abort,
+    kind: &mut K,
+    at: usize,
+    plain: &mut Vec<Entry>,
+    key: i64,
+) -> Result<(), Fail>
+    requires { Holds (K.bodies kind.old) at }
+    ensures { Holds (K.bodies kind.new) at }
+{
+    let expected = match take_plainly(plain, Val::Int(key)) {
+        Some(entry) => answer_of(entry),
+        None => Answer::Nothing,
+    };
+    assert_eq!(rt; take_key(kind, at, Val::Int(key)), expected);
+    assert_eq!(rt; kind.value_of(at, Val::Int(key)), None);
+    Ok(())
+}
+
 /// So many keys are put, a value is replaced, the first key goes and comes again.
 fn go_over<K: Kind>(rt: &impl Abort, alloc: Global, kind: &mut K, count: i64) -> Result<(), Fail>
     requires { IsParts (K.kind kind.old) [] }
@@ -81,6 +102,9 @@ fn go_over<K: Kind>(rt: &impl Abort, alloc: Global, kind: &mut K, count: i64) ->
     take_both(kind, at, &mut plain, 0);
     assert_eq!(rt; kind.find(at, Val::Int(0)), None);
     put_both(rt, alloc, kind, at, &mut plain, 0, 40)?;
+    assert_has(rt, alloc, kind, at, plain.as_slice())?;
+    take_key_of_both(rt, kind, at, &mut plain, 2)?;
+    take_key_of_both(rt, kind, at, &mut plain, 99)?;
     assert_has(rt, alloc, kind, at, plain.as_slice())
 }
 
@@ -110,7 +134,9 @@ fn walk<K: Kind>(
     'steps: for _ in 0..60 {
         draw = next(draw);
         let number = draw >> 20;
-        if number % 3 == 0 {
+        if number % 6 == 0 {
+            take_key_of_both(rt, kind, at, &mut plain, (number / 6 % 12) as i64)?;
+        } else if number % 6 == 3 {
             take_both(kind, at, &mut plain, (number / 3 % 12) as usize);
         } else {
             let key = (number / 3 % 12) as i64;

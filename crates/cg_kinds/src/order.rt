@@ -31,7 +31,7 @@ impl Model for Order {
 }
 
 /// Takes the index out of a slot. The last pair comes to that index.
-fn take_index(slots: &mut [Option<u32>], homes: &mut Vec<u32>, slot: usize) -> usize
+fn empty_slot(slots: &mut [Option<u32>], homes: &mut Vec<u32>, slot: usize) -> usize
     requires homes { AreHomes slots.old homes.old.items }
     requires there { IsSome (slice_index_or slots.old slot None) }
     ensures index { slice_index_or slots.old slot None ≡ Some result }
@@ -54,6 +54,26 @@ fn take_index(slots: &mut [Option<u32>], homes: &mut Vec<u32>, slot: usize) -> u
         }
         None => unreachable!(),
     }
+}
+
+/// Takes the index out of a slot, with one pair less before the blocks behind it. The last pair comes to that index.
+fn take_slot(
+    slots: &mut Vec<Option<u32>>,
+    homes: &mut Vec<u32>,
+    starts: &mut Vec<u32>,
+    slot: usize,
+) -> usize
+    requires homes { AreHomes slots.old.items homes.old.items }
+    requires starts { AreStarts slots.old.items starts.old.items }
+    requires there { IsSome (slice_index_or slots.old.items slot None) }
+    ensures index { slice_index_or slots.old.items slot None ≡ Some result }
+    ensures homes { AreHomes slots.new.items homes.new.items }
+    ensures starts { AreStarts slots.new.items starts.new.items }
+    ensures rest { indexes slots.new.items ≡ map (renamed (length homes.old.items - 1) result)
+        (remove (indexes slots.old.items) (before slots.old.items slot)) }
+{
+    lower_behind(slots.as_slice(), starts.as_mut_slice(), slot);
+    empty_slot(slots.as_mut_slice(), homes, slot)
 }
 
 /// Closes the gaps between slots.
@@ -190,12 +210,31 @@ impl Order {
         ensures others { All (λ index. (index < length self.old) × (index ≢ result)) (remove self.old i) }
     {
         let slot = slot_of(self.slots.as_slice(), self.starts.as_slice(), i);
-        lower_behind(self.slots.as_slice(), self.starts.as_mut_slice(), slot);
-        let index = take_index(self.slots.as_mut_slice(), &mut self.homes, slot);
+        let index = take_slot(&mut self.slots, &mut self.homes, &mut self.starts, slot);
+        self.close_many();
+        index
+    }
+
+    /// Takes an index out, wherever it stands. The last index is then called so.
+    pub fn take_index(&mut self, index: usize)
+        requires { index < length self.old }
+        ensures rest { (place : ℕ) → slice_get self.old place ≡ Some index →
+            self.new ≡ map (renamed (length self.old - 1) index) (remove self.old place) }
+        ensures others { (place : ℕ) → slice_get self.old place ≡ Some index →
+            All (λ other. (other < length self.old) × (other ≢ index)) (remove self.old place) }
+    {
+        let slot = self.homes[index] as usize;
+        let _ = take_slot(&mut self.slots, &mut self.homes, &mut self.starts, slot);
+        self.close_many();
+    }
+
+    /// Closes the gaps, where they are more than half of the slots.
+    fn close_many(&mut self)
+        ensures { self.new ≡ self.old }
+    {
         if self.homes.len() < self.slots.len() / 2 {
             self.close();
         }
-        index
     }
 
     /// Closes the gaps.

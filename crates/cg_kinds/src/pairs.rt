@@ -100,6 +100,10 @@ impl<K: Keyed> Contents for Pairs<K> {
         self.held.find(key)
     }
 
+    fn value_of(&self, key: Val) -> Option<Val> {
+        self.held.value_of(key)
+    }
+
     fn put(&mut self, key: Val, val: Val) -> Result<Option<Val>, AllocError> {
         let replaced = self.held.put(key, val)?;
         Ok(replaced)
@@ -107,6 +111,10 @@ impl<K: Keyed> Contents for Pairs<K> {
 
     fn take(&mut self, i: usize) -> Entry {
         self.held.take(i)
+    }
+
+    fn take_key(&mut self, key: Val) -> Option<Entry> {
+        self.held.take_key(key)
     }
 
     fn detach(&mut self) -> Option<Entry> {

@@ -1,6 +1,6 @@
 //! Pairs in the order in which their keys came, in a map that may have another order.
 ghost use Rattle.std.specs.Prelude.{◌≡◌, ◌<◌, ◌^◌, ◌++◌, ◌∷◌, [], length, Some, None, IfSome, IfNone, IsNone, IsSome, IsOk, IfOk, OnOk, OnErr, OnSome, option_to_list, position, slice_get, remove, swap_remove, take, slice_index_or, option_map, ◌-◌};
-ghost use Rattle.cg_graph.specs.Value.{value_at, put};
+ghost use Rattle.cg_graph.specs.Value.{value_at, put, without_key, entry_at as entry_under};
 ghost use Rattle.cg_kind.specs.Calls.{has_key};
 ghost use Rattle.cg_kinds.specs.Pairs.{pairs_of, nothing, IsSoundOrder};
 
@@ -153,6 +153,16 @@ impl Table {
         }
     }
 
+    /// The value under a key, which no order is asked for.
+    pub fn value_of(&self, key: Val) -> Option<Val>
+        ensures { result ≡ value_at self.now key }
+    {
+        // The length is what says that the keys are unique.
+        let _count = self.map.len();
+        sound(&self.order);
+        self.map.get(&key).copied()
+    }
+
     /// A present key gets the value, and a new one goes last. It answers the value that the key had.
     pub fn put(&mut self, key: Val, val: Val) -> Result<Option<Val>, AllocError>
         ensures ok { OnOk result (self.new ≡ put self.old key val) }
@@ -200,6 +210,24 @@ impl Table {
         match &mut self.order {
             Some(order) => swap_out(&mut self.map, order.take(i)),
             None => shift_out(&mut self.map, i),
+        }
+    }
+
+    /// Takes the pair under a key, if there is one; those behind it move down by one. No place is looked for in an order.
+    pub fn take_key(&mut self, key: Val) -> Option<Entry>
+        ensures entry { result ≡ entry_under self.old key }
+        ensures rest { self.new ≡ without_key self.old key }
+    {
+        sound(&self.order);
+        match self.map.get_index_of(&key) {
+            Some(index) => match &mut self.order {
+                Some(order) => {
+                    order.take_index(index);
+                    Some(swap_out(&mut self.map, index))
+                }
+                None => Some(self.take(index)),
+            },
+            None => None,
         }
     }
 

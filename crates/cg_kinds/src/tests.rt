@@ -25,7 +25,9 @@ const C: Val = Val::Ref(3);
 enum Step {
     Put(Val, i64),
     Find(Val),
+    Value(Val),
     Take(usize),
+    TakeKey(Val),
     Detach,
     Append(i64),
 }
@@ -34,6 +36,7 @@ enum Step {
 pub enum Answer {
     Nothing,
     Position(Option<usize>),
+    Value(Option<Val>),
     Replaced(Option<Val>),
     Entry(Val, i64),
     NotDone,
@@ -63,7 +66,7 @@ pub fn put<K: Kind>(kind: &mut K, at: usize, key: Val, val: i64) -> Result<Answe
     Ok(Answer::Replaced(replaced))
 }
 
-fn answer_of(entry: Entry) -> Answer {
+pub fn answer_of(entry: Entry) -> Answer {
     match entry.val {
         Val::Int(number) => Answer::Entry(entry.key, number),
         _ => Answer::NotDone,
@@ -78,6 +81,16 @@ pub fn take<K: Kind>(kind: &mut K, at: usize, i: usize) -> Answer
         return Answer::NotDone;
     }
     answer_of(kind.take(at, i))
+}
+
+pub fn take_key<K: Kind>(kind: &mut K, at: usize, key: Val) -> Answer
+    requires { Holds (K.bodies kind.old) at }
+    ensures { (place : ℕ) → Holds (K.bodies kind.old) place → Holds (K.bodies kind.new) place }
+{
+    match kind.take_key(at, key) {
+        Some(entry) => answer_of(entry),
+        None => Answer::Nothing,
+    }
 }
 
 fn detach<K: Kind>(kind: &mut K, at: usize) -> Answer
@@ -117,7 +130,9 @@ fn advance<K: Kind>(kind: &mut K, at: usize, step: Step) -> Result<Answer, Alloc
     match step {
         Step::Put(key, val) => put(kind, at, key, val),
         Step::Find(key) => Ok(Answer::Position(kind.find(at, key))),
+        Step::Value(key) => Ok(Answer::Value(kind.value_of(at, key))),
         Step::Take(i) => Ok(take(kind, at, i)),
+        Step::TakeKey(key) => Ok(take_key(kind, at, key)),
         Step::Detach => Ok(detach(kind, at)),
         Step::Append(val) => {
             append(kind, at, Val::Int(val))?;
@@ -234,6 +249,16 @@ fn lists_change_as_in_python(rt: HostRuntime) -> Result<(), Fail> {
                 &[(NO, 10), (NO, 20), (NO, 30)],
             ),
             (
+                Step::Value(NO),
+                Answer::Value(Some(Val::Int(10))),
+                &[(NO, 10), (NO, 20), (NO, 30)],
+            ),
+            (
+                Step::Value(A),
+                Answer::Value(None),
+                &[(NO, 10), (NO, 20), (NO, 30)],
+            ),
+            (
                 Step::Put(Val::Int(1), 21),
                 Answer::Replaced(Some(Val::Int(20))),
                 &[(NO, 10), (NO, 21), (NO, 30)],
@@ -254,8 +279,21 @@ fn lists_change_as_in_python(rt: HostRuntime) -> Result<(), Fail> {
                 &[(NO, 21), (NO, 30), (NO, 40)],
             ),
             (Step::Detach, Answer::Entry(NO, 40), &[(NO, 21), (NO, 30)]),
-            (Step::Detach, Answer::Entry(NO, 30), &[(NO, 21)]),
-            (Step::Detach, Answer::Entry(NO, 21), &[]),
+            (Step::TakeKey(A), Answer::Nothing, &[(NO, 21), (NO, 30)]),
+            (
+                Step::Append(50),
+                Answer::Nothing,
+                &[(NO, 21), (NO, 30), (NO, 50)],
+            ),
+            (
+                Step::TakeKey(NO),
+                Answer::Entry(NO, 21),
+                &[(NO, 30), (NO, 50)],
+            ),
+            (Step::Detach, Answer::Entry(NO, 50), &[(NO, 30)]),
+            (Step::TakeKey(NO), Answer::Entry(NO, 30), &[]),
+            (Step::TakeKey(NO), Answer::Nothing, &[]),
+            (Step::Value(NO), Answer::Value(None), &[]),
             (Step::Detach, Answer::Nothing, &[]),
         ],
     )
@@ -283,7 +321,18 @@ fn tuples_only_lose_their_last_item(rt: HostRuntime) -> Result<(), Fail> {
                 &[(NO, 10), (NO, 20)],
             ),
             (Step::Append(40), Answer::Nothing, &[(NO, 10), (NO, 20)]),
+            (
+                Step::Value(NO),
+                Answer::Value(Some(Val::Int(10))),
+                &[(NO, 10), (NO, 20)],
+            ),
             (Step::Take(0), Answer::Entry(NO, 10), &[(NO, 10), (NO, 20)]),
+            (
+                Step::TakeKey(NO),
+                Answer::Entry(NO, 10),
+                &[(NO, 10), (NO, 20)],
+            ),
+            (Step::TakeKey(A), Answer::Nothing, &[(NO, 10), (NO, 20)]),
             (Step::Detach, Answer::Entry(NO, 20), &[(NO, 10)]),
             (Step::Detach, Answer::Entry(NO, 10), &[]),
             (Step::Detach, Answer::Nothing, &[]),
@@ -328,6 +377,21 @@ fn drive_pairs<K: Kind>(rt: &impl Abort, alloc: Global, kind: &mut K) -> Result<
                 &[(A, 10), (B, 21), (C, 30)],
             ),
             (
+                Step::Value(B),
+                Answer::Value(Some(Val::Int(21))),
+                &[(A, 10), (B, 21), (C, 30)],
+            ),
+            (
+                Step::Value(NO),
+                Answer::Value(None),
+                &[(A, 10), (B, 21), (C, 30)],
+            ),
+            (
+                Step::TakeKey(NO),
+                Answer::Nothing,
+                &[(A, 10), (B, 21), (C, 30)],
+            ),
+            (
                 Step::Append(40),
                 Answer::Nothing,
                 &[(A, 10), (B, 21), (C, 30)],
@@ -343,9 +407,21 @@ fn drive_pairs<K: Kind>(rt: &impl Abort, alloc: Global, kind: &mut K) -> Result<
                 Answer::Position(Some(2)),
                 &[(B, 21), (C, 30), (A, 11)],
             ),
-            (Step::Detach, Answer::Entry(A, 11), &[(B, 21), (C, 30)]),
-            (Step::Detach, Answer::Entry(C, 30), &[(B, 21)]),
+            (Step::TakeKey(C), Answer::Entry(C, 30), &[(B, 21), (A, 11)]),
+            (
+                Step::Put(C, 31),
+                Answer::Replaced(None),
+                &[(B, 21), (A, 11), (C, 31)],
+            ),
+            (
+                Step::Value(C),
+                Answer::Value(Some(Val::Int(31))),
+                &[(B, 21), (A, 11), (C, 31)],
+            ),
+            (Step::TakeKey(A), Answer::Entry(A, 11), &[(B, 21), (C, 31)]),
+            (Step::Detach, Answer::Entry(C, 31), &[(B, 21)]),
             (Step::Take(0), Answer::Entry(B, 21), &[]),
+            (Step::TakeKey(B), Answer::Nothing, &[]),
             (Step::Detach, Answer::Nothing, &[]),
         ],
     )
@@ -415,8 +491,16 @@ fn weak_references_keep_one_callback(rt: HostRuntime) -> Result<(), Fail> {
         &[
             (Step::Find(NO), Answer::Position(Some(0)), &[(NO, 10)]),
             (Step::Put(NO, 11), Answer::Replaced(None), &[(NO, 10)]),
+            (
+                Step::Value(NO),
+                Answer::Value(Some(Val::Int(10))),
+                &[(NO, 10)],
+            ),
             (Step::Take(0), Answer::Entry(NO, 10), &[(NO, 10)]),
+            (Step::TakeKey(NO), Answer::Entry(NO, 10), &[(NO, 10)]),
             (Step::Detach, Answer::Entry(NO, 10), &[]),
+            (Step::Value(NO), Answer::Value(None), &[]),
+            (Step::TakeKey(NO), Answer::Nothing, &[]),
             (Step::Detach, Answer::Nothing, &[]),
         ],
     )

@@ -48,9 +48,8 @@ impl<B: Kind> Heap<B> {
         ensures none { IfNone result (self.new ≡ self.old) }
     {
         let seat = seat_of(&self.arena, object);
-        match self.boxes.find(seat, key) {
-            Some(i) => {
-                let taken = self.boxes.take(seat, i);
+        match self.boxes.take_key(seat, key) {
+            Some(taken) => {
                 fewer(&mut self.entries, object);
                 Some(taken)
             }

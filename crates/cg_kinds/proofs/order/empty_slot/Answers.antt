@@ -3,7 +3,7 @@ use Rattle.std.specs.Prelude.{remove}
 use Rattle.cg_kinds.specs.Order.{indexes, pairs_before, renamed}
 use Rattle.cg_kinds.proofs.SlotLemmas.{pair_within}
 use Rattle.cg_kinds.proofs.OrderLemmas.{still_there, last_there, taken_last, taken_other, refilled_before, indexes-gap, indexes-refilled, renamed-itself, one_slot, left_there, last_is}
-use Rattle.cg_kinds.proofs.order.take_index.Goals as goal
+use Rattle.cg_kinds.proofs.order.empty_slot.Goals as goal
 
 pub bounds-slots-moved : goal.bounds-slots-moved
 bounds-slots-moved c = pair_within _ _ _ (still_there c.args.slots.now c.args.homes.now.items c.requires.homes c.take_last-moved.new.self.items c.take_last-moved.result c.take_last-moved.ensures.items c.args.slot c.if-moved-slot.false)

@@ -1,0 +1,15 @@
+use Rattle.std.proofs.Common.{sym, ◌∙◌}
+use Rattle.cg_kind.proofs.KeyLemmas.{key_found, key_missing}
+use Rattle.cg_kinds.proofs.few.Few.take_key.Goals as goal
+
+pub returns-in-Some-clause-entry : goal.returns-in-Some-clause-entry
+returns-in-Some-clause-entry c = sym (key_found _ c.args.key c.in-Some.at _ (sym c.find.ensures ∙ c.in-Some.is) c.take.ensures.entry).entry
+
+pub returns-in-Some-clause-rest : goal.returns-in-Some-clause-rest
+returns-in-Some-clause-rest c = c.take.ensures.rest ∙ sym (key_found _ c.args.key c.in-Some.at _ (sym c.find.ensures ∙ c.in-Some.is) c.take.ensures.entry).rest
+
+pub returns-in-None-clause-entry : goal.returns-in-None-clause-entry
+returns-in-None-clause-entry c = sym (key_missing _ c.args.key (sym c.find.ensures ∙ c.in-None.is)).entry
+
+pub returns-in-None-clause-rest : goal.returns-in-None-clause-rest
+returns-in-None-clause-rest c = sym (key_missing _ c.args.key (sym c.find.ensures ∙ c.in-None.is)).rest
