@@ -12,7 +12,8 @@ use std::marker::Model;
 
 /// Pairs in the order in which their keys came.
 ///
-/// The map keeps that order itself until a pair with many behind it is taken out.
+/// The map keeps that order itself until a pair with many behind it is taken out. As it grows it keeps little more room than
+/// its pairs take.
 #[derive(Drop)]
 pub struct Table {
     map: IndexMap<Val, Val>,
@@ -79,6 +80,15 @@ fn sound(order: &Option<Order>)
     match order {
         Some(order) => order.sound(),
         None => {}
+    }
+}
+
+/// A map that has grown from this room, and so doubled it, keeps room for an eighth of its pairs besides.
+fn fit(map: &mut IndexMap<Val, Val>, room: usize)
+    ensures { map.new.entries ≡ map.old.entries }
+{
+    if map.capacity() > room {
+        map.shrink_to(map.len() + map.len() / 8 + 1);
     }
 }
 
@@ -173,10 +183,12 @@ impl Table {
         // The length is what says that the keys are unique.
         let _count = self.map.len();
         sound(&self.order);
+        let room = self.map.capacity();
         match self.map.insert(key, val)? {
             Some(was) => Ok(Some(was)),
             None => {
                 order_last(&mut self.map, &mut self.order)?;
+                fit(&mut self.map, room);
                 Ok(None)
             }
         }

@@ -53,7 +53,7 @@ returns-in_ok-order_last-in-None-clause-ok c =
     let pairs = c.self.inside.map.entries in
     let order = c.self.inside.order in
     let none = position_absent c.args.key (pairs_of pairs) (sym (lookup-pairs c.args.key pairs) ∙ sym c.in_ok-was.ensures.old ∙ c.in-None.is) in
-    ap (λ l. ordered l c.order_last.new.order) c.in_ok-order_last-in-None.ensures.ok
+    ap (λ l. ordered l c.order_last.new.order) (c.fit.ensures ∙ c.in_ok-order_last-in-None.ensures.ok)
     ∙ ap (ordered c.insert.new.self.entries) c.in_ok-order_last-in-None.ensures.order
     ∙ ordered_push pairs order c.self.invariant c.sound.ensures c.args.key c.args.val none c.insert.new.self.entries (ap pairs_of c.in_ok-was.ensures.entries ∙ insert-pairs c.args.key c.args.val pairs)
     ∙ ap (λ es. put es c.args.key c.args.val) c.self.view_is
