@@ -65,7 +65,7 @@ module _ (script : Script) (asked : Bool) (c : Collection) (e : State) where
 
 module _ (script : Script) (asked : Bool) (c : Collection) (e : State) where
   -- what a step answers, by the lines that are left
-  answered : (left : List Event) (w : World) (k : Collects script asked c e left w) → IsKept script e.first_budget w → (d : Collection) (new : State) (answer : Rattle.cg_collect.specs.declared.answer.CollectStep.CollectStep)
+  pub answered : (left : List Event) (w : World) (k : Collects script asked c e left w) → IsKept script e.first_budget w → (d : Collection) (new : State) (answer : Rattle.cg_collect.specs.declared.answer.CollectStep.CollectStep)
       → CollectSteps script c e.store e.policy d new.store new.policy answer → CollectAnswer script asked w k.below left d new.store new.policy answer
   answered left w k kept d new answer steps =
       subst (λ l. CollectAnswer script asked w k.below l d new.store new.policy answer) (sym k.lines) (steps asked w k.below (stands_for_step script asked c e left w k kept))

@@ -112,26 +112,25 @@ module _ (script : Script) (asked : Bool) (c : Collection) (e : State) (left : L
       alone = count_same script e.activities k.below k.over ∙ none_counted e.activities k.alone;
     }
 
+    -- it goes on, of an engine with the same activities
+    pub still_collects : (d : Collection) (new : State) → new.activities ≡ e.activities → new.budget ≡ e.budget → IsReadyForCollection script d new.store
+        → (told : List Event) (went : WentOn script asked w k.below left told d new.store new.policy) → Collects script asked d new (lines_left script asked d d.phase new.store) went.after
+    still_collects d new same budget ready told went = record {
+      below = k.below;
+      shows = went.shows;
+      over = subst (λ l. ShowsAll script l k.below) (sym same) k.over;
+      budget = went.keeps.budget ∙ k.budget ∙ sym budget;
+      running = went.keeps.outcome ∙ k.running;
+      alone = ap any_collecting same ∙ k.alone;
+      ready = ready;
+      lines = refl;
+    }
+
     -- the collection stays on top
     module _ (d : Collection) (new : State) (top : new.activities ≡ activity.Collecting asked d ∷ e.activities) (budget : new.budget ≡ e.budget) where
       module _ (ready : IsReadyForCollection script d new.store) where
         on_top : (told : List Event) (went : WentOn script asked w k.below left told d new.store new.policy) → StandsWith script new (lines_left script asked d d.phase new.store) went.after
-        on_top told went = inr (record {
-          asked = asked;
-          collection = d;
-          rest = e.activities;
-          top = top;
-          collects = record {
-            below = k.below;
-            shows = went.shows;
-            over = k.over;
-            budget = went.keeps.budget ∙ k.budget ∙ sym budget;
-            running = went.keeps.outcome ∙ k.running;
-            alone = k.alone;
-            ready = ready;
-            lines = refl;
-          };
-        })
+        on_top told went = inr (record { asked = asked; collection = d; rest = e.activities; top = top; collects = still_collects d (record new { activities = e.activities }) refl budget ready told went })
 
         -- Without a step of the machine it told a line of those that were left, or comes nearer to its end.
         goes_on : (told : List Event) → (went : WentOn script asked w k.below left told d new.store new.policy)

@@ -275,7 +275,7 @@ passes_few _ = omega arith
 further : (a b l m limit : ℕ) → a < b → l < limit → a * limit + l < b * limit + m
 further a b l m limit less few = omega (arith, product (suc a) b limit limit (omega (arith, less)) (omega arith), few)
 
-shorter : (activities below : List Activity) (old new : Store) → IsSmall new → IsNearer activities old below new → way_left below new < way_left activities old
+pub shorter : (activities below : List Activity) (old new : Store) → IsSmall new → IsNearer activities old below new → way_left below new < way_left activities old
 shorter [] below old new small near = absurd near
 shorter (activity.Script next ∷ rest) below old new small near = absurd near
 shorter (activity.Frame locals procedure next ∷ rest) below old new small near = absurd near

@@ -25,6 +25,7 @@ mod CollectReady
 mod CollectHolds
 mod CollectTurns
 mod CollectMoves
+mod CollectOnward
 mod CollectBegins
 mod Telling
 mod Quietly

@@ -34,7 +34,7 @@ use Rattle.cg_interp.specs.Graphs.{detection_by, detection_on, AreOfGenerations}
 use Rattle.cg_interp.specs.Recorded.{detection_at, next_detection}
 
 -- after a detection none is next
-none_after : (g : ℕ) (detected : Option Detected) → detection_by g (stage_after detected) ≡ None
+pub none_after : (g : ℕ) (detected : Option Detected) → detection_by g (stage_after detected) ≡ None
 none_after g None = refl
 none_after g (Some detected_of.First) = refl
 none_after g (Some detected_of.Second) = refl

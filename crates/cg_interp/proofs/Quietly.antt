@@ -19,24 +19,24 @@ use Rattle.cg_interp.specs.Turns.{GoesTo, GivesDeath, RunEndsWith, Turns, StaysF
 use Rattle.cg_interp.specs.Telling.{GoesOnTo, TurnsWith, IsAtTurn, TurnsFrom}
 use Rattle.cg_interp.specs.Quietly.{GoesQuietly, ComesTo, ComesFrom}
 
-none-append : (w : World) (steps more : List StepTaken) → MakesNoDetection w steps → MakesNoDetection (last_world w steps) more → MakesNoDetection w (steps ++ more)
+pub none-append : (w : World) (steps more : List StepTaken) → MakesNoDetection w steps → MakesNoDetection (last_world w steps) more → MakesNoDetection w (steps ++ more)
 none-append w [] more none later = later
 none-append w (step ∷ steps) more none later = (none.0, none-append step.world steps more none.1 later)
 
 -- each detection is made alone where there is none
-alone : (w : World) (steps : List StepTaken) → MakesNoDetection w steps → MakesDetectionsAlone w steps
+pub alone : (w : World) (steps : List StepTaken) → MakesNoDetection w steps → MakesDetectionsAlone w steps
 alone w [] none = tt
 alone w (step ∷ []) none = tt
 alone w (step ∷ next ∷ steps) none = none
 
 -- there is none where the first step makes none
-none_made : (w : World) (steps : List StepTaken) → MakesDetectionsAlone w steps → detects w.stack ≡ false → MakesNoDetection w steps
+pub none_made : (w : World) (steps : List StepTaken) → MakesDetectionsAlone w steps → detects w.stack ≡ false → MakesNoDetection w steps
 none_made w [] by_itself first = tt
 none_made w (step ∷ []) by_itself first = (first, tt)
 none_made w (step ∷ next ∷ steps) by_itself first = by_itself
 
 -- one step at least
-some_after : {X : Type 0} (xs ys : List X) → ys ≢ [] → xs ++ ys ≢ []
+pub some_after : {X : Type 0} (xs ys : List X) → ys ≢ [] → xs ++ ys ≢ []
 some_after [] ys some none = some none
 some_after (x ∷ xs) ys some none = cc
 

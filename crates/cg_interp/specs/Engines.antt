@@ -39,6 +39,10 @@ under top e = record e { activities = top ∷ e.activities }
 abbrev pub over : Store → State → State
 over store e = record e { store = store }
 
+-- an engine with another heap and other numbers of the collector
+abbrev pub over_both : Store → Policy → State → State
+over_both store policy e = record e { store = store; policy = policy }
+
 -- the commands from a number on, or none
 abbrev pub commands_from : Option ℕ → List Command → List Command
 commands_from None commands = []

@@ -1,10 +1,11 @@
--- What the machine does without a line and without a detection, so that a turn may go on with the next step. (Ours.)
-use Rattle.std.specs.Prelude.{◌≡◌, ◌≤◌, ℕ, List, [], Option, None, Some}
+-- What is done without telling a line and without a detection, so that a turn may go on with the next step. (Ours.)
+use Rattle.std.specs.Prelude.{◌≡◌, ◌≤◌, ◌⊎◌, ℕ, Bool, false, List, [], ◌++◌, Option, None, Some}
 use Rattle.cg_script.specs.declared.Script.{Script}
 use Rattle.cg_script.specs.declared.limits.TheConstants.{MOST_BUDGET}
+use Rattle.cg_machine.specs.declared.event.Event.{Event}
 use Rattle.cg_machine.specs.World.{World}
 use Rattle.cg_machine.specs.Run.{StepTaken, Run, events_of, last_world}
-use Rattle.cg_machine.specs.Represents.{MakesNoDetection}
+use Rattle.cg_machine.specs.Represents.{detects, MakesNoDetection}
 use Rattle.cg_laws.specs.Kept.{StaysKept}
 use Rattle.cg_graph.specs.Store.{Store}
 use Rattle.cg_heap.specs.Weak.{AreRows}
@@ -12,11 +13,19 @@ use Rattle.cg_death.specs.declared.release.Release.{Release}
 use Rattle.cg_death.specs.declared.death.Death.{Death}
 use Rattle.cg_death.specs.declared.answer.DeathStep.{DeathStep}
 use Rattle.cg_death.specs.declared.answer.DeathStep.TheVariants as answer_of
-use Rattle.cg_death.specs.Answers.{DeathSteps}
+use Rattle.cg_death.specs.Answers.{DeathSteps, MakesNone}
 use Rattle.cg_death.specs.Deaths.{on_stack, IsSettled, DeathFalls, HasCause}
+use Rattle.cg_policy.specs.Policy.{Policy}
+use Rattle.cg_collect.specs.declared.collection.Collection.{Collection}
+use Rattle.cg_collect.specs.declared.answer.CollectStep.{CollectStep}
+use Rattle.cg_collect.specs.declared.answer.CollectStep.TheVariants as collect_answer
+use Rattle.cg_collect.specs.Answers.{CollectSteps}
+use Rattle.cg_collect.specs.Collections.{CollectFalls}
 use Rattle.cg_interp.specs.declared.activity.Activity.{Activity}
 use Rattle.cg_interp.specs.declared.activity.Activity.TheVariants as activity
-use Rattle.cg_interp.specs.Engines.{State, StandsFor, under, over}
+use Rattle.cg_interp.specs.Engines.{State, StandsFor, under, over, over_both}
+use Rattle.cg_interp.specs.Collecting.{Collects}
+use Rattle.cg_interp.specs.Telling.{CollectsNext}
 use Rattle.cg_interp.specs.Turns.{GoesTo, GivesDeath}
 
 -- The machine goes from one world to another in some steps, perhaps none. It prints no line and makes no detection.
@@ -66,3 +75,35 @@ Acts script store death now after answer = (e : State) (w : World) → StandsFor
 -- some death is the cause of an answer
 abbrev pub HasSomeCause : Store → DeathStep → Type 0
 HasSomeCause now answer = (death : Death) × HasCause death now answer
+
+-- A collection on top went on: what the machine printed since is left to be told too. It made no detection, and makes none
+-- next where it took a step.
+pub record CollectsOn (script : Script) (asked : Bool) (w : World) (left : List Event) (c : Collection) (e : State) : Type 0 where
+  pub steps : List StepTaken
+  pub run : Run script w steps
+  pub none : MakesNoDetection w steps
+  pub next : (steps ≡ []) ⊎ (detects (last_world w steps).stack ≡ false)
+  pub collects : Collects script asked c e (left ++ events_of steps) (last_world w steps)
+
+-- it is as it was, and so is the heap
+abbrev pub HasNotMoved : Collection → Store → Collection → Store → Type 0
+HasNotMoved old store new now = (old ≡ new) × (store ≡ now)
+
+-- A collection has come so far without telling a line, whatever else is under way.
+pub record CameSoFar (script : Script) (old : Collection) (store : Store) (policy : Policy) (new : Collection) (now : Store) (policy_now : Policy) : Type 0 where
+  pub far : HasNotMoved old store new now ⊎ CollectFalls old store new now
+  pub objects : MakesNone store now
+  pub goes : (asked : Bool) (e : State) (w : World) (left : List Event) → Collects script asked old (over_both store policy e) left w → StaysKept script e.first_budget w → CollectsOn script asked w left new (over_both now policy_now e)
+
+-- The last of some steps of a collection, which came so far before it.
+pub record LastStep (script : Script) (old : Collection) (store : Store) (policy : Policy) (new : Collection) (now : Store) (policy_now : Policy) (answer : CollectStep) : Type 0 where
+  pub before : Collection
+  pub store_before : Store
+  pub policy_before : Policy
+  pub came : CameSoFar script old store policy before store_before policy_before
+  pub steps : CollectSteps script before store_before policy_before new now policy_now answer
+  pub falls : answer ≡ collect_answer.Continue → CollectFalls before store_before new now
+
+-- A collection is on top of a fit engine, and may take its next step.
+abbrev pub IsCollecting : Script → Collection → Store → Policy → Type 0
+IsCollecting script c store policy = (asked : Bool) × (e : State) × CollectsNext script asked c (over_both store policy e)

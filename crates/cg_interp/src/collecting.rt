@@ -1,29 +1,32 @@
 //! A collection: how one begins, and its turns.
-ghost use Rattle.std.specs.Prelude.{◌≡◌, ◌<◌, ◌≤◌, true, false, []};
-ghost use Rattle.cg_heap.specs.Calls.{HasFewHolds};
-ghost use Rattle.cg_death.specs.Activities.{HasHolds};
+ghost use Rattle.std.specs.Prelude.{◌≡◌, ◌↔◌, ◌<◌, ◌≤◌, true, false, []};
+ghost use Rattle.cg_death.specs.Answers.{MakesNone};
 ghost use Rattle.cg_machine.specs.World.{World, push};
 ghost use Rattle.cg_machine.specs.Commands.{new_collection};
 ghost use Rattle.cg_machine.specs.declared.event.Event.TheVariants as event_of;
 ghost use Rattle.cg_laws.specs.Kept.{StaysKept};
 ghost use Rattle.cg_script.specs.declared.Script.{Script as AnyScript};
 ghost use Rattle.cg_script.specs.Spelled.{IsSpelled};
-ghost use Rattle.cg_collect.specs.Collections.{IsReadyForCollection, held_by};
-ghost use Rattle.cg_collect.specs.Numbers.{AreSmall};
+ghost use Rattle.cg_collect.specs.declared.answer.CollectStep.TheVariants as answer_of;
+ghost use Rattle.cg_collect.specs.declared.stage.Stage.TheVariants as stage;
+ghost use Rattle.cg_collect.specs.Stages.{stage_of};
+ghost use Rattle.cg_collect.specs.Collections.{KeepsReady, DiesUnheld};
 ghost use Rattle.cg_interp.specs.declared.activity.Activity.TheVariants as activity_of;
 ghost use Rattle.cg_interp.specs.Engines.{StandsFor, under};
 ghost use Rattle.cg_interp.specs.declared.turned.Turned.TheVariants as turned_of;
 ghost use Rattle.cg_interp.specs.Collecting.{StandsWith};
 ghost use Rattle.cg_interp.specs.Telling.{IsAtAnyTurn, TurnsAny, CollectsNext, CollectTurns};
+ghost use Rattle.cg_interp.specs.Quietly.{IsCollecting, LastStep};
 ghost use Rattle.cg_interp.specs.Turns.{IsFit, TurnKeeps, StaysFit};
 
 use crate::activity::Activity;
 use crate::engine::Engine;
 use crate::turned::Turned;
-use cg_collect::{CollectStep, Collection};
-use cg_heap::Steps;
+use cg_collect::{CollectStep, Collection, Stage};
+use cg_heap::{Heap, Steps};
 use cg_kind::Kind;
 use cg_machine::Event;
+use cg_policy::Policy;
 use cg_script::Script;
 use std::sync::ledger::Ledger;
 
@@ -64,7 +67,7 @@ impl<B: Kind> Engine<B> {
         self.go_on_collecting(asked, collection, script, steps)
     }
 
-    /// One step of a collection, which was on top and may take it.
+    /// The steps of a collection, which was on top and may take the next one, one after the other, as long as nothing is to be told.
     #[inline(always)]
     fn go_on_collecting<L: Ledger>(
         &mut self,
@@ -73,17 +76,19 @@ impl<B: Kind> Engine<B> {
         script: &Script,
         steps: &mut Steps<L>,
     ) -> Turned
-        requires few { HasFewHolds self.old.store }
-        requires held { HasHolds self.old.store (held_by collection) }
-        requires ready { IsReadyForCollection script.now collection self.old.store }
-        requires small { AreSmall self.old.policy.numbers }
         requires room { 1 < self.old.room }
         requires stands { CollectsNext script.now asked collection self.old }
         ensures turns { CollectTurns script.now asked collection self.old self.new result }
         ensures keeps { TurnKeeps self.old self.new }
     {
         let mut collection = collection;
-        let answer = collection.step(&mut self.heap, &mut self.policy, script, steps);
+        let answer = collect_on(
+            &mut self.heap,
+            &mut self.policy,
+            &mut collection,
+            script,
+            steps,
+        );
         match answer {
             CollectStep::Continue => {
                 self.stack.push(Activity::Collecting { asked, collection });
@@ -108,6 +113,41 @@ impl<B: Kind> Engine<B> {
                 uncollectable,
             } => answered(asked, collected + uncollectable),
         }
+    }
+}
+
+/// The steps of a collection one after the other, up to one that does not go on in the same turn.
+fn collect_on<B: Kind, L: Ledger>(
+    heap: &mut Heap<B>,
+    policy: &mut Policy,
+    collection: &mut Collection,
+    script: &Script,
+    steps: &mut Steps<L>,
+) -> CollectStep
+    requires stands { IsCollecting script.now collection.old heap.old policy.old }
+    ensures last { LastStep script.now collection.old heap.old policy.old collection.new heap.new policy.new result }
+    ensures ready { KeepsReady script.now collection.new heap.new result }
+    ensures died { DiesUnheld result heap.new }
+    ensures objects { MakesNone heap.old heap.new }
+{
+    'collecting: loop {
+        heap.sound();
+        let answer = collection.step(heap, policy, script, steps);
+        if !goes_on(answer, collection) {
+            return answer;
+        }
+        heap.sound();
+    }
+}
+
+/// Whether a collection makes its next step in the same turn: there is nothing to tell, and neither the step that it made nor the
+/// next makes a detection, which is recorded by the heaps before its turn and after it.
+fn goes_on(answer: CollectStep, collection: &Collection) -> bool
+    ensures { (result ≡ true) ↔ ((answer ≡ answer_of.Continue) × (stage_of collection.now ≡ stage.Between)) }
+{
+    match (answer, collection.stage()) {
+        (CollectStep::Continue, Stage::Between) => true,
+        _ => false,
     }
 }
 

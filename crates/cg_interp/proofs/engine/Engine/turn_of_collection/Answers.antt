@@ -2,7 +2,7 @@ use Rattle.std.proofs.Common.{subst, []}
 use Rattle.cg_heap.specs.Calls.{IsSound}
 use Rattle.cg_interp.proofs.Keeping.{still_fit}
 use Rattle.cg_interp.proofs.CollectTurns.{collects}
-use Rattle.cg_interp.proofs.CollectMoves.{may_step, room_for_step}
+use Rattle.cg_interp.proofs.CollectMoves.{room_for_step}
 use Rattle.cg_interp.proofs.engine.Engine.turn_of_collection.Goals as goal
 
 pub go_on_collecting-requires-clause-stands : goal.go_on_collecting-requires-clause-stands
@@ -17,22 +17,6 @@ go_on_collecting-requires-clause-stands g c =
       collects = collects c.args.script.now c.args.asked c.args.collection c.args.self.now at.left at.world sound (at.kept [] tt) at.stands;
       kept = at.kept;
     }
-
-pub go_on_collecting-requires-clause-few : goal.go_on_collecting-requires-clause-few
-go_on_collecting-requires-clause-few g c =
-    (may_step c.args.script.now c.args.asked c.args.collection c.args.self.now (go_on_collecting-requires-clause-stands g c) (subst (λ e. IsSound e.store) c.self.view_is c.sound.ensures)).few
-
-pub go_on_collecting-requires-clause-held : goal.go_on_collecting-requires-clause-held
-go_on_collecting-requires-clause-held g c =
-    (may_step c.args.script.now c.args.asked c.args.collection c.args.self.now (go_on_collecting-requires-clause-stands g c) (subst (λ e. IsSound e.store) c.self.view_is c.sound.ensures)).held
-
-pub go_on_collecting-requires-clause-ready : goal.go_on_collecting-requires-clause-ready
-go_on_collecting-requires-clause-ready g c =
-    (may_step c.args.script.now c.args.asked c.args.collection c.args.self.now (go_on_collecting-requires-clause-stands g c) (subst (λ e. IsSound e.store) c.self.view_is c.sound.ensures)).ready
-
-pub go_on_collecting-requires-clause-small : goal.go_on_collecting-requires-clause-small
-go_on_collecting-requires-clause-small g c =
-    (may_step c.args.script.now c.args.asked c.args.collection c.args.self.now (go_on_collecting-requires-clause-stands g c) (subst (λ e. IsSound e.store) c.self.view_is c.sound.ensures)).small
 
 pub go_on_collecting-requires-clause-room : goal.go_on_collecting-requires-clause-room
 go_on_collecting-requires-clause-room g c = room_for_step c.args.script.now c.args.asked c.args.collection c.args.self.now (go_on_collecting-requires-clause-stands g c)
