@@ -97,7 +97,6 @@ impl Stack {
         ensures more { self.old.room ≤ self.new.room }
         ensures same { self.new.activities ≡ self.old.activities }
     {
-        self.slots
-            .reserve(height.saturating_sub(self.slots.len()))
+        self.slots.reserve(height.saturating_sub(self.slots.len()))
     }
 }

@@ -1,4 +1,4 @@
-use Rattle.std.proofs.Common.{sym, ◌∙◌, ap, subst, ◌∷◌, ◌++◌, []}
+use Rattle.std.proofs.Common.{sym, ◌∙◌, ap, subst, ◌∷◌}
 use Rattle.std.specs.Prelude.{map, reverse}
 use Rattle.cg_interp.specs.Stacks.{Stacked}
 use Rattle.cg_interp.specs.Slots.{filled, IsSeatOf}

@@ -1,4 +1,4 @@
-use Rattle.std.proofs.Common.{sym, ◌∙◌, ap, subst, ◌∷◌, ◌++◌, []}
+use Rattle.std.proofs.Common.{◌∙◌, ap, ◌∷◌}
 use Rattle.std.specs.Prelude.{map, reverse}
 use Rattle.cg_interp.specs.Engines.{any_collecting}
 use Rattle.cg_interp.specs.Stacks.{Stacked}
