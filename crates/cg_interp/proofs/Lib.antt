@@ -1,3 +1,4 @@
+mod Seating
 mod NextCommands
 mod Opens
 mod Counting

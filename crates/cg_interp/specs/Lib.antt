@@ -1,5 +1,6 @@
 pub mod Stacks
 pub mod Engines
+pub mod Slots
 pub mod Releases
 pub mod Turns
 pub mod Collecting

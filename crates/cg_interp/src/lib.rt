@@ -18,6 +18,7 @@ mod recording;
 mod releases;
 mod run;
 mod shutdown;
+mod slot;
 mod stack;
 mod turned;
 mod turns;

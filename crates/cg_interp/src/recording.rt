@@ -5,7 +5,6 @@ ghost use Rattle.cg_io.specs.Causes.{HasCause, AppendsFront};
 ghost use Rattle.cg_interp.specs.Graphs.{IsOfGenerations, AreOfGenerations, record_heading, heading, begun_text, text_before, text_after, closing, taken, taken_while, unfinished_after, begins_record, detection_on, detection_by};
 ghost use Rattle.cg_collect.specs.Stages.{stage_of};
 
-use crate::activity::Activity;
 use crate::engine::Engine;
 use crate::graphs::{Detection, write_findings, write_members};
 use crate::record_lines::{write_cut, write_numbered};
@@ -33,9 +32,9 @@ impl<B: Kind> Engine<B> {
     pub fn next_detection(&self) -> Option<Detection>
         ensures { result ≡ detection_on self.now.activities }
     {
-        match self.stack.top() {
-            Some(Activity::Collecting { collection, .. }) => detection_of(collection),
-            _ => None,
+        match self.stack.collection_on_top() {
+            Some(collection) => detection_of(collection),
+            None => None,
         }
     }
 }

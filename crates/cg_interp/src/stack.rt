@@ -1,7 +1,11 @@
 //! The stack of activities, whose room is reserved before it is needed.
-ghost use Rattle.std.specs.Prelude.{◌≡◌, ◌<◌, ◌≤◌, ◌+◌, [], ◌∷◌, IfOk, IfSome, OnSome, IfNone, OnOk, drop, length};
+ghost use Rattle.std.specs.Prelude.{◌≡◌, ◌<◌, ◌≤◌, ◌+◌, [], ◌∷◌, true, false, None, Some, IfOk, IfSome, OnSome, IfNone, OnOk, length};
+ghost use Rattle.cg_interp.specs.Engines.{is_collecting, any_collecting};
+ghost use Rattle.cg_interp.specs.Stacks.{collection_on};
 
 use crate::activity::Activity;
+use crate::slot::{Slot, activity_of, slot_of};
+use cg_collect::Collection;
 use std::alloc::{AllocError, Global};
 use std::marker::Model;
 
@@ -9,19 +13,24 @@ use std::marker::Model;
 #[derive(Drop)]
 pub struct Stack {
     // The top last.
-    activities: Vec<Activity>,
+    slots: Vec<Slot>,
+    // The collection that is under way, if one is.
+    seat: Option<Collection>,
 }
 
 impl Model for Stack {
-    ghost use Rattle.std.specs.Prelude.{reverse, ◌-◌, vec_len, vec_capacity};
+    ghost use Rattle.std.specs.Prelude.{map, reverse, ◌-◌, vec_len, vec_capacity};
     ghost use Rattle.cg_interp.specs.Stacks.{Stacked};
+    ghost use Rattle.cg_interp.specs.Slots.{filled, IsSeatOf};
 
     ghost Value = { Stacked };
 
     ghost view = { λ s. record {
-      activities = reverse s.activities.items;
-      room = vec_capacity s.activities - vec_len s.activities;
+      activities = reverse (map (filled s.seat) s.slots.items);
+      room = vec_capacity s.slots - vec_len s.slots;
     } };
+
+    ghost invariant = { λ s. IsSeatOf s.slots.items s.seat };
 }
 
 impl Stack {
@@ -30,37 +39,47 @@ impl Stack {
         ensures empty { IfOk result (λ s. s.activities ≡ []) }
         ensures room { IfOk result (λ s. s.room ≡ room) }
     {
-        let activities = Vec::with_capacity(alloc, room)?;
-        Ok(Stack { activities })
+        let slots = Vec::with_capacity(alloc, room)?;
+        Ok(Stack { slots, seat: None })
     }
 
-    /// Puts an activity on top, where there is room.
+    /// Puts an activity on top, where there is room: a collection where none is under way.
+    #[inline(always)]
     pub fn push(&mut self, activity: Activity)
-        requires { 0 < self.old.room }
+        requires room { 0 < self.old.room }
+        requires alone { is_collecting activity ≡ true → any_collecting self.old.activities ≡ false }
         ensures top { self.new.activities ≡ activity ∷ self.old.activities }
         ensures room { self.old.room ≤ self.new.room + 1 }
     {
-        match self.activities.push(activity) {
+        let slot = slot_of(activity, &mut self.seat);
+        match self.slots.push(slot) {
             Ok(()) => {}
             Err(_) => unreachable!(),
         }
     }
 
     /// Takes the activity on top, if there is one.
+    #[inline(always)]
     pub fn pop(&mut self) -> Option<Activity>
         ensures top { IfSome result (λ a. self.old.activities ≡ a ∷ self.new.activities) }
         ensures room { OnSome result (self.new.room ≡ self.old.room + 1) }
         ensures none { IfNone result (self.old.activities ≡ []) }
     {
-        self.activities.pop()
+        match self.slots.pop() {
+            Some(slot) => Some(activity_of(slot, &mut self.seat)),
+            None => None,
+        }
     }
 
-    /// The activity on top, if there is one.
-    pub fn top(&self) -> Option<&Activity>
-        ensures top { IfSome result (λ a. self.now.activities ≡ a.now ∷ drop 1 self.now.activities) }
-        ensures none { IfNone result (self.now.activities ≡ []) }
+    /// The collection on top, if one is there.
+    pub fn collection_on_top(&self) -> Option<&Collection>
+        ensures some { IfSome result (λ c. collection_on self.now.activities ≡ Some c.now) }
+        ensures none { IfNone result (collection_on self.now.activities ≡ None) }
     {
-        self.activities.last()
+        match self.slots.last() {
+            Some(Slot::Collecting { .. }) => self.seat.as_ref(),
+            _ => None,
+        }
     }
 
     /// Makes room for so many. It answers `AllocError` for want of memory alone.
@@ -69,7 +88,7 @@ impl Stack {
         ensures more { self.old.room ≤ self.new.room }
         ensures same { self.new.activities ≡ self.old.activities }
     {
-        self.activities.reserve(room)
+        self.slots.reserve(room)
     }
 
     /// Makes room so that the stack may grow to this height. It answers `AllocError` for want of memory alone.
@@ -78,7 +97,6 @@ impl Stack {
         ensures more { self.old.room ≤ self.new.room }
         ensures same { self.new.activities ≡ self.old.activities }
     {
-        self.activities
-            .reserve(height.saturating_sub(self.activities.len()))
+        self.slots.reserve(height.saturating_sub(self.slots.len()))
     }
 }
