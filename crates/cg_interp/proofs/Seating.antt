@@ -19,7 +19,7 @@ neither false false idle = (refl, refl)
 neither false true idle = absurd (cc)
 neither true b idle = absurd (cc)
 
--- a slot of its own is the same activity whatever lies in the seat
+-- a slot that is not that of the collection is the same activity whatever lies in the seat
 alike : (one other : Option Collection) (top : Slot) → takes_seat top ≡ false → filled one top ≡ filled other top
 alike one other (slot.Script next) not = refl
 alike one other (slot.Frame locals procedure next) not = refl
@@ -28,7 +28,14 @@ alike one other (slot.Shutdown started) not = refl
 alike one other (slot.Dying death) not = refl
 alike one other (slot.Collecting asked) not = absurd (cc)
 
--- with a collection in the seat its slot is one
+-- so are several of which none is that of the collection
+refilled : (one other : Option Collection) (slots : List Slot) → count_by takes_seat slots ≡ 0 → map (filled one) slots ≡ map (filled other) slots
+refilled one other [] none = refl
+refilled one other (top ∷ slots) none =
+    let both = none_of (takes_seat top) (count_by takes_seat slots) (sym (sum_by-cons (λ s. cond (takes_seat s) 1 0) top slots) ∙ none) in
+    ap (λ a. a ∷ map (filled one) slots) (alike one other top both.0) ∙ ap (λ l. filled other top ∷ l) (refilled one other slots both.1)
+
+-- with a collection in the seat its slot, and no other, is a collection
 collects : (c : Collection) (top : Slot) → is_collecting (filled (Some c) top) ≡ takes_seat top
 collects c (slot.Script next) = refl
 collects c (slot.Frame locals procedure next) = refl
@@ -37,13 +44,7 @@ collects c (slot.Shutdown started) = refl
 collects c (slot.Dying death) = refl
 collects c (slot.Collecting asked) = refl
 
--- so are slots of which none is that of the collection
-refilled : (one other : Option Collection) (slots : List Slot) → count_by takes_seat slots ≡ 0 → map (filled one) slots ≡ map (filled other) slots
-refilled one other [] none = refl
-refilled one other (top ∷ slots) none =
-    let both = none_of (takes_seat top) (count_by takes_seat slots) (sym (sum_by-cons (λ s. cond (takes_seat s) 1 0) top slots) ∙ none) in
-    ap (λ a. a ∷ map (filled one) slots) (alike one other top both.0) ∙ ap (λ l. filled other top ∷ l) (refilled one other slots both.1)
-
+-- so none is that of the collection where no collection is under way
 none_takes : (c : Collection) (slots : List Slot) → any_collecting (reverse (map (filled (Some c)) slots)) ≡ false → count_by takes_seat slots ≡ 0
 none_takes c [] idle = refl
 none_takes c (top ∷ slots) idle =
