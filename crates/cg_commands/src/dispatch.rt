@@ -189,7 +189,11 @@ fn make<B: Kind>(
 
 /// Does a command of the collector.
 #[inline(never)]
-fn control<B: Kind>(heap: &mut Heap<B>, policy: &mut Policy, command: &Command) -> Result<Done, Refusal>
+fn control<B: Kind>(
+    heap: &mut Heap<B>,
+    policy: &mut Policy,
+    command: &Command,
+) -> Result<Done, Refusal>
     requires idle { policy.old.running ≡ false → IsIdle heap.old }
     requires control { IsControl command.now }
     ensures { (locals : Option AnyLocals) (room : Bool) → Attempts heap.old policy.old locals room command.now heap.new policy.new result }
