@@ -8,6 +8,7 @@ ghost use Rattle.cg_arena.specs.Table.{row_of, IsNamed};
 ghost use Rattle.cg_arena.specs.Slots.{serial_in};
 
 use crate::ends::Ends;
+use crate::hints::Hints;
 use crate::links::{
     join, lower_candidate, mark_finalized, place_all, serial_at, set_after, set_count, set_number,
     set_place, slot_at, unlink,
@@ -32,6 +33,7 @@ use std::marker::Model;
 pub struct Arena {
     slots: Slab<Slot>,
     rows: IndexMap<u64, usize, SerialHashing>,
+    hints: Hints,
     ends: [Ends; 10],
 }
 
@@ -73,8 +75,8 @@ fn number_of(place: Place) -> usize
     }
 }
 
-/// The slot of a serial that has a row.
-fn slot_of(rows: &IndexMap<u64, usize, SerialHashing>, serial: u64) -> usize
+/// The slot of a serial that has a row, by its row.
+fn slot_by_row(rows: &IndexMap<u64, usize, SerialHashing>, serial: u64) -> usize
     requires { IsSome (row_of rows.now.entries serial) }
     ensures { row_of rows.now.entries serial ≡ Some result }
 {
@@ -84,10 +86,31 @@ fn slot_of(rows: &IndexMap<u64, usize, SerialHashing>, serial: u64) -> usize
     }
 }
 
+/// The slot of a serial that has a row. Where the serial stands in the slot that is guessed, its row is not looked up.
+#[inline(always)]
+fn slot_of(
+    slots: &Slab<Slot>,
+    rows: &IndexMap<u64, usize, SerialHashing>,
+    hints: &Hints,
+    serial: u64,
+) -> usize
+    requires named { IsNamed (λ k. serial_in (get slots.now k)) (row_of rows.now.entries) }
+    requires there { IsSome (row_of rows.now.entries serial) }
+    ensures { row_of rows.now.entries serial ≡ Some result }
+{
+    let guess = hints.guess(serial);
+    match slots.get(guess) {
+        Some(slot) if slot.serial == serial => guess,
+        _ => slot_by_row(rows, serial),
+    }
+}
+
 /// The slot of a serial that has a row. Where the serial stands in the slot `near`, nothing is looked up.
+#[inline(always)]
 fn slot_near(
     slots: &Slab<Slot>,
     rows: &IndexMap<u64, usize, SerialHashing>,
+    hints: &Hints,
     serial: u64,
     near: Near,
 ) -> usize
@@ -97,7 +120,26 @@ fn slot_near(
 {
     match slots.get(near.slot) {
         Some(slot) if slot.serial == serial => near.slot,
-        _ => slot_of(rows, serial),
+        _ => slot_of(slots, rows, hints, serial),
+    }
+}
+
+/// Makes room for the guess of one more node. Where there is no memory for it, some guesses are wrong.
+#[inline(always)]
+fn make_guesses(
+    hints: &mut Hints,
+    slots: &Slab<Slot>,
+    rows: &IndexMap<u64, usize, SerialHashing>,
+) {
+    if slots.len() >= hints.len() && hints.double() {
+        tell_all(hints, rows);
+    }
+}
+
+/// Tells the slot of each row.
+fn tell_all(hints: &mut Hints, rows: &IndexMap<u64, usize, SerialHashing>) {
+    for (serial, slot) in rows.iter() {
+        hints.tell(*serial, *slot);
     }
 }
 
@@ -152,6 +194,7 @@ impl Arena {
         Arena {
             slots: Slab::new(alloc),
             rows: IndexMap::with_hasher(alloc, serial_hashing()),
+            hints: Hints::new(alloc),
             ends: [Ends::none(); 10],
         }
     }
@@ -166,6 +209,7 @@ impl Arena {
         ensures succeeds { 0 < self.old.room → IsOk result }
     {
         self.rows.reserve(1)?;
+        make_guesses(&mut self.hints, &self.slots, &self.rows);
         self.slots.reserve(1)
     }
 
@@ -212,6 +256,7 @@ impl Arena {
     {
         let at = occupy(&mut self.slots, Slot::new(serial, code, class, body, place));
         add_row(&mut self.rows, serial, at);
+        self.hints.tell(serial, at);
         let list = number_of(place);
         self.ends[list] = join(&mut self.slots, self.ends[list], Ends::one(at));
     }
@@ -250,7 +295,7 @@ impl Arena {
         requires room { count_at self.old serial < 2 ^ 32 - 1 }
         ensures { self.new ≡ counted_up (serial ∷ []) self.old }
     {
-        let at = slot_of(&self.rows, serial);
+        let at = slot_of(&self.slots, &self.rows, &self.hints, serial);
         let count = slot_at(&self.slots, at).count + 1;
         set_count(&mut self.slots, at, count);
     }
@@ -262,7 +307,7 @@ impl Arena {
         ensures falls { self.new ≡ counted_down (serial ∷ []) self.old }
         ensures none { IsTrue result ↔ (count_at self.new serial ≡ 0) }
     {
-        let at = slot_of(&self.rows, serial);
+        let at = slot_of(&self.slots, &self.rows, &self.hints, serial);
         let count = slot_at(&self.slots, at).count - 1;
         set_count(&mut self.slots, at, count);
         count == 0
@@ -280,7 +325,7 @@ impl Arena {
         requires { HasNode self.now serial }
         ensures { map.get self.now.nodes serial ≡ Some (node_of result) }
     {
-        let at = slot_of(&self.rows, serial);
+        let at = slot_of(&self.slots, &self.rows, &self.hints, serial);
         slot_at(&self.slots, at)
     }
 
@@ -289,7 +334,7 @@ impl Arena {
         requires { HasNode self.now serial }
         ensures { map.get self.now.nodes serial ≡ Some (node_of result) }
     {
-        let at = slot_near(&self.slots, &self.rows, serial, near);
+        let at = slot_near(&self.slots, &self.rows, &self.hints, serial, near);
         slot_at(&self.slots, at)
     }
 
@@ -394,7 +439,7 @@ impl Arena {
         requires { HasNode self.old serial }
         ensures { self.new ≡ with_node_changed node_finalized serial self.old }
     {
-        let at = slot_of(&self.rows, serial);
+        let at = slot_of(&self.slots, &self.rows, &self.hints, serial);
         mark_finalized(&mut self.slots, at);
     }
 
@@ -404,7 +449,7 @@ impl Arena {
         requires place { TakesNumber (place_at self.old serial) }
         ensures { self.new ≡ with_node_changed (node_numbered number) serial self.old }
     {
-        let at = slot_of(&self.rows, serial);
+        let at = slot_of(&self.slots, &self.rows, &self.hints, serial);
         set_number(&mut self.slots, at, number);
     }
 
@@ -415,7 +460,7 @@ impl Arena {
         requires place { TakesNumber (place_at self.old serial) }
         ensures { self.new ≡ with_node_changed (node_numbered (count_at self.old serial)) serial self.old }
     {
-        let at = slot_near(&self.slots, &self.rows, serial, near);
+        let at = slot_near(&self.slots, &self.rows, &self.hints, serial, near);
         let number = slot_at(&self.slots, at).count;
         set_number(&mut self.slots, at, number);
     }
@@ -425,7 +470,7 @@ impl Arena {
         requires { HasNode self.old serial }
         ensures { self.new ≡ with_node_changed node_lowered serial self.old }
     {
-        let at = slot_of(&self.rows, serial);
+        let at = slot_of(&self.slots, &self.rows, &self.hints, serial);
         lower_candidate(&mut self.slots, at);
     }
 
@@ -444,7 +489,7 @@ impl Arena {
         requires place { IsPlace place }
         ensures { self.new ≡ with_node_moved serial place self.old }
     {
-        let at = slot_near(&self.slots, &self.rows, serial, near);
+        let at = slot_near(&self.slots, &self.rows, &self.hints, serial, near);
         let slot = slot_at(&self.slots, at);
         let from = number_of(slot.place);
         self.ends[from] = unlink(&mut self.slots, self.ends[from], slot);
@@ -493,7 +538,7 @@ impl Arena {
         requires { HasNode self.now serial }
         ensures { result ≡ following serial (list_at self.now (place_at self.now serial)) }
     {
-        let at = slot_near(&self.slots, &self.rows, serial, *near);
+        let at = slot_near(&self.slots, &self.rows, &self.hints, serial, *near);
         let after = slot_at(&self.slots, at).after;
         *near = Near::at(after);
         serial_at(&self.slots, after)
@@ -504,7 +549,7 @@ impl Arena {
         requires { HasNode self.now serial }
         ensures { result ≡ following serial (list_at self.now (place_at self.now serial)) }
     {
-        let at = slot_of(&self.rows, serial);
+        let at = slot_of(&self.slots, &self.rows, &self.hints, serial);
         serial_at(&self.slots, slot_at(&self.slots, at).after)
     }
 

@@ -6,6 +6,7 @@
 
 mod arena;
 mod ends;
+mod hints;
 mod links;
 mod near;
 mod slot;

@@ -5,8 +5,11 @@ use Rattle.cg_arena.specs.Slots.{with_count}
 use Rattle.cg_arena.proofs.Sound.{row_there, slot_there, node_here, field_sound, field_view, up_once}
 use Rattle.cg_arena.proofs.arena.Arena.inc.Goals as goal
 
-pub slot_of-at-requires : goal.slot_of-at-requires
-slot_of-at-requires c = row_there c.self.inside.slots c.self.inside.ends c.self.inside.rows.entries (spare c.self.inside.rows) c.args.self.now c.self.view_is c.args.serial c.requires.has
+pub slot_of-at-requires-clause-named : goal.slot_of-at-requires-clause-named
+slot_of-at-requires-clause-named c = c.self.invariant.names
+
+pub slot_of-at-requires-clause-there : goal.slot_of-at-requires-clause-there
+slot_of-at-requires-clause-there c = row_there c.self.inside.slots c.self.inside.ends c.self.inside.rows.entries (spare c.self.inside.rows) c.args.self.now c.self.view_is c.args.serial c.requires.has
 
 pub slot_at-count-requires : goal.slot_at-count-requires
 slot_at-count-requires c = slot_there c.self.inside.slots c.self.inside.ends c.self.inside.rows.entries c.self.invariant c.args.serial c.slot_of-at.result c.slot_of-at.ensures

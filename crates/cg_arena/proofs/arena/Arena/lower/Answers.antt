@@ -6,8 +6,11 @@ use Rattle.cg_arena.specs.Slots.{with_lowered}
 use Rattle.cg_arena.proofs.Sound.{row_there, slot_there, the_slot, field_sound, field_view}
 use Rattle.cg_arena.proofs.arena.Arena.lower.Goals as goal
 
-pub slot_of-at-requires : goal.slot_of-at-requires
-slot_of-at-requires c = row_there c.self.inside.slots c.self.inside.ends c.self.inside.rows.entries (spare c.self.inside.rows) c.args.self.now c.self.view_is c.args.serial c.requires
+pub slot_of-at-requires-clause-named : goal.slot_of-at-requires-clause-named
+slot_of-at-requires-clause-named c = c.self.invariant.names
+
+pub slot_of-at-requires-clause-there : goal.slot_of-at-requires-clause-there
+slot_of-at-requires-clause-there c = row_there c.self.inside.slots c.self.inside.ends c.self.inside.rows.entries (spare c.self.inside.rows) c.args.self.now c.self.view_is c.args.serial c.requires
 
 pub invariant_of-self : goal.invariant_of-self
 invariant_of-self c =
