@@ -1,5 +1,6 @@
-//! Tests of the top call under faults, at its limits and in depth. They stand apart so that cg_cli is checked without them;
-//! nothing but tests is here.
+//! Tests of the top call under faults, at its limits and in depth. They stand apart so that cg_cli is checked without them.
+//!
+//! What a program may use of it is the source that gives one byte a call; all else is tests.
 #![tactic(auto)]
 
 #[cfg(test)]
@@ -16,7 +17,8 @@ mod edges;
 mod faults;
 #[cfg(test)]
 mod limits;
-#[cfg(test)]
 mod one_byte;
 #[cfg(test)]
 mod sizes;
+
+pub use one_byte::OneByte;

@@ -1,4 +1,6 @@
 //! A source that gives one byte a call, and counts its calls.
+ghost use Rattle.std.specs.Prelude.{◌≡◌};
+
 use cg_io::{MemSource, ReadFailed, Source};
 
 /// A source in memory, of which each call takes one byte at most.
@@ -9,13 +11,18 @@ pub struct OneByte {
 }
 
 impl OneByte {
-    /// A source of these bytes, before its first call, of which the call with this number, from 1, fails.
-    pub fn new(source: MemSource) -> OneByte {
+    /// A source of what this one gives, before its first call.
+    pub fn new(source: MemSource) -> OneByte
+        ensures source { result.source ≡ source }
+        ensures calls { result.calls ≡ 0 }
+    {
         OneByte { source, calls: 0 }
     }
 
-    /// How often it was read.
-    pub fn calls(&self) -> u64 {
+    /// How often it was read. The count stops at the last number of 64 bits.
+    pub fn calls(&self) -> u64
+        ensures { result ≡ self.now.calls }
+    {
         self.calls
     }
 }
