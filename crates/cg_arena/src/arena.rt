@@ -58,6 +58,7 @@ impl Model for Arena {
 }
 
 /// The number of a place among the lists.
+#[inline(always)]
 fn number_of(place: Place) -> usize
     requires { place_number place < 10 }
     ensures number { result ≡ place_number place }
@@ -76,6 +77,7 @@ fn number_of(place: Place) -> usize
 }
 
 /// The slot of a serial that has a row, by its row.
+#[inline(never)]
 fn slot_by_row(rows: &IndexMap<u64, usize, SerialHashing>, serial: u64) -> usize
     requires { IsSome (row_of rows.now.entries serial) }
     ensures { row_of rows.now.entries serial ≡ Some result }
@@ -290,6 +292,7 @@ impl Arena {
     }
 
     /// The count rises by 1. It is below 2^32 - 1 before. (Developer guide: the count is the number of references.)
+    #[inline(always)]
     pub fn inc(&mut self, serial: u64)
         requires has { HasNode self.old serial }
         requires room { count_at self.old serial < 2 ^ 32 - 1 }
@@ -302,6 +305,7 @@ impl Arena {
 
     /// The count, which is above 0, falls by 1. It answers whether the count is now 0. (Developer guide: an object
     /// whose count reaches 0 is deallocated.)
+    #[inline(always)]
     pub fn dec(&mut self, serial: u64) -> bool
         requires { 0 < count_at self.old serial }
         ensures falls { self.new ≡ counted_down (serial ∷ []) self.old }
@@ -321,6 +325,7 @@ impl Arena {
     }
 
     /// The node of a serial, in its slot.
+    #[inline(always)]
     fn node(&self, serial: u64) -> Slot
         requires { HasNode self.now serial }
         ensures { map.get self.now.nodes serial ≡ Some (node_of result) }
@@ -330,6 +335,7 @@ impl Arena {
     }
 
     /// `node`, where it is near.
+    #[inline(always)]
     fn node_near(&self, serial: u64, near: Near) -> Slot
         requires { HasNode self.now serial }
         ensures { map.get self.now.nodes serial ≡ Some (node_of result) }
@@ -339,6 +345,7 @@ impl Arena {
     }
 
     /// The count, 0 to 2^32 - 1.
+    #[inline(always)]
     pub fn count_of(&self, serial: u64) -> u32
         requires { HasNode self.now serial }
         ensures { IfSome (map.get self.now.nodes serial) (λ n. result ≡ n.count) }
@@ -347,6 +354,7 @@ impl Arena {
     }
 
     /// The kind.
+    #[inline(always)]
     pub fn code_of(&self, serial: u64) -> KindCode
         requires { HasNode self.now serial }
         ensures { IfSome (map.get self.now.nodes serial) (λ n. result ≡ n.code) }
@@ -355,6 +363,7 @@ impl Arena {
     }
 
     /// The number that the node was added with: the class of an instance, or the procedure of a function.
+    #[inline(always)]
     pub fn class_of(&self, serial: u64) -> Option<u32>
         requires { HasNode self.now serial }
         ensures { IfSome (map.get self.now.nodes serial) (λ n. result ≡ n.class) }
@@ -363,6 +372,7 @@ impl Arena {
     }
 
     /// The place of the object's entries among the bodies of its kind.
+    #[inline(always)]
     pub fn body_of(&self, serial: u64) -> usize
         requires { HasNode self.now serial }
         ensures { IfSome (map.get self.now.nodes serial) (λ n. result ≡ n.body) }
@@ -371,6 +381,7 @@ impl Arena {
     }
 
     /// The kind, and the place of the object's entries among the bodies of its kind, by one look-up.
+    #[inline(always)]
     pub fn seat_of(&self, serial: u64) -> (KindCode, usize)
         requires { HasNode self.now serial }
         ensures code { IfSome (map.get self.now.nodes serial) (λ n. result.0 ≡ n.code) }
@@ -381,6 +392,7 @@ impl Arena {
     }
 
     /// `seat_of`, where the node is near.
+    #[inline(always)]
     pub fn seat_near(&self, serial: u64, near: Near) -> (KindCode, usize)
         requires { HasNode self.now serial }
         ensures code { IfSome (map.get self.now.nodes serial) (λ n. result.0 ≡ n.code) }
@@ -391,6 +403,7 @@ impl Arena {
     }
 
     /// The kind, the place and the collector's number, by one look-up.
+    #[inline(always)]
     pub fn head_of(&self, serial: u64) -> Head
         requires { HasNode self.now serial }
         ensures code { IfSome (map.get self.now.nodes serial) (λ n. result.code ≡ n.code) }
@@ -401,6 +414,7 @@ impl Arena {
     }
 
     /// `head_of`, where the node is near.
+    #[inline(always)]
     pub fn head_near(&self, serial: u64, near: Near) -> Head
         requires { HasNode self.now serial }
         ensures code { IfSome (map.get self.now.nodes serial) (λ n. result.code ≡ n.code) }
@@ -411,6 +425,7 @@ impl Arena {
     }
 
     /// The place, in whose list the node stands.
+    #[inline(always)]
     pub fn place_of(&self, serial: u64) -> Place
         requires { HasNode self.now serial }
         ensures { IfSome (map.get self.now.nodes serial) (λ n. result ≡ n.place) }
@@ -419,6 +434,7 @@ impl Arena {
     }
 
     /// Whether the node is marked as finalized.
+    #[inline(always)]
     pub fn is_finalized(&self, serial: u64) -> bool
         requires { HasNode self.now serial }
         ensures { IfSome (map.get self.now.nodes serial) (λ n. result ≡ n.finalized) }
@@ -427,6 +443,7 @@ impl Arena {
     }
 
     /// The collector's number, 0 at first. (Developer guide, "Identifying reference cycles": `gc_refs`.)
+    #[inline(always)]
     pub fn gc_of(&self, serial: u64) -> u32
         requires { HasNode self.now serial }
         ensures { IfSome (map.get self.now.nodes serial) (λ n. result ≡ n.number) }
@@ -444,6 +461,7 @@ impl Arena {
     }
 
     /// Gives the node, which stands in a generation or among the candidates, another collector's number.
+    #[inline(always)]
     pub fn set_gc(&mut self, serial: u64, number: u32)
         requires has { HasNode self.old serial }
         requires place { TakesNumber (place_at self.old serial) }
@@ -455,6 +473,7 @@ impl Arena {
 
     /// The collector's number of a node that is near, which stands in a generation or among the candidates, becomes its
     /// count. (Developer guide, "Identifying reference cycles": `gc_refs` is set to the reference count.)
+    #[inline(always)]
     pub fn set_gc_to_count(&mut self, serial: u64, near: Near)
         requires has { HasNode self.old serial }
         requires place { TakesNumber (place_at self.old serial) }
@@ -466,6 +485,7 @@ impl Arena {
     }
 
     /// The collector's number of a candidate falls by 1, if it is above 0; any other node stays as it is.
+    #[inline(always)]
     pub fn lower(&mut self, serial: u64)
         requires { HasNode self.old serial }
         ensures { self.new ≡ with_node_changed node_lowered serial self.old }
@@ -524,6 +544,7 @@ impl Arena {
     }
 
     /// `first`, and where it is.
+    #[inline(always)]
     pub fn first_near(&self, place: Place, near: &mut Near) -> Option<u64>
         requires { IsPlace place }
         ensures { result ≡ slice_get (list_at self.now place) 0 }
@@ -534,6 +555,7 @@ impl Arena {
     }
 
     /// `next` of a node that is near, and where that is. So a walk over a list looks nothing up.
+    #[inline(always)]
     pub fn next_near(&self, serial: u64, near: &mut Near) -> Option<u64>
         requires { HasNode self.now serial }
         ensures { result ≡ following serial (list_at self.now (place_at self.now serial)) }

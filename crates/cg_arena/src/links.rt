@@ -10,6 +10,7 @@ use cg_value::Place;
 use slab::Slab;
 
 /// The node in an occupied slot.
+#[inline(always)]
 pub fn slot_at(slots: &Slab<Slot>, at: usize) -> Slot
     requires { ContainsKey slots.now at }
     ensures { get slots.now at ≡ Some result }
@@ -21,6 +22,7 @@ pub fn slot_at(slots: &Slab<Slot>, at: usize) -> Slot
 }
 
 /// The serial of the node in a slot, if there is one.
+#[inline(always)]
 pub fn serial_at(slots: &Slab<Slot>, at: Option<usize>) -> Option<u64>
     ensures { result ≡ option_and_then (λ k. option_map (λ c. c.serial) (get slots.now k)) at }
 {
@@ -31,6 +33,7 @@ pub fn serial_at(slots: &Slab<Slot>, at: Option<usize>) -> Option<u64>
 }
 
 /// Gives a node another count.
+#[inline(always)]
 pub fn set_count(slots: &mut Slab<Slot>, at: usize, count: u32)
     ensures { slots.new ≡ rewritten (with_count count) at slots.old }
 {
@@ -49,6 +52,7 @@ pub fn mark_finalized(slots: &mut Slab<Slot>, at: usize)
 }
 
 /// Gives a node another collector's number.
+#[inline(always)]
 pub fn set_number(slots: &mut Slab<Slot>, at: usize, number: u32)
     ensures { slots.new ≡ rewritten (with_number number) at slots.old }
 {
@@ -58,6 +62,7 @@ pub fn set_number(slots: &mut Slab<Slot>, at: usize, number: u32)
 }
 
 /// Lowers the collector's number of a candidate, if it is above 0.
+#[inline(always)]
 pub fn lower_candidate(slots: &mut Slab<Slot>, at: usize)
     ensures { slots.new ≡ rewritten with_lowered at slots.old }
 {

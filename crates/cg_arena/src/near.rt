@@ -8,6 +8,7 @@ pub struct Near {
 
 impl Near {
     /// This slot, if there is one.
+    #[inline(always)]
     pub fn at(slot: Option<usize>) -> Near {
         match slot {
             Some(slot) => Near { slot },

@@ -45,6 +45,7 @@ impl Slot {
     }
 
     /// Whether the object was finalized.
+    #[inline(always)]
     pub fn is_finalized(&self) -> bool
         ensures { result ≡ self.now.word.marked }
     {
@@ -59,6 +60,7 @@ impl Slot {
     }
 
     /// The collector's number.
+    #[inline(always)]
     pub fn number(&self) -> u32
         ensures { result ≡ self.now.word.number }
     {
@@ -66,6 +68,7 @@ impl Slot {
     }
 
     /// Gives the node another collector's number.
+    #[inline(always)]
     pub fn set_number(&mut self, number: u32)
         ensures { self.new ≡ with_number number self.old }
     {
@@ -73,6 +76,7 @@ impl Slot {
     }
 
     /// Lowers the collector's number of a candidate, if it is above 0.
+    #[inline(always)]
     pub fn lower(&mut self)
         ensures { self.new ≡ with_lowered self.old }
     {
@@ -107,6 +111,7 @@ pub struct Head {
 
 impl Head {
     /// Those of a slot.
+    #[inline(always)]
     pub fn of(slot: Slot) -> Head
         ensures code { result.code ≡ slot.code }
         ensures place { result.place ≡ slot.place }

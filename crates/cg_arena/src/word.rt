@@ -42,6 +42,7 @@ impl Word {
     }
 
     /// The finalized mark.
+    #[inline(always)]
     pub fn is_marked(&self) -> bool
         ensures { result ≡ self.now.marked }
     {
@@ -56,6 +57,7 @@ impl Word {
     }
 
     /// The collector's number.
+    #[inline(always)]
     pub fn number(&self) -> u32
         ensures { result ≡ self.now.number }
     {
@@ -63,6 +65,7 @@ impl Word {
     }
 
     /// Gives it another collector's number.
+    #[inline(always)]
     pub fn set_number(&mut self, number: u32)
         ensures { self.new ≡ word_numbered number self.old }
     {

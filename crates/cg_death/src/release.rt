@@ -24,6 +24,7 @@ pub struct Release {
 
 impl Release {
     /// Gives up the references of an entry: the one in its value, and then the one in its key. (Ours.)
+    #[inline(always)]
     pub fn new(entry: Entry) -> Release
         ensures { references_left result ≡ entry_references entry }
     {
@@ -34,6 +35,7 @@ impl Release {
     }
 
     /// Gives up a hold of one object.
+    #[inline(always)]
     pub fn of(object: u64) -> Release
         ensures { references_left result ≡ object ∷ [] }
     {
@@ -48,6 +50,7 @@ impl Release {
     /// `Died` comes exactly where nothing then holds its object, and `Gone` exactly where no reference was left. It
     /// never answers `Frame` or `Emit`. (Developer guide, "Reference counting": an object whose count reaches 0 is
     /// deallocated.)
+    #[inline(always)]
     pub fn step<B: Kind>(&mut self, heap: &mut Heap<B>) -> DeathStep
         requires { HasHolds heap.old (references_left self.old) }
         ensures left { references_left self.new ≡ drop 1 (references_left self.old) }
@@ -67,6 +70,7 @@ impl Release {
     }
 
     /// Takes the first reference.
+    #[inline(always)]
     pub(crate) fn take_first(&mut self) -> Option<u64>
         ensures taken { references_left self.old ≡ option_to_list result ++ references_left self.new }
         ensures none { IfNone result (references_left self.new ≡ []) }
@@ -86,6 +90,7 @@ impl Release {
 }
 
 /// The reference in a value, if there is one.
+#[inline(always)]
 pub(crate) fn reference(val: Val) -> Option<u64>
     ensures { result ≡ reference_in val }
 {
@@ -96,6 +101,7 @@ pub(crate) fn reference(val: Val) -> Option<u64>
 }
 
 /// Gives up one outside hold of an object.
+#[inline(always)]
 pub(crate) fn give_up<B: Kind>(heap: &mut Heap<B>, object: u64) -> DeathStep
     requires { 0 < outside_of heap.old object }
     ensures rest { heap.new ≡ unheld (object ∷ []) heap.old }

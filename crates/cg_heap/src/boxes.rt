@@ -41,6 +41,7 @@ impl<B: Kind> Model for Boxes<B> {
 }
 
 /// Where the box of a kind stands.
+#[inline(always)]
 fn index_of(code: KindCode) -> usize
     ensures index { result ≡ code_index code }
     ensures below { result < 6 }
@@ -56,6 +57,7 @@ fn index_of(code: KindCode) -> usize
 }
 
 /// Appends an item to the list at a place of the first box.
+#[inline(always)]
 fn append_to<B: Kind>(lists: &mut B, at: usize, val: Val) -> Result<(), AllocError>
     requires held { Holds (B.bodies lists.old) at }
     requires list { B.kind lists.old ≡ code.List }
@@ -96,6 +98,7 @@ impl<B: Kind> Boxes<B> {
     }
 
     /// The number of entries.
+    #[inline(always)]
     pub fn len(&self, seat: Seat) -> usize
         requires { HasBody self.now seat.code seat.body }
         ensures { result ≡ length (entries_in_box self.now seat.code seat.body) }
@@ -105,6 +108,7 @@ impl<B: Kind> Boxes<B> {
     }
 
     /// The entry at a position below the length.
+    #[inline(always)]
     pub fn entry_at(&self, seat: Seat, i: usize) -> Entry
         requires held { HasBody self.now seat.code seat.body }
         requires within { i < length (entries_in_box self.now seat.code seat.body) }
@@ -115,6 +119,7 @@ impl<B: Kind> Boxes<B> {
     }
 
     /// The first position with this key.
+    #[inline(always)]
     pub fn find(&self, seat: Seat, key: Val) -> Option<usize>
         requires { HasBody self.now seat.code seat.body }
         ensures { result ≡ position (has_key key) (entries_in_box self.now seat.code seat.body) }
@@ -124,6 +129,7 @@ impl<B: Kind> Boxes<B> {
     }
 
     /// The value of the first entry with this key.
+    #[inline(always)]
     pub fn value_of(&self, seat: Seat, key: Val) -> Option<Val>
         requires { HasBody self.now seat.code seat.body }
         ensures { result ≡ value_at (entries_in_box self.now seat.code seat.body) key }
@@ -133,6 +139,7 @@ impl<B: Kind> Boxes<B> {
     }
 
     /// Puts a value under a key, and answers the one that it replaces.
+    #[inline(always)]
     pub fn put(&mut self, seat: Seat, key: Val, val: Val) -> Result<Option<Val>, AllocError>
         requires held { HasBody self.old seat.code seat.body }
         requires can { CanPut seat.code (entries_in_box self.old seat.code seat.body) key }
@@ -151,6 +158,7 @@ impl<B: Kind> Boxes<B> {
     }
 
     /// Takes the entry at a position out, where the kind lets it go.
+    #[inline(always)]
     pub fn take(&mut self, seat: Seat, i: usize) -> Entry
         requires held { HasBody self.old seat.code seat.body }
         requires within { i < length (entries_in_box self.old seat.code seat.body) }
@@ -165,6 +173,7 @@ impl<B: Kind> Boxes<B> {
     }
 
     /// Takes the first entry with this key out, where the kind lets it go.
+    #[inline(always)]
     pub fn take_key(&mut self, seat: Seat, key: Val) -> Option<Entry>
         requires { HasBody self.old seat.code seat.body }
         ensures entry { result ≡ entry_under (entries_in_box self.old seat.code seat.body) key }
@@ -195,6 +204,7 @@ impl<B: Kind> Boxes<B> {
     }
 
     /// Appends an item to a list.
+    #[inline(always)]
     pub fn append(&mut self, list: usize, val: Val) -> Result<(), AllocError>
         requires { HasBody self.old code.List list }
         ensures ok { OnOk result (self.new ≡ boxes_with_body self.old code.List list
@@ -259,6 +269,7 @@ impl<B: Kind> Boxes<B> {
     }
 
     /// Whether a put at the key replaces a value.
+    #[inline(never)]
     pub fn has_value(&self, seat: Seat, key: Val) -> bool
         requires held { HasBody self.now seat.code seat.body }
         requires can { CanPut seat.code (entries_in_box self.now seat.code seat.body) key }

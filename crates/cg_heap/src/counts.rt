@@ -14,6 +14,7 @@ use cg_arena::{Arena, Near};
 use cg_value::{Entry, KindCode, Place, Val};
 
 /// Where the entries of an object are.
+#[inline(always)]
 pub fn seat_of(arena: &Arena, object: u64) -> Seat
     requires { HasNode arena.now object }
     ensures { seat_in (fin.get arena.now.nodes object) ≡ Some (result.code, result.body) }
@@ -23,6 +24,7 @@ pub fn seat_of(arena: &Arena, object: u64) -> Seat
 }
 
 /// `seat_of`, where the object is near.
+#[inline(always)]
 pub fn seat_near(arena: &Arena, object: u64, near: Near) -> Seat
     requires { HasNode arena.now object }
     ensures { seat_in (fin.get arena.now.nodes object) ≡ Some (result.code, result.body) }
@@ -43,6 +45,7 @@ pub fn drop_seat(arena: &mut Arena, object: u64) -> Seat
 }
 
 /// Counts the reference of a value.
+#[inline(always)]
 pub fn count_in(arena: &mut Arena, val: Val)
     requires live { (s : ℕ) → val ≡ val_of.Ref s → HasNode arena.old s }
     requires room { (s : ℕ) → val ≡ val_of.Ref s → count_at arena.old s < 2 ^ 32 - 1 }
@@ -66,6 +69,7 @@ pub fn count_all(arena: &mut Arena, parts: &[Entry])
 }
 
 /// One entry less, where the object is not the garbage list.
+#[inline(always)]
 pub fn fewer(entries: &mut u64, object: u64)
     requires { object ≢ 1 → 0 < entries.old }
     ensures { entries.new ≡ number_less object entries.old }

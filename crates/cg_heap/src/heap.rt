@@ -96,6 +96,7 @@ impl<B: Kind> Heap<B> {
     /// live serial is above the last, each in-degree is below 2^32, each object stands once in the list of its place and
     /// in no other, the garbage list names each object at most once and never itself, each row is that of a live weak
     /// reference with a live referent, and there are at most 1,000,000 objects and 4,000,000 entries.
+    #[inline(always)]
     pub fn sound(&self)
         ensures { IsSound self.now }
     {
@@ -103,6 +104,7 @@ impl<B: Kind> Heap<B> {
     }
 
     /// The in-degree, which is below 2^32. (Python: `sys.getrefcount`, without the reference of its argument.)
+    #[inline(always)]
     pub fn refs(&self, object: u64) -> u64
         requires { IsLive self.now object }
         ensures count { result ≡ in_degree self.now object }
@@ -133,6 +135,7 @@ impl<B: Kind> Heap<B> {
     }
 
     /// The kind.
+    #[inline(always)]
     pub fn kind_of(&self, object: u64) -> KindCode
         requires { IsLive self.now object }
         ensures { IfSome (fin.get self.now.nodes object) (λ n. result ≡ n.code) }
@@ -141,6 +144,7 @@ impl<B: Kind> Heap<B> {
     }
 
     /// The number that the object was made with: the class of an instance, or the procedure of a function.
+    #[inline(always)]
     pub fn class_of(&self, object: u64) -> Option<u32>
         requires { IsLive self.now object }
         ensures { IfSome (fin.get self.now.nodes object) (λ n. result ≡ n.class) }
@@ -149,6 +153,7 @@ impl<B: Kind> Heap<B> {
     }
 
     /// The place, in whose list the object stands.
+    #[inline(always)]
     pub fn place_of(&self, object: u64) -> Place
         requires { IsLive self.now object }
         ensures { result ≡ place_at self.now object }
@@ -173,6 +178,7 @@ impl<B: Kind> Heap<B> {
     }
 
     /// The kind, the place and the collector's number, by one look-up.
+    #[inline(always)]
     pub fn head_of(&self, object: u64) -> Head
         requires { IsLive self.now object }
         ensures code { IfSome (fin.get self.now.nodes object) (λ n. result.code ≡ n.code) }
@@ -183,6 +189,7 @@ impl<B: Kind> Heap<B> {
     }
 
     /// The number of entries.
+    #[inline(always)]
     pub fn len(&self, object: u64) -> usize
         requires { IsLive self.now object }
         ensures { result ≡ length (entries_of self.now object) }
@@ -192,6 +199,7 @@ impl<B: Kind> Heap<B> {
     }
 
     /// The entry at a position below the length.
+    #[inline(always)]
     pub fn entry_at(&self, object: u64, i: usize) -> Entry
         requires live { IsLive self.now object }
         requires within { i < length (entries_of self.now object) }
@@ -202,6 +210,7 @@ impl<B: Kind> Heap<B> {
     }
 
     /// The first position whose key is this one, `None` exactly where there is none.
+    #[inline(always)]
     pub fn find(&self, object: u64, key: Val) -> Option<usize>
         requires { IsLive self.now object }
         ensures { result ≡ position (has_key key) (entries_of self.now object) }
@@ -211,6 +220,7 @@ impl<B: Kind> Heap<B> {
     }
 
     /// The value under a key, `None` exactly where no entry has the key.
+    #[inline(always)]
     pub fn value_of(&self, object: u64, key: Val) -> Option<Val>
         requires { IsLive self.now object }
         ensures { result ≡ value_at (entries_of self.now object) key }
@@ -220,6 +230,7 @@ impl<B: Kind> Heap<B> {
     }
 
     /// The value of a name, `None` where it is unbound.
+    #[inline(always)]
     pub fn name(&self, name: u32) -> Option<Val>
         requires { name < length self.now.names }
         ensures { slice_get self.now.names name ≡ Some result }

@@ -27,6 +27,7 @@ impl Model for Names {
 }
 
 /// Another value for a name.
+#[inline(always)]
 fn replace(values: &mut Vec<Option<Val>>, name: usize, val: Option<Val>) -> Option<Val>
     requires { name < length values.old.items }
     ensures old { slice_get values.old.items name ≡ Some result }
@@ -51,6 +52,7 @@ impl Names {
     }
 
     /// The value of a name.
+    #[inline(always)]
     pub fn get(&self, name: usize) -> Option<Val>
         requires { name < length self.now }
         ensures { slice_get self.now name ≡ Some result }
@@ -59,6 +61,7 @@ impl Names {
     }
 
     /// Gives a name another value, and answers the one that it had.
+    #[inline(always)]
     pub fn replace(&mut self, name: usize, val: Option<Val>) -> Option<Val>
         requires { name < length self.old }
         ensures old { slice_get self.old name ≡ Some result }

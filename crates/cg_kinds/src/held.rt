@@ -28,6 +28,7 @@ impl Held {
     }
 
     /// The number of pairs.
+    #[inline(always)]
     pub fn len(&self) -> usize
         ensures { result ≡ length (entries_held self.now) }
     {
@@ -38,6 +39,7 @@ impl Held {
     }
 
     /// The pair at a position.
+    #[inline(always)]
     pub fn entry_at(&self, i: usize) -> Entry
         requires { i < length (entries_held self.now) }
         ensures { slice_get (entries_held self.now) i ≡ Some result }
@@ -49,6 +51,7 @@ impl Held {
     }
 
     /// The position of a key.
+    #[inline(always)]
     pub fn find(&self, key: Val) -> Option<usize>
         ensures { result ≡ position (has_key key) (entries_held self.now) }
     {
@@ -59,6 +62,7 @@ impl Held {
     }
 
     /// The value under a key.
+    #[inline(always)]
     pub fn value_of(&self, key: Val) -> Option<Val>
         ensures { result ≡ value_at (entries_held self.now) key }
     {
@@ -69,6 +73,7 @@ impl Held {
     }
 
     /// A present key gets the value, and a new one goes last. It answers the value that the key had.
+    #[inline(always)]
     pub fn put(&mut self, key: Val, val: Val) -> Result<Option<Val>, AllocError>
         ensures ok { OnOk result (entries_held self.new ≡ put (entries_held self.old) key val) }
         ensures replaced { IfOk result (λ was. was ≡ value_at (entries_held self.old) key) }
@@ -91,6 +96,7 @@ impl Held {
     }
 
     /// A new key goes last. The map stands whole before the list goes, so that a refusal leaves the list.
+    #[inline(never)]
     fn add(&mut self, key: Val, val: Val) -> Result<(), AllocError>
         requires new { value_at (entries_held self.old) key ≡ None }
         ensures ok { OnOk result (entries_held self.new ≡ put (entries_held self.old) key val) }
@@ -112,6 +118,7 @@ impl Held {
     }
 
     /// Takes the pair at a position; those behind it move down by one.
+    #[inline(always)]
     pub fn take(&mut self, i: usize) -> Entry
         requires { i < length (entries_held self.old) }
         ensures entry { slice_get (entries_held self.old) i ≡ Some result }
@@ -124,6 +131,7 @@ impl Held {
     }
 
     /// Takes the pair under a key, if there is one; those behind it move down by one.
+    #[inline(always)]
     pub fn take_key(&mut self, key: Val) -> Option<Entry>
         ensures entry { result ≡ entry_under (entries_held self.old) key }
         ensures rest { entries_held self.new ≡ without_key (entries_held self.old) key }

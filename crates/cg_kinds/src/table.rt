@@ -36,6 +36,7 @@ impl Model for Table {
 const CLOSE: usize = 16;
 
 /// The pair at an index of a map.
+#[inline(always)]
 fn pair_at(map: &IndexMap<Val, Val>, index: usize) -> Entry
     requires { index < length map.now.entries }
     ensures { result ≡ slice_index_or (pairs_of map.now.entries) index nothing }
@@ -74,6 +75,7 @@ fn shift_out(map: &mut IndexMap<Val, Val>, index: usize) -> Entry
 }
 
 /// Costs nothing: each index stands at one place of the order, if there is one.
+#[inline(always)]
 fn sound(order: &Option<Order>)
     ensures { IsSoundOrder order.now }
 {
@@ -93,6 +95,7 @@ fn fit(map: &mut IndexMap<Val, Val>, room: usize)
 }
 
 /// The pair that a map got last goes last in the order, or out of the map again.
+#[inline(always)]
 fn order_last(map: &mut IndexMap<Val, Val>, order: &mut Option<Order>) -> Result<(), AllocError>
     ensures ok { OnOk result (map.new.entries ≡ map.old.entries) }
     ensures order { OnOk result (order.new ≡ option_map (λ o. o ++ length o ∷ []) order.old) }
@@ -164,6 +167,7 @@ impl Table {
     }
 
     /// The value under a key, which no order is asked for.
+    #[inline(always)]
     pub fn value_of(&self, key: Val) -> Option<Val>
         ensures { result ≡ value_at self.now key }
     {
@@ -174,6 +178,7 @@ impl Table {
     }
 
     /// A present key gets the value, and a new one goes last. It answers the value that the key had.
+    #[inline(always)]
     pub fn put(&mut self, key: Val, val: Val) -> Result<Option<Val>, AllocError>
         ensures ok { OnOk result (self.new ≡ put self.old key val) }
         ensures replaced { IfOk result (λ was. was ≡ value_at self.old key) }
@@ -213,6 +218,7 @@ impl Table {
     }
 
     /// Takes the pair at a position; those behind it move down by one.
+    #[inline(never)]
     pub fn take(&mut self, i: usize) -> Entry
         requires { i < length self.old }
         ensures entry { slice_get self.old i ≡ Some result }
@@ -226,6 +232,7 @@ impl Table {
     }
 
     /// Takes the pair under a key, if there is one; those behind it move down by one. No place is looked for in an order.
+    #[inline(always)]
     pub fn take_key(&mut self, key: Val) -> Option<Entry>
         ensures entry { result ≡ entry_under self.old key }
         ensures rest { self.new ≡ without_key self.old key }

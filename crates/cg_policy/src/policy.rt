@@ -116,6 +116,7 @@ impl Policy {
     /// (`gc.set_threshold`). The generation is the greatest whose count is above its threshold, but 2 is passed over
     /// where fewer objects are pending than a quarter of the total, rounded down (developer guide, "collecting the
     /// oldest generation").
+    #[inline(always)]
     pub fn due(&self) -> Option<u8>
         ensures { result ≡ due_of self.now }
     {
@@ -127,6 +128,7 @@ impl Policy {
     }
 
     // Whether the numbers alone make a collection due.
+    #[inline(always)]
     fn has_enough(&self) -> bool
         ensures { result ≡ is_due self.now.numbers }
     {
@@ -197,6 +199,7 @@ impl Policy {
     }
 
     /// Whether a collection is running.
+    #[inline(always)]
     pub fn running(&self) -> bool
         ensures { result ≡ self.now.running }
     {

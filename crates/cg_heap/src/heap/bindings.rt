@@ -13,6 +13,7 @@ impl<B: Kind> Heap<B> {
     /// Gives a name a value, and answers the one that it had, `None` where it was unbound.
     ///
     /// The reference of the old value is now an outside hold, so that it may be given up after the new one stands.
+    #[inline(always)]
     pub fn bind(&mut self, name: u32, val: Val) -> Option<Val>
         requires name { name < length self.old.names }
         requires live { IsLiveValue self.old val }
@@ -25,6 +26,7 @@ impl<B: Kind> Heap<B> {
     }
 
     /// Takes the value of a name, `None` where it was unbound. Its reference is now an outside hold.
+    #[inline(always)]
     pub fn unbind(&mut self, name: u32) -> Option<Val>
         requires name { name < length self.old.names }
         requires few { HasFewHolds self.old }

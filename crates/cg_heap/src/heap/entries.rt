@@ -23,6 +23,7 @@ use cg_value::{Entry, KindCode, Place, Val};
 impl<B: Kind> Heap<B> {
     /// Takes the entry at a position below the length out of a list, a dictionary or an instance; those after it move
     /// down by one. The references of the entry are now outside holds.
+    #[inline(always)]
     pub fn take(&mut self, object: u64, i: usize) -> Entry
         requires can { CanTake self.old object }
         requires within { i < length (entries_of self.old object) }
@@ -39,6 +40,7 @@ impl<B: Kind> Heap<B> {
 
     /// Takes the entry under a key out of a list, a dictionary or an instance; those after it move down by one. `None` comes
     /// exactly where no entry has the key. The references of the entry are now outside holds.
+    #[inline(always)]
     pub fn take_key(&mut self, object: u64, key: Val) -> Option<Entry>
         requires can { CanTake self.old object }
         requires few { HasFewHolds self.old }
@@ -83,6 +85,7 @@ impl<B: Kind> Heap<B> {
     ///
     /// `EntryLimit` comes exactly where 4,000,000 entries stand, and `OutOfMemory` for want of memory alone. A refusal
     /// changes nothing.
+    #[inline(always)]
     pub fn append(&mut self, list: u64, val: Val) -> Result<(), HeapFault>
         requires list { HasCode self.old list code.List }
         requires other { list ≢ 1 }
@@ -116,6 +119,7 @@ impl<B: Kind> Heap<B> {
     ///
     /// A present key, and a list, refuse nothing. For a new key `EntryLimit` comes exactly where 4,000,000 entries stand,
     /// and `OutOfMemory` for want of memory alone. A refusal changes nothing.
+    #[inline(always)]
     pub fn put(&mut self, object: u64, key: Val, val: Val) -> Result<Option<Val>, HeapFault>
         requires other { object ≢ 1 }
         requires can { CanPutIn self.old object key }
@@ -142,6 +146,7 @@ impl<B: Kind> Heap<B> {
     }
 
     /// `put`, without the tracking. Below the limit of entries the key is looked for once.
+    #[inline(always)]
     fn put_value(&mut self, object: u64, key: Val, val: Val) -> Result<Option<Val>, HeapFault>
         requires other { object ≢ 1 }
         requires can { CanPutIn self.old object key }
@@ -176,6 +181,7 @@ impl<B: Kind> Heap<B> {
     }
 
     /// Whether the object is an untracked dictionary that the key or the value makes tracked. Atoms make none tracked.
+    #[inline(always)]
     fn becomes_tracked(&self, object: u64, key: Val, val: Val) -> bool
         requires live { IsLive self.now object }
         requires live_key { IsLiveValue self.now key }
@@ -189,6 +195,7 @@ impl<B: Kind> Heap<B> {
     }
 
     /// Whether an object is an untracked dictionary.
+    #[inline(always)]
     fn is_untracked_dict(&self, object: u64) -> bool
         requires { IsLive self.now object }
         ensures { result ≡ is_untracked_dict (fin.get self.now.nodes object) }
@@ -198,6 +205,7 @@ impl<B: Kind> Heap<B> {
     }
 
     /// Whether a value may be tracked: an object that is no tuple, or a tracked one.
+    #[inline(always)]
     fn may_be_tracked(&self, val: Val) -> bool
         requires { IsLiveValue self.now val }
         ensures { result ≡ may_be_tracked self.now val }
@@ -212,6 +220,7 @@ impl<B: Kind> Heap<B> {
     }
 
     /// Moves an object to the end of generation 0, if it is to be tracked.
+    #[inline(always)]
     fn track_if(&mut self, tracks: bool, object: u64)
         requires { IsLive self.old object }
         ensures { self.new ≡ tracked_if tracks object self.old }
@@ -223,6 +232,7 @@ impl<B: Kind> Heap<B> {
 }
 
 /// Whether a put under a key would add an entry where there may be no more. The key is looked for at the limit alone.
+#[inline(always)]
 fn is_past_limit<B: Kind>(boxes: &Boxes<B>, entries: u64, seat: Seat, key: Val) -> bool
     requires held { HasBody boxes.now seat.code seat.body }
     requires can { CanPut seat.code (entries_in_box boxes.now seat.code seat.body) key }
@@ -234,6 +244,7 @@ fn is_past_limit<B: Kind>(boxes: &Boxes<B>, entries: u64, seat: Seat, key: Val) 
 }
 
 /// Whether a value is no reference.
+#[inline(always)]
 fn is_atom(val: Val) -> bool
     ensures { result ≡ is_atom val }
 {
@@ -244,6 +255,7 @@ fn is_atom(val: Val) -> bool
 }
 
 /// Whether a place is that of untracked objects.
+#[inline(always)]
 fn is_untracked(place: Place) -> bool
     ensures { result ≡ same_place place where_it_is.Untracked }
 {
@@ -254,6 +266,7 @@ fn is_untracked(place: Place) -> bool
 }
 
 /// Whether an object of this kind at this place is an untracked dictionary.
+#[inline(always)]
 fn is_untracked_dict(code: KindCode, place: Place) -> bool
     ensures { result ≡ is_dict_at code place }
 {
@@ -264,6 +277,7 @@ fn is_untracked_dict(code: KindCode, place: Place) -> bool
 }
 
 /// Whether an object of this kind at this place may be tracked.
+#[inline(always)]
 fn may_be_tracked(code: KindCode, place: Place) -> bool
     ensures { result ≡ code_may_be_tracked code place }
 {

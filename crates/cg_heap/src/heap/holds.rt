@@ -9,6 +9,7 @@ use cg_kind::Kind;
 
 impl<B: Kind> Heap<B> {
     /// One outside hold more.
+    #[inline(always)]
     pub fn hold(&mut self, object: u64)
         requires live { IsLive self.old object }
         requires few { HasFewHolds self.old }
@@ -19,6 +20,7 @@ impl<B: Kind> Heap<B> {
 
     /// One outside hold less, of which there is at least one. It answers whether the in-degree is now 0. (Developer
     /// guide: an object whose count reaches 0 is deallocated.)
+    #[inline(always)]
     pub fn unhold(&mut self, object: u64) -> bool
         requires { 0 < outside_of self.old object }
         ensures less { self.new ≡ unheld (object ∷ []) self.old }

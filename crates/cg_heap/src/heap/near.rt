@@ -16,6 +16,7 @@ use std::sync::ledger::Ledger;
 
 impl<B: Kind> Heap<B> {
     /// `first`, and where it is.
+    #[inline(always)]
     pub fn first_near(&self, place: Place, near: &mut Near) -> Option<u64>
         requires { IsPlace place }
         ensures { result ≡ slice_get (list_at self.now place) 0 }
@@ -24,6 +25,7 @@ impl<B: Kind> Heap<B> {
     }
 
     /// `next` of an object that is near, and where that is. So a walk over a list looks nothing up.
+    #[inline(always)]
     pub fn next_near(&self, object: u64, near: &mut Near) -> Option<u64>
         requires { IsLive self.now object }
         ensures { result ≡ following object (list_at self.now (place_at self.now object)) }
@@ -32,6 +34,7 @@ impl<B: Kind> Heap<B> {
     }
 
     /// `head_of`, where the object is near.
+    #[inline(always)]
     pub fn head_near(&self, object: u64, near: Near) -> Head
         requires { IsLive self.now object }
         ensures code { IfSome (fin.get self.now.nodes object) (λ n. result.code ≡ n.code) }
@@ -42,6 +45,7 @@ impl<B: Kind> Heap<B> {
     }
 
     /// `len`, where the object is near.
+    #[inline(always)]
     pub fn len_near(&self, object: u64, near: Near) -> usize
         requires { IsLive self.now object }
         ensures { result ≡ length (entries_of self.now object) }
@@ -51,6 +55,7 @@ impl<B: Kind> Heap<B> {
     }
 
     /// `entry_at`, where the object is near.
+    #[inline(always)]
     pub fn entry_near(&self, object: u64, i: usize, near: Near) -> Entry
         requires live { IsLive self.now object }
         requires within { i < length (entries_of self.now object) }
@@ -61,6 +66,7 @@ impl<B: Kind> Heap<B> {
     }
 
     /// `look`, where the object is near.
+    #[inline(always)]
     pub fn look_near<L: Ledger>(
         &self,
         object: u64,
@@ -79,6 +85,7 @@ impl<B: Kind> Heap<B> {
 
     /// The collector's number of an object that is near, which stands in a generation or among the candidates, becomes its
     /// in-degree. (Developer guide, "Identifying reference cycles": `gc_refs` is set to the reference count.)
+    #[inline(always)]
     pub fn set_gc_to_refs(&mut self, object: u64, near: Near)
         requires live { IsLive self.old object }
         requires place { TakesNumber (place_at self.old object) }

@@ -40,6 +40,7 @@ impl<B: Kind> Heap<B> {
     }
 
     /// Gives the object, which stands in a generation or among the candidates, another collector's number.
+    #[inline(always)]
     pub fn set_gc(&mut self, object: u64, number: u32)
         requires live { IsLive self.old object }
         requires place { TakesNumber (place_at self.old object) }
@@ -49,6 +50,7 @@ impl<B: Kind> Heap<B> {
     }
 
     /// The collector's number of a candidate falls by 1, if it is above 0; any other object stays as it is.
+    #[inline(always)]
     pub fn lower(&mut self, object: u64)
         requires { IsLive self.old object }
         ensures { self.new ≡ with_node lowered object self.old }
