@@ -11,6 +11,7 @@ use cg_kind::Kind;
 use cg_value::Place;
 
 /// Whether the object, which stands in this place, is a candidate. Then it stands in no other place.
+#[inline(always)]
 pub fn is_candidate<B: Kind>(heap: &Heap<B>, object: u64, place: Place) -> bool
     requires live { IsTrue ((view_of heap.now).live object) }
     requires stands { place ≡ place_of heap.now object }
@@ -22,6 +23,7 @@ pub fn is_candidate<B: Kind>(heap: &Heap<B>, object: u64, place: Place) -> bool
 }
 
 /// The object after this one, which is near, in the list of its place, and where that is.
+#[inline(always)]
 pub fn following<B: Kind>(heap: &Heap<B>, object: u64, near: &mut Near) -> Option<u64>
     requires { IsTrue ((view_of heap.now).live object) }
     ensures { IsNext (view_of heap.now) object result }
@@ -31,6 +33,7 @@ pub fn following<B: Kind>(heap: &Heap<B>, object: u64, near: &mut Near) -> Optio
 }
 
 /// Gives a candidate another number.
+#[inline(always)]
 pub fn set_number<B: Kind>(heap: &mut Heap<B>, object: u64, number: u32)
     requires live { IsTrue ((view_of heap.old).live object) }
     requires candidate { Includes ((view_of heap.old).listed Place.Cand) object }
@@ -41,6 +44,7 @@ pub fn set_number<B: Kind>(heap: &mut Heap<B>, object: u64, number: u32)
 }
 
 /// The number of a candidate that is near becomes its in-degree.
+#[inline(always)]
 pub fn number_by_degree<B: Kind>(heap: &mut Heap<B>, object: u64, near: Near)
     requires live { IsTrue ((view_of heap.old).live object) }
     requires candidate { Includes ((view_of heap.old).listed Place.Cand) object }
@@ -51,6 +55,7 @@ pub fn number_by_degree<B: Kind>(heap: &mut Heap<B>, object: u64, near: Near)
 }
 
 /// The number of the object, if it is a candidate, is one lower.
+#[inline(always)]
 pub fn lower_number<B: Kind>(heap: &mut Heap<B>, object: u64)
     requires live { IsTrue ((view_of heap.old).live object) }
     requires room { Includes ((view_of heap.old).listed Place.Cand) object → 0 < (view_of heap.old).number object }
