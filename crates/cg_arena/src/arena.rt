@@ -128,11 +128,7 @@ fn slot_near(
 
 /// Makes room for the guess of one more node. Where there is no memory for it, some guesses are wrong.
 #[inline(always)]
-fn make_guesses(
-    hints: &mut Hints,
-    slots: &Slab<Slot>,
-    rows: &IndexMap<u64, usize, SerialHashing>,
-) {
+fn make_guesses(hints: &mut Hints, slots: &Slab<Slot>, rows: &IndexMap<u64, usize, SerialHashing>) {
     if slots.len() >= hints.len() && hints.double() {
         tell_all(hints, rows);
     }

@@ -18,6 +18,7 @@ pub struct Hints {
 
 /// The number of guesses that are made at first, and its power.
 const FIRST: usize = 64;
+
 const FIRST_BITS: u32 = 6;
 
 impl Hints {

@@ -227,6 +227,32 @@ fn counts_come_down_to_zero(rt: HostRuntime) -> Result<(), Fail> {
     Ok(())
 }
 
+/// These four choose the same one of the first 64 guesses, so that all but the one told last are looked up by their rows.
+const SHARING: [u64; 4] = [5, 68, 135, 198];
+
+#[test]
+fn serials_that_share_a_guess_keep_their_nodes(rt: HostRuntime) -> Result<(), Fail> {
+    let mut arena = Arena::new(rt.alloc());
+    for serial in SHARING {
+        put(&mut arena, serial, Place::Gen(0))?;
+    }
+    hold(&mut arena, 68);
+    finalize(&mut arena, 135);
+    renumber(&mut arena, 198, 9);
+    assert_eq!(rt; marks_of(&arena, 5), Some((0, 0, false)));
+    assert_eq!(rt; marks_of(&arena, 68), Some((1, 0, false)));
+    assert_eq!(rt; marks_of(&arena, 135), Some((0, 0, true)));
+    assert_eq!(rt; marks_of(&arena, 198), Some((0, 9, false)));
+    // The slot of a node that is gone is another's, and what was guessed of it is wrong.
+    discard(&mut arena, 198);
+    put(&mut arena, 7, Place::Gen(0))?;
+    assert_eq!(rt; marks_of(&arena, 198), None);
+    assert_eq!(rt; marks_of(&arena, 68), Some((1, 0, false)));
+    assert_eq!(rt; parts_of(&arena, 7), Some((None, 7, Place::Gen(0))));
+    assert_eq!(rt; parts_of(&arena, 135), Some((None, 135, Place::Gen(0))));
+    Ok(())
+}
+
 #[test]
 fn a_hundred_thousand_nodes_come_and_go(rt: HostRuntime) -> Result<(), Fail> {
     let mut arena = Arena::new(rt.alloc());
