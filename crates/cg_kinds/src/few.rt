@@ -10,8 +10,8 @@ use cg_value::{Entry, Val};
 use std::alloc::{AllocError, Global};
 use std::marker::Model;
 
-/// So many pairs are at most kept in a list.
-const FEW: usize = 8;
+/// So many pairs are at most kept in a list. A map of less than some 25 takes more than 300 bytes and 64 a pair.
+const FEW: usize = 24;
 
 /// Pairs in the order in which their keys came, no two with one key.
 ///

@@ -19,9 +19,9 @@ mod few;
 mod func;
 mod held;
 mod items;
-mod list;
 #[cfg(test)]
-mod ninth_tests;
+mod limit_tests;
+mod list;
 mod order;
 mod packed;
 mod pairs;

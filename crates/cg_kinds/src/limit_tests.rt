@@ -109,13 +109,13 @@ fn go_over<K: Kind>(rt: &impl Abort, alloc: Global, kind: &mut K, count: i64) ->
 }
 
 #[test]
-fn a_ninth_key_keeps_the_order(rt: HostRuntime) -> Result<(), Fail> {
+fn one_key_too_many_for_a_list_keeps_the_order(rt: HostRuntime) -> Result<(), Fail> {
     let alloc = rt.alloc();
     let mut dicts = DictKind::new(alloc);
-    'counts: for count in 7..=11 {
+    'counts: for count in 23..=27 {
         go_over(&rt, alloc, &mut dicts, count)?;
     }
-    go_over(&rt, alloc, &mut InstKind::new(alloc), 9)
+    go_over(&rt, alloc, &mut InstKind::new(alloc), 25)
 }
 
 /// Steps at random, of a dictionary and of a plain list, over a few more keys than a list takes.
@@ -131,15 +131,15 @@ fn walk<K: Kind>(
 {
     let mut plain = Vec::new(alloc);
     let mut draw = first;
-    'steps: for _ in 0..60 {
+    'steps: for _ in 0..200 {
         draw = next(draw);
         let number = draw >> 20;
         if number % 6 == 0 {
-            take_key_of_both(rt, kind, at, &mut plain, (number / 6 % 12) as i64)?;
+            take_key_of_both(rt, kind, at, &mut plain, (number / 6 % 32) as i64)?;
         } else if number % 6 == 3 {
-            take_both(kind, at, &mut plain, (number / 3 % 12) as usize);
+            take_both(kind, at, &mut plain, (number / 3 % 32) as usize);
         } else {
-            let key = (number / 3 % 12) as i64;
+            let key = (number / 3 % 32) as i64;
             let val = (number % 1000) as i64;
             put_both(rt, alloc, kind, at, &mut plain, key, val)?;
         }
@@ -149,10 +149,10 @@ fn walk<K: Kind>(
 }
 
 #[test]
-fn steps_about_the_ninth_key_are_those_of_a_plain_list(rt: HostRuntime) -> Result<(), Fail> {
+fn steps_about_the_limit_of_a_list_are_those_of_a_plain_list(rt: HostRuntime) -> Result<(), Fail> {
     let alloc = rt.alloc();
     let mut kind = DictKind::new(alloc);
-    'walks: for first in 1..=40 {
+    'walks: for first in 1..=20 {
         let at = make(&mut kind, &[])?;
         walk(&rt, alloc, &mut kind, at, first)?;
     }
