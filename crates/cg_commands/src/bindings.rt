@@ -22,14 +22,14 @@ use cg_value::{Entry, Val};
 #[inline(never)]
 pub(crate) fn bind<B: Kind>(
     heap: &mut Heap<B>,
-    locals: Option<Locals>,
+    locals: &Option<Locals>,
     name: u32,
-    operand: Operand,
+    operand: &Operand,
 ) -> Result<Done, Refusal>
-    requires known { All (λ n. n < length heap.old.names) (name ∷ operand_texts operand) }
-    requires locals { LocalsLive heap.old locals }
+    requires known { All (λ n. n < length heap.old.names) (name ∷ operand_texts operand.now) }
+    requires locals { LocalsLive heap.old locals.now }
     requires few { HasFewHolds heap.old }
-    ensures { PerformsOnHeap heap.old locals (λ w. effect w (command.Bind name operand)) heap.new result }
+    ensures { PerformsOnHeap heap.old locals.now (λ w. effect w (command.Bind name operand.now)) heap.new result }
 {
     let val = value(heap, locals, operand)?;
     bind_to(heap, locals, name, val)
@@ -39,12 +39,12 @@ pub(crate) fn bind<B: Kind>(
 #[inline(never)]
 pub(crate) fn unbind<B: Kind>(
     heap: &mut Heap<B>,
-    locals: Option<Locals>,
+    locals: &Option<Locals>,
     name: u32,
 ) -> Result<Done, Refusal>
     requires known { All (λ n. n < length heap.old.names) (name ∷ []) }
     requires few { HasFewHolds heap.old }
-    ensures { PerformsOnHeap heap.old locals (λ w. effect w (command.Del name)) heap.new result }
+    ensures { PerformsOnHeap heap.old locals.now (λ w. effect w (command.Del name)) heap.new result }
 {
     heap.sound();
     match heap.unbind(name) {
@@ -57,16 +57,17 @@ pub(crate) fn unbind<B: Kind>(
 }
 
 /// Binds a name to a value. What it had is to be given up.
+#[inline(always)]
 pub(crate) fn bind_to<B: Kind>(
     heap: &mut Heap<B>,
-    locals: Option<Locals>,
+    locals: &Option<Locals>,
     name: u32,
     val: Val,
 ) -> Result<Done, Refusal>
     requires name { name < length heap.old.names }
     requires live { IsLiveValue heap.old val }
     requires few { HasFewHolds heap.old }
-    ensures { PerformsOnHeap heap.old locals (λ w. binds w name val) heap.new result }
+    ensures { PerformsOnHeap heap.old locals.now (λ w. binds w name val) heap.new result }
 {
     heap.sound();
     let old = heap.bind(name, val);
@@ -77,6 +78,7 @@ pub(crate) fn bind_to<B: Kind>(
 }
 
 /// An entry with the reference of a value, if there is one.
+#[inline(always)]
 pub(crate) fn given_up(val: Option<Val>) -> Entry
     ensures { entry_references result ≡ references_of_value val }
 {

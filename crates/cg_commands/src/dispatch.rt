@@ -41,6 +41,7 @@ use std::alloc::Global;
 ///
 /// The command is one of a script that some bytes spell, the objects among the locals live, and fewer than 2^63 objects
 /// have been made. Where no collection is running, nothing stands in the places that collections use.
+#[inline(always)]
 pub fn perform<B: Kind>(
     alloc: Global,
     heap: &mut Heap<B>,
@@ -59,65 +60,66 @@ pub fn perform<B: Kind>(
     ensures leaves { IsControl command.now → Leaves heap.old policy.old command.now heap.new policy.new result }
     ensures grows { (w : World) → HeapAndLocalsStandFor heap.old locals w → policy.old ≡ policy_of w → GrowsBy room heap.old heap.new }
 {
-    attempt(alloc, heap, policy, locals, command, room)
+    attempt(alloc, heap, policy, &locals, command, room)
 }
 
 /// Does any command; an object is made only where there is room for it.
 ///
 /// Each command stands in a call of its own that is not inlined, and those that make something or tell the collector something
 /// in one for all of them: the frame of this one would else have the locals of all, and clear them for each command.
+#[inline(always)]
 fn attempt<B: Kind>(
     alloc: Global,
     heap: &mut Heap<B>,
     policy: &mut Policy,
-    locals: Option<Locals>,
+    locals: &Option<Locals>,
     command: &Command,
     room: bool,
 ) -> Result<Done, Refusal>
     requires spelled { IsSpelledCommand (length heap.old.names) command.now }
-    requires locals { LocalsLive heap.old locals }
+    requires locals { LocalsLive heap.old locals.now }
     requires few { HasFewHolds heap.old }
     requires last { heap.old.last < 9223372036854775808 }
     requires bounded { IsBounded (with_one_made policy.old.numbers) }
     requires idle { policy.old.running ≡ false → IsIdle heap.old }
-    ensures { Attempts heap.old policy.old locals room command.now heap.new policy.new result }
+    ensures { Attempts heap.old policy.old locals.now room command.now heap.new policy.new result }
 {
     match command {
-        Command::Bind { name, value } => bind(heap, locals, *name, *value),
+        Command::Bind { name, value } => bind(heap, locals, *name, value),
         Command::Del { name } => unbind(heap, locals, *name),
-        Command::Append { list, value } => append(heap, locals, *list, *value),
+        Command::Append { list, value } => append(heap, locals, list, value),
         Command::SetItem { list, index, value } => set_item(
             heap,
             locals,
-            *list,
+            list,
             number(index),
-            *value,
+            value,
         ),
-        Command::DelItem { list, index } => del_item(heap, locals, *list, number(index)),
-        Command::Put { dict, key, value } => put(heap, locals, *dict, *key, *value),
-        Command::Remove { dict, key } => remove(heap, locals, *dict, *key),
+        Command::DelItem { list, index } => del_item(heap, locals, list, number(index)),
+        Command::Put { dict, key, value } => put(heap, locals, dict, key, value),
+        Command::Remove { dict, key } => remove(heap, locals, dict, key),
         Command::SetAttr {
             object,
             attr,
             value,
-        } => set_attr(heap, locals, *object, *attr, *value),
-        Command::DelAttr { object, attr } => del_attr(heap, locals, *object, *attr),
-        Command::Item { name, list, index } => item(heap, locals, *name, *list, number(index)),
-        Command::Get { name, dict, key } => get(heap, locals, *name, *dict, *key),
+        } => set_attr(heap, locals, object, *attr, value),
+        Command::DelAttr { object, attr } => del_attr(heap, locals, object, *attr),
+        Command::Item { name, list, index } => item(heap, locals, *name, list, number(index)),
+        Command::Get { name, dict, key } => get(heap, locals, *name, dict, key),
         Command::Attr {
             name,
             object,
             attr: named,
-        } => attr(heap, locals, *name, *object, *named),
-        Command::Deref { name, weak } => deref(heap, locals, *name, *weak),
-        Command::Call { func } => call(heap, locals, *func),
-        Command::Quit { value } => quit(heap, locals, *value),
-        Command::Print { value } => print(heap, locals, *value),
-        Command::Refs { value } => refs(heap, locals, *value),
-        Command::Tracked { value } => tracked(heap, locals, *value),
-        Command::Finalized { value } => finalized(heap, locals, *value),
-        Command::Referents { value } => referents(alloc, heap, policy.running(), locals, *value),
-        Command::Referrers { value } => referrers(alloc, heap, policy.running(), locals, *value),
+        } => attr(heap, locals, *name, object, *named),
+        Command::Deref { name, weak } => deref(heap, locals, *name, weak),
+        Command::Call { func } => call(heap, locals, func),
+        Command::Quit { value } => quit(heap, locals, value),
+        Command::Print { value } => print(heap, locals, value),
+        Command::Refs { value } => refs(heap, locals, value),
+        Command::Tracked { value } => tracked(heap, locals, value),
+        Command::Finalized { value } => finalized(heap, locals, value),
+        Command::Referents { value } => referents(alloc, heap, policy.running(), locals, value),
+        Command::Referrers { value } => referrers(alloc, heap, policy.running(), locals, value),
         Command::Why { name } => why(alloc, heap, policy.running(), locals, *name),
         Command::MakeList { .. }
         | Command::MakeTuple { .. }
@@ -142,17 +144,17 @@ fn attempt<B: Kind>(
 fn make<B: Kind>(
     heap: &mut Heap<B>,
     policy: &mut Policy,
-    locals: Option<Locals>,
+    locals: &Option<Locals>,
     command: &Command,
     room: bool,
 ) -> Result<Done, Refusal>
     requires spelled { IsSpelledCommand (length heap.old.names) command.now }
-    requires locals { LocalsLive heap.old locals }
+    requires locals { LocalsLive heap.old locals.now }
     requires few { HasFewHolds heap.old }
     requires last { heap.old.last < 9223372036854775808 }
     requires bounded { IsBounded (with_one_made policy.old.numbers) }
     requires makes { makes_object command.now ≡ true }
-    ensures { Attempts heap.old policy.old locals room command.now heap.new policy.new result }
+    ensures { Attempts heap.old policy.old locals.now room command.now heap.new policy.new result }
 {
     match command {
         Command::MakeList { name, items } => {
@@ -180,7 +182,7 @@ fn make<B: Kind>(
             target,
             callback,
         } => {
-            let made = make_weak(heap, locals, *name, *target, *callback, room);
+            let made = make_weak(heap, locals, *name, target, callback, room);
             count(policy, made)
         }
         _ => unreachable!(),

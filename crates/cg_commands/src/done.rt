@@ -85,6 +85,7 @@ impl Refusal {
 }
 
 /// A change after which nothing is to be given up, with this line, if one is due.
+#[inline(always)]
 pub(crate) fn told(line: Option<Event>) -> Done
     ensures { result ≡ done.Changed line (item val_of.None) }
 {
@@ -98,6 +99,7 @@ pub(crate) fn told(line: Option<Event>) -> Done
 }
 
 /// The refusal that a fault of the heap is.
+#[inline(always)]
 pub(crate) fn refusal_by(fault: HeapFault) -> Refusal
     ensures { result ≡ refusal_by fault }
 {

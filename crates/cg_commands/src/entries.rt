@@ -24,13 +24,13 @@ use cg_value::Val;
 #[inline(never)]
 pub(crate) fn append<B: Kind>(
     heap: &mut Heap<B>,
-    locals: Option<Locals>,
-    list: Operand,
-    operand: Operand,
+    locals: &Option<Locals>,
+    list: &Operand,
+    operand: &Operand,
 ) -> Result<Done, Refusal>
-    requires known { All (λ n. n < length heap.old.names) (operand_texts list ++ operand_texts operand) }
-    requires locals { LocalsLive heap.old locals }
-    ensures { PerformsOnHeap heap.old locals (λ w. effect w (command.Append list operand)) heap.new result }
+    requires known { All (λ n. n < length heap.old.names) (operand_texts list.now ++ operand_texts operand.now) }
+    requires locals { LocalsLive heap.old locals.now }
+    ensures { PerformsOnHeap heap.old locals.now (λ w. effect w (command.Append list.now operand.now)) heap.new result }
 {
     let list = value(heap, locals, list)?;
     let val = value(heap, locals, operand)?;
@@ -47,15 +47,15 @@ pub(crate) fn append<B: Kind>(
 #[inline(never)]
 pub(crate) fn set_item<B: Kind>(
     heap: &mut Heap<B>,
-    locals: Option<Locals>,
-    list: Operand,
+    locals: &Option<Locals>,
+    list: &Operand,
     index: i64,
-    operand: Operand,
+    operand: &Operand,
 ) -> Result<Done, Refusal>
-    requires known { All (λ n. n < length heap.old.names) (operand_texts list ++ operand_texts operand) }
-    requires locals { LocalsLive heap.old locals }
+    requires known { All (λ n. n < length heap.old.names) (operand_texts list.now ++ operand_texts operand.now) }
+    requires locals { LocalsLive heap.old locals.now }
     requires few { HasFewHolds heap.old }
-    ensures { PerformsOnHeap heap.old locals (λ w. effect w (command.SetItem list index operand)) heap.new result }
+    ensures { PerformsOnHeap heap.old locals.now (λ w. effect w (command.SetItem list.now index operand.now)) heap.new result }
 {
     let list = value(heap, locals, list)?;
     let val = value(heap, locals, operand)?;
@@ -73,14 +73,14 @@ pub(crate) fn set_item<B: Kind>(
 #[inline(never)]
 pub(crate) fn del_item<B: Kind>(
     heap: &mut Heap<B>,
-    locals: Option<Locals>,
-    list: Operand,
+    locals: &Option<Locals>,
+    list: &Operand,
     index: i64,
 ) -> Result<Done, Refusal>
-    requires known { All (λ n. n < length heap.old.names) (operand_texts list) }
-    requires locals { LocalsLive heap.old locals }
+    requires known { All (λ n. n < length heap.old.names) (operand_texts list.now) }
+    requires locals { LocalsLive heap.old locals.now }
     requires few { HasFewHolds heap.old }
-    ensures { PerformsOnHeap heap.old locals (λ w. effect w (command.DelItem list index)) heap.new result }
+    ensures { PerformsOnHeap heap.old locals.now (λ w. effect w (command.DelItem list.now index)) heap.new result }
 {
     let list = value(heap, locals, list)?;
     let target = object(heap, list, Wanted::List)?;
@@ -98,16 +98,16 @@ pub(crate) fn del_item<B: Kind>(
 #[inline(never)]
 pub(crate) fn put<B: Kind>(
     heap: &mut Heap<B>,
-    locals: Option<Locals>,
-    dict: Operand,
-    key: Operand,
-    operand: Operand,
+    locals: &Option<Locals>,
+    dict: &Operand,
+    key: &Operand,
+    operand: &Operand,
 ) -> Result<Done, Refusal>
     requires known { All (λ n. n < length heap.old.names)
-        (operand_texts dict ++ operand_texts key ++ operand_texts operand) }
-    requires locals { LocalsLive heap.old locals }
+        (operand_texts dict.now ++ operand_texts key.now ++ operand_texts operand.now) }
+    requires locals { LocalsLive heap.old locals.now }
     requires few { HasFewHolds heap.old }
-    ensures { PerformsOnHeap heap.old locals (λ w. effect w (command.Put dict key operand)) heap.new result }
+    ensures { PerformsOnHeap heap.old locals.now (λ w. effect w (command.Put dict.now key.now operand.now)) heap.new result }
 {
     let dict = value(heap, locals, dict)?;
     let key = value(heap, locals, key)?;
@@ -128,14 +128,14 @@ pub(crate) fn put<B: Kind>(
 #[inline(never)]
 pub(crate) fn remove<B: Kind>(
     heap: &mut Heap<B>,
-    locals: Option<Locals>,
-    dict: Operand,
-    key: Operand,
+    locals: &Option<Locals>,
+    dict: &Operand,
+    key: &Operand,
 ) -> Result<Done, Refusal>
-    requires known { All (λ n. n < length heap.old.names) (operand_texts dict ++ operand_texts key) }
-    requires locals { LocalsLive heap.old locals }
+    requires known { All (λ n. n < length heap.old.names) (operand_texts dict.now ++ operand_texts key.now) }
+    requires locals { LocalsLive heap.old locals.now }
     requires few { HasFewHolds heap.old }
-    ensures { PerformsOnHeap heap.old locals (λ w. effect w (command.Remove dict key)) heap.new result }
+    ensures { PerformsOnHeap heap.old locals.now (λ w. effect w (command.Remove dict.now key.now)) heap.new result }
 {
     let dict = value(heap, locals, dict)?;
     let key = value(heap, locals, key)?;
@@ -158,15 +158,15 @@ pub(crate) fn remove<B: Kind>(
 #[inline(never)]
 pub(crate) fn set_attr<B: Kind>(
     heap: &mut Heap<B>,
-    locals: Option<Locals>,
-    instance: Operand,
+    locals: &Option<Locals>,
+    instance: &Operand,
     attr: u32,
-    operand: Operand,
+    operand: &Operand,
 ) -> Result<Done, Refusal>
-    requires known { All (λ n. n < length heap.old.names) (operand_texts instance ++ attr ∷ operand_texts operand) }
-    requires locals { LocalsLive heap.old locals }
+    requires known { All (λ n. n < length heap.old.names) (operand_texts instance.now ++ attr ∷ operand_texts operand.now) }
+    requires locals { LocalsLive heap.old locals.now }
     requires few { HasFewHolds heap.old }
-    ensures { PerformsOnHeap heap.old locals (λ w. effect w (command.SetAttr instance attr operand)) heap.new result }
+    ensures { PerformsOnHeap heap.old locals.now (λ w. effect w (command.SetAttr instance.now attr operand.now)) heap.new result }
 {
     let instance = value(heap, locals, instance)?;
     let val = value(heap, locals, operand)?;
@@ -183,14 +183,14 @@ pub(crate) fn set_attr<B: Kind>(
 #[inline(never)]
 pub(crate) fn del_attr<B: Kind>(
     heap: &mut Heap<B>,
-    locals: Option<Locals>,
-    instance: Operand,
+    locals: &Option<Locals>,
+    instance: &Operand,
     attr: u32,
 ) -> Result<Done, Refusal>
-    requires known { All (λ n. n < length heap.old.names) (operand_texts instance ++ attr ∷ []) }
-    requires locals { LocalsLive heap.old locals }
+    requires known { All (λ n. n < length heap.old.names) (operand_texts instance.now ++ attr ∷ []) }
+    requires locals { LocalsLive heap.old locals.now }
     requires few { HasFewHolds heap.old }
-    ensures { PerformsOnHeap heap.old locals (λ w. effect w (command.DelAttr instance attr)) heap.new result }
+    ensures { PerformsOnHeap heap.old locals.now (λ w. effect w (command.DelAttr instance.now attr)) heap.new result }
 {
     let instance = value(heap, locals, instance)?;
     let target = object(heap, instance, Wanted::Inst)?;
@@ -205,6 +205,7 @@ pub(crate) fn del_attr<B: Kind>(
 }
 
 /// A change without a line, after which a value is to be given up, if there was one.
+#[inline(always)]
 fn changed(old: Option<Val>) -> Done
     ensures { GivesUp (references_of_value old) result }
 {

@@ -16,14 +16,15 @@ use cg_script::Operand;
 use cg_value::Val;
 
 /// `call f`: a frame of the function's procedure is to start.
+#[inline(never)]
 pub(crate) fn call<B: Kind>(
     heap: &Heap<B>,
-    locals: Option<Locals>,
-    operand: Operand,
+    locals: &Option<Locals>,
+    operand: &Operand,
 ) -> Result<Done, Refusal>
-    requires known { All (λ n. n < length heap.now.names) (operand_texts operand) }
-    requires locals { LocalsLive heap.now locals }
-    ensures { PerformsOnHeap heap.now locals (λ w. effect w (command.Call operand)) heap.now result }
+    requires known { All (λ n. n < length heap.now.names) (operand_texts operand.now) }
+    requires locals { LocalsLive heap.now locals.now }
+    ensures { PerformsOnHeap heap.now locals.now (λ w. effect w (command.Call operand.now)) heap.now result }
 {
     let val = value(heap, locals, operand)?;
     let target = object(heap, val, Wanted::Func)?;
@@ -31,14 +32,15 @@ pub(crate) fn call<B: Kind>(
 }
 
 /// `quit v`: where the value is none, the frame is to end, or the script.
+#[inline(never)]
 pub(crate) fn quit<B: Kind>(
     heap: &Heap<B>,
-    locals: Option<Locals>,
-    operand: Operand,
+    locals: &Option<Locals>,
+    operand: &Operand,
 ) -> Result<Done, Refusal>
-    requires known { All (λ n. n < length heap.now.names) (operand_texts operand) }
-    requires locals { LocalsLive heap.now locals }
-    ensures { PerformsOnHeap heap.now locals (λ w. effect w (command.Quit operand)) heap.now result }
+    requires known { All (λ n. n < length heap.now.names) (operand_texts operand.now) }
+    requires locals { LocalsLive heap.now locals.now }
+    ensures { PerformsOnHeap heap.now locals.now (λ w. effect w (command.Quit operand.now)) heap.now result }
 {
     let val = value(heap, locals, operand)?;
     match val {

@@ -28,13 +28,13 @@ pub(crate) fn referents<B: Kind>(
     alloc: Global,
     heap: &Heap<B>,
     running: bool,
-    locals: Option<Locals>,
-    operand: Operand,
+    locals: &Option<Locals>,
+    operand: &Operand,
 ) -> Result<Done, Refusal>
-    requires known { All (λ n. n < length heap.now.names) (operand_texts operand) }
-    requires locals { LocalsLive heap.now locals }
+    requires known { All (λ n. n < length heap.now.names) (operand_texts operand.now) }
+    requires locals { LocalsLive heap.now locals.now }
     requires idle { running ≡ false → IsIdle heap.now }
-    ensures { Inspects heap.now running locals (λ w. effect w (command.Referents operand)) result }
+    ensures { Inspects heap.now running locals.now (λ w. effect w (command.Referents operand.now)) result }
 {
     let target = inspected(heap, running, locals, operand)?;
     let Ok(objects) = cg_inspect::referents(alloc, heap, target) else {
@@ -52,13 +52,13 @@ pub(crate) fn referrers<B: Kind>(
     alloc: Global,
     heap: &Heap<B>,
     running: bool,
-    locals: Option<Locals>,
-    operand: Operand,
+    locals: &Option<Locals>,
+    operand: &Operand,
 ) -> Result<Done, Refusal>
-    requires known { All (λ n. n < length heap.now.names) (operand_texts operand) }
-    requires locals { LocalsLive heap.now locals }
+    requires known { All (λ n. n < length heap.now.names) (operand_texts operand.now) }
+    requires locals { LocalsLive heap.now locals.now }
     requires idle { running ≡ false → IsIdle heap.now }
-    ensures { Inspects heap.now running locals (λ w. effect w (command.Referrers operand)) result }
+    ensures { Inspects heap.now running locals.now (λ w. effect w (command.Referrers operand.now)) result }
 {
     let target = inspected(heap, running, locals, operand)?;
     let Ok(objects) = cg_inspect::referrers(alloc, heap, target) else {
@@ -76,15 +76,15 @@ pub(crate) fn why<B: Kind>(
     alloc: Global,
     heap: &Heap<B>,
     running: bool,
-    locals: Option<Locals>,
+    locals: &Option<Locals>,
     name: u32,
 ) -> Result<Done, Refusal>
     requires known { name < length heap.now.names }
-    requires locals { LocalsLive heap.now locals }
+    requires locals { LocalsLive heap.now locals.now }
     requires idle { running ≡ false → IsIdle heap.now }
-    ensures { Inspects heap.now running locals (λ w. effect w (command.Why name)) result }
+    ensures { Inspects heap.now running locals.now (λ w. effect w (command.Why name)) result }
 {
-    let target = inspected(heap, running, locals, Operand::Name(name))?;
+    let target = inspected(heap, running, locals, &Operand::Name(name))?;
     let Ok(reason) = cg_inspect::why(alloc, heap, target) else {
         return Err(Refusal::OutOfMemory);
     };
@@ -98,13 +98,13 @@ pub(crate) fn why<B: Kind>(
 fn inspected<B: Kind>(
     heap: &Heap<B>,
     running: bool,
-    locals: Option<Locals>,
-    operand: Operand,
+    locals: &Option<Locals>,
+    operand: &Operand,
 ) -> Result<u64, Refusal>
-    requires known { All (λ n. n < length heap.now.names) (operand_texts operand) }
-    requires locals { LocalsLive heap.now locals }
-    ensures ok { IfOk result (λ o. IsInspected heap.now running locals operand o) }
-    ensures err { IfErr result (λ r. IsNotInspected heap.now running locals operand r) }
+    requires known { All (λ n. n < length heap.now.names) (operand_texts operand.now) }
+    requires locals { LocalsLive heap.now locals.now }
+    ensures ok { IfOk result (λ o. IsInspected heap.now running locals.now operand.now o) }
+    ensures err { IfErr result (λ r. IsNotInspected heap.now running locals.now operand.now r) }
 {
     let val = value(heap, locals, operand)?;
     let target = object(heap, val, Wanted::Any)?;

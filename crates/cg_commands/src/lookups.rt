@@ -26,15 +26,15 @@ use cg_value::Val;
 #[inline(never)]
 pub(crate) fn item<B: Kind>(
     heap: &mut Heap<B>,
-    locals: Option<Locals>,
+    locals: &Option<Locals>,
     name: u32,
-    list: Operand,
+    list: &Operand,
     index: i64,
 ) -> Result<Done, Refusal>
-    requires known { All (λ n. n < length heap.old.names) (name ∷ operand_texts list) }
-    requires locals { LocalsLive heap.old locals }
+    requires known { All (λ n. n < length heap.old.names) (name ∷ operand_texts list.now) }
+    requires locals { LocalsLive heap.old locals.now }
     requires few { HasFewHolds heap.old }
-    ensures { PerformsOnHeap heap.old locals (λ w. effect w (command.Item name list index)) heap.new result }
+    ensures { PerformsOnHeap heap.old locals.now (λ w. effect w (command.Item name list.now index)) heap.new result }
 {
     let val = value(heap, locals, list)?;
     let target = object(heap, val, Wanted::Sequence)?;
@@ -49,15 +49,15 @@ pub(crate) fn item<B: Kind>(
 #[inline(never)]
 pub(crate) fn get<B: Kind>(
     heap: &mut Heap<B>,
-    locals: Option<Locals>,
+    locals: &Option<Locals>,
     name: u32,
-    dict: Operand,
-    key: Operand,
+    dict: &Operand,
+    key: &Operand,
 ) -> Result<Done, Refusal>
-    requires known { All (λ n. n < length heap.old.names) (name ∷ (operand_texts dict ++ operand_texts key)) }
-    requires locals { LocalsLive heap.old locals }
+    requires known { All (λ n. n < length heap.old.names) (name ∷ (operand_texts dict.now ++ operand_texts key.now)) }
+    requires locals { LocalsLive heap.old locals.now }
     requires few { HasFewHolds heap.old }
-    ensures { PerformsOnHeap heap.old locals (λ w. effect w (command.Get name dict key)) heap.new result }
+    ensures { PerformsOnHeap heap.old locals.now (λ w. effect w (command.Get name dict.now key.now)) heap.new result }
 {
     let val = value(heap, locals, dict)?;
     let key = value(heap, locals, key)?;
@@ -77,15 +77,15 @@ pub(crate) fn get<B: Kind>(
 #[inline(never)]
 pub(crate) fn attr<B: Kind>(
     heap: &mut Heap<B>,
-    locals: Option<Locals>,
+    locals: &Option<Locals>,
     name: u32,
-    instance: Operand,
+    instance: &Operand,
     attr: u32,
 ) -> Result<Done, Refusal>
-    requires known { All (λ n. n < length heap.old.names) (name ∷ (operand_texts instance ++ attr ∷ [])) }
-    requires locals { LocalsLive heap.old locals }
+    requires known { All (λ n. n < length heap.old.names) (name ∷ (operand_texts instance.now ++ attr ∷ [])) }
+    requires locals { LocalsLive heap.old locals.now }
     requires few { HasFewHolds heap.old }
-    ensures { PerformsOnHeap heap.old locals (λ w. effect w (command.Attr name instance attr)) heap.new result }
+    ensures { PerformsOnHeap heap.old locals.now (λ w. effect w (command.Attr name instance.now attr)) heap.new result }
 {
     let val = value(heap, locals, instance)?;
     let target = object(heap, val, Wanted::Inst)?;
@@ -101,14 +101,14 @@ pub(crate) fn attr<B: Kind>(
 #[inline(never)]
 pub(crate) fn deref<B: Kind>(
     heap: &mut Heap<B>,
-    locals: Option<Locals>,
+    locals: &Option<Locals>,
     name: u32,
-    weak: Operand,
+    weak: &Operand,
 ) -> Result<Done, Refusal>
-    requires known { All (λ n. n < length heap.old.names) (name ∷ operand_texts weak) }
-    requires locals { LocalsLive heap.old locals }
+    requires known { All (λ n. n < length heap.old.names) (name ∷ operand_texts weak.now) }
+    requires locals { LocalsLive heap.old locals.now }
     requires few { HasFewHolds heap.old }
-    ensures { PerformsOnHeap heap.old locals (λ w. effect w (command.Deref name weak)) heap.new result }
+    ensures { PerformsOnHeap heap.old locals.now (λ w. effect w (command.Deref name weak.now)) heap.new result }
 {
     let val = value(heap, locals, weak)?;
     let target = object(heap, val, Wanted::Weak)?;
@@ -120,6 +120,7 @@ pub(crate) fn deref<B: Kind>(
 }
 
 /// An index below the length.
+#[inline(always)]
 pub(crate) fn index_in<B: Kind>(heap: &Heap<B>, target: u64, index: i64) -> Result<usize, Refusal>
     requires { IsLive heap.now target }
     ensures ok { IfOk result (λ i. valid_index index (length (entries_of heap.now target)) ≡ Some i) }
@@ -139,6 +140,7 @@ pub(crate) fn index_in<B: Kind>(heap: &Heap<B>, target: u64, index: i64) -> Resu
 }
 
 /// Whether a value may be a key: an atom, an instance or a function.
+#[inline(always)]
 pub(crate) fn is_hashable<B: Kind>(heap: &Heap<B>, key: Val) -> bool
     requires { IsLiveValue heap.now key }
     ensures { IsKey heap.now key result }

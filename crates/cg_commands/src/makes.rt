@@ -37,17 +37,17 @@ const FEW: usize = 8;
 /// `x = list v*`: a new list of the values is bound to the name.
 pub(crate) fn make_list<B: Kind>(
     heap: &mut Heap<B>,
-    locals: Option<Locals>,
+    locals: &Option<Locals>,
     name: u32,
     items: &[Operand],
     room: bool,
 ) -> Result<Done, Refusal>
     requires known { All (λ n. n < length heap.old.names) (name ∷ operands_texts items.now) }
     requires count { length items.now ≤ 64 }
-    requires locals { LocalsLive heap.old locals }
+    requires locals { LocalsLive heap.old locals.now }
     requires few { HasFewHolds heap.old }
     requires last { heap.old.last < 9223372036854775808 }
-    ensures performs { PerformsOnHeap heap.old locals (λ w. effect w (command.MakeList name items.now)) heap.new result }
+    ensures performs { PerformsOnHeap heap.old locals.now (λ w. effect w (command.MakeList name items.now)) heap.new result }
     ensures room { OnOk result (room ≡ true) }
 {
     if items.len() <= FEW {
@@ -61,7 +61,7 @@ pub(crate) fn make_list<B: Kind>(
 #[inline(never)]
 fn make_list_within<B: Kind, const N: usize>(
     heap: &mut Heap<B>,
-    locals: Option<Locals>,
+    locals: &Option<Locals>,
     name: u32,
     items: &[Operand],
     room: bool,
@@ -69,10 +69,10 @@ fn make_list_within<B: Kind, const N: usize>(
     requires known { All (λ n. n < length heap.old.names) (name ∷ operands_texts items.now) }
     requires most { N ≤ 64 }
     requires count { length items.now ≤ N }
-    requires locals { LocalsLive heap.old locals }
+    requires locals { LocalsLive heap.old locals.now }
     requires few { HasFewHolds heap.old }
     requires last { heap.old.last < 9223372036854775808 }
-    ensures performs { PerformsOnHeap heap.old locals (λ w. effect w (command.MakeList name items.now)) heap.new result }
+    ensures performs { PerformsOnHeap heap.old locals.now (λ w. effect w (command.MakeList name items.now)) heap.new result }
     ensures room { OnOk result (room ≡ true) }
 {
     let parts = gather::<B, N>(heap, locals, items)?;
@@ -91,17 +91,17 @@ fn make_list_within<B: Kind, const N: usize>(
 /// `x = tuple v v*`: a new tuple.
 pub(crate) fn make_tuple<B: Kind>(
     heap: &mut Heap<B>,
-    locals: Option<Locals>,
+    locals: &Option<Locals>,
     name: u32,
     items: &[Operand],
     room: bool,
 ) -> Result<Done, Refusal>
     requires known { All (λ n. n < length heap.old.names) (name ∷ operands_texts items.now) }
     requires count { length items.now ≤ 64 }
-    requires locals { LocalsLive heap.old locals }
+    requires locals { LocalsLive heap.old locals.now }
     requires few { HasFewHolds heap.old }
     requires last { heap.old.last < 9223372036854775808 }
-    ensures performs { PerformsOnHeap heap.old locals (λ w. effect w (command.MakeTuple name items.now)) heap.new result }
+    ensures performs { PerformsOnHeap heap.old locals.now (λ w. effect w (command.MakeTuple name items.now)) heap.new result }
     ensures room { OnOk result (room ≡ true) }
 {
     if items.len() <= FEW {
@@ -115,7 +115,7 @@ pub(crate) fn make_tuple<B: Kind>(
 #[inline(never)]
 fn make_tuple_within<B: Kind, const N: usize>(
     heap: &mut Heap<B>,
-    locals: Option<Locals>,
+    locals: &Option<Locals>,
     name: u32,
     items: &[Operand],
     room: bool,
@@ -123,10 +123,10 @@ fn make_tuple_within<B: Kind, const N: usize>(
     requires known { All (λ n. n < length heap.old.names) (name ∷ operands_texts items.now) }
     requires most { N ≤ 64 }
     requires count { length items.now ≤ N }
-    requires locals { LocalsLive heap.old locals }
+    requires locals { LocalsLive heap.old locals.now }
     requires few { HasFewHolds heap.old }
     requires last { heap.old.last < 9223372036854775808 }
-    ensures performs { PerformsOnHeap heap.old locals (λ w. effect w (command.MakeTuple name items.now)) heap.new result }
+    ensures performs { PerformsOnHeap heap.old locals.now (λ w. effect w (command.MakeTuple name items.now)) heap.new result }
     ensures room { OnOk result (room ≡ true) }
 {
     let parts = gather::<B, N>(heap, locals, items)?;
@@ -146,14 +146,14 @@ fn make_tuple_within<B: Kind, const N: usize>(
 #[inline(never)]
 pub(crate) fn make_dict<B: Kind>(
     heap: &mut Heap<B>,
-    locals: Option<Locals>,
+    locals: &Option<Locals>,
     name: u32,
     room: bool,
 ) -> Result<Done, Refusal>
     requires known { All (λ n. n < length heap.old.names) (name ∷ []) }
     requires few { HasFewHolds heap.old }
     requires last { heap.old.last < 9223372036854775808 }
-    ensures performs { PerformsOnHeap heap.old locals (λ w. effect w (command.MakeDict name)) heap.new result }
+    ensures performs { PerformsOnHeap heap.old locals.now (λ w. effect w (command.MakeDict name)) heap.new result }
     ensures room { OnOk result (room ≡ true) }
 {
     make_bound(heap, locals, name, KindCode::Dict, None, &[], None, room)
@@ -163,7 +163,7 @@ pub(crate) fn make_dict<B: Kind>(
 #[inline(never)]
 pub(crate) fn make_instance<B: Kind>(
     heap: &mut Heap<B>,
-    locals: Option<Locals>,
+    locals: &Option<Locals>,
     name: u32,
     class: u32,
     room: bool,
@@ -171,7 +171,7 @@ pub(crate) fn make_instance<B: Kind>(
     requires known { All (λ n. n < length heap.old.names) (name ∷ []) }
     requires few { HasFewHolds heap.old }
     requires last { heap.old.last < 9223372036854775808 }
-    ensures performs { PerformsOnHeap heap.old locals (λ w. effect w (command.MakeInst name class)) heap.new result }
+    ensures performs { PerformsOnHeap heap.old locals.now (λ w. effect w (command.MakeInst name class)) heap.new result }
     ensures room { OnOk result (room ≡ true) }
 {
     make_bound(
@@ -190,7 +190,7 @@ pub(crate) fn make_instance<B: Kind>(
 #[inline(never)]
 pub(crate) fn make_function<B: Kind>(
     heap: &mut Heap<B>,
-    locals: Option<Locals>,
+    locals: &Option<Locals>,
     name: u32,
     proc: u32,
     cells: &[Operand],
@@ -198,10 +198,10 @@ pub(crate) fn make_function<B: Kind>(
 ) -> Result<Done, Refusal>
     requires known { All (λ n. n < length heap.old.names) (name ∷ operands_texts cells.now) }
     requires count { length cells.now ≤ 8 }
-    requires locals { LocalsLive heap.old locals }
+    requires locals { LocalsLive heap.old locals.now }
     requires few { HasFewHolds heap.old }
     requires last { heap.old.last < 9223372036854775808 }
-    ensures performs { PerformsOnHeap heap.old locals (λ w. effect w (command.MakeFunc name proc cells.now)) heap.new result }
+    ensures performs { PerformsOnHeap heap.old locals.now (λ w. effect w (command.MakeFunc name proc cells.now)) heap.new result }
     ensures room { OnOk result (room ≡ true) }
 {
     let parts = gather::<B, 8>(heap, locals, cells)?;
@@ -222,18 +222,18 @@ pub(crate) fn make_function<B: Kind>(
 #[inline(never)]
 pub(crate) fn make_weak<B: Kind>(
     heap: &mut Heap<B>,
-    locals: Option<Locals>,
+    locals: &Option<Locals>,
     name: u32,
-    target: Operand,
-    callback: Operand,
+    target: &Operand,
+    callback: &Operand,
     room: bool,
 ) -> Result<Done, Refusal>
     requires known { All (λ n. n < length heap.old.names)
-        (name ∷ (operand_texts target ++ operand_texts callback)) }
-    requires locals { LocalsLive heap.old locals }
+        (name ∷ (operand_texts target.now ++ operand_texts callback.now)) }
+    requires locals { LocalsLive heap.old locals.now }
     requires few { HasFewHolds heap.old }
     requires last { heap.old.last < 9223372036854775808 }
-    ensures performs { PerformsOnHeap heap.old locals (λ w. effect w (command.MakeRef name target callback)) heap.new result }
+    ensures performs { PerformsOnHeap heap.old locals.now (λ w. effect w (command.MakeRef name target.now callback.now)) heap.new result }
     ensures room { OnOk result (room ≡ true) }
 {
     let val = value(heap, locals, target)?;
@@ -255,7 +255,7 @@ pub(crate) fn make_weak<B: Kind>(
 /// Makes an object and binds it to a name. What the name had is to be given up.
 fn make_bound<B: Kind>(
     heap: &mut Heap<B>,
-    locals: Option<Locals>,
+    locals: &Option<Locals>,
     name: u32,
     code: KindCode,
     class: Option<u32>,
@@ -271,7 +271,7 @@ fn make_bound<B: Kind>(
     requires live_referent { IfSome referent (λ s. IsLive heap.old s) }
     requires few { HasFewHolds heap.old }
     requires last { heap.old.last < 9223372036854775808 }
-    ensures performs { PerformsOnHeap heap.old locals (λ w. makes w name code class parts.now referent) heap.new result }
+    ensures performs { PerformsOnHeap heap.old locals.now (λ w. makes w name code class parts.now referent) heap.new result }
     ensures room { OnOk result (room ≡ true) }
 {
     heap.sound();

@@ -38,6 +38,7 @@ pub(crate) enum Wanted {
 
 impl Wanted {
     /// Whether an object of this kind and serial is wanted.
+    #[inline(always)]
     pub(crate) fn admits(self, code: KindCode, object: u64) -> bool
         ensures { result ≡ test_of self (bare code object) }
     {
@@ -52,6 +53,7 @@ impl Wanted {
     }
 
     /// Whether a list is wanted.
+    #[inline(always)]
     fn admits_list(self, object: u64) -> bool
         ensures { result ≡ test_of self (bare code.List object) }
     {
@@ -63,6 +65,7 @@ impl Wanted {
     }
 
     /// Whether an instance is wanted.
+    #[inline(always)]
     fn admits_instance(self, object: u64) -> bool
         ensures { result ≡ test_of self (bare code.Inst object) }
     {
@@ -71,6 +74,7 @@ impl Wanted {
     }
 
     /// Whether a function is wanted.
+    #[inline(always)]
     fn admits_function(self, object: u64) -> bool
         ensures { result ≡ test_of self (bare code.Func object) }
     {
@@ -79,6 +83,7 @@ impl Wanted {
     }
 
     /// Why an object of another kind is refused.
+    #[inline(always)]
     fn refusal(self) -> Refusal
         ensures { result ≡ refusal_of self }
     {
@@ -91,46 +96,58 @@ impl Wanted {
 }
 
 /// The value of an operand. A name that is unbound, and a local that the frame does not have, are refused.
+#[inline(always)]
 pub(crate) fn value<B: Kind>(
     heap: &Heap<B>,
-    locals: Option<Locals>,
-    operand: Operand,
+    locals: &Option<Locals>,
+    operand: &Operand,
 ) -> Result<Val, Refusal>
-    requires known { All (λ n. n < length heap.now.names) (operand_texts operand) }
-    requires locals { LocalsLive heap.now locals }
-    ensures ok { IfOk result (λ v. Reads heap.now locals (λ w. machine.value w operand) v) }
+    requires known { All (λ n. n < length heap.now.names) (operand_texts operand.now) }
+    requires locals { LocalsLive heap.now locals.now }
+    ensures ok { IfOk result (λ v. Reads heap.now locals.now (λ w. machine.value w operand.now) v) }
     ensures live { IfOk result (λ v. IsLiveValue heap.now v) }
-    ensures err { IfErr result (λ r. IsRefused heap.now locals (λ w. machine.value w operand) r) }
+    ensures err { IfErr result (λ r. IsRefused heap.now locals.now (λ w. machine.value w operand.now) r) }
 {
-    match value_of(heap, locals, operand) {
-        Some(value) => Ok(value),
-        None => Err(Refusal::NoName),
+    match operand {
+        // As most operands are. The others stand in a call, so that little is put in place of each call of this one.
+        Operand::Name(name) => {
+            heap.sound();
+            match heap.name(*name) {
+                Some(value) => Ok(value),
+                None => Err(Refusal::NoName),
+            }
+        }
+        _ => match value_of(heap, locals, operand) {
+            Some(value) => Ok(value),
+            None => Err(Refusal::NoName),
+        },
     }
 }
 
 /// The value of an operand, if it has one.
-fn value_of<B: Kind>(heap: &Heap<B>, locals: Option<Locals>, operand: Operand) -> Option<Val>
-    requires known { All (λ n. n < length heap.now.names) (operand_texts operand) }
-    requires locals { LocalsLive heap.now locals }
-    ensures value { ReadsValue heap.now locals operand result }
+#[inline(never)]
+fn value_of<B: Kind>(heap: &Heap<B>, locals: &Option<Locals>, operand: &Operand) -> Option<Val>
+    requires known { All (λ n. n < length heap.now.names) (operand_texts operand.now) }
+    requires locals { LocalsLive heap.now locals.now }
+    ensures value { ReadsValue heap.now locals.now operand.now result }
     ensures live { IfSome result (λ v. IsLiveValue heap.now v) }
 {
     heap.sound();
     match operand {
         Operand::None => Some(Val::None),
-        Operand::Int(number) => Some(Val::Int(number)),
-        Operand::Str(text) => Some(Val::Str(text)),
-        Operand::Name(name) => heap.name(name),
+        Operand::Int(number) => Some(Val::Int(*number)),
+        Operand::Str(text) => Some(Val::Str(*text)),
+        Operand::Name(name) => heap.name(*name),
         Operand::SelfLocal => finalized_in(locals),
         Operand::WeakLocal => weak_in(locals),
-        Operand::Cell(i) => cell_in(heap, locals, i),
+        Operand::Cell(i) => cell_in(heap, locals, *i),
         Operand::Garbage => Some(Val::Ref(1)),
     }
 }
 
 /// The object whose finalizer or legacy finalizer runs.
-fn finalized_in(locals: Option<Locals>) -> Option<Val>
-    ensures { result ≡ option_map val_of.Ref (option_and_then (λ l. machine.self_in l.sort l.subject) locals) }
+fn finalized_in(locals: &Option<Locals>) -> Option<Val>
+    ensures { result ≡ option_map val_of.Ref (option_and_then (λ l. machine.self_in l.sort l.subject) locals.now) }
 {
     let Some(frame) = locals else { return None };
     match frame.sort {
@@ -140,8 +157,8 @@ fn finalized_in(locals: Option<Locals>) -> Option<Val>
 }
 
 /// The weak reference whose callback runs.
-fn weak_in(locals: Option<Locals>) -> Option<Val>
-    ensures { result ≡ option_map val_of.Ref (option_and_then (λ l. machine.weak_in l.sort l.subject) locals) }
+fn weak_in(locals: &Option<Locals>) -> Option<Val>
+    ensures { result ≡ option_map val_of.Ref (option_and_then (λ l. machine.weak_in l.sort l.subject) locals.now) }
 {
     let Some(frame) = locals else { return None };
     match frame.sort {
@@ -151,10 +168,10 @@ fn weak_in(locals: Option<Locals>) -> Option<Val>
 }
 
 /// A cell of the function whose frame runs.
-fn cell_in<B: Kind>(heap: &Heap<B>, locals: Option<Locals>, i: u8) -> Option<Val>
-    requires { LocalsLive heap.now locals }
+fn cell_in<B: Kind>(heap: &Heap<B>, locals: &Option<Locals>, i: u8) -> Option<Val>
+    requires { LocalsLive heap.now locals.now }
     ensures value { result ≡ option_and_then (λ l. option_and_then
-        (λ f. option_map (λ e. e.val) (slice_get (entries_of heap.now f) i)) l.func) locals }
+        (λ f. option_map (λ e. e.val) (slice_get (entries_of heap.now f) i)) l.func) locals.now }
     ensures live { IfSome result (λ v. IsLiveValue heap.now v) }
 {
     heap.sound();
@@ -169,6 +186,7 @@ fn cell_in<B: Kind>(heap: &Heap<B>, locals: Option<Locals>, i: u8) -> Option<Val
 }
 
 /// The object that a value refers to, if it is of the kind.
+#[inline(always)]
 pub(crate) fn object<B: Kind>(heap: &Heap<B>, val: Val, wanted: Wanted) -> Result<u64, Refusal>
     requires { IsLiveValue heap.now val }
     ensures ok { IfOk result (λ o. RefersTo heap.now (test_of wanted) val o) }

@@ -75,18 +75,18 @@ impl<const N: usize> Parts<N> {
 /// The items that the values of operands make, in order. The first operand without a value is refused.
 pub(crate) fn gather<B: Kind, const N: usize>(
     heap: &Heap<B>,
-    locals: Option<Locals>,
+    locals: &Option<Locals>,
     operands: &[Operand],
 ) -> Result<Parts<N>, Refusal>
     requires known { All (λ n. n < length heap.now.names) (operands_texts operands.now) }
-    requires locals { LocalsLive heap.now locals }
+    requires locals { LocalsLive heap.now locals.now }
     requires few { length operands.now ≤ N }
-    ensures ok { IfOk result (λ parts. Gathers heap.now locals operands.now parts) }
-    ensures err { IfErr result (λ r. IsRefused heap.now locals (λ w. machine.values w operands.now) r) }
+    ensures ok { IfOk result (λ parts. Gathers heap.now locals.now operands.now parts) }
+    ensures err { IfErr result (λ r. IsRefused heap.now locals.now (λ w. machine.values w operands.now) r) }
 {
     let mut parts = Parts::new();
     for operand in operands {
-        let val = value(heap, locals, *operand)?;
+        let val = value(heap, locals, operand)?;
         parts.push(val);
     }
     Ok(parts)
@@ -95,12 +95,12 @@ pub(crate) fn gather<B: Kind, const N: usize>(
 /// The entry of a weak reference with this callback: a function, or none for no callback.
 pub(crate) fn callback_parts<B: Kind>(
     heap: &Heap<B>,
-    locals: Option<Locals>,
+    locals: &Option<Locals>,
     callback: Val,
 ) -> Result<Parts<1>, Refusal>
     requires { IsLiveValue heap.now callback }
-    ensures ok { IfOk result (λ parts. IsCallback heap.now locals callback parts) }
-    ensures err { IfErr result (λ r. IsRefused heap.now locals (λ w. callback_entries w callback) r) }
+    ensures ok { IfOk result (λ parts. IsCallback heap.now locals.now callback parts) }
+    ensures err { IfErr result (λ r. IsRefused heap.now locals.now (λ w. callback_entries w callback) r) }
 {
     let mut parts = Parts::new();
     match callback {

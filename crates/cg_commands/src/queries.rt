@@ -21,14 +21,15 @@ use cg_script::Operand;
 use cg_value::{Place, Val};
 
 /// `print v`: the value.
+#[inline(never)]
 pub(crate) fn print<B: Kind>(
     heap: &Heap<B>,
-    locals: Option<Locals>,
-    operand: Operand,
+    locals: &Option<Locals>,
+    operand: &Operand,
 ) -> Result<Done, Refusal>
-    requires known { All (λ n. n < length heap.now.names) (operand_texts operand) }
-    requires locals { LocalsLive heap.now locals }
-    ensures { PerformsOnHeap heap.now locals (λ w. effect w (command.Print operand)) heap.now result }
+    requires known { All (λ n. n < length heap.now.names) (operand_texts operand.now) }
+    requires locals { LocalsLive heap.now locals.now }
+    ensures { PerformsOnHeap heap.now locals.now (λ w. effect w (command.Print operand.now)) heap.now result }
 {
     let val = value(heap, locals, operand)?;
     Ok(told(Some(Event::Value(val))))
@@ -36,14 +37,15 @@ pub(crate) fn print<B: Kind>(
 
 /// `refs v`: the in-degree of an object.
 #[tactic(auto, using(crate::proofs::Reading::refers_live))]
+#[inline(never)]
 pub(crate) fn refs<B: Kind>(
     heap: &Heap<B>,
-    locals: Option<Locals>,
-    operand: Operand,
+    locals: &Option<Locals>,
+    operand: &Operand,
 ) -> Result<Done, Refusal>
-    requires known { All (λ n. n < length heap.now.names) (operand_texts operand) }
-    requires locals { LocalsLive heap.now locals }
-    ensures { PerformsOnHeap heap.now locals (λ w. effect w (command.Refs operand)) heap.now result }
+    requires known { All (λ n. n < length heap.now.names) (operand_texts operand.now) }
+    requires locals { LocalsLive heap.now locals.now }
+    ensures { PerformsOnHeap heap.now locals.now (λ w. effect w (command.Refs operand.now)) heap.now result }
 {
     let val = value(heap, locals, operand)?;
     let target = object(heap, val, Wanted::Any)?;
@@ -52,14 +54,15 @@ pub(crate) fn refs<B: Kind>(
 }
 
 /// `tracked v`: whether the collector has the object.
+#[inline(never)]
 pub(crate) fn tracked<B: Kind>(
     heap: &Heap<B>,
-    locals: Option<Locals>,
-    operand: Operand,
+    locals: &Option<Locals>,
+    operand: &Operand,
 ) -> Result<Done, Refusal>
-    requires known { All (λ n. n < length heap.now.names) (operand_texts operand) }
-    requires locals { LocalsLive heap.now locals }
-    ensures { PerformsOnHeap heap.now locals (λ w. effect w (command.Tracked operand)) heap.now result }
+    requires known { All (λ n. n < length heap.now.names) (operand_texts operand.now) }
+    requires locals { LocalsLive heap.now locals.now }
+    ensures { PerformsOnHeap heap.now locals.now (λ w. effect w (command.Tracked operand.now)) heap.now result }
 {
     let val = value(heap, locals, operand)?;
     let answer = is_tracked(heap, val);
@@ -67,14 +70,15 @@ pub(crate) fn tracked<B: Kind>(
 }
 
 /// `finalized v`: whether the finalizer of the object has been called.
+#[inline(never)]
 pub(crate) fn finalized<B: Kind>(
     heap: &Heap<B>,
-    locals: Option<Locals>,
-    operand: Operand,
+    locals: &Option<Locals>,
+    operand: &Operand,
 ) -> Result<Done, Refusal>
-    requires known { All (λ n. n < length heap.now.names) (operand_texts operand) }
-    requires locals { LocalsLive heap.now locals }
-    ensures { PerformsOnHeap heap.now locals (λ w. effect w (command.Finalized operand)) heap.now result }
+    requires known { All (λ n. n < length heap.now.names) (operand_texts operand.now) }
+    requires locals { LocalsLive heap.now locals.now }
+    ensures { PerformsOnHeap heap.now locals.now (λ w. effect w (command.Finalized operand.now)) heap.now result }
 {
     let val = value(heap, locals, operand)?;
     let answer = is_finalized(heap, val);

@@ -21,20 +21,20 @@ use Rattle.cg_commands.proofs.entries.append.Goals as goal
 pub returns-in_err-list : goal.returns-in_err-list
 returns-in_err-list g c =
     let p = err_from_is_err_and c.from_residual.result c.from_residual.ensures.1 in rw (p.1, p.2)
-    (stops c.args.heap.now c.args.locals (λ w. value w c.args.list) _ c.in_err-list.field-0.0 c.in_err-list.ensures.err)
+    (stops c.args.heap.now c.args.locals.now (λ w. value w c.args.list.now) _ c.in_err-list.field-0.0 c.in_err-list.ensures.err)
 
 pub returns-in_err-val : goal.returns-in_err-val
 returns-in_err-val g c =
     let p = err_from_is_err_and c.from_residual-in_err-val.result c.from_residual-in_err-val.ensures.1 in rw (p.1, p.2)
-    (goes_on c.args.heap.now c.args.heap.now c.args.locals (λ w. value w c.args.list) c.in_ok-list.list _ (Err c.in_err-val.field-0.0) c.in_ok-list.ensures.ok
-    (stops c.args.heap.now c.args.locals (λ w. value w c.args.operand) _ c.in_err-val.field-0.0 c.in_err-val.ensures.err))
+    (goes_on c.args.heap.now c.args.heap.now c.args.locals.now (λ w. value w c.args.list.now) c.in_ok-list.list _ (Err c.in_err-val.field-0.0) c.in_ok-list.ensures.ok
+    (stops c.args.heap.now c.args.locals.now (λ w. value w c.args.operand.now) _ c.in_err-val.field-0.0 c.in_err-val.ensures.err))
 
 pub returns-in_err-target : goal.returns-in_err-target
 returns-in_err-target g c =
     let p = err_from_is_err_and c.from_residual-in_err-target.result c.from_residual-in_err-target.ensures.1 in rw (p.1, p.2)
-    (goes_on c.args.heap.now c.args.heap.now c.args.locals (λ w. value w c.args.list) c.in_ok-list.list _ (Err c.in_err-target.field-0.0) c.in_ok-list.ensures.ok
-    (goes_on c.args.heap.now c.args.heap.now c.args.locals (λ w. value w c.args.operand) c.in_ok-val.val _ (Err c.in_err-target.field-0.0) c.in_ok-val.ensures.ok
-    (stops c.args.heap.now c.args.locals (λ w. object w (test_of wanted.ScriptList) (number_of (refusal_of wanted.ScriptList)) c.in_ok-list.list) _ c.in_err-target.field-0.0 (λ w s. c.in_err-target.ensures.err w s.represents))))
+    (goes_on c.args.heap.now c.args.heap.now c.args.locals.now (λ w. value w c.args.list.now) c.in_ok-list.list _ (Err c.in_err-target.field-0.0) c.in_ok-list.ensures.ok
+    (goes_on c.args.heap.now c.args.heap.now c.args.locals.now (λ w. value w c.args.operand.now) c.in_ok-val.val _ (Err c.in_err-target.field-0.0) c.in_ok-val.ensures.ok
+    (stops c.args.heap.now c.args.locals.now (λ w. object w (test_of wanted.ScriptList) (number_of (refusal_of wanted.ScriptList)) c.in_ok-list.list) _ c.in_err-target.field-0.0 (λ w s. c.in_err-target.ensures.err w s.represents))))
 
 pub append-requires-clause-list : goal.append-requires-clause-list
 append-requires-clause-list g c =
@@ -46,15 +46,15 @@ append-requires-clause-other g c =
 
 pub returns-in-Ok : goal.returns-in-Ok
 returns-in-Ok g c =
-    (goes_on c.args.heap.now c.append.new.self c.args.locals (λ w. value w c.args.list) c.in_ok-list.list _ (Ok c.changed.result) c.in_ok-list.ensures.ok
-    (goes_on c.args.heap.now c.append.new.self c.args.locals (λ w. value w c.args.operand) c.in_ok-val.val _ (Ok c.changed.result) c.in_ok-val.ensures.ok
-    (goes_on c.args.heap.now c.append.new.self c.args.locals (λ w. object w (test_of wanted.ScriptList) (number_of (refusal_of wanted.ScriptList)) c.in_ok-list.list) (object_from c.args.heap.now.rows c.in_ok-target.target c.in_ok-target.ensures.ok.node) _ (Ok c.changed.result) (reads-object c.args.heap.now c.args.locals (test_of wanted.ScriptList) c.in_ok-list.list c.in_ok-target.target c.in_ok-target.ensures.ok (number_of (refusal_of wanted.ScriptList)))
-    (appends c.args.heap.now c.sound.ensures c.args.locals (test_of wanted.ScriptList) c.in_ok-list.list c.in_ok-target.target c.in_ok-target.ensures.ok _ c.in_ok-val.val c.changed.result c.append.new.self c.in-Ok.ensures.ok c.changed.ensures c.in-Ok.ensures.limit))))
+    (goes_on c.args.heap.now c.append.new.self c.args.locals.now (λ w. value w c.args.list.now) c.in_ok-list.list _ (Ok c.changed.result) c.in_ok-list.ensures.ok
+    (goes_on c.args.heap.now c.append.new.self c.args.locals.now (λ w. value w c.args.operand.now) c.in_ok-val.val _ (Ok c.changed.result) c.in_ok-val.ensures.ok
+    (goes_on c.args.heap.now c.append.new.self c.args.locals.now (λ w. object w (test_of wanted.ScriptList) (number_of (refusal_of wanted.ScriptList)) c.in_ok-list.list) (object_from c.args.heap.now.rows c.in_ok-target.target c.in_ok-target.ensures.ok.node) _ (Ok c.changed.result) (reads-object c.args.heap.now c.args.locals.now (test_of wanted.ScriptList) c.in_ok-list.list c.in_ok-target.target c.in_ok-target.ensures.ok (number_of (refusal_of wanted.ScriptList)))
+    (appends c.args.heap.now c.sound.ensures c.args.locals.now (test_of wanted.ScriptList) c.in_ok-list.list c.in_ok-target.target c.in_ok-target.ensures.ok _ c.in_ok-val.val c.changed.result c.append.new.self c.in-Ok.ensures.ok c.changed.ensures c.in-Ok.ensures.limit))))
 
 pub returns-in-Err : goal.returns-in-Err
 returns-in-Err g c =
-    subst (λ r. PerformsOnHeap c.args.heap.now c.args.locals (λ w. effect w (command.Append c.args.list c.args.operand)) c.append.new.self (Err r)) (sym c.refusal_by.ensures)
-    (goes_on c.args.heap.now c.append.new.self c.args.locals (λ w. value w c.args.list) c.in_ok-list.list _ (Err _) c.in_ok-list.ensures.ok
-    (goes_on c.args.heap.now c.append.new.self c.args.locals (λ w. value w c.args.operand) c.in_ok-val.val _ (Err _) c.in_ok-val.ensures.ok
-    (goes_on c.args.heap.now c.append.new.self c.args.locals (λ w. object w (test_of wanted.ScriptList) (number_of (refusal_of wanted.ScriptList)) c.in_ok-list.list) (object_from c.args.heap.now.rows c.in_ok-target.target c.in_ok-target.ensures.ok.node) _ (Err _) (reads-object c.args.heap.now c.args.locals (test_of wanted.ScriptList) c.in_ok-list.list c.in_ok-target.target c.in_ok-target.ensures.ok (number_of (refusal_of wanted.ScriptList)))
-    (fault-refused c.args.heap.now c.args.locals c.in-Err.fault [] [] (λ w. with_change (with_entries (c.in_ok-target.ensures.ok.node.entries ++ item c.in_ok-val.val ∷ [])) c.in_ok-target.target w) (Err c.in-Err.fault) refl c.in-Err.ensures.limit c.in-Err.ensures.objects c.append.new.self c.in-Err.ensures.err))))
+    subst (λ r. PerformsOnHeap c.args.heap.now c.args.locals.now (λ w. effect w (command.Append c.args.list.now c.args.operand.now)) c.append.new.self (Err r)) (sym c.refusal_by.ensures)
+    (goes_on c.args.heap.now c.append.new.self c.args.locals.now (λ w. value w c.args.list.now) c.in_ok-list.list _ (Err _) c.in_ok-list.ensures.ok
+    (goes_on c.args.heap.now c.append.new.self c.args.locals.now (λ w. value w c.args.operand.now) c.in_ok-val.val _ (Err _) c.in_ok-val.ensures.ok
+    (goes_on c.args.heap.now c.append.new.self c.args.locals.now (λ w. object w (test_of wanted.ScriptList) (number_of (refusal_of wanted.ScriptList)) c.in_ok-list.list) (object_from c.args.heap.now.rows c.in_ok-target.target c.in_ok-target.ensures.ok.node) _ (Err _) (reads-object c.args.heap.now c.args.locals.now (test_of wanted.ScriptList) c.in_ok-list.list c.in_ok-target.target c.in_ok-target.ensures.ok (number_of (refusal_of wanted.ScriptList)))
+    (fault-refused c.args.heap.now c.args.locals.now c.in-Err.fault [] [] (λ w. with_change (with_entries (c.in_ok-target.ensures.ok.node.entries ++ item c.in_ok-val.val ∷ [])) c.in_ok-target.target w) (Err c.in-Err.fault) refl c.in-Err.ensures.limit c.in-Err.ensures.objects c.append.new.self c.in-Err.ensures.err))))

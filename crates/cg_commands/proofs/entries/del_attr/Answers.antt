@@ -19,13 +19,13 @@ use Rattle.cg_commands.proofs.entries.del_attr.Goals as goal
 pub returns-in_err-instance : goal.returns-in_err-instance
 returns-in_err-instance g c =
     let p = err_from_is_err_and c.from_residual.result c.from_residual.ensures.1 in rw (p.1, p.2)
-    (stops c.args.heap.now c.args.locals (λ w. value w c.args.instance) _ c.in_err-instance.field-0.0 c.in_err-instance.ensures.err)
+    (stops c.args.heap.now c.args.locals.now (λ w. value w c.args.instance.now) _ c.in_err-instance.field-0.0 c.in_err-instance.ensures.err)
 
 pub returns-in_err-target : goal.returns-in_err-target
 returns-in_err-target g c =
     let p = err_from_is_err_and c.from_residual-in_err-target.result c.from_residual-in_err-target.ensures.1 in rw (p.1, p.2)
-    (goes_on c.args.heap.now c.args.heap.now c.args.locals (λ w. value w c.args.instance) c.in_ok-instance.instance _ (Err c.in_err-target.field-0.0) c.in_ok-instance.ensures.ok
-    (stops c.args.heap.now c.args.locals (λ w. object w (test_of wanted.Inst) (number_of (refusal_of wanted.Inst)) c.in_ok-instance.instance) _ c.in_err-target.field-0.0 (λ w s. c.in_err-target.ensures.err w s.represents)))
+    (goes_on c.args.heap.now c.args.heap.now c.args.locals.now (λ w. value w c.args.instance.now) c.in_ok-instance.instance _ (Err c.in_err-target.field-0.0) c.in_ok-instance.ensures.ok
+    (stops c.args.heap.now c.args.locals.now (λ w. object w (test_of wanted.Inst) (number_of (refusal_of wanted.Inst)) c.in_ok-instance.instance) _ c.in_err-target.field-0.0 (λ w s. c.in_err-target.ensures.err w s.represents)))
 
 pub take_key-requires-clause-can : goal.take_key-requires-clause-can
 take_key-requires-clause-can g c =
@@ -33,14 +33,14 @@ take_key-requires-clause-can g c =
 
 pub returns-in-Some : goal.returns-in-Some
 returns-in-Some g c =
-    (goes_on c.args.heap.now c.take_key.new.self c.args.locals (λ w. value w c.args.instance) c.in_ok-instance.instance _ (Ok (done.Changed None c.in-Some.entry)) c.in_ok-instance.ensures.ok
-    (goes_on c.args.heap.now c.take_key.new.self c.args.locals (λ w. object w (test_of wanted.Inst) (number_of (refusal_of wanted.Inst)) c.in_ok-instance.instance) (object_from c.args.heap.now.rows c.in_ok-target.target c.in_ok-target.ensures.ok.node) _ (Ok (done.Changed None c.in-Some.entry)) (reads-object c.args.heap.now c.args.locals (test_of wanted.Inst) c.in_ok-instance.instance c.in_ok-target.target c.in_ok-target.ensures.ok (number_of (refusal_of wanted.Inst)))
-    (goes_on c.args.heap.now c.take_key.new.self c.args.locals (λ w. ok_or (entry_at c.in_ok-target.ensures.ok.node.entries (val.Str c.args.attr)) no_attribute) c.in-Some.entry _ (Ok (done.Changed None c.in-Some.entry)) (reads-entry_at c.args.heap.now c.args.locals (test_of wanted.Inst) c.in_ok-instance.instance c.in_ok-target.target c.in_ok-target.ensures.ok (val.Str c.args.attr) c.in-Some.entry c.in-Some.ensures.entry no_attribute)
-    (takes_key c.args.heap.now c.sound.ensures c.args.locals (test_of wanted.Inst) c.in_ok-instance.instance c.in_ok-target.target c.in_ok-target.ensures.ok (val.Str c.args.attr) c.in-Some.entry c.take_key.new.self c.in-Some.ensures.entry c.in-Some.ensures.rest))))
+    (goes_on c.args.heap.now c.take_key.new.self c.args.locals.now (λ w. value w c.args.instance.now) c.in_ok-instance.instance _ (Ok (done.Changed None c.in-Some.entry)) c.in_ok-instance.ensures.ok
+    (goes_on c.args.heap.now c.take_key.new.self c.args.locals.now (λ w. object w (test_of wanted.Inst) (number_of (refusal_of wanted.Inst)) c.in_ok-instance.instance) (object_from c.args.heap.now.rows c.in_ok-target.target c.in_ok-target.ensures.ok.node) _ (Ok (done.Changed None c.in-Some.entry)) (reads-object c.args.heap.now c.args.locals.now (test_of wanted.Inst) c.in_ok-instance.instance c.in_ok-target.target c.in_ok-target.ensures.ok (number_of (refusal_of wanted.Inst)))
+    (goes_on c.args.heap.now c.take_key.new.self c.args.locals.now (λ w. ok_or (entry_at c.in_ok-target.ensures.ok.node.entries (val.Str c.args.attr)) no_attribute) c.in-Some.entry _ (Ok (done.Changed None c.in-Some.entry)) (reads-entry_at c.args.heap.now c.args.locals.now (test_of wanted.Inst) c.in_ok-instance.instance c.in_ok-target.target c.in_ok-target.ensures.ok (val.Str c.args.attr) c.in-Some.entry c.in-Some.ensures.entry no_attribute)
+    (takes_key c.args.heap.now c.sound.ensures c.args.locals.now (test_of wanted.Inst) c.in_ok-instance.instance c.in_ok-target.target c.in_ok-target.ensures.ok (val.Str c.args.attr) c.in-Some.entry c.take_key.new.self c.in-Some.ensures.entry c.in-Some.ensures.rest))))
 
 pub returns-in-None : goal.returns-in-None
 returns-in-None g c =
     rw (c.in-None.ensures.none)
-    (goes_on c.args.heap.now c.args.heap.now c.args.locals (λ w. value w c.args.instance) c.in_ok-instance.instance _ (Err refusal.NoAttribute) c.in_ok-instance.ensures.ok
-    (goes_on c.args.heap.now c.args.heap.now c.args.locals (λ w. object w (test_of wanted.Inst) (number_of (refusal_of wanted.Inst)) c.in_ok-instance.instance) (object_from c.args.heap.now.rows c.in_ok-target.target c.in_ok-target.ensures.ok.node) _ (Err refusal.NoAttribute) (reads-object c.args.heap.now c.args.locals (test_of wanted.Inst) c.in_ok-instance.instance c.in_ok-target.target c.in_ok-target.ensures.ok (number_of (refusal_of wanted.Inst)))
-    (stops c.args.heap.now c.args.locals (λ w. ok_or (entry_at c.in_ok-target.ensures.ok.node.entries (val.Str c.args.attr)) no_attribute) _ refusal.NoAttribute (no-entry_at c.args.heap.now c.args.locals (test_of wanted.Inst) c.in_ok-instance.instance c.in_ok-target.target c.in_ok-target.ensures.ok (val.Str c.args.attr) c.in-None.ensures.entry no_attribute))))
+    (goes_on c.args.heap.now c.args.heap.now c.args.locals.now (λ w. value w c.args.instance.now) c.in_ok-instance.instance _ (Err refusal.NoAttribute) c.in_ok-instance.ensures.ok
+    (goes_on c.args.heap.now c.args.heap.now c.args.locals.now (λ w. object w (test_of wanted.Inst) (number_of (refusal_of wanted.Inst)) c.in_ok-instance.instance) (object_from c.args.heap.now.rows c.in_ok-target.target c.in_ok-target.ensures.ok.node) _ (Err refusal.NoAttribute) (reads-object c.args.heap.now c.args.locals.now (test_of wanted.Inst) c.in_ok-instance.instance c.in_ok-target.target c.in_ok-target.ensures.ok (number_of (refusal_of wanted.Inst)))
+    (stops c.args.heap.now c.args.locals.now (λ w. ok_or (entry_at c.in_ok-target.ensures.ok.node.entries (val.Str c.args.attr)) no_attribute) _ refusal.NoAttribute (no-entry_at c.args.heap.now c.args.locals.now (test_of wanted.Inst) c.in_ok-instance.instance c.in_ok-target.target c.in_ok-target.ensures.ok (val.Str c.args.attr) c.in-None.ensures.entry no_attribute))))

@@ -26,48 +26,48 @@ use Rattle.cg_commands.proofs.entries.put.Goals as goal
 pub returns-in_err-dict : goal.returns-in_err-dict
 returns-in_err-dict g c =
     let p = err_from_is_err_and c.from_residual.result c.from_residual.ensures.1 in rw (p.1, p.2)
-    (stops c.args.heap.now c.args.locals (λ w. value w c.args.dict) _ c.in_err-dict.field-0.0 c.in_err-dict.ensures.err)
+    (stops c.args.heap.now c.args.locals.now (λ w. value w c.args.dict.now) _ c.in_err-dict.field-0.0 c.in_err-dict.ensures.err)
 
 pub returns-in_err-key : goal.returns-in_err-key
 returns-in_err-key g c =
     let p = err_from_is_err_and c.from_residual-in_err-key.result c.from_residual-in_err-key.ensures.1 in rw (p.1, p.2)
-    (goes_on c.args.heap.now c.args.heap.now c.args.locals (λ w. value w c.args.dict) c.in_ok-dict.dict _ (Err c.in_err-key.field-0.0) c.in_ok-dict.ensures.ok
-    (stops c.args.heap.now c.args.locals (λ w. value w c.args.key) _ c.in_err-key.field-0.0 c.in_err-key.ensures.err))
+    (goes_on c.args.heap.now c.args.heap.now c.args.locals.now (λ w. value w c.args.dict.now) c.in_ok-dict.dict _ (Err c.in_err-key.field-0.0) c.in_ok-dict.ensures.ok
+    (stops c.args.heap.now c.args.locals.now (λ w. value w c.args.key.now) _ c.in_err-key.field-0.0 c.in_err-key.ensures.err))
 
 pub returns-in_err-val : goal.returns-in_err-val
 returns-in_err-val g c =
     let p = err_from_is_err_and c.from_residual-in_err-val.result c.from_residual-in_err-val.ensures.1 in rw (p.1, p.2)
-    (goes_on c.args.heap.now c.args.heap.now c.args.locals (λ w. value w c.args.dict) c.in_ok-dict.dict _ (Err c.in_err-val.field-0.0) c.in_ok-dict.ensures.ok
-    (goes_on c.args.heap.now c.args.heap.now c.args.locals (λ w. value w c.args.key) c.in_ok-key.key _ (Err c.in_err-val.field-0.0) c.in_ok-key.ensures.ok
-    (stops c.args.heap.now c.args.locals (λ w. value w c.args.operand) _ c.in_err-val.field-0.0 c.in_err-val.ensures.err)))
+    (goes_on c.args.heap.now c.args.heap.now c.args.locals.now (λ w. value w c.args.dict.now) c.in_ok-dict.dict _ (Err c.in_err-val.field-0.0) c.in_ok-dict.ensures.ok
+    (goes_on c.args.heap.now c.args.heap.now c.args.locals.now (λ w. value w c.args.key.now) c.in_ok-key.key _ (Err c.in_err-val.field-0.0) c.in_ok-key.ensures.ok
+    (stops c.args.heap.now c.args.locals.now (λ w. value w c.args.operand.now) _ c.in_err-val.field-0.0 c.in_err-val.ensures.err)))
 
 pub returns-in_err-target : goal.returns-in_err-target
 returns-in_err-target g c =
     let p = err_from_is_err_and c.from_residual-in_err-target.result c.from_residual-in_err-target.ensures.1 in rw (p.1, p.2)
-    (goes_on c.args.heap.now c.args.heap.now c.args.locals (λ w. value w c.args.dict) c.in_ok-dict.dict _ (Err c.in_err-target.field-0.0) c.in_ok-dict.ensures.ok
-    (goes_on c.args.heap.now c.args.heap.now c.args.locals (λ w. value w c.args.key) c.in_ok-key.key _ (Err c.in_err-target.field-0.0) c.in_ok-key.ensures.ok
-    (goes_on c.args.heap.now c.args.heap.now c.args.locals (λ w. value w c.args.operand) c.in_ok-val.val _ (Err c.in_err-target.field-0.0) c.in_ok-val.ensures.ok
-    (stops c.args.heap.now c.args.locals (λ w. object w (test_of wanted.Dict) (number_of (refusal_of wanted.Dict)) c.in_ok-dict.dict) _ c.in_err-target.field-0.0 (λ w s. c.in_err-target.ensures.err w s.represents)))))
+    (goes_on c.args.heap.now c.args.heap.now c.args.locals.now (λ w. value w c.args.dict.now) c.in_ok-dict.dict _ (Err c.in_err-target.field-0.0) c.in_ok-dict.ensures.ok
+    (goes_on c.args.heap.now c.args.heap.now c.args.locals.now (λ w. value w c.args.key.now) c.in_ok-key.key _ (Err c.in_err-target.field-0.0) c.in_ok-key.ensures.ok
+    (goes_on c.args.heap.now c.args.heap.now c.args.locals.now (λ w. value w c.args.operand.now) c.in_ok-val.val _ (Err c.in_err-target.field-0.0) c.in_ok-val.ensures.ok
+    (stops c.args.heap.now c.args.locals.now (λ w. object w (test_of wanted.Dict) (number_of (refusal_of wanted.Dict)) c.in_ok-dict.dict) _ c.in_err-target.field-0.0 (λ w s. c.in_err-target.ensures.err w s.represents)))))
 
 pub returns-then-not-is_hashable : goal.returns-then-not-is_hashable
 returns-then-not-is_hashable g c =
-    (goes_on c.args.heap.now c.args.heap.now c.args.locals (λ w. value w c.args.dict) c.in_ok-dict.dict _ (Err refusal.Unhashable) c.in_ok-dict.ensures.ok
-    (goes_on c.args.heap.now c.args.heap.now c.args.locals (λ w. value w c.args.key) c.in_ok-key.key _ (Err refusal.Unhashable) c.in_ok-key.ensures.ok
-    (goes_on c.args.heap.now c.args.heap.now c.args.locals (λ w. value w c.args.operand) c.in_ok-val.val _ (Err refusal.Unhashable) c.in_ok-val.ensures.ok
-    (goes_on c.args.heap.now c.args.heap.now c.args.locals (λ w. object w (test_of wanted.Dict) (number_of (refusal_of wanted.Dict)) c.in_ok-dict.dict) (object_from c.args.heap.now.rows c.in_ok-target.target c.in_ok-target.ensures.ok.node) _ (Err refusal.Unhashable) (reads-object c.args.heap.now c.args.locals (test_of wanted.Dict) c.in_ok-dict.dict c.in_ok-target.target c.in_ok-target.ensures.ok (number_of (refusal_of wanted.Dict)))
-    (stops c.args.heap.now c.args.locals (λ w. unless (is_hashable w c.in_ok-key.key) unhashable) _ refusal.Unhashable (no-hash c.args.heap.now c.args.locals c.in_ok-key.key c.is_hashable.result c.is_hashable.ensures c.if-not-is_hashable.true))))))
+    (goes_on c.args.heap.now c.args.heap.now c.args.locals.now (λ w. value w c.args.dict.now) c.in_ok-dict.dict _ (Err refusal.Unhashable) c.in_ok-dict.ensures.ok
+    (goes_on c.args.heap.now c.args.heap.now c.args.locals.now (λ w. value w c.args.key.now) c.in_ok-key.key _ (Err refusal.Unhashable) c.in_ok-key.ensures.ok
+    (goes_on c.args.heap.now c.args.heap.now c.args.locals.now (λ w. value w c.args.operand.now) c.in_ok-val.val _ (Err refusal.Unhashable) c.in_ok-val.ensures.ok
+    (goes_on c.args.heap.now c.args.heap.now c.args.locals.now (λ w. object w (test_of wanted.Dict) (number_of (refusal_of wanted.Dict)) c.in_ok-dict.dict) (object_from c.args.heap.now.rows c.in_ok-target.target c.in_ok-target.ensures.ok.node) _ (Err refusal.Unhashable) (reads-object c.args.heap.now c.args.locals.now (test_of wanted.Dict) c.in_ok-dict.dict c.in_ok-target.target c.in_ok-target.ensures.ok (number_of (refusal_of wanted.Dict)))
+    (stops c.args.heap.now c.args.locals.now (λ w. unless (is_hashable w c.in_ok-key.key) unhashable) _ refusal.Unhashable (no-hash c.args.heap.now c.args.locals.now c.in_ok-key.key c.is_hashable.result c.is_hashable.ensures c.if-not-is_hashable.true))))))
 
 pub value-requires-clause-known : goal.value-requires-clause-known
 value-requires-clause-known g c =
-    all_left (λ n. n < length c.args.heap.now.names) (operand_texts c.args.dict) (operand_texts c.args.key) (all_left (λ n. n < length c.args.heap.now.names) (operand_texts c.args.dict ++ operand_texts c.args.key) (operand_texts c.args.operand) c.requires.known)
+    all_left (λ n. n < length c.args.heap.now.names) (operand_texts c.args.dict.now) (operand_texts c.args.key.now) (all_left (λ n. n < length c.args.heap.now.names) (operand_texts c.args.dict.now ++ operand_texts c.args.key.now) (operand_texts c.args.operand.now) c.requires.known)
 
 pub value-requires-2-clause-known : goal.value-requires-2-clause-known
 value-requires-2-clause-known g c =
-    all_right (λ n. n < length c.args.heap.now.names) (operand_texts c.args.dict) (operand_texts c.args.key) (all_left (λ n. n < length c.args.heap.now.names) (operand_texts c.args.dict ++ operand_texts c.args.key) (operand_texts c.args.operand) c.requires.known)
+    all_right (λ n. n < length c.args.heap.now.names) (operand_texts c.args.dict.now) (operand_texts c.args.key.now) (all_left (λ n. n < length c.args.heap.now.names) (operand_texts c.args.dict.now ++ operand_texts c.args.key.now) (operand_texts c.args.operand.now) c.requires.known)
 
 pub value-requires-3-clause-known : goal.value-requires-3-clause-known
 value-requires-3-clause-known g c =
-    all_right (λ n. n < length c.args.heap.now.names) (operand_texts c.args.dict ++ operand_texts c.args.key) (operand_texts c.args.operand) c.requires.known
+    all_right (λ n. n < length c.args.heap.now.names) (operand_texts c.args.dict.now ++ operand_texts c.args.key.now) (operand_texts c.args.operand.now) c.requires.known
 
 pub put-requires-clause-other : goal.put-requires-clause-other
 put-requires-clause-other g c =
@@ -79,19 +79,19 @@ put-requires-clause-can g c =
 
 pub returns-in-Ok : goal.returns-in-Ok
 returns-in-Ok g c =
-    (goes_on c.args.heap.now c.put.new.self c.args.locals (λ w. value w c.args.dict) c.in_ok-dict.dict _ (Ok c.changed.result) c.in_ok-dict.ensures.ok
-    (goes_on c.args.heap.now c.put.new.self c.args.locals (λ w. value w c.args.key) c.in_ok-key.key _ (Ok c.changed.result) c.in_ok-key.ensures.ok
-    (goes_on c.args.heap.now c.put.new.self c.args.locals (λ w. value w c.args.operand) c.in_ok-val.val _ (Ok c.changed.result) c.in_ok-val.ensures.ok
-    (goes_on c.args.heap.now c.put.new.self c.args.locals (λ w. object w (test_of wanted.Dict) (number_of (refusal_of wanted.Dict)) c.in_ok-dict.dict) (object_from c.args.heap.now.rows c.in_ok-target.target c.in_ok-target.ensures.ok.node) _ (Ok c.changed.result) (reads-object c.args.heap.now c.args.locals (test_of wanted.Dict) c.in_ok-dict.dict c.in_ok-target.target c.in_ok-target.ensures.ok (number_of (refusal_of wanted.Dict)))
-    (goes_on c.args.heap.now c.put.new.self c.args.locals (λ w. unless (is_hashable w c.in_ok-key.key) unhashable) tt _ (Ok c.changed.result) (reads-key c.args.heap.now c.args.locals c.in_ok-key.key c.is_hashable.result c.is_hashable.ensures c.if-not-is_hashable.false)
-    (puts-performs c.args.heap.now c.sound.ensures c.args.locals (test_of wanted.Dict) c.in_ok-dict.dict c.in_ok-target.target c.in_ok-target.ensures.ok (inl (code_passes c.args.heap.now wanted.Dict tt c.in_ok-dict.dict c.in_ok-target.target c.in_ok-target.ensures.ok)) c.in_ok-key.key c.in_ok-val.val c.in-Ok.old c.changed.result c.put.new.self c.in-Ok.ensures.ok c.in-Ok.ensures.replaced c.changed.ensures c.in-Ok.ensures.limit))))))
+    (goes_on c.args.heap.now c.put.new.self c.args.locals.now (λ w. value w c.args.dict.now) c.in_ok-dict.dict _ (Ok c.changed.result) c.in_ok-dict.ensures.ok
+    (goes_on c.args.heap.now c.put.new.self c.args.locals.now (λ w. value w c.args.key.now) c.in_ok-key.key _ (Ok c.changed.result) c.in_ok-key.ensures.ok
+    (goes_on c.args.heap.now c.put.new.self c.args.locals.now (λ w. value w c.args.operand.now) c.in_ok-val.val _ (Ok c.changed.result) c.in_ok-val.ensures.ok
+    (goes_on c.args.heap.now c.put.new.self c.args.locals.now (λ w. object w (test_of wanted.Dict) (number_of (refusal_of wanted.Dict)) c.in_ok-dict.dict) (object_from c.args.heap.now.rows c.in_ok-target.target c.in_ok-target.ensures.ok.node) _ (Ok c.changed.result) (reads-object c.args.heap.now c.args.locals.now (test_of wanted.Dict) c.in_ok-dict.dict c.in_ok-target.target c.in_ok-target.ensures.ok (number_of (refusal_of wanted.Dict)))
+    (goes_on c.args.heap.now c.put.new.self c.args.locals.now (λ w. unless (is_hashable w c.in_ok-key.key) unhashable) tt _ (Ok c.changed.result) (reads-key c.args.heap.now c.args.locals.now c.in_ok-key.key c.is_hashable.result c.is_hashable.ensures c.if-not-is_hashable.false)
+    (puts-performs c.args.heap.now c.sound.ensures c.args.locals.now (test_of wanted.Dict) c.in_ok-dict.dict c.in_ok-target.target c.in_ok-target.ensures.ok (inl (code_passes c.args.heap.now wanted.Dict tt c.in_ok-dict.dict c.in_ok-target.target c.in_ok-target.ensures.ok)) c.in_ok-key.key c.in_ok-val.val c.in-Ok.old c.changed.result c.put.new.self c.in-Ok.ensures.ok c.in-Ok.ensures.replaced c.changed.ensures c.in-Ok.ensures.limit))))))
 
 pub returns-in-Err : goal.returns-in-Err
 returns-in-Err g c =
-    subst (λ r. PerformsOnHeap c.args.heap.now c.args.locals (λ w. effect w (command.Put c.args.dict c.args.key c.args.operand)) c.put.new.self (Err r)) (sym c.refusal_by.ensures)
-    (goes_on c.args.heap.now c.put.new.self c.args.locals (λ w. value w c.args.dict) c.in_ok-dict.dict _ (Err (refusal_by c.in-Err.fault)) c.in_ok-dict.ensures.ok
-    (goes_on c.args.heap.now c.put.new.self c.args.locals (λ w. value w c.args.key) c.in_ok-key.key _ (Err (refusal_by c.in-Err.fault)) c.in_ok-key.ensures.ok
-    (goes_on c.args.heap.now c.put.new.self c.args.locals (λ w. value w c.args.operand) c.in_ok-val.val _ (Err (refusal_by c.in-Err.fault)) c.in_ok-val.ensures.ok
-    (goes_on c.args.heap.now c.put.new.self c.args.locals (λ w. object w (test_of wanted.Dict) (number_of (refusal_of wanted.Dict)) c.in_ok-dict.dict) (object_from c.args.heap.now.rows c.in_ok-target.target c.in_ok-target.ensures.ok.node) _ (Err (refusal_by c.in-Err.fault)) (reads-object c.args.heap.now c.args.locals (test_of wanted.Dict) c.in_ok-dict.dict c.in_ok-target.target c.in_ok-target.ensures.ok (number_of (refusal_of wanted.Dict)))
-    (goes_on c.args.heap.now c.put.new.self c.args.locals (λ w. unless (is_hashable w c.in_ok-key.key) unhashable) tt _ (Err (refusal_by c.in-Err.fault)) (reads-key c.args.heap.now c.args.locals c.in_ok-key.key c.is_hashable.result c.is_hashable.ensures c.if-not-is_hashable.false)
-    (puts-refused c.args.heap.now c.sound.ensures c.args.locals (test_of wanted.Dict) c.in_ok-dict.dict c.in_ok-target.target c.in_ok-target.ensures.ok (inl (code_passes c.args.heap.now wanted.Dict tt c.in_ok-dict.dict c.in_ok-target.target c.in_ok-target.ensures.ok)) c.in_ok-key.key c.in_ok-val.val c.in-Err.fault (Err c.in-Err.fault) refl c.in-Err.ensures.limit c.in-Err.ensures.objects c.in-Err.ensures.present c.put.new.self c.in-Err.ensures.err))))))
+    subst (λ r. PerformsOnHeap c.args.heap.now c.args.locals.now (λ w. effect w (command.Put c.args.dict.now c.args.key.now c.args.operand.now)) c.put.new.self (Err r)) (sym c.refusal_by.ensures)
+    (goes_on c.args.heap.now c.put.new.self c.args.locals.now (λ w. value w c.args.dict.now) c.in_ok-dict.dict _ (Err (refusal_by c.in-Err.fault)) c.in_ok-dict.ensures.ok
+    (goes_on c.args.heap.now c.put.new.self c.args.locals.now (λ w. value w c.args.key.now) c.in_ok-key.key _ (Err (refusal_by c.in-Err.fault)) c.in_ok-key.ensures.ok
+    (goes_on c.args.heap.now c.put.new.self c.args.locals.now (λ w. value w c.args.operand.now) c.in_ok-val.val _ (Err (refusal_by c.in-Err.fault)) c.in_ok-val.ensures.ok
+    (goes_on c.args.heap.now c.put.new.self c.args.locals.now (λ w. object w (test_of wanted.Dict) (number_of (refusal_of wanted.Dict)) c.in_ok-dict.dict) (object_from c.args.heap.now.rows c.in_ok-target.target c.in_ok-target.ensures.ok.node) _ (Err (refusal_by c.in-Err.fault)) (reads-object c.args.heap.now c.args.locals.now (test_of wanted.Dict) c.in_ok-dict.dict c.in_ok-target.target c.in_ok-target.ensures.ok (number_of (refusal_of wanted.Dict)))
+    (goes_on c.args.heap.now c.put.new.self c.args.locals.now (λ w. unless (is_hashable w c.in_ok-key.key) unhashable) tt _ (Err (refusal_by c.in-Err.fault)) (reads-key c.args.heap.now c.args.locals.now c.in_ok-key.key c.is_hashable.result c.is_hashable.ensures c.if-not-is_hashable.false)
+    (puts-refused c.args.heap.now c.sound.ensures c.args.locals.now (test_of wanted.Dict) c.in_ok-dict.dict c.in_ok-target.target c.in_ok-target.ensures.ok (inl (code_passes c.args.heap.now wanted.Dict tt c.in_ok-dict.dict c.in_ok-target.target c.in_ok-target.ensures.ok)) c.in_ok-key.key c.in_ok-val.val c.in-Err.fault (Err c.in-Err.fault) refl c.in-Err.ensures.limit c.in-Err.ensures.objects c.in-Err.ensures.present c.put.new.self c.in-Err.ensures.err))))))

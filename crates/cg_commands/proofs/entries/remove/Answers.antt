@@ -19,27 +19,27 @@ use Rattle.cg_commands.proofs.entries.remove.Goals as goal
 pub returns-in_err-dict : goal.returns-in_err-dict
 returns-in_err-dict g c =
     let p = err_from_is_err_and c.from_residual.result c.from_residual.ensures.1 in rw (p.1, p.2)
-    (stops c.args.heap.now c.args.locals (λ w. value w c.args.dict) _ c.in_err-dict.field-0.0 c.in_err-dict.ensures.err)
+    (stops c.args.heap.now c.args.locals.now (λ w. value w c.args.dict.now) _ c.in_err-dict.field-0.0 c.in_err-dict.ensures.err)
 
 pub returns-in_err-key : goal.returns-in_err-key
 returns-in_err-key g c =
     let p = err_from_is_err_and c.from_residual-in_err-key.result c.from_residual-in_err-key.ensures.1 in rw (p.1, p.2)
-    (goes_on c.args.heap.now c.args.heap.now c.args.locals (λ w. value w c.args.dict) c.in_ok-dict.dict _ (Err c.in_err-key.field-0.0) c.in_ok-dict.ensures.ok
-    (stops c.args.heap.now c.args.locals (λ w. value w c.args.key) _ c.in_err-key.field-0.0 c.in_err-key.ensures.err))
+    (goes_on c.args.heap.now c.args.heap.now c.args.locals.now (λ w. value w c.args.dict.now) c.in_ok-dict.dict _ (Err c.in_err-key.field-0.0) c.in_ok-dict.ensures.ok
+    (stops c.args.heap.now c.args.locals.now (λ w. value w c.args.key.now) _ c.in_err-key.field-0.0 c.in_err-key.ensures.err))
 
 pub returns-in_err-target : goal.returns-in_err-target
 returns-in_err-target g c =
     let p = err_from_is_err_and c.from_residual-in_err-target.result c.from_residual-in_err-target.ensures.1 in rw (p.1, p.2)
-    (goes_on c.args.heap.now c.args.heap.now c.args.locals (λ w. value w c.args.dict) c.in_ok-dict.dict _ (Err c.in_err-target.field-0.0) c.in_ok-dict.ensures.ok
-    (goes_on c.args.heap.now c.args.heap.now c.args.locals (λ w. value w c.args.key) c.in_ok-key.key _ (Err c.in_err-target.field-0.0) c.in_ok-key.ensures.ok
-    (stops c.args.heap.now c.args.locals (λ w. object w (test_of wanted.Dict) (number_of (refusal_of wanted.Dict)) c.in_ok-dict.dict) _ c.in_err-target.field-0.0 (λ w s. c.in_err-target.ensures.err w s.represents))))
+    (goes_on c.args.heap.now c.args.heap.now c.args.locals.now (λ w. value w c.args.dict.now) c.in_ok-dict.dict _ (Err c.in_err-target.field-0.0) c.in_ok-dict.ensures.ok
+    (goes_on c.args.heap.now c.args.heap.now c.args.locals.now (λ w. value w c.args.key.now) c.in_ok-key.key _ (Err c.in_err-target.field-0.0) c.in_ok-key.ensures.ok
+    (stops c.args.heap.now c.args.locals.now (λ w. object w (test_of wanted.Dict) (number_of (refusal_of wanted.Dict)) c.in_ok-dict.dict) _ c.in_err-target.field-0.0 (λ w s. c.in_err-target.ensures.err w s.represents))))
 
 pub returns-then-not-is_hashable : goal.returns-then-not-is_hashable
 returns-then-not-is_hashable g c =
-    (goes_on c.args.heap.now c.args.heap.now c.args.locals (λ w. value w c.args.dict) c.in_ok-dict.dict _ (Err refusal.Unhashable) c.in_ok-dict.ensures.ok
-    (goes_on c.args.heap.now c.args.heap.now c.args.locals (λ w. value w c.args.key) c.in_ok-key.key _ (Err refusal.Unhashable) c.in_ok-key.ensures.ok
-    (goes_on c.args.heap.now c.args.heap.now c.args.locals (λ w. object w (test_of wanted.Dict) (number_of (refusal_of wanted.Dict)) c.in_ok-dict.dict) (object_from c.args.heap.now.rows c.in_ok-target.target c.in_ok-target.ensures.ok.node) _ (Err refusal.Unhashable) (reads-object c.args.heap.now c.args.locals (test_of wanted.Dict) c.in_ok-dict.dict c.in_ok-target.target c.in_ok-target.ensures.ok (number_of (refusal_of wanted.Dict)))
-    (stops c.args.heap.now c.args.locals (λ w. unless (is_hashable w c.in_ok-key.key) unhashable) _ refusal.Unhashable (no-hash c.args.heap.now c.args.locals c.in_ok-key.key c.is_hashable.result c.is_hashable.ensures c.if-not-is_hashable.true)))))
+    (goes_on c.args.heap.now c.args.heap.now c.args.locals.now (λ w. value w c.args.dict.now) c.in_ok-dict.dict _ (Err refusal.Unhashable) c.in_ok-dict.ensures.ok
+    (goes_on c.args.heap.now c.args.heap.now c.args.locals.now (λ w. value w c.args.key.now) c.in_ok-key.key _ (Err refusal.Unhashable) c.in_ok-key.ensures.ok
+    (goes_on c.args.heap.now c.args.heap.now c.args.locals.now (λ w. object w (test_of wanted.Dict) (number_of (refusal_of wanted.Dict)) c.in_ok-dict.dict) (object_from c.args.heap.now.rows c.in_ok-target.target c.in_ok-target.ensures.ok.node) _ (Err refusal.Unhashable) (reads-object c.args.heap.now c.args.locals.now (test_of wanted.Dict) c.in_ok-dict.dict c.in_ok-target.target c.in_ok-target.ensures.ok (number_of (refusal_of wanted.Dict)))
+    (stops c.args.heap.now c.args.locals.now (λ w. unless (is_hashable w c.in_ok-key.key) unhashable) _ refusal.Unhashable (no-hash c.args.heap.now c.args.locals.now c.in_ok-key.key c.is_hashable.result c.is_hashable.ensures c.if-not-is_hashable.true)))))
 
 pub take_key-requires-clause-can : goal.take_key-requires-clause-can
 take_key-requires-clause-can g c =
@@ -47,18 +47,18 @@ take_key-requires-clause-can g c =
 
 pub returns-in-Some : goal.returns-in-Some
 returns-in-Some g c =
-    (goes_on c.args.heap.now c.take_key.new.self c.args.locals (λ w. value w c.args.dict) c.in_ok-dict.dict _ (Ok (done.Changed None c.in-Some.entry)) c.in_ok-dict.ensures.ok
-    (goes_on c.args.heap.now c.take_key.new.self c.args.locals (λ w. value w c.args.key) c.in_ok-key.key _ (Ok (done.Changed None c.in-Some.entry)) c.in_ok-key.ensures.ok
-    (goes_on c.args.heap.now c.take_key.new.self c.args.locals (λ w. object w (test_of wanted.Dict) (number_of (refusal_of wanted.Dict)) c.in_ok-dict.dict) (object_from c.args.heap.now.rows c.in_ok-target.target c.in_ok-target.ensures.ok.node) _ (Ok (done.Changed None c.in-Some.entry)) (reads-object c.args.heap.now c.args.locals (test_of wanted.Dict) c.in_ok-dict.dict c.in_ok-target.target c.in_ok-target.ensures.ok (number_of (refusal_of wanted.Dict)))
-    (goes_on c.args.heap.now c.take_key.new.self c.args.locals (λ w. unless (is_hashable w c.in_ok-key.key) unhashable) tt _ (Ok (done.Changed None c.in-Some.entry)) (reads-key c.args.heap.now c.args.locals c.in_ok-key.key c.is_hashable.result c.is_hashable.ensures c.if-not-is_hashable.false)
-    (goes_on c.args.heap.now c.take_key.new.self c.args.locals (λ w. ok_or (entry_at c.in_ok-target.ensures.ok.node.entries c.in_ok-key.key) no_key) c.in-Some.entry _ (Ok (done.Changed None c.in-Some.entry)) (reads-entry_at c.args.heap.now c.args.locals (test_of wanted.Dict) c.in_ok-dict.dict c.in_ok-target.target c.in_ok-target.ensures.ok c.in_ok-key.key c.in-Some.entry c.in-Some.ensures.entry no_key)
-    (takes_key c.args.heap.now c.sound.ensures c.args.locals (test_of wanted.Dict) c.in_ok-dict.dict c.in_ok-target.target c.in_ok-target.ensures.ok c.in_ok-key.key c.in-Some.entry c.take_key.new.self c.in-Some.ensures.entry c.in-Some.ensures.rest))))))
+    (goes_on c.args.heap.now c.take_key.new.self c.args.locals.now (λ w. value w c.args.dict.now) c.in_ok-dict.dict _ (Ok (done.Changed None c.in-Some.entry)) c.in_ok-dict.ensures.ok
+    (goes_on c.args.heap.now c.take_key.new.self c.args.locals.now (λ w. value w c.args.key.now) c.in_ok-key.key _ (Ok (done.Changed None c.in-Some.entry)) c.in_ok-key.ensures.ok
+    (goes_on c.args.heap.now c.take_key.new.self c.args.locals.now (λ w. object w (test_of wanted.Dict) (number_of (refusal_of wanted.Dict)) c.in_ok-dict.dict) (object_from c.args.heap.now.rows c.in_ok-target.target c.in_ok-target.ensures.ok.node) _ (Ok (done.Changed None c.in-Some.entry)) (reads-object c.args.heap.now c.args.locals.now (test_of wanted.Dict) c.in_ok-dict.dict c.in_ok-target.target c.in_ok-target.ensures.ok (number_of (refusal_of wanted.Dict)))
+    (goes_on c.args.heap.now c.take_key.new.self c.args.locals.now (λ w. unless (is_hashable w c.in_ok-key.key) unhashable) tt _ (Ok (done.Changed None c.in-Some.entry)) (reads-key c.args.heap.now c.args.locals.now c.in_ok-key.key c.is_hashable.result c.is_hashable.ensures c.if-not-is_hashable.false)
+    (goes_on c.args.heap.now c.take_key.new.self c.args.locals.now (λ w. ok_or (entry_at c.in_ok-target.ensures.ok.node.entries c.in_ok-key.key) no_key) c.in-Some.entry _ (Ok (done.Changed None c.in-Some.entry)) (reads-entry_at c.args.heap.now c.args.locals.now (test_of wanted.Dict) c.in_ok-dict.dict c.in_ok-target.target c.in_ok-target.ensures.ok c.in_ok-key.key c.in-Some.entry c.in-Some.ensures.entry no_key)
+    (takes_key c.args.heap.now c.sound.ensures c.args.locals.now (test_of wanted.Dict) c.in_ok-dict.dict c.in_ok-target.target c.in_ok-target.ensures.ok c.in_ok-key.key c.in-Some.entry c.take_key.new.self c.in-Some.ensures.entry c.in-Some.ensures.rest))))))
 
 pub returns-in-None : goal.returns-in-None
 returns-in-None g c =
     rw (c.in-None.ensures.none)
-    (goes_on c.args.heap.now c.args.heap.now c.args.locals (λ w. value w c.args.dict) c.in_ok-dict.dict _ (Err refusal.NoKey) c.in_ok-dict.ensures.ok
-    (goes_on c.args.heap.now c.args.heap.now c.args.locals (λ w. value w c.args.key) c.in_ok-key.key _ (Err refusal.NoKey) c.in_ok-key.ensures.ok
-    (goes_on c.args.heap.now c.args.heap.now c.args.locals (λ w. object w (test_of wanted.Dict) (number_of (refusal_of wanted.Dict)) c.in_ok-dict.dict) (object_from c.args.heap.now.rows c.in_ok-target.target c.in_ok-target.ensures.ok.node) _ (Err refusal.NoKey) (reads-object c.args.heap.now c.args.locals (test_of wanted.Dict) c.in_ok-dict.dict c.in_ok-target.target c.in_ok-target.ensures.ok (number_of (refusal_of wanted.Dict)))
-    (goes_on c.args.heap.now c.args.heap.now c.args.locals (λ w. unless (is_hashable w c.in_ok-key.key) unhashable) tt _ (Err refusal.NoKey) (reads-key c.args.heap.now c.args.locals c.in_ok-key.key c.is_hashable.result c.is_hashable.ensures c.if-not-is_hashable.false)
-    (stops c.args.heap.now c.args.locals (λ w. ok_or (entry_at c.in_ok-target.ensures.ok.node.entries c.in_ok-key.key) no_key) _ refusal.NoKey (no-entry_at c.args.heap.now c.args.locals (test_of wanted.Dict) c.in_ok-dict.dict c.in_ok-target.target c.in_ok-target.ensures.ok c.in_ok-key.key c.in-None.ensures.entry no_key))))))
+    (goes_on c.args.heap.now c.args.heap.now c.args.locals.now (λ w. value w c.args.dict.now) c.in_ok-dict.dict _ (Err refusal.NoKey) c.in_ok-dict.ensures.ok
+    (goes_on c.args.heap.now c.args.heap.now c.args.locals.now (λ w. value w c.args.key.now) c.in_ok-key.key _ (Err refusal.NoKey) c.in_ok-key.ensures.ok
+    (goes_on c.args.heap.now c.args.heap.now c.args.locals.now (λ w. object w (test_of wanted.Dict) (number_of (refusal_of wanted.Dict)) c.in_ok-dict.dict) (object_from c.args.heap.now.rows c.in_ok-target.target c.in_ok-target.ensures.ok.node) _ (Err refusal.NoKey) (reads-object c.args.heap.now c.args.locals.now (test_of wanted.Dict) c.in_ok-dict.dict c.in_ok-target.target c.in_ok-target.ensures.ok (number_of (refusal_of wanted.Dict)))
+    (goes_on c.args.heap.now c.args.heap.now c.args.locals.now (λ w. unless (is_hashable w c.in_ok-key.key) unhashable) tt _ (Err refusal.NoKey) (reads-key c.args.heap.now c.args.locals.now c.in_ok-key.key c.is_hashable.result c.is_hashable.ensures c.if-not-is_hashable.false)
+    (stops c.args.heap.now c.args.locals.now (λ w. ok_or (entry_at c.in_ok-target.ensures.ok.node.entries c.in_ok-key.key) no_key) _ refusal.NoKey (no-entry_at c.args.heap.now c.args.locals.now (test_of wanted.Dict) c.in_ok-dict.dict c.in_ok-target.target c.in_ok-target.ensures.ok c.in_ok-key.key c.in-None.ensures.entry no_key))))))

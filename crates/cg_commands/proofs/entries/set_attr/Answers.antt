@@ -22,20 +22,20 @@ use Rattle.cg_commands.proofs.entries.set_attr.Goals as goal
 pub returns-in_err-instance : goal.returns-in_err-instance
 returns-in_err-instance g c =
     let p = err_from_is_err_and c.from_residual.result c.from_residual.ensures.1 in rw (p.1, p.2)
-    (stops c.args.heap.now c.args.locals (λ w. value w c.args.instance) _ c.in_err-instance.field-0.0 c.in_err-instance.ensures.err)
+    (stops c.args.heap.now c.args.locals.now (λ w. value w c.args.instance.now) _ c.in_err-instance.field-0.0 c.in_err-instance.ensures.err)
 
 pub returns-in_err-val : goal.returns-in_err-val
 returns-in_err-val g c =
     let p = err_from_is_err_and c.from_residual-in_err-val.result c.from_residual-in_err-val.ensures.1 in rw (p.1, p.2)
-    (goes_on c.args.heap.now c.args.heap.now c.args.locals (λ w. value w c.args.instance) c.in_ok-instance.instance _ (Err c.in_err-val.field-0.0) c.in_ok-instance.ensures.ok
-    (stops c.args.heap.now c.args.locals (λ w. value w c.args.operand) _ c.in_err-val.field-0.0 c.in_err-val.ensures.err))
+    (goes_on c.args.heap.now c.args.heap.now c.args.locals.now (λ w. value w c.args.instance.now) c.in_ok-instance.instance _ (Err c.in_err-val.field-0.0) c.in_ok-instance.ensures.ok
+    (stops c.args.heap.now c.args.locals.now (λ w. value w c.args.operand.now) _ c.in_err-val.field-0.0 c.in_err-val.ensures.err))
 
 pub returns-in_err-target : goal.returns-in_err-target
 returns-in_err-target g c =
     let p = err_from_is_err_and c.from_residual-in_err-target.result c.from_residual-in_err-target.ensures.1 in rw (p.1, p.2)
-    (goes_on c.args.heap.now c.args.heap.now c.args.locals (λ w. value w c.args.instance) c.in_ok-instance.instance _ (Err c.in_err-target.field-0.0) c.in_ok-instance.ensures.ok
-    (goes_on c.args.heap.now c.args.heap.now c.args.locals (λ w. value w c.args.operand) c.in_ok-val.val _ (Err c.in_err-target.field-0.0) c.in_ok-val.ensures.ok
-    (stops c.args.heap.now c.args.locals (λ w. object w (test_of wanted.Inst) (number_of (refusal_of wanted.Inst)) c.in_ok-instance.instance) _ c.in_err-target.field-0.0 (λ w s. c.in_err-target.ensures.err w s.represents))))
+    (goes_on c.args.heap.now c.args.heap.now c.args.locals.now (λ w. value w c.args.instance.now) c.in_ok-instance.instance _ (Err c.in_err-target.field-0.0) c.in_ok-instance.ensures.ok
+    (goes_on c.args.heap.now c.args.heap.now c.args.locals.now (λ w. value w c.args.operand.now) c.in_ok-val.val _ (Err c.in_err-target.field-0.0) c.in_ok-val.ensures.ok
+    (stops c.args.heap.now c.args.locals.now (λ w. object w (test_of wanted.Inst) (number_of (refusal_of wanted.Inst)) c.in_ok-instance.instance) _ c.in_err-target.field-0.0 (λ w s. c.in_err-target.ensures.err w s.represents))))
 
 pub put-requires-clause-other : goal.put-requires-clause-other
 put-requires-clause-other g c =
@@ -47,15 +47,15 @@ put-requires-clause-can g c =
 
 pub returns-in-Ok : goal.returns-in-Ok
 returns-in-Ok g c =
-    (goes_on c.args.heap.now c.put.new.self c.args.locals (λ w. value w c.args.instance) c.in_ok-instance.instance _ (Ok c.changed.result) c.in_ok-instance.ensures.ok
-    (goes_on c.args.heap.now c.put.new.self c.args.locals (λ w. value w c.args.operand) c.in_ok-val.val _ (Ok c.changed.result) c.in_ok-val.ensures.ok
-    (goes_on c.args.heap.now c.put.new.self c.args.locals (λ w. object w (test_of wanted.Inst) (number_of (refusal_of wanted.Inst)) c.in_ok-instance.instance) (object_from c.args.heap.now.rows c.in_ok-target.target c.in_ok-target.ensures.ok.node) _ (Ok c.changed.result) (reads-object c.args.heap.now c.args.locals (test_of wanted.Inst) c.in_ok-instance.instance c.in_ok-target.target c.in_ok-target.ensures.ok (number_of (refusal_of wanted.Inst)))
-    (puts-performs c.args.heap.now c.sound.ensures c.args.locals (test_of wanted.Inst) c.in_ok-instance.instance c.in_ok-target.target c.in_ok-target.ensures.ok (inr (code_passes c.args.heap.now wanted.Inst tt c.in_ok-instance.instance c.in_ok-target.target c.in_ok-target.ensures.ok)) (val.Str c.args.attr) c.in_ok-val.val c.in-Ok.old c.changed.result c.put.new.self c.in-Ok.ensures.ok c.in-Ok.ensures.replaced c.changed.ensures c.in-Ok.ensures.limit))))
+    (goes_on c.args.heap.now c.put.new.self c.args.locals.now (λ w. value w c.args.instance.now) c.in_ok-instance.instance _ (Ok c.changed.result) c.in_ok-instance.ensures.ok
+    (goes_on c.args.heap.now c.put.new.self c.args.locals.now (λ w. value w c.args.operand.now) c.in_ok-val.val _ (Ok c.changed.result) c.in_ok-val.ensures.ok
+    (goes_on c.args.heap.now c.put.new.self c.args.locals.now (λ w. object w (test_of wanted.Inst) (number_of (refusal_of wanted.Inst)) c.in_ok-instance.instance) (object_from c.args.heap.now.rows c.in_ok-target.target c.in_ok-target.ensures.ok.node) _ (Ok c.changed.result) (reads-object c.args.heap.now c.args.locals.now (test_of wanted.Inst) c.in_ok-instance.instance c.in_ok-target.target c.in_ok-target.ensures.ok (number_of (refusal_of wanted.Inst)))
+    (puts-performs c.args.heap.now c.sound.ensures c.args.locals.now (test_of wanted.Inst) c.in_ok-instance.instance c.in_ok-target.target c.in_ok-target.ensures.ok (inr (code_passes c.args.heap.now wanted.Inst tt c.in_ok-instance.instance c.in_ok-target.target c.in_ok-target.ensures.ok)) (val.Str c.args.attr) c.in_ok-val.val c.in-Ok.old c.changed.result c.put.new.self c.in-Ok.ensures.ok c.in-Ok.ensures.replaced c.changed.ensures c.in-Ok.ensures.limit))))
 
 pub returns-in-Err : goal.returns-in-Err
 returns-in-Err g c =
-    subst (λ r. PerformsOnHeap c.args.heap.now c.args.locals (λ w. effect w (command.SetAttr c.args.instance c.args.attr c.args.operand)) c.put.new.self (Err r)) (sym c.refusal_by.ensures)
-    (goes_on c.args.heap.now c.put.new.self c.args.locals (λ w. value w c.args.instance) c.in_ok-instance.instance _ (Err (refusal_by c.in-Err.fault)) c.in_ok-instance.ensures.ok
-    (goes_on c.args.heap.now c.put.new.self c.args.locals (λ w. value w c.args.operand) c.in_ok-val.val _ (Err (refusal_by c.in-Err.fault)) c.in_ok-val.ensures.ok
-    (goes_on c.args.heap.now c.put.new.self c.args.locals (λ w. object w (test_of wanted.Inst) (number_of (refusal_of wanted.Inst)) c.in_ok-instance.instance) (object_from c.args.heap.now.rows c.in_ok-target.target c.in_ok-target.ensures.ok.node) _ (Err (refusal_by c.in-Err.fault)) (reads-object c.args.heap.now c.args.locals (test_of wanted.Inst) c.in_ok-instance.instance c.in_ok-target.target c.in_ok-target.ensures.ok (number_of (refusal_of wanted.Inst)))
-    (puts-refused c.args.heap.now c.sound.ensures c.args.locals (test_of wanted.Inst) c.in_ok-instance.instance c.in_ok-target.target c.in_ok-target.ensures.ok (inr (code_passes c.args.heap.now wanted.Inst tt c.in_ok-instance.instance c.in_ok-target.target c.in_ok-target.ensures.ok)) (val.Str c.args.attr) c.in_ok-val.val c.in-Err.fault (Err c.in-Err.fault) refl c.in-Err.ensures.limit c.in-Err.ensures.objects c.in-Err.ensures.present c.put.new.self c.in-Err.ensures.err))))
+    subst (λ r. PerformsOnHeap c.args.heap.now c.args.locals.now (λ w. effect w (command.SetAttr c.args.instance.now c.args.attr c.args.operand.now)) c.put.new.self (Err r)) (sym c.refusal_by.ensures)
+    (goes_on c.args.heap.now c.put.new.self c.args.locals.now (λ w. value w c.args.instance.now) c.in_ok-instance.instance _ (Err (refusal_by c.in-Err.fault)) c.in_ok-instance.ensures.ok
+    (goes_on c.args.heap.now c.put.new.self c.args.locals.now (λ w. value w c.args.operand.now) c.in_ok-val.val _ (Err (refusal_by c.in-Err.fault)) c.in_ok-val.ensures.ok
+    (goes_on c.args.heap.now c.put.new.self c.args.locals.now (λ w. object w (test_of wanted.Inst) (number_of (refusal_of wanted.Inst)) c.in_ok-instance.instance) (object_from c.args.heap.now.rows c.in_ok-target.target c.in_ok-target.ensures.ok.node) _ (Err (refusal_by c.in-Err.fault)) (reads-object c.args.heap.now c.args.locals.now (test_of wanted.Inst) c.in_ok-instance.instance c.in_ok-target.target c.in_ok-target.ensures.ok (number_of (refusal_of wanted.Inst)))
+    (puts-refused c.args.heap.now c.sound.ensures c.args.locals.now (test_of wanted.Inst) c.in_ok-instance.instance c.in_ok-target.target c.in_ok-target.ensures.ok (inr (code_passes c.args.heap.now wanted.Inst tt c.in_ok-instance.instance c.in_ok-target.target c.in_ok-target.ensures.ok)) (val.Str c.args.attr) c.in_ok-val.val c.in-Err.fault (Err c.in-Err.fault) refl c.in-Err.ensures.limit c.in-Err.ensures.objects c.in-Err.ensures.present c.put.new.self c.in-Err.ensures.err))))

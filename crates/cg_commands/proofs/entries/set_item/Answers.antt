@@ -25,28 +25,28 @@ use Rattle.cg_commands.proofs.entries.set_item.Goals as goal
 pub returns-in_err-list : goal.returns-in_err-list
 returns-in_err-list g c =
     let p = err_from_is_err_and c.from_residual.result c.from_residual.ensures.1 in rw (p.1, p.2)
-    (stops c.args.heap.now c.args.locals (λ w. value w c.args.list) _ c.in_err-list.field-0.0 c.in_err-list.ensures.err)
+    (stops c.args.heap.now c.args.locals.now (λ w. value w c.args.list.now) _ c.in_err-list.field-0.0 c.in_err-list.ensures.err)
 
 pub returns-in_err-val : goal.returns-in_err-val
 returns-in_err-val g c =
     let p = err_from_is_err_and c.from_residual-in_err-val.result c.from_residual-in_err-val.ensures.1 in rw (p.1, p.2)
-    (goes_on c.args.heap.now c.args.heap.now c.args.locals (λ w. value w c.args.list) c.in_ok-list.list _ (Err c.in_err-val.field-0.0) c.in_ok-list.ensures.ok
-    (stops c.args.heap.now c.args.locals (λ w. value w c.args.operand) _ c.in_err-val.field-0.0 c.in_err-val.ensures.err))
+    (goes_on c.args.heap.now c.args.heap.now c.args.locals.now (λ w. value w c.args.list.now) c.in_ok-list.list _ (Err c.in_err-val.field-0.0) c.in_ok-list.ensures.ok
+    (stops c.args.heap.now c.args.locals.now (λ w. value w c.args.operand.now) _ c.in_err-val.field-0.0 c.in_err-val.ensures.err))
 
 pub returns-in_err-target : goal.returns-in_err-target
 returns-in_err-target g c =
     let p = err_from_is_err_and c.from_residual-in_err-target.result c.from_residual-in_err-target.ensures.1 in rw (p.1, p.2)
-    (goes_on c.args.heap.now c.args.heap.now c.args.locals (λ w. value w c.args.list) c.in_ok-list.list _ (Err c.in_err-target.field-0.0) c.in_ok-list.ensures.ok
-    (goes_on c.args.heap.now c.args.heap.now c.args.locals (λ w. value w c.args.operand) c.in_ok-val.val _ (Err c.in_err-target.field-0.0) c.in_ok-val.ensures.ok
-    (stops c.args.heap.now c.args.locals (λ w. object w (test_of wanted.ScriptList) (number_of (refusal_of wanted.ScriptList)) c.in_ok-list.list) _ c.in_err-target.field-0.0 (λ w s. c.in_err-target.ensures.err w s.represents))))
+    (goes_on c.args.heap.now c.args.heap.now c.args.locals.now (λ w. value w c.args.list.now) c.in_ok-list.list _ (Err c.in_err-target.field-0.0) c.in_ok-list.ensures.ok
+    (goes_on c.args.heap.now c.args.heap.now c.args.locals.now (λ w. value w c.args.operand.now) c.in_ok-val.val _ (Err c.in_err-target.field-0.0) c.in_ok-val.ensures.ok
+    (stops c.args.heap.now c.args.locals.now (λ w. object w (test_of wanted.ScriptList) (number_of (refusal_of wanted.ScriptList)) c.in_ok-list.list) _ c.in_err-target.field-0.0 (λ w s. c.in_err-target.ensures.err w s.represents))))
 
 pub returns-in_err-_i : goal.returns-in_err-_i
 returns-in_err-_i g c =
     let p = err_from_is_err_and c.from_residual-in_err-_i.result c.from_residual-in_err-_i.ensures.1 in rw (p.1, p.2)
-    (goes_on c.args.heap.now c.args.heap.now c.args.locals (λ w. value w c.args.list) c.in_ok-list.list _ (Err c.in_err-_i.field-0.0) c.in_ok-list.ensures.ok
-    (goes_on c.args.heap.now c.args.heap.now c.args.locals (λ w. value w c.args.operand) c.in_ok-val.val _ (Err c.in_err-_i.field-0.0) c.in_ok-val.ensures.ok
-    (goes_on c.args.heap.now c.args.heap.now c.args.locals (λ w. object w (test_of wanted.ScriptList) (number_of (refusal_of wanted.ScriptList)) c.in_ok-list.list) (object_from c.args.heap.now.rows c.in_ok-target.target c.in_ok-target.ensures.ok.node) _ (Err c.in_err-_i.field-0.0) (reads-object c.args.heap.now c.args.locals (test_of wanted.ScriptList) c.in_ok-list.list c.in_ok-target.target c.in_ok-target.ensures.ok (number_of (refusal_of wanted.ScriptList)))
-    (stops c.args.heap.now c.args.locals (λ w. ok_or (valid_index c.args.index (length c.in_ok-target.ensures.ok.node.entries)) no_index) _ c.in_err-_i.field-0.0 (no-index c.args.heap.now c.args.locals (test_of wanted.ScriptList) c.in_ok-list.list c.in_ok-target.target c.in_ok-target.ensures.ok c.args.index (to_z w64 (of_z w64 c.args.index)) (to_z-of_z c.ranges.index) c.in_err-_i.field-0.0 c.in_err-_i.ensures.err c.in_err-_i.ensures.none)))))
+    (goes_on c.args.heap.now c.args.heap.now c.args.locals.now (λ w. value w c.args.list.now) c.in_ok-list.list _ (Err c.in_err-_i.field-0.0) c.in_ok-list.ensures.ok
+    (goes_on c.args.heap.now c.args.heap.now c.args.locals.now (λ w. value w c.args.operand.now) c.in_ok-val.val _ (Err c.in_err-_i.field-0.0) c.in_ok-val.ensures.ok
+    (goes_on c.args.heap.now c.args.heap.now c.args.locals.now (λ w. object w (test_of wanted.ScriptList) (number_of (refusal_of wanted.ScriptList)) c.in_ok-list.list) (object_from c.args.heap.now.rows c.in_ok-target.target c.in_ok-target.ensures.ok.node) _ (Err c.in_err-_i.field-0.0) (reads-object c.args.heap.now c.args.locals.now (test_of wanted.ScriptList) c.in_ok-list.list c.in_ok-target.target c.in_ok-target.ensures.ok (number_of (refusal_of wanted.ScriptList)))
+    (stops c.args.heap.now c.args.locals.now (λ w. ok_or (valid_index c.args.index (length c.in_ok-target.ensures.ok.node.entries)) no_index) _ c.in_err-_i.field-0.0 (no-index c.args.heap.now c.args.locals.now (test_of wanted.ScriptList) c.in_ok-list.list c.in_ok-target.target c.in_ok-target.ensures.ok c.args.index (to_z w64 (of_z w64 c.args.index)) (to_z-of_z c.ranges.index) c.in_err-_i.field-0.0 c.in_err-_i.ensures.err c.in_err-_i.ensures.none)))))
 
 pub put-requires-clause-other : goal.put-requires-clause-other
 put-requires-clause-other g c =
@@ -58,13 +58,13 @@ put-requires-clause-can g c =
 
 pub returns-in-Ok : goal.returns-in-Ok
 returns-in-Ok g c =
-    (goes_on c.args.heap.now c.put.new.self c.args.locals (λ w. value w c.args.list) c.in_ok-list.list _ (Ok c.changed.result) c.in_ok-list.ensures.ok
-    (goes_on c.args.heap.now c.put.new.self c.args.locals (λ w. value w c.args.operand) c.in_ok-val.val _ (Ok c.changed.result) c.in_ok-val.ensures.ok
-    (goes_on c.args.heap.now c.put.new.self c.args.locals (λ w. object w (test_of wanted.ScriptList) (number_of (refusal_of wanted.ScriptList)) c.in_ok-list.list) (object_from c.args.heap.now.rows c.in_ok-target.target c.in_ok-target.ensures.ok.node) _ (Ok c.changed.result) (reads-object c.args.heap.now c.args.locals (test_of wanted.ScriptList) c.in_ok-list.list c.in_ok-target.target c.in_ok-target.ensures.ok (number_of (refusal_of wanted.ScriptList)))
-    (goes_on c.args.heap.now c.put.new.self c.args.locals (λ w. ok_or (valid_index c.args.index (length c.in_ok-target.ensures.ok.node.entries)) no_index) c.in_ok-_i._i _ (Ok c.changed.result) (reads-index c.args.heap.now c.args.locals (test_of wanted.ScriptList) c.in_ok-list.list c.in_ok-target.target c.in_ok-target.ensures.ok c.args.index (to_z w64 (of_z w64 c.args.index)) (to_z-of_z c.ranges.index) c.in_ok-_i._i c.in_ok-_i.ensures.ok)
-    (goes_on c.args.heap.now c.put.new.self c.args.locals (λ w. ok_or (slice_get c.in_ok-target.ensures.ok.node.entries c.in_ok-_i._i) no_index) (get_or (entries_of c.args.heap.now c.in_ok-target.target) c.in_ok-_i._i (item c.in_ok-val.val)) _ (Ok c.changed.result) (reads-entry c.args.heap.now c.args.locals (test_of wanted.ScriptList) c.in_ok-list.list c.in_ok-target.target c.in_ok-target.ensures.ok c.in_ok-_i._i (get_or (entries_of c.args.heap.now c.in_ok-target.target) c.in_ok-_i._i (item c.in_ok-val.val)) (slice_get-get_or (entries_of c.args.heap.now c.in_ok-target.target) c.in_ok-_i._i (item c.in_ok-val.val) c.in_ok-_i.ensures.below) no_index)
-    (sets c.args.heap.now c.sound.ensures c.args.locals (test_of wanted.ScriptList) c.in_ok-list.list c.in_ok-target.target c.in_ok-target.ensures.ok (code_passes c.args.heap.now wanted.ScriptList tt c.in_ok-list.list c.in_ok-target.target c.in_ok-target.ensures.ok) (to_z w64 (of_z w64 c.args.index)) c.in_ok-_i._i (get_or (entries_of c.args.heap.now c.in_ok-target.target) c.in_ok-_i._i (item c.in_ok-val.val)) c.in_ok-val.val c.in-Ok.old c.changed.result c.put.new.self ((index_is (to_z w64 (of_z w64 c.args.index)) (length (entries_of c.args.heap.now c.in_ok-target.target)) c.in_ok-_i._i c.in_ok-_i.ensures.ok).0) c.in_ok-_i.ensures.below (slice_get-get_or (entries_of c.args.heap.now c.in_ok-target.target) c.in_ok-_i._i (item c.in_ok-val.val) c.in_ok-_i.ensures.below) c.in-Ok.ensures.ok c.in-Ok.ensures.replaced c.changed.ensures))))))
+    (goes_on c.args.heap.now c.put.new.self c.args.locals.now (λ w. value w c.args.list.now) c.in_ok-list.list _ (Ok c.changed.result) c.in_ok-list.ensures.ok
+    (goes_on c.args.heap.now c.put.new.self c.args.locals.now (λ w. value w c.args.operand.now) c.in_ok-val.val _ (Ok c.changed.result) c.in_ok-val.ensures.ok
+    (goes_on c.args.heap.now c.put.new.self c.args.locals.now (λ w. object w (test_of wanted.ScriptList) (number_of (refusal_of wanted.ScriptList)) c.in_ok-list.list) (object_from c.args.heap.now.rows c.in_ok-target.target c.in_ok-target.ensures.ok.node) _ (Ok c.changed.result) (reads-object c.args.heap.now c.args.locals.now (test_of wanted.ScriptList) c.in_ok-list.list c.in_ok-target.target c.in_ok-target.ensures.ok (number_of (refusal_of wanted.ScriptList)))
+    (goes_on c.args.heap.now c.put.new.self c.args.locals.now (λ w. ok_or (valid_index c.args.index (length c.in_ok-target.ensures.ok.node.entries)) no_index) c.in_ok-_i._i _ (Ok c.changed.result) (reads-index c.args.heap.now c.args.locals.now (test_of wanted.ScriptList) c.in_ok-list.list c.in_ok-target.target c.in_ok-target.ensures.ok c.args.index (to_z w64 (of_z w64 c.args.index)) (to_z-of_z c.ranges.index) c.in_ok-_i._i c.in_ok-_i.ensures.ok)
+    (goes_on c.args.heap.now c.put.new.self c.args.locals.now (λ w. ok_or (slice_get c.in_ok-target.ensures.ok.node.entries c.in_ok-_i._i) no_index) (get_or (entries_of c.args.heap.now c.in_ok-target.target) c.in_ok-_i._i (item c.in_ok-val.val)) _ (Ok c.changed.result) (reads-entry c.args.heap.now c.args.locals.now (test_of wanted.ScriptList) c.in_ok-list.list c.in_ok-target.target c.in_ok-target.ensures.ok c.in_ok-_i._i (get_or (entries_of c.args.heap.now c.in_ok-target.target) c.in_ok-_i._i (item c.in_ok-val.val)) (slice_get-get_or (entries_of c.args.heap.now c.in_ok-target.target) c.in_ok-_i._i (item c.in_ok-val.val) c.in_ok-_i.ensures.below) no_index)
+    (sets c.args.heap.now c.sound.ensures c.args.locals.now (test_of wanted.ScriptList) c.in_ok-list.list c.in_ok-target.target c.in_ok-target.ensures.ok (code_passes c.args.heap.now wanted.ScriptList tt c.in_ok-list.list c.in_ok-target.target c.in_ok-target.ensures.ok) (to_z w64 (of_z w64 c.args.index)) c.in_ok-_i._i (get_or (entries_of c.args.heap.now c.in_ok-target.target) c.in_ok-_i._i (item c.in_ok-val.val)) c.in_ok-val.val c.in-Ok.old c.changed.result c.put.new.self ((index_is (to_z w64 (of_z w64 c.args.index)) (length (entries_of c.args.heap.now c.in_ok-target.target)) c.in_ok-_i._i c.in_ok-_i.ensures.ok).0) c.in_ok-_i.ensures.below (slice_get-get_or (entries_of c.args.heap.now c.in_ok-target.target) c.in_ok-_i._i (item c.in_ok-val.val) c.in_ok-_i.ensures.below) c.in-Ok.ensures.ok c.in-Ok.ensures.replaced c.changed.ensures))))))
 
 pub returns-in-Err : goal.returns-in-Err
 returns-in-Err g c =
-    absurd (never_ok c.put.result c.in-Err.fault c.in-Err.is (c.put.ensures.present (sets-there c.args.heap.now c.sound.ensures c.args.locals (test_of wanted.ScriptList) c.in_ok-list.list c.in_ok-target.target c.in_ok-target.ensures.ok (code_passes c.args.heap.now wanted.ScriptList tt c.in_ok-list.list c.in_ok-target.target c.in_ok-target.ensures.ok) (to_z w64 (of_z w64 c.args.index)) c.in_ok-_i._i (get_or (entries_of c.args.heap.now c.in_ok-target.target) c.in_ok-_i._i (item c.in_ok-val.val)) ((index_is (to_z w64 (of_z w64 c.args.index)) (length (entries_of c.args.heap.now c.in_ok-target.target)) c.in_ok-_i._i c.in_ok-_i.ensures.ok).0) (slice_get-get_or (entries_of c.args.heap.now c.in_ok-target.target) c.in_ok-_i._i (item c.in_ok-val.val) c.in_ok-_i.ensures.below))))
+    absurd (never_ok c.put.result c.in-Err.fault c.in-Err.is (c.put.ensures.present (sets-there c.args.heap.now c.sound.ensures c.args.locals.now (test_of wanted.ScriptList) c.in_ok-list.list c.in_ok-target.target c.in_ok-target.ensures.ok (code_passes c.args.heap.now wanted.ScriptList tt c.in_ok-list.list c.in_ok-target.target c.in_ok-target.ensures.ok) (to_z w64 (of_z w64 c.args.index)) c.in_ok-_i._i (get_or (entries_of c.args.heap.now c.in_ok-target.target) c.in_ok-_i._i (item c.in_ok-val.val)) ((index_is (to_z w64 (of_z w64 c.args.index)) (length (entries_of c.args.heap.now c.in_ok-target.target)) c.in_ok-_i._i c.in_ok-_i.ensures.ok).0) (slice_get-get_or (entries_of c.args.heap.now c.in_ok-target.target) c.in_ok-_i._i (item c.in_ok-val.val) c.in_ok-_i.ensures.below))))

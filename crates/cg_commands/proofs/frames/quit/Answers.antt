@@ -9,14 +9,14 @@ use Rattle.cg_commands.proofs.frames.quit.Goals as goal
 pub returns-in_err-val : goal.returns-in_err-val
 returns-in_err-val g c =
     let p = err_from_is_err_and c.from_residual.result c.from_residual.ensures.1 in rw (p.1, p.2)
-    (stops c.args.heap.now c.args.locals (λ w. value w c.args.operand) _ c.in_err-val.field-0.0 c.in_err-val.ensures.err)
+    (stops c.args.heap.now c.args.locals.now (λ w. value w c.args.operand.now) _ c.in_err-val.field-0.0 c.in_err-val.ensures.err)
 
 pub returns-in-None : goal.returns-in-None
 returns-in-None g c =
-    (goes_on c.args.heap.now c.args.heap.now c.args.locals (λ w. value w c.args.operand) c.in_ok-val.val _ (Ok done.Quits) c.in_ok-val.ensures.ok
-    (quits-performs c.args.heap.now c.args.locals c.in_ok-val.val c.in-None.is))
+    (goes_on c.args.heap.now c.args.heap.now c.args.locals.now (λ w. value w c.args.operand.now) c.in_ok-val.val _ (Ok done.Quits) c.in_ok-val.ensures.ok
+    (quits-performs c.args.heap.now c.args.locals.now c.in_ok-val.val c.in-None.is))
 
 pub returns-in_default : goal.returns-in_default
 returns-in_default g c =
-    (goes_on c.args.heap.now c.args.heap.now c.args.locals (λ w. value w c.args.operand) c.in_ok-val.val _ (Ok c.told.result) c.in_ok-val.ensures.ok
-    (stays-performs c.args.heap.now c.args.locals c.in_ok-val.val c.in_default.not-None c.told.result c.told.ensures))
+    (goes_on c.args.heap.now c.args.heap.now c.args.locals.now (λ w. value w c.args.operand.now) c.in_ok-val.val _ (Ok c.told.result) c.in_ok-val.ensures.ok
+    (stays-performs c.args.heap.now c.args.locals.now c.in_ok-val.val c.in_default.not-None c.told.result c.told.ensures))

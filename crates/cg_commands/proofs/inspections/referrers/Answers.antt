@@ -11,19 +11,19 @@ use Rattle.cg_commands.proofs.inspections.referrers.Goals as goal
 pub returns-in_err-target : goal.returns-in_err-target
 returns-in_err-target g c =
     let p = err_from_is_err_and c.from_residual.result c.from_residual.ensures.1 in rw (p.1, p.2)
-    (not_inspected c.args.heap.now c.args.running c.args.locals c.args.operand (λ w x. lists w event.Referrer (referrers w x.serial)) c.in_err-target.field-0.0 c.in_err-target.ensures.err)
+    (not_inspected c.args.heap.now c.args.running c.args.locals.now c.args.operand.now (λ w x. lists w event.Referrer (referrers w x.serial)) c.in_err-target.field-0.0 c.in_err-target.ensures.err)
 
 pub returns-in_default : goal.returns-in_default
 returns-in_default g c =
-    no_memory_for c.args.heap.now c.args.running c.args.locals c.args.operand (λ w x. lists w event.Referrer (referrers w x.serial)) c.in_ok-target.target c.in_ok-target.ensures.ok
+    no_memory_for c.args.heap.now c.args.running c.args.locals.now c.args.operand.now (λ w x. lists w event.Referrer (referrers w x.serial)) c.in_ok-target.target c.in_ok-target.ensures.ok
     (λ w s. lists_memory w event.Referrer (referrers w c.in_ok-target.target))
 
 pub returns-in_default-listing : goal.returns-in_default-listing
 returns-in_default-listing g c =
-    no_memory_for c.args.heap.now c.args.running c.args.locals c.args.operand (λ w x. lists w event.Referrer (referrers w x.serial)) c.in_ok-target.target c.in_ok-target.ensures.ok
+    no_memory_for c.args.heap.now c.args.running c.args.locals.now c.args.operand.now (λ w x. lists w event.Referrer (referrers w x.serial)) c.in_ok-target.target c.in_ok-target.ensures.ok
     (λ w s. lists_memory w event.Referrer (referrers w c.in_ok-target.target))
 
 pub returns : goal.returns
 returns g c =
-    lists_lines c.args.heap.now c.args.running c.args.locals c.args.operand (λ w x. lists w event.Referrer (referrers w x.serial)) c.in_ok-target.target c.in_ok-target.ensures.ok c.in-Ok-listing.lines
+    lists_lines c.args.heap.now c.args.running c.args.locals.now c.args.operand.now (λ w x. lists w event.Referrer (referrers w x.serial)) c.in_ok-target.target c.in_ok-target.ensures.ok c.in-Ok-listing.lines
     (λ w s. lists_these w event.Referrer (referrers w c.in_ok-target.target) c.deref.result.now (c.deref.ensures.value ∙ c.in-Ok.ensures ∙ ap (λ objects. serials (filter (refers_to c.in_ok-target.target) objects)) s.represents.objects) c.in-Ok-listing.lines c.in-Ok-listing.ensures)

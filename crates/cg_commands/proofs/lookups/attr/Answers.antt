@@ -18,13 +18,13 @@ use Rattle.cg_commands.proofs.lookups.attr.Goals as goal
 pub returns-in_err-val : goal.returns-in_err-val
 returns-in_err-val g c =
     let p = err_from_is_err_and c.from_residual.result c.from_residual.ensures.1 in rw (p.1, p.2)
-    (stops c.args.heap.now c.args.locals (λ w. value w c.args.instance) _ c.in_err-val.field-0.0 c.in_err-val.ensures.err)
+    (stops c.args.heap.now c.args.locals.now (λ w. value w c.args.instance.now) _ c.in_err-val.field-0.0 c.in_err-val.ensures.err)
 
 pub returns-in_err-target : goal.returns-in_err-target
 returns-in_err-target g c =
     let p = err_from_is_err_and c.from_residual-in_err-target.result c.from_residual-in_err-target.ensures.1 in rw (p.1, p.2)
-    (goes_on c.args.heap.now c.args.heap.now c.args.locals (λ w. value w c.args.instance) c.in_ok-val.val _ (Err c.in_err-target.field-0.0) c.in_ok-val.ensures.ok
-    (stops c.args.heap.now c.args.locals (λ w. object w (test_of wanted.Inst) (number_of (refusal_of wanted.Inst)) c.in_ok-val.val) _ c.in_err-target.field-0.0 (λ w s. c.in_err-target.ensures.err w s.represents)))
+    (goes_on c.args.heap.now c.args.heap.now c.args.locals.now (λ w. value w c.args.instance.now) c.in_ok-val.val _ (Err c.in_err-target.field-0.0) c.in_ok-val.ensures.ok
+    (stops c.args.heap.now c.args.locals.now (λ w. object w (test_of wanted.Inst) (number_of (refusal_of wanted.Inst)) c.in_ok-val.val) _ c.in_err-target.field-0.0 (λ w s. c.in_err-target.ensures.err w s.represents)))
 
 pub bind_to-requires-clause-live : goal.bind_to-requires-clause-live
 bind_to-requires-clause-live g c =
@@ -32,13 +32,13 @@ bind_to-requires-clause-live g c =
 
 pub returns-in-Some : goal.returns-in-Some
 returns-in-Some g c =
-    (goes_on c.args.heap.now c.bind_to.new.heap c.args.locals (λ w. value w c.args.instance) c.in_ok-val.val _ c.bind_to.result c.in_ok-val.ensures.ok
-    (goes_on c.args.heap.now c.bind_to.new.heap c.args.locals (λ w. object w (test_of wanted.Inst) (number_of (refusal_of wanted.Inst)) c.in_ok-val.val) (object_from c.args.heap.now.rows c.in_ok-target.target c.in_ok-target.ensures.ok.node) _ c.bind_to.result (reads-object c.args.heap.now c.args.locals (test_of wanted.Inst) c.in_ok-val.val c.in_ok-target.target c.in_ok-target.ensures.ok (number_of (refusal_of wanted.Inst)))
-    (goes_on c.args.heap.now c.bind_to.new.heap c.args.locals (λ w. ok_or (value_at c.in_ok-target.ensures.ok.node.entries (val.Str c.args.attr)) no_attribute) c.in-Some.found _ c.bind_to.result (reads-value_at c.args.heap.now c.args.locals (test_of wanted.Inst) c.in_ok-val.val c.in_ok-target.target c.in_ok-target.ensures.ok (val.Str c.args.attr) c.in-Some.found c.in-Some.ensures no_attribute)
+    (goes_on c.args.heap.now c.bind_to.new.heap c.args.locals.now (λ w. value w c.args.instance.now) c.in_ok-val.val _ c.bind_to.result c.in_ok-val.ensures.ok
+    (goes_on c.args.heap.now c.bind_to.new.heap c.args.locals.now (λ w. object w (test_of wanted.Inst) (number_of (refusal_of wanted.Inst)) c.in_ok-val.val) (object_from c.args.heap.now.rows c.in_ok-target.target c.in_ok-target.ensures.ok.node) _ c.bind_to.result (reads-object c.args.heap.now c.args.locals.now (test_of wanted.Inst) c.in_ok-val.val c.in_ok-target.target c.in_ok-target.ensures.ok (number_of (refusal_of wanted.Inst)))
+    (goes_on c.args.heap.now c.bind_to.new.heap c.args.locals.now (λ w. ok_or (value_at c.in_ok-target.ensures.ok.node.entries (val.Str c.args.attr)) no_attribute) c.in-Some.found _ c.bind_to.result (reads-value_at c.args.heap.now c.args.locals.now (test_of wanted.Inst) c.in_ok-val.val c.in_ok-target.target c.in_ok-target.ensures.ok (val.Str c.args.attr) c.in-Some.found c.in-Some.ensures no_attribute)
     c.bind_to.ensures)))
 
 pub returns-in-None : goal.returns-in-None
 returns-in-None g c =
-    (goes_on c.args.heap.now c.args.heap.now c.args.locals (λ w. value w c.args.instance) c.in_ok-val.val _ (Err refusal.NoAttribute) c.in_ok-val.ensures.ok
-    (goes_on c.args.heap.now c.args.heap.now c.args.locals (λ w. object w (test_of wanted.Inst) (number_of (refusal_of wanted.Inst)) c.in_ok-val.val) (object_from c.args.heap.now.rows c.in_ok-target.target c.in_ok-target.ensures.ok.node) _ (Err refusal.NoAttribute) (reads-object c.args.heap.now c.args.locals (test_of wanted.Inst) c.in_ok-val.val c.in_ok-target.target c.in_ok-target.ensures.ok (number_of (refusal_of wanted.Inst)))
-    (stops c.args.heap.now c.args.locals (λ w. ok_or (value_at c.in_ok-target.ensures.ok.node.entries (val.Str c.args.attr)) no_attribute) _ refusal.NoAttribute (no-value_at c.args.heap.now c.args.locals (test_of wanted.Inst) c.in_ok-val.val c.in_ok-target.target c.in_ok-target.ensures.ok (val.Str c.args.attr) c.in-None.ensures no_attribute))))
+    (goes_on c.args.heap.now c.args.heap.now c.args.locals.now (λ w. value w c.args.instance.now) c.in_ok-val.val _ (Err refusal.NoAttribute) c.in_ok-val.ensures.ok
+    (goes_on c.args.heap.now c.args.heap.now c.args.locals.now (λ w. object w (test_of wanted.Inst) (number_of (refusal_of wanted.Inst)) c.in_ok-val.val) (object_from c.args.heap.now.rows c.in_ok-target.target c.in_ok-target.ensures.ok.node) _ (Err refusal.NoAttribute) (reads-object c.args.heap.now c.args.locals.now (test_of wanted.Inst) c.in_ok-val.val c.in_ok-target.target c.in_ok-target.ensures.ok (number_of (refusal_of wanted.Inst)))
+    (stops c.args.heap.now c.args.locals.now (λ w. ok_or (value_at c.in_ok-target.ensures.ok.node.entries (val.Str c.args.attr)) no_attribute) _ refusal.NoAttribute (no-value_at c.args.heap.now c.args.locals.now (test_of wanted.Inst) c.in_ok-val.val c.in_ok-target.target c.in_ok-target.ensures.ok (val.Str c.args.attr) c.in-None.ensures no_attribute))))

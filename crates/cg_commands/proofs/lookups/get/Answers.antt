@@ -1,5 +1,5 @@
 use Rattle.std.proofs.Common.{◌<◌, ◌++◌, length, Err}
-use Rattle.std.proofs.lemmas.List.Elements.{All-head}
+use Rattle.std.proofs.lemmas.List.Elements.{All-head, All-tail}
 use Rattle.cg_script.specs.Texts.{operand_texts}
 use Rattle.std.specs.Prelude.{ok_or}
 use Rattle.std.proofs.lemmas.Result.{err_from_is_err_and}
@@ -15,29 +15,35 @@ use Rattle.cg_commands.specs.Objects.{test_of, refusal_of}
 use Rattle.cg_commands.proofs.Chains.{stops, goes_on}
 use Rattle.cg_commands.proofs.Steps.{reads-object, reads-value_at, no-value_at, reads-key, no-hash}
 use Rattle.cg_commands.proofs.Reading.{live-value_at}
+use Rattle.cg_commands.proofs.TextLemmas.{all_left}
 use Rattle.cg_commands.proofs.lookups.get.Goals as goal
+
+pub value-requires-clause-known : goal.value-requires-clause-known
+value-requires-clause-known g c =
+    all_left (λ n. n < length c.args.heap.now.names) (operand_texts c.args.dict.now) (operand_texts c.args.key.now)
+    (All-tail (λ n. n < length c.args.heap.now.names) c.args.name (operand_texts c.args.dict.now ++ operand_texts c.args.key.now) c.requires.known)
 
 pub returns-in_err-val : goal.returns-in_err-val
 returns-in_err-val g c =
     let p = err_from_is_err_and c.from_residual.result c.from_residual.ensures.1 in rw (p.1, p.2)
-    (stops c.args.heap.now c.args.locals (λ w. value w c.args.dict) _ c.in_err-val.field-0.0 c.in_err-val.ensures.err)
+    (stops c.args.heap.now c.args.locals.now (λ w. value w c.args.dict.now) _ c.in_err-val.field-0.0 c.in_err-val.ensures.err)
 
 pub returns-in_err-key : goal.returns-in_err-key
 returns-in_err-key g c =
     let p = err_from_is_err_and c.from_residual-in_err-key.result c.from_residual-in_err-key.ensures.1 in rw (p.1, p.2)
-    (goes_on c.args.heap.now c.args.heap.now c.args.locals (λ w. value w c.args.dict) c.in_ok-val.val _ (Err c.in_err-key.field-0.0) c.in_ok-val.ensures.ok
-    (stops c.args.heap.now c.args.locals (λ w. value w c.args.key) _ c.in_err-key.field-0.0 c.in_err-key.ensures.err))
+    (goes_on c.args.heap.now c.args.heap.now c.args.locals.now (λ w. value w c.args.dict.now) c.in_ok-val.val _ (Err c.in_err-key.field-0.0) c.in_ok-val.ensures.ok
+    (stops c.args.heap.now c.args.locals.now (λ w. value w c.args.key.now) _ c.in_err-key.field-0.0 c.in_err-key.ensures.err))
 
 pub returns-in_err-target : goal.returns-in_err-target
 returns-in_err-target g c =
     let p = err_from_is_err_and c.from_residual-in_err-target.result c.from_residual-in_err-target.ensures.1 in rw (p.1, p.2)
-    (goes_on c.args.heap.now c.args.heap.now c.args.locals (λ w. value w c.args.dict) c.in_ok-val.val _ (Err c.in_err-target.field-0.0) c.in_ok-val.ensures.ok
-    (goes_on c.args.heap.now c.args.heap.now c.args.locals (λ w. value w c.args.key) c.in_ok-key.key _ (Err c.in_err-target.field-0.0) c.in_ok-key.ensures.ok
-    (stops c.args.heap.now c.args.locals (λ w. object w (test_of wanted.Dict) (number_of (refusal_of wanted.Dict)) c.in_ok-val.val) _ c.in_err-target.field-0.0 (λ w s. c.in_err-target.ensures.err w s.represents))))
+    (goes_on c.args.heap.now c.args.heap.now c.args.locals.now (λ w. value w c.args.dict.now) c.in_ok-val.val _ (Err c.in_err-target.field-0.0) c.in_ok-val.ensures.ok
+    (goes_on c.args.heap.now c.args.heap.now c.args.locals.now (λ w. value w c.args.key.now) c.in_ok-key.key _ (Err c.in_err-target.field-0.0) c.in_ok-key.ensures.ok
+    (stops c.args.heap.now c.args.locals.now (λ w. object w (test_of wanted.Dict) (number_of (refusal_of wanted.Dict)) c.in_ok-val.val) _ c.in_err-target.field-0.0 (λ w s. c.in_err-target.ensures.err w s.represents))))
 
 pub bind_to-requires-clause-name : goal.bind_to-requires-clause-name
 bind_to-requires-clause-name g c =
-    All-head (λ n. n < length c.args.heap.now.names) c.args.name (operand_texts c.args.dict ++ operand_texts c.args.key) c.requires.known
+    All-head (λ n. n < length c.args.heap.now.names) c.args.name (operand_texts c.args.dict.now ++ operand_texts c.args.key.now) c.requires.known
 
 pub bind_to-requires-clause-live : goal.bind_to-requires-clause-live
 bind_to-requires-clause-live g c =
@@ -45,24 +51,24 @@ bind_to-requires-clause-live g c =
 
 pub returns-then-not-is_hashable : goal.returns-then-not-is_hashable
 returns-then-not-is_hashable g c =
-    (goes_on c.args.heap.now c.args.heap.now c.args.locals (λ w. value w c.args.dict) c.in_ok-val.val _ (Err refusal.Unhashable) c.in_ok-val.ensures.ok
-    (goes_on c.args.heap.now c.args.heap.now c.args.locals (λ w. value w c.args.key) c.in_ok-key.key _ (Err refusal.Unhashable) c.in_ok-key.ensures.ok
-    (goes_on c.args.heap.now c.args.heap.now c.args.locals (λ w. object w (test_of wanted.Dict) (number_of (refusal_of wanted.Dict)) c.in_ok-val.val) (object_from c.args.heap.now.rows c.in_ok-target.target c.in_ok-target.ensures.ok.node) _ (Err refusal.Unhashable) (reads-object c.args.heap.now c.args.locals (test_of wanted.Dict) c.in_ok-val.val c.in_ok-target.target c.in_ok-target.ensures.ok (number_of (refusal_of wanted.Dict)))
-    (stops c.args.heap.now c.args.locals (λ w. unless (is_hashable w c.in_ok-key.key) unhashable) _ refusal.Unhashable (no-hash c.args.heap.now c.args.locals c.in_ok-key.key c.is_hashable.result c.is_hashable.ensures c.if-not-is_hashable.true)))))
+    (goes_on c.args.heap.now c.args.heap.now c.args.locals.now (λ w. value w c.args.dict.now) c.in_ok-val.val _ (Err refusal.Unhashable) c.in_ok-val.ensures.ok
+    (goes_on c.args.heap.now c.args.heap.now c.args.locals.now (λ w. value w c.args.key.now) c.in_ok-key.key _ (Err refusal.Unhashable) c.in_ok-key.ensures.ok
+    (goes_on c.args.heap.now c.args.heap.now c.args.locals.now (λ w. object w (test_of wanted.Dict) (number_of (refusal_of wanted.Dict)) c.in_ok-val.val) (object_from c.args.heap.now.rows c.in_ok-target.target c.in_ok-target.ensures.ok.node) _ (Err refusal.Unhashable) (reads-object c.args.heap.now c.args.locals.now (test_of wanted.Dict) c.in_ok-val.val c.in_ok-target.target c.in_ok-target.ensures.ok (number_of (refusal_of wanted.Dict)))
+    (stops c.args.heap.now c.args.locals.now (λ w. unless (is_hashable w c.in_ok-key.key) unhashable) _ refusal.Unhashable (no-hash c.args.heap.now c.args.locals.now c.in_ok-key.key c.is_hashable.result c.is_hashable.ensures c.if-not-is_hashable.true)))))
 
 pub returns-in-Some : goal.returns-in-Some
 returns-in-Some g c =
-    (goes_on c.args.heap.now c.bind_to.new.heap c.args.locals (λ w. value w c.args.dict) c.in_ok-val.val _ c.bind_to.result c.in_ok-val.ensures.ok
-    (goes_on c.args.heap.now c.bind_to.new.heap c.args.locals (λ w. value w c.args.key) c.in_ok-key.key _ c.bind_to.result c.in_ok-key.ensures.ok
-    (goes_on c.args.heap.now c.bind_to.new.heap c.args.locals (λ w. object w (test_of wanted.Dict) (number_of (refusal_of wanted.Dict)) c.in_ok-val.val) (object_from c.args.heap.now.rows c.in_ok-target.target c.in_ok-target.ensures.ok.node) _ c.bind_to.result (reads-object c.args.heap.now c.args.locals (test_of wanted.Dict) c.in_ok-val.val c.in_ok-target.target c.in_ok-target.ensures.ok (number_of (refusal_of wanted.Dict)))
-    (goes_on c.args.heap.now c.bind_to.new.heap c.args.locals (λ w. unless (is_hashable w c.in_ok-key.key) unhashable) tt _ c.bind_to.result (reads-key c.args.heap.now c.args.locals c.in_ok-key.key c.is_hashable.result c.is_hashable.ensures c.if-not-is_hashable.false)
-    (goes_on c.args.heap.now c.bind_to.new.heap c.args.locals (λ w. ok_or (value_at c.in_ok-target.ensures.ok.node.entries c.in_ok-key.key) no_key) c.in-Some.found _ c.bind_to.result (reads-value_at c.args.heap.now c.args.locals (test_of wanted.Dict) c.in_ok-val.val c.in_ok-target.target c.in_ok-target.ensures.ok c.in_ok-key.key c.in-Some.found c.in-Some.ensures no_key)
+    (goes_on c.args.heap.now c.bind_to.new.heap c.args.locals.now (λ w. value w c.args.dict.now) c.in_ok-val.val _ c.bind_to.result c.in_ok-val.ensures.ok
+    (goes_on c.args.heap.now c.bind_to.new.heap c.args.locals.now (λ w. value w c.args.key.now) c.in_ok-key.key _ c.bind_to.result c.in_ok-key.ensures.ok
+    (goes_on c.args.heap.now c.bind_to.new.heap c.args.locals.now (λ w. object w (test_of wanted.Dict) (number_of (refusal_of wanted.Dict)) c.in_ok-val.val) (object_from c.args.heap.now.rows c.in_ok-target.target c.in_ok-target.ensures.ok.node) _ c.bind_to.result (reads-object c.args.heap.now c.args.locals.now (test_of wanted.Dict) c.in_ok-val.val c.in_ok-target.target c.in_ok-target.ensures.ok (number_of (refusal_of wanted.Dict)))
+    (goes_on c.args.heap.now c.bind_to.new.heap c.args.locals.now (λ w. unless (is_hashable w c.in_ok-key.key) unhashable) tt _ c.bind_to.result (reads-key c.args.heap.now c.args.locals.now c.in_ok-key.key c.is_hashable.result c.is_hashable.ensures c.if-not-is_hashable.false)
+    (goes_on c.args.heap.now c.bind_to.new.heap c.args.locals.now (λ w. ok_or (value_at c.in_ok-target.ensures.ok.node.entries c.in_ok-key.key) no_key) c.in-Some.found _ c.bind_to.result (reads-value_at c.args.heap.now c.args.locals.now (test_of wanted.Dict) c.in_ok-val.val c.in_ok-target.target c.in_ok-target.ensures.ok c.in_ok-key.key c.in-Some.found c.in-Some.ensures no_key)
     c.bind_to.ensures)))))
 
 pub returns-in-None : goal.returns-in-None
 returns-in-None g c =
-    (goes_on c.args.heap.now c.args.heap.now c.args.locals (λ w. value w c.args.dict) c.in_ok-val.val _ (Err refusal.NoKey) c.in_ok-val.ensures.ok
-    (goes_on c.args.heap.now c.args.heap.now c.args.locals (λ w. value w c.args.key) c.in_ok-key.key _ (Err refusal.NoKey) c.in_ok-key.ensures.ok
-    (goes_on c.args.heap.now c.args.heap.now c.args.locals (λ w. object w (test_of wanted.Dict) (number_of (refusal_of wanted.Dict)) c.in_ok-val.val) (object_from c.args.heap.now.rows c.in_ok-target.target c.in_ok-target.ensures.ok.node) _ (Err refusal.NoKey) (reads-object c.args.heap.now c.args.locals (test_of wanted.Dict) c.in_ok-val.val c.in_ok-target.target c.in_ok-target.ensures.ok (number_of (refusal_of wanted.Dict)))
-    (goes_on c.args.heap.now c.args.heap.now c.args.locals (λ w. unless (is_hashable w c.in_ok-key.key) unhashable) tt _ (Err refusal.NoKey) (reads-key c.args.heap.now c.args.locals c.in_ok-key.key c.is_hashable.result c.is_hashable.ensures c.if-not-is_hashable.false)
-    (stops c.args.heap.now c.args.locals (λ w. ok_or (value_at c.in_ok-target.ensures.ok.node.entries c.in_ok-key.key) no_key) _ refusal.NoKey (no-value_at c.args.heap.now c.args.locals (test_of wanted.Dict) c.in_ok-val.val c.in_ok-target.target c.in_ok-target.ensures.ok c.in_ok-key.key c.in-None.ensures no_key))))))
+    (goes_on c.args.heap.now c.args.heap.now c.args.locals.now (λ w. value w c.args.dict.now) c.in_ok-val.val _ (Err refusal.NoKey) c.in_ok-val.ensures.ok
+    (goes_on c.args.heap.now c.args.heap.now c.args.locals.now (λ w. value w c.args.key.now) c.in_ok-key.key _ (Err refusal.NoKey) c.in_ok-key.ensures.ok
+    (goes_on c.args.heap.now c.args.heap.now c.args.locals.now (λ w. object w (test_of wanted.Dict) (number_of (refusal_of wanted.Dict)) c.in_ok-val.val) (object_from c.args.heap.now.rows c.in_ok-target.target c.in_ok-target.ensures.ok.node) _ (Err refusal.NoKey) (reads-object c.args.heap.now c.args.locals.now (test_of wanted.Dict) c.in_ok-val.val c.in_ok-target.target c.in_ok-target.ensures.ok (number_of (refusal_of wanted.Dict)))
+    (goes_on c.args.heap.now c.args.heap.now c.args.locals.now (λ w. unless (is_hashable w c.in_ok-key.key) unhashable) tt _ (Err refusal.NoKey) (reads-key c.args.heap.now c.args.locals.now c.in_ok-key.key c.is_hashable.result c.is_hashable.ensures c.if-not-is_hashable.false)
+    (stops c.args.heap.now c.args.locals.now (λ w. ok_or (value_at c.in_ok-target.ensures.ok.node.entries c.in_ok-key.key) no_key) _ refusal.NoKey (no-value_at c.args.heap.now c.args.locals.now (test_of wanted.Dict) c.in_ok-val.val c.in_ok-target.target c.in_ok-target.ensures.ok c.in_ok-key.key c.in-None.ensures no_key))))))

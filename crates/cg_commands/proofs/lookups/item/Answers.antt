@@ -19,20 +19,20 @@ use Rattle.cg_commands.proofs.lookups.item.Goals as goal
 pub returns-in_err-val : goal.returns-in_err-val
 returns-in_err-val g c =
     let p = err_from_is_err_and c.from_residual.result c.from_residual.ensures.1 in rw (p.1, p.2)
-    (stops c.args.heap.now c.args.locals (λ w. value w c.args.list) _ c.in_err-val.field-0.0 c.in_err-val.ensures.err)
+    (stops c.args.heap.now c.args.locals.now (λ w. value w c.args.list.now) _ c.in_err-val.field-0.0 c.in_err-val.ensures.err)
 
 pub returns-in_err-target : goal.returns-in_err-target
 returns-in_err-target g c =
     let p = err_from_is_err_and c.from_residual-in_err-target.result c.from_residual-in_err-target.ensures.1 in rw (p.1, p.2)
-    (goes_on c.args.heap.now c.args.heap.now c.args.locals (λ w. value w c.args.list) c.in_ok-val.val _ (Err c.in_err-target.field-0.0) c.in_ok-val.ensures.ok
-    (stops c.args.heap.now c.args.locals (λ w. object w (test_of wanted.Sequence) (number_of (refusal_of wanted.Sequence)) c.in_ok-val.val) _ c.in_err-target.field-0.0 (λ w s. c.in_err-target.ensures.err w s.represents)))
+    (goes_on c.args.heap.now c.args.heap.now c.args.locals.now (λ w. value w c.args.list.now) c.in_ok-val.val _ (Err c.in_err-target.field-0.0) c.in_ok-val.ensures.ok
+    (stops c.args.heap.now c.args.locals.now (λ w. object w (test_of wanted.Sequence) (number_of (refusal_of wanted.Sequence)) c.in_ok-val.val) _ c.in_err-target.field-0.0 (λ w s. c.in_err-target.ensures.err w s.represents)))
 
 pub returns-in_err-i : goal.returns-in_err-i
 returns-in_err-i g c =
     let p = err_from_is_err_and c.from_residual-in_err-i.result c.from_residual-in_err-i.ensures.1 in rw (p.1, p.2)
-    (goes_on c.args.heap.now c.args.heap.now c.args.locals (λ w. value w c.args.list) c.in_ok-val.val _ (Err c.in_err-i.field-0.0) c.in_ok-val.ensures.ok
-    (goes_on c.args.heap.now c.args.heap.now c.args.locals (λ w. object w (test_of wanted.Sequence) (number_of (refusal_of wanted.Sequence)) c.in_ok-val.val) (object_from c.args.heap.now.rows c.in_ok-target.target c.in_ok-target.ensures.ok.node) _ (Err c.in_err-i.field-0.0) (reads-object c.args.heap.now c.args.locals (test_of wanted.Sequence) c.in_ok-val.val c.in_ok-target.target c.in_ok-target.ensures.ok (number_of (refusal_of wanted.Sequence)))
-    (stops c.args.heap.now c.args.locals (λ w. ok_or (valid_index c.args.index (length c.in_ok-target.ensures.ok.node.entries)) no_index) _ c.in_err-i.field-0.0 (no-index c.args.heap.now c.args.locals (test_of wanted.Sequence) c.in_ok-val.val c.in_ok-target.target c.in_ok-target.ensures.ok c.args.index (to_z w64 (of_z w64 c.args.index)) (to_z-of_z c.ranges.index) c.in_err-i.field-0.0 c.in_err-i.ensures.err c.in_err-i.ensures.none))))
+    (goes_on c.args.heap.now c.args.heap.now c.args.locals.now (λ w. value w c.args.list.now) c.in_ok-val.val _ (Err c.in_err-i.field-0.0) c.in_ok-val.ensures.ok
+    (goes_on c.args.heap.now c.args.heap.now c.args.locals.now (λ w. object w (test_of wanted.Sequence) (number_of (refusal_of wanted.Sequence)) c.in_ok-val.val) (object_from c.args.heap.now.rows c.in_ok-target.target c.in_ok-target.ensures.ok.node) _ (Err c.in_err-i.field-0.0) (reads-object c.args.heap.now c.args.locals.now (test_of wanted.Sequence) c.in_ok-val.val c.in_ok-target.target c.in_ok-target.ensures.ok (number_of (refusal_of wanted.Sequence)))
+    (stops c.args.heap.now c.args.locals.now (λ w. ok_or (valid_index c.args.index (length c.in_ok-target.ensures.ok.node.entries)) no_index) _ c.in_err-i.field-0.0 (no-index c.args.heap.now c.args.locals.now (test_of wanted.Sequence) c.in_ok-val.val c.in_ok-target.target c.in_ok-target.ensures.ok c.args.index (to_z w64 (of_z w64 c.args.index)) (to_z-of_z c.ranges.index) c.in_err-i.field-0.0 c.in_err-i.ensures.err c.in_err-i.ensures.none))))
 
 pub bind_to-requires-clause-live : goal.bind_to-requires-clause-live
 bind_to-requires-clause-live g c =
@@ -40,8 +40,8 @@ bind_to-requires-clause-live g c =
 
 pub returns : goal.returns
 returns g c =
-    (goes_on c.args.heap.now c.bind_to.new.heap c.args.locals (λ w. value w c.args.list) c.in_ok-val.val _ c.bind_to.result c.in_ok-val.ensures.ok
-    (goes_on c.args.heap.now c.bind_to.new.heap c.args.locals (λ w. object w (test_of wanted.Sequence) (number_of (refusal_of wanted.Sequence)) c.in_ok-val.val) (object_from c.args.heap.now.rows c.in_ok-target.target c.in_ok-target.ensures.ok.node) _ c.bind_to.result (reads-object c.args.heap.now c.args.locals (test_of wanted.Sequence) c.in_ok-val.val c.in_ok-target.target c.in_ok-target.ensures.ok (number_of (refusal_of wanted.Sequence)))
-    (goes_on c.args.heap.now c.bind_to.new.heap c.args.locals (λ w. ok_or (valid_index c.args.index (length c.in_ok-target.ensures.ok.node.entries)) no_index) c.in_ok-i.i _ c.bind_to.result (reads-index c.args.heap.now c.args.locals (test_of wanted.Sequence) c.in_ok-val.val c.in_ok-target.target c.in_ok-target.ensures.ok c.args.index (to_z w64 (of_z w64 c.args.index)) (to_z-of_z c.ranges.index) c.in_ok-i.i c.in_ok-i.ensures.ok)
-    (goes_on c.args.heap.now c.bind_to.new.heap c.args.locals (λ w. ok_or (slice_get c.in_ok-target.ensures.ok.node.entries c.in_ok-i.i) no_index) c.entry_at-entry.result _ c.bind_to.result (reads-entry c.args.heap.now c.args.locals (test_of wanted.Sequence) c.in_ok-val.val c.in_ok-target.target c.in_ok-target.ensures.ok c.in_ok-i.i c.entry_at-entry.result c.entry_at-entry.ensures no_index)
+    (goes_on c.args.heap.now c.bind_to.new.heap c.args.locals.now (λ w. value w c.args.list.now) c.in_ok-val.val _ c.bind_to.result c.in_ok-val.ensures.ok
+    (goes_on c.args.heap.now c.bind_to.new.heap c.args.locals.now (λ w. object w (test_of wanted.Sequence) (number_of (refusal_of wanted.Sequence)) c.in_ok-val.val) (object_from c.args.heap.now.rows c.in_ok-target.target c.in_ok-target.ensures.ok.node) _ c.bind_to.result (reads-object c.args.heap.now c.args.locals.now (test_of wanted.Sequence) c.in_ok-val.val c.in_ok-target.target c.in_ok-target.ensures.ok (number_of (refusal_of wanted.Sequence)))
+    (goes_on c.args.heap.now c.bind_to.new.heap c.args.locals.now (λ w. ok_or (valid_index c.args.index (length c.in_ok-target.ensures.ok.node.entries)) no_index) c.in_ok-i.i _ c.bind_to.result (reads-index c.args.heap.now c.args.locals.now (test_of wanted.Sequence) c.in_ok-val.val c.in_ok-target.target c.in_ok-target.ensures.ok c.args.index (to_z w64 (of_z w64 c.args.index)) (to_z-of_z c.ranges.index) c.in_ok-i.i c.in_ok-i.ensures.ok)
+    (goes_on c.args.heap.now c.bind_to.new.heap c.args.locals.now (λ w. ok_or (slice_get c.in_ok-target.ensures.ok.node.entries c.in_ok-i.i) no_index) c.entry_at-entry.result _ c.bind_to.result (reads-entry c.args.heap.now c.args.locals.now (test_of wanted.Sequence) c.in_ok-val.val c.in_ok-target.target c.in_ok-target.ensures.ok c.in_ok-i.i c.entry_at-entry.result c.entry_at-entry.ensures no_index)
     c.bind_to.ensures))))

@@ -18,7 +18,7 @@ pub returns-in_err-parts : goal.returns-in_err-parts
 returns-in_err-parts g c =
     let p = err_from_is_err_and c.from_residual.result c.from_residual.ensures.1 in record {
       performs = rw (p.1, p.2)
-          (stops c.args.heap.now c.args.locals (λ w. values w c.args.cells.now) _ c.in_err-parts.field-0.0 c.in_err-parts.ensures.err);
+          (stops c.args.heap.now c.args.locals.now (λ w. values w c.args.cells.now) _ c.in_err-parts.field-0.0 c.in_err-parts.ensures.err);
       room = rw p.1 tt;
     }
 
@@ -36,7 +36,7 @@ make_bound-requires-clause-parts g c =
 pub returns : goal.returns
 returns g c = record {
   performs =
-      (goes_on c.args.heap.now c.make_bound.new.heap c.args.locals (λ w. values w c.args.cells.now) c.in_ok-parts.ensures.ok.vals _ c.make_bound.result c.in_ok-parts.ensures.ok.reads
-      (subst (λ ps. PerformsOnHeap c.args.heap.now c.args.locals (λ w. makes w c.args.name kind.Func (Some c.args.proc) ps None) c.make_bound.new.heap c.make_bound.result) (c.as_slice.ensures ∙ c.in_ok-parts.ensures.ok.items) c.make_bound.ensures.performs));
+      (goes_on c.args.heap.now c.make_bound.new.heap c.args.locals.now (λ w. values w c.args.cells.now) c.in_ok-parts.ensures.ok.vals _ c.make_bound.result c.in_ok-parts.ensures.ok.reads
+      (subst (λ ps. PerformsOnHeap c.args.heap.now c.args.locals.now (λ w. makes w c.args.name kind.Func (Some c.args.proc) ps None) c.make_bound.new.heap c.make_bound.result) (c.as_slice.ensures ∙ c.in_ok-parts.ensures.ok.items) c.make_bound.ensures.performs));
   room = c.make_bound.ensures.room;
 }

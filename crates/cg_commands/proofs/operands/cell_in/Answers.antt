@@ -18,4 +18,4 @@ past store locals l f i is func end =
     sym found
 
 pub returns-else-i-len-clause-value : goal.returns-else-i-len-clause-value
-returns-else-i-len-clause-value g c = past c.args.heap.now c.args.locals c.in-Some.frame c.in-Some-func.func c.args.i c.in-Some.is c.in-Some-func.is (omega (arith, c.if-i-len.false, c.len.ensures, c.from-i.ensures))
+returns-else-i-len-clause-value g c = past c.args.heap.now c.args.locals.now c.in-Some.frame c.in-Some-func.func c.args.i c.in-Some.is c.in-Some-func.is (omega (arith, c.if-i-len.false, c.len.ensures, c.from-i.ensures))

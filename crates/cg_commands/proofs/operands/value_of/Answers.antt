@@ -5,4 +5,4 @@ pub returns-in-Name-clause-live : goal.returns-in-Name-clause-live
 returns-in-Name-clause-live g c = live-name c.args.heap.now c.sound.ensures c.in-Name.name c.name.result c.name.ensures
 
 pub returns-in-Cell-clause-value : goal.returns-in-Cell-clause-value
-returns-in-Cell-clause-value g c = reads-cell c.args.heap.now c.args.locals c.in-Cell.i c.args.operand c.cell_in.result c.in-Cell.is c.cell_in.ensures.value
+returns-in-Cell-clause-value g c = reads-cell c.args.heap.now c.args.locals.now c.in-Cell.i c.args.operand.now c.cell_in.result c.in-Cell.is c.cell_in.ensures.value
