@@ -23,10 +23,10 @@ pub enum Caller {
 impl Caller {
     /// The same with another next command, or with none left.
     #[inline(always)]
-    pub fn with_next(self, next: Option<usize>) -> Caller
-        ensures { result ≡ with_next next self }
+    pub fn with_next(&self, next: Option<usize>) -> Caller
+        ensures { result ≡ with_next next self.now }
     {
-        match self {
+        match *self {
             Caller::Script { .. } => Caller::Script { next },
             Caller::Frame {
                 locals,
@@ -42,10 +42,10 @@ impl Caller {
 
     /// The locals of a frame.
     #[inline(always)]
-    pub fn locals(self) -> Option<Locals>
-        ensures { result ≡ caller_locals self }
+    pub fn locals(&self) -> Option<Locals>
+        ensures { result ≡ caller_locals self.now }
     {
-        match self {
+        match *self {
             Caller::Script { .. } => None,
             Caller::Frame { locals, .. } => Some(locals),
         }
@@ -53,10 +53,10 @@ impl Caller {
 
     /// What is under way where it is.
     #[inline(always)]
-    pub fn activity(self) -> Activity
-        ensures { result ≡ caller_activity self }
+    pub fn activity(&self) -> Activity
+        ensures { result ≡ caller_activity self.now }
     {
-        match self {
+        match *self {
             Caller::Script { next } => Activity::Script { next },
             Caller::Frame {
                 locals,
@@ -71,12 +71,12 @@ impl Caller {
     }
 
     /// The same without a command left, if it is a frame.
-    pub fn stopped_frame(self) -> Caller
-        ensures { result ≡ without_rest_in_frame self }
+    pub fn stopped_frame(&self) -> Caller
+        ensures { result ≡ without_rest_in_frame self.now }
     {
-        match self {
+        match *self {
             Caller::Script { next } => Caller::Script { next },
-            frame => frame.with_next(None),
+            Caller::Frame { .. } => self.with_next(None),
         }
     }
 }

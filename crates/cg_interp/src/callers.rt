@@ -1,13 +1,16 @@
 //! The script, or a frame, on top.
-ghost use Rattle.std.specs.Prelude.{◌≡◌, true, [], length};
+ghost use Rattle.std.specs.Prelude.{◌≡◌, ◌<◌, ◌≤◌, true, false, [], length};
 ghost use Rattle.cg_machine.specs.Program.{commands_of};
-ghost use Rattle.cg_machine.specs.World.{World};
+ghost use Rattle.cg_machine.specs.World.{World, push};
+ghost use Rattle.cg_machine.specs.Commands.{new_collection};
+ghost use Rattle.cg_laws.specs.Kept.{StaysKept};
 ghost use Rattle.cg_script.specs.declared.Script.{Script as AnyScript};
 ghost use Rattle.cg_script.specs.Spelled.{IsSpelled, IsSpelledCommand};
 ghost use Rattle.cg_commands.specs.Stands.{LocalsLive};
 ghost use Rattle.cg_interp.specs.declared.activity.Activity.TheVariants as activity_of;
-ghost use Rattle.cg_interp.specs.Engines.{commands_from};
-ghost use Rattle.cg_interp.specs.Turns.{IsFit, StaysFit, HasRoomForOneMore, HasMoreRoom};
+ghost use Rattle.cg_interp.specs.Engines.{StandsFor, under, commands_from};
+ghost use Rattle.cg_interp.specs.Collecting.{StandsWith};
+ghost use Rattle.cg_interp.specs.Turns.{IsFit, StaysFit, TurnKeeps, HasRoomForOneMore, HasMoreRoom};
 ghost use Rattle.cg_interp.specs.Telling.{IsAtTurn, TurnsFrom};
 ghost use Rattle.cg_interp.specs.Callers.{caller_activity, caller_locals, MayCommand, ComesNext, IsAtCommand, RunsTo, StepsFrom};
 
@@ -32,7 +35,7 @@ impl<B: Kind> Engine<B> {
         'commands: loop {
             match next_in(&script.items, next) {
                 Some((command, after)) => {
-                    match self.step(Caller::Script { next }, command, after) {
+                    match self.step(&Caller::Script { next }, command, after) {
                         Some(answer) => return answer,
                         None => next = Some(after),
                     }
@@ -82,7 +85,7 @@ impl<B: Kind> Engine<B> {
                         procedure,
                         next,
                     };
-                    match self.step(caller, command, after) {
+                    match self.step(&caller, command, after) {
                         Some(answer) => return answer,
                         None => next = Some(after),
                     }
@@ -95,34 +98,50 @@ impl<B: Kind> Engine<B> {
     /// The next command of a caller, which was on top, or a collection that is due before it. Nothing is answered where no line
     /// is due and the caller is to go on: it is not put back.
     #[inline(always)]
-    fn step(&mut self, caller: Caller, command: &Command, after: usize) -> Option<Turned>
-        requires stands { (script : AnyScript) × ComesNext script caller command.now after
-            × IsAtTurn script (caller_activity caller) self.old }
-        ensures steps { (script : AnyScript) → ComesNext script caller command.now after
-            → StepsFrom script caller after self.old self.new result }
+    fn step(&mut self, caller: &Caller, command: &Command, after: usize) -> Option<Turned>
+        requires stands { (script : AnyScript) × ComesNext script caller.now command.now after
+            × IsAtTurn script (caller_activity caller.now) self.old }
+        ensures steps { (script : AnyScript) → ComesNext script caller.now command.now after
+            → StepsFrom script caller.now after self.old self.new result }
         ensures fit { StaysFit self.old self.new }
     {
         // No heap is large, and where no collection runs none of its places has an object.
         self.heap.sound();
         match self.policy.due() {
             Some(generation) => {
-                self.collect(caller.activity(), false, generation);
+                self.collect_first(caller, generation);
                 Some(Turned::Quiet)
             }
-            None => self.run(caller.with_next(Some(after)), command),
+            None => self.run(&caller.with_next(Some(after)), command),
         }
+    }
+
+    /// A collection of a generation that is due begins above the caller that was on top, before its next command.
+    #[inline(never)]
+    fn collect_first(&mut self, caller: &Caller, generation: u8)
+        requires generation { generation ≤ 2 }
+        requires room { 1 < self.old.room }
+        requires idle { self.old.policy.running ≡ false }
+        requires stands { (script : AnyScript) × IsSpelled script × IsFit script self.old
+            × (w : World) × StandsFor script (under (caller_activity caller.now) self.old) w
+            × StaysKept script self.old.first_budget (push (new_collection generation false w) w) }
+        ensures begins { (script : AnyScript) (w : World) → StandsFor script (under (caller_activity caller.now) self.old) w
+            → StandsWith script self.new [] (push (new_collection generation false w) w) }
+        ensures keeps { TurnKeeps self.old self.new }
+    {
+        self.collect(caller.activity(), false, generation);
     }
 
     /// Does a command of the caller that was on top, which has gone on to the command after it.
     #[inline(always)]
-    fn run(&mut self, caller: Caller, command: &Command) -> Option<Turned>
+    fn run(&mut self, caller: &Caller, command: &Command) -> Option<Turned>
         requires spelled { IsSpelledCommand (length self.old.store.names) command.now }
-        requires locals { LocalsLive self.old.store (caller_locals caller) }
+        requires locals { LocalsLive self.old.store (caller_locals caller.now) }
         requires may { MayCommand self.old }
         requires stands { (script : AnyScript) × IsSpelled script × IsFit script self.old × (w : World)
-            × IsAtCommand script caller self.old w command.now }
-        ensures does { (script : AnyScript) (w : World) → IsAtCommand script caller self.old w command.now
-            → RunsTo script w command.now (caller_activity caller) self.new result }
+            × IsAtCommand script caller.now self.old w command.now }
+        ensures does { (script : AnyScript) (w : World) → IsAtCommand script caller.now self.old w command.now
+            → RunsTo script w command.now (caller_activity caller.now) self.new result }
         ensures fit { StaysFit self.old self.new }
     {
         let room = self.make_room(command);
@@ -131,15 +150,15 @@ impl<B: Kind> Engine<B> {
 
     /// The same, where an object is made only if there is room for its death.
     #[inline(always)]
-    fn carry_out(&mut self, caller: Caller, command: &Command, room: bool) -> Option<Turned>
+    fn carry_out(&mut self, caller: &Caller, command: &Command, room: bool) -> Option<Turned>
         requires spelled { IsSpelledCommand (length self.old.store.names) command.now }
-        requires locals { LocalsLive self.old.store (caller_locals caller) }
+        requires locals { LocalsLive self.old.store (caller_locals caller.now) }
         requires may { MayCommand self.old }
         requires stands { (script : AnyScript) × IsSpelled script × IsFit script self.old × (w : World)
-            × IsAtCommand script caller self.old w command.now }
+            × IsAtCommand script caller.now self.old w command.now }
         requires one_more { room ≡ true → HasRoomForOneMore self.old }
-        ensures does { (script : AnyScript) (w : World) → IsAtCommand script caller self.old w command.now
-            → RunsTo script w command.now (caller_activity caller) self.new result }
+        ensures does { (script : AnyScript) (w : World) → IsAtCommand script caller.now self.old w command.now
+            → RunsTo script w command.now (caller_activity caller.now) self.new result }
         ensures fit { StaysFit self.old self.new }
     {
         let done = perform(
@@ -155,6 +174,7 @@ impl<B: Kind> Engine<B> {
 
     /// Makes room on the stack for the death of an object, if the command makes one. It answers whether it does and there is
     /// room.
+    #[inline(always)]
     fn make_room(&mut self, command: &Command) -> bool
         ensures one_more { result ≡ true → HasRoomForOneMore self.new }
         ensures alone { HasMoreRoom self.old self.new }
@@ -167,6 +187,7 @@ impl<B: Kind> Engine<B> {
     }
 
     /// Makes room on the stack for the death of one more object. It answers whether there is room.
+    #[inline(never)]
     fn reserve(&mut self) -> bool
         ensures one_more { result ≡ true → HasRoomForOneMore self.new }
         ensures alone { HasMoreRoom self.old self.new }

@@ -7,17 +7,18 @@ ghost use Rattle.cg_heap.specs.Calls.{HasFewHolds};
 ghost use Rattle.cg_script.specs.declared.Script.{Script as AnyScript};
 ghost use Rattle.cg_script.specs.declared.Command.{Command as AnyCommand};
 ghost use Rattle.cg_script.specs.Spelled.{IsSpelled};
-ghost use Rattle.cg_death.specs.Activities.{references_left};
+ghost use Rattle.cg_death.specs.Activities.{references_left, IsUnheld};
 ghost use Rattle.cg_machine.specs.World.{World, with_stack};
-ghost use Rattle.cg_machine.specs.Frame.{start_frame, procedure_of};
+ghost use Rattle.cg_machine.specs.Frame.{start_frame, procedure_of, begin_death};
 ghost use Rattle.cg_machine.specs.Represents.{Represents};
 ghost use Rattle.cg_machine.specs.Commands.{refused, without_commands, effect};
 ghost use Rattle.cg_machine.specs.Effects.{Collects};
 ghost use Rattle.cg_policy.specs.Policy.{Policy as AnyPolicy};
+ghost use Rattle.cg_interp.specs.declared.activity.Activity.TheVariants as activity_of;
 ghost use Rattle.cg_interp.specs.Engines.{StandsFor, under};
 ghost use Rattle.cg_interp.specs.Quietly.{ComesTo};
 ghost use Rattle.cg_interp.specs.Callers.{caller_activity, Changes, releasing, transition_of_change, call_of, told, GivesUp, DoesAny, RunsTo, IsPerformed, HasPerformed, StaysKeptAfter};
-ghost use Rattle.cg_interp.specs.Turns.{Makes, TurnKeeps, IsFit, StaysSound};
+ghost use Rattle.cg_interp.specs.Turns.{Makes, TurnKeeps, IsFit, StaysSound, DyingIsSound};
 
 use crate::activity::Activity;
 use crate::caller::Caller;
@@ -35,13 +36,13 @@ impl<B: Kind> Engine<B> {
     /// What the engine does once the command of the caller that was on top has been performed. Nothing is answered where no line
     /// is due and the caller is to go on: it is not put back.
     #[inline(always)]
-    pub fn answer(&mut self, caller: Caller, done: Result<Done, Refusal>) -> Option<Turned>
+    pub fn answer(&mut self, caller: &Caller, done: Result<Done, Refusal>) -> Option<Turned>
         requires room { 2 < self.old.room }
         requires performed { (script : AnyScript) × IsSpelled script × IsFit script self.old
-            × HasPerformed script (caller_activity caller) self.old done }
+            × HasPerformed script (caller_activity caller.now) self.old done }
         ensures does { (script : AnyScript) (w : World) (command : AnyCommand) (before : Store) (was : AnyPolicy)
-            → IsPerformed script (caller_activity caller) self.old w command before was done
-            → RunsTo script w command (caller_activity caller) self.new result }
+            → IsPerformed script (caller_activity caller.now) self.old w command before was done
+            → RunsTo script w command (caller_activity caller.now) self.new result }
         ensures keeps { TurnKeeps self.old self.new }
     {
         match done {
@@ -52,13 +53,13 @@ impl<B: Kind> Engine<B> {
 
     /// The same once it has been done.
     #[inline(always)]
-    fn proceed(&mut self, caller: Caller, done: Done) -> Option<Turned>
+    fn proceed(&mut self, caller: &Caller, done: Done) -> Option<Turned>
         requires room { 2 < self.old.room }
         requires performed { (script : AnyScript) × IsSpelled script × IsFit script self.old
-            × HasPerformed script (caller_activity caller) self.old (Ok done) }
+            × HasPerformed script (caller_activity caller.now) self.old (Ok done) }
         ensures does { (script : AnyScript) (w : World) (command : AnyCommand) (before : Store) (was : AnyPolicy)
-            → IsPerformed script (caller_activity caller) self.old w command before was (Ok done)
-            → RunsTo script w command (caller_activity caller) self.new result }
+            → IsPerformed script (caller_activity caller.now) self.old w command before was (Ok done)
+            → RunsTo script w command (caller_activity caller.now) self.new result }
         ensures keeps { TurnKeeps self.old self.new }
     {
         match done {
@@ -71,9 +72,10 @@ impl<B: Kind> Engine<B> {
     }
 
     /// A command was refused, which also ends the frame that it stood in.
-    fn refuse(&mut self, caller: Caller, number: u8) -> Turned
+    #[inline(never)]
+    fn refuse(&mut self, caller: &Caller, number: u8) -> Turned
         requires room { 0 < self.old.room }
-        ensures refuses { (script : AnyScript) (w : World) → StandsFor script (under (caller_activity caller) self.old) w
+        ensures refuses { (script : AnyScript) (w : World) → StandsFor script (under (caller_activity caller.now) self.old) w
             → Makes script (refused number w) self.new result }
         ensures keeps { TurnKeeps self.old self.new }
     {
@@ -84,32 +86,48 @@ impl<B: Kind> Engine<B> {
     /// A command changed what it had to, and references are given up. The death of an object that nothing holds any more
     /// begins.
     #[inline(always)]
-    fn change(&mut self, caller: Caller, line: Option<Event>, given_up: Entry) -> Option<Turned>
+    fn change(&mut self, caller: &Caller, line: Option<Event>, given_up: Entry) -> Option<Turned>
         requires room { 2 < self.old.room }
-        requires stands { (script : AnyScript) × (after : World) × Changes script (caller_activity caller) self.old given_up after
+        requires stands { (script : AnyScript) × (after : World) × Changes script (caller_activity caller.now) self.old given_up after
             × StaysSound script (releasing given_up after) }
-        ensures gives_up { (script : AnyScript) (after : World) → Changes script (caller_activity caller) self.old given_up after
+        ensures gives_up { (script : AnyScript) (after : World) → Changes script (caller_activity caller.now) self.old given_up after
             → StaysSound script (releasing given_up after)
-            → GivesUp script (releasing given_up after) (caller_activity caller) self.new line result }
+            → GivesUp script (releasing given_up after) (caller_activity caller.now) self.new line result }
         ensures keeps { TurnKeeps self.old self.new }
     {
         let mut release = Release::new(given_up);
         match give_up(&mut self.heap, &mut release) {
             Some(object) => {
-                self.stack.push(caller.activity());
-                self.die_in(release, object);
+                self.die_above(caller, release, object);
                 Some(told(line))
             }
             None => self.tell_line(caller, line),
         }
     }
 
+    /// The death of an object begins that a release hands out, which stands above the caller. Both are put back.
+    #[inline(never)]
+    fn die_above(&mut self, caller: &Caller, release: Release, object: u64)
+        requires unheld { IsUnheld self.old.store object }
+        requires room { 2 < self.old.room }
+        requires stands { (script : AnyScript) × (w : World)
+            × StandsFor script (under (activity_of.Releasing release) (under (caller_activity caller.now) self.old)) w
+            × DyingIsSound (begin_death object w) }
+        ensures begins { (script : AnyScript) (w : World)
+            → StandsFor script (under (activity_of.Releasing release) (under (caller_activity caller.now) self.old)) w
+            → StandsFor script self.new (begin_death object w) }
+        ensures keeps { TurnKeeps self.old self.new }
+    {
+        self.stack.push(caller.activity());
+        self.die_in(release, object);
+    }
+
     /// A line ends the turn, if one is due. Then the caller is put back.
     #[inline(always)]
-    fn tell_line(&mut self, caller: Caller, line: Option<Event>) -> Option<Turned>
+    fn tell_line(&mut self, caller: &Caller, line: Option<Event>) -> Option<Turned>
         requires room { 0 < self.old.room }
-        ensures tells { (script : AnyScript) (w : World) → ComesTo script w (under (caller_activity caller) self.old)
-            → GivesUp script w (caller_activity caller) self.new line result }
+        ensures tells { (script : AnyScript) (w : World) → ComesTo script w (under (caller_activity caller.now) self.old)
+            → GivesUp script w (caller_activity caller.now) self.new line result }
         ensures keeps { TurnKeeps self.old self.new }
     {
         match line {
@@ -122,9 +140,10 @@ impl<B: Kind> Engine<B> {
     }
 
     /// A command tells lines. Nothing is to be given up.
-    fn tell(&mut self, caller: Caller, lines: Lines) -> Turned
+    #[inline(never)]
+    fn tell(&mut self, caller: &Caller, lines: Lines) -> Turned
         requires room { 1 < self.old.room }
-        ensures tells { (script : AnyScript) (after : World) → Changes script (caller_activity caller) self.old (item val_of.None) after
+        ensures tells { (script : AnyScript) (after : World) → Changes script (caller_activity caller.now) self.old (item val_of.None) after
             → Makes script (transition_of_change lines (item val_of.None) after) self.new result }
         ensures keeps { TurnKeeps self.old self.new }
     {
@@ -134,9 +153,10 @@ impl<B: Kind> Engine<B> {
     }
 
     /// A command ends the frame that it stands in, or the script.
-    fn quit(&mut self, caller: Caller) -> Turned
+    #[inline(never)]
+    fn quit(&mut self, caller: &Caller) -> Turned
         requires room { 0 < self.old.room }
-        ensures quits { (script : AnyScript) (w : World) → StandsFor script (under (caller_activity caller) self.old) w
+        ensures quits { (script : AnyScript) (w : World) → StandsFor script (under (caller_activity caller.now) self.old) w
             → Makes script ([], with_stack (without_commands w.stack) w) self.new result }
         ensures keeps { TurnKeeps self.old self.new }
     {
@@ -145,11 +165,12 @@ impl<B: Kind> Engine<B> {
     }
 
     /// A command calls a function.
-    fn call(&mut self, caller: Caller, function: u64) -> Turned
+    #[inline(never)]
+    fn call(&mut self, caller: &Caller, function: u64) -> Turned
         requires few { HasFewHolds self.old.store }
         requires live { IsLive self.old.store function }
         requires room { 1 < self.old.room }
-        ensures calls { (script : AnyScript) (w : World) → StandsFor script (under (caller_activity caller) self.old) w
+        ensures calls { (script : AnyScript) (w : World) → StandsFor script (under (caller_activity caller.now) self.old) w
             → Makes script (start_frame script (call_of function w) w) self.new result }
         ensures keeps { TurnKeeps self.old self.new }
     {
@@ -164,13 +185,14 @@ impl<B: Kind> Engine<B> {
     }
 
     /// Starts the collection that a command asks for. Where one is running, none starts, and the answer is 0.
-    fn collect_if_idle(&mut self, caller: Caller, generation: u8) -> Turned
+    #[inline(never)]
+    fn collect_if_idle(&mut self, caller: &Caller, generation: u8) -> Turned
         requires generation { generation ≤ 2 }
         requires room { 2 < self.old.room }
         requires stands { (script : AnyScript) × IsSpelled script × IsFit script self.old
-            × (command : AnyCommand) × (w : World) × StandsFor script (under (caller_activity caller) self.old) w
+            × (command : AnyCommand) × (w : World) × StandsFor script (under (caller_activity caller.now) self.old) w
             × (effect w command ≡ Ok (Collects generation)) × StaysKeptAfter script self.old.first_budget w command }
-        ensures does { (script : AnyScript) (command : AnyCommand) (w : World) → StandsFor script (under (caller_activity caller) self.old) w
+        ensures does { (script : AnyScript) (command : AnyCommand) (w : World) → StandsFor script (under (caller_activity caller.now) self.old) w
             → effect w command ≡ Ok (Collects generation) → DoesAny script w command self.new result }
         ensures keeps { TurnKeeps self.old self.new }
     {
@@ -185,6 +207,7 @@ impl<B: Kind> Engine<B> {
 }
 
 /// What is answered with this line due, or none.
+#[inline(always)]
 fn told(line: Option<Event>) -> Turned
     ensures { result ≡ told line }
 {

@@ -6,6 +6,7 @@ ghost use Rattle.cg_interp.specs.Engines.{commands_from};
 use cg_script::{Command, Items, Script};
 
 /// The next command outside procedures, and the number of the one after it, if one is left.
+#[inline(always)]
 pub fn next_in(items: &Items, next: Option<usize>) -> Option<(&Command, usize)>
     ensures none { IfNone result (commands_from next (commands_of items.now) ≡ []) }
     ensures some { IfSome result (λ r. commands_from next (commands_of items.now)
@@ -21,6 +22,7 @@ pub fn next_in(items: &Items, next: Option<usize>) -> Option<(&Command, usize)>
 }
 
 /// The next of some commands, and the number of the one after it, if one is left.
+#[inline(always)]
 pub fn next_of(commands: &[Command], next: Option<usize>) -> Option<(&Command, usize)>
     ensures none { IfNone result (commands_from next commands.now ≡ []) }
     ensures some { IfSome result (λ r. commands_from next commands.now
@@ -36,6 +38,7 @@ pub fn next_of(commands: &[Command], next: Option<usize>) -> Option<(&Command, u
 }
 
 /// The commands of a procedure, by its number. There are none where the script has no such procedure.
+#[inline(always)]
 pub fn body_of(script: &Script, number: u32) -> &[Command]
     ensures { result.now ≡ body_of script.now number }
 {

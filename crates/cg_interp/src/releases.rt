@@ -56,6 +56,7 @@ impl<B: Kind> Engine<B> {
 
 /// Gives up the references of a release one after the other, up to one whose object nothing holds any more. It answers that
 /// object, if there is one: its death is to begin.
+#[inline(always)]
 pub fn give_up<B: Kind>(heap: &mut Heap<B>, release: &mut Release) -> Option<u64>
     requires stands { (script : AnyScript) × (e : State) × (w : World)
         × StandsFor script (under (activity_of.Releasing release.old) (over heap.old e)) w × StaysSound script w }

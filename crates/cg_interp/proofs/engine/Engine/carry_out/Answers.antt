@@ -10,12 +10,12 @@ use Rattle.cg_interp.proofs.engine.Engine.carry_out.Goals as goal
 
 pub perform-done-requires-clause-locals : goal.perform-done-requires-clause-locals
 perform-done-requires-clause-locals g c =
-    subst (LocalsLive c.self.inside.heap) (sym c.locals.ensures) (subst (λ (e : State). LocalsLive e.store (caller_locals c.args.caller)) (sym c.self.view_is) c.requires.locals)
+    subst (LocalsLive c.self.inside.heap) (sym c.locals.ensures) (subst (λ (e : State). LocalsLive e.store (caller_locals c.args.caller.now)) (sym c.self.view_is) c.requires.locals)
 
 pub answer-requires-clause-performed : goal.answer-requires-clause-performed
 answer-requires-clause-performed g c =
     let (script, spelled, fit, w, at) = c.requires.stands in
-    let before = subst (λ e. StandsFor script (under (caller_activity c.args.caller) e) w) (sym c.self.view_is) at.stands in
+    let before = subst (λ e. StandsFor script (under (caller_activity c.args.caller.now) e) w) (sym c.self.view_is) at.stands in
     let locals = subst (λ l. HasLocals l w) (sym c.locals.ensures) at.locals in (
       script,
       spelled,
@@ -37,7 +37,7 @@ answer-requires-clause-performed g c =
 
 pub returns-clause-does : goal.returns-clause-does
 returns-clause-does g c = λ script w at.
-    let before = subst (λ e. StandsFor script (under (caller_activity c.args.caller) e) w) (sym c.self.view_is) at.stands in
+    let before = subst (λ e. StandsFor script (under (caller_activity c.args.caller.now) e) w) (sym c.self.view_is) at.stands in
     let locals = subst (λ l. HasLocals l w) (sym c.locals.ensures) at.locals in
     c.answer.ensures.does script w c.args.command.now c.self.inside.heap c.self.inside.policy (record {
       stood = before;
@@ -48,7 +48,7 @@ returns-clause-does g c = λ script w at.
 pub returns-clause-fit : goal.returns-clause-fit
 returns-clause-fit g c =
     let (script, spelled, fit, w, at) = c.requires.stands in
-    let before = subst (λ e. StandsFor script (under (caller_activity c.args.caller) e) w) (sym c.self.view_is) at.stands in
+    let before = subst (λ e. StandsFor script (under (caller_activity c.args.caller.now) e) w) (sym c.self.view_is) at.stands in
     let locals = subst (λ l. HasLocals l w) (sym c.locals.ensures) at.locals in
     fit_then c.args.self.now _ c.answer.new.self
     (fit_after c.args.room c.args.self.now _ c.self.view_is c.perform-done.new.heap c.perform-done.new.policy

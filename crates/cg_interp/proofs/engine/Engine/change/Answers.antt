@@ -1,10 +1,8 @@
-use Rattle.std.proofs.Common.{refl, sym, ◌∙◌, ap, subst, ◌∷◌}
+use Rattle.std.proofs.Common.{sym, subst}
 use Rattle.cg_machine.specs.Frame.{begin_death}
-use Rattle.cg_interp.specs.declared.activity.Activity.TheVariants as activity_of
-use Rattle.cg_interp.specs.Engines.{State, over, under}
+use Rattle.cg_interp.specs.Engines.{State, under}
 use Rattle.cg_interp.specs.Callers.{caller_activity, releasing, Changes}
 use Rattle.cg_interp.proofs.AnswerLemmas.{change_stands}
-use Rattle.cg_interp.proofs.CallerLemmas.{same_engine}
 use Rattle.cg_interp.proofs.CollectMoves.{engine_of}
 use Rattle.cg_interp.proofs.GivingUp.{release_detects_none}
 use Rattle.cg_interp.proofs.Quietly.{quietly}
@@ -14,27 +12,26 @@ use Rattle.cg_interp.proofs.engine.Engine.change.Goals as goal
 pub give_up-requires : goal.give_up-requires
 give_up-requires g c =
     let (script, after, changes, sound) = c.requires.stands in
-    let top = caller_activity c.args.caller in
+    let top = caller_activity c.args.caller.now in
     let e : State = engine_of c.self.inside.heap c.self.inside.policy c.self.inside.stack c.self.inside.budget c.self.inside.first_budget in
     record { stands = (script, under top e, releasing c.args.given_up after, change_stands script top e c.args.given_up c.new-release.result after c.new-release.ensures (subst (λ s. Changes script top s c.args.given_up after) (sym c.self.view_is) changes), sound) }
 
-pub die_in-requires-clause-stands : goal.die_in-requires-clause-stands
-die_in-requires-clause-stands g c =
+pub die_above-requires-clause-stands : goal.die_above-requires-clause-stands
+die_above-requires-clause-stands g c =
     let (script, after, changes, sound) = c.requires.stands in
-    let top = caller_activity c.args.caller in
+    let top = caller_activity c.args.caller.now in
     let e : State = engine_of c.self.inside.heap c.self.inside.policy c.self.inside.stack c.self.inside.budget c.self.inside.first_budget in
     let stood = change_stands script top e c.args.given_up c.new-release.result after c.new-release.ensures (subst (λ s. Changes script top s c.args.given_up after) (sym c.self.view_is) changes) in
     let gives = c.in-Some.ensures.releases script (under top e) (releasing c.args.given_up after) stood sound in (
       script,
       gives.before,
-      same_engine script (under (activity_of.Releasing c.give_up.new.release) (over c.give_up.new.heap (under top e))) _ gives.before gives.stands refl refl
-          (ap (λ l. activity_of.Releasing c.give_up.new.release ∷ l) (c.push.ensures.top ∙ ap (λ a. a ∷ c.self.inside.stack.activities) c.activity.ensures)) refl,
+      gives.stands,
       still_sound script (releasing c.args.given_up after) c.in-Some.object _ sound gives,
     )
 
 pub returns-in-Some-clause-gives_up : goal.returns-in-Some-clause-gives_up
 returns-in-Some-clause-gives_up g c = λ script after changes sound.
-    let top = caller_activity c.args.caller in
+    let top = caller_activity c.args.caller.now in
     let e : State = engine_of c.self.inside.heap c.self.inside.policy c.self.inside.stack c.self.inside.budget c.self.inside.first_budget in
     let stood = change_stands script top e c.args.given_up c.new-release.result after c.new-release.ensures (subst (λ s. Changes script top s c.args.given_up after) (sym c.self.view_is) changes) in
     let gives = c.in-Some.ensures.releases script (under top e) (releasing c.args.given_up after) stood sound in (
@@ -42,15 +39,13 @@ returns-in-Some-clause-gives_up g c = λ script after changes sound.
       record {
         after = begin_death c.in-Some.object gives.before;
         goes = quietly script (releasing c.args.given_up after) (begin_death c.in-Some.object gives.before) (release_detects_none script c.new-release.result (under top e) (releasing c.args.given_up after) stood) gives.goes;
-        stands = c.die_in.ensures.begins script gives.before
-            (same_engine script (under (activity_of.Releasing c.give_up.new.release) (over c.give_up.new.heap (under top e))) _ gives.before gives.stands refl refl
-            (ap (λ l. activity_of.Releasing c.give_up.new.release ∷ l) (c.push.ensures.top ∙ ap (λ a. a ∷ c.self.inside.stack.activities) c.activity.ensures)) refl);
+        stands = c.die_above.ensures.begins script gives.before gives.stands;
       },
     )
 
 pub returns-in-None-clause-gives_up : goal.returns-in-None-clause-gives_up
 returns-in-None-clause-gives_up g c = λ script after changes sound.
-    let top = caller_activity c.args.caller in
+    let top = caller_activity c.args.caller.now in
     let e : State = engine_of c.self.inside.heap c.self.inside.policy c.self.inside.stack c.self.inside.budget c.self.inside.first_budget in
     let stood = change_stands script top e c.args.given_up c.new-release.result after c.new-release.ensures (subst (λ s. Changes script top s c.args.given_up after) (sym c.self.view_is) changes) in
     let goes = c.in-None.ensures.releases script (under top e) (releasing c.args.given_up after) stood sound in

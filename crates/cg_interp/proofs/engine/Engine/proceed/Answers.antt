@@ -13,74 +13,74 @@ use Rattle.cg_interp.proofs.engine.Engine.proceed.Goals as goal
 pub change-requires-clause-stands : goal.change-requires-clause-stands
 change-requires-clause-stands g c =
     let (script, spelled, fit, performed) = c.requires.performed in
-    let has = subst (λ d. HasPerformed script (caller_activity c.args.caller) c.args.self.now (Ok d)) c.in-Changed.is performed in
+    let has = subst (λ d. HasPerformed script (caller_activity c.args.caller.now) c.args.self.now (Ok d)) c.in-Changed.is performed in
     let p = has.performed in
     let may = change_may script has.world (effect has.world has.command) p.answers.heap.wants_memory _ _ p.answers.heap.after p.answers.heap.is in (
       script,
       p.answers.heap.after,
-      changed script c.args.self.now (caller_activity c.args.caller) has.world has.command has.before has.was c.in-Changed.line c.in-Changed.given_up p,
+      changed script c.args.self.now (caller_activity c.args.caller.now) has.world has.command has.before has.was c.in-Changed.line c.in-Changed.given_up p,
       stays_sound script c.args.self.now.first_budget (releasing c.in-Changed.given_up p.answers.heap.after) (p.kept (option_to_list c.in-Changed.line) (releasing c.in-Changed.given_up p.answers.heap.after) may),
     )
 
 pub returns-in-Changed-clause-does : goal.returns-in-Changed-clause-does
 returns-in-Changed-clause-does g c = λ script w command before was performed.
-    let p = subst (λ d. IsPerformed script (caller_activity c.args.caller) c.args.self.now w command before was (Ok d)) c.in-Changed.is performed in
+    let p = subst (λ d. IsPerformed script (caller_activity c.args.caller.now) c.args.self.now w command before was (Ok d)) c.in-Changed.is performed in
     let may = change_may script w (effect w command) p.answers.heap.wants_memory _ _ p.answers.heap.after p.answers.heap.is in
-    runs_to script w command (caller_activity c.args.caller) c.change.new.self c.in-Changed.line (releasing c.in-Changed.given_up p.answers.heap.after) may c.change.result
+    runs_to script w command (caller_activity c.args.caller.now) c.change.new.self c.in-Changed.line (releasing c.in-Changed.given_up p.answers.heap.after) may c.change.result
     (c.change.ensures.gives_up script p.answers.heap.after
-    (changed script c.args.self.now (caller_activity c.args.caller) w command before was c.in-Changed.line c.in-Changed.given_up p)
+    (changed script c.args.self.now (caller_activity c.args.caller.now) w command before was c.in-Changed.line c.in-Changed.given_up p)
     (stays_sound script c.args.self.now.first_budget (releasing c.in-Changed.given_up p.answers.heap.after) (p.kept (option_to_list c.in-Changed.line) (releasing c.in-Changed.given_up p.answers.heap.after) may)))
 
 pub call-requires-clause-few : goal.call-requires-clause-few
 call-requires-clause-few g c =
     let (script, spelled, fit, performed) = c.requires.performed in
-    let has = subst (λ d. HasPerformed script (caller_activity c.args.caller) c.args.self.now (Ok d)) c.in-Calls.is performed in
+    let has = subst (λ d. HasPerformed script (caller_activity c.args.caller.now) c.args.self.now (Ok d)) c.in-Calls.is performed in
     subst HasFewHolds (sym has.performed.answers.heap.1) has.few
 
 pub call-requires-clause-live : goal.call-requires-clause-live
 call-requires-clause-live g c =
     let (script, spelled, fit, performed) = c.requires.performed in
-    let has = subst (λ d. HasPerformed script (caller_activity c.args.caller) c.args.self.now (Ok d)) c.in-Calls.is performed in
-    called_lives script c.args.self.now (caller_activity c.args.caller) has.world has.command has.before has.was c.in-Calls.function has.performed
+    let has = subst (λ d. HasPerformed script (caller_activity c.args.caller.now) c.args.self.now (Ok d)) c.in-Calls.is performed in
+    called_lives script c.args.self.now (caller_activity c.args.caller.now) has.world has.command has.before has.was c.in-Calls.function has.performed
 
 pub returns-in-Calls-clause-does : goal.returns-in-Calls-clause-does
 returns-in-Calls-clause-does g c = λ script w command before was performed.
-    let p = subst (λ d. IsPerformed script (caller_activity c.args.caller) c.args.self.now w command before was (Ok d)) c.in-Calls.is performed in
+    let p = subst (λ d. IsPerformed script (caller_activity c.args.caller.now) c.args.self.now w command before was (Ok d)) c.in-Calls.is performed in
     inl (record {
       transition = start_frame script (call_of c.in-Calls.function w) w;
       may = call_may script w (effect w command) c.in-Calls.function p.answers.heap.0;
-      makes = c.call.ensures.calls script w (as_before script c.args.self.now (caller_activity c.args.caller) w command before was p.stood p.answers.heap.1 p.answers.policy);
+      makes = c.call.ensures.calls script w (as_before script c.args.self.now (caller_activity c.args.caller.now) w command before was p.stood p.answers.heap.1 p.answers.policy);
     })
 
 pub collect_if_idle-requires-clause-generation : goal.collect_if_idle-requires-clause-generation
 collect_if_idle-requires-clause-generation g c =
     let (script, spelled, fit, performed) = c.requires.performed in
-    let has = subst (λ d. HasPerformed script (caller_activity c.args.caller) c.args.self.now (Ok d)) c.in-Collects.is performed in
+    let has = subst (λ d. HasPerformed script (caller_activity c.args.caller.now) c.args.self.now (Ok d)) c.in-Collects.is performed in
     has.performed.answers.heap.1
 
 pub collect_if_idle-requires-clause-stands : goal.collect_if_idle-requires-clause-stands
 collect_if_idle-requires-clause-stands g c =
     let (script, spelled, fit, performed) = c.requires.performed in
-    let has = subst (λ d. HasPerformed script (caller_activity c.args.caller) c.args.self.now (Ok d)) c.in-Collects.is performed in
+    let has = subst (λ d. HasPerformed script (caller_activity c.args.caller.now) c.args.self.now (Ok d)) c.in-Collects.is performed in
     let p = has.performed in
-    (script, spelled, fit, has.command, has.world, as_before script c.args.self.now (caller_activity c.args.caller) has.world has.command has.before has.was p.stood p.answers.heap.2 p.answers.policy, p.answers.heap.0, p.kept)
+    (script, spelled, fit, has.command, has.world, as_before script c.args.self.now (caller_activity c.args.caller.now) has.world has.command has.before has.was p.stood p.answers.heap.2 p.answers.policy, p.answers.heap.0, p.kept)
 
 pub returns-in-Collects-clause-does : goal.returns-in-Collects-clause-does
 returns-in-Collects-clause-does g c = λ script w command before was performed.
-    let p = subst (λ d. IsPerformed script (caller_activity c.args.caller) c.args.self.now w command before was (Ok d)) c.in-Collects.is performed in
-    c.collect_if_idle.ensures.does script command w (as_before script c.args.self.now (caller_activity c.args.caller) w command before was p.stood p.answers.heap.2 p.answers.policy) p.answers.heap.0
+    let p = subst (λ d. IsPerformed script (caller_activity c.args.caller.now) c.args.self.now w command before was (Ok d)) c.in-Collects.is performed in
+    c.collect_if_idle.ensures.does script command w (as_before script c.args.self.now (caller_activity c.args.caller.now) w command before was p.stood p.answers.heap.2 p.answers.policy) p.answers.heap.0
 
 pub returns-in-Tells-clause-does : goal.returns-in-Tells-clause-does
 returns-in-Tells-clause-does g c = λ script w command before was performed.
-    let p = subst (λ d. IsPerformed script (caller_activity c.args.caller) c.args.self.now w command before was (Ok d)) c.in-Tells.is performed in
-    let t = told script c.args.self.now (caller_activity c.args.caller) w command before was c.in-Tells.lines p in
+    let p = subst (λ d. IsPerformed script (caller_activity c.args.caller.now) c.args.self.now w command before was (Ok d)) c.in-Tells.is performed in
+    let t = told script c.args.self.now (caller_activity c.args.caller.now) w command before was c.in-Tells.lines p in
     inl (record { transition = transition_of_change c.in-Tells.lines (item val_of.None) t.after; may = t.may; makes = c.tell.ensures.tells script t.after t.changes })
 
 pub returns-in-Quits-clause-does : goal.returns-in-Quits-clause-does
 returns-in-Quits-clause-does g c = λ script w command before was performed.
-    let p = subst (λ d. IsPerformed script (caller_activity c.args.caller) c.args.self.now w command before was (Ok d)) c.in-Quits.is performed in
+    let p = subst (λ d. IsPerformed script (caller_activity c.args.caller.now) c.args.self.now w command before was (Ok d)) c.in-Quits.is performed in
     inl (record {
       transition = _;
       may = quit_may script w (effect w command) p.answers.heap.0;
-      makes = c.quit.ensures.quits script w (as_before script c.args.self.now (caller_activity c.args.caller) w command before was p.stood p.answers.heap.1 p.answers.policy);
+      makes = c.quit.ensures.quits script w (as_before script c.args.self.now (caller_activity c.args.caller.now) w command before was p.stood p.answers.heap.1 p.answers.policy);
     })

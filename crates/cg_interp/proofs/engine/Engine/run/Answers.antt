@@ -14,7 +14,7 @@ carry_out-requires-clause-stands g c =
       (roomier_fit c.args.self.now c.make_room-room.new.self room).fit script fit,
       w,
       record {
-        stands = same_engine script (under (caller_activity c.args.caller) c.args.self.now) (under (caller_activity c.args.caller) c.make_room-room.new.self) w at.stands room.store room.policy (ap (λ l. caller_activity c.args.caller ∷ l) room.activities) room.budget;
+        stands = same_engine script (under (caller_activity c.args.caller.now) c.args.self.now) (under (caller_activity c.args.caller.now) c.make_room-room.new.self) w at.stands room.store room.policy (ap (λ l. caller_activity c.args.caller.now ∷ l) room.activities) room.budget;
         locals = at.locals;
         kept = subst (λ n. StaysKeptAfter script n w c.args.command.now) (sym room.first_budget) at.kept;
       },
@@ -24,7 +24,7 @@ pub returns-clause-does : goal.returns-clause-does
 returns-clause-does g c = λ script w at.
     let room = c.make_room-room.ensures.alone in
     c.carry_out.ensures.does script w (record {
-      stands = same_engine script (under (caller_activity c.args.caller) c.args.self.now) (under (caller_activity c.args.caller) c.make_room-room.new.self) w at.stands room.store room.policy (ap (λ l. caller_activity c.args.caller ∷ l) room.activities) room.budget;
+      stands = same_engine script (under (caller_activity c.args.caller.now) c.args.self.now) (under (caller_activity c.args.caller.now) c.make_room-room.new.self) w at.stands room.store room.policy (ap (λ l. caller_activity c.args.caller.now ∷ l) room.activities) room.budget;
       locals = at.locals;
       kept = subst (λ n. StaysKeptAfter script n w c.args.command.now) (sym room.first_budget) at.kept;
     })

@@ -10,8 +10,8 @@ returns-in-Some-clause-tells g c = λ script w comes. (
   record {
     after = comes.after;
     goes = comes.goes;
-    stands = same_engine script (under (caller_activity c.args.caller) c.args.self.now) _ comes.after comes.stands (ap (λ (e : State). e.store) c.self.view_is) (ap (λ (e : State). e.policy) c.self.view_is)
-        (c.push.ensures.top ∙ ap (λ a. a ∷ c.self.inside.stack.activities) c.activity.ensures ∙ ap (λ (e : State). caller_activity c.args.caller ∷ e.activities) c.self.view_is) (ap (λ (e : State). e.budget) c.self.view_is);
+    stands = same_engine script (under (caller_activity c.args.caller.now) c.args.self.now) _ comes.after comes.stands (ap (λ (e : State). e.store) c.self.view_is) (ap (λ (e : State). e.policy) c.self.view_is)
+        (c.push.ensures.top ∙ ap (λ a. a ∷ c.self.inside.stack.activities) c.activity.ensures ∙ ap (λ (e : State). caller_activity c.args.caller.now ∷ e.activities) c.self.view_is) (ap (λ (e : State). e.budget) c.self.view_is);
   },
 )
 
