@@ -1,8 +1,8 @@
 -- Items, as lists, tuples, functions and weak references keep them.
-use Rattle.std.proofs.Common.{◌≡◌, ℕ, suc, ◌+◌, ◌-◌, ◌<◌, ◌≤◌, true, false, List, [], ◌∷◌, length, get_or, Some, None, refl, sym, ap, ◌∙◌, cond, arith, map}
+use Rattle.std.proofs.Common.{◌≡◌, ℕ, suc, ◌+◌, ◌<◌, true, false, List, [], ◌∷◌, length, get_or, Some, None, refl, sym, ap, ◌∙◌, cond, arith, map}
 use Rattle.std.specs.Prelude.{position, pos, slice_get, slice_set, option_map}
 use Rattle.std.specs.List.{position_from}
-use Rattle.std.proofs.lemmas.List.{length-map, map-set}
+use Rattle.std.proofs.lemmas.List.{map-set}
 use Rattle.std.proofs.lemmas.Option.{slice_get-map, slice_get-get_or}
 use Rattle.std.proofs.lemmas.Iterator.Adapters.{position_from-zero}
 use Rattle.cg_value.specs.declared.Val.{Val}
@@ -10,7 +10,7 @@ use Rattle.cg_value.specs.declared.Val.TheVariants.{None as Nothing, Int}
 use Rattle.cg_value.specs.declared.Entry.{Entry}
 use Rattle.cg_value.specs.declared.KindCode.TheVariants.{List as ListKind}
 use Rattle.cg_graph.specs.Value.{same_value, item}
-use Rattle.cg_kind.specs.Calls.{has_key, AreItems, CanPut, value_under, after_put}
+use Rattle.cg_kind.specs.Calls.{has_key, AreItems, value_under, after_put}
 use Rattle.cg_kinds.proofs.KeyLemmas.{equal, equal-same_value}
 
 -- items are told by their values
@@ -49,27 +49,12 @@ item-at value xs i d within =
     slice_get-map item (map value xs) i
     ∙ ap (option_map item) (slice_get-map value xs i ∙ ap (option_map value) (slice_get-get_or xs i d within))
 
-abbrev index_in : Val → ℕ
-index_in (Int (pos i)) = i
-index_in key = 0
-
--- the index that a put on a list is at lies in it
-pub index-within : (values : List Val) (key : Val) (i : ℕ) → CanPut ListKind (map item values) key → key ≡ Int (pos i) → i < length values
-index-within values key i can is =
-    let same : can.0 ≡ i = ap index_in (sym can.1 ∙ is) in
-    omega (arith, length-map values item, can.2, same)
-
 -- the values after a put at an index
 pub values-put : (values : List Val) (key : Val) (i : ℕ) (val : Val) → key ≡ Int (pos i) → map item (slice_set values i val) ≡ after_put ListKind (map item values) key val
 values-put values key i val is = map-set item values i val ∙ ap (λ k. after_put ListKind (map item values) k val) (sym is)
 
 -- the value that a put at an index replaces
-pub value-under : (values : List Val) (key : Val) (i : ℕ) (val : Val) → key ≡ Int (pos i) → i < length values → val ≡ get_or values i val → Some val ≡ value_under ListKind (map item values) key
-value-under values key i val is within at =
-    ap Some at
-    ∙ sym (ap (option_map (λ e. e.val)) (slice_get-map item values i ∙ ap (option_map item) (slice_get-get_or values i val within)))
+pub value-under : (values : List Val) (key : Val) (i : ℕ) (val : Val) → key ≡ Int (pos i) → slice_get values i ≡ Some val → Some val ≡ value_under ListKind (map item values) key
+value-under values key i val is at =
+    sym (ap (option_map (λ e. e.val)) (slice_get-map item values i ∙ ap (option_map item) at))
     ∙ ap (value_under ListKind (map item values)) (sym is)
-
--- the room behind the items of a list, once one has left
-pub room-more : (cap len cap' len' : ℕ) → len' + 1 ≡ len → cap' ≡ cap → len ≤ cap → cap' - len' ≡ cap - len + 1
-room-more cap len cap' len' l c within = omega arith

@@ -1,6 +1,7 @@
 mod PlaceLemmas
 mod KeyLemmas
 mod ItemLemmas
+mod ValueLemmas
 mod PairLemmas
 mod TestLemmas
 mod FewLemmas

@@ -1,14 +1,14 @@
 -- The bodies of what objects hold. (Ours.)
-use Rattle.std.specs.Prelude.{◌≡◌, ℕ, ◌-◌, pos, List, map, Vec, vec_len, vec_capacity}
-use Rattle.std.proofs.Common.{Global}
+use Rattle.std.specs.Prelude.{◌≡◌, ℕ, pos, List, map}
 use Rattle.cg_value.specs.declared.Val.{Val}
 use Rattle.cg_value.specs.declared.Val.TheVariants as val
 use Rattle.cg_graph.specs.Value.{item}
 use Rattle.cg_kind.specs.Bodies.{Body, body_of}
+use Rattle.cg_kinds.specs.Values.{Kept}
 
 -- the items of a list, and the room that is left behind them
-abbrev pub list_body : Vec Val Global → Body
-list_body values = body_of (map item values.items) (vec_capacity values - vec_len values)
+abbrev pub list_body : Kept → Body
+list_body values = body_of (map item values.items) values.room
 
 -- these items, and no room
 abbrev pub fixed_body : List Val → Body

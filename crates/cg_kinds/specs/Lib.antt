@@ -1,5 +1,5 @@
 pub mod Places
-pub mod Packed
+pub mod Values
 pub mod Contents
 pub mod Held
 pub mod Pairs

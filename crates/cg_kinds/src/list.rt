@@ -7,7 +7,7 @@ ghost use Rattle.cg_kinds.specs.Contents.{list_body, IsIndex};
 use crate::body_slab::BodySlab;
 use crate::contents::Contents;
 use crate::items::{find_item, item_of};
-use crate::packed::{Packed, packed_values_of};
+use crate::values::Values;
 use cg_value::{Entry, KindCode, Val};
 use std::alloc::{AllocError, Global};
 
@@ -17,7 +17,7 @@ pub type ListKind = BodySlab<ListItems>;
 /// The items of a list.
 #[derive(Drop)]
 pub struct ListItems {
-    values: Vec<Packed>,
+    values: Values,
 }
 
 /// The index that a key of a list is.
@@ -41,46 +41,51 @@ impl Contents for ListItems {
     }
 
     fn make(alloc: Global, parts: &[Entry]) -> Result<Self, AllocError> {
-        let values = packed_values_of(alloc, parts)?;
+        let values = Values::of_items(alloc, parts)?;
         Ok(ListItems { values })
     }
 
+    #[inline(always)]
     fn len(&self) -> usize {
         self.values.len()
     }
 
+    #[inline(always)]
     fn entry_at(&self, i: usize) -> Entry {
-        item_of(self.values[i].val())
+        item_of(self.values.val(i))
     }
 
     fn find(&self, key: Val) -> Option<usize> {
         find_item(self.values.len(), key)
     }
 
+    #[inline(always)]
     fn put(&mut self, key: Val, val: Val) -> Result<Option<Val>, AllocError> {
         let i = index_of(key);
-        let replaced = self.values[i].val();
-        self.values[i] = Packed::new(val);
+        let replaced = self.values.val(i);
+        self.values.set(i, val);
         Ok(Some(replaced))
     }
 
     fn take(&mut self, i: usize) -> Entry {
-        item_of(self.values.remove(i).val())
+        item_of(self.values.remove(i))
     }
 
     fn detach(&mut self) -> Option<Entry> {
         match self.values.pop() {
-            Some(last) => Some(item_of(last.val())),
+            Some(last) => Some(item_of(last)),
             None => None,
         }
     }
 
+    #[inline(always)]
     fn reserve(&mut self, n: usize) -> Result<(), AllocError> {
         self.values.reserve(n)?;
         Ok(())
     }
 
+    #[inline(always)]
     fn append_reserved(&mut self, val: Val) {
-        self.values.push_reserved(Packed::new(val));
+        self.values.push_reserved(val);
     }
 }

@@ -1,0 +1,147 @@
+-- Values in two columns of words: what a place of both holds, and what a change of both does to the values.
+use Rattle.std.proofs.Common.{◌≡◌, ℕ, zero, suc, ◌+◌, ◌-◌, ◌<◌, ◌^◌, List, [], ◌∷◌, ◌++◌, length, get_or, set, remove, Some, Global, refl, sym, ap, subst, ◌∙◌, arith, length-append}
+use Rattle.std.specs.Prelude.{Vec, vec_len, slice_get}
+use Rattle.std.specs.List.{AllZip}
+use Rattle.std.proofs.lemmas.List.{length-set}
+use Rattle.std.proofs.lemmas.List.Edits.{length-remove}
+use Rattle.cg_kinds.specs.Values.{value_in, values_in, AreWords, AreColumns, Kept}
+
+-- the columns have a sort and a number for each value
+length-sorts : (sorts numbers : List ℕ) → AllZip AreWords sorts numbers → length sorts ≡ length (values_in sorts numbers)
+length-sorts [] [] words = refl
+length-sorts [] (y ∷ ys) words = absurd words
+length-sorts (x ∷ xs) [] words = absurd words
+length-sorts (x ∷ xs) (y ∷ ys) words = ap suc (length-sorts xs ys words.1)
+
+length-numbers : (sorts numbers : List ℕ) → AllZip AreWords sorts numbers → length numbers ≡ length (values_in sorts numbers)
+length-numbers [] [] words = refl
+length-numbers [] (y ∷ ys) words = absurd words
+length-numbers (x ∷ xs) [] words = absurd words
+length-numbers (x ∷ xs) (y ∷ ys) words = ap suc (length-numbers xs ys words.1)
+
+-- a place of both columns
+value-at : (sorts numbers : List ℕ) (i s n : ℕ) → i < length (values_in sorts numbers) → s ≡ get_or sorts i s → n ≡ get_or numbers i n → slice_get (values_in sorts numbers) i ≡ Some (value_in s n)
+value-at [] numbers i s n within sort number = absurd (omega (arith, within))
+value-at (x ∷ xs) [] i s n within sort number = absurd (omega (arith, within))
+value-at (x ∷ xs) (y ∷ ys) zero s n within sort number = λ j. Some (value_in (sym sort j) (sym number j))
+value-at (x ∷ xs) (y ∷ ys) (suc i) s n within sort number = value-at xs ys i s n (omega (arith, within)) sort number
+
+words-at : (sorts numbers : List ℕ) (i s n : ℕ) → AllZip AreWords sorts numbers → i < length (values_in sorts numbers) → s ≡ get_or sorts i s → n ≡ get_or numbers i n → AreWords s n
+words-at [] numbers i s n words within sort number = absurd (omega (arith, within))
+words-at (x ∷ xs) [] i s n words within sort number = absurd words
+words-at (x ∷ xs) (y ∷ ys) zero s n words within sort number = λ text. subst (λ m. m < 2 ^ 32) (sym number) (words.0 (sym sort ∙ text))
+words-at (x ∷ xs) (y ∷ ys) (suc i) s n words within sort number = words-at xs ys i s n words.1 (omega (arith, within)) sort number
+
+-- both columns with other words at a place
+values_none : (sorts : List ℕ) → values_in sorts [] ≡ []
+values_none [] = refl
+values_none (x ∷ xs) = refl
+
+pub values-set : (sorts numbers : List ℕ) (i s n : ℕ) → values_in (set sorts i s) (set numbers i n) ≡ set (values_in sorts numbers) i (value_in s n)
+values-set [] numbers i s n = refl
+values-set (x ∷ xs) [] i s n = values_none (set (x ∷ xs) i s)
+values-set (x ∷ xs) (y ∷ ys) zero s n = refl
+values-set (x ∷ xs) (y ∷ ys) (suc i) s n = ap (λ l. value_in x y ∷ l) (values-set xs ys i s n)
+
+words-set : (sorts numbers : List ℕ) (i s n : ℕ) → AllZip AreWords sorts numbers → AreWords s n → AllZip AreWords (set sorts i s) (set numbers i n)
+words-set [] [] i s n words here = tt
+words-set [] (y ∷ ys) i s n words here = absurd words
+words-set (x ∷ xs) [] i s n words here = absurd words
+words-set (x ∷ xs) (y ∷ ys) zero s n words here = (here, words.1)
+words-set (x ∷ xs) (y ∷ ys) (suc i) s n words here = (words.0, words-set xs ys i s n words.1 here)
+
+-- both columns without a place
+pub values-remove : (sorts numbers : List ℕ) (i : ℕ) → AllZip AreWords sorts numbers → values_in (remove sorts i) (remove numbers i) ≡ remove (values_in sorts numbers) i
+values-remove [] [] zero words = refl
+values-remove [] [] (suc i) words = refl
+values-remove [] (y ∷ ys) i words = absurd words
+values-remove (x ∷ xs) [] i words = absurd words
+values-remove (x ∷ xs) (y ∷ ys) zero words = refl
+values-remove (x ∷ xs) (y ∷ ys) (suc i) words = ap (λ l. value_in x y ∷ l) (values-remove xs ys i words.1)
+
+words-remove : (sorts numbers : List ℕ) (i : ℕ) → AllZip AreWords sorts numbers → AllZip AreWords (remove sorts i) (remove numbers i)
+words-remove [] [] zero words = tt
+words-remove [] [] (suc i) words = tt
+words-remove [] (y ∷ ys) i words = absurd words
+words-remove (x ∷ xs) [] i words = absurd words
+words-remove (x ∷ xs) (y ∷ ys) zero words = words.1
+words-remove (x ∷ xs) (y ∷ ys) (suc i) words = (words.0, words-remove xs ys i words.1)
+
+-- both columns with one place more
+pub values-push : (sorts numbers : List ℕ) (s n : ℕ) → AllZip AreWords sorts numbers → values_in (sorts ++ s ∷ []) (numbers ++ n ∷ []) ≡ values_in sorts numbers ++ value_in s n ∷ []
+values-push [] [] s n words = refl
+values-push [] (y ∷ ys) s n words = absurd words
+values-push (x ∷ xs) [] s n words = absurd words
+values-push (x ∷ xs) (y ∷ ys) s n words = ap (λ l. value_in x y ∷ l) (values-push xs ys s n words.1)
+
+words-push : (sorts numbers : List ℕ) (s n : ℕ) → AllZip AreWords sorts numbers → AreWords s n → AllZip AreWords (sorts ++ s ∷ []) (numbers ++ n ∷ [])
+words-push [] [] s n words here = (here, tt)
+words-push [] (y ∷ ys) s n words here = absurd words
+words-push (x ∷ xs) [] s n words here = absurd words
+words-push (x ∷ xs) (y ∷ ys) s n words here = (words.0, words-push xs ys s n words.1 here)
+
+words-pop : (sorts numbers : List ℕ) (s n : ℕ) → AllZip AreWords (sorts ++ s ∷ []) (numbers ++ n ∷ []) → AllZip AreWords sorts numbers × AreWords s n
+words-pop [] [] s n words = (tt, words.0)
+words-pop [] (y ∷ []) s n words = absurd words.1
+words-pop [] (y ∷ z ∷ ys) s n words = absurd words.1
+words-pop (x ∷ []) [] s n words = absurd words.1
+words-pop (x ∷ z ∷ xs) [] s n words = absurd words.1
+words-pop (x ∷ xs) (y ∷ ys) s n words = let front = words-pop xs ys s n words.1 in ((words.0, front.0), front.1)
+
+-- what is known of the columns of a list
+module _ (sorts numbers : Vec ℕ Global) (kept : Kept) (items : values_in sorts.items numbers.items ≡ kept.items) (words : AllZip AreWords sorts.items numbers.items) where
+  pub sorts-len : vec_len sorts ≡ length kept.items
+  sorts-len = sorts.ok.0 ∙ length-sorts sorts.items numbers.items words ∙ ap length items
+
+  pub numbers-len : vec_len numbers ≡ length kept.items
+  numbers-len = numbers.ok.0 ∙ length-numbers sorts.items numbers.items words ∙ ap length items
+
+  module _ (i s n : ℕ) (within : i < length kept.items) (sort : s ≡ get_or sorts.items i s) (number : n ≡ get_or numbers.items i n) where
+    inside : i < length (values_in sorts.items numbers.items)
+    inside = subst (λ xs. i < length xs) (sym items) within
+
+    pub words-here : AreWords s n
+    words-here = words-at sorts.items numbers.items i s n words inside sort number
+
+    pub value-here : slice_get kept.items i ≡ Some (value_in s n)
+    value-here = ap (λ xs. slice_get xs i) (sym items) ∙ value-at sorts.items numbers.items i s n inside sort number
+
+-- the columns stay such
+module _ (sorts numbers sorts' numbers' : List ℕ) (room a b a' b' : ℕ) (columns : AreColumns sorts numbers room a b) (as_sorts : a' ≡ a) (as_numbers : b' ≡ b) where
+  pub columns-set : (i s n : ℕ) → AreWords s n → sorts' ≡ set sorts i s → numbers' ≡ set numbers i n → AreColumns sorts' numbers' room a' b'
+  columns-set i s n here is_sorts is_numbers = record {
+    words = subst (λ xs. AllZip AreWords xs numbers') (sym is_sorts) (subst (AllZip AreWords (set sorts i s)) (sym is_numbers) (words-set sorts numbers i s n columns.words here));
+    behind_sorts = omega (arith, ap length is_sorts, length-set sorts i s, columns.behind_sorts, as_sorts);
+    behind_numbers = omega (arith, ap length is_numbers, length-set numbers i n, columns.behind_numbers, as_numbers);
+  }
+
+  pub columns-remove : (i : ℕ) → i < length sorts → i < length numbers → sorts' ≡ remove sorts i → numbers' ≡ remove numbers i → AreColumns sorts' numbers' (room + 1) a' b'
+  columns-remove i in_sorts in_numbers is_sorts is_numbers = record {
+    words = subst (λ xs. AllZip AreWords xs numbers') (sym is_sorts) (subst (AllZip AreWords (remove sorts i)) (sym is_numbers) (words-remove sorts numbers i columns.words));
+    behind_sorts = omega (arith, ap length is_sorts, length-remove sorts i in_sorts, columns.behind_sorts, as_sorts);
+    behind_numbers = omega (arith, ap length is_numbers, length-remove numbers i in_numbers, columns.behind_numbers, as_numbers);
+  }
+
+  pub columns-push : (s n : ℕ) → 0 < room → AreWords s n → sorts' ≡ sorts ++ s ∷ [] → numbers' ≡ numbers ++ n ∷ [] → AreColumns sorts' numbers' (room - 1) a' b'
+  columns-push s n some here is_sorts is_numbers = record {
+    words = subst (λ xs. AllZip AreWords xs numbers') (sym is_sorts) (subst (AllZip AreWords (sorts ++ s ∷ [])) (sym is_numbers) (words-push sorts numbers s n columns.words here));
+    behind_sorts = omega (arith, ap length is_sorts, length-append sorts (s ∷ []), columns.behind_sorts, as_sorts, some);
+    behind_numbers = omega (arith, ap length is_numbers, length-append numbers (n ∷ []), columns.behind_numbers, as_numbers, some);
+  }
+
+  module _ (s n : ℕ) (is_sorts : sorts ≡ sorts' ++ s ∷ []) (is_numbers : numbers ≡ numbers' ++ n ∷ []) where
+    popped : AllZip AreWords sorts' numbers' × AreWords s n
+    popped = words-pop sorts' numbers' s n (subst (λ xs. AllZip AreWords xs (numbers' ++ n ∷ [])) is_sorts (subst (AllZip AreWords sorts) is_numbers columns.words))
+
+    pub columns-pop : AreColumns sorts' numbers' (room + 1) a' b'
+    columns-pop = record {
+      words = popped.0;
+      behind_sorts = omega (arith, ap length is_sorts, length-append sorts' (s ∷ []), columns.behind_sorts, as_sorts);
+      behind_numbers = omega (arith, ap length is_numbers, length-append numbers' (n ∷ []), columns.behind_numbers, as_numbers);
+    }
+
+    pub words-last : AreWords s n
+    words-last = popped.1
+
+    pub values-pop : values_in sorts numbers ≡ values_in sorts' numbers' ++ value_in s n ∷ []
+    values-pop = (λ i. values_in (is_sorts i) (is_numbers i)) ∙ values-push sorts' numbers' s n popped.0

@@ -1,0 +1,33 @@
+-- The values of a list, in two columns of words. (Ours.)
+use Rattle.std.specs.Prelude.{◌≡◌, ℕ, zero, suc, ◌+◌, ◌<◌, ◌≤◌, ◌^◌, List, length, map}
+use Rattle.std.specs.Int.{cast_signed, w64}
+use Rattle.std.specs.List.{zip, AllZip}
+use Rattle.cg_value.specs.declared.Val.{Val}
+use Rattle.cg_value.specs.declared.Val.TheVariants.{None as Nothing, Int, Str, Ref}
+
+-- The first word says which sort of value it is: 0 for none, 1 for a whole number, 2 for a text and 3 for a reference. The
+-- second one is its number, that of a whole number with sign by its 64 bits.
+abbrev pub value_in : ℕ → ℕ → Val
+value_in zero number = Nothing
+value_in (suc zero) number = Int (cast_signed w64 number)
+value_in (suc (suc zero)) number = Str number
+value_in (suc (suc (suc sort))) number = Ref number
+
+-- the values in a column of sorts and one of numbers
+abbrev pub values_in : List ℕ → List ℕ → List Val
+values_in sorts numbers = map (λ words. value_in words.0 words.1) (zip sorts numbers)
+
+-- the number of a text has 32 bits
+abbrev pub AreWords : ℕ → ℕ → Type 0
+AreWords sort number = sort ≡ 2 → number < 2 ^ 32
+
+-- the columns have a sort and a number for each value, and each of the two has this room behind
+pub record AreColumns (sorts numbers : List ℕ) (room sorts_capacity numbers_capacity : ℕ) : Type 0 where
+  pub words : AllZip AreWords sorts numbers
+  pub behind_sorts : length sorts + room ≤ sorts_capacity
+  pub behind_numbers : length numbers + room ≤ numbers_capacity
+
+-- the values of a list, and how many more fit without memory
+pub record Kept : Type 0 where
+  pub items : List Val
+  pub room : ℕ

@@ -1,0 +1,188 @@
+//! Values in two columns, as lists keep them.
+ghost use Rattle.std.specs.Prelude.{◌≡◌, ◌+◌, ◌-◌, ◌<◌, ◌≤◌, ◌^◌, ◌++◌, ◌∷◌, [], length, map, Some, IfOk, OnOk, OnErr, OnSome, IfNone, IsNone, option_to_list, remove, slice_get, slice_set};
+ghost use Rattle.cg_graph.specs.Value.{item};
+ghost use Rattle.cg_kind.specs.Calls.{AreItems};
+ghost use Rattle.cg_kinds.specs.Values.{value_in, AreWords};
+
+use cg_value::{Entry, Val};
+use std::alloc::{AllocError, Global};
+use std::marker::Model;
+
+/// The values of a list, each in nine bytes: its sort in one column, and its number in the other.
+///
+/// So the values behind one that is taken move as two runs of bytes.
+#[derive(Drop)]
+pub struct Values {
+    sorts: Vec<u8>,
+    numbers: Vec<u64>,
+    /// So many values more fit into both columns without memory.
+    room: usize,
+}
+
+impl Model for Values {
+    ghost use Rattle.std.specs.Prelude.{vec_capacity};
+    ghost use Rattle.cg_kinds.specs.Values.{Kept, values_in, AreColumns};
+
+    ghost Value = { Kept };
+
+    ghost view = { λ v. record { items = values_in v.sorts.items v.numbers.items; room = v.room } };
+
+    ghost invariant = { λ v. AreColumns v.sorts.items v.numbers.items v.room (vec_capacity v.sorts) (vec_capacity v.numbers) };
+}
+
+/// The sort of a value, and its number.
+#[inline(always)]
+fn words_of(val: Val) -> (u8, u64)
+    ensures value { value_in result.0 result.1 ≡ val }
+    ensures words { AreWords result.0 result.1 }
+{
+    match val {
+        Val::None => (0, 0),
+        Val::Int(number) => (1, number.cast_unsigned()),
+        Val::Str(name) => (2, name as u64),
+        Val::Ref(serial) => (3, serial),
+    }
+}
+
+/// The value of a sort with a number.
+#[inline(always)]
+fn val_of(sort: u8, number: u64) -> Val
+    requires { AreWords sort number }
+    ensures { result ≡ value_in sort number }
+{
+    match sort {
+        0 => Val::None,
+        1 => Val::Int(number.cast_signed()),
+        2 => Val::Str(number as u32),
+        _ => Val::Ref(number),
+    }
+}
+
+impl Values {
+    /// The values of items, in their order.
+    pub fn of_items(alloc: Global, parts: &[Entry]) -> Result<Values, AllocError>
+        requires { AreItems parts.now }
+        ensures { IfOk result (λ made. map item made.items ≡ parts.now) }
+    {
+        let mut values = Values::with_room(alloc, parts.len())?;
+        for part in parts {
+            values.push_reserved(part.val);
+        }
+        Ok(values)
+    }
+
+    /// No values, and room for so many.
+    fn with_room(alloc: Global, room: usize) -> Result<Values, AllocError>
+        ensures items { IfOk result (λ made. made.items ≡ []) }
+        ensures room { IfOk result (λ made. made.room ≡ room) }
+    {
+        let sorts = Vec::with_capacity(alloc, room)?;
+        let numbers = Vec::with_capacity(alloc, room)?;
+        Ok(Values {
+            sorts,
+            numbers,
+            room,
+        })
+    }
+
+    /// The number of values.
+    #[inline(always)]
+    pub fn len(&self) -> usize
+        ensures { result ≡ length self.now.items }
+    {
+        self.numbers.len()
+    }
+
+    /// The value at a place.
+    #[inline(always)]
+    pub fn val(&self, i: usize) -> Val
+        requires { i < length self.now.items }
+        ensures { slice_get self.now.items i ≡ Some result }
+    {
+        val_of(self.sorts[i], self.numbers[i])
+    }
+
+    /// Puts a value at a place, over the one that is there.
+    #[inline(always)]
+    pub fn set(&mut self, i: usize, val: Val)
+        requires { i < length self.old.items }
+        ensures items { self.new.items ≡ slice_set self.old.items i val }
+        ensures room { self.new.room ≡ self.old.room }
+    {
+        let (sort, number) = words_of(val);
+        self.sorts[i] = sort;
+        self.numbers[i] = number;
+    }
+
+    /// Takes the value at a place; those behind it move down by one.
+    pub fn remove(&mut self, i: usize) -> Val
+        requires { i < length self.old.items }
+        ensures val { slice_get self.old.items i ≡ Some result }
+        ensures items { self.new.items ≡ remove self.old.items i }
+        ensures room { self.new.room ≡ self.old.room + 1 }
+    {
+        let sort = self.sorts.remove(i);
+        let number = self.numbers.remove(i);
+        self.room += 1;
+        val_of(sort, number)
+    }
+
+    /// Takes the last value, if there is one.
+    pub fn pop(&mut self) -> Option<Val>
+        ensures items { self.old.items ≡ self.new.items ++ option_to_list result }
+        ensures room { OnSome result (self.new.room ≡ self.old.room + 1) }
+        ensures empty { IsNone result → self.old.items ≡ [] }
+        ensures none { IfNone result (self.new ≡ self.old) }
+    {
+        if self.len() == 0 {
+            return None;
+        }
+        let sort = self.sorts.take_last();
+        let number = self.numbers.take_last();
+        self.room += 1;
+        Some(val_of(sort, number))
+    }
+
+    /// Makes room for so many values more.
+    #[inline(always)]
+    pub fn reserve(&mut self, n: usize) -> Result<(), AllocError>
+        ensures items { self.new.items ≡ self.old.items }
+        ensures ok { OnOk result (n ≤ self.new.room) }
+        ensures no_less { self.old.room ≤ self.new.room }
+        ensures err { OnErr result (self.new ≡ self.old) }
+    {
+        if self.room < n {
+            self.grow(n)?;
+        }
+        Ok(())
+    }
+
+    // The room stays as it was until both columns have grown.
+    #[inline(never)]
+    fn grow(&mut self, n: usize) -> Result<(), AllocError>
+        ensures items { self.new.items ≡ self.old.items }
+        ensures ok { OnOk result (n ≤ self.new.room) }
+        ensures no_less { self.old.room ≤ self.new.room }
+        ensures err { OnErr result (self.new ≡ self.old) }
+    {
+        self.sorts.reserve(n)?;
+        self.numbers.reserve(n)?;
+        let behind_sorts = self.sorts.capacity() - self.sorts.len();
+        let behind_numbers = self.numbers.capacity() - self.numbers.len();
+        self.room = behind_sorts.min(behind_numbers);
+        Ok(())
+    }
+
+    /// Appends a value where there is room for it.
+    #[inline(always)]
+    pub fn push_reserved(&mut self, val: Val)
+        requires { 0 < self.old.room }
+        ensures items { self.new.items ≡ self.old.items ++ val ∷ [] }
+        ensures room { self.new.room ≡ self.old.room - 1 }
+    {
+        let (sort, number) = words_of(val);
+        self.sorts.push_reserved(sort);
+        self.numbers.push_reserved(number);
+        self.room -= 1;
+    }
+}
