@@ -136,8 +136,8 @@ impl<B: Kind> Scene<B> {
             alloc,
             &self.heap,
             running,
-            frame_of(object),
-            Operand::SelfLocal,
+            &frame_of(object),
+            &Operand::SelfLocal,
         )
     }
 
@@ -155,8 +155,8 @@ impl<B: Kind> Scene<B> {
             alloc,
             &self.heap,
             running,
-            frame_of(object),
-            Operand::SelfLocal,
+            &frame_of(object),
+            &Operand::SelfLocal,
         )
     }
 
@@ -230,9 +230,9 @@ fn check_refusals<B: Kind>(rt: &impl Abort, alloc: Global, kinds: Vec<B>) -> Res
     let heap = Heap::new(alloc, kinds, 0)?;
     assert_idle(rt, &heap);
     for running in [false, true] {
-        let nothing = referents(alloc, &heap, running, None, Operand::SelfLocal);
+        let nothing = referents(alloc, &heap, running, &None, &Operand::SelfLocal);
         assert_eq!(rt; number_in(rt, nothing), 1);
-        let atom = referrers(alloc, &heap, running, None, Operand::Int(5));
+        let atom = referrers(alloc, &heap, running, &None, &Operand::Int(5));
         assert_eq!(rt; number_in(rt, atom), 2);
     }
     Ok(())
