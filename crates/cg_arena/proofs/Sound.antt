@@ -33,7 +33,7 @@ some_mapped : {X Y : Type 0} (f : X → Y) (o : Option X) → IsSome (option_map
 some_mapped f None has = absurd (cc)
 some_mapped f (Some x) has = refl
 
-some_serial : (o : Option Slot) (t : ℕ) → serial_in o ≡ Some t → IsSome o
+pub some_serial : (o : Option Slot) (t : ℕ) → serial_in o ≡ Some t → IsSome o
 some_serial None t is = absurd (cc)
 some_serial (Some c) t is = refl
 

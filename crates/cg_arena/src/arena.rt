@@ -107,6 +107,29 @@ fn slot_of(
     }
 }
 
+/// `slot_of`, and the node in it.
+#[inline(always)]
+fn slot_with(
+    slots: &Slab<Slot>,
+    rows: &IndexMap<u64, usize, SerialHashing>,
+    hints: &Hints,
+    serial: u64,
+) -> (usize, Slot)
+    requires named { IsNamed (λ k. serial_in (get slots.now k)) (row_of rows.now.entries) }
+    requires there { IsSome (row_of rows.now.entries serial) }
+    ensures at { row_of rows.now.entries serial ≡ Some result.0 }
+    ensures slot { get slots.now result.0 ≡ Some result.1 }
+{
+    let guess = hints.guess(serial);
+    match slots.get(guess) {
+        Some(slot) if slot.serial == serial => (guess, *slot),
+        _ => {
+            let at = slot_by_row(rows, serial);
+            (at, slot_at(slots, at))
+        }
+    }
+}
+
 /// The slot of a serial that has a row. Where the serial stands in the slot `near`, nothing is looked up.
 #[inline(always)]
 fn slot_near(
@@ -294,8 +317,8 @@ impl Arena {
         requires room { count_at self.old serial < 2 ^ 32 - 1 }
         ensures { self.new ≡ counted_up (serial ∷ []) self.old }
     {
-        let at = slot_of(&self.slots, &self.rows, &self.hints, serial);
-        let count = slot_at(&self.slots, at).count + 1;
+        let (at, slot) = slot_with(&self.slots, &self.rows, &self.hints, serial);
+        let count = slot.count + 1;
         set_count(&mut self.slots, at, count);
     }
 
@@ -307,8 +330,8 @@ impl Arena {
         ensures falls { self.new ≡ counted_down (serial ∷ []) self.old }
         ensures none { IsTrue result ↔ (count_at self.new serial ≡ 0) }
     {
-        let at = slot_of(&self.slots, &self.rows, &self.hints, serial);
-        let count = slot_at(&self.slots, at).count - 1;
+        let (at, slot) = slot_with(&self.slots, &self.rows, &self.hints, serial);
+        let count = slot.count - 1;
         set_count(&mut self.slots, at, count);
         count == 0
     }
@@ -326,8 +349,7 @@ impl Arena {
         requires { HasNode self.now serial }
         ensures { map.get self.now.nodes serial ≡ Some (node_of result) }
     {
-        let at = slot_of(&self.slots, &self.rows, &self.hints, serial);
-        slot_at(&self.slots, at)
+        slot_with(&self.slots, &self.rows, &self.hints, serial).1
     }
 
     /// `node`, where it is near.

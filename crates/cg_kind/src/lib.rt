@@ -159,54 +159,67 @@ impl Kind for Box<dyn Kind> {
 
     ghost bodies = { λ b. (Kind-box b).bodies b.value };
 
+    #[inline(always)]
     fn code(&self) -> KindCode {
         (**self).code()
     }
 
+    #[inline(always)]
     fn make(&mut self, parts: &[Entry]) -> Result<usize, AllocError> {
         (**self).make(parts)
     }
 
+    #[inline(always)]
     fn len(&self, at: usize) -> usize {
         (**self).len(at)
     }
 
+    #[inline(always)]
     fn entry_at(&self, at: usize, i: usize) -> Entry {
         (**self).entry_at(at, i)
     }
 
+    #[inline(always)]
     fn find(&self, at: usize, key: Val) -> Option<usize> {
         (**self).find(at, key)
     }
 
+    #[inline(always)]
     fn value_of(&self, at: usize, key: Val) -> Option<Val> {
         (**self).value_of(at, key)
     }
 
+    #[inline(always)]
     fn put(&mut self, at: usize, key: Val, val: Val) -> Result<Option<Val>, AllocError> {
         (**self).put(at, key, val)
     }
 
+    #[inline(always)]
     fn take(&mut self, at: usize, i: usize) -> Entry {
         (**self).take(at, i)
     }
 
+    #[inline(always)]
     fn take_key(&mut self, at: usize, key: Val) -> Option<Entry> {
         (**self).take_key(at, key)
     }
 
+    #[inline(always)]
     fn detach(&mut self, at: usize) -> Option<Entry> {
         (**self).detach(at)
     }
 
+    #[inline(always)]
     fn reserve(&mut self, at: usize, n: usize) -> Result<(), AllocError> {
         (**self).reserve(at, n)
     }
 
+    #[inline(always)]
     fn append_reserved(&mut self, at: usize, val: Val) {
         (**self).append_reserved(at, val)
     }
 
+    #[inline(always)]
     fn free(&mut self, at: usize) {
         (**self).free(at)
     }

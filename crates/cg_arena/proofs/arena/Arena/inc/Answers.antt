@@ -5,29 +5,26 @@ use Rattle.cg_arena.specs.Slots.{with_count}
 use Rattle.cg_arena.proofs.Sound.{row_there, slot_there, node_here, field_sound, field_view, up_once}
 use Rattle.cg_arena.proofs.arena.Arena.inc.Goals as goal
 
-pub slot_of-at-requires-clause-named : goal.slot_of-at-requires-clause-named
-slot_of-at-requires-clause-named c = c.self.invariant.names
+pub slot_with-at-requires-clause-named : goal.slot_with-at-requires-clause-named
+slot_with-at-requires-clause-named c = c.self.invariant.names
 
-pub slot_of-at-requires-clause-there : goal.slot_of-at-requires-clause-there
-slot_of-at-requires-clause-there c = row_there c.self.inside.slots c.self.inside.ends c.self.inside.rows.entries (spare c.self.inside.rows) c.args.self.now c.self.view_is c.args.serial c.requires.has
-
-pub slot_at-count-requires : goal.slot_at-count-requires
-slot_at-count-requires c = slot_there c.self.inside.slots c.self.inside.ends c.self.inside.rows.entries c.self.invariant c.args.serial c.slot_of-at.result c.slot_of-at.ensures
+pub slot_with-at-requires-clause-there : goal.slot_with-at-requires-clause-there
+slot_with-at-requires-clause-there c = row_there c.self.inside.slots c.self.inside.ends c.self.inside.rows.entries (spare c.self.inside.rows) c.args.self.now c.self.view_is c.args.serial c.requires.has
 
 pub overflow_add-count : goal.overflow_add-count
 overflow_add-count c =
-    let count : count_of c.args.self.now c.args.serial ≡ c.slot_at-count.result.count = ap count_in
-    (node_here c.self.inside.slots c.self.inside.ends c.self.inside.rows.entries (spare c.self.inside.rows) c.args.self.now c.self.view_is c.args.serial c.slot_of-at.result c.slot_at-count.result c.slot_of-at.ensures c.slot_at-count.ensures) in
+    let count : count_of c.args.self.now c.args.serial ≡ c.slot_with-at.result.1.count = ap count_in
+    (node_here c.self.inside.slots c.self.inside.ends c.self.inside.rows.entries (spare c.self.inside.rows) c.args.self.now c.self.view_is c.args.serial c.slot_with-at.result.0 c.slot_with-at.result.1 c.slot_with-at.ensures.at c.slot_with-at.ensures.slot) in
     omega (arith, count, c.requires.room)
 
 pub invariant_of-self : goal.invariant_of-self
 invariant_of-self c =
-    field_sound (with_count (c.slot_at-count.result.count + 1)) (λ x. refl) (λ x. refl) (λ x. refl) (λ x. refl) c.self.inside.slots c.self.inside.ends c.self.inside.rows.entries c.self.invariant c.slot_of-at.result
+    field_sound (with_count (c.slot_with-at.result.1.count + 1)) (λ x. refl) (λ x. refl) (λ x. refl) (λ x. refl) c.self.inside.slots c.self.inside.ends c.self.inside.rows.entries c.self.invariant c.slot_with-at.result.0
     c.set_count.new.slots c.set_count.ensures
 
 pub returns : goal.returns
 returns c =
-    field_view (with_count (c.slot_at-count.result.count + 1)) (λ x. refl) (λ x. refl) (λ x. refl) (λ x. refl) c.self.inside.slots c.self.inside.ends c.self.inside.rows.entries c.self.invariant c.slot_of-at.result
+    field_view (with_count (c.slot_with-at.result.1.count + 1)) (λ x. refl) (λ x. refl) (λ x. refl) (λ x. refl) c.self.inside.slots c.self.inside.ends c.self.inside.rows.entries c.self.invariant c.slot_with-at.result.0
     c.set_count.new.slots c.set_count.ensures (spare c.self.inside.rows) c.args.self.now c.self.view_is
-    (node_counted_up 1) c.args.serial c.slot_at-count.result c.slot_of-at.ensures c.slot_at-count.ensures refl
+    (node_counted_up 1) c.args.serial c.slot_with-at.result.1 c.slot_with-at.ensures.at c.slot_with-at.ensures.slot refl
     ∙ up_once c.args.serial c.args.self.now

@@ -2,14 +2,11 @@ use Rattle.indexmap.specs.IndexMap.{spare}
 use Rattle.cg_arena.proofs.Sound.{row_there, slot_there, node_here}
 use Rattle.cg_arena.proofs.arena.Arena.node.Goals as goal
 
-pub slot_of-at-requires-clause-named : goal.slot_of-at-requires-clause-named
-slot_of-at-requires-clause-named c = c.self.invariant.names
+pub slot_with-requires-clause-named : goal.slot_with-requires-clause-named
+slot_with-requires-clause-named c = c.self.invariant.names
 
-pub slot_of-at-requires-clause-there : goal.slot_of-at-requires-clause-there
-slot_of-at-requires-clause-there c = row_there c.self.inside.slots c.self.inside.ends c.self.inside.rows.entries (spare c.self.inside.rows) c.args.self.now c.self.view_is c.args.serial c.requires
-
-pub slot_at-requires : goal.slot_at-requires
-slot_at-requires c = slot_there c.self.inside.slots c.self.inside.ends c.self.inside.rows.entries c.self.invariant c.args.serial c.slot_of-at.result c.slot_of-at.ensures
+pub slot_with-requires-clause-there : goal.slot_with-requires-clause-there
+slot_with-requires-clause-there c = row_there c.self.inside.slots c.self.inside.ends c.self.inside.rows.entries (spare c.self.inside.rows) c.args.self.now c.self.view_is c.args.serial c.requires
 
 pub returns : goal.returns
-returns c = node_here c.self.inside.slots c.self.inside.ends c.self.inside.rows.entries (spare c.self.inside.rows) c.args.self.now c.self.view_is c.args.serial c.slot_of-at.result c.slot_at.result c.slot_of-at.ensures c.slot_at.ensures
+returns c = node_here c.self.inside.slots c.self.inside.ends c.self.inside.rows.entries (spare c.self.inside.rows) c.args.self.now c.self.view_is c.args.serial c.slot_with.result.0 c.slot_with.result.1 c.slot_with.ensures.at c.slot_with.ensures.slot
