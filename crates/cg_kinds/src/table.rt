@@ -129,7 +129,9 @@ impl Table {
     pub fn with_room(alloc: Global, count: usize) -> Result<Table, AllocError>
         ensures { IfOk result (λ table. table ≡ []) }
     {
-        let map = IndexMap::with_capacity(alloc, count)?;
+        let mut map = IndexMap::with_capacity(alloc, count)?;
+        // The map makes room for all that its groups can take.
+        map.shrink_to(count);
         Ok(Table { map, order: None })
     }
 
