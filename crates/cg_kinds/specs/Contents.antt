@@ -4,11 +4,12 @@ use Rattle.cg_value.specs.declared.Val.{Val}
 use Rattle.cg_value.specs.declared.Val.TheVariants as val
 use Rattle.cg_graph.specs.Value.{item}
 use Rattle.cg_kind.specs.Bodies.{Body, body_of}
-use Rattle.cg_kinds.specs.Values.{Kept}
+use Rattle.cg_kinds.specs.declared.listed.Listed.{Listed}
+use Rattle.cg_kinds.specs.Listed.{items_listed, room_listed}
 
 -- the items of a list, and the room that is left behind them
-abbrev pub list_body : Kept → Body
-list_body values = body_of (map item values.items) values.room
+abbrev pub list_body : Listed → Body
+list_body values = body_of (map item (items_listed values)) (room_listed values)
 
 -- these items, and no room
 abbrev pub fixed_body : List Val → Body

@@ -1,5 +1,6 @@
 pub mod Places
 pub mod Values
+pub mod Listed
 pub mod Contents
 pub mod Held
 pub mod Pairs

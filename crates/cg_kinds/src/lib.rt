@@ -6,7 +6,7 @@
 //! - `body_slab`: the slab, once for all six kinds.
 //! - `contents`: what one object holds, as the slab sees it.
 //! - `items`: what lists, tuples, functions and weak references share; `list`, `tuple`, `func` and `weak`: these four.
-//! - `values`: the values of a list, in a column of sorts and one of numbers.
+//! - `listed`: the values of a list, a few of them `packed` in one vector, or any number as `values`, in a column of sorts and one of numbers.
 //! - `pairs`: dictionaries and instances; `held`: their pairs, a `few` in a list or any number in a table.
 //! - `table`: pairs in a map, in the order in which their keys came; `order`: that order, once the map has another; `slots`: its slots and gaps.
 #![tactic(auto)]
@@ -22,7 +22,9 @@ mod items;
 #[cfg(test)]
 mod limit_tests;
 mod list;
+mod listed;
 mod order;
+mod packed;
 mod pairs;
 mod slots;
 mod table;

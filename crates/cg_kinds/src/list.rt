@@ -7,7 +7,7 @@ ghost use Rattle.cg_kinds.specs.Contents.{list_body, IsIndex};
 use crate::body_slab::BodySlab;
 use crate::contents::Contents;
 use crate::items::{find_item, item_of};
-use crate::values::Values;
+use crate::listed::Listed;
 use cg_value::{Entry, KindCode, Val};
 use std::alloc::{AllocError, Global};
 
@@ -17,7 +17,7 @@ pub type ListKind = BodySlab<ListItems>;
 /// The items of a list.
 #[derive(Drop)]
 pub struct ListItems {
-    values: Values,
+    values: Listed,
 }
 
 /// The index that a key of a list is.
@@ -41,7 +41,7 @@ impl Contents for ListItems {
     }
 
     fn make(alloc: Global, parts: &[Entry]) -> Result<Self, AllocError> {
-        let values = Values::of_items(alloc, parts)?;
+        let values = Listed::of_items(alloc, parts)?;
         Ok(ListItems { values })
     }
 

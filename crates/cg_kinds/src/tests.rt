@@ -581,6 +581,74 @@ fn append_many<K: Kind>(rt: &impl Abort, kind: &mut K, count: u32) -> Result<(),
     Ok(())
 }
 
+/// The items of the numbers from 0 that are below the count.
+fn numbers(alloc: Global, count: i64) -> Result<Vec<Entry>, AllocError>
+    ensures { IfOk result (λ entries. AreItems entries.items) }
+{
+    let mut entries = Vec::new(alloc);
+    for number in 0..count {
+        entries.push(item_of(Val::Int(number)))?;
+    }
+    Ok(entries)
+}
+
+/// What `list(range(200))` is in Python after `l[70] = -70` and `del l[100]`.
+fn numbers_changed(alloc: Global) -> Result<Vec<Entry>, AllocError> {
+    let mut entries = Vec::new(alloc);
+    for number in 0..200 {
+        if number == 70 {
+            entries.push(item_of(Val::Int(-70)))?;
+        } else if number != 100 {
+            entries.push(item_of(Val::Int(number)))?;
+        }
+    }
+    Ok(entries)
+}
+
+/// Takes the last of these entries off.
+fn last_of(entries: &mut Vec<Entry>) -> Answer {
+    match entries.pop() {
+        Some(entry) => answer_of(entry),
+        None => Answer::Nothing,
+    }
+}
+
+/// Appends 200 numbers one by one, puts one over the 70th, takes the 100th, and takes all off.
+fn grow_and_shrink<K: Kind>(rt: &impl Abort, alloc: Global, kind: &mut K) -> Result<(), Fail>
+    requires { IsParts (K.kind kind.old) [] }
+{
+    let at = make(kind, &[])?;
+    'appends: for number in 0..200 {
+        append(kind, at, Val::Int(number))?;
+        let expected = numbers(alloc, number + 1)?;
+        assert_eq!(rt; entries(alloc, kind, at)?.as_slice(), expected.as_slice());
+    }
+    let replaced = put(kind, at, Val::Int(70), -70)?;
+    assert_eq!(rt; replaced, Answer::Replaced(Some(Val::Int(70))));
+    assert_eq!(rt; take(kind, at, 100), Answer::Entry(NO, 100));
+    let mut left = numbers_changed(alloc)?;
+    assert_eq!(rt; left.len(), 199);
+    assert_eq!(rt; entries(alloc, kind, at)?.as_slice(), left.as_slice());
+    'detaches: for _ in 0..200 {
+        assert_eq!(rt; detach(kind, at), last_of(&mut left));
+    }
+    assert_eq!(rt; kind.len(at), 0);
+    append(kind, at, Val::Int(7))?;
+    assert_eq!(rt; detach(kind, at), Answer::Entry(NO, 7));
+    free(kind, at);
+    Ok(())
+}
+
+#[test]
+fn a_list_becomes_long_and_short_again(rt: HostRuntime) -> Result<(), Fail> {
+    let alloc = rt.alloc();
+    let mut appended: Box<dyn Kind> = Box::new(alloc, ListKind::new(alloc))?;
+    grow_and_shrink(&rt, alloc, &mut appended)?;
+    let mut made: Box<dyn Kind> = Box::new(alloc, ListKind::new(alloc))?;
+    let parts = numbers(alloc, 200)?;
+    pass_through(&rt, alloc, &mut made, parts.as_slice())
+}
+
 #[test]
 fn a_dictionary_holds_a_hundred_thousand_keys(rt: HostRuntime) -> Result<(), Fail> {
     put_many(&rt, &mut DictKind::new(rt.alloc()), 100_000)

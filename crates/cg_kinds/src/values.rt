@@ -1,4 +1,4 @@
-//! Values in two columns, as lists keep them.
+//! Values in two columns, as lists keep many of them.
 ghost use Rattle.std.specs.Prelude.{◌≡◌, ◌+◌, ◌-◌, ◌<◌, ◌≤◌, ◌^◌, ◌++◌, ◌∷◌, [], length, map, Some, IfOk, OnOk, OnErr, OnSome, IfNone, IsNone, option_to_list, remove, slice_get, slice_set};
 ghost use Rattle.cg_graph.specs.Value.{item};
 ghost use Rattle.cg_kind.specs.Calls.{AreItems};
@@ -72,7 +72,7 @@ impl Values {
     }
 
     /// No values, and room for so many.
-    fn with_room(alloc: Global, room: usize) -> Result<Values, AllocError>
+    pub fn with_room(alloc: Global, room: usize) -> Result<Values, AllocError>
         ensures items { IfOk result (λ made. made.items ≡ []) }
         ensures room { IfOk result (λ made. made.room ≡ room) }
     {
@@ -141,6 +141,14 @@ impl Values {
         let number = self.numbers.take_last();
         self.room += 1;
         Some(val_of(sort, number))
+    }
+
+    /// So many values more fit without memory.
+    #[inline(always)]
+    pub fn room(&self) -> usize
+        ensures { result ≡ self.now.room }
+    {
+        self.room
     }
 
     /// Makes room for so many values more.

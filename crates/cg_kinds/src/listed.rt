@@ -1,0 +1,186 @@
+//! The values of a list: a few in one vector, or any number in columns.
+ghost use Rattle.std.specs.Prelude.{◌≡◌, ◌+◌, ◌-◌, ◌<◌, ◌≤◌, ◌++◌, ◌∷◌, [], length, map, Some, IfOk, OnOk, OnErr, OnSome, IfNone, IsNone, option_to_list, remove, slice_get, slice_set, vec_len, vec_capacity};
+ghost use Rattle.cg_graph.specs.Value.{item};
+ghost use Rattle.cg_kind.specs.Calls.{AreItems};
+ghost use Rattle.cg_kinds.specs.Listed.{items_listed, room_listed};
+
+use crate::packed::{Packed, packed_values_of};
+use crate::values::Values;
+use cg_value::{Entry, Val};
+use std::alloc::{AllocError, Global};
+
+/// So many values are at most made room for in one vector.
+const FEW: usize = 64;
+
+/// Values in their order.
+///
+/// Where they become too many for one vector all go into columns, and stay in them however many leave. So a few values
+/// take one block of memory, and of many those behind one that is taken move as two runs of bytes.
+#[derive(Drop)]
+pub enum Listed {
+    Few(Vec<Packed>),
+    Many(Box<Values>),
+}
+
+/// A few values in columns, with at least the room that they had, as much again as they are, and room for so many more.
+/// These values stay as they are.
+///
+/// It is a call that is not inlined, so that what grows a list has not the locals of new columns.
+#[inline(never)]
+fn columns_of(few: &Vec<Packed>, n: usize) -> Result<Box<Values>, AllocError>
+    ensures items { IfOk result (λ columns. columns.value.items ≡ few.now.items) }
+    ensures room { IfOk result (λ columns. n ≤ columns.value.room) }
+    ensures no_less { IfOk result (λ columns. vec_capacity few.now - vec_len few.now ≤ columns.value.room) }
+{
+    let alloc = *few.allocator();
+    let len = few.len();
+    let behind = len.max(few.capacity() - len);
+    let mut columns = Values::with_room(alloc, len + behind)?;
+    'moved: for at in 0..len {
+        columns.push_reserved(few[at].val());
+    }
+    columns.reserve(n)?;
+    let boxed = Box::new(alloc, columns)?;
+    Ok(boxed)
+}
+
+impl Listed {
+    /// The values of items, in their order.
+    pub fn of_items(alloc: Global, parts: &[Entry]) -> Result<Listed, AllocError>
+        requires { AreItems parts.now }
+        ensures { IfOk result (λ made. map item (items_listed made) ≡ parts.now) }
+    {
+        if parts.len() > FEW {
+            let columns = Values::of_items(alloc, parts)?;
+            let boxed = Box::new(alloc, columns)?;
+            return Ok(Listed::Many(boxed));
+        }
+        let few = packed_values_of(alloc, parts)?;
+        Ok(Listed::Few(few))
+    }
+
+    /// The number of values.
+    #[inline(always)]
+    pub fn len(&self) -> usize
+        ensures { result ≡ length (items_listed self.now) }
+    {
+        match self {
+            Listed::Few(few) => few.len(),
+            Listed::Many(columns) => columns.len(),
+        }
+    }
+
+    /// The value at a place.
+    #[inline(always)]
+    pub fn val(&self, i: usize) -> Val
+        requires { i < length (items_listed self.now) }
+        ensures { slice_get (items_listed self.now) i ≡ Some result }
+    {
+        match self {
+            Listed::Few(few) => few[i].val(),
+            Listed::Many(columns) => columns.val(i),
+        }
+    }
+
+    /// Puts a value at a place, over the one that is there.
+    #[inline(always)]
+    pub fn set(&mut self, i: usize, val: Val)
+        requires { i < length (items_listed self.old) }
+        ensures items { items_listed self.new ≡ slice_set (items_listed self.old) i val }
+        ensures room { room_listed self.new ≡ room_listed self.old }
+    {
+        match self {
+            Listed::Few(few) => few[i] = Packed::new(val),
+            Listed::Many(columns) => columns.set(i, val),
+        }
+    }
+
+    /// Takes the value at a place; those behind it move down by one.
+    pub fn remove(&mut self, i: usize) -> Val
+        requires { i < length (items_listed self.old) }
+        ensures val { slice_get (items_listed self.old) i ≡ Some result }
+        ensures items { items_listed self.new ≡ remove (items_listed self.old) i }
+        ensures room { room_listed self.new ≡ room_listed self.old + 1 }
+    {
+        match self {
+            Listed::Few(few) => few.remove(i).val(),
+            Listed::Many(columns) => columns.remove(i),
+        }
+    }
+
+    /// Takes the last value, if there is one.
+    pub fn pop(&mut self) -> Option<Val>
+        ensures items { items_listed self.old ≡ items_listed self.new ++ option_to_list result }
+        ensures room { OnSome result (room_listed self.new ≡ room_listed self.old + 1) }
+        ensures empty { IsNone result → items_listed self.old ≡ [] }
+        ensures none { IfNone result (items_listed self.new ≡ items_listed self.old) }
+        ensures none_room { IfNone result (room_listed self.new ≡ room_listed self.old) }
+    {
+        match self {
+            Listed::Few(few) => match few.pop() {
+                Some(last) => Some(last.val()),
+                None => None,
+            },
+            Listed::Many(columns) => columns.pop(),
+        }
+    }
+
+    /// So many values more fit without memory.
+    #[inline(always)]
+    fn room(&self) -> usize
+        ensures { result ≡ room_listed self.now }
+    {
+        match self {
+            Listed::Few(few) => few.capacity() - few.len(),
+            Listed::Many(columns) => columns.room(),
+        }
+    }
+
+    /// Makes room for so many values more.
+    #[inline(always)]
+    pub fn reserve(&mut self, n: usize) -> Result<(), AllocError>
+        ensures items { items_listed self.new ≡ items_listed self.old }
+        ensures ok { OnOk result (n ≤ room_listed self.new) }
+        ensures no_less { room_listed self.old ≤ room_listed self.new }
+        ensures err { OnErr result (room_listed self.new ≡ room_listed self.old) }
+    {
+        if self.room() < n {
+            self.grow(n)?;
+        }
+        Ok(())
+    }
+
+    /// Columns stand whole before the vector goes, so that a refusal leaves the vector.
+    #[inline(never)]
+    fn grow(&mut self, n: usize) -> Result<(), AllocError>
+        ensures items { items_listed self.new ≡ items_listed self.old }
+        ensures ok { OnOk result (n ≤ room_listed self.new) }
+        ensures no_less { room_listed self.old ≤ room_listed self.new }
+        ensures err { OnErr result (room_listed self.new ≡ room_listed self.old) }
+    {
+        match self {
+            Listed::Few(few) => {
+                if n <= FEW && few.len() <= FEW - n {
+                    few.reserve(n)?;
+                } else {
+                    *self = Listed::Many(columns_of(few, n)?);
+                }
+            }
+            Listed::Many(columns) => columns.reserve(n)?,
+        }
+        Ok(())
+    }
+
+    /// Appends a value where there is room for it.
+    #[inline(always)]
+    pub fn push_reserved(&mut self, val: Val)
+        requires { 0 < room_listed self.old }
+        ensures items { items_listed self.new ≡ items_listed self.old ++ val ∷ [] }
+        ensures room { room_listed self.new ≡ room_listed self.old - 1 }
+    {
+        match self {
+            Listed::Few(few) => few.push_reserved(Packed::new(val)),
+            Listed::Many(columns) => columns.push_reserved(val),
+        }
+    }
+}

@@ -1,0 +1,77 @@
+//! Values in plain words, as lists keep a few of them.
+ghost use Rattle.std.specs.Prelude.{◌≡◌, IfOk, map};
+ghost use Rattle.cg_value.specs.declared.Val.{Val};
+ghost use Rattle.cg_graph.specs.Value.{item};
+ghost use Rattle.cg_kind.specs.Calls.{AreItems};
+ghost use Rattle.cg_kinds.specs.Values.{value_in, AreWords};
+
+use cg_value::{Entry, Val};
+use std::alloc::{AllocError, Global};
+use std::marker::Model;
+
+/// A value in two words of 64 bits: its sort, and its number.
+///
+/// The two have no gap between or behind them, so that a run of them moves as one run of bytes. A `Val` has such gaps, and
+/// a run of those moves field by field.
+#[derive(Drop)]
+pub struct Packed {
+    sort: u64,
+    number: u64,
+}
+
+impl Model for Packed {
+    ghost Value = { Val };
+
+    ghost view = { λ p. value_in p.sort p.number };
+
+    ghost invariant = { λ p. AreWords p.sort p.number };
+}
+
+impl Packed {
+    /// Packs a value.
+    #[inline(always)]
+    pub fn new(val: Val) -> Packed
+        ensures { result ≡ val }
+    {
+        match val {
+            Val::None => Packed { sort: 0, number: 0 },
+            Val::Int(number) => Packed {
+                sort: 1,
+                number: number.cast_unsigned(),
+            },
+            Val::Str(name) => Packed {
+                sort: 2,
+                number: name as u64,
+            },
+            Val::Ref(serial) => Packed {
+                sort: 3,
+                number: serial,
+            },
+        }
+    }
+
+    /// The value.
+    #[inline(always)]
+    pub fn val(&self) -> Val
+        ensures { result ≡ self.now }
+    {
+        match self.sort {
+            0 => Val::None,
+            1 => Val::Int(self.number.cast_signed()),
+            2 => Val::Str(self.number as u32),
+            _ => Val::Ref(self.number),
+        }
+    }
+}
+
+/// The values of items, in their order.
+pub fn packed_values_of(alloc: Global, parts: &[Entry]) -> Result<Vec<Packed>, AllocError>
+    requires { AreItems parts.now }
+    ensures { IfOk result (λ values. map item values.items ≡ parts.now) }
+{
+    let mut values = Vec::with_capacity(alloc, parts.len())?;
+    for part in parts {
+        values.push(Packed::new(part.val))?;
+    }
+    Ok(values)
+}
