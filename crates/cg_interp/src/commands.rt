@@ -67,6 +67,7 @@ impl<B: Kind> Engine<B> {
     {
         match done {
             Done::Changed { line, given_up } => self.change(caller, line, given_up),
+            Done::Gives(given_up) => self.change(caller, None, given_up),
             Done::Calls(function) => Some(self.call(caller, function)),
             Done::Collects(generation) => Some(self.collect_if_idle(caller, generation)),
             Done::Quits => Some(self.quit(caller)),
