@@ -19,7 +19,7 @@ use Rattle.cg_machine.specs.Represents.{Represents, CollectionWaits}
 use Rattle.cg_policy.specs.Policy.{Policy, with_numbers}
 use Rattle.cg_policy.specs.Laws.{policy_of}
 use Rattle.cg_commands.specs.declared.done.Done.{Done}
-use Rattle.cg_commands.specs.declared.done.Done.TheVariants.{Changed, Calls, Collects, Quits, Tells}
+use Rattle.cg_commands.specs.declared.done.Done.TheVariants.{Changed, Gives, Calls, Collects, Quits, Tells}
 use Rattle.cg_commands.specs.declared.done.Refusal.{Refusal}
 use Rattle.cg_commands.specs.declared.done.Refusal.TheVariants.{NoName, WrongKind, NoIndex, NoKey, NoAttribute, NotWeak, NotCallable, BadGeneration, Unhashable, OutOfMemory, ObjectLimit, EntryLimit, InCollection}
 use Rattle.cg_commands.specs.declared.locals.Locals.{Locals}
@@ -87,6 +87,7 @@ module _ (old : Store) (was : Policy) (locals : Option Locals) (room : Bool) (gi
 module _ (store : Store) (was : Policy) (locals : Option Locals) (number : ℤ) where
   asks_leaves : (answer : Result Done Refusal) → IsAsked number answer → Leaves store was (Collect number) store was answer
   asks_leaves (Ok (Changed line given_up)) asked = absurd asked
+  asks_leaves (Ok (Gives given_up)) asked = absurd asked
   asks_leaves (Ok (Calls f)) asked = absurd asked
   asks_leaves (Ok (Collects g)) asked = record { number = number; is = refl; asked = asked; store = refl; policy = refl }
   asks_leaves (Ok Quits) asked = absurd asked
@@ -96,6 +97,7 @@ module _ (store : Store) (was : Policy) (locals : Option Locals) (number : ℤ) 
   asks_performs : (answer : Result Done Refusal) → IsAsked number answer → Performs store was locals (λ w. effect w (Collect number)) store was answer
   unfolding ◌>>=◌
   asks_performs (Ok (Changed line given_up)) asked w s same = absurd asked
+  asks_performs (Ok (Gives given_up)) asked w s same = absurd asked
   asks_performs (Ok (Calls f)) asked w s same = absurd asked
   asks_performs (Ok (Collects g)) asked w s same = record { heap = (ap (λ x. ok_or x bad_generation >>= (λ g. Ok (CollectsEffect g))) asked.0, asked.1, refl); policy = refl }
   asks_performs (Ok Quits) asked w s same = absurd asked

@@ -84,6 +84,9 @@ module _ (w : World) (command : Command) (old new : Store) where
   stays_after own none (Ok (done.Changed line e)) h =
       let stays = of_effect (StaysCounted w) (effect w command) _ h.is (effect_stays w command own none) in
       sym stays ∙ ap (λ r. policy_after (Ok (done.Changed line e)) r (policy_of w)) (sym h.is)
+  stays_after own none (Ok (done.Gives e)) h =
+      let stays = of_effect (StaysCounted w) (effect w command) _ h.is (effect_stays w command own none) in
+      sym stays ∙ ap (λ r. policy_after (Ok (done.Gives e)) r (policy_of w)) (sym h.is)
   stays_after own none (Ok (done.Calls f)) h = refl
   stays_after own none (Ok (done.Collects g)) h = refl
   stays_after own none (Ok done.Quits) h = refl
@@ -97,6 +100,9 @@ module _ (w : World) (command : Command) (old new : Store) where
   counted_after made (Ok (done.Changed line e)) h =
       let counts = of_effect (CountsOne w) (effect w command) _ h.is (effect_counts w command made) in
       sym counts ∙ ap (λ r. policy_after (Ok (done.Changed line e)) r (policy_of w)) (sym h.is)
+  counted_after made (Ok (done.Gives e)) h =
+      let counts = of_effect (CountsOne w) (effect w command) _ h.is (effect_counts w command made) in
+      sym counts ∙ ap (λ r. policy_after (Ok (done.Gives e)) r (policy_of w)) (sym h.is)
   counted_after made (Ok (done.Calls f)) h = absurd (of_effect (CountsOne w) (effect w command) _ h.0 (effect_counts w command made))
   counted_after made (Ok (done.Collects g)) h = absurd (of_effect (CountsOne w) (effect w command) _ h.0 (effect_counts w command made))
   counted_after made (Ok done.Quits) h = absurd (of_effect (CountsOne w) (effect w command) _ h.0 (effect_counts w command made))

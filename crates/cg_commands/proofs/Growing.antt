@@ -110,6 +110,14 @@ grows command w room old new (Ok (done.Changed line e)) r h is =
       objects = omega (arith, sized.objects, before, after, one_more (makes_object command) room is);
       names = ap length h.represents.names ∙ sized.names ∙ sym (ap length r.names);
     }
+grows command w room old new (Ok (done.Gives e)) r h is =
+    let sized : Sized (makes_object command) w h.after = of_effect (HasSize (makes_object command) w) (effect w command) _ h.is (effect_sized w command) in
+    let before : length (objects_of old) ≡ length w.objects = ap length r.objects in
+    let after : length (objects_of new) ≡ length h.after.objects = ap length h.represents.objects in
+    record {
+      objects = omega (arith, sized.objects, before, after, one_more (makes_object command) room is);
+      names = ap length h.represents.names ∙ sized.names ∙ sym (ap length r.names);
+    }
 grows command w room old new (Ok (done.Calls f)) r h is = kept room old new h.1
 grows command w room old new (Ok (done.Collects g)) r h is = kept room old new h.2
 grows command w room old new (Ok done.Quits) r h is = kept room old new h.1

@@ -48,10 +48,7 @@ pub(crate) fn unbind<B: Kind>(
 {
     heap.sound();
     match heap.unbind(name) {
-        Some(val) => Ok(Done::Changed {
-            line: None,
-            given_up: given_up(Some(val)),
-        }),
+        Some(val) => Ok(Done::Gives(given_up(Some(val)))),
         None => Err(Refusal::NoName),
     }
 }
@@ -71,10 +68,7 @@ pub(crate) fn bind_to<B: Kind>(
 {
     heap.sound();
     let old = heap.bind(name, val);
-    Ok(Done::Changed {
-        line: None,
-        given_up: given_up(old),
-    })
+    Ok(Done::Gives(given_up(old)))
 }
 
 /// An entry with the reference of a value, if there is one.

@@ -87,10 +87,7 @@ pub(crate) fn del_item<B: Kind>(
     let i = index_in(heap, target, index)?;
     heap.sound();
     let entry = heap.take(target, i);
-    Ok(Done::Changed {
-        line: None,
-        given_up: entry,
-    })
+    Ok(Done::Gives(entry))
 }
 
 /// `put D K v`: the key gets the value, and what it had is to be given up.
@@ -145,10 +142,7 @@ pub(crate) fn remove<B: Kind>(
     }
     heap.sound();
     match heap.take_key(target, key) {
-        Some(entry) => Ok(Done::Changed {
-            line: None,
-            given_up: entry,
-        }),
+        Some(entry) => Ok(Done::Gives(entry)),
         None => Err(Refusal::NoKey),
     }
 }
@@ -196,10 +190,7 @@ pub(crate) fn del_attr<B: Kind>(
     let target = object(heap, instance, Wanted::Inst)?;
     heap.sound();
     match heap.take_key(target, Val::Str(attr)) {
-        Some(entry) => Ok(Done::Changed {
-            line: None,
-            given_up: entry,
-        }),
+        Some(entry) => Ok(Done::Gives(entry)),
         None => Err(Refusal::NoAttribute),
     }
 }
@@ -209,8 +200,5 @@ pub(crate) fn del_attr<B: Kind>(
 fn changed(old: Option<Val>) -> Done
     ensures { GivesUp (references_of_value old) result }
 {
-    Done::Changed {
-        line: None,
-        given_up: given_up(old),
-    }
+    Done::Gives(given_up(old))
 }

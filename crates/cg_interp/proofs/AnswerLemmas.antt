@@ -168,6 +168,22 @@ module _ (script : Script) (e : State) (top : Own) (w : World) (command : Comman
         collecting = ap (λ (q : Policy). q.running) policy ∙ under_way script (top ∷ e.activities) after.stack shows;
       }
 
+  -- the same without a line, which is a change with no line due
+  pub gives : (given_up : Entry) → IsPerformed script top e w command before was (Ok (done_of.Gives given_up)) → IsPerformed script top e w command before was (Ok (done_of.Changed None given_up))
+  gives given_up p = record {
+    stood = p.stood;
+    answers = record { heap = p.answers.heap; policy = p.answers.policy ∙ same (effect w command) };
+    kept = p.kept;
+  }
+    where
+      same : (r : Result Effect ℕ) → policy_after (Ok (done_of.Gives given_up)) r was ≡ policy_after (Ok (done_of.Changed None given_up)) r was
+      same (Ok (ChangesEffect wants_memory lines references after)) = refl
+      same (Ok (CallsEffect f)) = refl
+      same (Ok (CollectsEffect g)) = refl
+      same (Ok (ExplainsEffect o)) = refl
+      same (Ok QuitsEffect) = refl
+      same (Err number) = refl
+
   -- where heap and policy are as before the engine stands for the same world
   pub as_before : StandsFor script (under top (record e { store = before; policy = was })) w → e.store ≡ before → e.policy ≡ was → StandsFor script (under top e) w
   as_before stood store policy = same_engine script (under top (record e { store = before; policy = was })) (under top e) w stood store policy refl refl

@@ -7,21 +7,18 @@ use Rattle.cg_graph.specs.Store.{Store, Node, IsLive, object_from}
 use Rattle.cg_graph.proofs.Objects.{object-at}
 use Rattle.cg_machine.specs.Frame.{procedure_of}
 use Rattle.cg_script.specs.declared.Script.{Script}
-use Rattle.cg_machine.specs.declared.event.Event.TheVariants.{Refused}
 use Rattle.cg_machine.specs.Program.{commands_of}
 use Rattle.cg_machine.specs.World.{World, Activity, TopLevel, Framed, with_stack}
 use Rattle.cg_machine.specs.Holdings.{holds}
-use Rattle.cg_machine.specs.Commands.{refused, without_commands, stopped_frame}
+use Rattle.cg_machine.specs.Commands.{without_commands, stopped_frame}
 use Rattle.cg_machine.specs.Represents.{Represents}
 use Rattle.cg_interp.specs.declared.activity.Activity.{Activity as Own}
 use Rattle.cg_interp.specs.declared.activity.Activity.TheVariants as activity
-use Rattle.cg_interp.specs.declared.turned.Turned.TheVariants as turned
 use Rattle.cg_policy.specs.Policy.{Policy}
 use Rattle.cg_interp.specs.Engines.{State, StandsFor, ActivityShows, ShowsAll, commands_from, frame_of, under, is_collecting, any_collecting}
 use Rattle.cg_interp.specs.declared.caller.Caller.{Caller}
 use Rattle.cg_interp.specs.declared.caller.Caller.TheVariants as caller_of
 use Rattle.cg_interp.specs.Callers.{caller_activity, with_next, without_rest_in_frame}
-use Rattle.cg_interp.specs.Turns.{Makes}
 use Rattle.cg_interp.proofs.Standing.{IsPlain, plain_frame, plain_script, replaced, spelled}
 
 -- Another activity with the same holds comes in the place of the one on top.
@@ -53,33 +50,25 @@ module _ (script : Script) (old new : State) (top top_after : Own) (a b : Activi
       at = stands.shows.is ∙ ap (λ l. l ++ below) (shown stands.shows.tops stands.shows.shows)
 
 module _ (script : Script) (old new : State) (w : World) where
-  -- a command is refused
-  pub refuses : (caller : Caller) (number : ℕ) → StandsFor script (under (caller_activity caller) old) w → new.store ≡ old.store → new.policy ≡ old.policy → new.activities ≡ caller_activity (without_rest_in_frame caller) ∷ old.activities → new.budget ≡ old.budget
-      → Makes script (refused number w) new (turned.Line (Refused number))
-  refuses (caller_of.Script next) number stands store policy is budget = (
-    refl,
-    retopped script old new (activity.Script next) (activity.Script next) (TopLevel (commands_from next (commands_of script.items))) (TopLevel (commands_from next (commands_of script.items))) stopped_frame w
-        (plain_script _) (plain_script _) refl (λ below. refl) (λ tops e. e) refl refl stands store policy is budget,
-  )
-  refuses (caller_of.Frame locals procedure next) number stands store policy is budget = (
-    refl,
-    retopped script old new (activity.Frame locals procedure next) (activity.Frame locals procedure None) (Framed (frame_of script locals procedure next)) (Framed (frame_of script locals procedure None)) stopped_frame w
-        (plain_frame _) (plain_frame _) refl (λ below. refl) (λ tops e. e) refl refl stands store policy is budget,
-  )
+  -- a frame is put back without its commands
+  pub stops_frame : (caller : Caller) → StandsFor script (under (caller_activity caller) old) w → new.store ≡ old.store → new.policy ≡ old.policy → new.activities ≡ caller_activity (without_rest_in_frame caller) ∷ old.activities → new.budget ≡ old.budget
+      → StandsFor script new (with_stack (stopped_frame w.stack) w)
+  stops_frame (caller_of.Script next) stands store policy is budget =
+      retopped script old new (activity.Script next) (activity.Script next) (TopLevel (commands_from next (commands_of script.items))) (TopLevel (commands_from next (commands_of script.items))) stopped_frame w
+      (plain_script _) (plain_script _) refl (λ below. refl) (λ tops e. e) refl refl stands store policy is budget
+  stops_frame (caller_of.Frame locals procedure next) stands store policy is budget =
+      retopped script old new (activity.Frame locals procedure next) (activity.Frame locals procedure None) (Framed (frame_of script locals procedure next)) (Framed (frame_of script locals procedure None)) stopped_frame w
+      (plain_frame _) (plain_frame _) refl (λ below. refl) (λ tops e. e) refl refl stands store policy is budget
 
-  -- a command ends what it stands in
-  pub quits : (caller : Caller) → StandsFor script (under (caller_activity caller) old) w → new.store ≡ old.store → new.policy ≡ old.policy → new.activities ≡ caller_activity (with_next None caller) ∷ old.activities → new.budget ≡ old.budget
-      → Makes script ([], with_stack (without_commands w.stack) w) new turned.Quiet
-  quits (caller_of.Script next) stands store policy is budget = (
-    refl,
-    retopped script old new (activity.Script next) (activity.Script None) (TopLevel (commands_from next (commands_of script.items))) (TopLevel []) without_commands w
-        (plain_script _) (plain_script _) refl (λ below. refl) (λ tops e. e) refl refl stands store policy is budget,
-  )
-  quits (caller_of.Frame locals procedure next) stands store policy is budget = (
-    refl,
-    retopped script old new (activity.Frame locals procedure next) (activity.Frame locals procedure None) (Framed (frame_of script locals procedure next)) (Framed (frame_of script locals procedure None)) without_commands w
-        (plain_frame _) (plain_frame _) refl (λ below. refl) (λ tops e. e) refl refl stands store policy is budget,
-  )
+  -- a caller is put back without its commands
+  pub stops : (caller : Caller) → StandsFor script (under (caller_activity caller) old) w → new.store ≡ old.store → new.policy ≡ old.policy → new.activities ≡ caller_activity (with_next None caller) ∷ old.activities → new.budget ≡ old.budget
+      → StandsFor script new (with_stack (without_commands w.stack) w)
+  stops (caller_of.Script next) stands store policy is budget =
+      retopped script old new (activity.Script next) (activity.Script None) (TopLevel (commands_from next (commands_of script.items))) (TopLevel []) without_commands w
+      (plain_script _) (plain_script _) refl (λ below. refl) (λ tops e. e) refl refl stands store policy is budget
+  stops (caller_of.Frame locals procedure next) stands store policy is budget =
+      retopped script old new (activity.Frame locals procedure next) (activity.Frame locals procedure None) (Framed (frame_of script locals procedure next)) (Framed (frame_of script locals procedure None)) without_commands w
+      (plain_frame _) (plain_frame _) refl (λ below. refl) (λ tops e. e) refl refl stands store policy is budget
 
 -- the procedure of a function, which the heap keeps beside it
 pub procedure_known : (store : Store) (w : World) (f : ℕ) (class : Option ℕ) → Represents store w → IsLive store f → IfSome (fin.get store.nodes f) (λ n. class ≡ n.class) → procedure_of w f ≡ unwrap_or class 0

@@ -124,7 +124,7 @@ is_there commands rest None c is = absurd (cc)
 is_there commands rest (Some n) c is = still_there n commands c (subst (λ l. Includes l c) (sym is) (inl refl))
 
 -- the command that has the turn in the body of a procedure
-pub comes_next : (script : Script) (locals : Locals) (procedure : ℕ) (next : Option ℕ) (c : Command) (after : ℕ) (body : List Command) → body ≡ body_of script procedure → commands_from next body ≡ c ∷ commands_from (Some after) body → ComesNext script (caller_of.Frame locals procedure next) c after
+pub comes_next : (script : Script) (locals : Locals) (procedure : ℕ) (next : Option ℕ) (c : Command) (after : ℕ) (body : List Command) → body ≡ body_of script procedure → commands_from next body ≡ c ∷ commands_from (Some after) body → ComesNext script (caller_of.Frame locals procedure (Some after)) next c
 comes_next script locals procedure next c after body is turn = subst (λ l. commands_from next l ≡ c ∷ commands_from (Some after) l) is turn
 
 -- The script is on top.
@@ -242,11 +242,12 @@ module _ (script : Script) (e : State) (locals : Locals) (procedure : ℕ) (next
   unfolding frame_goes_on
   frame_does none events done may = frame_steps None events done none may
 
--- The world without the next command, which is done from there. Where no collection is due it is the step of the machine.
-pub record Without (script : Script) (caller : Caller) (after : ℕ) (c : Command) (e : State) (w : World) : Type 0 where
+-- The world without the command from which a caller has gone on, which is done from there. Where no collection is due it is the
+-- step of the machine.
+pub record Without (script : Script) (caller : Caller) (c : Command) (e : State) (w : World) : Type 0 where
   pub world : World
-  pub stands : StandsFor script (under (caller_activity (with_next (Some after) caller)) e) world
-  pub locals : HasLocals (caller_locals (with_next (Some after) caller)) world
+  pub stands : StandsFor script (under (caller_activity caller) e) world
+  pub locals : HasLocals (caller_locals caller) world
   pub does : due w ≡ None → (events : List Event) (done : World) → CommandStep script world c events done → StepOf script w w.stack events done
 
 -- A caller is on top.
@@ -255,36 +256,36 @@ module _ (script : Script) (e : State) (w : World) where
   caller_detects_none (caller_of.Script next) stands = ap detects (stands.shows.is ∙ ap (λ l. l ++ stands.shows.below) stands.shows.shows)
   caller_detects_none (caller_of.Frame locals procedure next) stands = ap detects (stands.shows.is ∙ ap (λ l. l ++ stands.shows.below) stands.shows.shows)
 
-  -- its next command is known
-  module _ (after : ℕ) (c : Command) where
-    pub without_command : (caller : Caller) → ComesNext script caller c after → StandsFor script (under (caller_activity caller) e) w → Without script caller after c e w
-    without_command (caller_of.Script next) is stands = record {
-      world = script_goes_on script e next w stands (Some after) c is;
-      stands = script_stands script e next w stands (Some after) c is;
-      locals = script_locals script e next w stands (Some after) c is;
-      does = script_does script e next w stands (Some after) c is;
+  -- its next command is known, from which it has gone on
+  module _ (next : Option ℕ) (c : Command) where
+    pub without_command : (caller : Caller) → ComesNext script caller next c → StandsFor script (under (caller_activity (with_next next caller)) e) w → Without script caller c e w
+    without_command (caller_of.Script after) is stands = record {
+      world = script_goes_on script e next w stands after c is;
+      stands = script_stands script e next w stands after c is;
+      locals = script_locals script e next w stands after c is;
+      does = script_does script e next w stands after c is;
     }
-    without_command (caller_of.Frame locals procedure next) is stands = record {
-      world = frame_goes_on script e locals procedure next (Some after) c w stands is;
-      stands = frame_stands script e locals procedure next (Some after) c w stands is;
-      locals = frame_locals script e locals procedure next (Some after) c w stands is;
-      does = frame_does script e locals procedure next (Some after) c w stands is;
+    without_command (caller_of.Frame locals procedure after) is stands = record {
+      world = frame_goes_on script e locals procedure next after c w stands is;
+      stands = frame_stands script e locals procedure next after c w stands is;
+      locals = frame_locals script e locals procedure next after c w stands is;
+      does = frame_does script e locals procedure next after c w stands is;
     }
 
     -- a collection is due
-    pub caller_collects : (caller : Caller) → ComesNext script caller c after → StandsFor script (under (caller_activity caller) e) w → (g : ℕ) → due w ≡ Some g → StepOf script w w.stack [] (push (new_collection g false w) w)
-    caller_collects (caller_of.Script next) is stands = script_collects script e next w stands
-    caller_collects (caller_of.Frame locals procedure next) is stands = frame_collects script e locals procedure next (Some after) c w stands is
+    pub caller_collects : (caller : Caller) → ComesNext script caller next c → StandsFor script (under (caller_activity (with_next next caller)) e) w → (g : ℕ) → due w ≡ Some g → StepOf script w w.stack [] (push (new_collection g false w) w)
+    caller_collects (caller_of.Script after) is stands = script_collects script e next w stands
+    caller_collects (caller_of.Frame locals procedure after) is stands = frame_collects script e locals procedure next after c w stands is
 
     -- the command is one of a script that some bytes spell
-    pub caller_doable : IsSpelled script → (names : ℕ) → names ≡ length script.names → (caller : Caller) → ComesNext script caller c after → IsSpelledCommand names c
-    caller_doable spelled names same (caller_of.Script next) is = script_doable script spelled names same c (is_there (commands_of script.items) _ next c is)
-    caller_doable spelled names same (caller_of.Frame locals procedure next) is = body_doable script spelled names procedure same c (is_there (body_of script procedure) _ next c is)
+    pub caller_doable : IsSpelled script → (names : ℕ) → names ≡ length script.names → (caller : Caller) → ComesNext script caller next c → IsSpelledCommand names c
+    caller_doable spelled names same (caller_of.Script after) is = script_doable script spelled names same c (is_there (commands_of script.items) _ next c is)
+    caller_doable spelled names same (caller_of.Frame locals procedure after) is = body_doable script spelled names procedure same c (is_there (body_of script procedure) _ next c is)
 
   -- its locals live
-  pub caller_live : (budget after : ℕ) (caller : Caller) → StandsFor script (under (caller_activity caller) e) w → IsLawful script budget w → LocalsLive e.store (caller_locals (with_next (Some after) caller))
-  caller_live budget after (caller_of.Script next) stands lawful = tt
-  caller_live budget after (caller_of.Frame locals procedure next) stands lawful = locals_are_live script budget e locals procedure next w stands lawful
+  pub caller_live : (budget : ℕ) (next : Option ℕ) (caller : Caller) → StandsFor script (under (caller_activity (with_next next caller)) e) w → IsLawful script budget w → LocalsLive e.store (caller_locals caller)
+  caller_live budget next (caller_of.Script after) stands lawful = tt
+  caller_live budget next (caller_of.Frame locals procedure after) stands lawful = locals_are_live script budget e locals procedure next w stands lawful
 
   -- what a command may rest on
   pub may_command : (top : Own) → StandsFor script (under top e) w → IsKept script e.first_budget w → IsSound e.store → IsSpelled script → IsFit script e → MayCommand e
@@ -296,37 +297,37 @@ module _ (script : Script) (e : State) (w : World) where
     room = omega (arith, has_room script top e w stands kept.lawful fit);
   }
 
--- The next command of a caller was done.
-module _ (script : Script) (caller : Caller) (after : ℕ) (c : Command) (old new : State) (next : ComesNext script caller c after) (w : World) (stands : StandsFor script (under (caller_activity caller) old) w) (kept : StaysKept script old.first_budget w) (none : due w ≡ None) where
-  without : Without script caller after c old w
-  without = without_command script old w after c caller next stands
+-- The command from which a caller has gone on was done.
+module _ (script : Script) (caller : Caller) (next : Option ℕ) (c : Command) (old new : State) (is : ComesNext script caller next c) (w : World) (stands : StandsFor script (under (caller_activity (with_next next caller)) old) w) (kept : StaysKept script old.first_budget w) (none : due w ≡ None) where
+  without : Without script caller c old w
+  without = without_command script old w next c caller is stands
 
   -- the world that it is done from
-  pub at_command : (world : World) × IsAtCommand script (with_next (Some after) caller) old world c
+  pub at_command : (world : World) × IsAtCommand script caller old world c
   at_command = (
     without.world,
     record {
       stands = without.stands;
       locals = without.locals;
-      kept = command_keeps script w without.world c stands.running (caller_detects_none script old w caller stands) (without.does none) old.first_budget kept;
+      kept = command_keeps script w without.world c stands.running (caller_detects_none script old w (with_next next caller) stands) (without.does none) old.first_budget kept;
     },
   )
 
   abbrev top_after : Own
-  top_after = caller_activity (with_next (Some after) caller)
+  top_after = caller_activity caller
 
   -- what it came to is what the step of its caller comes to
   pub comes : RunsTo script at_command.0 c top_after new None → ComesTo script w (under top_after new)
   unfolding without at_command
-  comes changes = command_comes script w without.world c stands.running (caller_detects_none script old w caller stands) (without.does none) (under top_after new) changes
+  comes changes = command_comes script w without.world c stands.running (caller_detects_none script old w (with_next next caller) stands) (without.does none) (under top_after new) changes
 
   pub answers : (answer : Turned) → RunsTo script at_command.0 c top_after new (Some answer) → TurnsWith script (λ still. ⊥) w [] new answer
   unfolding without at_command
-  answers answer does = command_turns script w without.world c stands.running (caller_detects_none script old w caller stands) (without.does none) new answer does
+  answers answer does = command_turns script w without.world c stands.running (caller_detects_none script old w (with_next next caller) stands) (without.does none) new answer does
 
-pub steps_from : (script : Script) (caller : Caller) (after : ℕ) (c : Command) (old new : State) → ComesNext script caller c after → ((w : World) → StandsFor script (under (caller_activity caller) old) w → due w ≡ None)
-    → (result : Option Turned) → ((w : World) → IsAtCommand script (with_next (Some after) caller) old w c → RunsTo script w c (caller_activity (with_next (Some after) caller)) new result) → StepsFrom script caller after old new result
-steps_from script caller after c old new next none None does = λ w stands kept.
-    let at = at_command script caller after c old new next w stands kept (none w stands) in comes script caller after c old new next w stands kept (none w stands) (does at.0 at.1)
-steps_from script caller after c old new next none (Some answer) does = λ w stands kept.
-    let at = at_command script caller after c old new next w stands kept (none w stands) in answers script caller after c old new next w stands kept (none w stands) answer (does at.0 at.1)
+pub steps_from : (script : Script) (caller : Caller) (next : Option ℕ) (c : Command) (old new : State) → ComesNext script caller next c → ((w : World) → StandsFor script (under (caller_activity (with_next next caller)) old) w → due w ≡ None)
+    → (result : Option Turned) → ((w : World) → IsAtCommand script caller old w c → RunsTo script w c (caller_activity caller) new result) → StepsFrom script caller next old new result
+steps_from script caller next c old new is none None does = λ w stands kept.
+    let at = at_command script caller next c old new is w stands kept (none w stands) in comes script caller next c old new is w stands kept (none w stands) (does at.0 at.1)
+steps_from script caller next c old new is none (Some answer) does = λ w stands kept.
+    let at = at_command script caller next c old new is w stands kept (none w stands) in answers script caller next c old new is w stands kept (none w stands) answer (does at.0 at.1)

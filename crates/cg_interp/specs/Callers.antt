@@ -162,14 +162,14 @@ pub record HasPerformed (script : Script) (top : Activity) (e : State) (answer :
   pub few : HasFewHolds before
   pub performed : IsPerformed script top e world command before was answer
 
--- This command has the turn, and the one with that number comes after it.
-abbrev pub ComesNext : Script → Caller → Command → ℕ → Type 0
-ComesNext script caller command after = commands_left script caller ≡ command ∷ commands_left script (with_next (Some after) caller)
+-- This command, which has this number, has the turn: the caller has gone on to the one after it.
+abbrev pub ComesNext : Script → Caller → Option ℕ → Command → Type 0
+ComesNext script caller next command = commands_left script (with_next next caller) ≡ command ∷ commands_left script caller
 
--- what the next command of a caller comes to, which was on top
-abbrev pub StepsFrom : Script → Caller → ℕ → State → State → Option Turned → Type 0
-StepsFrom script caller after old new None = ComesFrom script (caller_activity caller) old (caller_activity (with_next (Some after) caller)) new
-StepsFrom script caller after old new (Some answer) = TurnsFrom script (caller_activity caller) old new answer
+-- what the command with this number comes to, from which a caller has gone on: the caller at that command was on top
+abbrev pub StepsFrom : Script → Caller → Option ℕ → State → State → Option Turned → Type 0
+StepsFrom script caller next old new None = ComesFrom script (caller_activity (with_next next caller)) old (caller_activity caller) new
+StepsFrom script caller next old new (Some answer) = TurnsFrom script (caller_activity (with_next next caller)) old new answer
 
 -- Each of these commands is spelled by a script with so many texts.
 abbrev pub AreDoable : ℕ → List Command → Type 0

@@ -1,9 +1,10 @@
 -- What a turn of an engine answers: what the machine does. (Ours.)
-use Rattle.std.specs.Prelude.{◌≡◌, ◌≢◌, ℕ, ◌+◌, ◌*◌, ◌≤◌, length, List, [], ◌∷◌, ◌⊎◌, count_by}
+use Rattle.std.specs.Prelude.{◌≡◌, ◌≢◌, Bool, true, false, ℕ, ◌+◌, ◌*◌, ◌≤◌, length, List, [], ◌∷◌, ◌⊎◌, count_by}
 use Rattle.cg_script.specs.declared.Script.{Script}
 use Rattle.cg_script.specs.declared.limits.TheConstants.{MOST_BUDGET}
 use Rattle.cg_machine.specs.declared.event.Event.{Event}
-use Rattle.cg_machine.specs.declared.event.Event.TheVariants.{End, BudgetSpent, Left}
+use Rattle.cg_machine.specs.declared.event.Event.TheVariants.{End, BudgetSpent, Enter, Left}
+use Rattle.cg_machine.specs.declared.event.FrameSort.{FrameSort}
 use Rattle.cg_machine.specs.World as machine
 use Rattle.cg_machine.specs.World.{World, Outcome, Ended, BudgetIsSpent, Dying}
 use Rattle.cg_graph.specs.Member.{Includes}
@@ -32,6 +33,11 @@ Makes script transition e (turned.Lines events) = (transition.0 ≡ events) × S
 Makes script transition e turned.Ended = (transition.0 ≡ End ∷ []) × (transition.1.outcome ≡ Ended)
 Makes script transition e (turned.Left n) = (transition.0 ≡ Left n ∷ End ∷ []) × (transition.1.outcome ≡ Ended)
 Makes script transition e turned.Spent = (transition.0 ≡ BudgetSpent ∷ []) × (transition.1.outcome ≡ BudgetIsSpent)
+
+-- what is answered where a frame was to start: that it did, or that the budget is spent
+abbrev pub entered : FrameSort → ℕ → Bool → Turned
+entered sort serial true = turned.Line (Enter sort serial)
+entered sort serial false = turned.Spent
 
 -- The machine goes on, with these lines, to a world for which the engine stands.
 pub record GoesTo (script : Script) (w : World) (events : List Event) (e : State) : Type 0 where

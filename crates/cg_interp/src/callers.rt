@@ -12,7 +12,7 @@ ghost use Rattle.cg_interp.specs.Engines.{StandsFor, under, commands_from};
 ghost use Rattle.cg_interp.specs.Collecting.{StandsWith};
 ghost use Rattle.cg_interp.specs.Turns.{IsFit, StaysFit, TurnKeeps, HasRoomForOneMore, HasMoreRoom};
 ghost use Rattle.cg_interp.specs.Telling.{IsAtTurn, TurnsFrom};
-ghost use Rattle.cg_interp.specs.Callers.{caller_activity, caller_locals, MayCommand, ComesNext, IsAtCommand, RunsTo, StepsFrom};
+ghost use Rattle.cg_interp.specs.Callers.{caller_activity, caller_locals, with_next, MayCommand, ComesNext, IsAtCommand, RunsTo, StepsFrom};
 
 use crate::activity::Activity;
 use crate::caller::Caller;
@@ -35,7 +35,8 @@ impl<B: Kind> Engine<B> {
         'commands: loop {
             match next_in(&script.items, next) {
                 Some((command, after)) => {
-                    match self.step(&Caller::Script { next }, command, after) {
+                    let gone_on = Caller::Script { next: Some(after) };
+                    match self.step(&gone_on, next, command) {
                         Some(answer) => return answer,
                         None => next = Some(after),
                     }
@@ -80,12 +81,12 @@ impl<B: Kind> Engine<B> {
         'commands: loop {
             match next_of(body, next) {
                 Some((command, after)) => {
-                    let caller = Caller::Frame {
+                    let gone_on = Caller::Frame {
                         locals,
                         procedure,
-                        next,
+                        next: Some(after),
                     };
-                    match self.step(&caller, command, after) {
+                    match self.step(&gone_on, next, command) {
                         Some(answer) => return answer,
                         None => next = Some(after),
                     }
@@ -95,41 +96,43 @@ impl<B: Kind> Engine<B> {
         }
     }
 
-    /// The next command of a caller, which was on top, or a collection that is due before it. Nothing is answered where no line
-    /// is due and the caller is to go on: it is not put back.
+    /// The next command of a caller, which was on top, or a collection that is due before it. The caller has gone on from that
+    /// command, which has this number. Nothing is answered where no line is due and the caller is to go on: it is not put back.
     #[inline(always)]
-    fn step(&mut self, caller: &Caller, command: &Command, after: usize) -> Option<Turned>
-        requires stands { (script : AnyScript) × ComesNext script caller.now command.now after
-            × IsAtTurn script (caller_activity caller.now) self.old }
-        ensures steps { (script : AnyScript) → ComesNext script caller.now command.now after
-            → StepsFrom script caller.now after self.old self.new result }
+    fn step(&mut self, caller: &Caller, next: Option<usize>, command: &Command) -> Option<Turned>
+        requires stands { (script : AnyScript) × ComesNext script caller.now next command.now
+            × IsAtTurn script (caller_activity (with_next next caller.now)) self.old }
+        ensures steps { (script : AnyScript) → ComesNext script caller.now next command.now
+            → StepsFrom script caller.now next self.old self.new result }
         ensures fit { StaysFit self.old self.new }
     {
         // No heap is large, and where no collection runs none of its places has an object.
         self.heap.sound();
         match self.policy.due() {
             Some(generation) => {
-                self.collect_first(caller, generation);
+                self.collect_first(caller, next, generation);
                 Some(Turned::Quiet)
             }
-            None => self.run(&caller.with_next(Some(after)), command),
+            None => self.run(caller, command),
         }
     }
 
-    /// A collection of a generation that is due begins above the caller that was on top, before its next command.
+    /// A collection of a generation that is due begins above the caller that was on top, before its next command, which has
+    /// this number.
     #[inline(never)]
-    fn collect_first(&mut self, caller: &Caller, generation: u8)
+    fn collect_first(&mut self, caller: &Caller, next: Option<usize>, generation: u8)
         requires generation { generation ≤ 2 }
         requires room { 1 < self.old.room }
         requires idle { self.old.policy.running ≡ false }
         requires stands { (script : AnyScript) × IsSpelled script × IsFit script self.old
-            × (w : World) × StandsFor script (under (caller_activity caller.now) self.old) w
+            × (w : World) × StandsFor script (under (caller_activity (with_next next caller.now)) self.old) w
             × StaysKept script self.old.first_budget (push (new_collection generation false w) w) }
-        ensures begins { (script : AnyScript) (w : World) → StandsFor script (under (caller_activity caller.now) self.old) w
+        ensures begins { (script : AnyScript) (w : World)
+            → StandsFor script (under (caller_activity (with_next next caller.now)) self.old) w
             → StandsWith script self.new [] (push (new_collection generation false w) w) }
         ensures keeps { TurnKeeps self.old self.new }
     {
-        self.collect(caller.activity(), false, generation);
+        self.collect(caller.with_next(next).activity(), false, generation);
     }
 
     /// Does a command of the caller that was on top, which has gone on to the command after it.

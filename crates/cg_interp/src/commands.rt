@@ -1,5 +1,5 @@
 //! What the engine does once a command has been performed.
-ghost use Rattle.std.specs.Prelude.{◌≡◌, ◌<◌, ◌≤◌, [], Ok};
+ghost use Rattle.std.specs.Prelude.{◌≡◌, ◌<◌, ◌≤◌, true, false, [], Ok};
 ghost use Rattle.cg_value.specs.declared.Val.TheVariants as val_of;
 ghost use Rattle.cg_graph.specs.Value.{item};
 ghost use Rattle.cg_graph.specs.Store.{IsLive, Store};
@@ -8,17 +8,20 @@ ghost use Rattle.cg_script.specs.declared.Script.{Script as AnyScript};
 ghost use Rattle.cg_script.specs.declared.Command.{Command as AnyCommand};
 ghost use Rattle.cg_script.specs.Spelled.{IsSpelled};
 ghost use Rattle.cg_death.specs.Activities.{references_left, IsUnheld};
-ghost use Rattle.cg_machine.specs.World.{World, with_stack};
+ghost use Rattle.cg_machine.specs.World.{World, push, with_stack};
+ghost use Rattle.cg_machine.specs.declared.event.FrameSort.TheVariants as sort_of;
 ghost use Rattle.cg_machine.specs.Frame.{start_frame, procedure_of, begin_death};
 ghost use Rattle.cg_machine.specs.Represents.{Represents};
-ghost use Rattle.cg_machine.specs.Commands.{refused, without_commands, effect};
+ghost use Rattle.cg_machine.specs.Commands.{refused, stopped_frame, without_commands, new_collection, effect};
+ghost use Rattle.cg_laws.specs.Kept.{StaysKept};
 ghost use Rattle.cg_machine.specs.Effects.{Collects};
 ghost use Rattle.cg_policy.specs.Policy.{Policy as AnyPolicy};
 ghost use Rattle.cg_interp.specs.declared.activity.Activity.TheVariants as activity_of;
 ghost use Rattle.cg_interp.specs.Engines.{StandsFor, under};
 ghost use Rattle.cg_interp.specs.Quietly.{ComesTo};
+ghost use Rattle.cg_interp.specs.Collecting.{StandsWith};
 ghost use Rattle.cg_interp.specs.Callers.{caller_activity, Changes, releasing, transition_of_change, call_of, told, GivesUp, DoesAny, RunsTo, IsPerformed, HasPerformed, StaysKeptAfter};
-ghost use Rattle.cg_interp.specs.Turns.{Makes, TurnKeeps, IsFit, StaysSound, DyingIsSound};
+ghost use Rattle.cg_interp.specs.Turns.{Makes, entered, TurnKeeps, IsFit, StaysSound, DyingIsSound};
 
 use crate::activity::Activity;
 use crate::caller::Caller;
@@ -64,6 +67,7 @@ impl<B: Kind> Engine<B> {
     {
         match done {
             Done::Changed { line, given_up } => self.change(caller, line, given_up),
+            Done::Gives(given_up) => self.change(caller, None, given_up),
             Done::Calls(function) => Some(self.call(caller, function)),
             Done::Collects(generation) => Some(self.collect_if_idle(caller, generation)),
             Done::Quits => Some(self.quit(caller)),
@@ -72,15 +76,26 @@ impl<B: Kind> Engine<B> {
     }
 
     /// A command was refused, which also ends the frame that it stood in.
-    #[inline(never)]
+    #[inline(always)]
     fn refuse(&mut self, caller: &Caller, number: u8) -> Turned
         requires room { 0 < self.old.room }
         ensures refuses { (script : AnyScript) (w : World) → StandsFor script (under (caller_activity caller.now) self.old) w
             → Makes script (refused number w) self.new result }
         ensures keeps { TurnKeeps self.old self.new }
     {
-        self.stack.push(caller.stopped_frame().activity());
+        self.stop_frame(caller);
         Turned::Line(Event::Refused(number))
+    }
+
+    /// A caller is put back. If it is a frame, no command is left to it.
+    #[inline(never)]
+    fn stop_frame(&mut self, caller: &Caller)
+        requires room { 0 < self.old.room }
+        ensures stops { (script : AnyScript) (w : World) → StandsFor script (under (caller_activity caller.now) self.old) w
+            → StandsFor script self.new (with_stack (stopped_frame w.stack) w) }
+        ensures keeps { TurnKeeps self.old self.new }
+    {
+        self.stack.push(caller.stopped_frame().activity());
     }
 
     /// A command changed what it had to, and references are given up. The death of an object that nothing holds any more
@@ -132,40 +147,73 @@ impl<B: Kind> Engine<B> {
     {
         match line {
             Some(event) => {
-                self.stack.push(caller.activity());
+                self.wait(caller);
                 Some(Turned::Line(event))
             }
             None => None,
         }
     }
 
-    /// A command tells lines. Nothing is to be given up.
+    /// A caller is put back, to go on later.
     #[inline(never)]
+    fn wait(&mut self, caller: &Caller)
+        requires room { 0 < self.old.room }
+        ensures waits { (script : AnyScript) (w : World) → StandsFor script (under (caller_activity caller.now) self.old) w
+            → StandsFor script self.new w }
+        ensures keeps { TurnKeeps self.old self.new }
+    {
+        self.stack.push(caller.activity());
+    }
+
+    /// A command tells lines. Nothing is to be given up.
+    #[inline(always)]
     fn tell(&mut self, caller: &Caller, lines: Lines) -> Turned
         requires room { 1 < self.old.room }
         ensures tells { (script : AnyScript) (after : World) → Changes script (caller_activity caller.now) self.old (item val_of.None) after
             → Makes script (transition_of_change lines (item val_of.None) after) self.new result }
         ensures keeps { TurnKeeps self.old self.new }
     {
-        self.stack.push(caller.activity());
-        self.stack.push(Activity::Releasing(nothing()));
+        self.wait_releasing(caller);
         Turned::Lines(lines)
     }
 
-    /// A command ends the frame that it stands in, or the script.
+    /// A caller is put back, with nothing to be given up on top.
     #[inline(never)]
+    fn wait_releasing(&mut self, caller: &Caller)
+        requires room { 1 < self.old.room }
+        ensures waits { (script : AnyScript) (after : World) → Changes script (caller_activity caller.now) self.old (item val_of.None) after
+            → StandsFor script self.new (releasing (item val_of.None) after) }
+        ensures keeps { TurnKeeps self.old self.new }
+    {
+        self.stack.push(caller.activity());
+        self.stack.push(Activity::Releasing(nothing()));
+    }
+
+    /// A command ends the frame that it stands in, or the script.
+    #[inline(always)]
     fn quit(&mut self, caller: &Caller) -> Turned
         requires room { 0 < self.old.room }
         ensures quits { (script : AnyScript) (w : World) → StandsFor script (under (caller_activity caller.now) self.old) w
             → Makes script ([], with_stack (without_commands w.stack) w) self.new result }
         ensures keeps { TurnKeeps self.old self.new }
     {
-        self.stack.push(caller.with_next(None).activity());
+        self.stop(caller);
         Turned::Quiet
     }
 
-    /// A command calls a function.
+    /// A caller is put back. No command is left to it.
     #[inline(never)]
+    fn stop(&mut self, caller: &Caller)
+        requires room { 0 < self.old.room }
+        ensures stops { (script : AnyScript) (w : World) → StandsFor script (under (caller_activity caller.now) self.old) w
+            → StandsFor script self.new (with_stack (without_commands w.stack) w) }
+        ensures keeps { TurnKeeps self.old self.new }
+    {
+        self.stack.push(caller.with_next(None).activity());
+    }
+
+    /// A command calls a function.
+    #[inline(always)]
     fn call(&mut self, caller: &Caller, function: u64) -> Turned
         requires few { HasFewHolds self.old.store }
         requires live { IsLive self.old.store function }
@@ -174,9 +222,29 @@ impl<B: Kind> Engine<B> {
             → Makes script (start_frame script (call_of function w) w) self.new result }
         ensures keeps { TurnKeeps self.old self.new }
     {
+        if self.start_call(caller, function) {
+            Turned::Line(Event::Enter {
+                sort: FrameSort::Call,
+                serial: function,
+            })
+        } else {
+            Turned::Spent
+        }
+    }
+
+    /// The frame of a call starts above the caller, which is put back. It answers whether a frame was left to the budget.
+    #[inline(never)]
+    fn start_call(&mut self, caller: &Caller, function: u64) -> bool
+        requires few { HasFewHolds self.old.store }
+        requires live { IsLive self.old.store function }
+        requires room { 1 < self.old.room }
+        ensures calls { (script : AnyScript) (w : World) → StandsFor script (under (caller_activity caller.now) self.old) w
+            → Makes script (start_frame script (call_of function w) w) self.new (entered sort_of.Call function result) }
+        ensures keeps { TurnKeeps self.old self.new }
+    {
         let proc = procedure_of(&self.heap, function);
         self.stack.push(caller.activity());
-        self.start(FrameSpec {
+        self.enters(FrameSpec {
             sort: FrameSort::Call,
             proc,
             subject: function,
@@ -185,7 +253,7 @@ impl<B: Kind> Engine<B> {
     }
 
     /// Starts the collection that a command asks for. Where one is running, none starts, and the answer is 0.
-    #[inline(never)]
+    #[inline(always)]
     fn collect_if_idle(&mut self, caller: &Caller, generation: u8) -> Turned
         requires generation { generation ≤ 2 }
         requires room { 2 < self.old.room }
@@ -197,12 +265,28 @@ impl<B: Kind> Engine<B> {
         ensures keeps { TurnKeeps self.old self.new }
     {
         if self.policy.running() {
-            self.stack.push(caller.activity());
+            self.wait(caller);
             Turned::Line(Event::Collected(0))
         } else {
-            self.collect(caller.activity(), true, generation);
+            self.collect_asked(caller, generation);
             Turned::Quiet
         }
+    }
+
+    /// A collection that a command asks for begins above the caller, which is put back.
+    #[inline(never)]
+    fn collect_asked(&mut self, caller: &Caller, generation: u8)
+        requires generation { generation ≤ 2 }
+        requires room { 1 < self.old.room }
+        requires idle { self.old.policy.running ≡ false }
+        requires stands { (script : AnyScript) × IsSpelled script × IsFit script self.old
+            × (w : World) × StandsFor script (under (caller_activity caller.now) self.old) w
+            × StaysKept script self.old.first_budget (push (new_collection generation true w) w) }
+        ensures begins { (script : AnyScript) (w : World) → StandsFor script (under (caller_activity caller.now) self.old) w
+            → StandsWith script self.new [] (push (new_collection generation true w) w) }
+        ensures keeps { TurnKeeps self.old self.new }
+    {
+        self.collect(caller.activity(), true, generation);
     }
 }
 

@@ -1,5 +1,5 @@
 //! How a frame starts and ends.
-ghost use Rattle.std.specs.Prelude.{◌≡◌, ◌<◌, [], ℕ, Option, IfSome, OnSome, option_to_list, Some};
+ghost use Rattle.std.specs.Prelude.{◌≡◌, ◌<◌, true, [], ℕ, Option, IfSome, OnSome, option_to_list, Some};
 ghost use Rattle.cg_graph.specs.Store.{IsLive};
 ghost use Rattle.cg_heap.specs.Calls.{HasFewHolds};
 ghost use Rattle.cg_script.specs.declared.Script.{Script as AnyScript};
@@ -13,7 +13,7 @@ ghost use Rattle.cg_graph.specs.Changes.{held};
 ghost use Rattle.cg_death.specs.Activities.{references_left};
 ghost use Rattle.cg_interp.specs.Engines.{StandsFor, under, commands_from};
 ghost use Rattle.cg_interp.specs.Releases.{released_by, with_release, with_release_on};
-ghost use Rattle.cg_interp.specs.Turns.{Makes, Turns, TurnKeeps, HasOtherStack};
+ghost use Rattle.cg_interp.specs.Turns.{Makes, entered, Turns, TurnKeeps, HasOtherStack};
 
 use crate::activity::Activity;
 use crate::engine::Engine;
@@ -36,21 +36,43 @@ impl<B: Kind> Engine<B> {
             → Makes script (start_frame script spec w) self.new result }
         ensures keeps { TurnKeeps self.old self.new }
     {
-        if self.budget == 0 {
-            Turned::Spent
+        if self.enters(spec) {
+            Turned::Line(Event::Enter {
+                sort: spec.sort,
+                serial: spec.subject,
+            })
         } else {
-            self.enter(spec)
+            Turned::Spent
+        }
+    }
+
+    /// Starts a frame, where the budget has one left. It answers whether it has.
+    #[inline(always)]
+    pub fn enters(&mut self, spec: FrameSpec) -> bool
+        requires few { spec.sort ≡ sort_of.Call → HasFewHolds self.old.store }
+        requires live { 0 < self.old.budget → spec.sort ≡ sort_of.Call
+            → IfSome spec.func (λ f. IsLive self.old.store f) }
+        requires room { 0 < self.old.room }
+        ensures starts { (script : AnyScript) (w : World) → StandsFor script self.old w
+            → Makes script (start_frame script spec w) self.new (entered spec.sort spec.subject result) }
+        ensures keeps { TurnKeeps self.old self.new }
+    {
+        if self.budget == 0 {
+            false
+        } else {
+            self.enter(spec);
+            true
         }
     }
 
     /// Starts a frame where the budget has one left.
-    fn enter(&mut self, spec: FrameSpec) -> Turned
+    fn enter(&mut self, spec: FrameSpec)
         requires few { spec.sort ≡ sort_of.Call → HasFewHolds self.old.store }
         requires live { spec.sort ≡ sort_of.Call → IfSome spec.func (λ f. IsLive self.old.store f) }
         requires room { 0 < self.old.room }
         requires budget { 0 < self.old.budget }
         ensures starts { (script : AnyScript) (w : World) → StandsFor script self.old w
-            → Makes script (start_frame script spec w) self.new result }
+            → Makes script (start_frame script spec w) self.new (entered spec.sort spec.subject true) }
         ensures keeps { TurnKeeps self.old self.new }
     {
         self.budget -= 1;
@@ -64,10 +86,6 @@ impl<B: Kind> Engine<B> {
             procedure: spec.proc,
             next: Some(0),
         });
-        Turned::Line(Event::Enter {
-            sort: spec.sort,
-            serial: spec.subject,
-        })
     }
 
     /// Puts a release on top, if there is one.

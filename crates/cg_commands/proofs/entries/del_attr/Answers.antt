@@ -1,4 +1,4 @@
-use Rattle.std.proofs.Common.{None, Ok, Err}
+use Rattle.std.proofs.Common.{Ok, Err}
 use Rattle.std.specs.Prelude.{ok_or}
 use Rattle.std.proofs.lemmas.Result.{err_from_is_err_and}
 use Rattle.cg_value.specs.declared.Val.TheVariants as val
@@ -33,9 +33,9 @@ take_key-requires-clause-can g c =
 
 pub returns-in-Some : goal.returns-in-Some
 returns-in-Some g c =
-    (goes_on c.args.heap.now c.take_key.new.self c.args.locals.now (λ w. value w c.args.instance.now) c.in_ok-instance.instance _ (Ok (done.Changed None c.in-Some.entry)) c.in_ok-instance.ensures.ok
-    (goes_on c.args.heap.now c.take_key.new.self c.args.locals.now (λ w. object w (test_of wanted.Inst) (number_of (refusal_of wanted.Inst)) c.in_ok-instance.instance) (object_from c.args.heap.now.rows c.in_ok-target.target c.in_ok-target.ensures.ok.node) _ (Ok (done.Changed None c.in-Some.entry)) (reads-object c.args.heap.now c.args.locals.now (test_of wanted.Inst) c.in_ok-instance.instance c.in_ok-target.target c.in_ok-target.ensures.ok (number_of (refusal_of wanted.Inst)))
-    (goes_on c.args.heap.now c.take_key.new.self c.args.locals.now (λ w. ok_or (entry_at c.in_ok-target.ensures.ok.node.entries (val.Str c.args.attr)) no_attribute) c.in-Some.entry _ (Ok (done.Changed None c.in-Some.entry)) (reads-entry_at c.args.heap.now c.args.locals.now (test_of wanted.Inst) c.in_ok-instance.instance c.in_ok-target.target c.in_ok-target.ensures.ok (val.Str c.args.attr) c.in-Some.entry c.in-Some.ensures.entry no_attribute)
+    (goes_on c.args.heap.now c.take_key.new.self c.args.locals.now (λ w. value w c.args.instance.now) c.in_ok-instance.instance _ (Ok (done.Gives c.in-Some.entry)) c.in_ok-instance.ensures.ok
+    (goes_on c.args.heap.now c.take_key.new.self c.args.locals.now (λ w. object w (test_of wanted.Inst) (number_of (refusal_of wanted.Inst)) c.in_ok-instance.instance) (object_from c.args.heap.now.rows c.in_ok-target.target c.in_ok-target.ensures.ok.node) _ (Ok (done.Gives c.in-Some.entry)) (reads-object c.args.heap.now c.args.locals.now (test_of wanted.Inst) c.in_ok-instance.instance c.in_ok-target.target c.in_ok-target.ensures.ok (number_of (refusal_of wanted.Inst)))
+    (goes_on c.args.heap.now c.take_key.new.self c.args.locals.now (λ w. ok_or (entry_at c.in_ok-target.ensures.ok.node.entries (val.Str c.args.attr)) no_attribute) c.in-Some.entry _ (Ok (done.Gives c.in-Some.entry)) (reads-entry_at c.args.heap.now c.args.locals.now (test_of wanted.Inst) c.in_ok-instance.instance c.in_ok-target.target c.in_ok-target.ensures.ok (val.Str c.args.attr) c.in-Some.entry c.in-Some.ensures.entry no_attribute)
     (takes_key c.args.heap.now c.sound.ensures c.args.locals.now (test_of wanted.Inst) c.in_ok-instance.instance c.in_ok-target.target c.in_ok-target.ensures.ok (val.Str c.args.attr) c.in-Some.entry c.take_key.new.self c.in-Some.ensures.entry c.in-Some.ensures.rest))))
 
 pub returns-in-None : goal.returns-in-None

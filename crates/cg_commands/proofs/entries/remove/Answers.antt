@@ -1,4 +1,4 @@
-use Rattle.std.proofs.Common.{None, Ok, Err}
+use Rattle.std.proofs.Common.{Ok, Err}
 use Rattle.std.specs.Prelude.{ok_or}
 use Rattle.std.proofs.lemmas.Result.{err_from_is_err_and}
 use Rattle.cg_graph.specs.Store.{object_from}
@@ -47,11 +47,11 @@ take_key-requires-clause-can g c =
 
 pub returns-in-Some : goal.returns-in-Some
 returns-in-Some g c =
-    (goes_on c.args.heap.now c.take_key.new.self c.args.locals.now (λ w. value w c.args.dict.now) c.in_ok-dict.dict _ (Ok (done.Changed None c.in-Some.entry)) c.in_ok-dict.ensures.ok
-    (goes_on c.args.heap.now c.take_key.new.self c.args.locals.now (λ w. value w c.args.key.now) c.in_ok-key.key _ (Ok (done.Changed None c.in-Some.entry)) c.in_ok-key.ensures.ok
-    (goes_on c.args.heap.now c.take_key.new.self c.args.locals.now (λ w. object w (test_of wanted.Dict) (number_of (refusal_of wanted.Dict)) c.in_ok-dict.dict) (object_from c.args.heap.now.rows c.in_ok-target.target c.in_ok-target.ensures.ok.node) _ (Ok (done.Changed None c.in-Some.entry)) (reads-object c.args.heap.now c.args.locals.now (test_of wanted.Dict) c.in_ok-dict.dict c.in_ok-target.target c.in_ok-target.ensures.ok (number_of (refusal_of wanted.Dict)))
-    (goes_on c.args.heap.now c.take_key.new.self c.args.locals.now (λ w. unless (is_hashable w c.in_ok-key.key) unhashable) tt _ (Ok (done.Changed None c.in-Some.entry)) (reads-key c.args.heap.now c.args.locals.now c.in_ok-key.key c.is_hashable.result c.is_hashable.ensures c.if-not-is_hashable.false)
-    (goes_on c.args.heap.now c.take_key.new.self c.args.locals.now (λ w. ok_or (entry_at c.in_ok-target.ensures.ok.node.entries c.in_ok-key.key) no_key) c.in-Some.entry _ (Ok (done.Changed None c.in-Some.entry)) (reads-entry_at c.args.heap.now c.args.locals.now (test_of wanted.Dict) c.in_ok-dict.dict c.in_ok-target.target c.in_ok-target.ensures.ok c.in_ok-key.key c.in-Some.entry c.in-Some.ensures.entry no_key)
+    (goes_on c.args.heap.now c.take_key.new.self c.args.locals.now (λ w. value w c.args.dict.now) c.in_ok-dict.dict _ (Ok (done.Gives c.in-Some.entry)) c.in_ok-dict.ensures.ok
+    (goes_on c.args.heap.now c.take_key.new.self c.args.locals.now (λ w. value w c.args.key.now) c.in_ok-key.key _ (Ok (done.Gives c.in-Some.entry)) c.in_ok-key.ensures.ok
+    (goes_on c.args.heap.now c.take_key.new.self c.args.locals.now (λ w. object w (test_of wanted.Dict) (number_of (refusal_of wanted.Dict)) c.in_ok-dict.dict) (object_from c.args.heap.now.rows c.in_ok-target.target c.in_ok-target.ensures.ok.node) _ (Ok (done.Gives c.in-Some.entry)) (reads-object c.args.heap.now c.args.locals.now (test_of wanted.Dict) c.in_ok-dict.dict c.in_ok-target.target c.in_ok-target.ensures.ok (number_of (refusal_of wanted.Dict)))
+    (goes_on c.args.heap.now c.take_key.new.self c.args.locals.now (λ w. unless (is_hashable w c.in_ok-key.key) unhashable) tt _ (Ok (done.Gives c.in-Some.entry)) (reads-key c.args.heap.now c.args.locals.now c.in_ok-key.key c.is_hashable.result c.is_hashable.ensures c.if-not-is_hashable.false)
+    (goes_on c.args.heap.now c.take_key.new.self c.args.locals.now (λ w. ok_or (entry_at c.in_ok-target.ensures.ok.node.entries c.in_ok-key.key) no_key) c.in-Some.entry _ (Ok (done.Gives c.in-Some.entry)) (reads-entry_at c.args.heap.now c.args.locals.now (test_of wanted.Dict) c.in_ok-dict.dict c.in_ok-target.target c.in_ok-target.ensures.ok c.in_ok-key.key c.in-Some.entry c.in-Some.ensures.entry no_key)
     (takes_key c.args.heap.now c.sound.ensures c.args.locals.now (test_of wanted.Dict) c.in_ok-dict.dict c.in_ok-target.target c.in_ok-target.ensures.ok c.in_ok-key.key c.in-Some.entry c.take_key.new.self c.in-Some.ensures.entry c.in-Some.ensures.rest))))))
 
 pub returns-in-None : goal.returns-in-None

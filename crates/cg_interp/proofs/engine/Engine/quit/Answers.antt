@@ -1,9 +1,5 @@
-use Rattle.std.proofs.Common.{sym, subst, ap, ◌∙◌, ◌∷◌, refl}
-use Rattle.cg_interp.specs.Engines.{StandsFor, under}
-use Rattle.cg_interp.specs.Callers.{caller_activity}
-use Rattle.cg_interp.proofs.CallerLemmas.{quits}
+use Rattle.std.proofs.Common.{refl}
 use Rattle.cg_interp.proofs.engine.Engine.quit.Goals as goal
 
 pub returns-clause-quits : goal.returns-clause-quits
-returns-clause-quits g c =
-    λ script w stands. quits script _ _ w c.args.caller.now (subst (λ e. StandsFor script (under (caller_activity c.args.caller.now) e) w) (sym c.self.view_is) stands) refl refl (c.push.ensures.top ∙ ap (λ a. a ∷ c.self.inside.stack.activities) (c.activity.ensures ∙ ap caller_activity c.with_next.ensures)) refl
+returns-clause-quits g c = λ script w is. (refl, c.stop.ensures.stops script w is)

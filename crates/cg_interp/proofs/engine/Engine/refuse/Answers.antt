@@ -1,9 +1,5 @@
-use Rattle.std.proofs.Common.{sym, subst, ap, ◌∙◌, ◌∷◌, refl}
-use Rattle.cg_interp.specs.Engines.{StandsFor, under}
-use Rattle.cg_interp.specs.Callers.{caller_activity}
-use Rattle.cg_interp.proofs.CallerLemmas.{refuses}
+use Rattle.std.proofs.Common.{refl}
 use Rattle.cg_interp.proofs.engine.Engine.refuse.Goals as goal
 
 pub returns-clause-refuses : goal.returns-clause-refuses
-returns-clause-refuses g c =
-    λ script w stands. refuses script _ _ w c.args.caller.now c.args.number (subst (λ e. StandsFor script (under (caller_activity c.args.caller.now) e) w) (sym c.self.view_is) stands) refl refl (c.push.ensures.top ∙ ap (λ a. a ∷ c.self.inside.stack.activities) (c.activity.ensures ∙ ap caller_activity c.stopped_frame.ensures)) refl
+returns-clause-refuses g c = λ script w is. (refl, c.stop_frame.ensures.stops script w is)

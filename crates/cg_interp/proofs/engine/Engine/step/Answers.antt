@@ -1,11 +1,10 @@
 use Rattle.std.proofs.Common.{sym, ◌∙◌, ap, subst, [], None, Some, false, arith}
 use Rattle.cg_heap.specs.Calls.{IsSound}
-use Rattle.cg_machine.specs.World.{World, push}
+use Rattle.cg_machine.specs.World.{push}
 use Rattle.cg_machine.specs.Commands.{new_collection}
 use Rattle.cg_policy.specs.Policy.{due_of}
-use Rattle.cg_commands.specs.Stands.{LocalsLive}
 use Rattle.cg_interp.specs.Engines.{State, under}
-use Rattle.cg_interp.specs.Callers.{caller_activity, caller_locals, IsAtCommand, RunsTo}
+use Rattle.cg_interp.specs.Callers.{caller_activity, with_next}
 use Rattle.cg_interp.proofs.Keeping.{still_fit}
 use Rattle.cg_interp.proofs.Lawfully.{has_room}
 use Rattle.cg_interp.proofs.StepLemmas.{due_in, kept_after, begins_collection, caller_collects, caller_doable, caller_live, may_command, at_command, steps_from}
@@ -13,22 +12,22 @@ use Rattle.cg_interp.proofs.engine.Engine.step.Goals as goal
 
 pub collect_first-requires-clause-stands : goal.collect_first-requires-clause-stands
 collect_first-requires-clause-stands g c =
-    let (script, next, at) = c.requires.stands in
+    let (script, is_next, at) = c.requires.stands in
     let is = sym c.in-Some.is ∙ c.due.ensures ∙ ap (λ (e : State). due_of e.policy) c.self.view_is in
-    let step = caller_collects script c.args.self.now at.world c.args.after c.args.command.now c.args.caller.now next at.stands c.in-Some.generation
-    (due_in script (under (caller_activity c.args.caller.now) c.args.self.now) at.world (Some c.in-Some.generation) at.stands is) in
+    let step = caller_collects script c.args.self.now at.world c.args.next c.args.command.now c.args.caller.now is_next at.stands c.in-Some.generation
+    (due_in script (under (caller_activity (with_next c.args.next c.args.caller.now)) c.args.self.now) at.world (Some c.in-Some.generation) at.stands is) in
     (script, at.spelled, at.fit, at.world, at.stands, kept_after script at.world (push (new_collection c.in-Some.generation false at.world) at.world) at.stands.running c.args.self.now.first_budget [] step at.kept)
 
 pub collect_first-requires-clause-room : goal.collect_first-requires-clause-room
 collect_first-requires-clause-room g c =
-    let (script, next, at) = c.requires.stands in
-    omega (arith, has_room script (caller_activity c.args.caller.now) c.args.self.now at.world at.stands (at.kept [] tt).lawful at.fit)
+    let (script, is_next, at) = c.requires.stands in
+    omega (arith, has_room script (caller_activity (with_next c.args.next c.args.caller.now)) c.args.self.now at.world at.stands (at.kept [] tt).lawful at.fit)
 
 pub returns-in-Some-clause-steps : goal.returns-in-Some-clause-steps
-returns-in-Some-clause-steps g c = λ script next w stands kept.
+returns-in-Some-clause-steps g c = λ script is_next w stands kept.
     let is = sym c.in-Some.is ∙ c.due.ensures ∙ ap (λ (e : State). due_of e.policy) c.self.view_is in
-    let step = caller_collects script c.args.self.now w c.args.after c.args.command.now c.args.caller.now next stands c.in-Some.generation
-    (due_in script (under (caller_activity c.args.caller.now) c.args.self.now) w (Some c.in-Some.generation) stands is) in
+    let step = caller_collects script c.args.self.now w c.args.next c.args.command.now c.args.caller.now is_next stands c.in-Some.generation
+    (due_in script (under (caller_activity (with_next c.args.next c.args.caller.now)) c.args.self.now) w (Some c.in-Some.generation) stands is) in
     begins_collection script w (push (new_collection c.in-Some.generation false w) w) stands.running c.collect_first.new.self step
     (c.collect_first.ensures.begins script w stands)
 
@@ -37,29 +36,29 @@ returns-in-Some-clause-fit g c = still_fit c.args.self.now c.collect_first.new.s
 
 pub run-requires-clause-spelled : goal.run-requires-clause-spelled
 run-requires-clause-spelled g c =
-    let (script, next, at) = c.requires.stands in
-    caller_doable script c.args.self.now at.world c.args.after c.args.command.now at.spelled _ at.fit.names c.args.caller.now next
+    let (script, is_next, at) = c.requires.stands in
+    caller_doable script c.args.self.now at.world c.args.next c.args.command.now at.spelled _ at.fit.names c.args.caller.now is_next
 
 pub run-requires-clause-locals : goal.run-requires-clause-locals
 run-requires-clause-locals g c =
-    let (script, next, at) = c.requires.stands in
-    subst (λ k. LocalsLive c.args.self.now.store (caller_locals k)) (sym c.with_next.ensures) (caller_live script c.args.self.now at.world c.args.self.now.first_budget c.args.after c.args.caller.now at.stands (at.kept [] tt).lawful)
+    let (script, is_next, at) = c.requires.stands in
+    caller_live script c.args.self.now at.world c.args.self.now.first_budget c.args.next c.args.caller.now at.stands (at.kept [] tt).lawful
 
 pub run-requires-clause-may : goal.run-requires-clause-may
 run-requires-clause-may g c =
-    let (script, next, at) = c.requires.stands in
-    may_command script c.args.self.now at.world (caller_activity c.args.caller.now) at.stands (at.kept [] tt) (subst (λ e. IsSound e.store) c.self.view_is c.sound.ensures) at.spelled at.fit
+    let (script, is_next, at) = c.requires.stands in
+    may_command script c.args.self.now at.world (caller_activity (with_next c.args.next c.args.caller.now)) at.stands (at.kept [] tt) (subst (λ e. IsSound e.store) c.self.view_is c.sound.ensures) at.spelled at.fit
 
 pub run-requires-clause-stands : goal.run-requires-clause-stands
 run-requires-clause-stands g c =
-    let (script, next, at) = c.requires.stands in
-    let none = due_in script (under (caller_activity c.args.caller.now) c.args.self.now) at.world None at.stands (sym c.in-None.is ∙ c.due.ensures ∙ ap (λ (e : State). due_of e.policy) c.self.view_is) in
-    let command = at_command script c.args.caller.now c.args.after c.args.command.now c.args.self.now c.args.self.now next at.world at.stands at.kept none in
-    (script, at.spelled, at.fit, command.0, subst (λ k. IsAtCommand script k c.args.self.now command.0 c.args.command.now) (sym c.with_next.ensures) command.1)
+    let (script, is_next, at) = c.requires.stands in
+    let none = due_in script (under (caller_activity (with_next c.args.next c.args.caller.now)) c.args.self.now) at.world None at.stands (sym c.in-None.is ∙ c.due.ensures ∙ ap (λ (e : State). due_of e.policy) c.self.view_is) in
+    let command = at_command script c.args.caller.now c.args.next c.args.command.now c.args.self.now c.args.self.now is_next at.world at.stands at.kept none in
+    (script, at.spelled, at.fit, command.0, command.1)
 
 pub returns-in-None-clause-steps : goal.returns-in-None-clause-steps
-returns-in-None-clause-steps g c = λ script next.
-    steps_from script c.args.caller.now c.args.after c.args.command.now c.args.self.now c.run.new.self next
-    (λ w stands. due_in script (under (caller_activity c.args.caller.now) c.args.self.now) w None stands (sym c.in-None.is ∙ c.due.ensures ∙ ap (λ (e : State). due_of e.policy) c.self.view_is))
+returns-in-None-clause-steps g c = λ script is_next.
+    steps_from script c.args.caller.now c.args.next c.args.command.now c.args.self.now c.run.new.self is_next
+    (λ w stands. due_in script (under (caller_activity (with_next c.args.next c.args.caller.now)) c.args.self.now) w None stands (sym c.in-None.is ∙ c.due.ensures ∙ ap (λ (e : State). due_of e.policy) c.self.view_is))
     c.run.result
-    (subst (λ k. (w : World) → IsAtCommand script k c.args.self.now w c.args.command.now → RunsTo script w c.args.command.now (caller_activity k) c.run.new.self c.run.result) c.with_next.ensures (c.run.ensures.does script))
+    (c.run.ensures.does script)
