@@ -1,6 +1,8 @@
 //! Tests of large heaps: the two limits, a long chain, and that calls succeed where memory is ample. They stand apart so
-//! that cg_heap is checked without them; nothing but tests is here.
+//! that cg_heap is checked without them; nothing is here but the tests and what they ask of a value and a kind.
 #![tactic(auto)]
 
 #[cfg(test)]
 mod tests;
+
+pub mod told;

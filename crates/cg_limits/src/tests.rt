@@ -1,13 +1,12 @@
 //! Heaps at their limits. The numbers come from the limits that the heap's calls state.
-ghost use Rattle.std.specs.Prelude.{◌≡◌, ◌≢◌, ◌↔◌, map, replicate, IfSome, IsTrue, None, Some};
+ghost use Rattle.std.specs.Prelude.{◌≡◌, map, replicate, None, Some};
 ghost use Rattle.std.specs.FinMap as fin;
-ghost use Rattle.cg_value.specs.declared.Val.TheVariants as val_of;
-ghost use Rattle.cg_value.specs.declared.KindCode.TheVariants as code;
 ghost use Rattle.cg_graph.specs.Store.{IsLive};
 ghost use Rattle.cg_heap.specs.Boxes.{six_kinds};
 ghost use Rattle.cg_heap.specs.Keeps.{HasClass};
 ghost use Rattle.cg_heap.specs.Weak.{HasReferent, IsInNoRow};
 
+use crate::told::{is_weak, object_in, other};
 use cg_any_kind::six;
 use cg_heap::{Heap, HeapFault};
 use cg_kind::Kind;
@@ -39,36 +38,6 @@ impl<B: Kind> Model for Holder<B> {
 
     ghost invariant = { λ a. IfSome a.held (λ s. 0 < outside_of a.heap s)
         × (outside_total a.heap ≤ a.count) × (a.heap.last ≤ a.count + 1) };
-}
-
-/// The object that a value refers to.
-fn object_in(val: Val) -> Option<u64>
-    ensures { IfSome result (λ s. val ≡ val_of.Ref s) }
-{
-    match val {
-        Val::Ref(object) => Some(object),
-        _ => None,
-    }
-}
-
-/// The held object, if it is another.
-fn other(held: Option<u64>, object: u64) -> Option<u64>
-    ensures { IfSome result (λ s. (s ≢ object) × (held ≡ Some s)) }
-{
-    let one = held?;
-    if one == object {
-        return None;
-    }
-    Some(one)
-}
-
-fn is_weak(kind: KindCode) -> bool
-    ensures { IsTrue result ↔ (kind ≡ code.Weak) }
-{
-    match kind {
-        KindCode::Weak => true,
-        _ => false,
-    }
 }
 
 impl<B: Kind> Holder<B> {
