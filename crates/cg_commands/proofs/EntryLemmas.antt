@@ -21,13 +21,12 @@ use Rattle.cg_machine.specs.World.{with_change}
 use Rattle.cg_machine.specs.Effects.{Changes, has_room, sets_entries}
 use Rattle.cg_machine.specs.Refusals.{◌>>=◌}
 use Rattle.cg_machine.specs.Represents.{Represents}
-use Rattle.cg_commands.specs.declared.done.Done.{Done}
 use Rattle.cg_commands.specs.declared.done.Done.TheVariants.{Gives}
 use Rattle.cg_commands.specs.declared.locals.Locals.{Locals}
 use Rattle.cg_commands.specs.declared.operands.Wanted.{Wanted}
 use Rattle.cg_commands.specs.declared.operands.Wanted.TheVariants as wanted
 use Rattle.cg_commands.specs.Objects.{RefersTo, test_of}
-use Rattle.cg_commands.specs.Answers.{PerformsOnHeap, AnswersOnHeap, GivesUp}
+use Rattle.cg_commands.specs.Answers.{PerformsOnHeap, AnswersOnHeap}
 use Rattle.cg_commands.proofs.Bridges.{gives_up, gives_nothing, refilled}
 use Rattle.cg_commands.proofs.Limits.{room, one_fits}
 use Rattle.cg_commands.proofs.KeyLemmas.{entry_somewhere}
@@ -117,14 +116,13 @@ module _ (store : Store) (sound : IsSound store) (locals : Option Locals) (test 
   entries-here = ap (λ (x : Option Node). elim x [ None ↦ [] | Some n ↦ n.entries ]) there.found
 
   -- an item goes last
-  pub appends : {X : Type 0} (u : X) (val : Val) (done : Done) (new : Store) → new ≡ rewritten o (entries_of store o ++ item val ∷ []) store → GivesUp [] done → ((Ok u ≡ Err fault.EntryLimit) ↔ (4000000 ≤ entry_number store))
-      → PerformsOnHeap store locals (λ w. has_room w 1 >>= (λ _. Ok (Changes true [] [] (with_change (with_entries (there.node.entries ++ item val ∷ [])) o w)))) new (Ok done)
+  pub appends : {X : Type 0} (u : X) (val : Val) (e : Entry) (new : Store) → new ≡ rewritten o (entries_of store o ++ item val ∷ []) store → entry_references e ≡ [] → ((Ok u ≡ Err fault.EntryLimit) ↔ (4000000 ≤ entry_number store))
+      → PerformsOnHeap store locals (λ w. has_room w 1 >>= (λ _. Ok (Changes true [] [] (with_change (with_entries (there.node.entries ++ item val ∷ [])) o w)))) new (Ok (Gives e))
   unfolding ◌>>=◌
-  appends u val done new is (e, made, none) limit w s =
-      subst (λ d. AnswersOnHeap (Ok d) (has_room w 1 >>= (λ _. Ok (Changes true [] [] (with_change (with_entries (there.node.entries ++ item val ∷ [])) o w)))) store new) (sym made)
-      (gives_nothing _ None e true (with_change (with_entries (there.node.entries ++ item val ∷ [])) o w) store new
+  appends u val e new is none limit w s =
+      gives_nothing _ None e true (with_change (with_entries (there.node.entries ++ item val ∷ [])) o w) store new
       (ap (λ q. q >>= (λ _. Ok (Changes true [] [] (with_change (with_entries (there.node.entries ++ item val ∷ [])) o w)))) (room store w s.represents 1 (one_fits store u limit))) none
-      (subst (λ st. Represents st (with_change (with_entries (there.node.entries ++ item val ∷ [])) o w)) (sym (is ∙ ap (λ es. rewritten o (es ++ item val ∷ []) store) entries-here)) (refilled store w s.represents o (there.node.entries ++ item val ∷ []))))
+      (subst (λ st. Represents st (with_change (with_entries (there.node.entries ++ item val ∷ [])) o w)) (sym (is ∙ ap (λ es. rewritten o (es ++ item val ∷ []) store) entries-here)) (refilled store w s.represents o (there.node.entries ++ item val ∷ [])))
 
   -- an entry is taken out
   pub takes : (i : ℕ) (e : Entry) (es : List Entry) (new : Store) → slice_get (entries_of store o) i ≡ Some e → new ≡ held (entry_references e) (rewritten o (remove (entries_of store o) i) store) → es ≡ remove there.node.entries i

@@ -32,11 +32,11 @@ use Rattle.cg_machine.specs.Effects.{Effect, Changes, has_room, sets_entries, pu
 use Rattle.cg_machine.specs.Operands.{is_dict}
 use Rattle.cg_machine.specs.Refusals.{◌>>=◌}
 use Rattle.cg_machine.specs.Represents.{Represents}
-use Rattle.cg_commands.specs.declared.done.Done.{Done}
+use Rattle.cg_commands.specs.declared.done.Done.TheVariants.{Gives}
 use Rattle.cg_commands.specs.declared.locals.Locals.{Locals}
 use Rattle.cg_commands.specs.Refusals.{refusal_by}
 use Rattle.cg_commands.specs.Objects.{RefersTo}
-use Rattle.cg_commands.specs.Answers.{PerformsOnHeap, AnswersOnHeap, GivesUp}
+use Rattle.cg_commands.specs.Answers.{PerformsOnHeap, AnswersOnHeap}
 use Rattle.cg_commands.proofs.Bridges.{gives_up, released, refilled, tracked, change-alike}
 use Rattle.cg_commands.proofs.Reading.{object-at_node}
 use Rattle.cg_commands.proofs.Limits.{room, fault-refused}
@@ -70,16 +70,15 @@ module _ (store : Store) (sound : IsSound store) (locals : Option Locals) (test 
   code-is = ap (λ (x : Option Node). elim x [ None ↦ kind.List | Some n ↦ n.code ]) there.found
 
   -- the item at an index of a list is replaced
-  pub sets : there.node.code ≡ kind.List → (z : ℤ) (i : ℕ) (e : Entry) (value : Val) (was : Option Val) (done : Done) (new : Store) → z ≡ pos i → i < length (entries_of store o) → slice_get (entries_of store o) i ≡ Some e
-      → new ≡ tracked_if (becomes_tracked store o (val.Int z) value) o (with_put store o (val.Int z) value) → was ≡ value_in store o (val.Int z) → GivesUp (references_of_value was) done
-      → PerformsOnHeap store locals (λ w. sets_entries w x (set there.node.entries i (item value)) (entry_references e)) new (Ok done)
-  sets list z i e value was done new at within here is told (e', made, refs) w s =
-      subst (λ d. AnswersOnHeap (Ok d) (sets_entries w x (set there.node.entries i (item value)) (entry_references e)) store new) (sym made)
-      (gives_up _ None e' false (entry_references e) (rewritten o (set there.node.entries i (item value)) store) (with_change (with_entries (set there.node.entries i (item value))) o w) store new refl
+  pub sets : there.node.code ≡ kind.List → (z : ℤ) (i : ℕ) (e : Entry) (value : Val) (was : Option Val) (e' : Entry) (new : Store) → z ≡ pos i → i < length (entries_of store o) → slice_get (entries_of store o) i ≡ Some e
+      → new ≡ tracked_if (becomes_tracked store o (val.Int z) value) o (with_put store o (val.Int z) value) → was ≡ value_in store o (val.Int z) → entry_references e' ≡ references_of_value was
+      → PerformsOnHeap store locals (λ w. sets_entries w x (set there.node.entries i (item value)) (entry_references e)) new (Ok (Gives e'))
+  sets list z i e value was e' new at within here is told refs w s =
+      gives_up _ None e' false (entry_references e) (rewritten o (set there.node.entries i (item value)) store) (with_change (with_entries (set there.node.entries i (item value))) o w) store new refl
       (refs ∙ ap references_of_value (told ∙ found_value) ∙ sym alone)
       (is ∙ untouched ∙ (λ j. held (references_of_value (found_value j)) (rewritten o (after j) store)) ∙ ap (λ rs. held rs (rewritten o (set there.node.entries i (item value)) store)) (sym alone))
       (refilled store w s.represents o (set there.node.entries i (item value)))
-      (λ q some. lives_on store (rewritten o (set there.node.entries i (item value)) store) (kinds-rewritten o (set there.node.entries i (item value)) store) q (sound.live q (omega (arith, some, entry_holds store o i e here q)))))
+      (λ q some. lives_on store (rewritten o (set there.node.entries i (item value)) store) (kinds-rewritten o (set there.node.entries i (item value)) store) q (sound.live q (omega (arith, some, entry_holds store o i e here q))))
     where
       within_node : i < length there.node.entries
       within_node = subst (λ (es : List Entry). i < length es) entries-here within
@@ -310,18 +309,17 @@ module _ (store : Store) (sound : IsSound store) (locals : Option Locals) (test 
         (subst (λ os. Represents (tracked_if now o (held refs filled)) (record (push (Releasing refs) w) { objects = os })) world-is (moved-if now refl))
 
   -- A key gets a value.
-  pub puts-performs : (was : Option Val) (done : Done) (new : Store) → new ≡ tracked_if (becomes_tracked store o key value) o (with_put store o key value) → was ≡ value_in store o key → GivesUp (references_of_value was) done
-      → ((Ok was ≡ Err fault.EntryLimit) ↔ ((value_in store o key ≡ None) × (4000000 ≤ entry_number store))) → PerformsOnHeap store locals (λ w. puts w (object_from store.rows o n) key value) new (Ok done)
+  pub puts-performs : (was : Option Val) (e : Entry) (new : Store) → new ≡ tracked_if (becomes_tracked store o key value) o (with_put store o key value) → was ≡ value_in store o key → entry_references e ≡ references_of_value was
+      → ((Ok was ≡ Err fault.EntryLimit) ↔ ((value_in store o key ≡ None) × (4000000 ≤ entry_number store))) → PerformsOnHeap store locals (λ w. puts w (object_from store.rows o n) key value) new (Ok (Gives e))
   unfolding ◌>>=◌
-  puts-performs was done new is told (e, made, refs_are) limit w s =
-      subst (λ d. AnswersOnHeap (Ok d) (puts_with (value_at n.entries key) w) store new) (sym made)
-      (record {
+  puts-performs was e new is told refs_are limit w s =
+      record {
         wants_memory = is_none (value_at n.entries key);
         after = changed_world w;
         is = ap (λ q. q >>= (λ _. Ok (Changes (is_none (value_at n.entries key)) [] (references_of_value (value_at n.entries key)) (changed_world w)))) (checked (value_at n.entries key) refl)
             ∙ ap (λ rs. Ok (Changes (is_none (value_at n.entries key)) [] rs (changed_world w))) (sym given);
         represents = subst (λ rs. Represents new (push (Releasing rs) (changed_world w))) (sym (refs_are ∙ ap references_of_value told)) (put-represents w s.represents new is);
-      })
+      }
     where
       given : entry_references e ≡ references_of_value (value_at n.entries key)
       given = refs_are ∙ ap references_of_value (told ∙ under)

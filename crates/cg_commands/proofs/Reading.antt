@@ -1,7 +1,11 @@
 -- What a heap tells of the world that it stands for: the values of operands, and the objects that values refer to.
 use Rattle.std.proofs.Common.{◌≡◌, refl, sym, ◌∙◌, ap, subst, ℕ, ◌<◌, Bool, true, false, [], ◌∷◌, Option, Some, None, IsSome, Result, Ok, Err, arith}
-use Rattle.std.specs.Prelude.{◌==◌, option_map, option_and_then, unwrap_or, slice_get, ok_or, if◌then◌else◌, IfSome}
-use Rattle.std.proofs.lemmas.Bool.{eq-eqb}
+use Rattle.std.proofs.Common.{T, w64}
+use mir.Val.{to_z, of_z}
+use Rattle.std.proofs.Math.Facts.{to_z-of_z, sfits_lit}
+use Rattle.std.specs.Int.Signed.{mag}
+use Rattle.std.specs.Prelude.{ℤ, ◌==◌, option_map, option_and_then, unwrap_or, slice_get, ok_or, if◌then◌else◌, IfSome}
+use Rattle.std.proofs.lemmas.Bool.{eq-eqb, lt-ltb}
 use Rattle.std.specs.FinMap as fin
 use Rattle.cg_value.specs.declared.Val.{Val}
 use Rattle.cg_value.specs.declared.Val.TheVariants as val
@@ -161,3 +165,7 @@ object-other store kind o code live told fails w r = declined kind _ (known (fin
 -- what a value refers to lives
 pub refers_live : (store : Store) (test : Object → Bool) (v : Val) (o : ℕ) → RefersTo store test v o → IsLive store o
 refers_live store test v o there = subst IsSome (sym there.found) refl
+
+-- a number of 64 bits is read back as it was written
+pub read_back : (z : ℤ) → mag z < 9223372036854775808 → to_z w64 (of_z w64 z) ≡ z
+read_back z fits = to_z-of_z {w = w64} {z = z} (sfits_lit {w = w64} {z = z} (subst T (sym (lt-ltb (mag z) 9223372036854775808 fits)) tt))

@@ -78,6 +78,7 @@ Performs old was locals effect new now answer = (w : World) → HeapAndLocalsSta
 abbrev pub PerformsOnHeap : Store → Option Locals → (World → Result Effect ℕ) → Store → Result Done Refusal → Type 0
 PerformsOnHeap old locals effect new answer = (w : World) → HeapAndLocalsStandFor old locals w → AnswersOnHeap answer (effect w) old new
 
--- a change without a line that gives up these references
-abbrev pub GivesUp : List ℕ → Done → Type 0
-GivesUp references done = (e : Entry) × (done ≡ Gives e) × (entry_references e ≡ references)
+-- a change without a line, after which this entry is to be given up
+abbrev pub gives : Result Entry Refusal → Result Done Refusal
+gives (Ok given_up) = Ok (Gives given_up)
+gives (Err refusal) = Err refusal

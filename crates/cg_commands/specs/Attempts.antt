@@ -1,6 +1,7 @@
 -- What the dispatcher answers, before it is asked how far the heap grew. (Ours.)
-use Rattle.std.specs.Prelude.{◌≡◌, Bool, true, Option, OnOk, Result, Ok, Err}
+use Rattle.std.specs.Prelude.{◌≡◌, Bool, true, false, Option, OnOk, Result, Ok, Err}
 use Rattle.cg_script.specs.declared.Command.{Command}
+use Rattle.cg_script.specs.declared.Command.TheVariants.{Bind, Del, Append, SetItem, DelItem, Put, Remove, SetAttr, DelAttr, Item, Get, Attr, Deref}
 use Rattle.cg_graph.specs.Store.{Store}
 use Rattle.cg_machine.specs.Commands.{effect}
 use Rattle.cg_policy.specs.Policy.{Policy, with_numbers, with_one_made}
@@ -10,6 +11,23 @@ use Rattle.cg_commands.specs.declared.locals.Locals.{Locals}
 use Rattle.cg_commands.specs.Answers.{Performs}
 use Rattle.cg_commands.specs.Controls.{IsControl, Leaves}
 use Rattle.cg_commands.specs.Growth.{makes_object}
+
+-- the commands that change names or entries of what stands, and tell no line
+abbrev pub only_changes : Command → Bool
+only_changes (Bind name value) = true
+only_changes (Del name) = true
+only_changes (Append list value) = true
+only_changes (SetItem list index value) = true
+only_changes (DelItem list index) = true
+only_changes (Put dict key value) = true
+only_changes (Remove dict key) = true
+only_changes (SetAttr object attr value) = true
+only_changes (DelAttr object attr) = true
+only_changes (Item name list index) = true
+only_changes (Get name dict key) = true
+only_changes (Attr name object attr) = true
+only_changes (Deref name weak) = true
+only_changes command = false
 
 -- the policy once an object is counted, where it was made (`gc.set_threshold`)
 abbrev pub counted : Result Done Refusal → Policy → Policy

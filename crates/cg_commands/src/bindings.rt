@@ -1,4 +1,4 @@
-//! `x = v` and `del x`.
+//! `x = v` and `del x`. Each answers the entry that is then to be given up.
 ghost use Rattle.std.specs.Prelude.{◌≡◌, ◌<◌, ◌∷◌, [], length, Some, slice_get};
 ghost use Rattle.std.specs.List.{All};
 ghost use Rattle.cg_graph.specs.Value.{references_of_value, entry_references};
@@ -7,10 +7,10 @@ ghost use Rattle.cg_script.specs.declared.command.Command.TheVariants as command
 ghost use Rattle.cg_heap.specs.Calls.{HasFewHolds, IsLiveValue};
 ghost use Rattle.cg_machine.specs.Commands.{effect};
 ghost use Rattle.cg_machine.specs.Effects.{binds};
-ghost use Rattle.cg_commands.specs.Answers.{PerformsOnHeap};
+ghost use Rattle.cg_commands.specs.Answers.{PerformsOnHeap, gives};
 ghost use Rattle.cg_commands.specs.Stands.{LocalsLive};
 
-use crate::done::{Done, Refusal};
+use crate::done::Refusal;
 use crate::locals::Locals;
 use crate::operands::value;
 use cg_heap::Heap;
@@ -25,11 +25,11 @@ pub(crate) fn bind<B: Kind>(
     locals: &Option<Locals>,
     name: u32,
     operand: &Operand,
-) -> Result<Done, Refusal>
+) -> Result<Entry, Refusal>
     requires known { All (λ n. n < length heap.old.names) (name ∷ operand_texts operand.now) }
     requires locals { LocalsLive heap.old locals.now }
     requires few { HasFewHolds heap.old }
-    ensures { PerformsOnHeap heap.old locals.now (λ w. effect w (command.Bind name operand.now)) heap.new result }
+    ensures { PerformsOnHeap heap.old locals.now (λ w. effect w (command.Bind name operand.now)) heap.new (gives result) }
 {
     let val = value(heap, locals, operand)?;
     bind_to(heap, locals, name, val)
@@ -41,14 +41,14 @@ pub(crate) fn unbind<B: Kind>(
     heap: &mut Heap<B>,
     locals: &Option<Locals>,
     name: u32,
-) -> Result<Done, Refusal>
+) -> Result<Entry, Refusal>
     requires known { All (λ n. n < length heap.old.names) (name ∷ []) }
     requires few { HasFewHolds heap.old }
-    ensures { PerformsOnHeap heap.old locals.now (λ w. effect w (command.Del name)) heap.new result }
+    ensures { PerformsOnHeap heap.old locals.now (λ w. effect w (command.Del name)) heap.new (gives result) }
 {
     heap.sound();
     match heap.unbind(name) {
-        Some(val) => Ok(Done::Gives(given_up(Some(val)))),
+        Some(val) => Ok(given_up(Some(val))),
         None => Err(Refusal::NoName),
     }
 }
@@ -60,15 +60,15 @@ pub(crate) fn bind_to<B: Kind>(
     locals: &Option<Locals>,
     name: u32,
     val: Val,
-) -> Result<Done, Refusal>
+) -> Result<Entry, Refusal>
     requires name { name < length heap.old.names }
     requires live { IsLiveValue heap.old val }
     requires few { HasFewHolds heap.old }
-    ensures { PerformsOnHeap heap.old locals.now (λ w. binds w name val) heap.new result }
+    ensures { PerformsOnHeap heap.old locals.now (λ w. binds w name val) heap.new (gives result) }
 {
     heap.sound();
     let old = heap.bind(name, val);
-    Ok(Done::Gives(given_up(old)))
+    Ok(given_up(old))
 }
 
 /// An entry with the reference of a value, if there is one.

@@ -5,10 +5,10 @@ ghost use Rattle.cg_inspect.specs.Inspection.{IsIdle};
 ghost use Rattle.cg_machine.specs.World.{World};
 ghost use Rattle.cg_machine.specs.Commands.{effect};
 ghost use Rattle.cg_script.specs.Spelled.{IsSpelledCommand};
-ghost use Rattle.cg_policy.specs.Policy.{IsBounded, with_one_made};
+ghost use Rattle.cg_policy.specs.Policy.{Policy as AnyPolicy, IsBounded, with_one_made};
 ghost use Rattle.cg_policy.specs.Laws.{policy_of};
-ghost use Rattle.cg_commands.specs.Answers.{Performs};
-ghost use Rattle.cg_commands.specs.Attempts.{Attempts, counted};
+ghost use Rattle.cg_commands.specs.Answers.{Performs, gives};
+ghost use Rattle.cg_commands.specs.Attempts.{Attempts, counted, only_changes};
 ghost use Rattle.cg_commands.specs.Controls.{IsControl, Leaves};
 ghost use Rattle.cg_commands.specs.Growth.{GrowsBy, makes_object};
 ghost use Rattle.cg_commands.specs.Stands.{LocalsLive, HeapAndLocalsStandFor};
@@ -29,6 +29,7 @@ use cg_heap::Heap;
 use cg_kind::Kind;
 use cg_policy::{Flagset, Policy};
 use cg_script::Command;
+use cg_value::Entry;
 use std::alloc::Global;
 
 /// Does a command: what the machine's definition of effects says, in every world that the heap, the policy and the locals
@@ -85,6 +86,61 @@ fn attempt<B: Kind>(
     ensures { Attempts heap.old policy.old locals.now room command.now heap.new policy.new result }
 {
     match command {
+        Command::Bind { .. }
+        | Command::Del { .. }
+        | Command::Append { .. }
+        | Command::SetItem { .. }
+        | Command::DelItem { .. }
+        | Command::Put { .. }
+        | Command::Remove { .. }
+        | Command::SetAttr { .. }
+        | Command::DelAttr { .. }
+        | Command::Item { .. }
+        | Command::Get { .. }
+        | Command::Attr { .. }
+        | Command::Deref { .. } => gives(change(heap, locals, command)),
+        Command::Call { func } => call(heap, locals, func),
+        Command::Quit { value } => quit(heap, locals, value),
+        Command::Print { value } => print(heap, locals, value),
+        Command::Refs { value } => refs(heap, locals, value),
+        Command::Tracked { value } => tracked(heap, locals, value),
+        Command::Finalized { value } => finalized(heap, locals, value),
+        Command::Referents { value } => referents(alloc, heap, policy.running(), locals, value),
+        Command::Referrers { value } => referrers(alloc, heap, policy.running(), locals, value),
+        Command::Why { name } => why(alloc, heap, policy.running(), locals, *name),
+        Command::MakeList { .. }
+        | Command::MakeTuple { .. }
+        | Command::MakeDict { .. }
+        | Command::MakeInst { .. }
+        | Command::MakeFunc { .. }
+        | Command::MakeRef { .. } => make(heap, policy, locals, command, room),
+        Command::Collect { .. }
+        | Command::Enable
+        | Command::Disable
+        | Command::Threshold { .. }
+        | Command::Flags { .. }
+        | Command::Freeze
+        | Command::Unfreeze
+        | Command::Count
+        | Command::Gens => control(heap, policy, command),
+    }
+}
+
+/// Does a command that changes names or entries and tells no line. It answers the entry that is then to be given up: little
+/// to move, where most commands are of these.
+#[inline(always)]
+fn change<B: Kind>(
+    heap: &mut Heap<B>,
+    locals: &Option<Locals>,
+    command: &Command,
+) -> Result<Entry, Refusal>
+    requires spelled { IsSpelledCommand (length heap.old.names) command.now }
+    requires locals { LocalsLive heap.old locals.now }
+    requires few { HasFewHolds heap.old }
+    requires changes { only_changes command.now ≡ true }
+    ensures { (policy : AnyPolicy) (room : Bool) → Attempts heap.old policy locals.now room command.now heap.new policy (gives result) }
+{
+    match command {
         Command::Bind { name, value } => bind(heap, locals, *name, value),
         Command::Del { name } => unbind(heap, locals, *name),
         Command::Append { list, value } => append(heap, locals, list, value),
@@ -112,30 +168,18 @@ fn attempt<B: Kind>(
             attr: named,
         } => attr(heap, locals, *name, object, *named),
         Command::Deref { name, weak } => deref(heap, locals, *name, weak),
-        Command::Call { func } => call(heap, locals, func),
-        Command::Quit { value } => quit(heap, locals, value),
-        Command::Print { value } => print(heap, locals, value),
-        Command::Refs { value } => refs(heap, locals, value),
-        Command::Tracked { value } => tracked(heap, locals, value),
-        Command::Finalized { value } => finalized(heap, locals, value),
-        Command::Referents { value } => referents(alloc, heap, policy.running(), locals, value),
-        Command::Referrers { value } => referrers(alloc, heap, policy.running(), locals, value),
-        Command::Why { name } => why(alloc, heap, policy.running(), locals, *name),
-        Command::MakeList { .. }
-        | Command::MakeTuple { .. }
-        | Command::MakeDict { .. }
-        | Command::MakeInst { .. }
-        | Command::MakeFunc { .. }
-        | Command::MakeRef { .. } => make(heap, policy, locals, command, room),
-        Command::Collect { .. }
-        | Command::Enable
-        | Command::Disable
-        | Command::Threshold { .. }
-        | Command::Flags { .. }
-        | Command::Freeze
-        | Command::Unfreeze
-        | Command::Count
-        | Command::Gens => control(heap, policy, command),
+        _ => unreachable!(),
+    }
+}
+
+/// What is answered after a change without a line.
+#[inline(always)]
+fn gives(changed: Result<Entry, Refusal>) -> Result<Done, Refusal>
+    ensures { result ≡ gives changed }
+{
+    match changed {
+        Ok(given_up) => Ok(Done::Gives(given_up)),
+        Err(refusal) => Err(refusal),
     }
 }
 

@@ -1,23 +1,22 @@
-//! Entries that come, go, and change.
+//! Entries that come, go, and change. Each command answers the entry that is then to be given up.
 ghost use Rattle.std.specs.Prelude.{◌≡◌, ◌<◌, ◌∷◌, ◌++◌, [], length};
 ghost use Rattle.std.specs.List.{All};
 ghost use Rattle.cg_script.specs.Texts.{operand_texts};
 ghost use Rattle.cg_script.specs.declared.command.Command.TheVariants as command;
 ghost use Rattle.cg_heap.specs.Calls.{HasFewHolds};
 ghost use Rattle.cg_machine.specs.Commands.{effect};
-ghost use Rattle.cg_graph.specs.Value.{references_of_value};
-ghost use Rattle.cg_commands.specs.Answers.{PerformsOnHeap, GivesUp};
+ghost use Rattle.cg_commands.specs.Answers.{PerformsOnHeap, gives};
 ghost use Rattle.cg_commands.specs.Stands.{LocalsLive};
 
 use crate::bindings::given_up;
-use crate::done::{Done, Refusal, refusal_by};
+use crate::done::{Refusal, refusal_by};
 use crate::locals::Locals;
 use crate::lookups::{index_in, is_hashable};
 use crate::operands::{Wanted, object, value};
 use cg_heap::Heap;
 use cg_kind::Kind;
 use cg_script::Operand;
-use cg_value::Val;
+use cg_value::{Entry, Val};
 
 /// `append L v`: the value goes last.
 #[tactic(auto, using(crate::proofs::Reading::refers_live))]
@@ -27,17 +26,17 @@ pub(crate) fn append<B: Kind>(
     locals: &Option<Locals>,
     list: &Operand,
     operand: &Operand,
-) -> Result<Done, Refusal>
+) -> Result<Entry, Refusal>
     requires known { All (λ n. n < length heap.old.names) (operand_texts list.now ++ operand_texts operand.now) }
     requires locals { LocalsLive heap.old locals.now }
-    ensures { PerformsOnHeap heap.old locals.now (λ w. effect w (command.Append list.now operand.now)) heap.new result }
+    ensures { PerformsOnHeap heap.old locals.now (λ w. effect w (command.Append list.now operand.now)) heap.new (gives result) }
 {
     let list = value(heap, locals, list)?;
     let val = value(heap, locals, operand)?;
     let target = object(heap, list, Wanted::ScriptList)?;
     heap.sound();
     match heap.append(target, val) {
-        Ok(()) => Ok(changed(None)),
+        Ok(()) => Ok(given_up(None)),
         Err(fault) => Err(refusal_by(fault)),
     }
 }
@@ -51,11 +50,11 @@ pub(crate) fn set_item<B: Kind>(
     list: &Operand,
     index: i64,
     operand: &Operand,
-) -> Result<Done, Refusal>
+) -> Result<Entry, Refusal>
     requires known { All (λ n. n < length heap.old.names) (operand_texts list.now ++ operand_texts operand.now) }
     requires locals { LocalsLive heap.old locals.now }
     requires few { HasFewHolds heap.old }
-    ensures { PerformsOnHeap heap.old locals.now (λ w. effect w (command.SetItem list.now index operand.now)) heap.new result }
+    ensures { PerformsOnHeap heap.old locals.now (λ w. effect w (command.SetItem list.now index operand.now)) heap.new (gives result) }
 {
     let list = value(heap, locals, list)?;
     let val = value(heap, locals, operand)?;
@@ -63,7 +62,7 @@ pub(crate) fn set_item<B: Kind>(
     let _i = index_in(heap, target, index)?;
     heap.sound();
     match heap.put(target, Val::Int(index), val) {
-        Ok(old) => Ok(changed(old)),
+        Ok(old) => Ok(given_up(old)),
         Err(fault) => Err(refusal_by(fault)),
     }
 }
@@ -76,18 +75,18 @@ pub(crate) fn del_item<B: Kind>(
     locals: &Option<Locals>,
     list: &Operand,
     index: i64,
-) -> Result<Done, Refusal>
+) -> Result<Entry, Refusal>
     requires known { All (λ n. n < length heap.old.names) (operand_texts list.now) }
     requires locals { LocalsLive heap.old locals.now }
     requires few { HasFewHolds heap.old }
-    ensures { PerformsOnHeap heap.old locals.now (λ w. effect w (command.DelItem list.now index)) heap.new result }
+    ensures { PerformsOnHeap heap.old locals.now (λ w. effect w (command.DelItem list.now index)) heap.new (gives result) }
 {
     let list = value(heap, locals, list)?;
     let target = object(heap, list, Wanted::List)?;
     let i = index_in(heap, target, index)?;
     heap.sound();
     let entry = heap.take(target, i);
-    Ok(Done::Gives(entry))
+    Ok(entry)
 }
 
 /// `put D K v`: the key gets the value, and what it had is to be given up.
@@ -99,12 +98,12 @@ pub(crate) fn put<B: Kind>(
     dict: &Operand,
     key: &Operand,
     operand: &Operand,
-) -> Result<Done, Refusal>
+) -> Result<Entry, Refusal>
     requires known { All (λ n. n < length heap.old.names)
         (operand_texts dict.now ++ operand_texts key.now ++ operand_texts operand.now) }
     requires locals { LocalsLive heap.old locals.now }
     requires few { HasFewHolds heap.old }
-    ensures { PerformsOnHeap heap.old locals.now (λ w. effect w (command.Put dict.now key.now operand.now)) heap.new result }
+    ensures { PerformsOnHeap heap.old locals.now (λ w. effect w (command.Put dict.now key.now operand.now)) heap.new (gives result) }
 {
     let dict = value(heap, locals, dict)?;
     let key = value(heap, locals, key)?;
@@ -115,7 +114,7 @@ pub(crate) fn put<B: Kind>(
     }
     heap.sound();
     match heap.put(target, key, val) {
-        Ok(old) => Ok(changed(old)),
+        Ok(old) => Ok(given_up(old)),
         Err(fault) => Err(refusal_by(fault)),
     }
 }
@@ -128,11 +127,11 @@ pub(crate) fn remove<B: Kind>(
     locals: &Option<Locals>,
     dict: &Operand,
     key: &Operand,
-) -> Result<Done, Refusal>
+) -> Result<Entry, Refusal>
     requires known { All (λ n. n < length heap.old.names) (operand_texts dict.now ++ operand_texts key.now) }
     requires locals { LocalsLive heap.old locals.now }
     requires few { HasFewHolds heap.old }
-    ensures { PerformsOnHeap heap.old locals.now (λ w. effect w (command.Remove dict.now key.now)) heap.new result }
+    ensures { PerformsOnHeap heap.old locals.now (λ w. effect w (command.Remove dict.now key.now)) heap.new (gives result) }
 {
     let dict = value(heap, locals, dict)?;
     let key = value(heap, locals, key)?;
@@ -142,7 +141,7 @@ pub(crate) fn remove<B: Kind>(
     }
     heap.sound();
     match heap.take_key(target, key) {
-        Some(entry) => Ok(Done::Gives(entry)),
+        Some(entry) => Ok(entry),
         None => Err(Refusal::NoKey),
     }
 }
@@ -156,18 +155,18 @@ pub(crate) fn set_attr<B: Kind>(
     instance: &Operand,
     attr: u32,
     operand: &Operand,
-) -> Result<Done, Refusal>
+) -> Result<Entry, Refusal>
     requires known { All (λ n. n < length heap.old.names) (operand_texts instance.now ++ attr ∷ operand_texts operand.now) }
     requires locals { LocalsLive heap.old locals.now }
     requires few { HasFewHolds heap.old }
-    ensures { PerformsOnHeap heap.old locals.now (λ w. effect w (command.SetAttr instance.now attr operand.now)) heap.new result }
+    ensures { PerformsOnHeap heap.old locals.now (λ w. effect w (command.SetAttr instance.now attr operand.now)) heap.new (gives result) }
 {
     let instance = value(heap, locals, instance)?;
     let val = value(heap, locals, operand)?;
     let target = object(heap, instance, Wanted::Inst)?;
     heap.sound();
     match heap.put(target, Val::Str(attr), val) {
-        Ok(old) => Ok(changed(old)),
+        Ok(old) => Ok(given_up(old)),
         Err(fault) => Err(refusal_by(fault)),
     }
 }
@@ -180,25 +179,17 @@ pub(crate) fn del_attr<B: Kind>(
     locals: &Option<Locals>,
     instance: &Operand,
     attr: u32,
-) -> Result<Done, Refusal>
+) -> Result<Entry, Refusal>
     requires known { All (λ n. n < length heap.old.names) (operand_texts instance.now ++ attr ∷ []) }
     requires locals { LocalsLive heap.old locals.now }
     requires few { HasFewHolds heap.old }
-    ensures { PerformsOnHeap heap.old locals.now (λ w. effect w (command.DelAttr instance.now attr)) heap.new result }
+    ensures { PerformsOnHeap heap.old locals.now (λ w. effect w (command.DelAttr instance.now attr)) heap.new (gives result) }
 {
     let instance = value(heap, locals, instance)?;
     let target = object(heap, instance, Wanted::Inst)?;
     heap.sound();
     match heap.take_key(target, Val::Str(attr)) {
-        Some(entry) => Ok(Done::Gives(entry)),
+        Some(entry) => Ok(entry),
         None => Err(Refusal::NoAttribute),
     }
-}
-
-/// A change without a line, after which a value is to be given up, if there was one.
-#[inline(always)]
-fn changed(old: Option<Val>) -> Done
-    ensures { GivesUp (references_of_value old) result }
-{
-    Done::Gives(given_up(old))
 }

@@ -1,4 +1,4 @@
-//! Names that are bound to what an object holds.
+//! Names that are bound to what an object holds. Each command answers the entry that is then to be given up.
 ghost use Rattle.std.specs.Prelude.{◌≡◌, ◌<◌, ◌∷◌, ◌++◌, [], IfOk, IfErr, length, Some, None};
 ghost use Rattle.std.specs.List.{All};
 ghost use Rattle.cg_graph.specs.Store.{IsLive, entries_of};
@@ -8,18 +8,18 @@ ghost use Rattle.cg_heap.specs.Calls.{HasFewHolds, IsLiveValue};
 ghost use Rattle.cg_machine.specs.Commands.{effect};
 ghost use Rattle.cg_machine.specs.Effects.{valid_index};
 ghost use Rattle.cg_commands.specs.declared.done.Refusal.TheVariants as refusal;
-ghost use Rattle.cg_commands.specs.Answers.{PerformsOnHeap};
+ghost use Rattle.cg_commands.specs.Answers.{PerformsOnHeap, gives};
 ghost use Rattle.cg_commands.specs.Objects.{IsKey};
 ghost use Rattle.cg_commands.specs.Stands.{LocalsLive};
 
 use crate::bindings::bind_to;
-use crate::done::{Done, Refusal};
+use crate::done::Refusal;
 use crate::locals::Locals;
 use crate::operands::{Wanted, object, value};
 use cg_heap::Heap;
 use cg_kind::Kind;
 use cg_script::Operand;
-use cg_value::Val;
+use cg_value::{Entry, Val};
 
 /// `x = item L i`: the name is bound to an item of a list or a tuple.
 #[tactic(auto, using(crate::proofs::Reading::refers_live))]
@@ -30,11 +30,11 @@ pub(crate) fn item<B: Kind>(
     name: u32,
     list: &Operand,
     index: i64,
-) -> Result<Done, Refusal>
+) -> Result<Entry, Refusal>
     requires known { All (λ n. n < length heap.old.names) (name ∷ operand_texts list.now) }
     requires locals { LocalsLive heap.old locals.now }
     requires few { HasFewHolds heap.old }
-    ensures { PerformsOnHeap heap.old locals.now (λ w. effect w (command.Item name list.now index)) heap.new result }
+    ensures { PerformsOnHeap heap.old locals.now (λ w. effect w (command.Item name list.now index)) heap.new (gives result) }
 {
     let val = value(heap, locals, list)?;
     let target = object(heap, val, Wanted::Sequence)?;
@@ -53,11 +53,11 @@ pub(crate) fn get<B: Kind>(
     name: u32,
     dict: &Operand,
     key: &Operand,
-) -> Result<Done, Refusal>
+) -> Result<Entry, Refusal>
     requires known { All (λ n. n < length heap.old.names) (name ∷ (operand_texts dict.now ++ operand_texts key.now)) }
     requires locals { LocalsLive heap.old locals.now }
     requires few { HasFewHolds heap.old }
-    ensures { PerformsOnHeap heap.old locals.now (λ w. effect w (command.Get name dict.now key.now)) heap.new result }
+    ensures { PerformsOnHeap heap.old locals.now (λ w. effect w (command.Get name dict.now key.now)) heap.new (gives result) }
 {
     let val = value(heap, locals, dict)?;
     let key = value(heap, locals, key)?;
@@ -81,11 +81,11 @@ pub(crate) fn attr<B: Kind>(
     name: u32,
     instance: &Operand,
     attr: u32,
-) -> Result<Done, Refusal>
+) -> Result<Entry, Refusal>
     requires known { All (λ n. n < length heap.old.names) (name ∷ (operand_texts instance.now ++ attr ∷ [])) }
     requires locals { LocalsLive heap.old locals.now }
     requires few { HasFewHolds heap.old }
-    ensures { PerformsOnHeap heap.old locals.now (λ w. effect w (command.Attr name instance.now attr)) heap.new result }
+    ensures { PerformsOnHeap heap.old locals.now (λ w. effect w (command.Attr name instance.now attr)) heap.new (gives result) }
 {
     let val = value(heap, locals, instance)?;
     let target = object(heap, val, Wanted::Inst)?;
@@ -104,11 +104,11 @@ pub(crate) fn deref<B: Kind>(
     locals: &Option<Locals>,
     name: u32,
     weak: &Operand,
-) -> Result<Done, Refusal>
+) -> Result<Entry, Refusal>
     requires known { All (λ n. n < length heap.old.names) (name ∷ operand_texts weak.now) }
     requires locals { LocalsLive heap.old locals.now }
     requires few { HasFewHolds heap.old }
-    ensures { PerformsOnHeap heap.old locals.now (λ w. effect w (command.Deref name weak.now)) heap.new result }
+    ensures { PerformsOnHeap heap.old locals.now (λ w. effect w (command.Deref name weak.now)) heap.new (gives result) }
 {
     let val = value(heap, locals, weak)?;
     let target = object(heap, val, Wanted::Weak)?;

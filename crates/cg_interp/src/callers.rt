@@ -77,15 +77,17 @@ impl<B: Kind> Engine<B> {
         ensures fit { StaysFit self.old self.new }
     {
         let body = body_of(script, procedure);
+        // It is built once: of a command to the next only the number changes.
+        let mut gone_on = Caller::Frame {
+            locals,
+            procedure,
+            next,
+        };
         let mut next = next;
         'commands: loop {
             match next_of(body, next) {
                 Some((command, after)) => {
-                    let gone_on = Caller::Frame {
-                        locals,
-                        procedure,
-                        next: Some(after),
-                    };
+                    gone_on.go_to(after);
                     match self.step(&gone_on, next, command) {
                         Some(answer) => return answer,
                         None => next = Some(after),

@@ -1,21 +1,12 @@
 -- What each command asks of the script is in the spelling of the command, and what was done is its effect.
-use Rattle.std.proofs.Common.{◌≡◌, refl, sym, ◌∙◌, ap, subst, ◌<◌, true, false}
-use Rattle.std.proofs.Common.{T, w64}
-use mir.Val.{to_z, of_z}
-use Rattle.std.proofs.Math.Facts.{to_z-of_z, sfits_lit}
-use Rattle.std.specs.Int.Signed.{mag}
-use Rattle.std.specs.Prelude.{ℤ}
-use Rattle.std.proofs.lemmas.Bool.{lt-ltb}
+use Rattle.std.proofs.Common.{refl, sym, ◌∙◌, ap, subst, true, false}
 use Rattle.cg_machine.specs.declared.event.Event.TheVariants as event
 use Rattle.cg_machine.specs.Effects.{frozen, unfrozen, gens_line}
 use Rattle.cg_policy.specs.Policy.{Policy, with_numbers, with_enabled, with_flags, with_thresholds, with_zero_counts}
 use Rattle.cg_commands.specs.Controls.{IsAsked}
 use Rattle.cg_commands.proofs.Controlling.{asks, sets, tells, replaces}
+use Rattle.cg_commands.proofs.Reading.{read_back}
 use Rattle.cg_commands.proofs.dispatch.control.Goals as goal
-
--- a number of 64 bits is read back as it was written
-read_back : (z : ℤ) → mag z < 9223372036854775808 → to_z w64 (of_z w64 z) ≡ z
-read_back z fits = to_z-of_z {w = w64} {z = z} (sfits_lit {w = w64} {z = z} (subst T (sym (lt-ltb (mag z) 9223372036854775808 fits)) tt))
 
 pub returns-in-Collect : goal.returns-in-Collect
 returns-in-Collect g c = λ locals room.

@@ -16,6 +16,7 @@ use Rattle.cg_machine.specs.Commands.{effect}
 use Rattle.cg_machine.specs.World.{with_change}
 use Rattle.cg_graph.specs.Object.{with_entries}
 use Rattle.std.proofs.Common.{[], ◌∷◌}
+use Rattle.cg_commands.specs.declared.done.Done.TheVariants as done
 use Rattle.cg_commands.proofs.entries.append.Goals as goal
 
 pub returns-in_err-list : goal.returns-in_err-list
@@ -46,10 +47,10 @@ append-requires-clause-other g c =
 
 pub returns-in-Ok : goal.returns-in-Ok
 returns-in-Ok g c =
-    (goes_on c.args.heap.now c.append.new.self c.args.locals.now (λ w. value w c.args.list.now) c.in_ok-list.list _ (Ok c.changed.result) c.in_ok-list.ensures.ok
-    (goes_on c.args.heap.now c.append.new.self c.args.locals.now (λ w. value w c.args.operand.now) c.in_ok-val.val _ (Ok c.changed.result) c.in_ok-val.ensures.ok
-    (goes_on c.args.heap.now c.append.new.self c.args.locals.now (λ w. object w (test_of wanted.ScriptList) (number_of (refusal_of wanted.ScriptList)) c.in_ok-list.list) (object_from c.args.heap.now.rows c.in_ok-target.target c.in_ok-target.ensures.ok.node) _ (Ok c.changed.result) (reads-object c.args.heap.now c.args.locals.now (test_of wanted.ScriptList) c.in_ok-list.list c.in_ok-target.target c.in_ok-target.ensures.ok (number_of (refusal_of wanted.ScriptList)))
-    (appends c.args.heap.now c.sound.ensures c.args.locals.now (test_of wanted.ScriptList) c.in_ok-list.list c.in_ok-target.target c.in_ok-target.ensures.ok _ c.in_ok-val.val c.changed.result c.append.new.self c.in-Ok.ensures.ok c.changed.ensures c.in-Ok.ensures.limit))))
+    (goes_on c.args.heap.now c.append.new.self c.args.locals.now (λ w. value w c.args.list.now) c.in_ok-list.list _ (Ok (done.Gives c.given_up.result)) c.in_ok-list.ensures.ok
+    (goes_on c.args.heap.now c.append.new.self c.args.locals.now (λ w. value w c.args.operand.now) c.in_ok-val.val _ (Ok (done.Gives c.given_up.result)) c.in_ok-val.ensures.ok
+    (goes_on c.args.heap.now c.append.new.self c.args.locals.now (λ w. object w (test_of wanted.ScriptList) (number_of (refusal_of wanted.ScriptList)) c.in_ok-list.list) (object_from c.args.heap.now.rows c.in_ok-target.target c.in_ok-target.ensures.ok.node) _ (Ok (done.Gives c.given_up.result)) (reads-object c.args.heap.now c.args.locals.now (test_of wanted.ScriptList) c.in_ok-list.list c.in_ok-target.target c.in_ok-target.ensures.ok (number_of (refusal_of wanted.ScriptList)))
+    (appends c.args.heap.now c.sound.ensures c.args.locals.now (test_of wanted.ScriptList) c.in_ok-list.list c.in_ok-target.target c.in_ok-target.ensures.ok _ c.in_ok-val.val c.given_up.result c.append.new.self c.in-Ok.ensures.ok c.given_up.ensures c.in-Ok.ensures.limit))))
 
 pub returns-in-Err : goal.returns-in-Err
 returns-in-Err g c =

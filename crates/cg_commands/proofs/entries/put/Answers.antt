@@ -21,6 +21,7 @@ use Rattle.cg_commands.specs.Refusals.{refusal_by}
 use Rattle.std.proofs.Common.{inl}
 use Rattle.cg_commands.proofs.EntryLemmas.{code_passes}
 use Rattle.cg_commands.proofs.TextLemmas.{all_left, all_right}
+use Rattle.cg_commands.specs.declared.done.Done.TheVariants as done
 use Rattle.cg_commands.proofs.entries.put.Goals as goal
 
 pub returns-in_err-dict : goal.returns-in_err-dict
@@ -79,12 +80,12 @@ put-requires-clause-can g c =
 
 pub returns-in-Ok : goal.returns-in-Ok
 returns-in-Ok g c =
-    (goes_on c.args.heap.now c.put.new.self c.args.locals.now (λ w. value w c.args.dict.now) c.in_ok-dict.dict _ (Ok c.changed.result) c.in_ok-dict.ensures.ok
-    (goes_on c.args.heap.now c.put.new.self c.args.locals.now (λ w. value w c.args.key.now) c.in_ok-key.key _ (Ok c.changed.result) c.in_ok-key.ensures.ok
-    (goes_on c.args.heap.now c.put.new.self c.args.locals.now (λ w. value w c.args.operand.now) c.in_ok-val.val _ (Ok c.changed.result) c.in_ok-val.ensures.ok
-    (goes_on c.args.heap.now c.put.new.self c.args.locals.now (λ w. object w (test_of wanted.Dict) (number_of (refusal_of wanted.Dict)) c.in_ok-dict.dict) (object_from c.args.heap.now.rows c.in_ok-target.target c.in_ok-target.ensures.ok.node) _ (Ok c.changed.result) (reads-object c.args.heap.now c.args.locals.now (test_of wanted.Dict) c.in_ok-dict.dict c.in_ok-target.target c.in_ok-target.ensures.ok (number_of (refusal_of wanted.Dict)))
-    (goes_on c.args.heap.now c.put.new.self c.args.locals.now (λ w. unless (is_hashable w c.in_ok-key.key) unhashable) tt _ (Ok c.changed.result) (reads-key c.args.heap.now c.args.locals.now c.in_ok-key.key c.is_hashable.result c.is_hashable.ensures c.if-not-is_hashable.false)
-    (puts-performs c.args.heap.now c.sound.ensures c.args.locals.now (test_of wanted.Dict) c.in_ok-dict.dict c.in_ok-target.target c.in_ok-target.ensures.ok (inl (code_passes c.args.heap.now wanted.Dict tt c.in_ok-dict.dict c.in_ok-target.target c.in_ok-target.ensures.ok)) c.in_ok-key.key c.in_ok-val.val c.in-Ok.old c.changed.result c.put.new.self c.in-Ok.ensures.ok c.in-Ok.ensures.replaced c.changed.ensures c.in-Ok.ensures.limit))))))
+    (goes_on c.args.heap.now c.put.new.self c.args.locals.now (λ w. value w c.args.dict.now) c.in_ok-dict.dict _ (Ok (done.Gives c.given_up.result)) c.in_ok-dict.ensures.ok
+    (goes_on c.args.heap.now c.put.new.self c.args.locals.now (λ w. value w c.args.key.now) c.in_ok-key.key _ (Ok (done.Gives c.given_up.result)) c.in_ok-key.ensures.ok
+    (goes_on c.args.heap.now c.put.new.self c.args.locals.now (λ w. value w c.args.operand.now) c.in_ok-val.val _ (Ok (done.Gives c.given_up.result)) c.in_ok-val.ensures.ok
+    (goes_on c.args.heap.now c.put.new.self c.args.locals.now (λ w. object w (test_of wanted.Dict) (number_of (refusal_of wanted.Dict)) c.in_ok-dict.dict) (object_from c.args.heap.now.rows c.in_ok-target.target c.in_ok-target.ensures.ok.node) _ (Ok (done.Gives c.given_up.result)) (reads-object c.args.heap.now c.args.locals.now (test_of wanted.Dict) c.in_ok-dict.dict c.in_ok-target.target c.in_ok-target.ensures.ok (number_of (refusal_of wanted.Dict)))
+    (goes_on c.args.heap.now c.put.new.self c.args.locals.now (λ w. unless (is_hashable w c.in_ok-key.key) unhashable) tt _ (Ok (done.Gives c.given_up.result)) (reads-key c.args.heap.now c.args.locals.now c.in_ok-key.key c.is_hashable.result c.is_hashable.ensures c.if-not-is_hashable.false)
+    (puts-performs c.args.heap.now c.sound.ensures c.args.locals.now (test_of wanted.Dict) c.in_ok-dict.dict c.in_ok-target.target c.in_ok-target.ensures.ok (inl (code_passes c.args.heap.now wanted.Dict tt c.in_ok-dict.dict c.in_ok-target.target c.in_ok-target.ensures.ok)) c.in_ok-key.key c.in_ok-val.val c.in-Ok.old c.given_up.result c.put.new.self c.in-Ok.ensures.ok c.in-Ok.ensures.replaced c.given_up.ensures c.in-Ok.ensures.limit))))))
 
 pub returns-in-Err : goal.returns-in-Err
 returns-in-Err g c =

@@ -17,6 +17,7 @@ use Rattle.cg_commands.proofs.EntryLemmas.{can_put_key, keyed_other}
 use Rattle.cg_commands.specs.Refusals.{refusal_by}
 use Rattle.std.proofs.Common.{inr}
 use Rattle.cg_commands.proofs.EntryLemmas.{code_passes}
+use Rattle.cg_commands.specs.declared.done.Done.TheVariants as done
 use Rattle.cg_commands.proofs.entries.set_attr.Goals as goal
 
 pub returns-in_err-instance : goal.returns-in_err-instance
@@ -47,10 +48,10 @@ put-requires-clause-can g c =
 
 pub returns-in-Ok : goal.returns-in-Ok
 returns-in-Ok g c =
-    (goes_on c.args.heap.now c.put.new.self c.args.locals.now (λ w. value w c.args.instance.now) c.in_ok-instance.instance _ (Ok c.changed.result) c.in_ok-instance.ensures.ok
-    (goes_on c.args.heap.now c.put.new.self c.args.locals.now (λ w. value w c.args.operand.now) c.in_ok-val.val _ (Ok c.changed.result) c.in_ok-val.ensures.ok
-    (goes_on c.args.heap.now c.put.new.self c.args.locals.now (λ w. object w (test_of wanted.Inst) (number_of (refusal_of wanted.Inst)) c.in_ok-instance.instance) (object_from c.args.heap.now.rows c.in_ok-target.target c.in_ok-target.ensures.ok.node) _ (Ok c.changed.result) (reads-object c.args.heap.now c.args.locals.now (test_of wanted.Inst) c.in_ok-instance.instance c.in_ok-target.target c.in_ok-target.ensures.ok (number_of (refusal_of wanted.Inst)))
-    (puts-performs c.args.heap.now c.sound.ensures c.args.locals.now (test_of wanted.Inst) c.in_ok-instance.instance c.in_ok-target.target c.in_ok-target.ensures.ok (inr (code_passes c.args.heap.now wanted.Inst tt c.in_ok-instance.instance c.in_ok-target.target c.in_ok-target.ensures.ok)) (val.Str c.args.attr) c.in_ok-val.val c.in-Ok.old c.changed.result c.put.new.self c.in-Ok.ensures.ok c.in-Ok.ensures.replaced c.changed.ensures c.in-Ok.ensures.limit))))
+    (goes_on c.args.heap.now c.put.new.self c.args.locals.now (λ w. value w c.args.instance.now) c.in_ok-instance.instance _ (Ok (done.Gives c.given_up.result)) c.in_ok-instance.ensures.ok
+    (goes_on c.args.heap.now c.put.new.self c.args.locals.now (λ w. value w c.args.operand.now) c.in_ok-val.val _ (Ok (done.Gives c.given_up.result)) c.in_ok-val.ensures.ok
+    (goes_on c.args.heap.now c.put.new.self c.args.locals.now (λ w. object w (test_of wanted.Inst) (number_of (refusal_of wanted.Inst)) c.in_ok-instance.instance) (object_from c.args.heap.now.rows c.in_ok-target.target c.in_ok-target.ensures.ok.node) _ (Ok (done.Gives c.given_up.result)) (reads-object c.args.heap.now c.args.locals.now (test_of wanted.Inst) c.in_ok-instance.instance c.in_ok-target.target c.in_ok-target.ensures.ok (number_of (refusal_of wanted.Inst)))
+    (puts-performs c.args.heap.now c.sound.ensures c.args.locals.now (test_of wanted.Inst) c.in_ok-instance.instance c.in_ok-target.target c.in_ok-target.ensures.ok (inr (code_passes c.args.heap.now wanted.Inst tt c.in_ok-instance.instance c.in_ok-target.target c.in_ok-target.ensures.ok)) (val.Str c.args.attr) c.in_ok-val.val c.in-Ok.old c.given_up.result c.put.new.self c.in-Ok.ensures.ok c.in-Ok.ensures.replaced c.given_up.ensures c.in-Ok.ensures.limit))))
 
 pub returns-in-Err : goal.returns-in-Err
 returns-in-Err g c =

@@ -20,6 +20,7 @@ use Rattle.cg_commands.proofs.EntryLemmas.{can_put_item}
 use Rattle.cg_commands.proofs.EntryLemmas.{code_passes}
 use Rattle.std.proofs.Common.{get_or}
 use Rattle.std.proofs.lemmas.Option.{slice_get-get_or}
+use Rattle.cg_commands.specs.declared.done.Done.TheVariants as done
 use Rattle.cg_commands.proofs.entries.set_item.Goals as goal
 
 pub returns-in_err-list : goal.returns-in_err-list
@@ -58,12 +59,12 @@ put-requires-clause-can g c =
 
 pub returns-in-Ok : goal.returns-in-Ok
 returns-in-Ok g c =
-    (goes_on c.args.heap.now c.put.new.self c.args.locals.now (λ w. value w c.args.list.now) c.in_ok-list.list _ (Ok c.changed.result) c.in_ok-list.ensures.ok
-    (goes_on c.args.heap.now c.put.new.self c.args.locals.now (λ w. value w c.args.operand.now) c.in_ok-val.val _ (Ok c.changed.result) c.in_ok-val.ensures.ok
-    (goes_on c.args.heap.now c.put.new.self c.args.locals.now (λ w. object w (test_of wanted.ScriptList) (number_of (refusal_of wanted.ScriptList)) c.in_ok-list.list) (object_from c.args.heap.now.rows c.in_ok-target.target c.in_ok-target.ensures.ok.node) _ (Ok c.changed.result) (reads-object c.args.heap.now c.args.locals.now (test_of wanted.ScriptList) c.in_ok-list.list c.in_ok-target.target c.in_ok-target.ensures.ok (number_of (refusal_of wanted.ScriptList)))
-    (goes_on c.args.heap.now c.put.new.self c.args.locals.now (λ w. ok_or (valid_index c.args.index (length c.in_ok-target.ensures.ok.node.entries)) no_index) c.in_ok-_i._i _ (Ok c.changed.result) (reads-index c.args.heap.now c.args.locals.now (test_of wanted.ScriptList) c.in_ok-list.list c.in_ok-target.target c.in_ok-target.ensures.ok c.args.index (to_z w64 (of_z w64 c.args.index)) (to_z-of_z c.ranges.index) c.in_ok-_i._i c.in_ok-_i.ensures.ok)
-    (goes_on c.args.heap.now c.put.new.self c.args.locals.now (λ w. ok_or (slice_get c.in_ok-target.ensures.ok.node.entries c.in_ok-_i._i) no_index) (get_or (entries_of c.args.heap.now c.in_ok-target.target) c.in_ok-_i._i (item c.in_ok-val.val)) _ (Ok c.changed.result) (reads-entry c.args.heap.now c.args.locals.now (test_of wanted.ScriptList) c.in_ok-list.list c.in_ok-target.target c.in_ok-target.ensures.ok c.in_ok-_i._i (get_or (entries_of c.args.heap.now c.in_ok-target.target) c.in_ok-_i._i (item c.in_ok-val.val)) (slice_get-get_or (entries_of c.args.heap.now c.in_ok-target.target) c.in_ok-_i._i (item c.in_ok-val.val) c.in_ok-_i.ensures.below) no_index)
-    (sets c.args.heap.now c.sound.ensures c.args.locals.now (test_of wanted.ScriptList) c.in_ok-list.list c.in_ok-target.target c.in_ok-target.ensures.ok (code_passes c.args.heap.now wanted.ScriptList tt c.in_ok-list.list c.in_ok-target.target c.in_ok-target.ensures.ok) (to_z w64 (of_z w64 c.args.index)) c.in_ok-_i._i (get_or (entries_of c.args.heap.now c.in_ok-target.target) c.in_ok-_i._i (item c.in_ok-val.val)) c.in_ok-val.val c.in-Ok.old c.changed.result c.put.new.self ((index_is (to_z w64 (of_z w64 c.args.index)) (length (entries_of c.args.heap.now c.in_ok-target.target)) c.in_ok-_i._i c.in_ok-_i.ensures.ok).0) c.in_ok-_i.ensures.below (slice_get-get_or (entries_of c.args.heap.now c.in_ok-target.target) c.in_ok-_i._i (item c.in_ok-val.val) c.in_ok-_i.ensures.below) c.in-Ok.ensures.ok c.in-Ok.ensures.replaced c.changed.ensures))))))
+    (goes_on c.args.heap.now c.put.new.self c.args.locals.now (λ w. value w c.args.list.now) c.in_ok-list.list _ (Ok (done.Gives c.given_up.result)) c.in_ok-list.ensures.ok
+    (goes_on c.args.heap.now c.put.new.self c.args.locals.now (λ w. value w c.args.operand.now) c.in_ok-val.val _ (Ok (done.Gives c.given_up.result)) c.in_ok-val.ensures.ok
+    (goes_on c.args.heap.now c.put.new.self c.args.locals.now (λ w. object w (test_of wanted.ScriptList) (number_of (refusal_of wanted.ScriptList)) c.in_ok-list.list) (object_from c.args.heap.now.rows c.in_ok-target.target c.in_ok-target.ensures.ok.node) _ (Ok (done.Gives c.given_up.result)) (reads-object c.args.heap.now c.args.locals.now (test_of wanted.ScriptList) c.in_ok-list.list c.in_ok-target.target c.in_ok-target.ensures.ok (number_of (refusal_of wanted.ScriptList)))
+    (goes_on c.args.heap.now c.put.new.self c.args.locals.now (λ w. ok_or (valid_index c.args.index (length c.in_ok-target.ensures.ok.node.entries)) no_index) c.in_ok-_i._i _ (Ok (done.Gives c.given_up.result)) (reads-index c.args.heap.now c.args.locals.now (test_of wanted.ScriptList) c.in_ok-list.list c.in_ok-target.target c.in_ok-target.ensures.ok c.args.index (to_z w64 (of_z w64 c.args.index)) (to_z-of_z c.ranges.index) c.in_ok-_i._i c.in_ok-_i.ensures.ok)
+    (goes_on c.args.heap.now c.put.new.self c.args.locals.now (λ w. ok_or (slice_get c.in_ok-target.ensures.ok.node.entries c.in_ok-_i._i) no_index) (get_or (entries_of c.args.heap.now c.in_ok-target.target) c.in_ok-_i._i (item c.in_ok-val.val)) _ (Ok (done.Gives c.given_up.result)) (reads-entry c.args.heap.now c.args.locals.now (test_of wanted.ScriptList) c.in_ok-list.list c.in_ok-target.target c.in_ok-target.ensures.ok c.in_ok-_i._i (get_or (entries_of c.args.heap.now c.in_ok-target.target) c.in_ok-_i._i (item c.in_ok-val.val)) (slice_get-get_or (entries_of c.args.heap.now c.in_ok-target.target) c.in_ok-_i._i (item c.in_ok-val.val) c.in_ok-_i.ensures.below) no_index)
+    (sets c.args.heap.now c.sound.ensures c.args.locals.now (test_of wanted.ScriptList) c.in_ok-list.list c.in_ok-target.target c.in_ok-target.ensures.ok (code_passes c.args.heap.now wanted.ScriptList tt c.in_ok-list.list c.in_ok-target.target c.in_ok-target.ensures.ok) (to_z w64 (of_z w64 c.args.index)) c.in_ok-_i._i (get_or (entries_of c.args.heap.now c.in_ok-target.target) c.in_ok-_i._i (item c.in_ok-val.val)) c.in_ok-val.val c.in-Ok.old c.given_up.result c.put.new.self ((index_is (to_z w64 (of_z w64 c.args.index)) (length (entries_of c.args.heap.now c.in_ok-target.target)) c.in_ok-_i._i c.in_ok-_i.ensures.ok).0) c.in_ok-_i.ensures.below (slice_get-get_or (entries_of c.args.heap.now c.in_ok-target.target) c.in_ok-_i._i (item c.in_ok-val.val) c.in_ok-_i.ensures.below) c.in-Ok.ensures.ok c.in-Ok.ensures.replaced c.given_up.ensures))))))
 
 pub returns-in-Err : goal.returns-in-Err
 returns-in-Err g c =

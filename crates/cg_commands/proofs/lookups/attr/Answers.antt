@@ -13,6 +13,7 @@ use Rattle.cg_commands.specs.Objects.{test_of, refusal_of}
 use Rattle.cg_commands.proofs.Chains.{stops, goes_on}
 use Rattle.cg_commands.proofs.Steps.{reads-object, reads-value_at, no-value_at}
 use Rattle.cg_commands.proofs.Reading.{live-value_at}
+use Rattle.cg_commands.specs.Answers.{gives}
 use Rattle.cg_commands.proofs.lookups.attr.Goals as goal
 
 pub returns-in_err-val : goal.returns-in_err-val
@@ -32,9 +33,9 @@ bind_to-requires-clause-live g c =
 
 pub returns-in-Some : goal.returns-in-Some
 returns-in-Some g c =
-    (goes_on c.args.heap.now c.bind_to.new.heap c.args.locals.now (λ w. value w c.args.instance.now) c.in_ok-val.val _ c.bind_to.result c.in_ok-val.ensures.ok
-    (goes_on c.args.heap.now c.bind_to.new.heap c.args.locals.now (λ w. object w (test_of wanted.Inst) (number_of (refusal_of wanted.Inst)) c.in_ok-val.val) (object_from c.args.heap.now.rows c.in_ok-target.target c.in_ok-target.ensures.ok.node) _ c.bind_to.result (reads-object c.args.heap.now c.args.locals.now (test_of wanted.Inst) c.in_ok-val.val c.in_ok-target.target c.in_ok-target.ensures.ok (number_of (refusal_of wanted.Inst)))
-    (goes_on c.args.heap.now c.bind_to.new.heap c.args.locals.now (λ w. ok_or (value_at c.in_ok-target.ensures.ok.node.entries (val.Str c.args.attr)) no_attribute) c.in-Some.found _ c.bind_to.result (reads-value_at c.args.heap.now c.args.locals.now (test_of wanted.Inst) c.in_ok-val.val c.in_ok-target.target c.in_ok-target.ensures.ok (val.Str c.args.attr) c.in-Some.found c.in-Some.ensures no_attribute)
+    (goes_on c.args.heap.now c.bind_to.new.heap c.args.locals.now (λ w. value w c.args.instance.now) c.in_ok-val.val _ (gives c.bind_to.result) c.in_ok-val.ensures.ok
+    (goes_on c.args.heap.now c.bind_to.new.heap c.args.locals.now (λ w. object w (test_of wanted.Inst) (number_of (refusal_of wanted.Inst)) c.in_ok-val.val) (object_from c.args.heap.now.rows c.in_ok-target.target c.in_ok-target.ensures.ok.node) _ (gives c.bind_to.result) (reads-object c.args.heap.now c.args.locals.now (test_of wanted.Inst) c.in_ok-val.val c.in_ok-target.target c.in_ok-target.ensures.ok (number_of (refusal_of wanted.Inst)))
+    (goes_on c.args.heap.now c.bind_to.new.heap c.args.locals.now (λ w. ok_or (value_at c.in_ok-target.ensures.ok.node.entries (val.Str c.args.attr)) no_attribute) c.in-Some.found _ (gives c.bind_to.result) (reads-value_at c.args.heap.now c.args.locals.now (test_of wanted.Inst) c.in_ok-val.val c.in_ok-target.target c.in_ok-target.ensures.ok (val.Str c.args.attr) c.in-Some.found c.in-Some.ensures no_attribute)
     c.bind_to.ensures)))
 
 pub returns-in-None : goal.returns-in-None

@@ -16,6 +16,7 @@ use Rattle.cg_commands.proofs.Chains.{stops, goes_on}
 use Rattle.cg_commands.proofs.Steps.{reads-object, reads-value_at, no-value_at, reads-key, no-hash}
 use Rattle.cg_commands.proofs.Reading.{live-value_at}
 use Rattle.cg_commands.proofs.TextLemmas.{all_left}
+use Rattle.cg_commands.specs.Answers.{gives}
 use Rattle.cg_commands.proofs.lookups.get.Goals as goal
 
 pub value-requires-clause-known : goal.value-requires-clause-known
@@ -58,11 +59,11 @@ returns-then-not-is_hashable g c =
 
 pub returns-in-Some : goal.returns-in-Some
 returns-in-Some g c =
-    (goes_on c.args.heap.now c.bind_to.new.heap c.args.locals.now (λ w. value w c.args.dict.now) c.in_ok-val.val _ c.bind_to.result c.in_ok-val.ensures.ok
-    (goes_on c.args.heap.now c.bind_to.new.heap c.args.locals.now (λ w. value w c.args.key.now) c.in_ok-key.key _ c.bind_to.result c.in_ok-key.ensures.ok
-    (goes_on c.args.heap.now c.bind_to.new.heap c.args.locals.now (λ w. object w (test_of wanted.Dict) (number_of (refusal_of wanted.Dict)) c.in_ok-val.val) (object_from c.args.heap.now.rows c.in_ok-target.target c.in_ok-target.ensures.ok.node) _ c.bind_to.result (reads-object c.args.heap.now c.args.locals.now (test_of wanted.Dict) c.in_ok-val.val c.in_ok-target.target c.in_ok-target.ensures.ok (number_of (refusal_of wanted.Dict)))
-    (goes_on c.args.heap.now c.bind_to.new.heap c.args.locals.now (λ w. unless (is_hashable w c.in_ok-key.key) unhashable) tt _ c.bind_to.result (reads-key c.args.heap.now c.args.locals.now c.in_ok-key.key c.is_hashable.result c.is_hashable.ensures c.if-not-is_hashable.false)
-    (goes_on c.args.heap.now c.bind_to.new.heap c.args.locals.now (λ w. ok_or (value_at c.in_ok-target.ensures.ok.node.entries c.in_ok-key.key) no_key) c.in-Some.found _ c.bind_to.result (reads-value_at c.args.heap.now c.args.locals.now (test_of wanted.Dict) c.in_ok-val.val c.in_ok-target.target c.in_ok-target.ensures.ok c.in_ok-key.key c.in-Some.found c.in-Some.ensures no_key)
+    (goes_on c.args.heap.now c.bind_to.new.heap c.args.locals.now (λ w. value w c.args.dict.now) c.in_ok-val.val _ (gives c.bind_to.result) c.in_ok-val.ensures.ok
+    (goes_on c.args.heap.now c.bind_to.new.heap c.args.locals.now (λ w. value w c.args.key.now) c.in_ok-key.key _ (gives c.bind_to.result) c.in_ok-key.ensures.ok
+    (goes_on c.args.heap.now c.bind_to.new.heap c.args.locals.now (λ w. object w (test_of wanted.Dict) (number_of (refusal_of wanted.Dict)) c.in_ok-val.val) (object_from c.args.heap.now.rows c.in_ok-target.target c.in_ok-target.ensures.ok.node) _ (gives c.bind_to.result) (reads-object c.args.heap.now c.args.locals.now (test_of wanted.Dict) c.in_ok-val.val c.in_ok-target.target c.in_ok-target.ensures.ok (number_of (refusal_of wanted.Dict)))
+    (goes_on c.args.heap.now c.bind_to.new.heap c.args.locals.now (λ w. unless (is_hashable w c.in_ok-key.key) unhashable) tt _ (gives c.bind_to.result) (reads-key c.args.heap.now c.args.locals.now c.in_ok-key.key c.is_hashable.result c.is_hashable.ensures c.if-not-is_hashable.false)
+    (goes_on c.args.heap.now c.bind_to.new.heap c.args.locals.now (λ w. ok_or (value_at c.in_ok-target.ensures.ok.node.entries c.in_ok-key.key) no_key) c.in-Some.found _ (gives c.bind_to.result) (reads-value_at c.args.heap.now c.args.locals.now (test_of wanted.Dict) c.in_ok-val.val c.in_ok-target.target c.in_ok-target.ensures.ok c.in_ok-key.key c.in-Some.found c.in-Some.ensures no_key)
     c.bind_to.ensures)))))
 
 pub returns-in-None : goal.returns-in-None
