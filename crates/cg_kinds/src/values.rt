@@ -32,7 +32,7 @@ impl Model for Values {
 
 /// The sort of a value, and its number.
 #[inline(always)]
-fn words_of(val: Val) -> (u8, u64)
+pub(crate) fn words_of(val: Val) -> (u8, u64)
     ensures value { value_in result.0 result.1 ≡ val }
     ensures words { AreWords result.0 result.1 }
 {
@@ -46,7 +46,7 @@ fn words_of(val: Val) -> (u8, u64)
 
 /// The value of a sort with a number.
 #[inline(always)]
-fn val_of(sort: u8, number: u64) -> Val
+pub(crate) fn val_of(sort: u8, number: u64) -> Val
     requires { AreWords sort number }
     ensures { result ≡ value_in sort number }
 {
