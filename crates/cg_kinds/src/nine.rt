@@ -14,6 +14,7 @@ use std::marker::Model;
 /// A value in nine bytes: its sort, and the bytes of its number, the lowest first.
 ///
 /// Bytes need no alignment, so that a run of these has no gaps. A `Val` takes sixteen bytes.
+/// A value has these words and no others, so that two are compared by their words.
 #[derive(Drop)]
 pub struct Nine {
     sort: u8,
@@ -23,13 +24,13 @@ pub struct Nine {
 impl Model for Nine {
     ghost use Rattle.std.specs.Int.{from_le_bytes, w64};
     ghost use Rattle.cg_value.specs.declared.Val.{Val};
-    ghost use Rattle.cg_kinds.specs.Values.{value_in, AreWords};
+    ghost use Rattle.cg_kinds.specs.Values.{value_in, AreOnlyWords};
 
     ghost Value = { Val };
 
     ghost view = { λ n. value_in n.sort (from_le_bytes w64 n.number) };
 
-    ghost invariant = { λ n. AreWords n.sort (from_le_bytes w64 n.number) };
+    ghost invariant = { λ n. AreOnlyWords n.sort (from_le_bytes w64 n.number) };
 }
 
 impl Nine {
@@ -61,7 +62,8 @@ impl PartialEq for Nine {
 
     #[inline(always)]
     fn eq(&self, other: &Nine) -> bool {
-        self.val() == other.val()
+        self.sort == other.sort
+            && u64::from_le_bytes(self.number) == u64::from_le_bytes(other.number)
     }
 }
 
