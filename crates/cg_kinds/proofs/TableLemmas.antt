@@ -23,6 +23,7 @@ use Rattle.cg_kind.proofs.KeyLemmas.{Stands, key_found}
 use Rattle.cg_kinds.specs.Order.{renamed, IsSound}
 use Rattle.cg_kinds.specs.Pairs.{pair_entry, pairs_of, nothing, picked, ordered, IsOrderOf, IsSoundOrder}
 use Rattle.cg_kinds.proofs.KeyLemmas.{equal, equal-same_value, same_is}
+use Rattle.cg_kinds.proofs.PairLemmas.{lookup-packed}
 use Rattle.cg_kinds.proofs.FewLemmas.{found_first, found_entry, found_put, value_none, put_new}
 use Rattle.cg_kinds.proofs.OrderLemmas.{IsOther, renamed_other, renamed_last}
 
@@ -261,6 +262,11 @@ module _ (pairs : List (Val × Val)) where
       ∙ picked_push (pairs_of pairs) order (record { key = key; val = val }) (long_enough order long sound) (long ∙ sym (length-map pairs pair_entry))
       ∙ sym (put_absent key val (picked (pairs_of pairs) order) (picked_none (pairs_of pairs) order (long_enough order long sound) (has_key key) none))
 
+-- what the map has under a packed key
+pub lookup-ordered : (pairs : List (Val × Val)) (order : Option (List ℕ)) → IsOrderOf (length pairs) order → IsSoundOrder order → IsDistinct equal (keys_of pairs) → (key packed : Val) → packed ≡ key
+    → lookup (equal packed) pairs ≡ value_at (ordered pairs order) key
+lookup-ordered pairs order long sound distinct key packed is = lookup-packed key packed is pairs ∙ sym (ordered_value pairs order long sound distinct key)
+
 -- whether a key is there tells where
 pub position_absent : (key : Val) (es : List Entry) → value_at es key ≡ None → position (has_key key) es ≡ None
 position_absent key es none = by (position (has_key key) es) refl
@@ -378,6 +384,16 @@ on_err (Err e) P p = p
 
 pub none_some : IsSome {T = Val} None → ⊥
 none_some some = cc
+
+-- one pair more, and one place more in the order
+pub order_longer : (order : Option (List ℕ)) (count : ℕ) → IsOrderOf count order → IsOrderOf (count + 1) (option_map (λ o. o ++ length o ∷ []) order)
+order_longer None count long = tt
+order_longer (Some order) count long = length_push order (length order) ∙ ap (λ n. n + 1) long
+
+-- a pair of a map, once it is taken out, as an entry
+pub entry-pair : (pairs : List (Val × Val)) (index : ℕ) (pair : Val × Val) → slice_get pairs index ≡ Some pair → pair_entry pair ≡ get_or (pairs_of pairs) index nothing
+entry-pair pairs index pair at =
+    sym (get_or_from_slice_get (pairs_of pairs) index (pair_entry pair) nothing (slice_get-map pair_entry pairs index ∙ ap (option_map pair_entry) at))
 
 -- a new pair, which is taken off again
 pub put_back : (pairs now : List (Val × Val)) (key val : Val) → lookup (equal key) pairs ≡ None → now ≡ insert_entry equal pairs key val → take (length now - 1) now ≡ pairs

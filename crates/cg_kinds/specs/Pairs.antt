@@ -1,5 +1,6 @@
 -- The pairs of a dictionary or an instance, and how a map keeps them. (Ours.)
 use Rattle.std.specs.Prelude.{◌≡◌, ◌⊎◌, ℕ, map, length, slice_index_or, List, [], ◌∷◌, Option, Some, None}
+use Rattle.std.specs.Global.{Box}
 use Rattle.cg_value.specs.declared.Val.{Val}
 use Rattle.cg_value.specs.declared.Val.TheVariants as val
 use Rattle.cg_value.specs.declared.Entry.{Entry}
@@ -32,6 +33,11 @@ picked entries order = map (λ index. slice_index_or entries index nothing) orde
 abbrev pub ordered : List (Val × Val) → Option (List ℕ) → List Entry
 ordered pairs None = pairs_of pairs
 ordered pairs (Some order) = picked (pairs_of pairs) order
+
+-- the order in a box, if there is one
+abbrev pub unboxed : Option (Box (List ℕ)) → Option (List ℕ)
+unboxed None = None
+unboxed (Some order) = Some order.value
 
 -- an order of so many pairs
 abbrev pub IsOrderOf : ℕ → Option (List ℕ) → Type 0

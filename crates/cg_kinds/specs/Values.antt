@@ -21,6 +21,10 @@ values_in sorts numbers = map (λ words. value_in words.0 words.1) (zip sorts nu
 abbrev pub AreWords : ℕ → ℕ → Type 0
 AreWords sort number = sort ≡ 2 → number < 2 ^ 32
 
+-- the words of a value, where no other words are those of that value
+abbrev pub AreOnlyWords : ℕ → ℕ → Type 0
+AreOnlyWords sort number = AreWords sort number × (sort < 4) × (sort ≡ 0 → number ≡ 0)
+
 -- the columns have a sort and a number for each value, and each of the two has this room behind
 pub record AreColumns (sorts numbers : List ℕ) (room sorts_capacity numbers_capacity : ℕ) : Type 0 where
   pub words : AllZip AreWords sorts numbers

@@ -10,7 +10,8 @@ use cg_value::{Entry, Val};
 use std::alloc::{AllocError, Global};
 use std::marker::Model;
 
-/// So many pairs are at most kept in a list. A map of less than some 25 takes more than 300 bytes and 64 a pair.
+/// So many pairs are at most kept in a list. A map of so few takes more than a list: 128 bytes, 18 a pair, and 64 for each
+/// twelve places of its index.
 const FEW: usize = 24;
 
 /// Pairs in the order in which their keys came, no two with one key.

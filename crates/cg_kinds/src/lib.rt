@@ -8,7 +8,7 @@
 //! - `items`: what lists, tuples, functions and weak references share; `list`, `tuple`, `func` and `weak`: these four.
 //! - `listed`: the values of a list, a few of them `packed` in one vector, or any number as `values`, in a column of sorts and one of numbers.
 //! - `pairs`: dictionaries and instances; `held`: their pairs, a `few` in a list or any number in a table.
-//! - `table`: pairs in a map, in the order in which their keys came; `order`: that order, once the map has another; `slots`: its slots and gaps.
+//! - `table`: pairs in a map, in the order in which their keys came, each key and value as `nine` bytes; `order`: that order, once the map has another; `slots`: its slots and gaps.
 #![tactic(auto)]
 
 mod body_slab;
@@ -23,6 +23,7 @@ mod items;
 mod limit_tests;
 mod list;
 mod listed;
+mod nine;
 mod order;
 mod packed;
 mod pairs;

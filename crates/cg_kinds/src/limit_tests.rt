@@ -1,11 +1,11 @@
-//! Dictionaries about the size at which their pairs leave the list for the map. What they answer is what a plain list in
+//! Dictionaries about the size at which their pairs leave the list for the map, and past it. What they answer is what a plain list in
 //! order of insertion would.
 ghost use Rattle.std.specs.Prelude.{[]};
 ghost use Rattle.cg_kind.specs.Bodies.{Holds};
 ghost use Rattle.cg_kind.specs.Calls.{IsParts};
 
 use crate::drop_tests::{next, put_plainly, take_plainly};
-use crate::tests::{Answer, answer_of, entries, make, put, take, take_key};
+use crate::tests::{Answer, answer_of, entries, make, put_value, take, take_key};
 use crate::{DictKind, InstKind};
 use cg_kind::Kind;
 use cg_value::{Entry, Val};
@@ -39,20 +39,20 @@ fn put_both<K: Kind>(
     kind: &mut K,
     at: usize,
     plain: &mut Vec<Entry>,
-    key: i64,
-    val: i64,
+    key: Val,
+    val: Val,
 ) -> Result<(), Fail>
     requires { Holds (K.bodies kind.old) at }
     ensures { Holds (K.bodies kind.new) at }
 {
-    match put(kind, at, Val::Int(key), val) {
+    match put_value(kind, at, key, val) {
         Ok(_) => {}
         Err(_) => {
             assert_has(rt, alloc, kind, at, plain.as_slice())?;
-            put(kind, at, Val::Int(key), val)?;
+            put_value(kind, at, key, val)?;
         }
     }
-    put_plainly(plain, Val::Int(key), Val::Int(val))?;
+    put_plainly(plain, key, val)?;
     Ok(())
 }
 
@@ -94,14 +94,14 @@ fn go_over<K: Kind>(rt: &impl Abort, alloc: Global, kind: &mut K, count: i64) ->
     let at = make(kind, &[])?;
     let mut plain = Vec::new(alloc);
     'keys: for key in 0..count {
-        put_both(rt, alloc, kind, at, &mut plain, key, 10)?;
+        put_both(rt, alloc, kind, at, &mut plain, Val::Int(key), Val::Int(10))?;
         assert_has(rt, alloc, kind, at, plain.as_slice())?;
     }
-    put_both(rt, alloc, kind, at, &mut plain, 3, 30)?;
+    put_both(rt, alloc, kind, at, &mut plain, Val::Int(3), Val::Int(30))?;
     assert_has(rt, alloc, kind, at, plain.as_slice())?;
     take_both(kind, at, &mut plain, 0);
     assert_eq!(rt; kind.find(at, Val::Int(0)), None);
-    put_both(rt, alloc, kind, at, &mut plain, 0, 40)?;
+    put_both(rt, alloc, kind, at, &mut plain, Val::Int(0), Val::Int(40))?;
     assert_has(rt, alloc, kind, at, plain.as_slice())?;
     take_key_of_both(rt, kind, at, &mut plain, 2)?;
     take_key_of_both(rt, kind, at, &mut plain, 99)?;
@@ -139,8 +139,8 @@ fn walk<K: Kind>(
         } else if number % 6 == 3 {
             take_both(kind, at, &mut plain, (number / 3 % 32) as usize);
         } else {
-            let key = (number / 3 % 32) as i64;
-            let val = (number % 1000) as i64;
+            let key = Val::Int((number / 3 % 32) as i64);
+            let val = Val::Int((number % 1000) as i64);
             put_both(rt, alloc, kind, at, &mut plain, key, val)?;
         }
         assert_has(rt, alloc, kind, at, plain.as_slice())?;
@@ -157,4 +157,51 @@ fn steps_about_the_limit_of_a_list_are_those_of_a_plain_list(rt: HostRuntime) ->
         walk(&rt, alloc, &mut kind, at, first)?;
     }
     Ok(())
+}
+
+/// So many keys are put, and then these values, as keys and as values. They come out as they went in, from the map's own
+/// order, and from another once the first keys are gone.
+fn pass_through<K: Kind>(
+    rt: &impl Abort,
+    alloc: Global,
+    kind: &mut K,
+    count: i64,
+    values: &[Val],
+) -> Result<(), Fail>
+    requires { IsParts (K.kind kind.old) [] }
+{
+    let at = make(kind, &[])?;
+    let mut plain = Vec::new(alloc);
+    'keys: for key in 1..=count {
+        put_both(rt, alloc, kind, at, &mut plain, Val::Int(key), Val::Int(10))?;
+    }
+    'values: for i in 0..values.len() {
+        let val = values[values.len() - 1 - i];
+        put_both(rt, alloc, kind, at, &mut plain, values[i], val)?;
+        assert_has(rt, alloc, kind, at, plain.as_slice())?;
+    }
+    'taken: for _ in 0..count {
+        take_both(kind, at, &mut plain, 0);
+        assert_has(rt, alloc, kind, at, plain.as_slice())?;
+    }
+    Ok(())
+}
+
+#[test]
+fn dictionaries_keep_values_at_the_ends_of_their_ranges(rt: HostRuntime) -> Result<(), Fail> {
+    let alloc = rt.alloc();
+    let values = [
+        Val::None,
+        Val::Int(i64::MIN),
+        Val::Int(-1),
+        Val::Int(0),
+        Val::Int(i64::MAX),
+        Val::Str(0),
+        Val::Str(u32::MAX),
+        Val::Ref(0),
+        Val::Ref(u32::MAX as u64),
+        Val::Ref(u64::MAX),
+    ];
+    pass_through(&rt, alloc, &mut DictKind::new(alloc), 24, &values)?;
+    pass_through(&rt, alloc, &mut InstKind::new(alloc), 24, &values)
 }

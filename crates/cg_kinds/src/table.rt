@@ -1,9 +1,11 @@
 //! Pairs in the order in which their keys came, in a map that may have another order.
 ghost use Rattle.std.specs.Prelude.{◌≡◌, ◌<◌, ◌^◌, ◌++◌, ◌∷◌, [], length, Some, None, IfSome, IfNone, IsNone, IsSome, IsOk, IfOk, OnOk, OnErr, OnSome, option_to_list, position, slice_get, remove, swap_remove, take, slice_index_or, option_map, ◌-◌};
+ghost use Rattle.std.specs.List.{range_with_len};
 ghost use Rattle.cg_graph.specs.Value.{value_at, put, without_key, entry_at as entry_under};
 ghost use Rattle.cg_kind.specs.Calls.{has_key};
-ghost use Rattle.cg_kinds.specs.Pairs.{pairs_of, nothing, IsSoundOrder};
+ghost use Rattle.cg_kinds.specs.Pairs.{pair_entry, pairs_of, nothing, unboxed, IsSoundOrder};
 
+use crate::nine::Nine;
 use crate::order::Order;
 use cg_value::{Entry, Val};
 use indexmap::IndexMap;
@@ -16,68 +18,77 @@ use std::marker::Model;
 /// its pairs take.
 #[derive(Drop)]
 pub struct Table {
-    map: IndexMap<Val, Val>,
-    order: Option<Order>,
+    map: IndexMap<Nine, Nine>,
+    /// In a box, since most tables have none.
+    order: Option<Box<Order>>,
 }
 
 impl Model for Table {
     ghost use Rattle.std.specs.Prelude.{List, length};
     ghost use Rattle.cg_value.specs.declared.Entry.{Entry};
-    ghost use Rattle.cg_kinds.specs.Pairs.{ordered, IsOrderOf};
+    ghost use Rattle.cg_kinds.specs.Pairs.{ordered, unboxed, IsOrderOf};
 
     ghost Value = { List Entry };
 
-    ghost view = { λ t. ordered t.map.entries t.order };
+    ghost view = { λ t. ordered t.map.entries (unboxed t.order) };
 
-    ghost invariant = { λ t. IsOrderOf (length t.map.entries) t.order };
+    ghost invariant = { λ t. IsOrderOf (length t.map.entries) (unboxed t.order) };
 }
 
 /// At most so many pairs close the gap that one before them leaves.
 const CLOSE: usize = 16;
 
+/// The entry of a packed key and a packed value.
+#[inline(always)]
+fn entry_of(key: &Nine, val: &Nine) -> Entry
+    ensures { result ≡ pair_entry (key.now, val.now) }
+{
+    Entry {
+        key: key.val(),
+        val: val.val(),
+    }
+}
+
 /// The pair at an index of a map.
 #[inline(always)]
-fn pair_at(map: &IndexMap<Val, Val>, index: usize) -> Entry
+fn pair_at(map: &IndexMap<Nine, Nine>, index: usize) -> Entry
     requires { index < length map.now.entries }
     ensures { result ≡ slice_index_or (pairs_of map.now.entries) index nothing }
 {
     match map.get_index(index) {
-        Some((key, val)) => Entry {
-            key: *key,
-            val: *val,
-        },
+        Some((key, val)) => entry_of(key, val),
         None => unreachable!(),
     }
 }
 
 /// Takes out the pair at an index. The last one comes to its place.
-fn swap_out(map: &mut IndexMap<Val, Val>, index: usize) -> Entry
+fn swap_out(map: &mut IndexMap<Nine, Nine>, index: usize) -> Entry
     requires { index < length map.old.entries }
     ensures entry { result ≡ slice_index_or (pairs_of map.old.entries) index nothing }
     ensures rest { pairs_of map.new.entries ≡ swap_remove (pairs_of map.old.entries) index nothing }
 {
     match map.swap_remove_index(index) {
-        Some((key, val)) => Entry { key, val },
+        Some((key, val)) => entry_of(&key, &val),
         None => unreachable!(),
     }
 }
 
 /// Takes out the pair at an index; those behind it move down by one.
-fn shift_out(map: &mut IndexMap<Val, Val>, index: usize) -> Entry
+fn shift_out(map: &mut IndexMap<Nine, Nine>, index: usize) -> Entry
     requires { index < length map.old.entries }
     ensures entry { result ≡ slice_index_or (pairs_of map.old.entries) index nothing }
     ensures rest { pairs_of map.new.entries ≡ remove (pairs_of map.old.entries) index }
 {
     match map.shift_remove_index(index) {
-        Some((key, val)) => Entry { key, val },
+        Some((key, val)) => entry_of(&key, &val),
         None => unreachable!(),
     }
 }
 
 /// Costs nothing: each index stands at one place of the order, if there is one.
 #[inline(always)]
-fn sound(order: &Option<Order>)
-    ensures { IsSoundOrder order.now }
+fn sound(order: &Option<Box<Order>>)
+    ensures { IsSoundOrder (unboxed order.now) }
 {
     match order {
         Some(order) => order.sound(),
@@ -86,7 +97,7 @@ fn sound(order: &Option<Order>)
 }
 
 /// A map that has grown from this room, and so doubled it, keeps room for an eighth of its pairs besides.
-fn fit(map: &mut IndexMap<Val, Val>, room: usize)
+fn fit(map: &mut IndexMap<Nine, Nine>, room: usize)
     ensures { map.new.entries ≡ map.old.entries }
 {
     if map.capacity() > room {
@@ -94,13 +105,25 @@ fn fit(map: &mut IndexMap<Val, Val>, room: usize)
     }
 }
 
+/// The indexes below a number, in their own order, in a box.
+fn boxed_order(alloc: Global, count: usize) -> Result<Box<Order>, AllocError>
+    ensures { IfOk result (λ order. order.value ≡ range_with_len 0 count) }
+{
+    let order = Order::new(alloc, count)?;
+    let boxed = Box::new(alloc, order)?;
+    Ok(boxed)
+}
+
 /// The pair that a map got last goes last in the order, or out of the map again.
 #[inline(always)]
-fn order_last(map: &mut IndexMap<Val, Val>, order: &mut Option<Order>) -> Result<(), AllocError>
+fn order_last(
+    map: &mut IndexMap<Nine, Nine>,
+    order: &mut Option<Box<Order>>,
+) -> Result<(), AllocError>
     ensures ok { OnOk result (map.new.entries ≡ map.old.entries) }
-    ensures order { OnOk result (order.new ≡ option_map (λ o. o ++ length o ∷ []) order.old) }
+    ensures order { OnOk result (unboxed order.new ≡ option_map (λ o. o ++ length o ∷ []) (unboxed order.old)) }
     ensures err { OnErr result (map.new.entries ≡ take (length map.old.entries - 1) map.old.entries) }
-    ensures same_order { OnErr result (order.new ≡ order.old) }
+    ensures same_order { OnErr result (unboxed order.new ≡ unboxed order.old) }
 {
     match order {
         Some(order) => match order.push() {
@@ -159,7 +182,7 @@ impl Table {
         ensures { result ≡ position (has_key key) self.now }
     {
         sound(&self.order);
-        match self.map.get_index_of(&key) {
+        match self.map.get_index_of(&Nine::new(key)) {
             Some(index) => match &self.order {
                 Some(order) => Some(order.place_of(index)),
                 None => Some(index),
@@ -176,7 +199,10 @@ impl Table {
         // The length is what says that the keys are unique.
         let _count = self.map.len();
         sound(&self.order);
-        self.map.get(&key).copied()
+        match self.map.get(&Nine::new(key)) {
+            Some(val) => Some(val.val()),
+            None => None,
+        }
     }
 
     /// A present key gets the value, and a new one goes last. It answers the value that the key had.
@@ -191,8 +217,9 @@ impl Table {
         let _count = self.map.len();
         sound(&self.order);
         let room = self.map.capacity();
-        match self.map.insert(key, val)? {
-            Some(was) => Ok(Some(was)),
+        let packed = Nine::new(key);
+        match self.map.insert(packed, Nine::new(val))? {
+            Some(was) => Ok(Some(was.val())),
             None => {
                 order_last(&mut self.map, &mut self.order)?;
                 fit(&mut self.map, room);
@@ -211,7 +238,7 @@ impl Table {
             Some(_) => {}
             None => {
                 if count - i > CLOSE {
-                    if let Ok(order) = Order::new(*self.map.allocator(), count) {
+                    if let Ok(order) = boxed_order(*self.map.allocator(), count) {
                         self.order = Some(order);
                     }
                 }
@@ -240,7 +267,7 @@ impl Table {
         ensures rest { self.new ≡ without_key self.old key }
     {
         sound(&self.order);
-        match self.map.get_index_of(&key) {
+        match self.map.get_index_of(&Nine::new(key)) {
             Some(index) => match &mut self.order {
                 Some(order) => {
                     order.take_index(index);

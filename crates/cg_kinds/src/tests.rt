@@ -55,15 +55,23 @@ fn can_put(code: KindCode, count: usize, key: Val) -> bool
     }
 }
 
-pub fn put<K: Kind>(kind: &mut K, at: usize, key: Val, val: i64) -> Result<Answer, AllocError>
+/// Puts a value under a key, where the kind has such keys.
+pub fn put_value<K: Kind>(kind: &mut K, at: usize, key: Val, val: Val) -> Result<Answer, AllocError>
     requires { Holds (K.bodies kind.old) at }
     ensures { (place : ℕ) → Holds (K.bodies kind.old) place → Holds (K.bodies kind.new) place }
 {
     if !can_put(kind.code(), kind.len(at), key) {
         return Ok(Answer::NotDone);
     }
-    let replaced = kind.put(at, key, Val::Int(val))?;
+    let replaced = kind.put(at, key, val)?;
     Ok(Answer::Replaced(replaced))
+}
+
+pub fn put<K: Kind>(kind: &mut K, at: usize, key: Val, val: i64) -> Result<Answer, AllocError>
+    requires { Holds (K.bodies kind.old) at }
+    ensures { (place : ℕ) → Holds (K.bodies kind.old) place → Holds (K.bodies kind.new) place }
+{
+    put_value(kind, at, key, Val::Int(val))
 }
 
 pub fn answer_of(entry: Entry) -> Answer {

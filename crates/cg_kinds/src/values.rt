@@ -2,7 +2,7 @@
 ghost use Rattle.std.specs.Prelude.{◌≡◌, ◌+◌, ◌-◌, ◌<◌, ◌≤◌, ◌^◌, ◌++◌, ◌∷◌, [], length, map, Some, IfOk, OnOk, OnErr, OnSome, IfNone, IsNone, option_to_list, remove, slice_get, slice_set};
 ghost use Rattle.cg_graph.specs.Value.{item};
 ghost use Rattle.cg_kind.specs.Calls.{AreItems};
-ghost use Rattle.cg_kinds.specs.Values.{value_in, AreWords};
+ghost use Rattle.cg_kinds.specs.Values.{value_in, AreWords, AreOnlyWords};
 
 use cg_value::{Entry, Val};
 use std::alloc::{AllocError, Global};
@@ -32,9 +32,10 @@ impl Model for Values {
 
 /// The sort of a value, and its number.
 #[inline(always)]
-fn words_of(val: Val) -> (u8, u64)
+pub(crate) fn words_of(val: Val) -> (u8, u64)
     ensures value { value_in result.0 result.1 ≡ val }
     ensures words { AreWords result.0 result.1 }
+    ensures only { AreOnlyWords result.0 result.1 }
 {
     match val {
         Val::None => (0, 0),
@@ -46,7 +47,7 @@ fn words_of(val: Val) -> (u8, u64)
 
 /// The value of a sort with a number.
 #[inline(always)]
-fn val_of(sort: u8, number: u64) -> Val
+pub(crate) fn val_of(sort: u8, number: u64) -> Val
     requires { AreWords sort number }
     ensures { result ≡ value_in sort number }
 {

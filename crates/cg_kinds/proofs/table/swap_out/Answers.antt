@@ -1,7 +1,10 @@
-use Rattle.std.proofs.Common.{◌∙◌, ap}
+use Rattle.std.proofs.Common.{◌∙◌, ap, sym}
 use Rattle.cg_kinds.specs.Pairs.{pairs_of}
-use Rattle.cg_kinds.proofs.TableLemmas.{pairs_of-swap}
+use Rattle.cg_kinds.proofs.TableLemmas.{pairs_of-swap, entry-pair}
 use Rattle.cg_kinds.proofs.table.swap_out.Goals as goal
+
+pub returns-clause-entry : goal.returns-clause-entry
+returns-clause-entry c = c.entry_of.ensures ∙ entry-pair c.args.map.now.entries c.args.index (c.in-Some.key, c.in-Some.val) (sym c.in-Some.ensures.entry)
 
 pub returns-clause-rest : goal.returns-clause-rest
 returns-clause-rest c = ap pairs_of c.in-Some.ensures.entries ∙ pairs_of-swap c.args.map.now.entries c.args.index _ c.requires

@@ -1,7 +1,7 @@
 use Rattle.std.proofs.Common.{◌≡◌, ◌∙◌, ap, sym, length}
 use Rattle.std.proofs.lemmas.List.{length-map}
 use Rattle.std.proofs.lemmas.List.FromFn.{length-range_with_len}
-use Rattle.cg_kinds.specs.Pairs.{pairs_of, pair_entry, picked, ordered}
+use Rattle.cg_kinds.specs.Pairs.{pairs_of, pair_entry, picked, ordered, unboxed}
 use Rattle.cg_kinds.proofs.TableLemmas.{picked_all}
 use Rattle.cg_kinds.proofs.table.Table.note_order.Goals as goal
 use Rattle.cg_kinds.proofs.table.Table.note_order.Goals.{in-Some-1, in-None-1}
@@ -12,8 +12,8 @@ invariant_of-self-in-Ok-2 c = ap length c.in-Ok.ensures ∙ length-range_with_le
 pub returns-in-Ok : goal.returns-in-Ok
 returns-in-Ok c =
     let pairs = c.self.inside.map.entries in
-    let same : picked (pairs_of pairs) c.in-Ok.order ≡ c.args.self.now =
+    let same : picked (pairs_of pairs) c.in-Ok.order.value ≡ c.args.self.now =
     ap (picked (pairs_of pairs)) c.in-Ok.ensures
     ∙ picked_all (pairs_of pairs) c.len-count.result (c.len-count.ensures.len ∙ sym (length-map pairs pair_entry))
-    ∙ sym (ap (ordered pairs) c.in-None.is) ∙ c.self.view_is in
+    ∙ sym (ap (λ o. ordered pairs (unboxed o)) c.in-None.is) ∙ c.self.view_is in
     elim c.match-self-2.branch [ in-Some-1 w ↦ w.self-is ∙ same | in-None-1 w ↦ w.self-is ∙ same ]

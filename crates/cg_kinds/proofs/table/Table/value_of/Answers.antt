@@ -1,12 +1,20 @@
-use Rattle.std.proofs.Common.{◌∙◌, ap, sym}
+use Rattle.std.proofs.Common.{◌∙◌, ap, sym, Some}
+use Rattle.std.specs.Option.{option_copied}
 use Rattle.cg_graph.specs.Value.{value_at}
-use Rattle.cg_kinds.proofs.PairLemmas.{lookup-pairs}
-use Rattle.cg_kinds.proofs.TableLemmas.{ordered_value}
+use Rattle.cg_kinds.specs.Pairs.{unboxed}
+use Rattle.cg_kinds.proofs.TableLemmas.{lookup-ordered}
 use Rattle.cg_kinds.proofs.table.Table.value_of.Goals as goal
 
-pub returns : goal.returns
-returns c =
+pub returns-in-Some : goal.returns-in-Some
+returns-in-Some c =
     let pairs = c.self.inside.map.entries in
-    c.copied.ensures ∙ c.get.ensures.value ∙ lookup-pairs c.args.key pairs
-    ∙ sym (ordered_value pairs c.self.inside.order c.self.invariant c.sound.ensures c.len-count.ensures.unique c.args.key)
+    ap Some c.val.ensures ∙ sym (ap option_copied c.in-Some.is) ∙ c.get.ensures.value
+    ∙ lookup-ordered pairs (unboxed c.self.inside.order) c.self.invariant c.sound.ensures c.len-count.ensures.unique c.args.key c.new.result c.new.ensures
+    ∙ ap (λ es. value_at es c.args.key) c.self.view_is
+
+pub returns-in-None : goal.returns-in-None
+returns-in-None c =
+    let pairs = c.self.inside.map.entries in
+    sym (ap option_copied c.in-None.is) ∙ c.get.ensures.value
+    ∙ lookup-ordered pairs (unboxed c.self.inside.order) c.self.invariant c.sound.ensures c.len-count.ensures.unique c.args.key c.new.result c.new.ensures
     ∙ ap (λ es. value_at es c.args.key) c.self.view_is

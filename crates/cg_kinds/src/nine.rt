@@ -1,0 +1,83 @@
+//! Values in nine bytes, as tables keep their keys and values.
+ghost use Rattle.std.specs.Prelude.{◌≡◌};
+ghost use Rattle.cg_value.specs.contracts.ValPartialEq.TheImpl as val_partial_eq;
+ghost use Rattle.cg_value.specs.contracts.ValPartialEq.TheImpl.Laws as val_partial_eq_laws;
+ghost use Rattle.cg_value.specs.contracts.ValEq.TheImpl.Laws as val_eq_laws;
+ghost use Rattle.cg_value.specs.contracts.ValHash.TheImpl as val_hash;
+ghost use Rattle.cg_value.specs.contracts.ValHash.TheImpl.Laws as val_hash_laws;
+
+use crate::values::{val_of, words_of};
+use cg_value::Val;
+use std::hash::{Hash, Hasher};
+use std::marker::Model;
+
+/// A value in nine bytes: its sort, and the bytes of its number, the lowest first.
+///
+/// Bytes need no alignment, so that a run of these has no gaps. A `Val` takes sixteen bytes.
+/// A value has these words and no others, so that two are compared by their words.
+#[derive(Drop)]
+pub struct Nine {
+    sort: u8,
+    number: [u8; 8],
+}
+
+impl Model for Nine {
+    ghost use Rattle.std.specs.Int.{from_le_bytes, w64};
+    ghost use Rattle.cg_value.specs.declared.Val.{Val};
+    ghost use Rattle.cg_kinds.specs.Values.{value_in, AreOnlyWords};
+
+    ghost Value = { Val };
+
+    ghost view = { λ n. value_in n.sort (from_le_bytes w64 n.number) };
+
+    ghost invariant = { λ n. AreOnlyWords n.sort (from_le_bytes w64 n.number) };
+}
+
+impl Nine {
+    /// Packs a value.
+    #[inline(always)]
+    pub fn new(val: Val) -> Nine
+        ensures { result ≡ val }
+    {
+        let (sort, number) = words_of(val);
+        Nine {
+            sort,
+            number: number.to_le_bytes(),
+        }
+    }
+
+    /// The value.
+    #[inline(always)]
+    pub fn val(&self) -> Val
+        ensures { result ≡ self.now }
+    {
+        val_of(self.sort, u64::from_le_bytes(self.number))
+    }
+}
+
+impl PartialEq for Nine {
+    ghost eq = { (val_partial_eq.ghosts).eq };
+
+    ghost laws = { val_partial_eq_laws.laws-law };
+
+    #[inline(always)]
+    fn eq(&self, other: &Nine) -> bool {
+        self.sort == other.sort
+            && u64::from_le_bytes(self.number) == u64::from_le_bytes(other.number)
+    }
+}
+
+impl Eq for Nine {
+    ghost laws = { val_eq_laws.laws-law };
+}
+
+impl Hash for Nine {
+    ghost hash_input = { (val_hash.ghosts).hash_input };
+
+    ghost respects_eq = { val_hash_laws.respects_eq-law };
+
+    #[inline(always)]
+    fn hash<H: Hasher>(&self, state: &mut H) {
+        self.val().hash(state);
+    }
+}
