@@ -98,7 +98,7 @@ fn attempt<B: Kind>(
         | Command::Item { .. }
         | Command::Get { .. }
         | Command::Attr { .. }
-        | Command::Deref { .. } => gives(change(heap, locals, command)),
+        | Command::Deref { .. } => gives(attempt_change(heap, locals, command)),
         Command::Call { func } => call(heap, locals, func),
         Command::Quit { value } => quit(heap, locals, value),
         Command::Print { value } => print(heap, locals, value),
@@ -126,10 +126,27 @@ fn attempt<B: Kind>(
     }
 }
 
-/// Does a command that changes names or entries and tells no line. It answers the entry that is then to be given up: little
-/// to move, where most commands are of these.
+/// `perform` for a command that changes names or entries and tells no line. It answers the entry that is then to be given up:
+/// little to move, where most commands are of these.
 #[inline(always)]
-fn change<B: Kind>(
+pub fn change<B: Kind>(
+    heap: &mut Heap<B>,
+    locals: &Option<Locals>,
+    command: &Command,
+) -> Result<Entry, Refusal>
+    requires spelled { IsSpelledCommand (length heap.old.names) command.now }
+    requires locals { LocalsLive heap.old locals.now }
+    requires few { HasFewHolds heap.old }
+    requires changes { only_changes command.now ≡ true }
+    ensures performs { (policy : AnyPolicy) → Performs heap.old policy locals.now (λ w. effect w command.now) heap.new policy (gives result) }
+    ensures grows { (w : World) → HeapAndLocalsStandFor heap.old locals.now w → GrowsBy false heap.old heap.new }
+{
+    attempt_change(heap, locals, command)
+}
+
+/// Does such a command.
+#[inline(always)]
+fn attempt_change<B: Kind>(
     heap: &mut Heap<B>,
     locals: &Option<Locals>,
     command: &Command,
@@ -172,9 +189,9 @@ fn change<B: Kind>(
     }
 }
 
-/// What is answered after a change without a line.
+/// What `perform` answers after a change without a line.
 #[inline(always)]
-fn gives(changed: Result<Entry, Refusal>) -> Result<Done, Refusal>
+pub fn gives(changed: Result<Entry, Refusal>) -> Result<Done, Refusal>
     ensures { result ≡ gives changed }
 {
     match changed {
@@ -312,5 +329,28 @@ pub fn makes_object(command: &Command) -> bool
             | Command::MakeInst { .. }
             | Command::MakeFunc { .. }
             | Command::MakeRef { .. }
+    )
+}
+
+/// Whether a command changes names or entries of what stands, and tells no line.
+#[inline(always)]
+pub fn only_changes(command: &Command) -> bool
+    ensures { result ≡ only_changes command.now }
+{
+    matches!(
+        command,
+        Command::Bind { .. }
+            | Command::Del { .. }
+            | Command::Append { .. }
+            | Command::SetItem { .. }
+            | Command::DelItem { .. }
+            | Command::Put { .. }
+            | Command::Remove { .. }
+            | Command::SetAttr { .. }
+            | Command::DelAttr { .. }
+            | Command::Item { .. }
+            | Command::Get { .. }
+            | Command::Attr { .. }
+            | Command::Deref { .. }
     )
 }

@@ -27,7 +27,7 @@ mod queries;
 #[cfg(test)]
 mod tests;
 
-pub use dispatch::{makes_object, perform};
+pub use dispatch::{change, gives, makes_object, only_changes, perform};
 pub use done::{Done, Refusal};
 pub use lines::Lines;
 pub use locals::Locals;

@@ -1,6 +1,6 @@
 //! What has commands: the script, or a frame.
 ghost use Rattle.std.specs.Prelude.{◌≡◌, Some};
-ghost use Rattle.cg_interp.specs.Callers.{caller_activity, caller_locals, with_next, without_rest_in_frame};
+ghost use Rattle.cg_interp.specs.Callers.{caller_activity, with_next, without_rest_in_frame};
 
 use crate::activity::Activity;
 use cg_commands::Locals;
@@ -48,17 +48,6 @@ impl Caller {
         match self {
             Caller::Script { next } => *next = Some(number),
             Caller::Frame { next, .. } => *next = Some(number),
-        }
-    }
-
-    /// The locals of a frame.
-    #[inline(always)]
-    pub fn locals(&self) -> Option<Locals>
-        ensures { result ≡ caller_locals self.now }
-    {
-        match *self {
-            Caller::Script { .. } => None,
-            Caller::Frame { locals, .. } => Some(locals),
         }
     }
 

@@ -19,7 +19,7 @@ use crate::caller::Caller;
 use crate::engine::Engine;
 use crate::next::{body_of, next_in, next_of};
 use crate::turned::Turned;
-use cg_commands::{Locals, makes_object, perform};
+use cg_commands::{Locals, change, gives, makes_object, only_changes, perform};
 use cg_kind::Kind;
 use cg_script::{Command, Script};
 
@@ -36,7 +36,7 @@ impl<B: Kind> Engine<B> {
             match next_in(&script.items, next) {
                 Some((command, after)) => {
                     let gone_on = Caller::Script { next: Some(after) };
-                    match self.step(&gone_on, next, command) {
+                    match self.step(&gone_on, &None, next, command) {
                         Some(answer) => return answer,
                         None => next = Some(after),
                     }
@@ -77,7 +77,8 @@ impl<B: Kind> Engine<B> {
         ensures fit { StaysFit self.old self.new }
     {
         let body = body_of(script, procedure);
-        // It is built once: of a command to the next only the number changes.
+        // These are built once: from one command to the next only the number changes.
+        let within = Some(locals);
         let mut gone_on = Caller::Frame {
             locals,
             procedure,
@@ -88,7 +89,7 @@ impl<B: Kind> Engine<B> {
             match next_of(body, next) {
                 Some((command, after)) => {
                     gone_on.go_to(after);
-                    match self.step(&gone_on, next, command) {
+                    match self.step(&gone_on, &within, next, command) {
                         Some(answer) => return answer,
                         None => next = Some(after),
                     }
@@ -100,8 +101,16 @@ impl<B: Kind> Engine<B> {
 
     /// The next command of a caller, which was on top, or a collection that is due before it. The caller has gone on from that
     /// command, which has this number. Nothing is answered where no line is due and the caller is to go on: it is not put back.
+    /// `locals` are the caller's.
     #[inline(always)]
-    fn step(&mut self, caller: &Caller, next: Option<usize>, command: &Command) -> Option<Turned>
+    fn step(
+        &mut self,
+        caller: &Caller,
+        locals: &Option<Locals>,
+        next: Option<usize>,
+        command: &Command,
+    ) -> Option<Turned>
+        requires own { locals.now ≡ caller_locals caller.now }
         requires stands { (script : AnyScript) × ComesNext script caller.now next command.now
             × IsAtTurn script (caller_activity (with_next next caller.now)) self.old }
         ensures steps { (script : AnyScript) → ComesNext script caller.now next command.now
@@ -115,7 +124,7 @@ impl<B: Kind> Engine<B> {
                 self.collect_first(caller, next, generation);
                 Some(Turned::Quiet)
             }
-            None => self.run(caller, command),
+            None => self.run(caller, locals, command),
         }
     }
 
@@ -139,9 +148,15 @@ impl<B: Kind> Engine<B> {
 
     /// Does a command of the caller that was on top, which has gone on to the command after it.
     #[inline(always)]
-    fn run(&mut self, caller: &Caller, command: &Command) -> Option<Turned>
+    fn run(
+        &mut self,
+        caller: &Caller,
+        locals: &Option<Locals>,
+        command: &Command,
+    ) -> Option<Turned>
+        requires own { locals.now ≡ caller_locals caller.now }
         requires spelled { IsSpelledCommand (length self.old.store.names) command.now }
-        requires locals { LocalsLive self.old.store (caller_locals caller.now) }
+        requires locals { LocalsLive self.old.store locals.now }
         requires may { MayCommand self.old }
         requires stands { (script : AnyScript) × IsSpelled script × IsFit script self.old × (w : World)
             × IsAtCommand script caller.now self.old w command.now }
@@ -149,15 +164,49 @@ impl<B: Kind> Engine<B> {
             → RunsTo script w command.now (caller_activity caller.now) self.new result }
         ensures fit { StaysFit self.old self.new }
     {
-        let room = self.make_room(command);
-        self.carry_out(caller, command, room)
+        if only_changes(command) {
+            self.carry_out_change(caller, locals, command)
+        } else {
+            let room = self.make_room(command);
+            self.carry_out(caller, locals, command, room)
+        }
+    }
+
+    /// The same for a command that changes names or entries and tells no line.
+    #[inline(always)]
+    fn carry_out_change(
+        &mut self,
+        caller: &Caller,
+        locals: &Option<Locals>,
+        command: &Command,
+    ) -> Option<Turned>
+        requires own { locals.now ≡ caller_locals caller.now }
+        requires spelled { IsSpelledCommand (length self.old.store.names) command.now }
+        requires locals { LocalsLive self.old.store locals.now }
+        requires may { MayCommand self.old }
+        requires changes { only_changes command.now ≡ true }
+        requires stands { (script : AnyScript) × IsSpelled script × IsFit script self.old × (w : World)
+            × IsAtCommand script caller.now self.old w command.now }
+        ensures does { (script : AnyScript) (w : World) → IsAtCommand script caller.now self.old w command.now
+            → RunsTo script w command.now (caller_activity caller.now) self.new result }
+        ensures fit { StaysFit self.old self.new }
+    {
+        let changed = change(&mut self.heap, locals, command);
+        self.answer(caller, gives(changed))
     }
 
     /// The same, where an object is made only if there is room for its death.
     #[inline(always)]
-    fn carry_out(&mut self, caller: &Caller, command: &Command, room: bool) -> Option<Turned>
+    fn carry_out(
+        &mut self,
+        caller: &Caller,
+        locals: &Option<Locals>,
+        command: &Command,
+        room: bool,
+    ) -> Option<Turned>
+        requires own { locals.now ≡ caller_locals caller.now }
         requires spelled { IsSpelledCommand (length self.old.store.names) command.now }
-        requires locals { LocalsLive self.old.store (caller_locals caller.now) }
+        requires locals { LocalsLive self.old.store locals.now }
         requires may { MayCommand self.old }
         requires stands { (script : AnyScript) × IsSpelled script × IsFit script self.old × (w : World)
             × IsAtCommand script caller.now self.old w command.now }
@@ -170,7 +219,7 @@ impl<B: Kind> Engine<B> {
             self.alloc,
             &mut self.heap,
             &mut self.policy,
-            caller.locals(),
+            *locals,
             command,
             room,
         );

@@ -5,3 +5,4 @@ pub mod Contents
 pub mod Held
 pub mod Pairs
 pub mod Order
+pub mod Numbers

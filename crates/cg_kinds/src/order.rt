@@ -157,6 +157,7 @@ impl Order {
     }
 
     /// The next index goes last.
+    #[inline(always)]
     pub fn push(&mut self) -> Result<(), AllocError>
         ensures ok { OnOk result (self.new ≡ self.old ++ length self.old ∷ []) }
         ensures err { OnErr result (self.new ≡ self.old) }
@@ -229,6 +230,7 @@ impl Order {
     }
 
     /// Closes the gaps, where they are more than half of the slots.
+    #[inline(always)]
     fn close_many(&mut self)
         ensures { self.new ≡ self.old }
     {
@@ -238,6 +240,7 @@ impl Order {
     }
 
     /// Closes the gaps.
+    #[inline(never)]
     fn close(&mut self)
         ensures { self.new ≡ self.old }
     {

@@ -96,13 +96,22 @@ fn sound(order: &Option<Box<Order>>)
     }
 }
 
-/// A map that has grown from this room, and so doubled it, keeps room for an eighth of its pairs besides.
-fn fit(map: &mut IndexMap<Nine, Nine>, room: usize)
+/// A map that has grown, and so doubled its room, keeps room for an eighth of its pairs besides.
+#[inline(always)]
+fn fit(map: &mut IndexMap<Nine, Nine>, grown: bool)
     ensures { map.new.entries ≡ map.old.entries }
 {
-    if map.capacity() > room {
-        map.shrink_to(map.len() + map.len() / 8 + 1);
+    if grown {
+        give_back(map);
     }
+}
+
+/// A map gives back all room but that of its pairs and an eighth of them.
+#[inline(never)]
+fn give_back(map: &mut IndexMap<Nine, Nine>)
+    ensures { map.new.entries ≡ map.old.entries }
+{
+    map.shrink_to(map.len() + map.len() / 8 + 1);
 }
 
 /// The indexes below a number, in their own order, in a box.
@@ -216,13 +225,13 @@ impl Table {
         // The length is what says that the keys are unique.
         let _count = self.map.len();
         sound(&self.order);
-        let room = self.map.capacity();
+        let full = self.map.capacity() == self.map.len();
         let packed = Nine::new(key);
         match self.map.insert(packed, Nine::new(val))? {
             Some(was) => Ok(Some(was.val())),
             None => {
                 order_last(&mut self.map, &mut self.order)?;
-                fit(&mut self.map, room);
+                fit(&mut self.map, full);
                 Ok(None)
             }
         }

@@ -13,8 +13,8 @@ use Rattle.cg_commands.proofs.dispatch.attempt.Goals as goal
 
 pub returns-in-Bind : goal.returns-in-Bind
 returns-in-Bind g c =
-    subst (Attempts c.args.heap.now c.args.policy.now c.args.locals.now c.args.room c.args.command.now c.change.new.heap c.args.policy.now) (sym c.gives.ensures)
-    (c.change.ensures c.args.policy.now c.args.room)
+    subst (Attempts c.args.heap.now c.args.policy.now c.args.locals.now c.args.room c.args.command.now c.attempt_change.new.heap c.args.policy.now) (sym c.gives.ensures)
+    (c.attempt_change.ensures c.args.policy.now c.args.room)
 
 pub call-requires-clause-known : goal.call-requires-clause-known
 call-requires-clause-known g c =

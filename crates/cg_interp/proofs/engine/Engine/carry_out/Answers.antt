@@ -2,7 +2,7 @@ use Rattle.std.proofs.Common.{sym, subst}
 use Rattle.cg_heap.specs.Calls.{HasFewHolds}
 use Rattle.cg_commands.specs.Stands.{HasLocals, LocalsLive}
 use Rattle.cg_interp.specs.Engines.{State, StandsFor, under}
-use Rattle.cg_interp.specs.Callers.{caller_activity, caller_locals, StaysKeptAfter}
+use Rattle.cg_interp.specs.Callers.{caller_activity, StaysKeptAfter}
 use Rattle.cg_interp.proofs.Fitting.{fit_after}
 use Rattle.cg_interp.proofs.Keeping.{still_fit, fit_then}
 use Rattle.cg_interp.proofs.UnderWay.{policy_is}
@@ -10,13 +10,13 @@ use Rattle.cg_interp.proofs.engine.Engine.carry_out.Goals as goal
 
 pub perform-done-requires-clause-locals : goal.perform-done-requires-clause-locals
 perform-done-requires-clause-locals g c =
-    subst (LocalsLive c.self.inside.heap) (sym c.locals.ensures) (subst (λ (e : State). LocalsLive e.store (caller_locals c.args.caller.now)) (sym c.self.view_is) c.requires.locals)
+    subst (λ (e : State). LocalsLive e.store c.args.locals.now) (sym c.self.view_is) c.requires.locals
 
 pub answer-requires-clause-performed : goal.answer-requires-clause-performed
 answer-requires-clause-performed g c =
     let (script, spelled, fit, w, at) = c.requires.stands in
     let before = subst (λ e. StandsFor script (under (caller_activity c.args.caller.now) e) w) (sym c.self.view_is) at.stands in
-    let locals = subst (λ l. HasLocals l w) (sym c.locals.ensures) at.locals in (
+    let locals = subst (λ l. HasLocals l w) (sym c.requires.own) at.locals in (
       script,
       spelled,
       (fit_after c.args.room c.args.self.now _ c.self.view_is c.perform-done.new.heap c.perform-done.new.policy
@@ -38,7 +38,7 @@ answer-requires-clause-performed g c =
 pub returns-clause-does : goal.returns-clause-does
 returns-clause-does g c = λ script w at.
     let before = subst (λ e. StandsFor script (under (caller_activity c.args.caller.now) e) w) (sym c.self.view_is) at.stands in
-    let locals = subst (λ l. HasLocals l w) (sym c.locals.ensures) at.locals in
+    let locals = subst (λ l. HasLocals l w) (sym c.requires.own) at.locals in
     c.answer.ensures.does script w c.args.command.now c.self.inside.heap c.self.inside.policy (record {
       stood = before;
       answers = c.perform-done.ensures.performs w (record { represents = before.represents; locals_are = locals }) (policy_is script _ w before);
@@ -49,7 +49,7 @@ pub returns-clause-fit : goal.returns-clause-fit
 returns-clause-fit g c =
     let (script, spelled, fit, w, at) = c.requires.stands in
     let before = subst (λ e. StandsFor script (under (caller_activity c.args.caller.now) e) w) (sym c.self.view_is) at.stands in
-    let locals = subst (λ l. HasLocals l w) (sym c.locals.ensures) at.locals in
+    let locals = subst (λ l. HasLocals l w) (sym c.requires.own) at.locals in
     fit_then c.args.self.now _ c.answer.new.self
     (fit_after c.args.room c.args.self.now _ c.self.view_is c.perform-done.new.heap c.perform-done.new.policy
     (c.perform-done.ensures.grows w (record { represents = before.represents; locals_are = locals }) (policy_is script _ w before)) c.requires.one_more)

@@ -1,4 +1,4 @@
-use Rattle.std.proofs.Common.{Some}
+use Rattle.std.proofs.Common.{refl, Some}
 use Rattle.cg_interp.specs.declared.activity.Activity.TheVariants as activity_of
 use Rattle.cg_interp.specs.declared.caller.Caller.TheVariants as caller_of
 use Rattle.cg_interp.proofs.Keeping.{fit_here, fit_then}
@@ -11,6 +11,7 @@ commands-init g c = record { comes = comes_here c.args.script.now (activity_of.S
 
 pub step-requires : goal.step-requires
 step-requires g c = record {
+  own = refl;
   stands = (
     c.args.script.now,
     c.in-Some.ensures.some,

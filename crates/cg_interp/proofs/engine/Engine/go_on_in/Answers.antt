@@ -1,7 +1,7 @@
 use Rattle.std.proofs.Common.{refl, sym, ◌∙◌, ap, subst, None, Some, [], arith}
 use Rattle.cg_interp.specs.declared.activity.Activity.TheVariants as activity_of
 use Rattle.cg_interp.specs.declared.caller.Caller.TheVariants as caller_of
-use Rattle.cg_interp.specs.Callers.{caller_activity, with_next, ComesNext, StepsFrom}
+use Rattle.cg_interp.specs.Callers.{caller_activity, caller_locals, with_next, ComesNext, StepsFrom}
 use Rattle.cg_interp.specs.Engines.{commands_from}
 use Rattle.cg_interp.specs.Telling.{IsAtTurn}
 use Rattle.cg_interp.proofs.Lawfully.{has_room}
@@ -18,6 +18,7 @@ pub step-requires : goal.step-requires
 step-requires g c =
     let is = c.go_to.ensures ∙ gone_on c.commands.gone_on c.args.locals c.args.procedure c.in-Some.after c.commands.invariant.frame in
     record {
+      own = ap caller_locals (sym is);
       stands = (
         c.args.script.now,
         subst (λ x. ComesNext c.args.script.now x c.commands.next c.in-Some.command.now) (sym is) (comes_next c.args.script.now c.args.locals c.args.procedure c.commands.next c.in-Some.command.now c.in-Some.after c.body_of-body.result.now c.body_of-body.ensures c.in-Some.ensures.some),

@@ -3,6 +3,7 @@ use Rattle.cg_heap.specs.Calls.{IsSound}
 use Rattle.cg_machine.specs.World.{push}
 use Rattle.cg_machine.specs.Commands.{new_collection}
 use Rattle.cg_policy.specs.Policy.{due_of}
+use Rattle.cg_commands.specs.Stands.{LocalsLive}
 use Rattle.cg_interp.specs.Engines.{State, under}
 use Rattle.cg_interp.specs.Callers.{caller_activity, with_next}
 use Rattle.cg_interp.proofs.Keeping.{still_fit}
@@ -42,7 +43,7 @@ run-requires-clause-spelled g c =
 pub run-requires-clause-locals : goal.run-requires-clause-locals
 run-requires-clause-locals g c =
     let (script, is_next, at) = c.requires.stands in
-    caller_live script c.args.self.now at.world c.args.self.now.first_budget c.args.next c.args.caller.now at.stands (at.kept [] tt).lawful
+    subst (LocalsLive c.args.self.now.store) (sym c.requires.own) (caller_live script c.args.self.now at.world c.args.self.now.first_budget c.args.next c.args.caller.now at.stands (at.kept [] tt).lawful)
 
 pub run-requires-clause-may : goal.run-requires-clause-may
 run-requires-clause-may g c =
