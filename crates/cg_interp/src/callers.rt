@@ -6,6 +6,7 @@ ghost use Rattle.cg_machine.specs.Commands.{new_collection};
 ghost use Rattle.cg_laws.specs.Kept.{StaysKept};
 ghost use Rattle.cg_script.specs.declared.Script.{Script as AnyScript};
 ghost use Rattle.cg_script.specs.Spelled.{IsSpelled, IsSpelledCommand};
+ghost use Rattle.cg_commands.specs.Attempts.{only_changes};
 ghost use Rattle.cg_commands.specs.Stands.{LocalsLive};
 ghost use Rattle.cg_interp.specs.declared.activity.Activity.TheVariants as activity_of;
 ghost use Rattle.cg_interp.specs.Engines.{StandsFor, under, commands_from};
