@@ -149,12 +149,7 @@ impl<B: Kind> Engine<B> {
 
     /// Does a command of the caller that was on top, which has gone on to the command after it.
     #[inline(always)]
-    fn run(
-        &mut self,
-        caller: &Caller,
-        locals: &Option<Locals>,
-        command: &Command,
-    ) -> Option<Turned>
+    fn run(&mut self, caller: &Caller, locals: &Option<Locals>, command: &Command) -> Option<Turned>
         requires own { locals.now ≡ caller_locals caller.now }
         requires spelled { IsSpelledCommand (length self.old.store.names) command.now }
         requires locals { LocalsLive self.old.store locals.now }

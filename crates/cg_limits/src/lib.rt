@@ -4,5 +4,4 @@
 
 #[cfg(test)]
 mod tests;
-
 pub mod told;

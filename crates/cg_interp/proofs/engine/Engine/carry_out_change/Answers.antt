@@ -32,7 +32,7 @@ answer-requires-clause-performed g c =
         performed = record {
           stood = before;
           answers = subst (λ d. CommandAnswers d (effect w c.args.command.now) c.self.inside.heap c.self.inside.policy c.change-changed.new.heap c.self.inside.policy) (sym c.gives.ensures)
-          (c.change-changed.ensures.performs c.self.inside.policy w (record { represents = before.represents; locals_are = locals }) (policy_is script _ w before));
+              (c.change-changed.ensures.performs c.self.inside.policy w (record { represents = before.represents; locals_are = locals }) (policy_is script _ w before));
           kept = subst (λ (e : State). StaysKeptAfter script e.first_budget w c.args.command.now) (sym c.self.view_is) at.kept;
         };
       },

@@ -23,7 +23,7 @@ step-requires g c =
         c.args.script.now,
         subst (λ x. ComesNext c.args.script.now x c.commands.next c.in-Some.command.now) (sym is) (comes_next c.args.script.now c.args.locals c.args.procedure c.commands.next c.in-Some.command.now c.in-Some.after c.body_of-body.result.now c.body_of-body.ensures c.in-Some.ensures.some),
         subst (λ x. IsAtTurn c.args.script.now (caller_activity (with_next c.commands.next x)) c.commands.self) (sym is)
-        (at_turn_then c.args.script.now (activity_of.Frame c.args.locals c.args.procedure c.args.next) (activity_of.Frame c.args.locals c.args.procedure c.commands.next) c.args.self.now c.commands.self c.commands.invariant.comes c.commands.invariant.fit c.requires.stands),
+            (at_turn_then c.args.script.now (activity_of.Frame c.args.locals c.args.procedure c.args.next) (activity_of.Frame c.args.locals c.args.procedure c.commands.next) c.args.self.now c.commands.self c.commands.invariant.comes c.commands.invariant.fit c.requires.stands),
       );
     }
 
@@ -43,14 +43,14 @@ pub commands-preserved : goal.commands-preserved
 commands-preserved g c =
     let is = c.go_to.ensures ∙ gone_on c.commands.gone_on c.args.locals c.args.procedure c.in-Some.after c.commands.invariant.frame in
     record {
-  comes = comes_from_then c.args.script.now (activity_of.Frame c.args.locals c.args.procedure c.args.next) (activity_of.Frame c.args.locals c.args.procedure c.commands.next) c.args.self.now c.commands.self c.commands.invariant.comes c.commands.invariant.fit
-      (activity_of.Frame c.args.locals c.args.procedure (Some c.in-Some.after)) c.step.new.self
-      (subst (λ x. StepsFrom c.args.script.now x c.commands.next c.commands.self c.step.new.self None) is
-      (c.in-None-step.ensures.steps c.args.script.now
-      (subst (λ x. ComesNext c.args.script.now x c.commands.next c.in-Some.command.now) (sym is) (comes_next c.args.script.now c.args.locals c.args.procedure c.commands.next c.in-Some.command.now c.in-Some.after c.body_of-body.result.now c.body_of-body.ensures c.in-Some.ensures.some))));
-  fit = fit_then c.args.self.now c.commands.self c.step.new.self c.commands.invariant.fit c.step.ensures.fit;
-  frame = ap (with_next None) is;
-}
+      comes = comes_from_then c.args.script.now (activity_of.Frame c.args.locals c.args.procedure c.args.next) (activity_of.Frame c.args.locals c.args.procedure c.commands.next) c.args.self.now c.commands.self c.commands.invariant.comes c.commands.invariant.fit
+          (activity_of.Frame c.args.locals c.args.procedure (Some c.in-Some.after)) c.step.new.self
+          (subst (λ x. StepsFrom c.args.script.now x c.commands.next c.commands.self c.step.new.self None) is
+          (c.in-None-step.ensures.steps c.args.script.now
+          (subst (λ x. ComesNext c.args.script.now x c.commands.next c.in-Some.command.now) (sym is) (comes_next c.args.script.now c.args.locals c.args.procedure c.commands.next c.in-Some.command.now c.in-Some.after c.body_of-body.result.now c.body_of-body.ensures c.in-Some.ensures.some))));
+      fit = fit_then c.args.self.now c.commands.self c.step.new.self c.commands.invariant.fit c.step.ensures.fit;
+      frame = ap (with_next None) is;
+    }
 
 pub leave-requires : goal.leave-requires
 leave-requires g c =
