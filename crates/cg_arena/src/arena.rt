@@ -317,9 +317,14 @@ impl Arena {
         requires room { count_at self.old serial < 2 ^ 32 - 1 }
         ensures { self.new ≡ counted_up (serial ∷ []) self.old }
     {
-        let (at, slot) = slot_with(&self.slots, &self.rows, &self.hints, serial);
-        let count = slot.count + 1;
-        set_count(&mut self.slots, at, count);
+        let guess = self.hints.guess(serial);
+        match self.slots.get(guess) {
+            Some(slot) if slot.serial == serial => {
+                let count = slot.count + 1;
+                set_count(&mut self.slots, guess, count);
+            }
+            _ => self.inc_by_row(serial),
+        }
     }
 
     /// The count, which is above 0, falls by 1. It answers whether the count is now 0. (Developer guide: an object
@@ -330,8 +335,38 @@ impl Arena {
         ensures falls { self.new ≡ counted_down (serial ∷ []) self.old }
         ensures none { IsTrue result ↔ (count_at self.new serial ≡ 0) }
     {
-        let (at, slot) = slot_with(&self.slots, &self.rows, &self.hints, serial);
-        let count = slot.count - 1;
+        let guess = self.hints.guess(serial);
+        match self.slots.get(guess) {
+            Some(slot) if slot.serial == serial => {
+                let count = slot.count - 1;
+                set_count(&mut self.slots, guess, count);
+                count == 0
+            }
+            _ => self.dec_by_row(serial),
+        }
+    }
+
+    /// `inc`, by the row.
+    #[inline(never)]
+    fn inc_by_row(&mut self, serial: u64)
+        requires has { HasNode self.old serial }
+        requires room { count_at self.old serial < 2 ^ 32 - 1 }
+        ensures { self.new ≡ counted_up (serial ∷ []) self.old }
+    {
+        let at = slot_by_row(&self.rows, serial);
+        let count = slot_at(&self.slots, at).count + 1;
+        set_count(&mut self.slots, at, count);
+    }
+
+    /// `dec`, by the row.
+    #[inline(never)]
+    fn dec_by_row(&mut self, serial: u64) -> bool
+        requires { 0 < count_at self.old serial }
+        ensures falls { self.new ≡ counted_down (serial ∷ []) self.old }
+        ensures none { IsTrue result ↔ (count_at self.new serial ≡ 0) }
+    {
+        let at = slot_by_row(&self.rows, serial);
+        let count = slot_at(&self.slots, at).count - 1;
         set_count(&mut self.slots, at, count);
         count == 0
     }
@@ -396,6 +431,17 @@ impl Arena {
         ensures { IfSome (map.get self.now.nodes serial) (λ n. result ≡ n.body) }
     {
         self.node(serial).body
+    }
+
+    /// The kind, and where the node is.
+    #[inline(always)]
+    pub fn locate(&self, serial: u64, near: &mut Near) -> KindCode
+        requires { HasNode self.now serial }
+        ensures { IfSome (map.get self.now.nodes serial) (λ n. result ≡ n.code) }
+    {
+        let (at, slot) = slot_with(&self.slots, &self.rows, &self.hints, serial);
+        *near = Near::at(Some(at));
+        slot.code
     }
 
     /// The kind, and the place of the object's entries among the bodies of its kind, by one look-up.

@@ -12,7 +12,8 @@ use crate::bindings::given_up;
 use crate::done::{Refusal, refusal_by};
 use crate::locals::Locals;
 use crate::lookups::{index_in, is_hashable};
-use crate::operands::{Wanted, object, value};
+use crate::operands::{Wanted, object, object_near, value};
+use cg_arena::Near;
 use cg_heap::Heap;
 use cg_kind::Kind;
 use cg_script::Operand;
@@ -58,10 +59,11 @@ pub(crate) fn set_item<B: Kind>(
 {
     let list = value(heap, locals, list)?;
     let val = value(heap, locals, operand)?;
-    let target = object(heap, list, Wanted::ScriptList)?;
+    let mut near = Near::default();
+    let target = object_near(heap, list, Wanted::ScriptList, &mut near)?;
     let _i = index_in(heap, target, index)?;
     heap.sound();
-    match heap.put(target, Val::Int(index), val) {
+    match heap.put(target, near, Val::Int(index), val) {
         Ok(old) => Ok(given_up(old)),
         Err(fault) => Err(refusal_by(fault)),
     }
@@ -108,12 +110,13 @@ pub(crate) fn put<B: Kind>(
     let dict = value(heap, locals, dict)?;
     let key = value(heap, locals, key)?;
     let val = value(heap, locals, operand)?;
-    let target = object(heap, dict, Wanted::Dict)?;
+    let mut near = Near::default();
+    let target = object_near(heap, dict, Wanted::Dict, &mut near)?;
     if !is_hashable(heap, key) {
         return Err(Refusal::Unhashable);
     }
     heap.sound();
-    match heap.put(target, key, val) {
+    match heap.put(target, near, key, val) {
         Ok(old) => Ok(given_up(old)),
         Err(fault) => Err(refusal_by(fault)),
     }
@@ -135,12 +138,13 @@ pub(crate) fn remove<B: Kind>(
 {
     let dict = value(heap, locals, dict)?;
     let key = value(heap, locals, key)?;
-    let target = object(heap, dict, Wanted::Dict)?;
+    let mut near = Near::default();
+    let target = object_near(heap, dict, Wanted::Dict, &mut near)?;
     if !is_hashable(heap, key) {
         return Err(Refusal::Unhashable);
     }
     heap.sound();
-    match heap.take_key(target, key) {
+    match heap.take_key(target, near, key) {
         Some(entry) => Ok(entry),
         None => Err(Refusal::NoKey),
     }
@@ -163,9 +167,10 @@ pub(crate) fn set_attr<B: Kind>(
 {
     let instance = value(heap, locals, instance)?;
     let val = value(heap, locals, operand)?;
-    let target = object(heap, instance, Wanted::Inst)?;
+    let mut near = Near::default();
+    let target = object_near(heap, instance, Wanted::Inst, &mut near)?;
     heap.sound();
-    match heap.put(target, Val::Str(attr), val) {
+    match heap.put(target, near, Val::Str(attr), val) {
         Ok(old) => Ok(given_up(old)),
         Err(fault) => Err(refusal_by(fault)),
     }
@@ -186,9 +191,10 @@ pub(crate) fn del_attr<B: Kind>(
     ensures { PerformsOnHeap heap.old locals.now (λ w. effect w (command.DelAttr instance.now attr)) heap.new (gives result) }
 {
     let instance = value(heap, locals, instance)?;
-    let target = object(heap, instance, Wanted::Inst)?;
+    let mut near = Near::default();
+    let target = object_near(heap, instance, Wanted::Inst, &mut near)?;
     heap.sound();
-    match heap.take_key(target, Val::Str(attr)) {
+    match heap.take_key(target, near, Val::Str(attr)) {
         Some(entry) => Ok(entry),
         None => Err(Refusal::NoAttribute),
     }

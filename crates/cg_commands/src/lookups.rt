@@ -15,7 +15,8 @@ ghost use Rattle.cg_commands.specs.Stands.{LocalsLive};
 use crate::bindings::bind_to;
 use crate::done::Refusal;
 use crate::locals::Locals;
-use crate::operands::{Wanted, object, value};
+use crate::operands::{Wanted, object, object_near, value};
+use cg_arena::Near;
 use cg_heap::Heap;
 use cg_kind::Kind;
 use cg_script::Operand;
@@ -61,12 +62,13 @@ pub(crate) fn get<B: Kind>(
 {
     let val = value(heap, locals, dict)?;
     let key = value(heap, locals, key)?;
-    let target = object(heap, val, Wanted::Dict)?;
+    let mut near = Near::default();
+    let target = object_near(heap, val, Wanted::Dict, &mut near)?;
     if !is_hashable(heap, key) {
         return Err(Refusal::Unhashable);
     }
     heap.sound();
-    match heap.value_of(target, key) {
+    match heap.value_of(target, near, key) {
         Some(found) => bind_to(heap, locals, name, found),
         None => Err(Refusal::NoKey),
     }
@@ -88,9 +90,10 @@ pub(crate) fn attr<B: Kind>(
     ensures { PerformsOnHeap heap.old locals.now (λ w. effect w (command.Attr name instance.now attr)) heap.new (gives result) }
 {
     let val = value(heap, locals, instance)?;
-    let target = object(heap, val, Wanted::Inst)?;
+    let mut near = Near::default();
+    let target = object_near(heap, val, Wanted::Inst, &mut near)?;
     heap.sound();
-    match heap.value_of(target, Val::Str(attr)) {
+    match heap.value_of(target, near, Val::Str(attr)) {
         Some(found) => bind_to(heap, locals, name, found),
         None => Err(Refusal::NoAttribute),
     }

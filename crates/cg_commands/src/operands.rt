@@ -13,6 +13,7 @@ ghost use Rattle.cg_commands.specs.Objects.{test_of, refusal_of, bare, RefersTo,
 
 use crate::done::Refusal;
 use crate::locals::Locals;
+use cg_arena::Near;
 use cg_heap::Heap;
 use cg_kind::Kind;
 use cg_machine::FrameSort;
@@ -193,10 +194,26 @@ pub(crate) fn object<B: Kind>(heap: &Heap<B>, val: Val, wanted: Wanted) -> Resul
     ensures ok { IfOk result (λ o. RefersTo heap.now (test_of wanted) val o) }
     ensures err { IfErr result (λ r. HasNoObject heap.now (test_of wanted) (number_of (refusal_of wanted)) val r) }
 {
+    let mut near = Near::default();
+    object_near(heap, val, wanted, &mut near)
+}
+
+/// The same, and where the object is, for what is done to it next.
+#[inline(always)]
+pub(crate) fn object_near<B: Kind>(
+    heap: &Heap<B>,
+    val: Val,
+    wanted: Wanted,
+    near: &mut Near,
+) -> Result<u64, Refusal>
+    requires { IsLiveValue heap.now val }
+    ensures ok { IfOk result (λ o. RefersTo heap.now (test_of wanted) val o) }
+    ensures err { IfErr result (λ r. HasNoObject heap.now (test_of wanted) (number_of (refusal_of wanted)) val r) }
+{
     let Val::Ref(object) = val else {
         return Err(wanted.refusal());
     };
-    if wanted.admits(heap.kind_of(object), object) {
+    if wanted.admits(heap.locate(object, near), object) {
         Ok(object)
     } else {
         Err(wanted.refusal())

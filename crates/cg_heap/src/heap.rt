@@ -19,9 +19,9 @@ mod places;
 mod weak;
 
 use crate::boxes::Boxes;
-use crate::counts::seat_of;
+use crate::counts::{seat_near, seat_of};
 use crate::names::Names;
-use cg_arena::{Arena, Head};
+use cg_arena::{Arena, Head, Near};
 use cg_kind::Kind;
 use cg_value::{Entry, KindCode, Place, Val};
 use cg_weak::WeakTable;
@@ -219,13 +219,13 @@ impl<B: Kind> Heap<B> {
         self.boxes.find(seat, key)
     }
 
-    /// The value under a key, `None` exactly where no entry has the key.
+    /// The value under a key, `None` exactly where no entry has the key. The object may be near.
     #[inline(always)]
-    pub fn value_of(&self, object: u64, key: Val) -> Option<Val>
+    pub fn value_of(&self, object: u64, near: Near, key: Val) -> Option<Val>
         requires { IsLive self.now object }
         ensures { result ≡ value_at (entries_of self.now object) key }
     {
-        let seat = seat_of(&self.arena, object);
+        let seat = seat_near(&self.arena, object, near);
         self.boxes.value_of(seat, key)
     }
 

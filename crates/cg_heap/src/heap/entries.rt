@@ -14,8 +14,9 @@ ghost use Rattle.cg_heap.specs.Calls.{HasFewHolds, IsLiveValue, IsMutable, CanTa
 
 use super::Heap;
 use crate::boxes::{Boxes, Seat};
-use crate::counts::{count_in, fewer, seat_of};
+use crate::counts::{count_in, fewer, seat_near, seat_of};
 use crate::fault::HeapFault;
+use cg_arena::Near;
 use cg_graph::MOST_ENTRIES;
 use cg_kind::Kind;
 use cg_value::{Entry, KindCode, Place, Val};
@@ -39,9 +40,9 @@ impl<B: Kind> Heap<B> {
     }
 
     /// Takes the entry under a key out of a list, a dictionary or an instance; those after it move down by one. `None` comes
-    /// exactly where no entry has the key. The references of the entry are now outside holds.
+    /// exactly where no entry has the key. The references of the entry are now outside holds. The object may be near.
     #[inline(always)]
-    pub fn take_key(&mut self, object: u64, key: Val) -> Option<Entry>
+    pub fn take_key(&mut self, object: u64, near: Near, key: Val) -> Option<Entry>
         requires can { CanTake self.old object }
         requires few { HasFewHolds self.old }
         ensures entry { result ≡ entry_at (entries_of self.old object) key }
@@ -49,7 +50,7 @@ impl<B: Kind> Heap<B> {
             (rewritten object (without_key (entries_of self.old object) key) self.old)) }
         ensures none { IfNone result (self.new ≡ self.old) }
     {
-        let seat = seat_of(&self.arena, object);
+        let seat = seat_near(&self.arena, object, near);
         match self.boxes.take_key(seat, key) {
             Some(taken) => {
                 fewer(&mut self.entries, object);
@@ -111,8 +112,8 @@ impl<B: Kind> Heap<B> {
     }
 
     /// Puts a value at an index of a list, or under a key of a dictionary or an instance, and answers the value that it
-    /// replaces, whose reference is now an outside hold. The object is not the garbage list. `Ok(None)` comes exactly for
-    /// a new key.
+    /// replaces, whose reference is now an outside hold. The object is not the garbage list; it may be near. `Ok(None)` comes
+    /// exactly for a new key.
     ///
     /// An untracked dictionary that is given a key or a value that may be tracked goes to the end of generation 0. (`gc`
     /// manual, `gc.is_tracked`.)
@@ -120,7 +121,13 @@ impl<B: Kind> Heap<B> {
     /// A present key, and a list, refuse nothing. For a new key `EntryLimit` comes exactly where 4,000,000 entries stand,
     /// and `OutOfMemory` for want of memory alone. A refusal changes nothing.
     #[inline(always)]
-    pub fn put(&mut self, object: u64, key: Val, val: Val) -> Result<Option<Val>, HeapFault>
+    pub fn put(
+        &mut self,
+        object: u64,
+        near: Near,
+        key: Val,
+        val: Val,
+    ) -> Result<Option<Val>, HeapFault>
         requires other { object ≢ 1 }
         requires can { CanPutIn self.old object key }
         requires live_key { IsLiveValue self.old key }
@@ -135,8 +142,8 @@ impl<B: Kind> Heap<B> {
         ensures objects { result ≢ Err fault.ObjectLimit }
         ensures err { OnErr result (self.new ≡ self.old) }
     {
-        let tracks = self.becomes_tracked(object, key, val);
-        match self.put_value(object, key, val) {
+        let tracks = self.becomes_tracked(object, near, key, val);
+        match self.put_value(object, near, key, val) {
             Ok(old) => {
                 self.track_if(tracks, object);
                 Ok(old)
@@ -147,7 +154,13 @@ impl<B: Kind> Heap<B> {
 
     /// `put`, without the tracking. Below the limit of entries the key is looked for once.
     #[inline(always)]
-    fn put_value(&mut self, object: u64, key: Val, val: Val) -> Result<Option<Val>, HeapFault>
+    fn put_value(
+        &mut self,
+        object: u64,
+        near: Near,
+        key: Val,
+        val: Val,
+    ) -> Result<Option<Val>, HeapFault>
         requires other { object ≢ 1 }
         requires can { CanPutIn self.old object key }
         requires live_key { IsLiveValue self.old key }
@@ -161,7 +174,7 @@ impl<B: Kind> Heap<B> {
         ensures objects { result ≢ Err fault.ObjectLimit }
         ensures err { OnErr result (self.new ≡ self.old) }
     {
-        let seat = seat_of(&self.arena, object);
+        let seat = seat_near(&self.arena, object, near);
         if is_past_limit(&self.boxes, self.entries, seat, key) {
             return Err(HeapFault::EntryLimit);
         }
@@ -182,7 +195,7 @@ impl<B: Kind> Heap<B> {
 
     /// Whether the object is an untracked dictionary that the key or the value makes tracked. Atoms make none tracked.
     #[inline(always)]
-    fn becomes_tracked(&self, object: u64, key: Val, val: Val) -> bool
+    fn becomes_tracked(&self, object: u64, near: Near, key: Val, val: Val) -> bool
         requires live { IsLive self.now object }
         requires live_key { IsLiveValue self.now key }
         requires live_val { IsLiveValue self.now val }
@@ -191,16 +204,16 @@ impl<B: Kind> Heap<B> {
         if is_atom(key) && is_atom(val) {
             return false;
         }
-        self.is_untracked_dict(object) && (self.may_be_tracked(key) || self.may_be_tracked(val))
+        self.is_untracked_dict(object, near) && (self.may_be_tracked(key) || self.may_be_tracked(val))
     }
 
     /// Whether an object is an untracked dictionary.
     #[inline(always)]
-    fn is_untracked_dict(&self, object: u64) -> bool
+    fn is_untracked_dict(&self, object: u64, near: Near) -> bool
         requires { IsLive self.now object }
         ensures { result ≡ is_untracked_dict (fin.get self.now.nodes object) }
     {
-        let head = self.head_of(object);
+        let head = self.head_near(object, near);
         is_untracked_dict(head.code, head.place)
     }
 

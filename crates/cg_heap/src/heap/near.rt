@@ -11,7 +11,7 @@ use crate::counts::seat_near;
 use crate::steps::Steps;
 use cg_arena::{Head, Near};
 use cg_kind::Kind;
-use cg_value::{Entry, Place};
+use cg_value::{Entry, KindCode, Place};
 use std::sync::ledger::Ledger;
 
 impl<B: Kind> Heap<B> {
@@ -31,6 +31,15 @@ impl<B: Kind> Heap<B> {
         ensures { result ≡ following object (list_at self.now (place_at self.now object)) }
     {
         self.arena.next_near(object, near)
+    }
+
+    /// The kind, and where the object is, for what is asked of it next.
+    #[inline(always)]
+    pub fn locate(&self, object: u64, near: &mut Near) -> KindCode
+        requires { IsLive self.now object }
+        ensures { IfSome (fin.get self.now.nodes object) (λ n. result ≡ n.code) }
+    {
+        self.arena.locate(object, near)
     }
 
     /// `head_of`, where the object is near.

@@ -9,10 +9,10 @@ pub count_in-requires-clause-room : goal.count_in-requires-clause-room
 count_in-requires-clause-room g c = λ s e. count_fits (stands c.self.inside.boxes c.self.inside.arena c.self.inside.names c.self.inside.last c.self.inside.weak.rows c.self.inside.objects c.self.inside.entries _ c.self.invariant c.self.view_is) s
 
 pub invariant_of-self : goal.invariant_of-self
-invariant_of-self g c = (after_replacing (stands c.self.inside.boxes c.self.inside.arena c.self.inside.names c.self.inside.last c.self.inside.weak.rows c.self.inside.objects c.self.inside.entries _ c.self.invariant c.self.view_is) c.args.object _ _ c.seat_of-seat.ensures c.args.key c.args.val c.in-Ok-Some.old c.requires.can (sym c.in-Ok-Some.ensures.replaced ∙ c.in-Ok-Some.field-0-is) _ _ c.in-Ok-Some.ensures.ok c.requires.other c.requires.live_val c.requires.few _ c.count_in.ensures).keeps
+invariant_of-self g c = (after_replacing (stands c.self.inside.boxes c.self.inside.arena c.self.inside.names c.self.inside.last c.self.inside.weak.rows c.self.inside.objects c.self.inside.entries _ c.self.invariant c.self.view_is) c.args.object _ _ c.seat_near-seat.ensures c.args.key c.args.val c.in-Ok-Some.old c.requires.can (sym c.in-Ok-Some.ensures.replaced ∙ c.in-Ok-Some.field-0-is) _ _ c.in-Ok-Some.ensures.ok c.requires.other c.requires.live_val c.requires.few _ c.count_in.ensures).keeps
 
 pub returns-in-Ok-Some-clause-ok : goal.returns-in-Ok-Some-clause-ok
-returns-in-Ok-Some-clause-ok g c = (after_replacing (stands c.self.inside.boxes c.self.inside.arena c.self.inside.names c.self.inside.last c.self.inside.weak.rows c.self.inside.objects c.self.inside.entries _ c.self.invariant c.self.view_is) c.args.object _ _ c.seat_of-seat.ensures c.args.key c.args.val c.in-Ok-Some.old c.requires.can (sym c.in-Ok-Some.ensures.replaced ∙ c.in-Ok-Some.field-0-is) _ _ c.in-Ok-Some.ensures.ok c.requires.other c.requires.live_val c.requires.few _ c.count_in.ensures).is
+returns-in-Ok-Some-clause-ok g c = (after_replacing (stands c.self.inside.boxes c.self.inside.arena c.self.inside.names c.self.inside.last c.self.inside.weak.rows c.self.inside.objects c.self.inside.entries _ c.self.invariant c.self.view_is) c.args.object _ _ c.seat_near-seat.ensures c.args.key c.args.val c.in-Ok-Some.old c.requires.can (sym c.in-Ok-Some.ensures.replaced ∙ c.in-Ok-Some.field-0-is) _ _ c.in-Ok-Some.ensures.ok c.requires.other c.requires.live_val c.requires.few _ c.count_in.ensures).is
 
 pub count_in-requires-in-Ok-None-clause-room : goal.count_in-requires-in-Ok-None-clause-room
 count_in-requires-in-Ok-None-clause-room g c = λ s e. count_fits (stands c.self.inside.boxes c.self.inside.arena c.self.inside.names c.self.inside.last c.self.inside.weak.rows c.self.inside.objects c.self.inside.entries _ c.self.invariant c.self.view_is) s
@@ -24,7 +24,7 @@ pub count_in-requires-in-Ok-None-2-clause-room : goal.count_in-requires-in-Ok-No
 count_in-requires-in-Ok-None-2-clause-room g c = λ s e. count_fits_after (stands c.self.inside.boxes c.self.inside.arena c.self.inside.names c.self.inside.last c.self.inside.weak.rows c.self.inside.objects c.self.inside.entries _ c.self.invariant c.self.view_is) c.args.val _ c.count_in-in-Ok-None.ensures s
 
 pub invariant_of-self-in-Ok-None : goal.invariant_of-self-in-Ok-None
-invariant_of-self-in-Ok-None g c = (after_adding (stands c.self.inside.boxes c.self.inside.arena c.self.inside.names c.self.inside.last c.self.inside.weak.rows c.self.inside.objects c.self.inside.entries _ c.self.invariant c.self.view_is) c.args.object _ _ c.seat_of-seat.ensures c.args.key c.args.val c.requires.can (sym (value_here (stands c.self.inside.boxes c.self.inside.arena c.self.inside.names c.self.inside.last c.self.inside.weak.rows c.self.inside.objects c.self.inside.entries _ c.self.invariant c.self.view_is) c.args.object _ _ c.seat_of-seat.ensures c.args.key) ∙ sym c.in-Ok-None.ensures.replaced ∙ c.in-Ok-None.field-0-is) _ _ c.in-Ok-None.ensures.ok c.requires.other c.requires.live_key c.requires.live_val (below_limit _ c.self.inside.entries c.is_past_limit.result c.is_past_limit.ensures c.if-is_past_limit.false (sym c.in-Ok-None.ensures.replaced ∙ c.in-Ok-None.field-0-is)) _ _ c.count_in-in-Ok-None.ensures c.count_in-in-Ok-None-2.ensures).keeps
+invariant_of-self-in-Ok-None g c = (after_adding (stands c.self.inside.boxes c.self.inside.arena c.self.inside.names c.self.inside.last c.self.inside.weak.rows c.self.inside.objects c.self.inside.entries _ c.self.invariant c.self.view_is) c.args.object _ _ c.seat_near-seat.ensures c.args.key c.args.val c.requires.can (sym (value_here (stands c.self.inside.boxes c.self.inside.arena c.self.inside.names c.self.inside.last c.self.inside.weak.rows c.self.inside.objects c.self.inside.entries _ c.self.invariant c.self.view_is) c.args.object _ _ c.seat_near-seat.ensures c.args.key) ∙ sym c.in-Ok-None.ensures.replaced ∙ c.in-Ok-None.field-0-is) _ _ c.in-Ok-None.ensures.ok c.requires.other c.requires.live_key c.requires.live_val (below_limit _ c.self.inside.entries c.is_past_limit.result c.is_past_limit.ensures c.if-is_past_limit.false (sym c.in-Ok-None.ensures.replaced ∙ c.in-Ok-None.field-0-is)) _ _ c.count_in-in-Ok-None.ensures c.count_in-in-Ok-None-2.ensures).keeps
 
 pub returns-in-Ok-None-clause-ok : goal.returns-in-Ok-None-clause-ok
-returns-in-Ok-None-clause-ok g c = (after_adding (stands c.self.inside.boxes c.self.inside.arena c.self.inside.names c.self.inside.last c.self.inside.weak.rows c.self.inside.objects c.self.inside.entries _ c.self.invariant c.self.view_is) c.args.object _ _ c.seat_of-seat.ensures c.args.key c.args.val c.requires.can (sym (value_here (stands c.self.inside.boxes c.self.inside.arena c.self.inside.names c.self.inside.last c.self.inside.weak.rows c.self.inside.objects c.self.inside.entries _ c.self.invariant c.self.view_is) c.args.object _ _ c.seat_of-seat.ensures c.args.key) ∙ sym c.in-Ok-None.ensures.replaced ∙ c.in-Ok-None.field-0-is) _ _ c.in-Ok-None.ensures.ok c.requires.other c.requires.live_key c.requires.live_val (below_limit _ c.self.inside.entries c.is_past_limit.result c.is_past_limit.ensures c.if-is_past_limit.false (sym c.in-Ok-None.ensures.replaced ∙ c.in-Ok-None.field-0-is)) _ _ c.count_in-in-Ok-None.ensures c.count_in-in-Ok-None-2.ensures).is
+returns-in-Ok-None-clause-ok g c = (after_adding (stands c.self.inside.boxes c.self.inside.arena c.self.inside.names c.self.inside.last c.self.inside.weak.rows c.self.inside.objects c.self.inside.entries _ c.self.invariant c.self.view_is) c.args.object _ _ c.seat_near-seat.ensures c.args.key c.args.val c.requires.can (sym (value_here (stands c.self.inside.boxes c.self.inside.arena c.self.inside.names c.self.inside.last c.self.inside.weak.rows c.self.inside.objects c.self.inside.entries _ c.self.invariant c.self.view_is) c.args.object _ _ c.seat_near-seat.ensures c.args.key) ∙ sym c.in-Ok-None.ensures.replaced ∙ c.in-Ok-None.field-0-is) _ _ c.in-Ok-None.ensures.ok c.requires.other c.requires.live_key c.requires.live_val (below_limit _ c.self.inside.entries c.is_past_limit.result c.is_past_limit.ensures c.if-is_past_limit.false (sym c.in-Ok-None.ensures.replaced ∙ c.in-Ok-None.field-0-is)) _ _ c.count_in-in-Ok-None.ensures c.count_in-in-Ok-None-2.ensures).is
