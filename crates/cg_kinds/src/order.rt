@@ -110,6 +110,16 @@ fn restart(starts: &mut [u32])
 /// With so many slots it takes no more.
 const MOST: usize = 0xFFFF_FFFE;
 
+/// Makes room for one more, and for an eighth of what is there.
+#[inline(never)]
+fn grow<T>(full: &mut Vec<T>) -> Result<(), AllocError>
+    ensures items { full.new.items ≡ full.old.items }
+    ensures room { OnOk result (vec_len full.new < vec_capacity full.new) }
+{
+    let more = full.len() / 8 + 1;
+    full.reserve_exact(more)
+}
+
 /// Makes room for one pair more.
 fn make_room(
     slots: &mut Vec<Option<u32>>,
@@ -127,13 +137,18 @@ fn make_room(
     ensures small { OnOk result (length slots.old.items + 1 < 2 ^ 32) }
 {
     let slot = slots.len();
+    let index = homes.len();
     if slot >= MOST {
         return Err(AllocError);
     }
-    slots.reserve(1)?;
-    homes.reserve(1)?;
+    if slots.len() == slots.capacity() {
+        grow(slots)?;
+    }
+    if homes.len() == homes.capacity() {
+        grow(homes)?;
+    }
     if slot / BLOCK == starts.len() {
-        starts.push(homes.len() as u32)?;
+        starts.push(index as u32)?;
         Ok(())
     } else {
         Ok(())
