@@ -167,6 +167,12 @@ module _ (slots : List (Option ℕ)) (homes : List ℕ) (are : AreHomes slots ho
             let differs : k ≢ length rest = λ at. left.0 (sym (one_slot k s moved left.1 (last_there ∙ ap Some (sym at))) ∙ same) in
             omega (arith, differs, long, are.within s k left.1)
 
+    -- where another is taken out, its index is not the last
+    pub other_within : (slot index : ℕ) → get_or slots slot None ≡ Some index → moved ≢ slot → index < length rest
+    other_within slot index pair differs =
+        let other : index ≢ length rest = λ is. differs (one_slot index slot moved pair (last_there ∙ ap Some (sym is))) in
+        omega (arith, other, long, are.within slot index pair)
+
     -- another is taken out, and the last index is then called so
     pub taken_other : (slot index : ℕ) → get_or slots slot None ≡ Some index → moved ≢ slot → AreHomes (set (set slots slot None) moved (Some index)) (set rest index moved)
     taken_other slot index pair differs = record {
@@ -211,9 +217,7 @@ module _ (slots : List (Option ℕ)) (homes : List ℕ) (are : AreHomes slots ho
         at_moved = get_or-set_same (set slots slot None) moved (Some index) None (pair_within (set slots slot None) moved (length rest) still)
 
         small : index < length rest
-        small =
-            let other : index ≢ length rest = λ is. differs (one_slot index slot moved pair (last_there ∙ ap Some (sym is))) in
-            omega (arith, other, long, are.within slot index pair)
+        small = other_within slot index pair differs
 
         found : (s k : ℕ) → get_or now s None ≡ Some k → ((s ≡ moved) × (k ≡ index)) ⊎ ((k < length rest) × (k ≢ index) × (get_or slots s None ≡ Some k))
         found s k is = elim (cases_eq s moved) [
@@ -224,6 +228,11 @@ module _ (slots : List (Option ℕ)) (homes : List ℕ) (are : AreHomes slots ho
               let b : k ≢ index = λ at. left.0 (sym (one_slot k s slot left.1 (pair ∙ ap Some (sym at)))) in
               inr (omega (arith, a, long, are.within s k left.1), b, left.1)
         ]
+
+-- the slots once the index of one is another's
+pub slots_moved : (slots : List (Option ℕ)) (slot moved index : ℕ) (gap filled : Option ℕ) → gap ≡ None → filled ≡ Some index → set (set slots slot None) moved (Some index) ≡ set (set slots slot gap) moved filled
+slots_moved slots slot moved index gap filled is_gap is_filled =
+    sym (ap (λ o. set (set slots slot o) moved filled) is_gap ∙ ap (set (set slots slot None) moved) is_filled)
 
 indexes-closed : (order : List ℕ) → indexes (map (λ index. Some index) order) ≡ order
 indexes-closed [] = refl

@@ -3,7 +3,7 @@ use Rattle.std.proofs.Common.{◌≡◌, ℕ, zero, suc, ◌+◌, ◌*◌, ◌-�
 use Rattle.std.proofs.lemmas.Bool.{cases_lt}
 use borrow.Rule.Slice.PartMut.{put_mid}
 use Rattle.std.proofs.Common.{map}
-use Rattle.std.proofs.lemmas.List.{get_or_past, length-drop, length-map, length-take-le, get_or_append_left, get_or-take, get_or-append_right, get_or-map, get_or-drop, drop_all}
+use Rattle.std.proofs.lemmas.List.{get_or_past, get_or_default, length-drop, length-map, length-take-le, get_or_append_left, get_or-take, get_or-append_right, get_or-map, get_or-drop, drop_all}
 use Rattle.std.proofs.lemmas.List.Edits.{length-between, get_or-between}
 use Rattle.std.proofs.lemmas.Slice.{between_to_end}
 use Rattle.std.proofs.lemmas.Option.{none-some}
@@ -212,3 +212,7 @@ pair_of slots slot some = by (get_or slots slot None) refl
     by : (o : Option ℕ) → get_or slots slot None ≡ o → IsPairAt slots slot
     by None is = absurd (none_is_none (subst IsSome is some))
     by (Some index) is = record { index = index; is = is; within = pair_within slots slot index is }
+
+-- what a slot is read as, whatever stands for a slot past the last
+pub pair_read : (slots : List (Option ℕ)) (slot index : ℕ) (past read : Option ℕ) → slot < length slots → read ≡ get_or slots slot past → read ≡ Some index → get_or slots slot None ≡ Some index
+pair_read slots slot index past read within told is = get_or_default slots slot None past within ∙ sym told ∙ is

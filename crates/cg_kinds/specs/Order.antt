@@ -1,7 +1,12 @@
 -- The order in which the keys of a map came: an index of the map in each slot, or a gap. (Ours.)
-use Rattle.std.specs.Prelude.{◌≡◌, ℕ, ◌+◌, ◌*◌, ◌<◌, ◌≤◌, ◌^◌, ◌==◌, List, Option, None, Some, All, length, map, take, slice_get, slice_index, slice_index_or, if◌then◌else◌}
+use Rattle.std.specs.Prelude.{◌≡◌, ℕ, zero, suc, ◌+◌, ◌*◌, ◌<◌, ◌≤◌, ◌^◌, ◌==◌, List, Option, None, Some, All, length, map, take, slice_get, slice_index, slice_index_or, if◌then◌else◌}
 use Rattle.std.specs.List.{flat_map}
 use Rattle.std.specs.Option.{option_to_list}
+
+-- what a slot's word says: 0 is a gap, and any other an index, by one more
+abbrev pub index_in : ℕ → Option ℕ
+index_in zero = None
+index_in (suc index) = Some index
 
 -- the indexes in the slots, in order
 abbrev pub indexes : List (Option ℕ) → List ℕ

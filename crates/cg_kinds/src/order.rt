@@ -4,6 +4,7 @@ ghost use Rattle.std.specs.List.{range_with_len};
 ghost use Rattle.std.specs.Vec.{vec_len, vec_capacity};
 ghost use Rattle.cg_kinds.specs.Order.{indexes, pairs_before as before, renamed, AreHomes, AreStarts, AreClosed, IsSound};
 
+use crate::gap::IndexOrGap;
 use crate::slots::{BLOCK, lower_behind, pairs_before, slot_of};
 use std::alloc::{AllocError, Global};
 use std::marker::Model;
@@ -11,8 +12,8 @@ use std::marker::Model;
 /// The indexes of a map, in the order in which the keys came.
 #[derive(Drop)]
 pub struct Order {
-    /// The index of the pair in each slot; in a gap none.
-    slots: Vec<Option<u32>>,
+    /// The index of the pair in each slot, or a gap.
+    slots: Vec<IndexOrGap>,
     /// The slot of the pair at each index.
     homes: Vec<u32>,
     /// The number of pairs before each block of slots.
@@ -31,7 +32,7 @@ impl Model for Order {
 }
 
 /// Takes the index out of a slot. The last pair comes to that index.
-fn empty_slot(slots: &mut [Option<u32>], homes: &mut Vec<u32>, slot: usize) -> usize
+fn empty_slot(slots: &mut [IndexOrGap], homes: &mut Vec<u32>, slot: usize) -> usize
     requires homes { AreHomes slots.old homes.old.items }
     requires there { IsSome (slice_index_or slots.old slot None) }
     ensures index { slice_index_or slots.old slot None ≡ Some result }
@@ -40,15 +41,15 @@ fn empty_slot(slots: &mut [Option<u32>], homes: &mut Vec<u32>, slot: usize) -> u
     ensures long { length slots.new ≡ length slots.old }
     ensures rest { indexes slots.new ≡ map (renamed (length homes.old.items - 1) result) (remove (indexes slots.old) (before slots.old slot)) }
 {
-    match slots[slot] {
+    match slots[slot].index() {
         Some(index) => {
-            slots[slot] = None;
+            slots[slot] = IndexOrGap::gap();
             let moved = homes.take_last();
             if moved as usize == slot {
                 index as usize
             } else {
                 homes[index as usize] = moved;
-                slots[moved as usize] = Some(index);
+                slots[moved as usize] = IndexOrGap::of(index);
                 index as usize
             }
         }
@@ -58,7 +59,7 @@ fn empty_slot(slots: &mut [Option<u32>], homes: &mut Vec<u32>, slot: usize) -> u
 
 /// Takes the index out of a slot, with one pair less before the blocks behind it. The last pair comes to that index.
 fn take_slot(
-    slots: &mut Vec<Option<u32>>,
+    slots: &mut Vec<IndexOrGap>,
     homes: &mut Vec<u32>,
     starts: &mut Vec<u32>,
     slot: usize,
@@ -77,20 +78,20 @@ fn take_slot(
 }
 
 /// Closes the gaps between slots.
-fn close_gaps(slots: &mut Vec<Option<u32>>)
+fn close_gaps(slots: &mut Vec<IndexOrGap>)
     ensures { slots.new.items ≡ map (λ index. Some index) (indexes slots.old.items) }
 {
-    slots.retain(|slot| slot.is_some());
+    slots.retain(|slot| slot.is_index());
 }
 
 /// The homes, once the gaps between slots are closed.
-fn settle(slots: &[Option<u32>], homes: &mut [u32])
+fn settle(slots: &[IndexOrGap], homes: &mut [u32])
     requires closed { AreClosed slots.now homes.old }
     requires small { length slots.now < 2 ^ 32 }
     ensures { AreHomes slots.now homes.new }
 {
     'slots: for slot in 0..slots.len() {
-        if let Some(index) = slots[slot] {
+        if let Some(index) = slots[slot].index() {
             homes[index as usize] = slot as u32;
         }
     }
@@ -110,9 +111,19 @@ fn restart(starts: &mut [u32])
 /// With so many slots it takes no more.
 const MOST: usize = 0xFFFF_FFFE;
 
+/// Makes room for one more, and for an eighth of what is there.
+#[inline(never)]
+fn grow<T>(full: &mut Vec<T>) -> Result<(), AllocError>
+    ensures items { full.new.items ≡ full.old.items }
+    ensures room { OnOk result (vec_len full.new < vec_capacity full.new) }
+{
+    let more = full.len() / 8 + 1;
+    full.reserve_exact(more)
+}
+
 /// Makes room for one pair more.
 fn make_room(
-    slots: &mut Vec<Option<u32>>,
+    slots: &mut Vec<IndexOrGap>,
     homes: &mut Vec<u32>,
     starts: &mut Vec<u32>,
 ) -> Result<(), AllocError>
@@ -127,13 +138,18 @@ fn make_room(
     ensures small { OnOk result (length slots.old.items + 1 < 2 ^ 32) }
 {
     let slot = slots.len();
+    let index = homes.len();
     if slot >= MOST {
         return Err(AllocError);
     }
-    slots.reserve(1)?;
-    homes.reserve(1)?;
+    if slots.len() == slots.capacity() {
+        grow(slots)?;
+    }
+    if homes.len() == homes.capacity() {
+        grow(homes)?;
+    }
     if slot / BLOCK == starts.len() {
-        starts.push(homes.len() as u32)?;
+        starts.push(index as u32)?;
         Ok(())
     } else {
         Ok(())
@@ -165,7 +181,7 @@ impl Order {
         make_room(&mut self.slots, &mut self.homes, &mut self.starts)?;
         let slot = self.slots.len();
         let index = self.homes.len();
-        self.slots.push_reserved(Some(index as u32));
+        self.slots.push_reserved(IndexOrGap::of(index as u32));
         self.homes.push_reserved(slot as u32);
         Ok(())
     }
@@ -183,7 +199,8 @@ impl Order {
         ensures index { slice_get self.now i ≡ Some result }
         ensures within { result < length self.now }
     {
-        match self.slots[slot_of(self.slots.as_slice(), self.starts.as_slice(), i)] {
+        let slot = slot_of(self.slots.as_slice(), self.starts.as_slice(), i);
+        match self.slots[slot].index() {
             Some(index) => index as usize,
             None => unreachable!(),
         }

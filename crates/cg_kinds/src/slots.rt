@@ -2,17 +2,19 @@
 ghost use Rattle.std.specs.Prelude.{◌≡◌, ◌+◌, ◌*◌, ◌-◌, ◌<◌, ◌≤◌, length, map, None, Some, IsSome, EachIndex, slice_index, slice_index_or, slice_set};
 ghost use Rattle.cg_kinds.specs.Order.{indexes, pairs_before as before, AreStarts};
 
+use crate::gap::IndexOrGap;
+
 /// So many slots have a start of their own.
 pub const BLOCK: usize = 64;
 
 /// The number of pairs in slots.
 #[tactic(auto, using(crate::proofs::SlotLemmas::before_more, crate::proofs::SlotLemmas::before_all, crate::proofs::SlotLemmas::few_before))]
-fn count_pairs(slots: &[Option<u32>]) -> usize
+fn count_pairs(slots: &[IndexOrGap]) -> usize
     ensures { result ≡ length (indexes slots.now) }
 {
     let mut count = 0;
     'slots: for slot in slots {
-        if slot.is_some() {
+        if slot.is_index() {
             count += 1;
         }
     }
@@ -20,7 +22,7 @@ fn count_pairs(slots: &[Option<u32>]) -> usize
 }
 
 /// The number of pairs before a slot.
-pub fn pairs_before(slots: &[Option<u32>], starts: &[u32], slot: usize) -> usize
+pub fn pairs_before(slots: &[IndexOrGap], starts: &[u32], slot: usize) -> usize
     requires starts { AreStarts slots.now starts.now }
     requires within { slot < length slots.now }
     ensures { result ≡ before slots.now slot }
@@ -54,7 +56,7 @@ fn block_of(starts: &[u32], from: usize, i: usize) -> usize
 }
 
 /// The slot, from one on, of the pair with so many before it in all.
-fn slot_from(slots: &[Option<u32>], first: usize, i: usize, start: usize) -> usize
+fn slot_from(slots: &[IndexOrGap], first: usize, i: usize, start: usize) -> usize
     requires start { start ≡ before slots.now first }
     requires behind { start ≤ i }
     requires within { i < length (indexes slots.now) }
@@ -63,7 +65,7 @@ fn slot_from(slots: &[Option<u32>], first: usize, i: usize, start: usize) -> usi
 {
     let mut left = i - start;
     'slots: for slot in first..slots.len() {
-        if slots[slot].is_some() {
+        if slots[slot].is_index() {
             if left == 0 {
                 return slot;
             }
@@ -74,7 +76,7 @@ fn slot_from(slots: &[Option<u32>], first: usize, i: usize, start: usize) -> usi
 }
 
 /// The slot of the pair with so many before it.
-pub fn slot_of(slots: &[Option<u32>], starts: &[u32], i: usize) -> usize
+pub fn slot_of(slots: &[IndexOrGap], starts: &[u32], i: usize) -> usize
     requires starts { AreStarts slots.now starts.now }
     requires within { i < length (indexes slots.now) }
     ensures before { before slots.now result ≡ i }
@@ -105,7 +107,7 @@ fn lower(starts: &mut [u32])
 }
 
 /// The pair of a slot is gone: the starts of the blocks behind it.
-pub fn lower_behind(slots: &[Option<u32>], starts: &mut [u32], slot: usize)
+pub fn lower_behind(slots: &[IndexOrGap], starts: &mut [u32], slot: usize)
     requires starts { AreStarts slots.now starts.old }
     requires there { IsSome (slice_index_or slots.now slot None) }
     ensures { AreStarts (slice_set slots.now slot None) starts.new }

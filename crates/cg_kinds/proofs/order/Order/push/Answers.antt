@@ -7,6 +7,9 @@ use Rattle.cg_kinds.proofs.order.Order.push.Goals as goal
 pub overflow_cast-index : goal.overflow_cast-index
 overflow_cast-index c = omega (arith, ints, few_homes c.self.inside.slots.items c.self.inside.homes.items c.self.invariant.0, c.len-index.ensures, ap length c.make_room.ensures.homes, c.self.invariant.1.small)
 
+pub of-requires : goal.of-requires
+of-requires c = omega (arith, few_homes c.self.inside.slots.items c.self.inside.homes.items c.self.invariant.0, c.len-index.ensures, ap length c.make_room.ensures.homes, c.in_ok-make_room.ensures.small)
+
 pub invariant_of-self-2 : goal.invariant_of-self-2
 invariant_of-self-2 c =
     let items = c.self.inside.slots.items in
@@ -14,7 +17,9 @@ invariant_of-self-2 c =
     let index_is : c.len-index.result ≡ length homes = omega (arith, c.len-index.ensures, ap length c.make_room.ensures.homes) in
     let slot_is : c.len-slot.result ≡ length items = omega (arith, c.len-slot.ensures, ap length c.make_room.ensures.slots) in
     let slots_are : c.push_reserved.new.self.items ≡ items ++ Some (length homes) ∷ [] =
-    c.push_reserved.ensures.items ∙ ap (λ l. l ++ Some c.len-index.result ∷ []) c.make_room.ensures.slots ∙ ap (λ n. items ++ Some n ∷ []) index_is in
+    c.push_reserved.ensures.items
+    ∙ ap (λ o. c.make_room.new.slots.items ++ o ∷ []) c.of.ensures
+    ∙ ap (λ l. l ++ Some c.len-index.result ∷ []) c.make_room.ensures.slots ∙ ap (λ n. items ++ Some n ∷ []) index_is in
     let homes_are : c.push_reserved-2.new.self.items ≡ homes ++ length items ∷ [] =
     c.push_reserved-2.ensures.items ∙ ap (λ l. l ++ c.len-slot.result ∷ []) c.make_room.ensures.homes ∙ ap (λ n. homes ++ n ∷ []) slot_is in (
       subst (λ l. AreHomes l c.push_reserved-2.new.self.items) (sym slots_are) (subst (AreHomes (items ++ Some (length homes) ∷ [])) (sym homes_are) (pushed_homes items homes c.self.invariant.0)),
