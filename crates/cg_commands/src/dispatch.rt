@@ -85,20 +85,33 @@ fn attempt<B: Kind>(
     requires idle { policy.old.running ≡ false → IsIdle heap.old }
     ensures { Attempts heap.old policy.old locals.now room command.now heap.new policy.new result }
 {
+    if only_changes(command) {
+        gives(attempt_change(heap, locals, command))
+    } else {
+        attempt_other(alloc, heap, policy, locals, command, room)
+    }
+}
+
+/// Does a command of another sort.
+#[inline(always)]
+fn attempt_other<B: Kind>(
+    alloc: Global,
+    heap: &mut Heap<B>,
+    policy: &mut Policy,
+    locals: &Option<Locals>,
+    command: &Command,
+    room: bool,
+) -> Result<Done, Refusal>
+    requires spelled { IsSpelledCommand (length heap.old.names) command.now }
+    requires locals { LocalsLive heap.old locals.now }
+    requires few { HasFewHolds heap.old }
+    requires last { heap.old.last < 9223372036854775808 }
+    requires bounded { IsBounded (with_one_made policy.old.numbers) }
+    requires idle { policy.old.running ≡ false → IsIdle heap.old }
+    requires other { only_changes command.now ≡ false }
+    ensures { Attempts heap.old policy.old locals.now room command.now heap.new policy.new result }
+{
     match command {
-        Command::Bind { .. }
-        | Command::Del { .. }
-        | Command::Append { .. }
-        | Command::SetItem { .. }
-        | Command::DelItem { .. }
-        | Command::Put { .. }
-        | Command::Remove { .. }
-        | Command::SetAttr { .. }
-        | Command::DelAttr { .. }
-        | Command::Item { .. }
-        | Command::Get { .. }
-        | Command::Attr { .. }
-        | Command::Deref { .. } => gives(attempt_change(heap, locals, command)),
         Command::Call { func } => call(heap, locals, func),
         Command::Quit { value } => quit(heap, locals, value),
         Command::Print { value } => print(heap, locals, value),
@@ -123,6 +136,7 @@ fn attempt<B: Kind>(
         | Command::Unfreeze
         | Command::Count
         | Command::Gens => control(heap, policy, command),
+        _ => unreachable!(),
     }
 }
 
