@@ -204,7 +204,8 @@ impl<B: Kind> Heap<B> {
         if is_atom(key) && is_atom(val) {
             return false;
         }
-        self.is_untracked_dict(object, near) && (self.may_be_tracked(key) || self.may_be_tracked(val))
+        self.is_untracked_dict(object, near)
+            && (self.may_be_tracked(key) || self.may_be_tracked(val))
     }
 
     /// Whether an object is an untracked dictionary.
