@@ -63,7 +63,7 @@ pub(crate) fn set_item<B: Kind>(
     let target = object_near(heap, list, Wanted::ScriptList, &mut near)?;
     let _i = index_in(heap, target, index)?;
     heap.sound();
-    match heap.put(target, near, Val::Int(index), val) {
+    match heap.put_near(target, near, Val::Int(index), val) {
         Ok(old) => Ok(given_up(old)),
         Err(fault) => Err(refusal_by(fault)),
     }
@@ -116,7 +116,7 @@ pub(crate) fn put<B: Kind>(
         return Err(Refusal::Unhashable);
     }
     heap.sound();
-    match heap.put(target, near, key, val) {
+    match heap.put_near(target, near, key, val) {
         Ok(old) => Ok(given_up(old)),
         Err(fault) => Err(refusal_by(fault)),
     }
@@ -144,7 +144,7 @@ pub(crate) fn remove<B: Kind>(
         return Err(Refusal::Unhashable);
     }
     heap.sound();
-    match heap.take_key(target, near, key) {
+    match heap.take_key_near(target, near, key) {
         Some(entry) => Ok(entry),
         None => Err(Refusal::NoKey),
     }
@@ -170,7 +170,7 @@ pub(crate) fn set_attr<B: Kind>(
     let mut near = Near::default();
     let target = object_near(heap, instance, Wanted::Inst, &mut near)?;
     heap.sound();
-    match heap.put(target, near, Val::Str(attr), val) {
+    match heap.put_near(target, near, Val::Str(attr), val) {
         Ok(old) => Ok(given_up(old)),
         Err(fault) => Err(refusal_by(fault)),
     }
@@ -194,7 +194,7 @@ pub(crate) fn del_attr<B: Kind>(
     let mut near = Near::default();
     let target = object_near(heap, instance, Wanted::Inst, &mut near)?;
     heap.sound();
-    match heap.take_key(target, near, Val::Str(attr)) {
+    match heap.take_key_near(target, near, Val::Str(attr)) {
         Some(entry) => Ok(entry),
         None => Err(Refusal::NoAttribute),
     }

@@ -68,7 +68,7 @@ pub(crate) fn get<B: Kind>(
         return Err(Refusal::Unhashable);
     }
     heap.sound();
-    match heap.value_of(target, near, key) {
+    match heap.value_near(target, near, key) {
         Some(found) => bind_to(heap, locals, name, found),
         None => Err(Refusal::NoKey),
     }
@@ -93,7 +93,7 @@ pub(crate) fn attr<B: Kind>(
     let mut near = Near::default();
     let target = object_near(heap, val, Wanted::Inst, &mut near)?;
     heap.sound();
-    match heap.value_of(target, near, Val::Str(attr)) {
+    match heap.value_near(target, near, Val::Str(attr)) {
         Some(found) => bind_to(heap, locals, name, found),
         None => Err(Refusal::NoAttribute),
     }

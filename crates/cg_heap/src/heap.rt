@@ -219,9 +219,18 @@ impl<B: Kind> Heap<B> {
         self.boxes.find(seat, key)
     }
 
-    /// The value under a key, `None` exactly where no entry has the key. The object may be near.
+    /// The value under a key, `None` exactly where no entry has the key.
     #[inline(always)]
-    pub fn value_of(&self, object: u64, near: Near, key: Val) -> Option<Val>
+    pub fn value_of(&self, object: u64, key: Val) -> Option<Val>
+        requires { IsLive self.now object }
+        ensures { result ≡ value_at (entries_of self.now object) key }
+    {
+        self.value_near(object, Near::default(), key)
+    }
+
+    /// `value_of`, where the object is near.
+    #[inline(always)]
+    pub fn value_near(&self, object: u64, near: Near, key: Val) -> Option<Val>
         requires { IsLive self.now object }
         ensures { result ≡ value_at (entries_of self.now object) key }
     {

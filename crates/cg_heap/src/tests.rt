@@ -15,7 +15,6 @@ ghost use Rattle.cg_heap.specs.Calls.{CanPutIn, CanTake, IsLiveValue};
 use crate::names::Names;
 use crate::{Heap, HeapFault};
 use cg_any_kind::{AnyKind, six};
-use cg_arena::Near;
 use cg_kind::Kind;
 use cg_value::{Entry, KindCode, Place, Val};
 use std::alloc::{AllocError, Global};
@@ -170,7 +169,7 @@ impl<B: Kind> Holder<B> {
         self.assert_pairs(rt, object);
         self.assert_value(rt, key);
         self.assert_value(rt, val);
-        let replaced = self.heap.put(object, Near::default(), key, val)?;
+        let replaced = self.heap.put(object, key, val)?;
         self.most += 1;
         Ok(replaced)
     }
@@ -198,7 +197,7 @@ impl<B: Kind> Holder<B> {
         assert!(rt; self.most < 1000);
         self.assert_pairs(rt, object);
         self.heap.sound();
-        match self.heap.take_key(object, Near::default(), key) {
+        match self.heap.take_key(object, key) {
             Some(entry) => {
                 self.most += 2;
                 keep(&mut self.held, entry)?;
@@ -210,7 +209,7 @@ impl<B: Kind> Holder<B> {
 
     fn value_of(&self, rt: &impl Abort, object: u64, key: Val) -> Option<Val> {
         self.assert_held(rt, object);
-        self.heap.value_of(object, Near::default(), key)
+        self.heap.value_of(object, key)
     }
 
     /// Gives a hold up. It answers whether nothing holds the object then.

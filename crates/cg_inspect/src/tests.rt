@@ -9,7 +9,6 @@ ghost use Rattle.cg_inspect.specs.Inspection.{IsIdle};
 
 use crate::{Why, referents, referrers, why};
 use cg_any_kind::six;
-use cg_arena::Near;
 use cg_heap::{Heap, HeapFault};
 use cg_kind::Kind;
 use cg_value::{KindCode, Place, Val};
@@ -130,8 +129,7 @@ impl<B: Kind> Scene<B> {
             KindCode::Dict => {}
             _ => panic!(rt; "#{dict} is no dictionary"),
         }
-        self.heap
-            .put(dict, Near::default(), Val::Ref(key), Val::Ref(object))?;
+        self.heap.put(dict, Val::Ref(key), Val::Ref(object))?;
         self.count += 1;
         Ok(())
     }

@@ -8,7 +8,6 @@ ghost use Rattle.cg_heap.specs.Weak.{HasReferent, IsInNoRow};
 
 use crate::told::{is_weak, object_in, other};
 use cg_any_kind::six;
-use cg_arena::Near;
 use cg_heap::{Heap, HeapFault};
 use cg_kind::Kind;
 use cg_value::{Entry, KindCode, Place, Val};
@@ -110,9 +109,7 @@ impl<B: Kind> Holder<B> {
             KindCode::Dict => {}
             _ => panic!(rt; "#{dict} is no dictionary"),
         }
-        let replaced = self
-            .heap
-            .put(dict, Near::default(), Val::Int(key), Val::Int(number))?;
+        let replaced = self.heap.put(dict, Val::Int(key), Val::Int(number))?;
         self.count += 1;
         Ok(replaced)
     }

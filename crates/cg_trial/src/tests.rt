@@ -13,7 +13,6 @@ ghost use Rattle.cg_trial.specs.Split.{IsSplitPlace};
 
 use crate::split;
 use cg_any_kind::{AnyKind, six};
-use cg_arena::Near;
 use cg_graph::{Edge, reach_plain};
 use cg_heap::{Heap, HeapFault, Steps};
 use cg_kind::Kind;
@@ -129,8 +128,7 @@ impl<B: Kind> Scene<B> {
             KindCode::Dict => {}
             _ => panic!(rt; "#{dict} is no dictionary"),
         }
-        self.heap
-            .put(dict, Near::default(), Val::Ref(key), Val::Ref(object))?;
+        self.heap.put(dict, Val::Ref(key), Val::Ref(object))?;
         self.count += 1;
         Ok(())
     }

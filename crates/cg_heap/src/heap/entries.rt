@@ -40,9 +40,22 @@ impl<B: Kind> Heap<B> {
     }
 
     /// Takes the entry under a key out of a list, a dictionary or an instance; those after it move down by one. `None` comes
-    /// exactly where no entry has the key. The references of the entry are now outside holds. The object may be near.
+    /// exactly where no entry has the key. The references of the entry are now outside holds.
     #[inline(always)]
-    pub fn take_key(&mut self, object: u64, near: Near, key: Val) -> Option<Entry>
+    pub fn take_key(&mut self, object: u64, key: Val) -> Option<Entry>
+        requires can { CanTake self.old object }
+        requires few { HasFewHolds self.old }
+        ensures entry { result ≡ entry_at (entries_of self.old object) key }
+        ensures rest { IfSome result (λ e. self.new ≡ held (entry_references e)
+            (rewritten object (without_key (entries_of self.old object) key) self.old)) }
+        ensures none { IfNone result (self.new ≡ self.old) }
+    {
+        self.take_key_near(object, Near::default(), key)
+    }
+
+    /// `take_key`, where the object is near.
+    #[inline(always)]
+    pub fn take_key_near(&mut self, object: u64, near: Near, key: Val) -> Option<Entry>
         requires can { CanTake self.old object }
         requires few { HasFewHolds self.old }
         ensures entry { result ≡ entry_at (entries_of self.old object) key }
@@ -112,8 +125,8 @@ impl<B: Kind> Heap<B> {
     }
 
     /// Puts a value at an index of a list, or under a key of a dictionary or an instance, and answers the value that it
-    /// replaces, whose reference is now an outside hold. The object is not the garbage list; it may be near. `Ok(None)` comes
-    /// exactly for a new key.
+    /// replaces, whose reference is now an outside hold. The object is not the garbage list. `Ok(None)` comes exactly for
+    /// a new key.
     ///
     /// An untracked dictionary that is given a key or a value that may be tracked goes to the end of generation 0. (`gc`
     /// manual, `gc.is_tracked`.)
@@ -121,7 +134,27 @@ impl<B: Kind> Heap<B> {
     /// A present key, and a list, refuse nothing. For a new key `EntryLimit` comes exactly where 4,000,000 entries stand,
     /// and `OutOfMemory` for want of memory alone. A refusal changes nothing.
     #[inline(always)]
-    pub fn put(
+    pub fn put(&mut self, object: u64, key: Val, val: Val) -> Result<Option<Val>, HeapFault>
+        requires other { object ≢ 1 }
+        requires can { CanPutIn self.old object key }
+        requires live_key { IsLiveValue self.old key }
+        requires live_val { IsLiveValue self.old val }
+        requires few { HasFewHolds self.old }
+        ensures ok { OnOk result (self.new ≡
+            tracked_if (becomes_tracked self.old object key val) object (with_put self.old object key val)) }
+        ensures replaced { IfOk result (λ was. was ≡ value_in self.old object key) }
+        ensures present { IsSome (value_in self.old object key) → IsOk result }
+        ensures limit { (result ≡ Err fault.EntryLimit)
+            ↔ ((value_in self.old object key ≡ None) × (MOST_ENTRIES ≤ entry_number self.old)) }
+        ensures objects { result ≢ Err fault.ObjectLimit }
+        ensures err { OnErr result (self.new ≡ self.old) }
+    {
+        self.put_near(object, Near::default(), key, val)
+    }
+
+    /// `put`, where the object is near.
+    #[inline(always)]
+    pub fn put_near(
         &mut self,
         object: u64,
         near: Near,

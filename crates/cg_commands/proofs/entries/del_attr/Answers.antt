@@ -27,16 +27,16 @@ returns-in_err-target g c =
     (goes_on c.args.heap.now c.args.heap.now c.args.locals.now (λ w. value w c.args.instance.now) c.in_ok-instance.instance _ (Err c.in_err-target.field-0.0) c.in_ok-instance.ensures.ok
     (stops c.args.heap.now c.args.locals.now (λ w. object w (test_of wanted.Inst) (number_of (refusal_of wanted.Inst)) c.in_ok-instance.instance) _ c.in_err-target.field-0.0 (λ w s. c.in_err-target.ensures.err w s.represents)))
 
-pub take_key-requires-clause-can : goal.take_key-requires-clause-can
-take_key-requires-clause-can g c =
+pub take_key_near-requires-clause-can : goal.take_key_near-requires-clause-can
+take_key_near-requires-clause-can g c =
     can_take c.args.heap.now wanted.Inst tt c.in_ok-instance.instance c.in_ok-target.target c.in_ok-target.ensures.ok
 
 pub returns-in-Some : goal.returns-in-Some
 returns-in-Some g c =
-    (goes_on c.args.heap.now c.take_key.new.self c.args.locals.now (λ w. value w c.args.instance.now) c.in_ok-instance.instance _ (Ok (done.Gives c.in-Some.entry)) c.in_ok-instance.ensures.ok
-    (goes_on c.args.heap.now c.take_key.new.self c.args.locals.now (λ w. object w (test_of wanted.Inst) (number_of (refusal_of wanted.Inst)) c.in_ok-instance.instance) (object_from c.args.heap.now.rows c.in_ok-target.target c.in_ok-target.ensures.ok.node) _ (Ok (done.Gives c.in-Some.entry)) (reads-object c.args.heap.now c.args.locals.now (test_of wanted.Inst) c.in_ok-instance.instance c.in_ok-target.target c.in_ok-target.ensures.ok (number_of (refusal_of wanted.Inst)))
-    (goes_on c.args.heap.now c.take_key.new.self c.args.locals.now (λ w. ok_or (entry_at c.in_ok-target.ensures.ok.node.entries (val.Str c.args.attr)) no_attribute) c.in-Some.entry _ (Ok (done.Gives c.in-Some.entry)) (reads-entry_at c.args.heap.now c.args.locals.now (test_of wanted.Inst) c.in_ok-instance.instance c.in_ok-target.target c.in_ok-target.ensures.ok (val.Str c.args.attr) c.in-Some.entry c.in-Some.ensures.entry no_attribute)
-    (takes_key c.args.heap.now c.sound.ensures c.args.locals.now (test_of wanted.Inst) c.in_ok-instance.instance c.in_ok-target.target c.in_ok-target.ensures.ok (val.Str c.args.attr) c.in-Some.entry c.take_key.new.self c.in-Some.ensures.entry c.in-Some.ensures.rest))))
+    (goes_on c.args.heap.now c.take_key_near.new.self c.args.locals.now (λ w. value w c.args.instance.now) c.in_ok-instance.instance _ (Ok (done.Gives c.in-Some.entry)) c.in_ok-instance.ensures.ok
+    (goes_on c.args.heap.now c.take_key_near.new.self c.args.locals.now (λ w. object w (test_of wanted.Inst) (number_of (refusal_of wanted.Inst)) c.in_ok-instance.instance) (object_from c.args.heap.now.rows c.in_ok-target.target c.in_ok-target.ensures.ok.node) _ (Ok (done.Gives c.in-Some.entry)) (reads-object c.args.heap.now c.args.locals.now (test_of wanted.Inst) c.in_ok-instance.instance c.in_ok-target.target c.in_ok-target.ensures.ok (number_of (refusal_of wanted.Inst)))
+    (goes_on c.args.heap.now c.take_key_near.new.self c.args.locals.now (λ w. ok_or (entry_at c.in_ok-target.ensures.ok.node.entries (val.Str c.args.attr)) no_attribute) c.in-Some.entry _ (Ok (done.Gives c.in-Some.entry)) (reads-entry_at c.args.heap.now c.args.locals.now (test_of wanted.Inst) c.in_ok-instance.instance c.in_ok-target.target c.in_ok-target.ensures.ok (val.Str c.args.attr) c.in-Some.entry c.in-Some.ensures.entry no_attribute)
+    (takes_key c.args.heap.now c.sound.ensures c.args.locals.now (test_of wanted.Inst) c.in_ok-instance.instance c.in_ok-target.target c.in_ok-target.ensures.ok (val.Str c.args.attr) c.in-Some.entry c.take_key_near.new.self c.in-Some.ensures.entry c.in-Some.ensures.rest))))
 
 pub returns-in-None : goal.returns-in-None
 returns-in-None g c =

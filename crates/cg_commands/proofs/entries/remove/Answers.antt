@@ -41,18 +41,18 @@ returns-then-not-is_hashable g c =
     (goes_on c.args.heap.now c.args.heap.now c.args.locals.now (λ w. object w (test_of wanted.Dict) (number_of (refusal_of wanted.Dict)) c.in_ok-dict.dict) (object_from c.args.heap.now.rows c.in_ok-target.target c.in_ok-target.ensures.ok.node) _ (Err refusal.Unhashable) (reads-object c.args.heap.now c.args.locals.now (test_of wanted.Dict) c.in_ok-dict.dict c.in_ok-target.target c.in_ok-target.ensures.ok (number_of (refusal_of wanted.Dict)))
     (stops c.args.heap.now c.args.locals.now (λ w. unless (is_hashable w c.in_ok-key.key) unhashable) _ refusal.Unhashable (no-hash c.args.heap.now c.args.locals.now c.in_ok-key.key c.is_hashable.result c.is_hashable.ensures c.if-not-is_hashable.true)))))
 
-pub take_key-requires-clause-can : goal.take_key-requires-clause-can
-take_key-requires-clause-can g c =
+pub take_key_near-requires-clause-can : goal.take_key_near-requires-clause-can
+take_key_near-requires-clause-can g c =
     can_take c.args.heap.now wanted.Dict tt c.in_ok-dict.dict c.in_ok-target.target c.in_ok-target.ensures.ok
 
 pub returns-in-Some : goal.returns-in-Some
 returns-in-Some g c =
-    (goes_on c.args.heap.now c.take_key.new.self c.args.locals.now (λ w. value w c.args.dict.now) c.in_ok-dict.dict _ (Ok (done.Gives c.in-Some.entry)) c.in_ok-dict.ensures.ok
-    (goes_on c.args.heap.now c.take_key.new.self c.args.locals.now (λ w. value w c.args.key.now) c.in_ok-key.key _ (Ok (done.Gives c.in-Some.entry)) c.in_ok-key.ensures.ok
-    (goes_on c.args.heap.now c.take_key.new.self c.args.locals.now (λ w. object w (test_of wanted.Dict) (number_of (refusal_of wanted.Dict)) c.in_ok-dict.dict) (object_from c.args.heap.now.rows c.in_ok-target.target c.in_ok-target.ensures.ok.node) _ (Ok (done.Gives c.in-Some.entry)) (reads-object c.args.heap.now c.args.locals.now (test_of wanted.Dict) c.in_ok-dict.dict c.in_ok-target.target c.in_ok-target.ensures.ok (number_of (refusal_of wanted.Dict)))
-    (goes_on c.args.heap.now c.take_key.new.self c.args.locals.now (λ w. unless (is_hashable w c.in_ok-key.key) unhashable) tt _ (Ok (done.Gives c.in-Some.entry)) (reads-key c.args.heap.now c.args.locals.now c.in_ok-key.key c.is_hashable.result c.is_hashable.ensures c.if-not-is_hashable.false)
-    (goes_on c.args.heap.now c.take_key.new.self c.args.locals.now (λ w. ok_or (entry_at c.in_ok-target.ensures.ok.node.entries c.in_ok-key.key) no_key) c.in-Some.entry _ (Ok (done.Gives c.in-Some.entry)) (reads-entry_at c.args.heap.now c.args.locals.now (test_of wanted.Dict) c.in_ok-dict.dict c.in_ok-target.target c.in_ok-target.ensures.ok c.in_ok-key.key c.in-Some.entry c.in-Some.ensures.entry no_key)
-    (takes_key c.args.heap.now c.sound.ensures c.args.locals.now (test_of wanted.Dict) c.in_ok-dict.dict c.in_ok-target.target c.in_ok-target.ensures.ok c.in_ok-key.key c.in-Some.entry c.take_key.new.self c.in-Some.ensures.entry c.in-Some.ensures.rest))))))
+    (goes_on c.args.heap.now c.take_key_near.new.self c.args.locals.now (λ w. value w c.args.dict.now) c.in_ok-dict.dict _ (Ok (done.Gives c.in-Some.entry)) c.in_ok-dict.ensures.ok
+    (goes_on c.args.heap.now c.take_key_near.new.self c.args.locals.now (λ w. value w c.args.key.now) c.in_ok-key.key _ (Ok (done.Gives c.in-Some.entry)) c.in_ok-key.ensures.ok
+    (goes_on c.args.heap.now c.take_key_near.new.self c.args.locals.now (λ w. object w (test_of wanted.Dict) (number_of (refusal_of wanted.Dict)) c.in_ok-dict.dict) (object_from c.args.heap.now.rows c.in_ok-target.target c.in_ok-target.ensures.ok.node) _ (Ok (done.Gives c.in-Some.entry)) (reads-object c.args.heap.now c.args.locals.now (test_of wanted.Dict) c.in_ok-dict.dict c.in_ok-target.target c.in_ok-target.ensures.ok (number_of (refusal_of wanted.Dict)))
+    (goes_on c.args.heap.now c.take_key_near.new.self c.args.locals.now (λ w. unless (is_hashable w c.in_ok-key.key) unhashable) tt _ (Ok (done.Gives c.in-Some.entry)) (reads-key c.args.heap.now c.args.locals.now c.in_ok-key.key c.is_hashable.result c.is_hashable.ensures c.if-not-is_hashable.false)
+    (goes_on c.args.heap.now c.take_key_near.new.self c.args.locals.now (λ w. ok_or (entry_at c.in_ok-target.ensures.ok.node.entries c.in_ok-key.key) no_key) c.in-Some.entry _ (Ok (done.Gives c.in-Some.entry)) (reads-entry_at c.args.heap.now c.args.locals.now (test_of wanted.Dict) c.in_ok-dict.dict c.in_ok-target.target c.in_ok-target.ensures.ok c.in_ok-key.key c.in-Some.entry c.in-Some.ensures.entry no_key)
+    (takes_key c.args.heap.now c.sound.ensures c.args.locals.now (test_of wanted.Dict) c.in_ok-dict.dict c.in_ok-target.target c.in_ok-target.ensures.ok c.in_ok-key.key c.in-Some.entry c.take_key_near.new.self c.in-Some.ensures.entry c.in-Some.ensures.rest))))))
 
 pub returns-in-None : goal.returns-in-None
 returns-in-None g c =

@@ -38,25 +38,25 @@ returns-in_err-target g c =
     (goes_on c.args.heap.now c.args.heap.now c.args.locals.now (λ w. value w c.args.operand.now) c.in_ok-val.val _ (Err c.in_err-target.field-0.0) c.in_ok-val.ensures.ok
     (stops c.args.heap.now c.args.locals.now (λ w. object w (test_of wanted.Inst) (number_of (refusal_of wanted.Inst)) c.in_ok-instance.instance) _ c.in_err-target.field-0.0 (λ w s. c.in_err-target.ensures.err w s.represents))))
 
-pub put-requires-clause-other : goal.put-requires-clause-other
-put-requires-clause-other g c =
+pub put_near-requires-clause-other : goal.put_near-requires-clause-other
+put_near-requires-clause-other g c =
     keyed_other c.args.heap.now c.sound.ensures c.in_ok-target.target _ (has_code c.args.heap.now wanted.Inst tt c.in_ok-instance.instance c.in_ok-target.target c.in_ok-target.ensures.ok) (λ e. cc)
 
-pub put-requires-clause-can : goal.put-requires-clause-can
-put-requires-clause-can g c =
+pub put_near-requires-clause-can : goal.put_near-requires-clause-can
+put_near-requires-clause-can g c =
     can_put_key c.args.heap.now wanted.Inst tt c.in_ok-instance.instance c.in_ok-target.target c.in_ok-target.ensures.ok (val.Str c.args.attr)
 
 pub returns-in-Ok : goal.returns-in-Ok
 returns-in-Ok g c =
-    (goes_on c.args.heap.now c.put.new.self c.args.locals.now (λ w. value w c.args.instance.now) c.in_ok-instance.instance _ (Ok (done.Gives c.given_up.result)) c.in_ok-instance.ensures.ok
-    (goes_on c.args.heap.now c.put.new.self c.args.locals.now (λ w. value w c.args.operand.now) c.in_ok-val.val _ (Ok (done.Gives c.given_up.result)) c.in_ok-val.ensures.ok
-    (goes_on c.args.heap.now c.put.new.self c.args.locals.now (λ w. object w (test_of wanted.Inst) (number_of (refusal_of wanted.Inst)) c.in_ok-instance.instance) (object_from c.args.heap.now.rows c.in_ok-target.target c.in_ok-target.ensures.ok.node) _ (Ok (done.Gives c.given_up.result)) (reads-object c.args.heap.now c.args.locals.now (test_of wanted.Inst) c.in_ok-instance.instance c.in_ok-target.target c.in_ok-target.ensures.ok (number_of (refusal_of wanted.Inst)))
-    (puts-performs c.args.heap.now c.sound.ensures c.args.locals.now (test_of wanted.Inst) c.in_ok-instance.instance c.in_ok-target.target c.in_ok-target.ensures.ok (inr (code_passes c.args.heap.now wanted.Inst tt c.in_ok-instance.instance c.in_ok-target.target c.in_ok-target.ensures.ok)) (val.Str c.args.attr) c.in_ok-val.val c.in-Ok.old c.given_up.result c.put.new.self c.in-Ok.ensures.ok c.in-Ok.ensures.replaced c.given_up.ensures c.in-Ok.ensures.limit))))
+    (goes_on c.args.heap.now c.put_near.new.self c.args.locals.now (λ w. value w c.args.instance.now) c.in_ok-instance.instance _ (Ok (done.Gives c.given_up.result)) c.in_ok-instance.ensures.ok
+    (goes_on c.args.heap.now c.put_near.new.self c.args.locals.now (λ w. value w c.args.operand.now) c.in_ok-val.val _ (Ok (done.Gives c.given_up.result)) c.in_ok-val.ensures.ok
+    (goes_on c.args.heap.now c.put_near.new.self c.args.locals.now (λ w. object w (test_of wanted.Inst) (number_of (refusal_of wanted.Inst)) c.in_ok-instance.instance) (object_from c.args.heap.now.rows c.in_ok-target.target c.in_ok-target.ensures.ok.node) _ (Ok (done.Gives c.given_up.result)) (reads-object c.args.heap.now c.args.locals.now (test_of wanted.Inst) c.in_ok-instance.instance c.in_ok-target.target c.in_ok-target.ensures.ok (number_of (refusal_of wanted.Inst)))
+    (puts-performs c.args.heap.now c.sound.ensures c.args.locals.now (test_of wanted.Inst) c.in_ok-instance.instance c.in_ok-target.target c.in_ok-target.ensures.ok (inr (code_passes c.args.heap.now wanted.Inst tt c.in_ok-instance.instance c.in_ok-target.target c.in_ok-target.ensures.ok)) (val.Str c.args.attr) c.in_ok-val.val c.in-Ok.old c.given_up.result c.put_near.new.self c.in-Ok.ensures.ok c.in-Ok.ensures.replaced c.given_up.ensures c.in-Ok.ensures.limit))))
 
 pub returns-in-Err : goal.returns-in-Err
 returns-in-Err g c =
-    subst (λ r. PerformsOnHeap c.args.heap.now c.args.locals.now (λ w. effect w (command.SetAttr c.args.instance.now c.args.attr c.args.operand.now)) c.put.new.self (Err r)) (sym c.refusal_by.ensures)
-    (goes_on c.args.heap.now c.put.new.self c.args.locals.now (λ w. value w c.args.instance.now) c.in_ok-instance.instance _ (Err (refusal_by c.in-Err.fault)) c.in_ok-instance.ensures.ok
-    (goes_on c.args.heap.now c.put.new.self c.args.locals.now (λ w. value w c.args.operand.now) c.in_ok-val.val _ (Err (refusal_by c.in-Err.fault)) c.in_ok-val.ensures.ok
-    (goes_on c.args.heap.now c.put.new.self c.args.locals.now (λ w. object w (test_of wanted.Inst) (number_of (refusal_of wanted.Inst)) c.in_ok-instance.instance) (object_from c.args.heap.now.rows c.in_ok-target.target c.in_ok-target.ensures.ok.node) _ (Err (refusal_by c.in-Err.fault)) (reads-object c.args.heap.now c.args.locals.now (test_of wanted.Inst) c.in_ok-instance.instance c.in_ok-target.target c.in_ok-target.ensures.ok (number_of (refusal_of wanted.Inst)))
-    (puts-refused c.args.heap.now c.sound.ensures c.args.locals.now (test_of wanted.Inst) c.in_ok-instance.instance c.in_ok-target.target c.in_ok-target.ensures.ok (inr (code_passes c.args.heap.now wanted.Inst tt c.in_ok-instance.instance c.in_ok-target.target c.in_ok-target.ensures.ok)) (val.Str c.args.attr) c.in_ok-val.val c.in-Err.fault (Err c.in-Err.fault) refl c.in-Err.ensures.limit c.in-Err.ensures.objects c.in-Err.ensures.present c.put.new.self c.in-Err.ensures.err))))
+    subst (λ r. PerformsOnHeap c.args.heap.now c.args.locals.now (λ w. effect w (command.SetAttr c.args.instance.now c.args.attr c.args.operand.now)) c.put_near.new.self (Err r)) (sym c.refusal_by.ensures)
+    (goes_on c.args.heap.now c.put_near.new.self c.args.locals.now (λ w. value w c.args.instance.now) c.in_ok-instance.instance _ (Err (refusal_by c.in-Err.fault)) c.in_ok-instance.ensures.ok
+    (goes_on c.args.heap.now c.put_near.new.self c.args.locals.now (λ w. value w c.args.operand.now) c.in_ok-val.val _ (Err (refusal_by c.in-Err.fault)) c.in_ok-val.ensures.ok
+    (goes_on c.args.heap.now c.put_near.new.self c.args.locals.now (λ w. object w (test_of wanted.Inst) (number_of (refusal_of wanted.Inst)) c.in_ok-instance.instance) (object_from c.args.heap.now.rows c.in_ok-target.target c.in_ok-target.ensures.ok.node) _ (Err (refusal_by c.in-Err.fault)) (reads-object c.args.heap.now c.args.locals.now (test_of wanted.Inst) c.in_ok-instance.instance c.in_ok-target.target c.in_ok-target.ensures.ok (number_of (refusal_of wanted.Inst)))
+    (puts-refused c.args.heap.now c.sound.ensures c.args.locals.now (test_of wanted.Inst) c.in_ok-instance.instance c.in_ok-target.target c.in_ok-target.ensures.ok (inr (code_passes c.args.heap.now wanted.Inst tt c.in_ok-instance.instance c.in_ok-target.target c.in_ok-target.ensures.ok)) (val.Str c.args.attr) c.in_ok-val.val c.in-Err.fault (Err c.in-Err.fault) refl c.in-Err.ensures.limit c.in-Err.ensures.objects c.in-Err.ensures.present c.put_near.new.self c.in-Err.ensures.err))))

@@ -2,7 +2,7 @@ use Rattle.std.proofs.Common.{ap, ◌∙◌}
 use Rattle.cg_graph.specs.Value.{value_at}
 use Rattle.cg_heap.proofs.Calls.{stands, has_node}
 use Rattle.cg_heap.proofs.SeatCalls.{has_body, entries_are}
-use Rattle.cg_heap.proofs.heap.Heap.value_of.Goals as goal
+use Rattle.cg_heap.proofs.heap.Heap.value_near.Goals as goal
 
 pub seat_near-seat-requires : goal.seat_near-seat-requires
 seat_near-seat-requires g c = has_node (stands c.self.inside.boxes c.self.inside.arena c.self.inside.names c.self.inside.last c.self.inside.weak.rows c.self.inside.objects c.self.inside.entries _ c.self.invariant c.self.view_is) c.args.object c.requires

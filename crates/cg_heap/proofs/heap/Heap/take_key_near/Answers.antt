@@ -2,7 +2,7 @@ use Rattle.std.proofs.Common.{ap, ◌∙◌}
 use Rattle.cg_graph.specs.Value.{entry_at as entry_under}
 use Rattle.cg_heap.proofs.Calls.{stands, has_node, as_before}
 use Rattle.cg_heap.proofs.SeatCalls.{has_body, has_number, entries_are, some_with_key, after_taking_key}
-use Rattle.cg_heap.proofs.heap.Heap.take_key.Goals as goal
+use Rattle.cg_heap.proofs.heap.Heap.take_key_near.Goals as goal
 
 pub seat_near-seat-requires : goal.seat_near-seat-requires
 seat_near-seat-requires g c = has_node (stands c.self.inside.boxes c.self.inside.arena c.self.inside.names c.self.inside.last c.self.inside.weak.rows c.self.inside.objects c.self.inside.entries _ c.self.invariant c.self.view_is) c.args.object c.requires.can.0
