@@ -3,8 +3,8 @@ use Rattle.std.proofs.Common.{◌≡◌, ℕ, zero, suc, ◌+◌, ◌-◌, ◌<�
 use Rattle.std.specs.Prelude.{position, slice_get, remove, swap_remove, All}
 use Rattle.std.specs.List.{position_from, range_with_len, IsDistinct}
 use Rattle.std.specs.Map.{keys_of, lookup}
-use Rattle.indexmap.specs.IndexMap.{insert_entry}
-use Rattle.indexmap.proofs.MapLemmas.{absent_from_lookup, insert_entry-absent}
+use Rattle.indexmap.specs.IndexMap.{insert_entry, swap_remove_entry}
+use Rattle.indexmap.proofs.MapLemmas.{absent_from_lookup, insert_entry-absent, swap_remove_entry-found}
 use Rattle.std.proofs.lemmas.Bool.{cases_lt, cases_eq}
 use Rattle.std.proofs.lemmas.Iterator.Adapters.{position_from-zero}
 use Rattle.std.proofs.lemmas.List.{length-set, length-map, length-take-le, get_or-set_same, get_or-set_other, get_or_append_left, get_or_push, get_or-map, get_or-take, length_push, same_lists, get_or_default, append-nil, map-append, map-set, take-map, take_all, take_more, take_at, drop_all}
@@ -23,7 +23,7 @@ use Rattle.cg_kind.proofs.KeyLemmas.{Stands, key_found}
 use Rattle.cg_kinds.specs.Order.{renamed, IsSound}
 use Rattle.cg_kinds.specs.Pairs.{pair_entry, pairs_of, nothing, picked, ordered, IsOrderOf, IsSoundOrder}
 use Rattle.cg_kinds.proofs.KeyLemmas.{equal, equal-same_value, same_is}
-use Rattle.cg_kinds.proofs.PairLemmas.{lookup-packed}
+use Rattle.cg_kinds.proofs.PairLemmas.{find-packed, lookup-packed}
 use Rattle.cg_kinds.proofs.FewLemmas.{found_first, found_entry, found_put, value_none, put_new}
 use Rattle.cg_kinds.proofs.OrderLemmas.{IsOther, renamed_other, renamed_last}
 
@@ -394,6 +394,25 @@ order_longer (Some order) count long = length_push order (length order) ∙ ap (
 pub entry-pair : (pairs : List (Val × Val)) (index : ℕ) (pair : Val × Val) → slice_get pairs index ≡ Some pair → pair_entry pair ≡ get_or (pairs_of pairs) index nothing
 entry-pair pairs index pair at =
     sym (get_or_from_slice_get (pairs_of pairs) index (pair_entry pair) nothing (slice_get-map pair_entry pairs index ∙ ap (option_map pair_entry) at))
+
+-- the entry of a key that a map has at an index
+pub entry_found : (pairs : List (Val × Val)) (key : Val) (index : ℕ) (val : Val) → position (has_key key) (pairs_of pairs) ≡ Some index → value_at (pairs_of pairs) key ≡ Some val → record { key = key; val = val } ≡ get_or (pairs_of pairs) index nothing
+entry_found pairs key index val found value =
+    let es = pairs_of pairs in
+    by (get_or es index nothing) (same_is (get_or es index nothing).key key (position-Some (has_key key) es index nothing found).1) (sym value ∙ value_set key es index found)
+  where
+    some_val : (v w : Val) → Some v ≡ Some w → v ≡ w
+    some_val v w h = cc
+
+    by : (e : Entry) → e.key ≡ key → Some val ≡ Some e.val → record { key = key; val = val } ≡ e
+    by e key_is val_is = ap (λ k. record { key = k; val = val }) (sym key_is) ∙ ap (λ v. record { key = e.key; val = v }) (some_val val e.val val_is)
+
+-- a map without the pair of a key that it has at an index
+pub swapped-out : (pairs now : List (Val × Val)) (key packed : Val) (index : ℕ) → packed ≡ key → position (equal packed) (keys_of pairs) ≡ Some index → now ≡ swap_remove_entry (equal packed) pairs → pairs_of now ≡ swap_remove (pairs_of pairs) index nothing
+swapped-out pairs now key packed index is found rest =
+    let below = (position-Some (has_key key) (pairs_of pairs) index nothing (sym (find-packed key packed is pairs) ∙ found)).0 in
+    ap pairs_of (rest ∙ swap_remove_entry-found (equal packed) pairs index (key, key) found)
+    ∙ pairs_of-swap pairs index (key, key) (omega (arith, below, length-map pairs pair_entry))
 
 -- a new pair, which is taken off again
 pub put_back : (pairs now : List (Val × Val)) (key val : Val) → lookup (equal key) pairs ≡ None → now ≡ insert_entry equal pairs key val → take (length now - 1) now ≡ pairs

@@ -73,6 +73,26 @@ fn swap_out(map: &mut IndexMap<Nine, Nine>, index: usize) -> Entry
     }
 }
 
+/// Takes out the pair under a key, and answers the index that it had. The last one comes to its place.
+#[inline(always)]
+fn swap_out_key(map: &mut IndexMap<Nine, Nine>, key: Val) -> Option<(usize, Entry)>
+    ensures index { option_map (λ p. p.0) result ≡ position (has_key key) (pairs_of map.old.entries) }
+    ensures entry { IfSome result (λ p. p.1 ≡ slice_index_or (pairs_of map.old.entries) p.0 nothing) }
+    ensures rest { IfSome result (λ p. pairs_of map.new.entries ≡ swap_remove (pairs_of map.old.entries) p.0 nothing) }
+    ensures stays { IfNone result (map.new.entries ≡ map.old.entries) }
+{
+    match map.swap_remove_full(&Nine::new(key)) {
+        Some((index, _, val)) => Some((
+            index,
+            Entry {
+                key,
+                val: val.val(),
+            },
+        )),
+        None => None,
+    }
+}
+
 /// Takes out the pair at an index; those behind it move down by one.
 fn shift_out(map: &mut IndexMap<Nine, Nine>, index: usize) -> Entry
     requires { index < length map.old.entries }
@@ -275,15 +295,26 @@ impl Table {
         ensures entry { result ≡ entry_under self.old key }
         ensures rest { self.new ≡ without_key self.old key }
     {
+        // The length is what says that the keys are unique.
+        let _count = self.map.len();
         sound(&self.order);
-        match self.map.get_index_of(&Nine::new(key)) {
-            Some(index) => match &mut self.order {
-                Some(order) => {
-                    order.take_index(index);
-                    Some(swap_out(&mut self.map, index))
-                }
-                None => Some(self.take(index)),
-            },
+        match &mut self.order {
+            Some(order) => {
+                let (index, entry) = swap_out_key(&mut self.map, key)?;
+                order.take_index(index);
+                Some(entry)
+            }
+            None => self.take_own(key),
+        }
+    }
+
+    /// Takes the pair under a key out of a map that keeps the order itself.
+    fn take_own(&mut self, key: Val) -> Option<Entry>
+        ensures entry { result ≡ entry_under self.old key }
+        ensures rest { self.new ≡ without_key self.old key }
+    {
+        match self.find(key) {
+            Some(i) => Some(self.take(i)),
             None => None,
         }
     }

@@ -1,5 +1,5 @@
 use Rattle.std.proofs.Common.{◌≡◌, ◌∙◌, ap, subst, bit_or}
-use Rattle.cg_kinds.specs.Values.{value_in, sort_of, number_bits, text_bits, serial_bits}
+use Rattle.cg_kinds.specs.Values.{value_in, sort_of, number_bits, text_bits}
 use Rattle.cg_kinds.proofs.ValueLemmas.{value_joined}
 use Rattle.cg_kinds.proofs.values.words_of.Goals as goal
 
