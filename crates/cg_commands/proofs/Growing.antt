@@ -20,7 +20,12 @@ use Rattle.cg_machine.proofs.ShapeLaws.{by_shape}
 use Rattle.cg_commands.specs.declared.done.Done.{Done}
 use Rattle.cg_commands.specs.declared.done.Done.TheVariants as done
 use Rattle.cg_commands.specs.declared.done.Refusal.{Refusal}
+use Rattle.cg_policy.specs.Policy.{Policy}
+use Rattle.cg_policy.specs.Laws.{policy_of}
+use Rattle.cg_commands.specs.declared.locals.Locals.{Locals}
 use Rattle.cg_commands.specs.Answers.{AnswersOnHeap}
+use Rattle.cg_commands.specs.Attempts.{Attempts}
+use Rattle.cg_commands.specs.Stands.{HeapAndLocalsStandFor}
 use Rattle.cg_commands.specs.Growth.{GrowsBy, makes_object}
 
 -- what was done without a new object, or where there is room for one
@@ -123,3 +128,8 @@ grows command w room old new (Ok (done.Collects g)) r h is = kept room old new h
 grows command w room old new (Ok done.Quits) r h is = kept room old new h.1
 grows command w room old new (Ok (done.Tells lines)) r h is = kept room old new h.1
 grows command w room old new (Err refusal) r h is = kept room old new h.1
+
+-- so does what was attempted, in each world that it is of
+pub grows_by : {command : Command} {old : Store} {was : Policy} {locals : Option Locals} {room : Bool} {new : Store} {now : Policy} {answer : Result Done Refusal} → Attempts old was locals room command new now answer
+    → (w : World) → HeapAndLocalsStandFor old locals w → was ≡ policy_of w → GrowsBy room old new
+grows_by {command} {old} {was} {locals} {room} {new} {now} {answer} does w stands policy = grows command w room old new answer stands.represents (does.performs w stands policy).heap does.in_room

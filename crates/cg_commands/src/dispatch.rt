@@ -61,38 +61,17 @@ pub fn perform<B: Kind>(
     ensures leaves { IsControl command.now → Leaves heap.old policy.old command.now heap.new policy.new result }
     ensures grows { (w : World) → HeapAndLocalsStandFor heap.old locals w → policy.old ≡ policy_of w → GrowsBy room heap.old heap.new }
 {
-    attempt(alloc, heap, policy, &locals, command, room)
-}
-
-/// Does any command; an object is made only where there is room for it.
-///
-/// Each command stands in a call of its own that is not inlined, and those that make something or tell the collector something
-/// in one for all of them: the frame of this one would else have the locals of all, and clear them for each command.
-#[inline(always)]
-fn attempt<B: Kind>(
-    alloc: Global,
-    heap: &mut Heap<B>,
-    policy: &mut Policy,
-    locals: &Option<Locals>,
-    command: &Command,
-    room: bool,
-) -> Result<Done, Refusal>
-    requires spelled { IsSpelledCommand (length heap.old.names) command.now }
-    requires locals { LocalsLive heap.old locals.now }
-    requires few { HasFewHolds heap.old }
-    requires last { heap.old.last < 9223372036854775808 }
-    requires bounded { IsBounded (with_one_made policy.old.numbers) }
-    requires idle { policy.old.running ≡ false → IsIdle heap.old }
-    ensures { Attempts heap.old policy.old locals.now room command.now heap.new policy.new result }
-{
     if only_changes(command) {
-        gives(attempt_change(heap, locals, command))
+        gives(attempt_change(heap, &locals, command))
     } else {
-        attempt_other(alloc, heap, policy, locals, command, room)
+        attempt_other(alloc, heap, policy, &locals, command, room)
     }
 }
 
-/// Does a command of another sort.
+/// Does a command of another sort than those that only change; an object is made only where there is room for it.
+///
+/// Each command stands in a call of its own that is not inlined, and those that make something or tell the collector something
+/// in one for all of them: the frame of this one would else have the locals of all, and clear them for each command.
 #[inline(always)]
 fn attempt_other<B: Kind>(
     alloc: Global,

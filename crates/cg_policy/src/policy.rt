@@ -127,14 +127,14 @@ impl Policy {
         }
     }
 
-    // Whether the numbers alone make a collection due.
+    // Whether the numbers alone make a collection due. The count is asked first, since it is what says no as a rule.
     #[inline(always)]
     fn has_enough(&self) -> bool
         ensures { result ≡ is_due self.now.numbers }
     {
-        self.enabled
+        self.counts.zero > u64::from(self.thresholds.zero)
             && self.thresholds.zero != 0
-            && self.counts.zero > u64::from(self.thresholds.zero)
+            && self.enabled
     }
 
     // The generation that the numbers choose.

@@ -1,10 +1,20 @@
-use Rattle.cg_commands.proofs.Growing.{grows}
+use Rattle.std.proofs.Common.{sym, subst}
+use Rattle.cg_commands.specs.Attempts.{Attempts}
+use Rattle.cg_commands.proofs.Growing.{grows_by}
 use Rattle.cg_commands.proofs.dispatch.perform.Goals as goal
+use Rattle.cg_commands.proofs.dispatch.perform.Goals.{In-then, In-else}
 
-pub returns : goal.returns
-returns g c = record {
-  performs = c.attempt.ensures.performs;
-  leaves = c.attempt.ensures.leaves;
-  grows = λ w stands policy.
-      grows c.args.command.now w c.args.room c.args.heap.now c.attempt.new.heap c.attempt.result stands.represents (c.attempt.ensures.performs w stands policy).heap c.attempt.ensures.in_room;
-}
+changed : (c : In-then) → Attempts c.args.heap.now c.args.policy.now c.args.locals c.args.room c.args.command.now c.attempt_change.new.heap c.args.policy.now c.gives.result
+changed c =
+    subst (Attempts c.args.heap.now c.args.policy.now c.args.locals c.args.room c.args.command.now c.attempt_change.new.heap c.args.policy.now) (sym c.gives.ensures)
+    (c.attempt_change.ensures c.args.policy.now c.args.room)
+
+pub returns-then-only_changes : goal.returns-then-only_changes
+returns-then-only_changes g c =
+    let does = changed c in
+    record { performs = does.performs; leaves = does.leaves; grows = grows_by does }
+
+pub returns-else-only_changes : goal.returns-else-only_changes
+returns-else-only_changes g c =
+    let does = c.attempt_other.ensures in
+    record { performs = does.performs; leaves = does.leaves; grows = grows_by does }
