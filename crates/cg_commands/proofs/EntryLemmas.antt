@@ -26,7 +26,7 @@ use Rattle.cg_commands.specs.declared.locals.Locals.{Locals}
 use Rattle.cg_commands.specs.declared.operands.Wanted.{Wanted}
 use Rattle.cg_commands.specs.declared.operands.Wanted.TheVariants as wanted
 use Rattle.cg_commands.specs.Objects.{RefersTo, test_of}
-use Rattle.cg_commands.specs.Answers.{PerformsOnHeap, AnswersOnHeap}
+use Rattle.cg_commands.specs.Answers.{PerformsOnHeap}
 use Rattle.cg_commands.proofs.Bridges.{gives_up, gives_nothing, refilled}
 use Rattle.cg_commands.proofs.Limits.{room, one_fits}
 use Rattle.cg_commands.proofs.KeyLemmas.{entry_somewhere}

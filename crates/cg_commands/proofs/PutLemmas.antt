@@ -36,7 +36,7 @@ use Rattle.cg_commands.specs.declared.done.Done.TheVariants.{Gives}
 use Rattle.cg_commands.specs.declared.locals.Locals.{Locals}
 use Rattle.cg_commands.specs.Refusals.{refusal_by}
 use Rattle.cg_commands.specs.Objects.{RefersTo}
-use Rattle.cg_commands.specs.Answers.{PerformsOnHeap, AnswersOnHeap}
+use Rattle.cg_commands.specs.Answers.{PerformsOnHeap}
 use Rattle.cg_commands.proofs.Bridges.{gives_up, released, refilled, tracked, change-alike}
 use Rattle.cg_commands.proofs.Reading.{object-at_node}
 use Rattle.cg_commands.proofs.Limits.{room, fault-refused}
