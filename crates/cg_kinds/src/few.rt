@@ -10,10 +10,9 @@ use cg_value::{Entry, Val};
 use std::alloc::{AllocError, Global};
 use std::marker::Model;
 
-/// So many pairs are at most kept in a list: a search goes over no more than these, and hashes nothing. For most numbers of
-/// pairs up to this one a list also takes less room than a map, which takes 128 bytes, 18 a pair, and 136 for each nine
-/// places of its index.
-const FEW: usize = 24;
+/// So many pairs are at most kept in a list: a search over them takes no longer than a hash and a look-up in a map, which so
+/// few pairs would take more room for.
+const FEW: usize = 8;
 
 /// Pairs in the order in which their keys came, no two with one key.
 ///

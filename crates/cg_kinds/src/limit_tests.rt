@@ -112,10 +112,12 @@ fn go_over<K: Kind>(rt: &impl Abort, alloc: Global, kind: &mut K, count: i64) ->
 fn one_key_too_many_for_a_list_keeps_the_order(rt: HostRuntime) -> Result<(), Fail> {
     let alloc = rt.alloc();
     let mut dicts = DictKind::new(alloc);
-    'counts: for count in 23..=27 {
+    'counts: for count in 7..=27 {
         go_over(&rt, alloc, &mut dicts, count)?;
     }
-    go_over(&rt, alloc, &mut InstKind::new(alloc), 25)
+    let mut instances = InstKind::new(alloc);
+    go_over(&rt, alloc, &mut instances, 9)?;
+    go_over(&rt, alloc, &mut instances, 25)
 }
 
 /// Steps at random, of a dictionary and of a plain list, over a few more keys than a list takes.
