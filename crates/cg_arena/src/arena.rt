@@ -130,7 +130,7 @@ fn slot_with(
     }
 }
 
-/// The slot of a serial that has a row. Where the serial stands in the slot `near`, nothing is looked up.
+/// `slot_with`, which looks nothing up where the serial stands in the slot `near`.
 #[inline(always)]
 fn slot_near(
     slots: &Slab<Slot>,
@@ -138,14 +138,15 @@ fn slot_near(
     hints: &Hints,
     serial: u64,
     near: Near,
-) -> usize
+) -> (usize, Slot)
     requires named { IsNamed (λ k. serial_in (get slots.now k)) (row_of rows.now.entries) }
     requires there { IsSome (row_of rows.now.entries serial) }
-    ensures { row_of rows.now.entries serial ≡ Some result }
+    ensures at { row_of rows.now.entries serial ≡ Some result.0 }
+    ensures slot { get slots.now result.0 ≡ Some result.1 }
 {
     match slots.get(near.slot) {
-        Some(slot) if slot.serial == serial => near.slot,
-        _ => slot_of(slots, rows, hints, serial),
+        Some(slot) if slot.serial == serial => (near.slot, *slot),
+        _ => slot_with(slots, rows, hints, serial),
     }
 }
 
@@ -393,8 +394,7 @@ impl Arena {
         requires { HasNode self.now serial }
         ensures { map.get self.now.nodes serial ≡ Some (node_of result) }
     {
-        let at = slot_near(&self.slots, &self.rows, &self.hints, serial, near);
-        slot_at(&self.slots, at)
+        slot_near(&self.slots, &self.rows, &self.hints, serial, near).1
     }
 
     /// The count, 0 to 2^32 - 1.
@@ -543,9 +543,8 @@ impl Arena {
         requires place { TakesNumber (place_at self.old serial) }
         ensures { self.new ≡ with_node_changed (node_numbered (count_at self.old serial)) serial self.old }
     {
-        let at = slot_near(&self.slots, &self.rows, &self.hints, serial, near);
-        let number = slot_at(&self.slots, at).count;
-        set_number(&mut self.slots, at, number);
+        let (at, slot) = slot_near(&self.slots, &self.rows, &self.hints, serial, near);
+        set_number(&mut self.slots, at, slot.count);
     }
 
     /// The collector's number of a candidate falls by 1, if it is above 0; any other node stays as it is.
@@ -573,8 +572,7 @@ impl Arena {
         requires place { IsPlace place }
         ensures { self.new ≡ with_node_moved serial place self.old }
     {
-        let at = slot_near(&self.slots, &self.rows, &self.hints, serial, near);
-        let slot = slot_at(&self.slots, at);
+        let (at, slot) = slot_near(&self.slots, &self.rows, &self.hints, serial, near);
         let from = number_of(slot.place);
         self.ends[from] = unlink(&mut self.slots, self.ends[from], slot);
         set_place(&mut self.slots, at, place);
@@ -624,10 +622,9 @@ impl Arena {
         requires { HasNode self.now serial }
         ensures { result ≡ following serial (list_at self.now (place_at self.now serial)) }
     {
-        let at = slot_near(&self.slots, &self.rows, &self.hints, serial, *near);
-        let after = slot_at(&self.slots, at).after;
-        *near = Near::at(after);
-        serial_at(&self.slots, after)
+        let (_, slot) = slot_near(&self.slots, &self.rows, &self.hints, serial, *near);
+        *near = Near::at(slot.after);
+        serial_at(&self.slots, slot.after)
     }
 
     /// What comes after a node in its list, or `None` at the end.

@@ -64,13 +64,11 @@ impl<B: Kind> Heap<B> {
         ensures none { IfNone result (self.new ≡ self.old) }
     {
         let seat = seat_near(&self.arena, object, near);
-        match self.boxes.take_key(seat, key) {
-            Some(taken) => {
-                fewer(&mut self.entries, object);
-                Some(taken)
-            }
-            None => None,
+        let taken = self.boxes.take_key(seat, key);
+        if taken.is_some() {
+            fewer(&mut self.entries, object);
         }
+        taken
     }
 
     /// Takes the last entry off, whatever the kind. `None` comes exactly where there is none. The references of the
@@ -208,7 +206,7 @@ impl<B: Kind> Heap<B> {
         ensures err { OnErr result (self.new ≡ self.old) }
     {
         let seat = seat_near(&self.arena, object, near);
-        if is_past_limit(&self.boxes, self.entries, seat, key) {
+        if is_past_limit(&self.boxes, self.entries, seat, &key) {
             return Err(HeapFault::EntryLimit);
         }
         match self.boxes.put(seat, key, val) {
@@ -278,16 +276,17 @@ impl<B: Kind> Heap<B> {
     }
 }
 
-/// Whether a put under a key would add an entry where there may be no more. The key is looked for at the limit alone.
+/// Whether a put under a key would add an entry where there may be no more. The key is looked for at the limit alone, and so
+/// it is handed over by reference: a copy would be made for each put.
 #[inline(always)]
-fn is_past_limit<B: Kind>(boxes: &Boxes<B>, entries: u64, seat: Seat, key: Val) -> bool
+fn is_past_limit<B: Kind>(boxes: &Boxes<B>, entries: u64, seat: Seat, key: &Val) -> bool
     requires held { HasBody boxes.now seat.code seat.body }
-    requires can { CanPut seat.code (entries_in_box boxes.now seat.code seat.body) key }
+    requires can { CanPut seat.code (entries_in_box boxes.now seat.code seat.body) key.now }
     requires mutable { IsMutable seat.code }
-    ensures { IsTrue result ↔ ((value_under seat.code (entries_in_box boxes.now seat.code seat.body) key ≡ None)
+    ensures { IsTrue result ↔ ((value_under seat.code (entries_in_box boxes.now seat.code seat.body) key.now ≡ None)
         × (MOST_ENTRIES ≤ entries)) }
 {
-    entries >= MOST_ENTRIES && !boxes.has_value(seat, key)
+    entries >= MOST_ENTRIES && !boxes.has_value(seat, *key)
 }
 
 /// Whether a value is no reference.

@@ -1,11 +1,9 @@
 use Rattle.std.proofs.Common.{◌≡◌, ◌-◌, refl, sym, ap, ◌∙◌, Some, arith}
 use Rattle.std.proofs.lemmas.Bool.{eqb-true, eq-eqb}
-use Rattle.std.specs.FinMap as fin
-use Rattle.slab.specs.Slab.{get}
 use Rattle.indexmap.specs.IndexMap.{spare}
 use Rattle.cg_arena.specs.Nodes.{count_in, count_of, node_counted_down}
 use Rattle.cg_arena.specs.Slots.{serial_in, with_count}
-use Rattle.cg_arena.proofs.Sound.{row_there, some_serial, node_here, field_sound, field_view, down_once, counted_there, count-down}
+use Rattle.cg_arena.proofs.Sound.{node_here, field_sound, field_view, down_once, count-down}
 use Rattle.cg_arena.proofs.arena.Arena.dec.Goals as goal
 
 pub overflow_sub-count : goal.overflow_sub-count

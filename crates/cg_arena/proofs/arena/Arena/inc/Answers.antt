@@ -1,9 +1,8 @@
 use Rattle.std.proofs.Common.{◌≡◌, ◌+◌, refl, sym, ap, ◌∙◌, Some, arith}
-use Rattle.slab.specs.Slab.{get}
 use Rattle.indexmap.specs.IndexMap.{spare}
 use Rattle.cg_arena.specs.Nodes.{count_in, count_of, node_counted_up}
 use Rattle.cg_arena.specs.Slots.{serial_in, with_count}
-use Rattle.cg_arena.proofs.Sound.{row_there, some_serial, node_here, field_sound, field_view, up_once}
+use Rattle.cg_arena.proofs.Sound.{node_here, field_sound, field_view, up_once}
 use Rattle.cg_arena.proofs.arena.Arena.inc.Goals as goal
 
 pub overflow_add-count : goal.overflow_add-count

@@ -1,8 +1,8 @@
-use Rattle.std.proofs.Common.{◌≡◌, ◌+◌, refl, sym, ap, ◌∙◌, Some, arith}
+use Rattle.std.proofs.Common.{◌≡◌, ◌+◌, refl, ap, ◌∙◌, arith}
 use Rattle.slab.specs.Slab.{get}
 use Rattle.indexmap.specs.IndexMap.{spare}
 use Rattle.cg_arena.specs.Nodes.{count_in, count_of, node_counted_up}
-use Rattle.cg_arena.specs.Slots.{serial_in, with_count}
+use Rattle.cg_arena.specs.Slots.{with_count}
 use Rattle.cg_arena.proofs.Sound.{row_there, some_serial, node_here, field_sound, field_view, up_once}
 use Rattle.cg_arena.proofs.arena.Arena.inc_by_row.Goals as goal
 

@@ -1,19 +1,16 @@
 use Rattle.std.proofs.Common.{◌∙◌}
 use Rattle.indexmap.specs.IndexMap.{spare}
-use Rattle.cg_arena.proofs.Sound.{row_there, slot_there}
+use Rattle.cg_arena.proofs.Sound.{row_there}
 use Rattle.cg_arena.proofs.Lookups.{next_is}
 use Rattle.cg_arena.proofs.arena.Arena.next_near.Goals as goal
 
-pub slot_near-at-requires-clause-named : goal.slot_near-at-requires-clause-named
-slot_near-at-requires-clause-named c = c.self.invariant.names
+pub slot_near-slot-requires-clause-named : goal.slot_near-slot-requires-clause-named
+slot_near-slot-requires-clause-named c = c.self.invariant.names
 
-pub slot_near-at-requires-clause-there : goal.slot_near-at-requires-clause-there
-slot_near-at-requires-clause-there c = row_there c.self.inside.slots c.self.inside.ends c.self.inside.rows.entries (spare c.self.inside.rows) c.args.self.now c.self.view_is c.args.serial c.requires
-
-pub slot_at-after-requires : goal.slot_at-after-requires
-slot_at-after-requires c = slot_there c.self.inside.slots c.self.inside.ends c.self.inside.rows.entries c.self.invariant c.args.serial c.slot_near-at.result c.slot_near-at.ensures
+pub slot_near-slot-requires-clause-there : goal.slot_near-slot-requires-clause-there
+slot_near-slot-requires-clause-there c = row_there c.self.inside.slots c.self.inside.ends c.self.inside.rows.entries (spare c.self.inside.rows) c.args.self.now c.self.view_is c.args.serial c.requires
 
 pub returns : goal.returns
 returns c =
     c.serial_at.ensures
-    ∙ next_is c.self.inside.slots c.self.inside.ends c.self.inside.rows.entries (spare c.self.inside.rows) c.args.self.now c.self.view_is c.self.invariant c.args.serial c.slot_near-at.result c.slot_at-after.result c.slot_near-at.ensures c.slot_at-after.ensures
+    ∙ next_is c.self.inside.slots c.self.inside.ends c.self.inside.rows.entries (spare c.self.inside.rows) c.args.self.now c.self.view_is c.self.invariant c.args.serial c.slot_near-slot.result.0 c.slot_near-slot.result.1 c.slot_near-slot.ensures.at c.slot_near-slot.ensures.slot

@@ -1,5 +1,5 @@
 use Rattle.indexmap.specs.IndexMap.{spare}
-use Rattle.cg_arena.proofs.Sound.{row_there, slot_there, node_here}
+use Rattle.cg_arena.proofs.Sound.{row_there, node_here}
 use Rattle.cg_arena.proofs.arena.Arena.node.Goals as goal
 
 pub slot_with-requires-clause-named : goal.slot_with-requires-clause-named

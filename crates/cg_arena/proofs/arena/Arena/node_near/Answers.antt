@@ -1,15 +1,12 @@
 use Rattle.indexmap.specs.IndexMap.{spare}
-use Rattle.cg_arena.proofs.Sound.{row_there, slot_there, node_here}
+use Rattle.cg_arena.proofs.Sound.{row_there, node_here}
 use Rattle.cg_arena.proofs.arena.Arena.node_near.Goals as goal
 
-pub slot_near-at-requires-clause-named : goal.slot_near-at-requires-clause-named
-slot_near-at-requires-clause-named c = c.self.invariant.names
+pub slot_near-requires-clause-named : goal.slot_near-requires-clause-named
+slot_near-requires-clause-named c = c.self.invariant.names
 
-pub slot_near-at-requires-clause-there : goal.slot_near-at-requires-clause-there
-slot_near-at-requires-clause-there c = row_there c.self.inside.slots c.self.inside.ends c.self.inside.rows.entries (spare c.self.inside.rows) c.args.self.now c.self.view_is c.args.serial c.requires
-
-pub slot_at-requires : goal.slot_at-requires
-slot_at-requires c = slot_there c.self.inside.slots c.self.inside.ends c.self.inside.rows.entries c.self.invariant c.args.serial c.slot_near-at.result c.slot_near-at.ensures
+pub slot_near-requires-clause-there : goal.slot_near-requires-clause-there
+slot_near-requires-clause-there c = row_there c.self.inside.slots c.self.inside.ends c.self.inside.rows.entries (spare c.self.inside.rows) c.args.self.now c.self.view_is c.args.serial c.requires
 
 pub returns : goal.returns
-returns c = node_here c.self.inside.slots c.self.inside.ends c.self.inside.rows.entries (spare c.self.inside.rows) c.args.self.now c.self.view_is c.args.serial c.slot_near-at.result c.slot_at.result c.slot_near-at.ensures c.slot_at.ensures
+returns c = node_here c.self.inside.slots c.self.inside.ends c.self.inside.rows.entries (spare c.self.inside.rows) c.args.self.now c.self.view_is c.args.serial c.slot_near.result.0 c.slot_near.result.1 c.slot_near.ensures.at c.slot_near.ensures.slot

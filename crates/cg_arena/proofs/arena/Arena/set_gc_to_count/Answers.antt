@@ -2,7 +2,7 @@ use Rattle.std.proofs.Common.{◌≡◌, refl, sym, ap, ◌∙◌}
 use Rattle.indexmap.specs.IndexMap.{spare}
 use Rattle.cg_arena.specs.Nodes.{count_in, count_of, node_numbered, with_node_changed}
 use Rattle.cg_arena.specs.Slots.{with_number}
-use Rattle.cg_arena.proofs.Sound.{row_there, slot_there, node_here, field_sound, field_view}
+use Rattle.cg_arena.proofs.Sound.{row_there, node_here, field_sound, field_view}
 use Rattle.cg_arena.proofs.arena.Arena.set_gc_to_count.Goals as goal
 
 pub slot_near-at-requires-clause-named : goal.slot_near-at-requires-clause-named
@@ -11,19 +11,16 @@ slot_near-at-requires-clause-named c = c.self.invariant.names
 pub slot_near-at-requires-clause-there : goal.slot_near-at-requires-clause-there
 slot_near-at-requires-clause-there c = row_there c.self.inside.slots c.self.inside.ends c.self.inside.rows.entries (spare c.self.inside.rows) c.args.self.now c.self.view_is c.args.serial c.requires.has
 
-pub slot_at-number-requires : goal.slot_at-number-requires
-slot_at-number-requires c = slot_there c.self.inside.slots c.self.inside.ends c.self.inside.rows.entries c.self.invariant c.args.serial c.slot_near-at.result c.slot_near-at.ensures
-
 pub invariant_of-self : goal.invariant_of-self
 invariant_of-self c =
-    field_sound (with_number c.slot_at-number.result.count) (λ x. refl) (λ x. refl) (λ x. refl) (λ x. refl) c.self.inside.slots c.self.inside.ends c.self.inside.rows.entries c.self.invariant c.slot_near-at.result
+    field_sound (with_number c.slot_near-at.result.1.count) (λ x. refl) (λ x. refl) (λ x. refl) (λ x. refl) c.self.inside.slots c.self.inside.ends c.self.inside.rows.entries c.self.invariant c.slot_near-at.result.0
     c.set_number.new.slots c.set_number.ensures
 
 pub returns : goal.returns
 returns c =
-    let count : count_of c.args.self.now c.args.serial ≡ c.slot_at-number.result.count = ap count_in
-    (node_here c.self.inside.slots c.self.inside.ends c.self.inside.rows.entries (spare c.self.inside.rows) c.args.self.now c.self.view_is c.args.serial c.slot_near-at.result c.slot_at-number.result c.slot_near-at.ensures c.slot_at-number.ensures) in
-    field_view (with_number c.slot_at-number.result.count) (λ x. refl) (λ x. refl) (λ x. refl) (λ x. refl) c.self.inside.slots c.self.inside.ends c.self.inside.rows.entries c.self.invariant c.slot_near-at.result
+    let count : count_of c.args.self.now c.args.serial ≡ c.slot_near-at.result.1.count = ap count_in
+    (node_here c.self.inside.slots c.self.inside.ends c.self.inside.rows.entries (spare c.self.inside.rows) c.args.self.now c.self.view_is c.args.serial c.slot_near-at.result.0 c.slot_near-at.result.1 c.slot_near-at.ensures.at c.slot_near-at.ensures.slot) in
+    field_view (with_number c.slot_near-at.result.1.count) (λ x. refl) (λ x. refl) (λ x. refl) (λ x. refl) c.self.inside.slots c.self.inside.ends c.self.inside.rows.entries c.self.invariant c.slot_near-at.result.0
     c.set_number.new.slots c.set_number.ensures (spare c.self.inside.rows) c.args.self.now c.self.view_is
-    (node_numbered c.slot_at-number.result.count) c.args.serial c.slot_at-number.result c.slot_near-at.ensures c.slot_at-number.ensures refl
+    (node_numbered c.slot_near-at.result.1.count) c.args.serial c.slot_near-at.result.1 c.slot_near-at.ensures.at c.slot_near-at.ensures.slot refl
     ∙ ap (λ n. with_node_changed (node_numbered n) c.args.serial c.args.self.now) (sym count)
