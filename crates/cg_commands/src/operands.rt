@@ -112,6 +112,7 @@ pub(crate) fn value<B: Kind>(
     match operand {
         // As most operands are. The others stand in a call, so that little is put in place of each call of this one.
         Operand::Int(number) => Ok(Val::Int(*number)),
+        Operand::Str(text) => Ok(Val::Str(*text)),
         Operand::Name(name) => {
             heap.sound();
             match heap.name(*name) {
