@@ -127,11 +127,6 @@ is_there commands rest (Some n) c is = still_there n commands c (subst (λ l. In
 pub comes_next : (script : Script) (locals : Locals) (procedure : ℕ) (next : Option ℕ) (c : Command) (after : ℕ) (body : List Command) → body ≡ body_of script procedure → commands_from next body ≡ c ∷ commands_from (Some after) body → ComesNext script (caller_of.Frame locals procedure (Some after)) next c
 comes_next script locals procedure next c after body is turn = subst (λ l. commands_from next l ≡ c ∷ commands_from (Some after) l) is turn
 
--- a frame, wherever it is, that has gone on
-pub gone_on : (caller : Caller) (locals : Locals) (procedure after : ℕ) → with_next None caller ≡ caller_of.Frame locals procedure None → with_next (Some after) caller ≡ caller_of.Frame locals procedure (Some after)
-gone_on (caller_of.Script next) locals procedure after is = absurd (cc)
-gone_on (caller_of.Frame own number next) locals procedure after is = ap (with_next (Some after)) is
-
 -- The script is on top.
 module _ (script : Script) (e : State) (next : Option ℕ) (w : World) (stands : StandsFor script (under (activity.Script next) e) w) where
   script_at : (commands : List Command) → commands_from next (commands_of script.items) ≡ commands → w.stack ≡ TopLevel commands ∷ stands.shows.below

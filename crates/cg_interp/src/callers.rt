@@ -1,6 +1,6 @@
 //! The script, or a frame, on top.
-ghost use Rattle.std.specs.Prelude.{◌≡◌, ◌<◌, ◌≤◌, true, false, [], length};
-ghost use Rattle.cg_machine.specs.Program.{commands_of};
+ghost use Rattle.std.specs.Prelude.{◌≡◌, ◌<◌, ◌≤◌, ℕ, true, false, [], length, Option, Some, None, IfNone};
+ghost use Rattle.cg_machine.specs.Program.{commands_of, body_of as body_in};
 ghost use Rattle.cg_machine.specs.World.{World, push};
 ghost use Rattle.cg_machine.specs.Commands.{new_collection};
 ghost use Rattle.cg_laws.specs.Kept.{StaysKept};
@@ -8,6 +8,8 @@ ghost use Rattle.cg_script.specs.declared.Script.{Script as AnyScript};
 ghost use Rattle.cg_script.specs.Spelled.{IsSpelled, IsSpelledCommand};
 ghost use Rattle.cg_commands.specs.Attempts.{only_changes};
 ghost use Rattle.cg_commands.specs.Stands.{LocalsLive};
+ghost use Rattle.cg_policy.specs.Policy.{due_of};
+ghost use Rattle.cg_interp.specs.declared.caller.Caller.TheVariants as caller_of;
 ghost use Rattle.cg_interp.specs.declared.activity.Activity.TheVariants as activity_of;
 ghost use Rattle.cg_interp.specs.Engines.{StandsFor, under, commands_from};
 ghost use Rattle.cg_interp.specs.Collecting.{StandsWith};
@@ -77,27 +79,136 @@ impl<B: Kind> Engine<B> {
             self.new result }
         ensures fit { StaysFit self.old self.new }
     {
+        match next {
+            Some(number) => self.go_on_at(script, locals, procedure, number),
+            None => self.leave(locals),
+        }
+    }
+
+    /// The same from the command with this number on. Commands that change names or entries are done first, as far as they
+    /// follow one another: most commands are of these.
+    fn go_on_at(&mut self, script: &Script, locals: Locals, procedure: u32, number: usize) -> Turned
+        requires stands { IsAtTurn script.now (activity_of.Frame locals procedure (Some number)) self.old }
+        ensures turns { TurnsFrom script.now (activity_of.Frame locals procedure (Some number)) self.old
+            self.new result }
+        ensures fit { StaysFit self.old self.new }
+    {
         let body = body_of(script, procedure);
-        // These are built once: from one command to the next only the number changes.
-        let within = Some(locals);
-        let mut gone_on = Caller::Frame {
-            locals,
-            procedure,
-            next,
-        };
-        let mut next = next;
+        let mut number = number;
         'commands: loop {
-            match next_of(body, next) {
+            match self.change_on(body, locals, procedure, &mut number) {
+                Some(answer) => return answer,
+                None => {}
+            }
+            match next_of(body, Some(number)) {
                 Some((command, after)) => {
-                    gone_on.go_to(after);
-                    match self.step(&gone_on, &within, next, command) {
+                    let gone_on = Caller::Frame {
+                        locals,
+                        procedure,
+                        next: Some(after),
+                    };
+                    match self.step(&gone_on, &Some(locals), Some(number), command) {
                         Some(answer) => return answer,
-                        None => next = Some(after),
+                        None => number = after,
                     }
                 }
                 None => return self.leave(locals),
             }
         }
+    }
+
+    /// Does the next commands of a frame, which was on top, as far as they change names or entries and no collection is due.
+    /// Then `number` is that of the next one. Nothing is answered where the frame is to go on: it is not put back.
+    ///
+    /// No such command makes a collection due, so that is asked once. This is a call of its own: at the head of a loop over
+    /// commands of any sort, each command would pay for putting together what the other sorts answer.
+    #[inline(always)]
+    fn change_on(
+        &mut self,
+        body: &[Command],
+        locals: Locals,
+        procedure: u32,
+        number: &mut usize,
+    ) -> Option<Turned>
+        requires stands { (script : AnyScript) × (body.now ≡ body_in script procedure)
+            × IsAtTurn script (activity_of.Frame locals procedure (Some number.old)) self.old }
+        ensures steps { (script : AnyScript) → body.now ≡ body_in script procedure
+            → StepsFrom script (caller_of.Frame locals procedure (Some number.new)) (Some number.old) self.old self.new result }
+        ensures left { length (commands_from (Some number.new) body.now) ≤ length (commands_from (Some number.old) body.now) }
+        ensures fit { StaysFit self.old self.new }
+    {
+        match self.policy.due() {
+            Some(_) => None,
+            None => self.make_changes(body, locals, procedure, number),
+        }
+    }
+
+    /// The same where no collection is due.
+    #[inline(never)]
+    fn make_changes(
+        &mut self,
+        body: &[Command],
+        locals: Locals,
+        procedure: u32,
+        number: &mut usize,
+    ) -> Option<Turned>
+        requires none { due_of self.old.policy ≡ None }
+        requires stands { (script : AnyScript) × (body.now ≡ body_in script procedure)
+            × IsAtTurn script (activity_of.Frame locals procedure (Some number.old)) self.old }
+        ensures steps { (script : AnyScript) → body.now ≡ body_in script procedure
+            → StepsFrom script (caller_of.Frame locals procedure (Some number.new)) (Some number.old) self.old self.new result }
+        ensures left { length (commands_from (Some number.new) body.now) ≤ length (commands_from (Some number.old) body.now) }
+        ensures fit { StaysFit self.old self.new }
+    {
+        let within = Some(locals);
+        let mut at = *number;
+        'commands: loop {
+            match next_of(body, Some(at)) {
+                Some((command, after)) if only_changes(command) => {
+                    let gone_on = Caller::Frame {
+                        locals,
+                        procedure,
+                        next: Some(after),
+                    };
+                    at = after;
+                    match self.step_change(&gone_on, &within, command) {
+                        Some(answer) => {
+                            *number = at;
+                            return Some(answer);
+                        }
+                        None => {}
+                    }
+                }
+                _ => {
+                    *number = at;
+                    return None;
+                }
+            }
+        }
+    }
+
+    /// The next command of a caller, which was on top, where it changes names or entries and no collection is due. The caller
+    /// has gone on from it. Where nothing is answered, none is due after it either.
+    #[inline(always)]
+    fn step_change(
+        &mut self,
+        caller: &Caller,
+        locals: &Option<Locals>,
+        command: &Command,
+    ) -> Option<Turned>
+        requires own { locals.now ≡ caller_locals caller.now }
+        requires changes { only_changes command.now ≡ true }
+        requires none { due_of self.old.policy ≡ None }
+        requires stands { (script : AnyScript) × (next : Option ℕ) × ComesNext script caller.now next command.now
+            × IsAtTurn script (caller_activity (with_next next caller.now)) self.old }
+        ensures steps { (script : AnyScript) (next : Option ℕ) → ComesNext script caller.now next command.now
+            → StepsFrom script caller.now next self.old self.new result }
+        ensures policy { IfNone result (self.new.policy ≡ self.old.policy) }
+        ensures fit { StaysFit self.old self.new }
+    {
+        // No heap is large, and where no collection runs none of its places has an object.
+        self.heap.sound();
+        self.carry_out_change(caller, locals, command)
     }
 
     /// The next command of a caller, which was on top, or a collection that is due before it. The caller has gone on from that
@@ -185,6 +296,7 @@ impl<B: Kind> Engine<B> {
             × IsAtCommand script caller.now self.old w command.now }
         ensures does { (script : AnyScript) (w : World) → IsAtCommand script caller.now self.old w command.now
             → RunsTo script w command.now (caller_activity caller.now) self.new result }
+        ensures policy { IfNone result (self.new.policy ≡ self.old.policy) }
         ensures fit { StaysFit self.old self.new }
     {
         let changed = change(&mut self.heap, locals, command);

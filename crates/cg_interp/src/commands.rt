@@ -1,5 +1,5 @@
 //! What the engine does once a command has been performed.
-ghost use Rattle.std.specs.Prelude.{◌≡◌, ◌<◌, ◌≤◌, true, false, [], Ok};
+ghost use Rattle.std.specs.Prelude.{◌≡◌, ◌<◌, ◌≤◌, true, false, [], Ok, IfNone};
 ghost use Rattle.cg_value.specs.declared.Val.TheVariants as val_of;
 ghost use Rattle.cg_graph.specs.Value.{item};
 ghost use Rattle.cg_graph.specs.Store.{IsLive, Store};
@@ -46,6 +46,7 @@ impl<B: Kind> Engine<B> {
         ensures does { (script : AnyScript) (w : World) (command : AnyCommand) (before : Store) (was : AnyPolicy)
             → IsPerformed script (caller_activity caller.now) self.old w command before was done
             → RunsTo script w command (caller_activity caller.now) self.new result }
+        ensures policy { IfNone result (self.new.policy ≡ self.old.policy) }
         ensures keeps { TurnKeeps self.old self.new }
     {
         match done {
@@ -63,6 +64,7 @@ impl<B: Kind> Engine<B> {
         ensures does { (script : AnyScript) (w : World) (command : AnyCommand) (before : Store) (was : AnyPolicy)
             → IsPerformed script (caller_activity caller.now) self.old w command before was (Ok done)
             → RunsTo script w command (caller_activity caller.now) self.new result }
+        ensures policy { IfNone result (self.new.policy ≡ self.old.policy) }
         ensures keeps { TurnKeeps self.old self.new }
     {
         match done {
@@ -108,6 +110,7 @@ impl<B: Kind> Engine<B> {
         ensures gives_up { (script : AnyScript) (after : World) → Changes script (caller_activity caller.now) self.old given_up after
             → StaysSound script (releasing given_up after)
             → GivesUp script (releasing given_up after) (caller_activity caller.now) self.new line result }
+        ensures policy { IfNone result (self.new.policy ≡ self.old.policy) }
         ensures keeps { TurnKeeps self.old self.new }
     {
         let mut release = Release::new(given_up);
@@ -143,6 +146,7 @@ impl<B: Kind> Engine<B> {
         requires room { 0 < self.old.room }
         ensures tells { (script : AnyScript) (w : World) → ComesTo script w (under (caller_activity caller.now) self.old)
             → GivesUp script w (caller_activity caller.now) self.new line result }
+        ensures policy { IfNone result (self.new.policy ≡ self.old.policy) }
         ensures keeps { TurnKeeps self.old self.new }
     {
         match line {
