@@ -137,6 +137,9 @@ impl<B: Kind> Engine<B> {
         ensures left { length (commands_from (Some number.new) body.now) ≤ length (commands_from (Some number.old) body.now) }
         ensures fit { StaysFit self.old self.new }
     {
+        if !is_change_next(body, *number) {
+            return None;
+        }
         match self.policy.due() {
             Some(_) => None,
             None => self.make_changes(body, locals, procedure, number),
@@ -359,5 +362,14 @@ impl<B: Kind> Engine<B> {
         let objects = self.heap.live() as usize + 1;
         let height = self.first_budget as usize + 2 * (objects + 1) + 8;
         self.stack.reserve_up_to(height).is_ok()
+    }
+}
+
+/// Whether the next of some commands only changes names or entries. It only saves a call: `make_changes` looks itself.
+#[inline(always)]
+fn is_change_next(commands: &[Command], number: usize) -> bool {
+    match commands.get(number) {
+        Some(command) => only_changes(command),
+        None => false,
     }
 }
