@@ -10,9 +10,9 @@ use cg_value::{Entry, Val};
 use std::alloc::{AllocError, Global};
 use std::marker::Model;
 
-/// So many pairs are at most kept in a list: a search over them takes no longer than a hash and a look-up in a map, which so
-/// few pairs would take more room for.
-const FEW: usize = 8;
+/// So many pairs are at most kept in a list. A search in a map takes less time for more than some eight pairs, but a map of so
+/// few takes too much room: one of ten pairs that has just grown takes more than 64 bytes a pair.
+const FEW: usize = 24;
 
 /// Pairs in the order in which their keys came, no two with one key.
 ///

@@ -112,12 +112,16 @@ fn go_over<K: Kind>(rt: &impl Abort, alloc: Global, kind: &mut K, count: i64) ->
 fn one_key_too_many_for_a_list_keeps_the_order(rt: HostRuntime) -> Result<(), Fail> {
     let alloc = rt.alloc();
     let mut dicts = DictKind::new(alloc);
-    'counts: for count in 7..=27 {
+    'counts: for count in 23..=27 {
+        go_over(&rt, alloc, &mut dicts, count)?;
+    }
+    // Of so many, the first key is dropped with enough behind it to note the order down.
+    'more: for count in 41..=45 {
         go_over(&rt, alloc, &mut dicts, count)?;
     }
     let mut instances = InstKind::new(alloc);
-    go_over(&rt, alloc, &mut instances, 9)?;
-    go_over(&rt, alloc, &mut instances, 25)
+    go_over(&rt, alloc, &mut instances, 25)?;
+    go_over(&rt, alloc, &mut instances, 42)
 }
 
 /// Steps at random, of a dictionary and of a plain list, over a few more keys than a list takes.
@@ -204,6 +208,6 @@ fn dictionaries_keep_values_at_the_ends_of_their_ranges(rt: HostRuntime) -> Resu
         Val::Ref(u32::MAX as u64),
         Val::Ref(u64::MAX),
     ];
-    pass_through(&rt, alloc, &mut DictKind::new(alloc), 24, &values)?;
-    pass_through(&rt, alloc, &mut InstKind::new(alloc), 24, &values)
+    pass_through(&rt, alloc, &mut DictKind::new(alloc), 48, &values)?;
+    pass_through(&rt, alloc, &mut InstKind::new(alloc), 48, &values)
 }

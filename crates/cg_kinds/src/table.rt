@@ -35,8 +35,9 @@ impl Model for Table {
     ghost invariant = { λ t. IsOrderOf (length t.map.entries) (unboxed t.order) };
 }
 
-/// At most so many pairs close the gap that one before them leaves.
-const CLOSE: usize = 16;
+/// At most so many pairs close the gap that one before them leaves. An order for fewer would take too much room, and a take
+/// out of it as much time.
+const CLOSE: usize = 40;
 
 /// The entry of a packed key and a packed value.
 #[inline(always)]
@@ -141,6 +142,16 @@ fn boxed_order(alloc: Global, count: usize) -> Result<Box<Order>, AllocError>
     let order = Order::new(alloc, count)?;
     let boxed = Box::new(alloc, order)?;
     Ok(boxed)
+}
+
+/// The order in which a map has its pairs, in a box. It takes room, and so the map gives back what it does not need.
+fn noted_order(map: &mut IndexMap<Nine, Nine>) -> Result<Box<Order>, AllocError>
+    ensures same { map.new.entries ≡ map.old.entries }
+    ensures order { IfOk result (λ order. order.value ≡ range_with_len 0 (length map.old.entries)) }
+{
+    let order = boxed_order(*map.allocator(), map.len())?;
+    map.shrink_to_fit();
+    Ok(order)
 }
 
 /// The pair that a map got last goes last in the order, or out of the map again.
@@ -267,7 +278,7 @@ impl Table {
             Some(_) => {}
             None => {
                 if count - i > CLOSE {
-                    if let Ok(order) = boxed_order(*self.map.allocator(), count) {
+                    if let Ok(order) = noted_order(&mut self.map) {
                         self.order = Some(order);
                     }
                 }

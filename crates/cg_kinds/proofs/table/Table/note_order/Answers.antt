@@ -7,13 +7,14 @@ use Rattle.cg_kinds.proofs.table.Table.note_order.Goals as goal
 use Rattle.cg_kinds.proofs.table.Table.note_order.Goals.{in-Some-1, in-None-1}
 
 pub invariant_of-self-in-Ok-2 : goal.invariant_of-self-in-Ok-2
-invariant_of-self-in-Ok-2 c = ap length c.in-Ok.ensures ∙ length-range_with_len 0 c.len-count.result ∙ c.len-count.ensures.len
+invariant_of-self-in-Ok-2 c = ap length c.in-Ok.ensures.order ∙ length-range_with_len 0 (length c.self.inside.map.entries) ∙ sym (ap length c.in-Ok.ensures.same)
 
 pub returns-in-Ok : goal.returns-in-Ok
 returns-in-Ok c =
     let pairs = c.self.inside.map.entries in
-    let same : picked (pairs_of pairs) c.in-Ok.order.value ≡ c.args.self.now =
-    ap (picked (pairs_of pairs)) c.in-Ok.ensures
-    ∙ picked_all (pairs_of pairs) c.len-count.result (c.len-count.ensures.len ∙ sym (length-map pairs pair_entry))
+    let same : picked (pairs_of c.noted_order.new.map.entries) c.in-Ok.order.value ≡ c.args.self.now =
+    ap (λ l. picked (pairs_of l) c.in-Ok.order.value) c.in-Ok.ensures.same
+    ∙ ap (picked (pairs_of pairs)) c.in-Ok.ensures.order
+    ∙ picked_all (pairs_of pairs) (length pairs) (sym (length-map pairs pair_entry))
     ∙ sym (ap (λ o. ordered pairs (unboxed o)) c.in-None.is) ∙ c.self.view_is in
     elim c.match-self-2.branch [ in-Some-1 w ↦ w.self-is ∙ same | in-None-1 w ↦ w.self-is ∙ same ]
