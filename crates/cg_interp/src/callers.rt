@@ -120,8 +120,7 @@ impl<B: Kind> Engine<B> {
     /// Does the next commands of a frame, which was on top, as far as they change names or entries and no collection is due.
     /// Then `number` is that of the next one. Nothing is answered where the frame is to go on: it is not put back.
     ///
-    /// No such command makes a collection due, so that is asked once. This is a call of its own: at the head of a loop over
-    /// commands of any sort, each command would pay for putting together what the other sorts answer.
+    /// No such command makes a collection due, so that is asked once.
     #[inline(always)]
     fn change_on(
         &mut self,
@@ -146,7 +145,8 @@ impl<B: Kind> Engine<B> {
         }
     }
 
-    /// The same where no collection is due.
+    /// The same where no collection is due. This is a call of its own: at the head of a loop over commands of any sort, each
+    /// command would pay for putting together what the other sorts answer.
     #[inline(never)]
     fn make_changes(
         &mut self,
