@@ -414,9 +414,35 @@ swapped-out pairs now key packed index is found rest =
     ap pairs_of (rest ∙ swap_remove_entry-found (equal packed) pairs index (key, key) found)
     ∙ pairs_of-swap pairs index (key, key) (omega (arith, below, length-map pairs pair_entry))
 
--- a new pair, which is taken off again
-pub put_back : (pairs now : List (Val × Val)) (key val : Val) → lookup (equal key) pairs ≡ None → now ≡ insert_entry equal pairs key val → take (length now - 1) now ≡ pairs
-put_back pairs now key val none is =
-    let whole : now ≡ pairs ++ (key, val) ∷ [] = is ∙ insert_entry-absent equal key val pairs (absent_from_lookup (equal key) pairs none) in
-    ap (λ l. take (length l - 1) l) whole
-    ∙ take_at pairs ((key, val) ∷ []) (length (pairs ++ (key, val) ∷ []) - 1) (omega (arith, length_push pairs (key, val)))
+-- pairs that are the same entries are so in each order
+pub ordered_same : (pairs now : List (Val × Val)) (order : Option (List ℕ)) → pairs_of now ≡ pairs_of pairs → ordered now order ≡ ordered pairs order
+ordered_same pairs now None is = is
+ordered_same pairs now (Some order) is = ap (λ l. picked l order) is
+
+-- another value for a present key adds no pair
+pub put_as_long : (pairs now : List (Val × Val)) (key val was : Val) → value_at (pairs_of pairs) key ≡ Some was → pairs_of now ≡ put (pairs_of pairs) key val → length now ≡ length pairs
+put_as_long pairs now key val was there is =
+    let es = pairs_of pairs in
+    let at = has_index key es was there in
+    sym (length-map now pair_entry)
+    ∙ ap length (is ∙ put_set key val es at.index at.found)
+    ∙ length-set es at.index (record { key = (get_or es at.index nothing).key; val = val })
+    ∙ length-map pairs pair_entry
+
+-- a new pair, and what is left once it is taken off again
+module _ (pairs now : List (Val × Val)) (key val : Val) (new : value_at (pairs_of pairs) key ≡ None) (is : pairs_of now ≡ put (pairs_of pairs) key val) where
+  pub put_longer : length now ≡ length pairs + 1
+  put_longer =
+      sym (length-map now pair_entry)
+      ∙ ap length (is ∙ put_new (pairs_of pairs) key val new)
+      ∙ length_push (pairs_of pairs) (record { key = key; val = val })
+      ∙ ap (λ n. n + 1) (length-map pairs pair_entry)
+
+  pub put_back : pairs_of (take (length now - 1) now) ≡ pairs_of pairs
+  put_back =
+      sym (take-map pair_entry (length now - 1) now)
+      ∙ ap (take (length now - 1)) (is ∙ put_new (pairs_of pairs) key val new)
+      ∙ take_at (pairs_of pairs) (record { key = key; val = val } ∷ []) (length now - 1) (omega (arith, put_longer, length-map pairs pair_entry))
+
+  pub left_as_long : length (take (length now - 1) now) ≡ length pairs
+  left_as_long = sym (length-map (take (length now - 1) now) pair_entry) ∙ ap length put_back ∙ length-map pairs pair_entry

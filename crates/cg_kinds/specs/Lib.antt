@@ -6,3 +6,4 @@ pub mod Held
 pub mod Pairs
 pub mod Order
 pub mod Numbers
+pub mod KeyHash

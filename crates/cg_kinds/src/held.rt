@@ -84,7 +84,7 @@ impl Held {
             Held::Few(few) => match few.replace(key, val) {
                 Some(was) => Ok(Some(was)),
                 None => {
-                    self.add(key, val)?;
+                    self.add(Entry { key, val })?;
                     Ok(None)
                 }
             },
@@ -95,23 +95,25 @@ impl Held {
         }
     }
 
-    /// A new key goes last. The map stands whole before the list goes, so that a refusal leaves the list.
+    /// A pair under a new key goes last. The map stands whole before the list goes, so that a refusal leaves the list.
+    ///
+    /// It takes an entry, which is put together for this call alone: a key and a value would be put in place for each `put`.
     #[inline(never)]
-    fn add(&mut self, key: Val, val: Val) -> Result<(), AllocError>
-        requires new { value_at (entries_held self.old) key ≡ None }
-        ensures ok { OnOk result (entries_held self.new ≡ put (entries_held self.old) key val) }
+    fn add(&mut self, pair: Entry) -> Result<(), AllocError>
+        requires new { value_at (entries_held self.old) pair.key ≡ None }
+        ensures ok { OnOk result (entries_held self.new ≡ put (entries_held self.old) pair.key pair.val) }
         ensures err { OnErr result (entries_held self.new ≡ entries_held self.old) }
     {
         match self {
             Held::Few(few) => {
                 if few.is_full() {
-                    *self = Held::Many(few.table_with(key, val)?);
+                    *self = Held::Many(few.table_with(pair.key, pair.val)?);
                 } else {
-                    few.push(key, val)?;
+                    few.push(pair.key, pair.val)?;
                 }
             }
             Held::Many(table) => {
-                let _ = table.put(key, val)?;
+                let _ = table.put(pair.key, pair.val)?;
             }
         }
         Ok(())

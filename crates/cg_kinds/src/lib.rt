@@ -18,6 +18,7 @@ mod drop_tests;
 mod few;
 mod func;
 mod gap;
+mod hasher;
 mod held;
 mod items;
 #[cfg(test)]

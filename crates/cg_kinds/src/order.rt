@@ -109,7 +109,7 @@ fn restart(starts: &mut [u32])
 }
 
 /// With so many slots it takes no more.
-const MOST: usize = 0xFFFF_FFFE;
+const MOST: usize = 0x7FFF_FFFF;
 
 /// Makes room for one more, and for an eighth of what is there.
 #[inline(never)]

@@ -5,12 +5,17 @@ ghost use Rattle.cg_graph.specs.Value.{value_at, put, without_key, entry_at as e
 ghost use Rattle.cg_kind.specs.Calls.{has_key};
 ghost use Rattle.cg_kinds.specs.Pairs.{pair_entry, pairs_of, nothing, unboxed, IsSoundOrder};
 
+use crate::hasher::{KeyHashing, key_hashing};
 use crate::nine::Nine;
 use crate::order::Order;
 use cg_value::{Entry, Val};
 use indexmap::IndexMap;
+use indexmap::map::Entry as MapEntry;
 use std::alloc::{AllocError, Global};
 use std::marker::Model;
+
+/// A map of packed keys and values.
+type Map = IndexMap<Nine, Nine, KeyHashing>;
 
 /// Pairs in the order in which their keys came.
 ///
@@ -18,9 +23,11 @@ use std::marker::Model;
 /// its pairs take.
 #[derive(Drop)]
 pub struct Table {
-    map: IndexMap<Nine, Nine>,
+    map: Map,
     /// In a box, since most tables have none.
     order: Option<Box<Order>>,
+    /// For so many pairs the map has room, or had when it last grew: it tells that the map has grown again.
+    room: usize,
 }
 
 impl Model for Table {
@@ -35,9 +42,9 @@ impl Model for Table {
     ghost invariant = { λ t. IsOrderOf (length t.map.entries) (unboxed t.order) };
 }
 
-/// At most so many pairs close the gap that one before them leaves. An order for fewer would take too much room, and a take
-/// out of it as much time.
-const CLOSE: usize = 40;
+/// At most so many pairs close the gap that one before them leaves. An order for fewer would take more room than 300 bytes and
+/// 64 a pair leave for it, since the map doubles its index with the 37th.
+const CLOSE: usize = 38;
 
 /// The entry of a packed key and a packed value.
 #[inline(always)]
@@ -52,7 +59,7 @@ fn entry_of(key: &Nine, val: &Nine) -> Entry
 
 /// The pair at an index of a map.
 #[inline(always)]
-fn pair_at(map: &IndexMap<Nine, Nine>, index: usize) -> Entry
+fn pair_at(map: &Map, index: usize) -> Entry
     requires { index < length map.now.entries }
     ensures { result ≡ slice_index_or (pairs_of map.now.entries) index nothing }
 {
@@ -63,7 +70,7 @@ fn pair_at(map: &IndexMap<Nine, Nine>, index: usize) -> Entry
 }
 
 /// Takes out the pair at an index. The last one comes to its place.
-fn swap_out(map: &mut IndexMap<Nine, Nine>, index: usize) -> Entry
+fn swap_out(map: &mut Map, index: usize) -> Entry
     requires { index < length map.old.entries }
     ensures entry { result ≡ slice_index_or (pairs_of map.old.entries) index nothing }
     ensures rest { pairs_of map.new.entries ≡ swap_remove (pairs_of map.old.entries) index nothing }
@@ -76,7 +83,7 @@ fn swap_out(map: &mut IndexMap<Nine, Nine>, index: usize) -> Entry
 
 /// Takes out the pair under a key, and answers the index that it had. The last one comes to its place.
 #[inline(always)]
-fn swap_out_key(map: &mut IndexMap<Nine, Nine>, key: Val) -> Option<(usize, Entry)>
+fn swap_out_key(map: &mut Map, key: Val) -> Option<(usize, Entry)>
     ensures index { option_map (λ p. p.0) result ≡ position (has_key key) (pairs_of map.old.entries) }
     ensures entry { IfSome result (λ p. p.1 ≡ slice_index_or (pairs_of map.old.entries) p.0 nothing) }
     ensures rest { IfSome result (λ p. pairs_of map.new.entries ≡ swap_remove (pairs_of map.old.entries) p.0 nothing) }
@@ -95,7 +102,7 @@ fn swap_out_key(map: &mut IndexMap<Nine, Nine>, key: Val) -> Option<(usize, Entr
 }
 
 /// Takes out the pair at an index; those behind it move down by one.
-fn shift_out(map: &mut IndexMap<Nine, Nine>, index: usize) -> Entry
+fn shift_out(map: &mut Map, index: usize) -> Entry
     requires { index < length map.old.entries }
     ensures entry { result ≡ slice_index_or (pairs_of map.old.entries) index nothing }
     ensures rest { pairs_of map.new.entries ≡ remove (pairs_of map.old.entries) index }
@@ -117,22 +124,48 @@ fn sound(order: &Option<Box<Order>>)
     }
 }
 
+/// Puts a value under a key: a new key goes last. It answers the value that the key had.
+///
+/// It goes by way of an entry of the map: the error of `insert` carries the value, which is then moved in pieces.
+#[inline(always)]
+fn put_in(map: &mut Map, key: Val, val: Val) -> Result<Option<Val>, AllocError>
+    ensures ok { OnOk result (pairs_of map.new.entries ≡ put (pairs_of map.old.entries) key val) }
+    ensures replaced { IfOk result (λ was. was ≡ value_at (pairs_of map.old.entries) key) }
+    ensures present { IsSome (value_at (pairs_of map.old.entries) key) → IsOk result }
+    ensures err { OnErr result (map.new.entries ≡ map.old.entries) }
+{
+    match map.entry(Nine::new(key)) {
+        Ok(MapEntry::Occupied(there)) => {
+            let value = there.into_mut();
+            let was = value.val();
+            *value = Nine::new(val);
+            Ok(Some(was))
+        }
+        Ok(MapEntry::Vacant(place)) => {
+            let _ = place.insert_entry(Nine::new(val));
+            Ok(None)
+        }
+        Err(_) => Err(AllocError),
+    }
+}
+
 /// A map that has grown, and so doubled its room, keeps room for an eighth of its pairs besides.
 #[inline(always)]
-fn fit(map: &mut IndexMap<Nine, Nine>, grown: bool)
+fn fit(map: &mut Map, room: &mut usize)
     ensures { map.new.entries ≡ map.old.entries }
 {
-    if grown {
-        give_back(map);
+    if map.capacity() > *room {
+        give_back(map, room);
     }
 }
 
 /// A map gives back all room but that of its pairs and an eighth of them.
 #[inline(never)]
-fn give_back(map: &mut IndexMap<Nine, Nine>)
+fn give_back(map: &mut Map, room: &mut usize)
     ensures { map.new.entries ≡ map.old.entries }
 {
     map.shrink_to(map.len() + map.len() / 8 + 1);
+    *room = map.capacity();
 }
 
 /// The indexes below a number, in their own order, in a box.
@@ -144,22 +177,19 @@ fn boxed_order(alloc: Global, count: usize) -> Result<Box<Order>, AllocError>
     Ok(boxed)
 }
 
-/// The order in which a map has its pairs, in a box. It takes room, and so the map gives back what it does not need.
-fn noted_order(map: &mut IndexMap<Nine, Nine>) -> Result<Box<Order>, AllocError>
+/// The order in which a map has its pairs, in a box. It takes room, and so the map first gives back what it does not need.
+fn noted_order(map: &mut Map) -> Result<Box<Order>, AllocError>
     ensures same { map.new.entries ≡ map.old.entries }
     ensures order { IfOk result (λ order. order.value ≡ range_with_len 0 (length map.old.entries)) }
 {
-    let order = boxed_order(*map.allocator(), map.len())?;
     map.shrink_to_fit();
+    let order = boxed_order(*map.allocator(), map.len())?;
     Ok(order)
 }
 
 /// The pair that a map got last goes last in the order, or out of the map again.
 #[inline(always)]
-fn order_last(
-    map: &mut IndexMap<Nine, Nine>,
-    order: &mut Option<Box<Order>>,
-) -> Result<(), AllocError>
+fn order_last(map: &mut Map, order: &mut Option<Box<Order>>) -> Result<(), AllocError>
     ensures ok { OnOk result (map.new.entries ≡ map.old.entries) }
     ensures order { OnOk result (unboxed order.new ≡ option_map (λ o. o ++ length o ∷ []) (unboxed order.old)) }
     ensures err { OnErr result (map.new.entries ≡ take (length map.old.entries - 1) map.old.entries) }
@@ -183,8 +213,9 @@ impl Table {
         ensures { result ≡ [] }
     {
         Table {
-            map: IndexMap::new(alloc),
+            map: IndexMap::with_hasher(alloc, key_hashing()),
             order: None,
+            room: 0,
         }
     }
 
@@ -192,10 +223,15 @@ impl Table {
     pub fn with_room(alloc: Global, count: usize) -> Result<Table, AllocError>
         ensures { IfOk result (λ table. table ≡ []) }
     {
-        let mut map = IndexMap::with_capacity(alloc, count)?;
+        let mut map = IndexMap::with_capacity_and_hasher(alloc, count, key_hashing())?;
         // The map makes room for all that its groups can take.
         map.shrink_to(count);
-        Ok(Table { map, order: None })
+        let room = map.capacity();
+        Ok(Table {
+            map,
+            order: None,
+            room,
+        })
     }
 
     /// The number of pairs.
@@ -256,13 +292,11 @@ impl Table {
         // The length is what says that the keys are unique.
         let _count = self.map.len();
         sound(&self.order);
-        let full = self.map.capacity() == self.map.len();
-        let packed = Nine::new(key);
-        match self.map.insert(packed, Nine::new(val))? {
-            Some(was) => Ok(Some(was.val())),
+        match put_in(&mut self.map, key, val)? {
+            Some(was) => Ok(Some(was)),
             None => {
                 order_last(&mut self.map, &mut self.order)?;
-                fit(&mut self.map, full);
+                fit(&mut self.map, &mut self.room);
                 Ok(None)
             }
         }
