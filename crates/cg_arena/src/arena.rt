@@ -466,13 +466,15 @@ impl Arena {
         (slot.code, slot.body)
     }
 
-    /// The kind, the place and the collector's number, by one look-up.
+    /// The kind, the place, the collector's number and the place of the object's entries among the bodies of its kind, by
+    /// one look-up.
     #[inline(always)]
     pub fn head_of(&self, serial: u64) -> Head
         requires { HasNode self.now serial }
         ensures code { IfSome (map.get self.now.nodes serial) (λ n. result.code ≡ n.code) }
         ensures place { IfSome (map.get self.now.nodes serial) (λ n. result.place ≡ n.place) }
         ensures number { IfSome (map.get self.now.nodes serial) (λ n. result.number ≡ n.number) }
+        ensures body { IfSome (map.get self.now.nodes serial) (λ n. result.body ≡ n.body) }
     {
         Head::of(self.node(serial))
     }
@@ -484,6 +486,7 @@ impl Arena {
         ensures code { IfSome (map.get self.now.nodes serial) (λ n. result.code ≡ n.code) }
         ensures place { IfSome (map.get self.now.nodes serial) (λ n. result.place ≡ n.place) }
         ensures number { IfSome (map.get self.now.nodes serial) (λ n. result.number ≡ n.number) }
+        ensures body { IfSome (map.get self.now.nodes serial) (λ n. result.body ≡ n.body) }
     {
         Head::of(self.node_near(serial, near))
     }

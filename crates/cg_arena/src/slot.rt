@@ -101,12 +101,14 @@ impl Slot {
     }
 }
 
-/// What kind of object it is, where it stands, and the collector's number.
+/// What kind of object it is, where it stands, the collector's number, and where its entries are.
 #[derive(Clone, Copy, Debug)]
 pub struct Head {
     pub code: KindCode,
     pub place: Place,
     pub number: u32,
+    /// The place of the object's entries among the bodies of its kind.
+    pub body: usize,
 }
 
 impl Head {
@@ -116,11 +118,13 @@ impl Head {
         ensures code { result.code ≡ slot.code }
         ensures place { result.place ≡ slot.place }
         ensures number { result.number ≡ slot.word.number }
+        ensures body { result.body ≡ slot.body }
     {
         Head {
             code: slot.code,
             place: slot.place,
             number: slot.number(),
+            body: slot.body,
         }
     }
 }

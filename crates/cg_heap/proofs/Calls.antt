@@ -55,6 +55,12 @@ uncounted v (val.Ref o) h = absurd (h o refl)
 pub still_live : (v w : Nodes) (refs : List ℕ) → w ≡ counted_up refs v → (s : ℕ) → IsSome (fin.get v.nodes s) → IsSome (fin.get w.nodes s)
 still_live v w refs e s live = subst (λ (z : Nodes). IsSome (fin.get z.nodes s)) (sym e) (live-mapped (λ s n. node_counted_up (occurrences s refs) n) v.nodes s live)
 
+-- one count more has room too
+pub count_fits_after : (x : Val) (v w : Nodes) → w ≡ counted_up (references_of_value (Some x)) v → ((s : ℕ) → count_in (fin.get v.nodes s) < 4294967294) → (s : ℕ) → count_in (fin.get w.nodes s) < 4294967295
+count_fits_after x v w e fits s =
+    subst (λ (z : Nodes). count_in (fin.get z.nodes s) < 4294967295) (sym e)
+    (omega (arith, count-le (references_of_value (Some x)) v s, occurrences-le s (references_of_value (Some x)), reference-le x, fits s))
+
 -- a put lets no object go
 pub live_put : (store : Store) (o : ℕ) (key val : Val) (q : ℕ) → IsLive store q → IsLive (with_put store o key val) q
 live_put store o key val q live =
@@ -106,18 +112,16 @@ module _ {all : List Bodies} {v : Nodes} {names : List (Option Val)} {last : ℕ
   pub count_fits : (o : ℕ) → count_in (fin.get v.nodes o) < 4294967295
   count_fits o = omega (arith, count_below o)
 
+  -- and for two more
+  pub count_fits_twice : (o : ℕ) → count_in (fin.get v.nodes o) < 4294967294
+  count_fits_twice o = omega (arith, count_below o)
+
   pub total_is : outside_total was ≡ outside_total old
   total_is = ap outside_total h.is
 
   -- there is room for two holds more
   pub holds_fit : HasFewHolds old → (refs : List ℕ) → length refs ≤ 2 → outside_total old + length refs < 2147483648
   holds_fit few refs two = let holds : outside_total old < 2147483646 = few in omega (arith, holds, two)
-
-  -- one count more has room too
-  pub count_fits_after : (x : Val) (w : Nodes) → w ≡ counted_up (references_of_value (Some x)) v → (s : ℕ) → count_in (fin.get w.nodes s) < 4294967295
-  count_fits_after x w e s =
-      subst (λ (z : Nodes). count_in (fin.get z.nodes s) < 4294967295) (sym e)
-      (omega (arith, count-le (references_of_value (Some x)) v s, occurrences-le s (references_of_value (Some x)), reference-le x, count_below s))
 
   pub has_count : (o : ℕ) → 0 < outside_of old o → 0 < count_in (fin.get v.nodes o)
   has_count o has = counted-has all v.nodes objects number was h.keeps.0 o (subst (λ s. 0 < outside_of s o) (sym h.is) has)

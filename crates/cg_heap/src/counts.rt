@@ -1,5 +1,5 @@
 //! The counts of nodes, and what the entries and names of a heap add to them.
-ghost use Rattle.std.specs.Prelude.{◌≡◌, ◌≢◌, ◌<◌, ◌+◌, ℕ, Some, None, ◌^◌, ◌-◌, ◌∷◌, []};
+ghost use Rattle.std.specs.Prelude.{◌≡◌, ◌≢◌, ◌<◌, ◌+◌, ℕ, IfSome, Some, None, ◌^◌, ◌-◌, ◌∷◌, []};
 ghost use Rattle.std.specs.FinMap as fin;
 ghost use Rattle.cg_value.specs.declared.Val.TheVariants as val_of;
 ghost use Rattle.cg_graph.specs.Value.{references, references_of_value};
@@ -7,7 +7,7 @@ ghost use Rattle.cg_graph.specs.Object.{first_place as place_at_first};
 ghost use Rattle.cg_graph.specs.Holdings.{occurrences};
 ghost use Rattle.cg_arena.specs.Nodes.{HasNode, count_of as count_at, counted_up, new_node, with_node, without_node, with_room};
 ghost use Rattle.cg_heap.specs.Keeps.{seat_in};
-ghost use Rattle.cg_heap.specs.Calls.{number_less};
+ghost use Rattle.cg_heap.specs.Calls.{number_less, counted_put, number_put};
 
 use crate::boxes::Seat;
 use cg_arena::{Arena, Near};
@@ -33,6 +33,21 @@ pub fn seat_near(arena: &Arena, object: u64, near: Near) -> Seat
     Seat { code, body }
 }
 
+/// `seat_near`, and the place, in whose list the object stands, by one look-up.
+#[inline(always)]
+pub fn seat_and_place_near(arena: &Arena, object: u64, near: Near) -> (Seat, Place)
+    requires { HasNode arena.now object }
+    ensures seat { seat_in (fin.get arena.now.nodes object) ≡ Some (result.0.code, result.0.body) }
+    ensures place { IfSome (fin.get arena.now.nodes object) (λ n. result.1 ≡ n.place) }
+{
+    let head = arena.head_near(object, near);
+    let seat = Seat {
+        code: head.code,
+        body: head.body,
+    };
+    (seat, head.place)
+}
+
 /// The node of an object that nothing counts is gone. It answers where its entries are.
 pub fn drop_seat(arena: &mut Arena, object: u64) -> Seat
     requires has { HasNode arena.old object }
@@ -53,6 +68,23 @@ pub fn count_in(arena: &mut Arena, val: Val)
 {
     if let Val::Ref(serial) = val {
         arena.inc(serial);
+    }
+}
+
+/// Counts what a put adds: the reference of the value, and where it replaced none, that of the key, and one entry.
+#[inline(always)]
+pub fn count_put(arena: &mut Arena, entries: &mut u64, replaced: &Option<Val>, key: Val, val: Val)
+    requires live_key { (s : ℕ) → key ≡ val_of.Ref s → HasNode arena.old s }
+    requires live_val { (s : ℕ) → val ≡ val_of.Ref s → HasNode arena.old s }
+    requires room { (s : ℕ) → count_at arena.old s < 4294967294 }
+    requires fits { entries.old < 2 ^ 64 - 1 }
+    ensures counts { arena.new ≡ counted_put replaced.now key val arena.old }
+    ensures entries { entries.new ≡ number_put replaced.now entries.old }
+{
+    count_in(arena, val);
+    if let None = *replaced {
+        count_in(arena, key);
+        *entries += 1;
     }
 }
 

@@ -1,5 +1,5 @@
 //! Entries that come and go.
-ghost use Rattle.std.specs.Prelude.{◌≡◌, ◌≢◌, ◌<◌, ◌≤◌, ◌+◌, ◌++◌, ◌∷◌, ◌↔◌, [], IsTrue, IsOk, IsNone, IsSome, IfOk, IfSome, IfNone, OnOk, OnErr, Ok, Err, Some, None, length, remove, slice_get};
+ghost use Rattle.std.specs.Prelude.{◌≡◌, ◌≢◌, ◌<◌, ◌≤◌, ◌+◌, ◌++◌, ◌∷◌, ◌↔◌, ◌&&◌, ◌||◌, [], IsTrue, IsOk, IsNone, IsSome, IfOk, IfSome, IfNone, OnOk, OnErr, Ok, Err, Some, None, length, remove, slice_get};
 ghost use Rattle.std.specs.FinMap as fin;
 ghost use Rattle.cg_value.specs.declared.KindCode.TheVariants as code;
 ghost use Rattle.cg_value.specs.declared.Place.TheVariants as where_it_is;
@@ -10,11 +10,11 @@ ghost use Rattle.cg_graph.specs.Changes.{held, rewritten};
 ghost use Rattle.cg_kind.specs.Calls.{CanPut, value_under};
 ghost use Rattle.cg_heap.specs.Boxes.{HasBody, entries_in_box};
 ghost use Rattle.cg_heap.specs.declared.fault.HeapFault.TheVariants as fault;
-ghost use Rattle.cg_heap.specs.Calls.{HasFewHolds, IsLiveValue, IsMutable, CanTake, CanPutIn, entry_number, value_in, with_put, becomes_tracked, tracked_if, is_atom, may_be_tracked, is_untracked_dict, is_dict_at, code_may_be_tracked};
+ghost use Rattle.cg_heap.specs.Calls.{HasFewHolds, IsLiveValue, IsMutable, CanTake, CanPutIn, entry_number, value_in, with_put, becomes_tracked, tracked_if, is_atom, may_be_tracked, is_dict_at, code_may_be_tracked};
 
 use super::Heap;
 use crate::boxes::{Boxes, Seat};
-use crate::counts::{count_in, fewer, seat_near, seat_of};
+use crate::counts::{count_in, count_put, fewer, seat_and_place_near, seat_near, seat_of};
 use crate::fault::HeapFault;
 use cg_arena::Near;
 use cg_graph::MOST_ENTRIES;
@@ -150,7 +150,8 @@ impl<B: Kind> Heap<B> {
         self.put_near(object, Near::default(), key, val)
     }
 
-    /// `put`, where the object is near.
+    /// `put`, where the object is near. Below the limit of entries the key is looked for once, and the node of the object
+    /// is read once.
     #[inline(always)]
     pub fn put_near(
         &mut self,
@@ -173,80 +174,33 @@ impl<B: Kind> Heap<B> {
         ensures objects { result ≢ Err fault.ObjectLimit }
         ensures err { OnErr result (self.new ≡ self.old) }
     {
-        let tracks = self.becomes_tracked(object, near, key, val);
-        match self.put_value(object, near, key, val) {
-            Ok(old) => {
-                self.track_if(tracks, object);
-                Ok(old)
-            }
-            Err(refused) => Err(refused),
-        }
-    }
-
-    /// `put`, without the tracking. Below the limit of entries the key is looked for once.
-    #[inline(always)]
-    fn put_value(
-        &mut self,
-        object: u64,
-        near: Near,
-        key: Val,
-        val: Val,
-    ) -> Result<Option<Val>, HeapFault>
-        requires other { object ≢ 1 }
-        requires can { CanPutIn self.old object key }
-        requires live_key { IsLiveValue self.old key }
-        requires live_val { IsLiveValue self.old val }
-        requires few { HasFewHolds self.old }
-        ensures ok { OnOk result (self.new ≡ with_put self.old object key val) }
-        ensures replaced { IfOk result (λ was. was ≡ value_in self.old object key) }
-        ensures present { IsSome (value_in self.old object key) → IsOk result }
-        ensures limit { (result ≡ Err fault.EntryLimit)
-            ↔ ((value_in self.old object key ≡ None) × (MOST_ENTRIES ≤ entry_number self.old)) }
-        ensures objects { result ≢ Err fault.ObjectLimit }
-        ensures err { OnErr result (self.new ≡ self.old) }
-    {
-        let seat = seat_near(&self.arena, object, near);
+        let (seat, place) = seat_and_place_near(&self.arena, object, near);
         if is_past_limit(&self.boxes, self.entries, seat, &key) {
             return Err(HeapFault::EntryLimit);
         }
+        let tracks = self.makes_tracked(seat.code, place, key, val);
         match self.boxes.put(seat, key, val) {
-            Ok(Some(old)) => {
-                count_in(&mut self.arena, val);
-                Ok(Some(old))
-            }
-            Ok(None) => {
-                count_in(&mut self.arena, val);
-                count_in(&mut self.arena, key);
-                self.entries += 1;
-                Ok(None)
+            Ok(replaced) => {
+                count_put(&mut self.arena, &mut self.entries, &replaced, key, val);
+                self.track_if(tracks, object);
+                Ok(replaced)
             }
             Err(_) => Err(HeapFault::OutOfMemory),
         }
     }
 
-    /// Whether the object is an untracked dictionary that the key or the value makes tracked. Atoms make none tracked.
+    /// Whether an object of this kind at this place is an untracked dictionary that the key or the value makes tracked.
+    /// Atoms make none tracked.
     #[inline(always)]
-    fn becomes_tracked(&self, object: u64, near: Near, key: Val, val: Val) -> bool
-        requires live { IsLive self.now object }
+    fn makes_tracked(&self, code: KindCode, place: Place, key: Val, val: Val) -> bool
         requires live_key { IsLiveValue self.now key }
         requires live_val { IsLiveValue self.now val }
-        ensures { result ≡ becomes_tracked self.now object key val }
+        ensures { result ≡ (is_dict_at code place && (may_be_tracked self.now key || may_be_tracked self.now val)) }
     {
         if is_atom(key) && is_atom(val) {
             return false;
         }
-        self.is_untracked_dict(object, near)
-            && (self.may_be_tracked(key) || self.may_be_tracked(val))
-    }
-
-    /// Whether an object is an untracked dictionary.
-    #[inline(always)]
-    fn is_untracked_dict(&self, object: u64, near: Near) -> bool
-        requires { IsLive self.now object }
-        ensures { result ≡ is_untracked_dict (fin.get self.now.nodes object) }
-    {
-        let head = self.head_near(object, near);
-        is_untracked_dict(head.code, head.place)
+        is_untracked_dict(code, place) && (self.may_be_tracked(key) || self.may_be_tracked(val))
     }
 
     /// Whether a value may be tracked: an object that is no tuple, or a tracked one.
