@@ -110,9 +110,6 @@ pub(crate) fn value<B: Kind>(
     ensures err { IfErr result (λ r. IsRefused heap.now locals.now (λ w. machine.value w operand.now) r) }
 {
     match operand {
-        // As most operands are. The others stand in a call, so that little is put in place of each call of this one.
-        Operand::Int(number) => Ok(Val::Int(*number)),
-        Operand::Str(text) => Ok(Val::Str(*text)),
         Operand::Name(name) => {
             heap.sound();
             match heap.name(*name) {
@@ -120,11 +117,58 @@ pub(crate) fn value<B: Kind>(
                 None => Err(Refusal::NoName),
             }
         }
-        _ => match value_of(heap, locals, operand) {
+        _ => match number_or_other(heap, locals, operand) {
             Some(value) => Ok(value),
             None => Err(Refusal::NoName),
         },
     }
+}
+
+/// The value of an operand, if it has one, where it is no name.
+///
+/// One sort is asked for after the other, that of most operands first: one `match` for all would become a jump by way of a
+/// table. What a call in memory answers is cleared where the function begins that has the call, and so the calls stand apart.
+#[inline(always)]
+fn number_or_other<B: Kind>(
+    heap: &Heap<B>,
+    locals: &Option<Locals>,
+    operand: &Operand,
+) -> Option<Val>
+    requires known { All (λ n. n < length heap.now.names) (operand_texts operand.now) }
+    requires locals { LocalsLive heap.now locals.now }
+    ensures value { ReadsValue heap.now locals.now operand.now result }
+    ensures live { IfSome result (λ v. IsLiveValue heap.now v) }
+{
+    match operand {
+        Operand::Int(number) => Some(Val::Int(*number)),
+        _ => text_or_other(heap, locals, operand),
+    }
+}
+
+/// The same, where it is no number either.
+#[inline(always)]
+fn text_or_other<B: Kind>(heap: &Heap<B>, locals: &Option<Locals>, operand: &Operand) -> Option<Val>
+    requires known { All (λ n. n < length heap.now.names) (operand_texts operand.now) }
+    requires locals { LocalsLive heap.now locals.now }
+    ensures value { ReadsValue heap.now locals.now operand.now result }
+    ensures live { IfSome result (λ v. IsLiveValue heap.now v) }
+{
+    match operand {
+        Operand::Str(text) => Some(Val::Str(*text)),
+        _ => seldom_value(heap, locals, operand),
+    }
+}
+
+/// The value of an operand of any sort, if it has one.
+#[inline(always)]
+fn seldom_value<B: Kind>(heap: &Heap<B>, locals: &Option<Locals>, operand: &Operand) -> Option<Val>
+    requires known { All (λ n. n < length heap.now.names) (operand_texts operand.now) }
+    requires locals { LocalsLive heap.now locals.now }
+    ensures value { ReadsValue heap.now locals.now operand.now result }
+    ensures live { IfSome result (λ v. IsLiveValue heap.now v) }
+{
+    let value = value_of(heap, locals, operand);
+    value
 }
 
 /// The value of an operand, if it has one.
