@@ -14,8 +14,6 @@ pub struct Hints {
     guesses: Vec<u32>,
     // That power.
     bits: u32,
-    // One less than their number, or 0.
-    mask: u64,
 }
 
 /// The number of guesses that are made at first, and its power.
@@ -30,7 +28,6 @@ impl Hints {
             alloc,
             guesses: Vec::new(alloc),
             bits: 0,
-            mask: 0,
         }
     }
 
@@ -43,7 +40,7 @@ impl Hints {
     #[inline(always)]
     fn index_of(&self, serial: u64) -> usize {
         let mixed = serial ^ serial.wrapping_shr(self.bits);
-        (mixed & self.mask) as usize
+        mixed as usize & self.guesses.len().wrapping_sub(1)
     }
 
     /// A slot in which a serial may lie.
@@ -74,7 +71,6 @@ impl Hints {
             Ok(guesses) => {
                 self.guesses = guesses;
                 self.bits = bits;
-                self.mask = count.saturating_sub(1) as u64;
                 true
             }
             Err(_) => false,

@@ -1,5 +1,5 @@
 //! The script, or a frame, on top.
-ghost use Rattle.std.specs.Prelude.{◌≡◌, ◌<◌, ◌≤◌, ℕ, true, false, [], length, Option, Some, None, IfNone, IsTrue};
+ghost use Rattle.std.specs.Prelude.{◌≡◌, ◌<◌, ◌≤◌, ℕ, true, false, [], length, Option, Some, None, IfNone};
 ghost use Rattle.cg_machine.specs.Program.{commands_of, body_of as body_in};
 ghost use Rattle.cg_machine.specs.World.{World, push};
 ghost use Rattle.cg_machine.specs.Commands.{new_collection};
@@ -164,7 +164,6 @@ impl<B: Kind> Engine<B> {
         ensures fit { StaysFit self.old self.new }
     {
         let within = Some(locals);
-        let mut answer = None;
         let mut at = *number;
         'commands: loop {
             match next_of(body, Some(at)) {
@@ -175,9 +174,12 @@ impl<B: Kind> Engine<B> {
                         next: Some(after),
                     };
                     at = after;
-                    if !self.goes_on(&gone_on, &within, command, &mut answer) {
-                        *number = at;
-                        return answer;
+                    match self.step_change(&gone_on, &within, command) {
+                        Some(answer) => {
+                            *number = at;
+                            return Some(answer);
+                        }
+                        None => {}
                     }
                 }
                 _ => {
@@ -185,37 +187,6 @@ impl<B: Kind> Engine<B> {
                     return None;
                 }
             }
-        }
-    }
-
-    /// `step_change`, which tells whether the caller is to go on. What is answered where it is not is put aside: an answer by value
-    /// would cost the loop two instructions a command.
-    #[inline(always)]
-    fn goes_on(
-        &mut self,
-        caller: &Caller,
-        locals: &Option<Locals>,
-        command: &Command,
-        answer: &mut Option<Turned>,
-    ) -> bool
-        requires own { locals.now ≡ caller_locals caller.now }
-        requires changes { only_changes command.now ≡ true }
-        requires none { due_of self.old.policy ≡ None }
-        requires first { answer.old ≡ None }
-        requires stands { (script : AnyScript) × (next : Option ℕ) × ComesNext script caller.now next command.now
-            × IsAtTurn script (caller_activity (with_next next caller.now)) self.old }
-        ensures steps { (script : AnyScript) (next : Option ℕ) → ComesNext script caller.now next command.now
-            → StepsFrom script caller.now next self.old self.new answer.new }
-        ensures goes { IsTrue result → answer.new ≡ None }
-        ensures policy { IfNone answer.new (self.new.policy ≡ self.old.policy) }
-        ensures fit { StaysFit self.old self.new }
-    {
-        match self.step_change(caller, locals, command) {
-            Some(made) => {
-                *answer = Some(made);
-                false
-            }
-            None => true,
         }
     }
 

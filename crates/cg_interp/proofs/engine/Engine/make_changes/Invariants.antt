@@ -8,13 +8,12 @@ use Rattle.cg_interp.specs.Turns.{StaysFit}
 use Rattle.cg_interp.specs.Quietly.{ComesFrom}
 use Rattle.cg_interp.proofs.engine.Engine.make_changes.Given as goal
 
--- the commands so far were done quietly, the next one has the turn, no collection is due before it, and nothing is answered yet
+-- the commands so far were done quietly, the next one has the turn, and no collection is due before it
 abbrev pub invariant-commands : goal.invariant-commands
 invariant-commands g l = record {
   comes : (script : Script) → l.body ≡ body_of script l.procedure → ComesFrom script (activity_of.Frame l.locals l.procedure (Some l.initial.at)) l.fn.self (activity_of.Frame l.locals l.procedure (Some l.at)) l.self;
   fit : StaysFit l.fn.self l.self;
   none : due_of l.self.policy ≡ None;
-  first : l.answer ≡ None;
   left : length (commands_from (Some l.at) l.body) ≤ length (commands_from (Some l.initial.at) l.body);
 }
 
