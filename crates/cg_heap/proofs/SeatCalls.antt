@@ -21,7 +21,7 @@ use Rattle.cg_arena.specs.Nodes.{ArenaNode, Nodes, counted_up, with_room, withou
 use Rattle.cg_heap.proofs.ReferenceLemmas.{occurrences-append, references-remove, length-remove, last-remove, push-item, refs-are, reference-le, entry-le}
 use Rattle.cg_heap.specs.Boxes.{HasBody, entries_in_box, boxes_with_body, boxes_without, spare_in_box}
 use Rattle.cg_heap.specs.Keeps.{store_of, seat_in, IsWellMade, IsWellMadeAt, IsSaved}
-use Rattle.cg_heap.specs.Calls.{HasFewHolds, number_less, code_in, code_of, IsMutable, CanTake, CanPutIn, IsLiveValue, value_in, with_put, counted_put, number_put, is_dict_at, may_be_tracked, becomes_tracked}
+use Rattle.cg_heap.specs.Calls.{HasFewHolds, number_less, code_in, code_of, IsMutable, CanTake, CanPutIn, IsLiveValue, value_in, with_put, is_dict_at, may_be_tracked, becomes_tracked}
 use Rattle.cg_heap.proofs.Stands.{Closed, closed}
 use Rattle.cg_heap.proofs.Rewrites.{object-of, node_seated}
 use Rattle.cg_heap.proofs.Takes.{keeps-taken, enough}
@@ -295,16 +295,6 @@ module _ {all : List Bodies} {v : Nodes} {names : List (Option Val)} {last : ℕ
     after_adding key x can none spare all' is other live_key live_val fits v1 v' first second =
         subst (λ w. Closed all' v' names last rows objects (number + 1) (held (references_of_value w) (rewritten o (after_put (code_of old o) (entries_of old o) key x) old))) (sym none)
         (after_add key x can.1 can.2 none spare all' (is ∙ put_here key x spare) other live_key live_val fits v1 v' first second)
-
-    -- a put, by the value that it replaced
-    pub after_putting : (key x : Val) (replaced : Option Val) → CanPutIn old o key → replaced ≡ value_under code (entries_in_box all code body) key → (spare : ℕ) (all' : List Bodies) → all' ≡ boxes_with_body all code body (after_put code (entries_in_box all code body) key x) spare → o ≢ 1 → IsLiveValue old key → IsLiveValue old x → HasFewHolds old → (replaced ≡ None → number < 4000000) → (v' : Nodes) → v' ≡ counted_put replaced key x v → (number' : ℕ) → number' ≡ number_put replaced number
-        → Closed all' v' names last rows objects number' (with_put old o key x)
-    after_putting key x (Some was_val) can at spare all' is other live_key live_val few fits v' counts number' sizes =
-        subst (λ k. Closed all' v' names last rows objects k (with_put old o key x)) (sym sizes)
-        (after_replacing key x was_val can (sym at) spare all' is other live_val few v' counts)
-    after_putting key x None can at spare all' is other live_key live_val few fits v' counts number' sizes =
-        subst (λ k. Closed all' v' names last rows objects k (with_put old o key x)) (sym sizes)
-        (after_adding key x can (sym (value_here key) ∙ sym at) spare all' is other live_key live_val (fits refl) (counted_up (references_of_value (Some x)) v) v' refl counts)
 
     -- whether the put makes the object tracked, by its kind and place
     pub tracks_put : (key x : Val) (place : Place) → IsLive old o → IfSome (fin.get v.nodes o) (λ n. place ≡ n.place) → (is_dict_at code place && (may_be_tracked old key || may_be_tracked old x)) ≡ becomes_tracked old o key x

@@ -1,5 +1,5 @@
 -- What the calls of a heap ask for, and what they leave. (Ours.)
-use Rattle.std.specs.Prelude.{◌≡◌, ℕ, ◌+◌, ◌-◌, ◌<◌, ◌≤◌, ◌==◌, if◌then◌else◌, Bool, true, false, not, ◌&&◌, ◌||◌, Option, Some, None, List, length, option_map, slice_get}
+use Rattle.std.specs.Prelude.{◌≡◌, ℕ, ◌-◌, ◌<◌, ◌≤◌, ◌==◌, if◌then◌else◌, Bool, true, false, not, ◌&&◌, ◌||◌, Option, Some, None, List, length, option_map, slice_get}
 use Rattle.std.specs.FinMap as fin
 use Rattle.cg_value.specs.declared.Val.{Val}
 use Rattle.cg_value.specs.declared.Val.TheVariants.{None as Nothing, Int, Str, Ref}
@@ -16,7 +16,7 @@ use Rattle.cg_graph.specs.Places.{place_number, list_of, merge_lists}
 use Rattle.cg_graph.specs.Store.{Store, Node, IsLive, HasCode, entries_of, inner, count_of}
 use Rattle.cg_graph.specs.Changes.{held, rewritten, moved, with_place}
 use Rattle.cg_graph.specs.declared.limits.TheConstants.{MOST_ENTRIES, MOST_OBJECTS}
-use Rattle.cg_arena.specs.Nodes.{Nodes, counted_up, count_in_list, number_lowered}
+use Rattle.cg_arena.specs.Nodes.{count_in_list, number_lowered}
 use Rattle.cg_heap.specs.Keeps.{size, one, IsWellMadeAt, IsGarbage, outside_total}
 use Rattle.cg_heap.specs.Weak.{AreRows}
 
@@ -85,16 +85,6 @@ value_in store o key = value_under (code_of store o) (entries_of store o) key
 abbrev pub with_put : Store → ℕ → Val → Val → Store
 with_put store o key val = held (references_of_value (value_in store o key)) (rewritten o (after_put (code_of store o) (entries_of store o) key val) store)
 
--- the counts after a put, by the value that it replaced: where there was none, the key is new and counts too
-abbrev pub counted_put : Option Val → Val → Val → Nodes → Nodes
-counted_put None key val nodes = counted_up (references_of_value (Some key)) (counted_up (references_of_value (Some val)) nodes)
-counted_put (Some was) key val nodes = counted_up (references_of_value (Some val)) nodes
-
--- the number of entries after it
-abbrev pub number_put : Option Val → ℕ → ℕ
-number_put None number = number + 1
-number_put (Some was) number = number
-
 -- An object may be tracked when it is no tuple, or a tracked one; an atom may not. (Developer guide, "optimization: delay
 -- tracking containers".)
 abbrev pub code_may_be_tracked : KindCode → Place → Bool
@@ -104,11 +94,6 @@ code_may_be_tracked code place = true
 abbrev pub node_may_be_tracked : Option Node → Bool
 node_may_be_tracked None = false
 node_may_be_tracked (Some n) = code_may_be_tracked n.code n.place
-
--- a value that is no reference
-abbrev pub is_atom : Val → Bool
-is_atom (Ref s) = false
-is_atom v = true
 
 abbrev pub may_be_tracked : Store → Val → Bool
 may_be_tracked store Nothing = false

@@ -7,7 +7,7 @@ ghost use Rattle.cg_graph.specs.Object.{first_place as place_at_first};
 ghost use Rattle.cg_graph.specs.Holdings.{occurrences};
 ghost use Rattle.cg_arena.specs.Nodes.{HasNode, count_of as count_at, counted_up, new_node, with_node, without_node, with_room};
 ghost use Rattle.cg_heap.specs.Keeps.{seat_in};
-ghost use Rattle.cg_heap.specs.Calls.{number_less, counted_put, number_put};
+ghost use Rattle.cg_heap.specs.Calls.{number_less};
 
 use crate::boxes::Seat;
 use cg_arena::{Arena, Near};
@@ -68,23 +68,6 @@ pub fn count_in(arena: &mut Arena, val: Val)
 {
     if let Val::Ref(serial) = val {
         arena.inc(serial);
-    }
-}
-
-/// Counts what a put adds: the reference of the value, and where it replaced none, that of the key, and one entry.
-#[inline(always)]
-pub fn count_put(arena: &mut Arena, entries: &mut u64, replaced: &Option<Val>, key: Val, val: Val)
-    requires live_key { (s : ℕ) → key ≡ val_of.Ref s → HasNode arena.old s }
-    requires live_val { (s : ℕ) → val ≡ val_of.Ref s → HasNode arena.old s }
-    requires room { (s : ℕ) → count_at arena.old s < 4294967294 }
-    requires fits { entries.old < 2 ^ 64 - 1 }
-    ensures counts { arena.new ≡ counted_put replaced.now key val arena.old }
-    ensures entries { entries.new ≡ number_put replaced.now entries.old }
-{
-    count_in(arena, val);
-    if let None = *replaced {
-        count_in(arena, key);
-        *entries += 1;
     }
 }
 

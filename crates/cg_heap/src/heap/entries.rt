@@ -10,11 +10,11 @@ ghost use Rattle.cg_graph.specs.Changes.{held, rewritten};
 ghost use Rattle.cg_kind.specs.Calls.{CanPut, value_under};
 ghost use Rattle.cg_heap.specs.Boxes.{HasBody, entries_in_box};
 ghost use Rattle.cg_heap.specs.declared.fault.HeapFault.TheVariants as fault;
-ghost use Rattle.cg_heap.specs.Calls.{HasFewHolds, IsLiveValue, IsMutable, CanTake, CanPutIn, entry_number, value_in, with_put, becomes_tracked, tracked_if, is_atom, may_be_tracked, is_dict_at, code_may_be_tracked};
+ghost use Rattle.cg_heap.specs.Calls.{HasFewHolds, IsLiveValue, IsMutable, CanTake, CanPutIn, entry_number, value_in, with_put, becomes_tracked, tracked_if, may_be_tracked, is_dict_at, code_may_be_tracked};
 
 use super::Heap;
 use crate::boxes::{Boxes, Seat};
-use crate::counts::{count_in, count_put, fewer, seat_and_place_near, seat_near, seat_of};
+use crate::counts::{count_in, fewer, seat_and_place_near, seat_near, seat_of};
 use crate::fault::HeapFault;
 use cg_arena::Near;
 use cg_graph::MOST_ENTRIES;
@@ -180,26 +180,29 @@ impl<B: Kind> Heap<B> {
         }
         let tracks = self.makes_tracked(seat.code, place, key, val);
         match self.boxes.put(seat, key, val) {
-            Ok(replaced) => {
-                count_put(&mut self.arena, &mut self.entries, &replaced, key, val);
+            Ok(Some(was)) => {
+                count_in(&mut self.arena, val);
                 self.track_if(tracks, object);
-                Ok(replaced)
+                Ok(Some(was))
+            }
+            Ok(None) => {
+                count_in(&mut self.arena, val);
+                count_in(&mut self.arena, key);
+                self.entries += 1;
+                self.track_if(tracks, object);
+                Ok(None)
             }
             Err(_) => Err(HeapFault::OutOfMemory),
         }
     }
 
     /// Whether an object of this kind at this place is an untracked dictionary that the key or the value makes tracked.
-    /// Atoms make none tracked.
     #[inline(always)]
     fn makes_tracked(&self, code: KindCode, place: Place, key: Val, val: Val) -> bool
         requires live_key { IsLiveValue self.now key }
         requires live_val { IsLiveValue self.now val }
         ensures { result ≡ (is_dict_at code place && (may_be_tracked self.now key || may_be_tracked self.now val)) }
     {
-        if is_atom(key) && is_atom(val) {
-            return false;
-        }
         is_untracked_dict(code, place) && (self.may_be_tracked(key) || self.may_be_tracked(val))
     }
 
@@ -241,17 +244,6 @@ fn is_past_limit<B: Kind>(boxes: &Boxes<B>, entries: u64, seat: Seat, key: &Val)
         × (MOST_ENTRIES ≤ entries)) }
 {
     entries >= MOST_ENTRIES && !boxes.has_value(seat, *key)
-}
-
-/// Whether a value is no reference.
-#[inline(always)]
-fn is_atom(val: Val) -> bool
-    ensures { result ≡ is_atom val }
-{
-    match val {
-        Val::Ref(_) => false,
-        _ => true,
-    }
 }
 
 /// Whether a place is that of untracked objects.
