@@ -8,11 +8,13 @@ use Rattle.cg_interp.specs.Engines.{commands_from}
 use Rattle.cg_script.specs.declared.command.Command.{Command}
 
 -- the commands from one that is there on, and from past the end on
+pub next_there : (commands : List Command) (n : ℕ) (c : Command) → n < length commands → c ≡ get_or commands n c → commands_from (Some n) commands ≡ c ∷ drop (n + 1) commands
+next_there commands n c within is = drop_more commands n c within ∙ ap (λ x. x ∷ drop (n + 1) commands) (sym is)
+
 pub next_found : (commands : List Command) (next : Option ℕ) (n : ℕ) (c : Command) → next ≡ Some n → slice_get commands n ≡ Some c → commands_from next commands ≡ c ∷ drop (n + 1) commands
 next_found commands next n c is there =
     ap (λ k. commands_from k commands) is
-    ∙ drop_more commands n c (slice_get_within commands n c there)
-    ∙ ap (λ x. x ∷ drop (n + 1) commands) (get_or_from_slice_get commands n c c there)
+    ∙ next_there commands n c (slice_get_within commands n c there) (sym (get_or_from_slice_get commands n c c there))
 
 pub next_past : (commands : List Command) (next : Option ℕ) (n : ℕ) → next ≡ Some n → slice_get commands n ≡ None → commands_from next commands ≡ []
 next_past commands next n is there = ap (λ k. commands_from k commands) is ∙ by (slice_get_cases commands n).1

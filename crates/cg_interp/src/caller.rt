@@ -1,5 +1,5 @@
 //! What has commands: the script, or a frame.
-ghost use Rattle.std.specs.Prelude.{◌≡◌};
+ghost use Rattle.std.specs.Prelude.{◌≡◌, Some};
 ghost use Rattle.cg_interp.specs.Callers.{caller_activity, with_next, without_rest_in_frame};
 
 use crate::activity::Activity;
@@ -37,6 +37,17 @@ impl Caller {
                 procedure,
                 next,
             },
+        }
+    }
+
+    /// It goes on from the command with this number.
+    #[inline(always)]
+    pub fn go_on_from(&mut self, number: usize)
+        ensures { self.new ≡ with_next (Some number) self.old }
+    {
+        match self {
+            Caller::Script { next } => *next = Some(number),
+            Caller::Frame { next, .. } => *next = Some(number),
         }
     }
 

@@ -165,16 +165,18 @@ impl<B: Kind> Engine<B> {
     {
         let within = Some(locals);
         let mut at = *number;
+        // It is put together once: for each command it would be copied, field by field.
+        let mut caller = Caller::Frame {
+            locals,
+            procedure,
+            next: Some(at),
+        };
         'commands: loop {
-            match next_of(body, Some(at)) {
-                Some((command, after)) if only_changes(command) => {
-                    let gone_on = Caller::Frame {
-                        locals,
-                        procedure,
-                        next: Some(after),
-                    };
-                    at = after;
-                    match self.step_change(&gone_on, &within, command) {
+            match body.get(at) {
+                Some(command) if only_changes(command) => {
+                    at += 1;
+                    caller.go_on_from(at);
+                    match self.step_change(&caller, &within, command) {
                         Some(answer) => {
                             *number = at;
                             return Some(answer);

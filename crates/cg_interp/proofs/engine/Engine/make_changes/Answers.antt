@@ -1,44 +1,59 @@
-use Rattle.std.proofs.Common.{◌∙◌, ap, Some, length, arith}
+use Rattle.std.proofs.Common.{◌∙◌, sym, ap, subst, ◌+◌, Some, None, length, arith}
 use Rattle.cg_policy.specs.Policy.{due_of}
 use Rattle.cg_interp.specs.declared.activity.Activity.TheVariants as activity_of
 use Rattle.cg_interp.specs.declared.caller.Caller.TheVariants as caller_of
+use Rattle.cg_interp.specs.Callers.{caller_activity, caller_locals, with_next, ComesNext, StepsFrom}
+use Rattle.cg_interp.specs.Telling.{IsAtTurn}
 use Rattle.cg_interp.proofs.Keeping.{fit_then}
+use Rattle.cg_interp.proofs.NextCommands.{next_there}
 use Rattle.cg_interp.proofs.Quietly.{at_turn_then, comes_from_then, turns_from_then}
 use Rattle.cg_interp.proofs.StepLemmas.{caller_detects_none, comes_next}
 use Rattle.cg_interp.proofs.engine.Engine.make_changes.Goals as goal
 
+pub step_change-requires-clause-own : goal.step_change-requires-clause-own
+step_change-requires-clause-own g c =
+    let frame = c.go_on_from.ensures ∙ ap (with_next (Some (c.commands.at + 1))) c.commands.invariant.caller in
+    sym (ap caller_locals frame)
+
 pub step_change-requires-clause-stands : goal.step_change-requires-clause-stands
 step_change-requires-clause-stands g c =
+    let frame = c.go_on_from.ensures ∙ ap (with_next (Some (c.commands.at + 1))) c.commands.invariant.caller in
     let (script, is, at) = c.requires.stands in (
       script,
       Some c.commands.at,
-      comes_next script c.args.locals c.args.procedure (Some c.commands.at) c.in-Some.command.now c.in-Some.after c.args.body.now is c.in-Some.ensures.some,
-      at_turn_then script (activity_of.Frame c.args.locals c.args.procedure (Some c.args.number.now)) (activity_of.Frame c.args.locals c.args.procedure (Some c.commands.at)) c.args.self.now c.commands.self (c.commands.invariant.comes script is) c.commands.invariant.fit at,
+      (subst (λ k. ComesNext script k (Some c.commands.at) c.in-Some.command.now) (sym frame) (comes_next script c.args.locals c.args.procedure (Some c.commands.at) c.in-Some.command.now (c.commands.at + 1) c.args.body.now is (next_there c.args.body.now c.commands.at c.in-Some.command.now c.in-Some.ensures.lookup.3.0 c.in-Some.ensures.lookup.1))),
+      subst (λ k. IsAtTurn script (caller_activity (with_next (Some c.commands.at) k)) c.commands.self) (sym frame)
+          (at_turn_then script (activity_of.Frame c.args.locals c.args.procedure (Some c.args.number.now)) (activity_of.Frame c.args.locals c.args.procedure (Some c.commands.at)) c.args.self.now c.commands.self (c.commands.invariant.comes script is) c.commands.invariant.fit at),
     )
 
 pub returns-in-Some-step_change-clause-steps : goal.returns-in-Some-step_change-clause-steps
 returns-in-Some-step_change-clause-steps g c = λ script is.
+    let frame = c.go_on_from.ensures ∙ ap (with_next (Some (c.commands.at + 1))) c.commands.invariant.caller in
     turns_from_then script (activity_of.Frame c.args.locals c.args.procedure (Some c.args.number.now)) (activity_of.Frame c.args.locals c.args.procedure (Some c.commands.at)) c.args.self.now c.commands.self (c.commands.invariant.comes script is) c.commands.invariant.fit
     (λ w. caller_detects_none script c.commands.self w (caller_of.Frame c.args.locals c.args.procedure (Some c.commands.at))) _ _
+    (subst (λ k. StepsFrom script k (Some c.commands.at) c.commands.self c.step_change.new.self (Some c.in-Some-step_change.answer)) frame
     (c.in-Some-step_change.ensures.steps script (Some c.commands.at)
-    (comes_next script c.args.locals c.args.procedure (Some c.commands.at) c.in-Some.command.now c.in-Some.after c.args.body.now is c.in-Some.ensures.some))
+    (subst (λ k. ComesNext script k (Some c.commands.at) c.in-Some.command.now) (sym frame) (comes_next script c.args.locals c.args.procedure (Some c.commands.at) c.in-Some.command.now (c.commands.at + 1) c.args.body.now is (next_there c.args.body.now c.commands.at c.in-Some.command.now c.in-Some.ensures.lookup.3.0 c.in-Some.ensures.lookup.1)))))
 
 pub returns-in-Some-step_change-clause-left : goal.returns-in-Some-step_change-clause-left
 returns-in-Some-step_change-clause-left g c =
-    let one_less = ap length c.in-Some.ensures.some in
+    let one_less = ap length (next_there c.args.body.now c.commands.at c.in-Some.command.now c.in-Some.ensures.lookup.3.0 c.in-Some.ensures.lookup.1) in
     let so_far = c.commands.invariant.left in omega arith
 
 pub commands-preserved : goal.commands-preserved
 commands-preserved g c =
-    let one_less = ap length c.in-Some.ensures.some in
+    let frame = c.go_on_from.ensures ∙ ap (with_next (Some (c.commands.at + 1))) c.commands.invariant.caller in
+    let one_less = ap length (next_there c.args.body.now c.commands.at c.in-Some.command.now c.in-Some.ensures.lookup.3.0 c.in-Some.ensures.lookup.1) in
     let so_far = c.commands.invariant.left in
     record {
       comes = λ script is.
           comes_from_then script (activity_of.Frame c.args.locals c.args.procedure (Some c.args.number.now)) (activity_of.Frame c.args.locals c.args.procedure (Some c.commands.at)) c.args.self.now c.commands.self (c.commands.invariant.comes script is) c.commands.invariant.fit
-          (activity_of.Frame c.args.locals c.args.procedure (Some c.in-Some.after)) c.step_change.new.self
+          (activity_of.Frame c.args.locals c.args.procedure (Some (c.commands.at + 1))) c.step_change.new.self
+          (subst (λ k. StepsFrom script k (Some c.commands.at) c.commands.self c.step_change.new.self None) frame
           (c.in-None.ensures.steps script (Some c.commands.at)
-          (comes_next script c.args.locals c.args.procedure (Some c.commands.at) c.in-Some.command.now c.in-Some.after c.args.body.now is c.in-Some.ensures.some));
+          (subst (λ k. ComesNext script k (Some c.commands.at) c.in-Some.command.now) (sym frame) (comes_next script c.args.locals c.args.procedure (Some c.commands.at) c.in-Some.command.now (c.commands.at + 1) c.args.body.now is (next_there c.args.body.now c.commands.at c.in-Some.command.now c.in-Some.ensures.lookup.3.0 c.in-Some.ensures.lookup.1)))));
       fit = fit_then c.args.self.now c.commands.self c.step_change.new.self c.commands.invariant.fit c.step_change.ensures.fit;
       none = ap due_of c.in-None.ensures.policy ∙ c.commands.invariant.none;
+      caller = frame;
       left = omega arith;
     }
