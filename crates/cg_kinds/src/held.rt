@@ -19,6 +19,18 @@ pub enum Held {
     Many(Box<Table>),
 }
 
+/// Takes the pair under a key out of a few, if there is one.
+///
+/// It stands apart, since what a call answers in memory is moved there by all that is answered beside it.
+#[inline(always)]
+fn take_from(few: &mut Few, key: Val) -> Option<Entry>
+    ensures entry { result ≡ entry_under few.old key }
+    ensures rest { few.new ≡ without_key few.old key }
+{
+    let taken = few.take_key(key);
+    taken
+}
+
 impl Held {
     /// No pairs.
     pub fn new(alloc: Global) -> Held
@@ -139,7 +151,7 @@ impl Held {
         ensures rest { entries_held self.new ≡ without_key (entries_held self.old) key }
     {
         match self {
-            Held::Few(few) => few.take_key(key),
+            Held::Few(few) => take_from(few, key),
             Held::Many(table) => table.take_key(key),
         }
     }
