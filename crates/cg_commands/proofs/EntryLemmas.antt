@@ -26,7 +26,7 @@ use Rattle.cg_commands.specs.declared.locals.Locals.{Locals}
 use Rattle.cg_commands.specs.declared.operands.Wanted.{Wanted}
 use Rattle.cg_commands.specs.declared.operands.Wanted.TheVariants as wanted
 use Rattle.cg_commands.specs.Objects.{RefersTo, test_of}
-use Rattle.cg_commands.specs.Answers.{PerformsOnHeap}
+use Rattle.cg_commands.specs.Answers.{PerformsOnHeap, HasChanged}
 use Rattle.cg_commands.proofs.Bridges.{gives_up, gives_nothing, refilled}
 use Rattle.cg_commands.proofs.Limits.{room, one_fits}
 use Rattle.cg_commands.proofs.KeyLemmas.{entry_somewhere}
@@ -144,6 +144,14 @@ module _ (store : Store) (sound : IsSound store) (locals : Option Locals) (test 
       (is ∙ ap (λ l. held (entry_references e) (rewritten o (without_key l key) store)) entries-here)
       (refilled store w s.represents o es)
       (λ q some. lives_on store (rewritten o es store) (kinds-rewritten o es store) q (sound.live q (omega (arith, some, entry_holds store o i e here q))))
+
+  -- the same, where what is given up is another entry with its references
+  pub takes_references : (key : Val) (e given : Entry) (new : Store) → Some e ≡ entry_at (entries_of store o) key → new ≡ held (entry_references e) (rewritten o (without_key (entries_of store o) key) store) → entry_references given ≡ entry_references e
+      → PerformsOnHeap store locals (λ w. sets_entries w (object_from store.rows o there.node) (without_key there.node.entries key) (entry_references e)) new (Ok (Gives given))
+  takes_references key e given new at is same =
+      λ w s.
+      subst (λ refs. HasChanged (sets_entries w (object_from store.rows o there.node) (without_key there.node.entries key) (entry_references e)) [] refs new) (sym same)
+      (takes_key key e new at is w s)
 
 -- a dictionary or an instance
 abbrev pub IsKeyedTest : Wanted → Type 0

@@ -1,6 +1,7 @@
 //! Entries that come, go, and change. Each command answers the entry that is then to be given up.
-ghost use Rattle.std.specs.Prelude.{◌≡◌, ◌<◌, ◌∷◌, ◌++◌, [], length};
+ghost use Rattle.std.specs.Prelude.{◌≡◌, ◌<◌, ◌∷◌, ◌++◌, [], Some, length};
 ghost use Rattle.std.specs.List.{All};
+ghost use Rattle.cg_graph.specs.Value.{references_of_value, entry_references};
 ghost use Rattle.cg_script.specs.Texts.{operand_texts};
 ghost use Rattle.cg_script.specs.declared.command.Command.TheVariants as command;
 ghost use Rattle.cg_heap.specs.Calls.{HasFewHolds};
@@ -145,7 +146,7 @@ pub(crate) fn remove<B: Kind>(
     }
     heap.sound();
     match heap.take_key_near(target, near, key) {
-        Some(entry) => Ok(entry),
+        Some(entry) => Ok(references_of(entry)),
         None => Err(Refusal::NoKey),
     }
 }
@@ -195,7 +196,30 @@ pub(crate) fn del_attr<B: Kind>(
     let target = object_near(heap, instance, Wanted::Inst, &mut near)?;
     heap.sound();
     match heap.take_key_near(target, near, Val::Str(attr)) {
-        Some(entry) => Ok(entry),
+        Some(entry) => Ok(references_of(entry)),
         None => Err(Refusal::NoAttribute),
+    }
+}
+
+/// An entry with the references of this one. What else it has is not handed on, since nothing is given up for it: a whole entry
+/// would be moved once more, in other pieces than it was written in, for which the processor waits.
+#[inline(always)]
+fn references_of(entry: Entry) -> Entry
+    ensures { entry_references result ≡ entry_references entry }
+{
+    Entry {
+        key: reference_or_none(entry.key),
+        val: reference_or_none(entry.val),
+    }
+}
+
+/// A value that is a reference, else none.
+#[inline(always)]
+fn reference_or_none(val: Val) -> Val
+    ensures { references_of_value (Some result) ≡ references_of_value (Some val) }
+{
+    match val {
+        Val::Ref(object) => Val::Ref(object),
+        _ => Val::None,
     }
 }

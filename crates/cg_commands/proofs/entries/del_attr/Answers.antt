@@ -13,7 +13,7 @@ use Rattle.cg_commands.specs.Refusals.{number_of}
 use Rattle.cg_commands.specs.Objects.{test_of, refusal_of}
 use Rattle.cg_commands.proofs.Chains.{stops, goes_on}
 use Rattle.cg_commands.proofs.Steps.{reads-object, reads-entry_at, no-entry_at}
-use Rattle.cg_commands.proofs.EntryLemmas.{takes_key, can_take}
+use Rattle.cg_commands.proofs.EntryLemmas.{takes_references, can_take}
 use Rattle.cg_commands.proofs.entries.del_attr.Goals as goal
 
 pub returns-in_err-instance : goal.returns-in_err-instance
@@ -33,10 +33,10 @@ take_key_near-requires-clause-can g c =
 
 pub returns-in-Some : goal.returns-in-Some
 returns-in-Some g c =
-    (goes_on c.args.heap.now c.take_key_near.new.self c.args.locals.now (λ w. value w c.args.instance.now) c.in_ok-instance.instance _ (Ok (done.Gives c.in-Some.entry)) c.in_ok-instance.ensures.ok
-    (goes_on c.args.heap.now c.take_key_near.new.self c.args.locals.now (λ w. object w (test_of wanted.Inst) (number_of (refusal_of wanted.Inst)) c.in_ok-instance.instance) (object_from c.args.heap.now.rows c.in_ok-target.target c.in_ok-target.ensures.ok.node) _ (Ok (done.Gives c.in-Some.entry)) (reads-object c.args.heap.now c.args.locals.now (test_of wanted.Inst) c.in_ok-instance.instance c.in_ok-target.target c.in_ok-target.ensures.ok (number_of (refusal_of wanted.Inst)))
-    (goes_on c.args.heap.now c.take_key_near.new.self c.args.locals.now (λ w. ok_or (entry_at c.in_ok-target.ensures.ok.node.entries (val.Str c.args.attr)) no_attribute) c.in-Some.entry _ (Ok (done.Gives c.in-Some.entry)) (reads-entry_at c.args.heap.now c.args.locals.now (test_of wanted.Inst) c.in_ok-instance.instance c.in_ok-target.target c.in_ok-target.ensures.ok (val.Str c.args.attr) c.in-Some.entry c.in-Some.ensures.entry no_attribute)
-    (takes_key c.args.heap.now c.sound.ensures c.args.locals.now (test_of wanted.Inst) c.in_ok-instance.instance c.in_ok-target.target c.in_ok-target.ensures.ok (val.Str c.args.attr) c.in-Some.entry c.take_key_near.new.self c.in-Some.ensures.entry c.in-Some.ensures.rest))))
+    (goes_on c.args.heap.now c.take_key_near.new.self c.args.locals.now (λ w. value w c.args.instance.now) c.in_ok-instance.instance _ (Ok (done.Gives c.references_of.result)) c.in_ok-instance.ensures.ok
+    (goes_on c.args.heap.now c.take_key_near.new.self c.args.locals.now (λ w. object w (test_of wanted.Inst) (number_of (refusal_of wanted.Inst)) c.in_ok-instance.instance) (object_from c.args.heap.now.rows c.in_ok-target.target c.in_ok-target.ensures.ok.node) _ (Ok (done.Gives c.references_of.result)) (reads-object c.args.heap.now c.args.locals.now (test_of wanted.Inst) c.in_ok-instance.instance c.in_ok-target.target c.in_ok-target.ensures.ok (number_of (refusal_of wanted.Inst)))
+    (goes_on c.args.heap.now c.take_key_near.new.self c.args.locals.now (λ w. ok_or (entry_at c.in_ok-target.ensures.ok.node.entries (val.Str c.args.attr)) no_attribute) c.in-Some.entry _ (Ok (done.Gives c.references_of.result)) (reads-entry_at c.args.heap.now c.args.locals.now (test_of wanted.Inst) c.in_ok-instance.instance c.in_ok-target.target c.in_ok-target.ensures.ok (val.Str c.args.attr) c.in-Some.entry c.in-Some.ensures.entry no_attribute)
+    (takes_references c.args.heap.now c.sound.ensures c.args.locals.now (test_of wanted.Inst) c.in_ok-instance.instance c.in_ok-target.target c.in_ok-target.ensures.ok (val.Str c.args.attr) c.in-Some.entry c.references_of.result c.take_key_near.new.self c.in-Some.ensures.entry c.in-Some.ensures.rest c.references_of.ensures))))
 
 pub returns-in-None : goal.returns-in-None
 returns-in-None g c =

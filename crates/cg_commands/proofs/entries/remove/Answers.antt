@@ -13,7 +13,7 @@ use Rattle.cg_commands.specs.Refusals.{number_of}
 use Rattle.cg_commands.specs.Objects.{test_of, refusal_of}
 use Rattle.cg_commands.proofs.Chains.{stops, goes_on}
 use Rattle.cg_commands.proofs.Steps.{reads-object, reads-entry_at, no-entry_at, reads-key, no-hash}
-use Rattle.cg_commands.proofs.EntryLemmas.{takes_key, can_take}
+use Rattle.cg_commands.proofs.EntryLemmas.{takes_references, can_take}
 use Rattle.cg_commands.proofs.entries.remove.Goals as goal
 
 pub returns-in_err-dict : goal.returns-in_err-dict
@@ -47,12 +47,12 @@ take_key_near-requires-clause-can g c =
 
 pub returns-in-Some : goal.returns-in-Some
 returns-in-Some g c =
-    (goes_on c.args.heap.now c.take_key_near.new.self c.args.locals.now (λ w. value w c.args.dict.now) c.in_ok-dict.dict _ (Ok (done.Gives c.in-Some.entry)) c.in_ok-dict.ensures.ok
-    (goes_on c.args.heap.now c.take_key_near.new.self c.args.locals.now (λ w. value w c.args.key.now) c.in_ok-key.key _ (Ok (done.Gives c.in-Some.entry)) c.in_ok-key.ensures.ok
-    (goes_on c.args.heap.now c.take_key_near.new.self c.args.locals.now (λ w. object w (test_of wanted.Dict) (number_of (refusal_of wanted.Dict)) c.in_ok-dict.dict) (object_from c.args.heap.now.rows c.in_ok-target.target c.in_ok-target.ensures.ok.node) _ (Ok (done.Gives c.in-Some.entry)) (reads-object c.args.heap.now c.args.locals.now (test_of wanted.Dict) c.in_ok-dict.dict c.in_ok-target.target c.in_ok-target.ensures.ok (number_of (refusal_of wanted.Dict)))
-    (goes_on c.args.heap.now c.take_key_near.new.self c.args.locals.now (λ w. unless (is_hashable w c.in_ok-key.key) unhashable) tt _ (Ok (done.Gives c.in-Some.entry)) (reads-key c.args.heap.now c.args.locals.now c.in_ok-key.key c.is_hashable.result c.is_hashable.ensures c.if-not-is_hashable.false)
-    (goes_on c.args.heap.now c.take_key_near.new.self c.args.locals.now (λ w. ok_or (entry_at c.in_ok-target.ensures.ok.node.entries c.in_ok-key.key) no_key) c.in-Some.entry _ (Ok (done.Gives c.in-Some.entry)) (reads-entry_at c.args.heap.now c.args.locals.now (test_of wanted.Dict) c.in_ok-dict.dict c.in_ok-target.target c.in_ok-target.ensures.ok c.in_ok-key.key c.in-Some.entry c.in-Some.ensures.entry no_key)
-    (takes_key c.args.heap.now c.sound.ensures c.args.locals.now (test_of wanted.Dict) c.in_ok-dict.dict c.in_ok-target.target c.in_ok-target.ensures.ok c.in_ok-key.key c.in-Some.entry c.take_key_near.new.self c.in-Some.ensures.entry c.in-Some.ensures.rest))))))
+    (goes_on c.args.heap.now c.take_key_near.new.self c.args.locals.now (λ w. value w c.args.dict.now) c.in_ok-dict.dict _ (Ok (done.Gives c.references_of.result)) c.in_ok-dict.ensures.ok
+    (goes_on c.args.heap.now c.take_key_near.new.self c.args.locals.now (λ w. value w c.args.key.now) c.in_ok-key.key _ (Ok (done.Gives c.references_of.result)) c.in_ok-key.ensures.ok
+    (goes_on c.args.heap.now c.take_key_near.new.self c.args.locals.now (λ w. object w (test_of wanted.Dict) (number_of (refusal_of wanted.Dict)) c.in_ok-dict.dict) (object_from c.args.heap.now.rows c.in_ok-target.target c.in_ok-target.ensures.ok.node) _ (Ok (done.Gives c.references_of.result)) (reads-object c.args.heap.now c.args.locals.now (test_of wanted.Dict) c.in_ok-dict.dict c.in_ok-target.target c.in_ok-target.ensures.ok (number_of (refusal_of wanted.Dict)))
+    (goes_on c.args.heap.now c.take_key_near.new.self c.args.locals.now (λ w. unless (is_hashable w c.in_ok-key.key) unhashable) tt _ (Ok (done.Gives c.references_of.result)) (reads-key c.args.heap.now c.args.locals.now c.in_ok-key.key c.is_hashable.result c.is_hashable.ensures c.if-not-is_hashable.false)
+    (goes_on c.args.heap.now c.take_key_near.new.self c.args.locals.now (λ w. ok_or (entry_at c.in_ok-target.ensures.ok.node.entries c.in_ok-key.key) no_key) c.in-Some.entry _ (Ok (done.Gives c.references_of.result)) (reads-entry_at c.args.heap.now c.args.locals.now (test_of wanted.Dict) c.in_ok-dict.dict c.in_ok-target.target c.in_ok-target.ensures.ok c.in_ok-key.key c.in-Some.entry c.in-Some.ensures.entry no_key)
+    (takes_references c.args.heap.now c.sound.ensures c.args.locals.now (test_of wanted.Dict) c.in_ok-dict.dict c.in_ok-target.target c.in_ok-target.ensures.ok c.in_ok-key.key c.in-Some.entry c.references_of.result c.take_key_near.new.self c.in-Some.ensures.entry c.in-Some.ensures.rest c.references_of.ensures))))))
 
 pub returns-in-None : goal.returns-in-None
 returns-in-None g c =
