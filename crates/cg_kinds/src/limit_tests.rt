@@ -116,12 +116,12 @@ fn one_key_too_many_for_a_list_keeps_the_order(rt: HostRuntime) -> Result<(), Fa
         go_over(&rt, alloc, &mut dicts, count)?;
     }
     // Of so many, the first key is dropped with enough behind it to note the order down.
-    'more: for count in 41..=45 {
+    'more: for count in 45..=49 {
         go_over(&rt, alloc, &mut dicts, count)?;
     }
     let mut instances = InstKind::new(alloc);
     go_over(&rt, alloc, &mut instances, 25)?;
-    go_over(&rt, alloc, &mut instances, 42)
+    go_over(&rt, alloc, &mut instances, 46)
 }
 
 /// Steps at random, of a dictionary and of a plain list, over a few more keys than a list takes.
