@@ -172,9 +172,19 @@ impl Order {
         Ok(order)
     }
 
-    /// The next index goes last.
+    /// The next index goes last. Where the slots are full of many gaps, these are closed, and no more room is taken.
     #[inline(always)]
     pub fn push(&mut self) -> Result<(), AllocError>
+        ensures ok { OnOk result (self.new ≡ self.old ++ length self.old ∷ []) }
+        ensures err { OnErr result (self.new ≡ self.old) }
+    {
+        self.close_full();
+        self.append()
+    }
+
+    /// `push`, with more room where the slots are full.
+    #[inline(always)]
+    fn append(&mut self) -> Result<(), AllocError>
         ensures ok { OnOk result (self.new ≡ self.old ++ length self.old ∷ []) }
         ensures err { OnErr result (self.new ≡ self.old) }
     {
@@ -252,6 +262,17 @@ impl Order {
         ensures { self.new ≡ self.old }
     {
         if self.homes.len() < self.slots.len() / 2 {
+            self.close();
+        }
+    }
+
+    /// Closes the gaps, where no slot is left and more than an eighth of them are gaps.
+    #[inline(always)]
+    fn close_full(&mut self)
+        ensures { self.new ≡ self.old }
+    {
+        let count = self.slots.len();
+        if count == self.slots.capacity() && self.homes.len() < count - count / 8 {
             self.close();
         }
     }

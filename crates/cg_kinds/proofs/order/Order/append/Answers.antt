@@ -2,7 +2,7 @@ use Rattle.std.proofs.Common.{◌≡◌, ◌∙◌, ◌++◌, ◌∷◌, [], ap,
 use Rattle.std.proofs.lemmas.Int.{ints}
 use Rattle.cg_kinds.specs.Order.{AreHomes, AreStarts}
 use Rattle.cg_kinds.proofs.OrderLemmas.{few_homes, pushed_homes, pushed_starts}
-use Rattle.cg_kinds.proofs.order.Order.push.Goals as goal
+use Rattle.cg_kinds.proofs.order.Order.append.Goals as goal
 
 pub overflow_cast-index : goal.overflow_cast-index
 overflow_cast-index c = omega (arith, ints, few_homes c.self.inside.slots.items c.self.inside.homes.items c.self.invariant.0, c.len-index.ensures, ap length c.make_room.ensures.homes, c.self.invariant.1.small)
