@@ -6,6 +6,7 @@ mod PairLemmas
 mod TestLemmas
 mod FewLemmas
 mod KeysOnce
+mod SumLemmas
 mod SlotLemmas
 mod OrderLemmas
 mod TableLemmas

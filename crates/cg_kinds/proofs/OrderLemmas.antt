@@ -1,5 +1,5 @@
 -- What slots and homes say of each other, and what that leaves of the order once an index is taken or comes last.
-use Rattle.std.proofs.Common.{◌≡◌, ◌≢◌, ℕ, zero, suc, ◌+◌, ◌*◌, ◌-◌, ◌<◌, ◌≤◌, ◌^◌, List, [], ◌∷◌, ◌++◌, Option, Some, None, refl, sym, ap, ◌∙◌, subst, length, take, get_or, set, map, arith, length-append, inl, inr, ◌⊎◌}
+use Rattle.std.proofs.Common.{◌≡◌, ◌≢◌, ℕ, zero, suc, ◌+◌, ◌*◌, ◌-◌, ◌<◌, ◌≤◌, ◌^◌, ◌/◌, min, List, [], ◌∷◌, ◌++◌, Option, Some, None, refl, sym, ap, ◌∙◌, subst, length, take, get_or, set, map, arith, length-append, inl, inr, ◌⊎◌}
 use Rattle.std.specs.Prelude.{slice_get, remove, All}
 use Rattle.std.specs.List.{filter, range_with_len}
 use Rattle.std.proofs.lemmas.Option.{slice_get-get_or}
@@ -9,7 +9,8 @@ use Rattle.std.proofs.lemmas.Bool.{cases_lt, cases_eq}
 use Rattle.std.proofs.lemmas.Bool.Decides.{nat_tests}
 use Rattle.std.proofs.lemmas.List.{length-set, get_or-set_same, get_or-set_other, get_or_append_left, get_or_push, get_or_past, get_or_default, length_push, length-map, take-append-le}
 use Rattle.std.proofs.lemmas.Grind.{flat_map-append}
-use Rattle.cg_kinds.specs.Order.{indexes, pairs_before, renamed, AreHomes, AreStarts, AreClosed, IsSound}
+use Rattle.cg_kinds.specs.Order.{indexes, pairs_before, renamed, AreHomes, AreSums, AreCounts, AreClosed, IsSound}
+use Rattle.cg_kinds.proofs.SumLemmas.{IsOneMore, raised, zero_last}
 use Rattle.cg_kinds.proofs.SlotLemmas.{pair_within, gap_later, before_all, few_pairs}
 
 some_is : (a b : ℕ) → Some a ≡ Some b → a ≡ b
@@ -261,16 +262,24 @@ same_order slots now closed = ap indexes closed ∙ indexes-closed (indexes slot
 pub length-closed : (slots now : List (Option ℕ)) → now ≡ map (λ index. Some index) (indexes slots) → length now ≡ length (indexes slots)
 length-closed slots now closed = ap length closed ∙ length-map (indexes slots) (λ index. Some index)
 
-pub closed_starts : (order : List ℕ) (now : List (Option ℕ)) (starts : List ℕ) → now ≡ map (λ index. Some index) order
-    → ((block : ℕ) → block < length starts → get_or starts block 0 ≡ 64 * block) → length now ≤ 64 * length starts → 64 * length starts ≤ length now + 63 → length now < 2 ^ 32 → AreStarts now starts
-closed_starts order now starts closed start covered close small = record {
-  start = λ block within.
-      let n : length now ≡ length order = ap length closed ∙ length-map order (λ index. Some index) in
-      start block within
-      ∙ sym (before-closed order (64 * block) (omega (arith, within, close, n)))
-      ∙ ap (λ l. pairs_before l (64 * block)) (sym closed);
+-- as many pairs are before a slot, as far as there are slots, where there is no gap
+before_within : (order : List ℕ) (now : List (Option ℕ)) → now ≡ map (λ index. Some index) order → (slot : ℕ) → pairs_before now slot ≡ min slot (length now)
+before_within order now closed slot =
+    let n : length now ≡ length order = ap length closed ∙ length-map order (λ index. Some index) in
+    elim (cases_lt slot (length order)) [
+      | inl low ↦
+          let e : pairs_before now slot ≡ slot = ap (λ l. pairs_before l slot) closed ∙ before-closed order slot (omega (arith, low)) in
+          omega (arith, e, n, low)
+      | inr high ↦
+          let e : length (indexes now) ≡ length order = ap (λ l. length (indexes l)) closed ∙ ap length (indexes-closed order) in
+          omega (arith, before_all now slot (omega (arith, n, high)), e, n, high)
+    ]
+
+pub closed_counts : (order : List ℕ) (now : List (Option ℕ)) (counts : List ℕ) → now ≡ map (λ index. Some index) order
+    → ((block : ℕ) → block < length counts → get_or counts block 0 ≡ min 64 (length now - 64 * block)) → length now ≤ 64 * length counts → length now < 2 ^ 32 → AreCounts now counts
+closed_counts order now counts closed each covered small = record {
+  each = λ block within. omega (arith, each block within, before_within order now closed (64 * block + 64), before_within order now closed (64 * block));
   covered = covered;
-  close = omega (arith, close);
   small = small;
 }
 
@@ -357,15 +366,37 @@ pushed_homes slots homes are = record {
           inr (same, some_is index (length homes) (sym is ∙ ap (λ n. get_or now n None) same ∙ get_or_push slots (Some (length homes)) None (length slots) refl))
     ]
 
-pub pushed_starts : (slots : List (Option ℕ)) (x : Option ℕ) (starts : List ℕ) → AreStarts slots starts → length slots < 64 * length starts → length slots + 1 < 2 ^ 32 → AreStarts (slots ++ x ∷ []) starts
-pushed_starts slots x starts are block small = record {
-  start = λ b within.
-      are.start b within
-      ∙ ap (λ l. length (indexes l)) (sym (take-append-le (64 * b) slots (x ∷ []) (omega (arith, within, are.close))));
-  covered = omega (arith, block, length_push slots x);
-  close = omega (arith, are.close, length_push slots x);
-  small = omega (arith, small, length_push slots x);
+-- one more slot with a pair
+pushed_more : (slots : List (Option ℕ)) (index : ℕ) → IsOneMore (pairs_before slots) (pairs_before (slots ++ Some index ∷ [])) (length slots)
+pushed_more slots index = record {
+  earlier = λ k before. ap (λ l. length (indexes l)) (take-append-le k slots (Some index ∷ []) before);
+  later = λ k behind.
+      let n : length (indexes (slots ++ Some index ∷ [])) ≡ length (indexes slots) + 1 =
+      ap length (flat_map-append option_to_list slots (Some index ∷ [])) ∙ length_push (indexes slots) index in
+      omega (arith, n, before_all (slots ++ Some index ∷ []) k (omega (arith, behind, length_push slots (Some index))), before_all slots k (omega (arith, behind)));
 }
+
+pub pushed_counts : (slots : List (Option ℕ)) (index : ℕ) (counts counts_now : List ℕ) → AreCounts slots counts → length slots < 64 * length counts → length slots + 1 < 2 ^ 32
+    → counts_now ≡ set counts (length slots / 64) (get_or counts (length slots / 64) 0 + 1) → AreCounts (slots ++ Some index ∷ []) counts_now
+pushed_counts slots index counts counts_now are room small counts_are =
+    let a : length counts_now ≡ length counts = ap length counts_are ∙ length-set counts (length slots / 64) (get_or counts (length slots / 64) 0 + 1) in
+    record {
+      each = subst (AreSums (pairs_before (slots ++ Some index ∷ []))) (sym counts_are)
+          (raised (pairs_before slots) (pairs_before (slots ++ Some index ∷ [])) (length slots) (pushed_more slots index) counts (omega (arith, room)) are.each);
+      covered = omega (arith, a, room, length_push slots (Some index));
+      small = omega (arith, small, length_push slots (Some index));
+    }
+
+-- a block with no slot yet
+pub block_counts : (slots : List (Option ℕ)) (counts counts_now : List ℕ) → AreCounts slots counts → counts_now ≡ counts ++ 0 ∷ [] → AreCounts slots counts_now
+block_counts slots counts counts_now are counts_are =
+    let a : length counts_now ≡ length counts + 1 = ap length counts_are ∙ length_push counts 0 in
+    record {
+      each = subst (AreSums (pairs_before slots)) (sym counts_are)
+          (zero_last (pairs_before slots) counts are.each (before_all slots (64 * length counts + 64) (omega (arith, are.covered)) ∙ sym (before_all slots (64 * length counts) are.covered)));
+      covered = omega (arith, a, are.covered);
+      small = are.small;
+    }
 
 pub few_homes : (slots : List (Option ℕ)) (homes : List ℕ) → AreHomes slots homes → length homes ≤ length slots
 few_homes slots homes are = omega (arith, are.each, few_pairs slots)

@@ -1,17 +1,15 @@
 -- Slots with gaps: how many pairs are before one, and what a new gap does to that.
 use Rattle.std.proofs.Common.{◌≡◌, ℕ, zero, suc, ◌+◌, ◌*◌, ◌-◌, ◌<◌, ◌≤◌, ◌/◌, List, [], ◌∷◌, ◌++◌, Option, Some, None, refl, sym, ap, ◌∙◌, subst, length, take, drop, get_or, set, arith, length-append, IsSome, inl, inr}
 use Rattle.std.proofs.lemmas.Bool.{cases_lt}
-use borrow.Rule.Slice.PartMut.{put_mid}
-use Rattle.std.proofs.Common.{map}
-use Rattle.std.proofs.lemmas.List.{get_or_past, get_or_default, length-drop, length-map, length-take-le, get_or_append_left, get_or-take, get_or-append_right, get_or-map, get_or-drop, drop_all}
-use Rattle.std.proofs.lemmas.List.Edits.{length-between, get_or-between}
-use Rattle.std.proofs.lemmas.Slice.{between_to_end}
+use Rattle.std.proofs.lemmas.List.{get_or_past, get_or_default}
 use Rattle.std.proofs.lemmas.Option.{none-some}
 use Rattle.std.specs.List.{between}
 use Rattle.std.specs.Option.{option_to_list}
 use Rattle.std.proofs.lemmas.Grind.{flat_map-append}
 use Rattle.std.proofs.lemmas.List.{take_more, append-nil, take-set-le, length-take, length-set, take_all, take-take, drop-take, take-append-drop}
-use Rattle.cg_kinds.specs.Order.{indexes, pairs_before, AreStarts}
+use Rattle.std.specs.List.{sum}
+use Rattle.cg_kinds.specs.Order.{indexes, pairs_before, sum_before, AreSums, AreCounts}
+use Rattle.cg_kinds.proofs.SumLemmas.{sums_reach, sum_all, IsOneMore, one_within, lowered}
 
 -- one more slot
 pub before_more : (slots : List (Option ℕ)) (slot : ℕ) → slot < length slots → pairs_before slots (slot + 1) ≡ pairs_before slots slot + length (option_to_list (get_or slots slot None))
@@ -86,110 +84,71 @@ pair_there slots slot more = elim (cases_lt slot (length slots)) [
     by None is within = absurd (omega (arith, more, before_more-gap slots slot within is))
     by (Some index) is within = subst IsSome (sym is) refl
 
-module _ (slots : List (Option ℕ)) (starts : List ℕ) (are : AreStarts slots starts) where
-  -- the start of a slot's block, and what lies between
-  pub start_and_rest : (slot : ℕ) → slot < length slots → get_or starts (slot / 64) 0 + length (indexes (between (slot / 64 * 64) slot slots)) ≡ pairs_before slots slot
-  start_and_rest slot within =
-      let start = are.start (slot / 64) (omega (arith, are.covered)) in
-      let n : 64 * (slot / 64) ≡ slot / 64 * 64 = omega arith in
-      let e : pairs_before slots (64 * (slot / 64)) ≡ pairs_before slots (slot / 64 * 64) = ap (pairs_before slots) n in
+-- a new gap is one pair less behind its slot
+pub gap_less : (slots : List (Option ℕ)) (slot index : ℕ) → get_or slots slot None ≡ Some index → IsOneMore (pairs_before (set slots slot None)) (pairs_before slots) slot
+gap_less slots slot index pair = record {
+  earlier = λ k before. sym (gap_earlier slots slot k before);
+  later = λ k behind. sym (gap_later slots slot k index pair behind);
+}
+
+module _ (slots : List (Option ℕ)) (counts : List ℕ) (are : AreCounts slots counts) where
+  -- the pairs in the blocks before one
+  pub counts_reach : (block : ℕ) → block ≤ length counts → sum_before counts block ≡ pairs_before slots (block * 64)
+  counts_reach block within =
+      let n : 64 * block ≡ block * 64 = omega arith in
+      sums_reach (pairs_before slots) counts refl are.each block within ∙ ap (pairs_before slots) n
+
+  pub counts_all : sum counts ≡ length (indexes slots)
+  counts_all =
+      sym (sum_all counts (length counts) (omega arith)) ∙ counts_reach (length counts) (omega arith) ∙ before_all slots (length counts * 64) (omega (arith, are.covered))
+
+  pub block_there : (slot : ℕ) → slot < length slots → slot / 64 < length counts
+  block_there slot within = omega (arith, within, are.covered)
+
+  -- the pairs before a slot's block, and what lies between
+  pub block_and_rest : (slot : ℕ) → slot < length slots → sum_before counts (slot / 64) + length (indexes (between (slot / 64 * 64) slot slots)) ≡ pairs_before slots slot
+  block_and_rest slot within =
       let m : slot / 64 * 64 + (slot - slot / 64 * 64) ≡ slot = omega arith in
       let f : pairs_before slots (slot / 64 * 64 + (slot - slot / 64 * 64)) ≡ pairs_before slots slot = ap (pairs_before slots) m in
-      omega (arith, start, e, f, before_later slots (slot / 64 * 64) (slot - slot / 64 * 64))
-
-  pub block_behind : (slot : ℕ) → slot < length slots → slot / 64 + 1 ≤ length starts
-  block_behind slot within = omega (arith, are.covered)
-
-  -- the first block that may have the pair with so many before it
-  pub block_within : (i : ℕ) → i < length (indexes slots) → i / 64 < length starts
-  block_within i within = omega (arith, within, few_pairs slots, are.covered)
-
-  pub block_before : (i : ℕ) → i < length (indexes slots) → get_or starts (i / 64) 0 ≤ i
-  block_before i within =
-      omega (arith, are.start (i / 64) (block_within i within), few_before slots (64 * (i / 64)))
+      omega (arith, f, counts_reach (slot / 64) (omega (arith, within, are.covered)), before_later slots (slot / 64 * 64) (slot - slot / 64 * 64))
 
   -- in a block with no gap each slot has a pair
-  pub full_block : (block k : ℕ) → block + 1 < length starts → get_or starts (block + 1) 0 ≡ get_or starts block 0 + 64 → k < 64
-      → (pairs_before slots (block * 64 + k) ≡ get_or starts block 0 + k) × IsSome (get_or slots (block * 64 + k) None)
+  pub full_block : (block k : ℕ) → block < length counts → get_or counts block 0 ≡ 64 → k < 64
+      → (pairs_before slots (block * 64 + k) ≡ pairs_before slots (block * 64) + k) × IsSome (get_or slots (block * 64 + k) None)
   full_block block k within full below =
       let n : 64 * block ≡ block * 64 = omega arith in
       let e : pairs_before slots (64 * block) ≡ pairs_before slots (block * 64) = ap (pairs_before slots) n in
-      let m : 64 * (block + 1) ≡ block * 64 + k + (64 - k) = omega arith in
-      let f : pairs_before slots (64 * (block + 1)) ≡ pairs_before slots (block * 64 + k + (64 - k)) = ap (pairs_before slots) m in
-      let o : 64 * (block + 1) ≡ block * 64 + k + 1 + (63 - k) = omega arith in
-      let g : pairs_before slots (64 * (block + 1)) ≡ pairs_before slots (block * 64 + k + 1 + (63 - k)) = ap (pairs_before slots) o in
-      let first = are.start block (omega (arith, within)) in
-      let last = are.start (block + 1) within in
-      let here : pairs_before slots (block * 64 + k) ≡ get_or starts block 0 + k =
-      omega (arith, e, f, first, last, full, before_steps slots (block * 64) k, before_steps slots (block * 64 + k) (64 - k)) in
+      let m : 64 * block + 64 ≡ block * 64 + k + (64 - k) = omega arith in
+      let f : pairs_before slots (64 * block + 64) ≡ pairs_before slots (block * 64 + k + (64 - k)) = ap (pairs_before slots) m in
+      let o : 64 * block + 64 ≡ block * 64 + k + 1 + (63 - k) = omega arith in
+      let g : pairs_before slots (64 * block + 64) ≡ pairs_before slots (block * 64 + k + 1 + (63 - k)) = ap (pairs_before slots) o in
+      let whole = are.each block within in
+      let here : pairs_before slots (block * 64 + k) ≡ pairs_before slots (block * 64) + k =
+      omega (arith, e, f, whole, full, before_steps slots (block * 64) k, before_steps slots (block * 64 + k) (64 - k)) in
       let next : pairs_before slots (block * 64 + k) < pairs_before slots (block * 64 + k + 1) =
-      omega (arith, here, g, last, full, before_steps slots (block * 64 + k + 1) (63 - k)) in
+      omega (arith, here, e, g, whole, full, before_steps slots (block * 64 + k + 1) (63 - k)) in
       (here, pair_there slots (block * 64 + k) next)
 
-  -- a pair's start is no start of a block behind it
-  pub behind_positive : (slot index : ℕ) → get_or slots slot None ≡ Some index → (block : ℕ) → slot < 64 * block → block < length starts → 0 < get_or starts block 0
-  behind_positive slot index pair block later within =
-      omega (arith, are.start block within, gap_later slots slot (64 * block) index pair later)
+  module _ (slot index : ℕ) (pair : get_or slots slot None ≡ Some index) where
+    -- no more pairs are before a block without the slot's pair than behind it
+    block_grows : pairs_before (set slots slot None) (64 * (slot / 64)) ≤ pairs_before (set slots slot None) (64 * (slot / 64) + 64)
+    block_grows = before_grows (set slots slot None) (64 * (slot / 64)) (64 * (slot / 64) + 64) (omega arith)
 
-  -- one pair less before each block behind a new gap
-  pub lowered : (slot index : ℕ) → get_or slots slot None ≡ Some index → (now : List ℕ) → length now ≡ length starts
-      → ((block : ℕ) → block < length starts → block < slot / 64 + 1 → get_or now block 0 ≡ get_or starts block 0)
-      → ((block : ℕ) → block < length starts → slot / 64 + 1 ≤ block → get_or now block 0 ≡ get_or starts block 0 - 1)
-      → AreStarts (set slots slot None) now
-  lowered slot index pair now long before behind = record {
-    start = λ block within. elim (cases_lt block (slot / 64 + 1)) [
-      | inl low ↦
-          before block (omega (arith, within, long)) low
-          ∙ are.start block (omega (arith, within, long))
-          ∙ sym (gap_earlier slots slot (64 * block) (omega (arith, low)))
-      | inr high ↦
-          let b = behind block (omega (arith, within, long)) high in
-          let s = are.start block (omega (arith, within, long)) in
-          let l = gap_later slots slot (64 * block) index pair (omega (arith, high)) in
-          omega (arith, b, s, l)
-    ];
-    covered = omega (arith, length-set slots slot None, long, are.covered);
-    close = omega (arith, length-set slots slot None, long, are.close);
-    small = omega (arith, length-set slots slot None, are.small);
-  }
+    -- the block of a pair has one
+    pub block_some : slot / 64 < length counts → 0 < get_or counts (slot / 64) 0
+    block_some within = one_within (pairs_before (set slots slot None)) (pairs_before slots) slot (gap_less slots slot index pair) counts within are.each block_grows
 
--- the starts from a block on, each lowered by one
-module _ (starts : List ℕ) (from : ℕ) (within : from ≤ length starts) where
-  abbrev pub lowered_from : List ℕ
-  lowered_from = put_mid from (length starts - from) starts (map (λ n. n - 1) (between from (length starts) starts))
-
-  lowered_from_is : lowered_from ≡ take from starts ++ map (λ n. n - 1) (drop from starts)
-  lowered_from_is =
-      ap (λ l. take from starts ++ (map (λ n. n - 1) l ++ drop (length starts - from) (drop from starts))) (between_to_end starts from (length starts) (omega arith))
-      ∙ ap (λ l. take from starts ++ (map (λ n. n - 1) (drop from starts) ++ l)) (drop_all (length starts - from) (drop from starts) (omega (arith, length-drop from starts)))
-      ∙ ap (λ l. take from starts ++ l) (append-nil (map (λ n. n - 1) (drop from starts)))
-
-  pub length-lowered_from : length lowered_from ≡ length starts
-  length-lowered_from =
-      ap length lowered_from_is
-      ∙ length-append (take from starts) (map (λ n. n - 1) (drop from starts))
-      ∙ (omega (arith, length-take-le from starts within, length-map (drop from starts) (λ n. n - 1), length-drop from starts))
-
-  pub lowered_from-before : (block : ℕ) → block < length starts → block < from → get_or lowered_from block 0 ≡ get_or starts block 0
-  lowered_from-before block below before =
-      ap (λ l. get_or l block 0) lowered_from_is
-      ∙ get_or_append_left (take from starts) (map (λ n. n - 1) (drop from starts)) 0 block (omega (arith, before, length-take-le from starts within))
-      ∙ get_or-take from starts block 0 before
-
-  pub lowered_from-behind : (block : ℕ) → block < length starts → from ≤ block → get_or lowered_from block 0 ≡ get_or starts block 0 - 1
-  lowered_from-behind block below behind =
-      let n : from + (block - from) ≡ block = omega arith in
-      ap (λ l. get_or l block 0) lowered_from_is
-      ∙ get_or-append_right (take from starts) (map (λ n. n - 1) (drop from starts)) from block 0 (length-take-le from starts within) behind
-      ∙ get_or-map (λ n. n - 1) (drop from starts) (block - from) 0 0 (omega (arith, below, behind, length-drop from starts))
-      ∙ ap (λ m. m - 1) (get_or-drop from starts (block - from) 0 ∙ ap (λ m. get_or starts m 0) n)
-
-  -- none of these is 0, where each of the whole from there on is not
-  pub each_behind : ((block : ℕ) → from ≤ block → block < length starts → 0 < get_or starts block 0) → (k : ℕ) → k < length (between from (length starts) starts) → 0 < get_or (between from (length starts) starts) k 0
-  each_behind positive k below =
-      let n = length-between starts from (length starts) (omega arith) in
-      let e = get_or-between starts from (length starts) k 0 (omega (arith, n, below)) in
-      omega (arith, e, positive (from + k) (omega arith) (omega (arith, n, below)))
+    -- one pair less in the block of a new gap
+    pub lowered_counts : slot / 64 < length counts → (now : List (Option ℕ)) (counts_now : List ℕ) → ((k : ℕ) → pairs_before now k ≡ pairs_before (set slots slot None) k) → length now ≡ length slots
+        → counts_now ≡ set counts (slot / 64) (get_or counts (slot / 64) 0 - 1) → AreCounts now counts_now
+    lowered_counts within now counts_now before long counts_are =
+        let a : length counts_now ≡ length counts = ap length counts_are ∙ length-set counts (slot / 64) (get_or counts (slot / 64) 0 - 1) in
+        let lower = lowered (pairs_before (set slots slot None)) (pairs_before slots) slot (gap_less slots slot index pair) counts within are.each block_grows in
+        record {
+          each = subst (AreSums (pairs_before now)) (sym counts_are) (λ block below. omega (arith, lower block below, before (64 * block + 64), before (64 * block)));
+          covered = omega (arith, a, long, are.covered);
+          small = omega (arith, long, are.small);
+        }
 
 -- a slot past the last has no pair
 pub pair_within : (slots : List (Option ℕ)) (slot index : ℕ) → get_or slots slot None ≡ Some index → slot < length slots

@@ -3,8 +3,8 @@ use Rattle.std.proofs.Common.{◌≡◌, ℕ, zero, suc, ◌+◌, ◌-◌, ◌<�
 use Rattle.std.specs.Prelude.{position, slice_get, remove, swap_remove, All}
 use Rattle.std.specs.List.{position_from, range_with_len, IsDistinct}
 use Rattle.std.specs.Map.{keys_of, lookup}
-use Rattle.indexmap.specs.IndexMap.{insert_entry, swap_remove_entry}
-use Rattle.indexmap.proofs.MapLemmas.{absent_from_lookup, insert_entry-absent, swap_remove_entry-found}
+use Rattle.indexmap.specs.IndexMap.{swap_remove_entry}
+use Rattle.indexmap.proofs.MapLemmas.{swap_remove_entry-found}
 use Rattle.std.proofs.lemmas.Bool.{cases_lt, cases_eq}
 use Rattle.std.proofs.lemmas.Iterator.Adapters.{position_from-zero}
 use Rattle.std.proofs.lemmas.List.{length-set, length-map, length-take-le, get_or-set_same, get_or-set_other, get_or_append_left, get_or_push, get_or-map, get_or-take, length_push, same_lists, get_or_default, append-nil, map-append, map-set, take-map, take_all, take_more, take_at, drop_all}

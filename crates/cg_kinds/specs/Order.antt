@@ -1,6 +1,6 @@
 -- The order in which the keys of a map came: an index of the map in each slot, or a gap. (Ours.)
 use Rattle.std.specs.Prelude.{◌≡◌, ℕ, zero, suc, ◌+◌, ◌*◌, ◌<◌, ◌≤◌, ◌^◌, ◌==◌, List, Option, None, Some, All, length, map, take, slice_get, slice_index, slice_index_or, if◌then◌else◌}
-use Rattle.std.specs.List.{flat_map}
+use Rattle.std.specs.List.{flat_map, sum}
 use Rattle.std.specs.Option.{option_to_list}
 
 -- what a slot's word says: 0 is a gap, and any other an index, by one more
@@ -29,11 +29,29 @@ pub record AreClosed (slots : List (Option ℕ)) (homes : List ℕ) : Type 0 whe
   pub homes_were : AreHomes was homes
   pub closed : slots ≡ map (λ index. Some index) (indexes was)
 
--- each block of 64 slots has a start, the number of pairs in the slots before it
-pub record AreStarts (slots : List (Option ℕ)) (starts : List ℕ) : Type 0 where
-  pub start : (block : ℕ) → block < length starts → slice_index starts block ≡ pairs_before slots (64 * block)
-  pub covered : length slots ≤ 64 * length starts
-  pub close : 64 * length starts ≤ length slots + 64
+-- the sum of the numbers before one
+abbrev pub sum_before : List ℕ → ℕ → ℕ
+sum_before numbers k = sum (take k numbers)
+
+-- each of these is what a count gains over a part of 64
+abbrev pub AreSums : (ℕ → ℕ) → List ℕ → Type 0
+AreSums before sums = (part : ℕ) → part < length sums → before (64 * part + 64) ≡ before (64 * part) + slice_index sums part
+
+-- the sums of the parts of numbers; they are fewer
+pub record AreSumsOf (numbers sums : List ℕ) : Type 0 where
+  pub each : AreSums (sum_before numbers) sums
+  pub covered : length numbers ≤ 64 * length sums
+  pub fewer : length sums < length numbers
+
+-- above numbers there are the sums of their parts, or nothing
+abbrev pub AreAbove : List ℕ → Option (List ℕ) → Type 0
+AreAbove numbers None = Unit {0}
+AreAbove numbers (Some sums) = AreSumsOf numbers sums
+
+-- the numbers of pairs in each block of 64 slots
+pub record AreCounts (slots : List (Option ℕ)) (counts : List ℕ) : Type 0 where
+  pub each : AreSums (pairs_before slots) counts
+  pub covered : length slots ≤ 64 * length counts
   pub small : length slots < 2 ^ 32
 
 -- the index of a pair after the pair at one index is gone, and the last has come to its place

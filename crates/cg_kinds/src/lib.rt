@@ -8,7 +8,7 @@
 //! - `items`: what lists, tuples, functions and weak references share; `list`, `tuple`, `func` and `weak`: these four.
 //! - `listed`: the values of a list, a few of them `packed` in one vector, or any number as `values`, in a column of sorts and one of numbers.
 //! - `pairs`: dictionaries and instances; `held`: their pairs, a `few` in a list or any number in a table.
-//! - `table`: pairs in a map, in the order in which their keys came, each key and value as `nine` bytes; `order`: that order, once the map has another; `slots`: its slots and gaps; `gap`: what one slot holds, in four bytes.
+//! - `table`: pairs in a map, in the order in which their keys came, each key and value as `nine` bytes; `order`: that order, once the map has another; `slots`: its slots and gaps; `sums`: how many pairs are in each block of slots; `gap`: what one slot holds, in four bytes.
 #![tactic(auto)]
 
 mod body_slab;
@@ -30,6 +30,7 @@ mod order;
 mod packed;
 mod pairs;
 mod slots;
+mod sums;
 mod table;
 #[cfg(test)]
 mod tests;

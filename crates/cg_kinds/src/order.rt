@@ -2,10 +2,11 @@
 ghost use Rattle.std.specs.Prelude.{◌≡◌, ◌≢◌, is_some, ◌+◌, ◌*◌, ◌-◌, ◌<◌, ◌≤◌, ◌^◌, ◌++◌, ◌∷◌, ℕ, [], All, length, map, None, Some, IfOk, IsSome, OnOk, OnErr, remove, slice_get, slice_index, slice_index_or, slice_set};
 ghost use Rattle.std.specs.List.{range_with_len};
 ghost use Rattle.std.specs.Vec.{vec_len, vec_capacity};
-ghost use Rattle.cg_kinds.specs.Order.{indexes, pairs_before as before, renamed, AreHomes, AreStarts, AreClosed, IsSound};
+ghost use Rattle.cg_kinds.specs.Order.{indexes, pairs_before as before, renamed, AreHomes, AreCounts, AreClosed, IsSound};
 
 use crate::gap::IndexOrGap;
-use crate::slots::{BLOCK, lower_behind, pairs_before, slot_of};
+use crate::slots::{BLOCK, pairs_before, slot_of};
+use crate::sums::Sums;
 use std::alloc::{AllocError, Global};
 use std::marker::Model;
 
@@ -16,19 +17,19 @@ pub struct Order {
     slots: Vec<IndexOrGap>,
     /// The slot of the pair at each index.
     homes: Vec<u32>,
-    /// The number of pairs before each block of slots.
-    starts: Vec<u32>,
+    /// The number of pairs in each block of slots.
+    counts: Sums,
 }
 
 impl Model for Order {
     ghost use Rattle.std.specs.Prelude.{List, ℕ};
-    ghost use Rattle.cg_kinds.specs.Order.{indexes, AreHomes, AreStarts};
+    ghost use Rattle.cg_kinds.specs.Order.{indexes, AreHomes, AreCounts};
 
     ghost Value = { List ℕ };
 
     ghost view = { λ o. indexes o.slots.items };
 
-    ghost invariant = { λ o. AreHomes o.slots.items o.homes.items × AreStarts o.slots.items o.starts.items };
+    ghost invariant = { λ o. AreHomes o.slots.items o.homes.items × AreCounts o.slots.items o.counts };
 }
 
 /// Takes the index out of a slot. The last pair comes to that index.
@@ -57,23 +58,23 @@ fn empty_slot(slots: &mut [IndexOrGap], homes: &mut Vec<u32>, slot: usize) -> us
     }
 }
 
-/// Takes the index out of a slot, with one pair less before the blocks behind it. The last pair comes to that index.
+/// Takes the index out of a slot, with one pair less in its block. The last pair comes to that index.
 fn take_slot(
     slots: &mut Vec<IndexOrGap>,
     homes: &mut Vec<u32>,
-    starts: &mut Vec<u32>,
+    counts: &mut Sums,
     slot: usize,
 ) -> usize
     requires homes { AreHomes slots.old.items homes.old.items }
-    requires starts { AreStarts slots.old.items starts.old.items }
+    requires counts { AreCounts slots.old.items counts.old }
     requires there { IsSome (slice_index_or slots.old.items slot None) }
     ensures index { slice_index_or slots.old.items slot None ≡ Some result }
     ensures homes { AreHomes slots.new.items homes.new.items }
-    ensures starts { AreStarts slots.new.items starts.new.items }
+    ensures counts { AreCounts slots.new.items counts.new }
     ensures rest { indexes slots.new.items ≡ map (renamed (length homes.old.items - 1) result)
         (remove (indexes slots.old.items) (before slots.old.items slot)) }
 {
-    lower_behind(slots.as_slice(), starts.as_mut_slice(), slot);
+    counts.lower(slot / BLOCK);
     empty_slot(slots.as_mut_slice(), homes, slot)
 }
 
@@ -97,17 +98,6 @@ fn settle(slots: &[IndexOrGap], homes: &mut [u32])
     }
 }
 
-/// The starts of blocks that have no gap.
-fn restart(starts: &mut [u32])
-    requires { 64 * length starts.old < 2 ^ 32 + 64 }
-    ensures long { length starts.new ≡ length starts.old }
-    ensures start { (block : ℕ) → block < length starts.new → slice_index starts.new block ≡ 64 * block }
-{
-    'starts: for block in 0..starts.len() {
-        starts[block] = (block * BLOCK) as u32;
-    }
-}
-
 /// With so many slots it takes no more.
 const MOST: usize = 0x7FFF_FFFF;
 
@@ -125,20 +115,19 @@ fn grow<T>(full: &mut Vec<T>) -> Result<(), AllocError>
 fn make_room(
     slots: &mut Vec<IndexOrGap>,
     homes: &mut Vec<u32>,
-    starts: &mut Vec<u32>,
+    counts: &mut Sums,
 ) -> Result<(), AllocError>
     requires homes { AreHomes slots.old.items homes.old.items }
-    requires starts { AreStarts slots.old.items starts.old.items }
+    requires counts { AreCounts slots.old.items counts.old }
     ensures slots { slots.new.items ≡ slots.old.items }
     ensures homes { homes.new.items ≡ homes.old.items }
-    ensures starts { AreStarts slots.old.items starts.new.items }
+    ensures counts { AreCounts slots.old.items counts.new }
     ensures room { OnOk result (vec_len slots.new < vec_capacity slots.new) }
     ensures room_at_home { OnOk result (vec_len homes.new < vec_capacity homes.new) }
-    ensures block { OnOk result (length slots.old.items < 64 * length starts.new.items) }
+    ensures block { OnOk result (length slots.old.items < 64 * length counts.new) }
     ensures small { OnOk result (length slots.old.items + 1 < 2 ^ 32) }
 {
     let slot = slots.len();
-    let index = homes.len();
     if slot >= MOST {
         return Err(AllocError);
     }
@@ -148,8 +137,8 @@ fn make_room(
     if homes.len() == homes.capacity() {
         grow(homes)?;
     }
-    if slot / BLOCK == starts.len() {
-        starts.push(index as u32)?;
+    if slot / BLOCK == counts.len() {
+        counts.push()?;
         Ok(())
     } else {
         Ok(())
@@ -164,7 +153,7 @@ impl Order {
         let mut order = Order {
             slots: Vec::with_capacity(alloc, count)?,
             homes: Vec::with_capacity(alloc, count)?,
-            starts: Vec::new(alloc),
+            counts: Sums::new(alloc),
         };
         'indexes: for _ in 0..count {
             order.push()?;
@@ -188,9 +177,10 @@ impl Order {
         ensures ok { OnOk result (self.new ≡ self.old ++ length self.old ∷ []) }
         ensures err { OnErr result (self.new ≡ self.old) }
     {
-        make_room(&mut self.slots, &mut self.homes, &mut self.starts)?;
+        make_room(&mut self.slots, &mut self.homes, &mut self.counts)?;
         let slot = self.slots.len();
         let index = self.homes.len();
+        self.counts.raise(slot / BLOCK);
         self.slots.push_reserved(IndexOrGap::of(index as u32));
         self.homes.push_reserved(slot as u32);
         Ok(())
@@ -209,7 +199,7 @@ impl Order {
         ensures index { slice_get self.now i ≡ Some result }
         ensures within { result < length self.now }
     {
-        let slot = slot_of(self.slots.as_slice(), self.starts.as_slice(), i);
+        let slot = slot_of(self.slots.as_slice(), &self.counts, i);
         match self.slots[slot].index() {
             Some(index) => index as usize,
             None => unreachable!(),
@@ -224,7 +214,7 @@ impl Order {
     {
         pairs_before(
             self.slots.as_slice(),
-            self.starts.as_slice(),
+            &self.counts,
             self.homes[index] as usize,
         )
     }
@@ -237,8 +227,8 @@ impl Order {
         ensures rest { self.new ≡ map (renamed (length self.old - 1) result) (remove self.old i) }
         ensures others { All (λ index. (index < length self.old) × (index ≢ result)) (remove self.old i) }
     {
-        let slot = slot_of(self.slots.as_slice(), self.starts.as_slice(), i);
-        let index = take_slot(&mut self.slots, &mut self.homes, &mut self.starts, slot);
+        let slot = slot_of(self.slots.as_slice(), &self.counts, i);
+        let index = take_slot(&mut self.slots, &mut self.homes, &mut self.counts, slot);
         self.close_many();
         index
     }
@@ -252,7 +242,7 @@ impl Order {
             All (λ other. (other < length self.old) × (other ≢ index)) (remove self.old place) }
     {
         let slot = self.homes[index] as usize;
-        let _ = take_slot(&mut self.slots, &mut self.homes, &mut self.starts, slot);
+        let _ = take_slot(&mut self.slots, &mut self.homes, &mut self.counts, slot);
         self.close_many();
     }
 
@@ -284,7 +274,6 @@ impl Order {
     {
         close_gaps(&mut self.slots);
         settle(self.slots.as_slice(), self.homes.as_mut_slice());
-        self.starts.truncate((self.slots.len() + BLOCK - 1) / BLOCK);
-        restart(self.starts.as_mut_slice());
+        self.counts.deal(self.slots.len());
     }
 }

@@ -1,21 +1,32 @@
-use Rattle.std.proofs.Common.{◌-◌, ◌∙◌, arith, get_or}
-use Rattle.cg_kinds.proofs.SlotLemmas.{block_within, block_before, full_block}
+use Rattle.std.proofs.Common.{◌≡◌, ◌∙◌, get_or, arith}
+use Rattle.cg_kinds.proofs.SlotLemmas.{counts_reach, counts_all, full_block}
 use Rattle.cg_kinds.proofs.slots.slot_of.Goals as goal
 
-pub block_of-block-requires-clause-within : goal.block_of-block-requires-clause-within
-block_of-block-requires-clause-within c = block_within c.args.slots.now c.args.starts.now c.requires.starts c.args.i c.requires.within
+pub reached-block-requires : goal.reached-block-requires
+reached-block-requires c = omega (arith, counts_all c.args.slots.now c.args.counts.now c.requires.counts, c.requires.within)
 
-pub block_of-block-requires-clause-before : goal.block_of-block-requires-clause-before
-block_of-block-requires-clause-before c = block_before c.args.slots.now c.args.starts.now c.requires.starts c.args.i c.requires.within
+pub slot_from-requires : goal.slot_from-requires
+slot_from-requires c =
+    let reach = counts_reach c.args.slots.now c.args.counts.now c.requires.counts c.reached-block.result.0 (omega (arith, c.reached-block.ensures.within)) in
+    omega (arith, reach, c.reached-block.ensures.before, c.requires.within)
 
-pub returns-then-starts-block-clause-before : goal.returns-then-starts-block-clause-before
-returns-then-starts-block-clause-before c =
-    let block = c.block_of-block.result in
-    let full = full_block c.args.slots.now c.args.starts.now c.requires.starts block (c.args.i - get_or c.args.starts.now block 0) (omega arith) (omega arith) (omega arith) in
-    full.0 ∙ (omega arith)
+pub returns-then-at-eq-BLOCK-clause-before : goal.returns-then-at-eq-BLOCK-clause-before
+returns-then-at-eq-BLOCK-clause-before c =
+    let block = c.reached-block.result.0 in
+    let left = c.reached-block.result.1 in
+    let reach = counts_reach c.args.slots.now c.args.counts.now c.requires.counts block (omega (arith, c.reached-block.ensures.within)) in
+    let full : get_or c.args.counts.now block 0 ≡ 64 = omega (arith, c.at.ensures, c.if-at-eq-BLOCK.true) in
+    let all = full_block c.args.slots.now c.args.counts.now c.requires.counts block left c.reached-block.ensures.within full (omega (arith, full, c.reached-block.ensures.there)) in
+    all.0 ∙ (omega (arith, reach, c.reached-block.ensures.before))
 
-pub returns-then-starts-block-clause-there : goal.returns-then-starts-block-clause-there
-returns-then-starts-block-clause-there c =
-    let block = c.block_of-block.result in
-    let full = full_block c.args.slots.now c.args.starts.now c.requires.starts block (c.args.i - get_or c.args.starts.now block 0) (omega arith) (omega arith) (omega arith) in
-    full.1
+pub returns-then-at-eq-BLOCK-clause-there : goal.returns-then-at-eq-BLOCK-clause-there
+returns-then-at-eq-BLOCK-clause-there c =
+    let block = c.reached-block.result.0 in
+    let left = c.reached-block.result.1 in
+    let full : get_or c.args.counts.now block 0 ≡ 64 = omega (arith, c.at.ensures, c.if-at-eq-BLOCK.true) in
+    (full_block c.args.slots.now c.args.counts.now c.requires.counts block left c.reached-block.ensures.within full (omega (arith, full, c.reached-block.ensures.there))).1
+
+pub returns-else-at-eq-BLOCK-clause-before : goal.returns-else-at-eq-BLOCK-clause-before
+returns-else-at-eq-BLOCK-clause-before c =
+    let reach = counts_reach c.args.slots.now c.args.counts.now c.requires.counts c.reached-block.result.0 (omega (arith, c.reached-block.ensures.within)) in
+    omega (arith, reach, c.reached-block.ensures.before, c.slot_from.ensures.before)

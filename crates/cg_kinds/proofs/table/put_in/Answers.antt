@@ -1,4 +1,4 @@
-use Rattle.std.proofs.Common.{◌≡◌, ◌∙◌, ap, sym, Some, IsSome, subst}
+use Rattle.std.proofs.Common.{◌∙◌, ap, sym, Some, IsSome, subst}
 use Rattle.indexmap.specs.Entry.{map_with_value, entry_map_ref, entry_value}
 use Rattle.indexmap.proofs.EntryLemmas.{vacant_value}
 use Rattle.cg_kinds.specs.Pairs.{pairs_of}

@@ -1,7 +1,8 @@
-use Rattle.std.proofs.Common.{◌≡◌, ◌∙◌, ◌++◌, ◌∷◌, [], ap, sym, Some, length, arith, subst}
+use Rattle.std.proofs.Common.{◌≡◌, ◌∙◌, ◌++◌, ◌∷◌, ◌+◌, ◌/◌, [], set, get_or, ap, sym, Some, length, arith, subst}
 use Rattle.std.proofs.lemmas.Int.{ints}
-use Rattle.cg_kinds.specs.Order.{AreHomes, AreStarts}
-use Rattle.cg_kinds.proofs.OrderLemmas.{few_homes, pushed_homes, pushed_starts}
+use Rattle.cg_kinds.specs.Order.{AreHomes, AreCounts}
+use Rattle.cg_kinds.proofs.SlotLemmas.{counts_all, few_pairs}
+use Rattle.cg_kinds.proofs.OrderLemmas.{few_homes, pushed_homes, pushed_counts}
 use Rattle.cg_kinds.proofs.order.Order.append.Goals as goal
 
 pub overflow_cast-index : goal.overflow_cast-index
@@ -9,6 +10,11 @@ overflow_cast-index c = omega (arith, ints, few_homes c.self.inside.slots.items 
 
 pub of-requires : goal.of-requires
 of-requires c = omega (arith, few_homes c.self.inside.slots.items c.self.inside.homes.items c.self.invariant.0, c.len-index.ensures, ap length c.make_room.ensures.homes, c.in_ok-make_room.ensures.small)
+
+pub raise-requires-clause-small : goal.raise-requires-clause-small
+raise-requires-clause-small c =
+    let items = c.self.inside.slots.items in
+    omega (arith, counts_all items c.make_room.new.counts c.make_room.ensures.counts, few_pairs items, c.in_ok-make_room.ensures.small)
 
 pub invariant_of-self-2 : goal.invariant_of-self-2
 invariant_of-self-2 c =
@@ -23,5 +29,7 @@ invariant_of-self-2 c =
     let homes_are : c.push_reserved-2.new.self.items ≡ homes ++ length items ∷ [] =
     c.push_reserved-2.ensures.items ∙ ap (λ l. l ++ c.len-slot.result ∷ []) c.make_room.ensures.homes ∙ ap (λ n. homes ++ n ∷ []) slot_is in (
       subst (λ l. AreHomes l c.push_reserved-2.new.self.items) (sym slots_are) (subst (AreHomes (items ++ Some (length homes) ∷ [])) (sym homes_are) (pushed_homes items homes c.self.invariant.0)),
-      subst (λ l. AreStarts l c.make_room.new.starts.items) (sym slots_are) (pushed_starts items (Some (length homes)) c.make_room.new.starts.items c.make_room.ensures.starts c.in_ok-make_room.ensures.block c.in_ok-make_room.ensures.small),
+      subst (λ l. AreCounts l c.raise.new.self) (sym slots_are)
+          (pushed_counts items (length homes) c.make_room.new.counts c.raise.new.self c.make_room.ensures.counts c.in_ok-make_room.ensures.block c.in_ok-make_room.ensures.small
+          (c.raise.ensures ∙ ap (λ n. set c.make_room.new.counts (n / 64) (get_or c.make_room.new.counts (n / 64) 0 + 1)) slot_is)),
     )

@@ -1,4 +1,4 @@
-use Rattle.std.proofs.Common.{◌≡◌, ◌∙◌, ◌+◌, ◌++◌, ◌∷◌, [], option_map, ap, sym, None, Some, IsSome, length, subst, true≢false}
+use Rattle.std.proofs.Common.{◌≡◌, ◌∙◌, ◌+◌, ◌++◌, ◌∷◌, [], option_map, ap, sym, IsSome, length, subst, true≢false}
 use Rattle.cg_graph.specs.Value.{value_at, put}
 use Rattle.cg_kinds.specs.Pairs.{pairs_of, ordered, unboxed, IsOrderOf}
 use Rattle.cg_kinds.proofs.TableLemmas.{ordered_value, ordered_put, ordered_push, ordered_same, has_index, position_absent, none_some, on_err, put_as_long, put_longer, put_back, left_as_long, order_longer}

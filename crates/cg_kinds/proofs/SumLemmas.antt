@@ -1,0 +1,251 @@
+-- Sums of the parts of a count, and what one more in it does to them.
+use Rattle.std.proofs.Common.{◌≡◌, ℕ, zero, suc, ◌+◌, ◌*◌, ◌-◌, ◌<◌, ◌≤◌, ◌/◌, min, List, [], ◌∷◌, ◌++◌, Option, Some, None, refl, sym, ap, ◌∙◌, subst, length, take, drop, get_or, set, arith, inl, inr}
+use Rattle.std.proofs.lemmas.Bool.{cases_lt, cases_eq}
+use Rattle.std.proofs.lemmas.List.{take_all, take_min, length-set, length_push, take-take, drop-take, get_or-set_same, get_or-set_other, get_or_append_left, get_or_push, take-append-le, take-set-le}
+use Rattle.std.proofs.lemmas.List.Sums.{sum_by_more, sum_by-take-le, sum_by-take-drop, sum_by-cons, sum_by-append}
+use Rattle.std.specs.List.{sum}
+use Rattle.std.specs.Global.{Box}
+use Rattle.cg_kinds.specs.Pairs.{unboxed}
+use Rattle.cg_kinds.specs.Order.{sum_before, AreSums, AreSumsOf, AreAbove}
+
+-- one more number
+pub sum_more : (numbers : List ℕ) (k : ℕ) → k < length numbers → sum_before numbers (k + 1) ≡ sum_before numbers k + get_or numbers k 0
+sum_more numbers k within = sum_by_more (λ x. x) numbers k 0 within
+
+-- all numbers
+pub sum_all : (numbers : List ℕ) (k : ℕ) → length numbers ≤ k → sum_before numbers k ≡ sum numbers
+sum_all numbers k all = ap sum (take_all k numbers all)
+
+pub sum_part : (numbers : List ℕ) (k : ℕ) → sum_before numbers k ≤ sum numbers
+sum_part numbers k = sum_by-take-le (λ x. x) numbers k
+
+-- the sum before a later one
+pub sum_later : (numbers : List ℕ) (k more : ℕ) → sum_before numbers (k + more) ≡ sum_before numbers k + sum (take more (drop k numbers))
+sum_later numbers k more =
+    let first : sum_before (take (k + more) numbers) k ≡ sum_before numbers k = ap sum (take-take k (k + more) numbers (omega arith)) in
+    let rest : sum (drop k (take (k + more) numbers)) ≡ sum (take more (drop k numbers)) = ap sum (drop-take k more numbers) in
+    omega (arith, sum_by-take-drop (λ x. x) (take (k + more) numbers) k, first, rest)
+
+pub sum_grows : (numbers : List ℕ) (k more : ℕ) → sum_before numbers k ≤ sum_before numbers (k + more)
+sum_grows numbers k more = omega (arith, sum_later numbers k more)
+
+-- sums of parts add up to the count that they are of
+pub sums_reach : (before : ℕ → ℕ) (sums : List ℕ) → before 0 ≡ 0 → AreSums before sums → (part : ℕ) → part ≤ length sums → sum_before sums part ≡ before (64 * part)
+sums_reach before sums none are zero within = sym none
+sums_reach before sums none are (suc part) within =
+    let rest = sums_reach before sums none are part (omega (arith, within)) in
+    let here = are part (omega (arith, within)) in
+    let n : 64 * part + 64 ≡ 64 * suc part = omega arith in
+    let e : before (64 * part + 64) ≡ before (64 * suc part) = ap before n in
+    let m : part + 1 ≡ suc part = omega arith in
+    let f : sum_before sums (part + 1) ≡ sum_before sums (suc part) = ap (sum_before sums) m in
+    omega (arith, rest, here, e, f, sum_more sums part (omega (arith, within)))
+
+-- what is counted over a part
+pub sum_here : (numbers : List ℕ) (part : ℕ) → sum_before numbers (64 * part + 64) ≡ sum_before numbers (64 * part) + sum (take 64 (drop (64 * part) numbers))
+sum_here numbers part = sum_later numbers (64 * part) 64
+
+pub sum_here_part : (numbers : List ℕ) (part : ℕ) → sum (take 64 (drop (64 * part) numbers)) ≤ sum numbers
+sum_here_part numbers part = omega (arith, sum_here numbers part, sum_part numbers (64 * part + 64))
+
+-- a part taken off the rest of the numbers
+pub part_taken : (numbers rest front : List ℕ) (part count : ℕ) → front ≡ take count rest → count ≡ min 64 (length rest) → rest ≡ drop (64 * part) numbers → sum front ≡ sum (take 64 (drop (64 * part) numbers))
+part_taken numbers rest front part count taken few left = ap sum (taken ∙ ap (λ n. take n rest) few ∙ take_min 64 rest ∙ ap (take 64) left)
+
+-- numbers that a count is dealt to by 64
+pub dealt_sum : (numbers : List ℕ) (count : ℕ) → ((i : ℕ) → i < length numbers → get_or numbers i 0 ≡ min 64 (count - 64 * i)) → (k : ℕ) → k ≤ length numbers → sum_before numbers k ≡ min (64 * k) count
+dealt_sum numbers count dealt zero within = omega arith
+dealt_sum numbers count dealt (suc k) within =
+    let rest = dealt_sum numbers count dealt k (omega (arith, within)) in
+    let m : k + 1 ≡ suc k = omega arith in
+    let f : sum_before numbers (k + 1) ≡ sum_before numbers (suc k) = ap (sum_before numbers) m in
+    omega (arith, rest, f, sum_more numbers k (omega (arith, within)), dealt k (omega (arith, within)))
+
+-- another number in the place of one
+pub sum_set : (numbers : List ℕ) (i other k : ℕ) → i < length numbers → i < k → sum_before (set numbers i other) k + get_or numbers i 0 ≡ sum_before numbers k + other
+sum_set [] i other k within later = absurd (omega (arith, within))
+sum_set (n ∷ numbers) i other zero within later = absurd (omega (arith, later))
+sum_set (n ∷ numbers) zero other (suc k) within later = omega (arith, sum_by-cons (λ x. x) other (take k numbers), sum_by-cons (λ x. x) n (take k numbers))
+sum_set (n ∷ numbers) (suc i) other (suc k) within later =
+    let rest = sum_set numbers i other k (omega (arith, within)) (omega (arith, later)) in
+    omega (arith, rest, sum_by-cons (λ x. x) n (take k (set numbers i other)), sum_by-cons (λ x. x) n (take k numbers))
+
+pub sum_set-earlier : (numbers : List ℕ) (i other k : ℕ) → k ≤ i → sum_before (set numbers i other) k ≡ sum_before numbers k
+sum_set-earlier numbers i other k earlier = ap sum (take-set-le k numbers i other earlier)
+
+-- a count that has one more behind some place
+pub record IsOneMore (less more : ℕ → ℕ) (place : ℕ) : Type 0 where
+  pub earlier : (k : ℕ) → k ≤ place → more k ≡ less k
+  pub later : (k : ℕ) → place < k → more k ≡ less k + 1
+
+pub number_raised : (numbers : List ℕ) (i : ℕ) → i < length numbers → IsOneMore (sum_before numbers) (sum_before (set numbers i (get_or numbers i 0 + 1))) i
+number_raised numbers i within = record {
+  earlier = λ k before. sum_set-earlier numbers i (get_or numbers i 0 + 1) k before;
+  later = λ k behind. omega (arith, sum_set numbers i (get_or numbers i 0 + 1) k within behind);
+}
+
+pub number_lowered : (numbers : List ℕ) (i : ℕ) → i < length numbers → 0 < get_or numbers i 0 → IsOneMore (sum_before (set numbers i (get_or numbers i 0 - 1))) (sum_before numbers) i
+number_lowered numbers i within some = record {
+  earlier = λ k before. sym (sum_set-earlier numbers i (get_or numbers i 0 - 1) k before);
+  later = λ k behind. omega (arith, some, sum_set numbers i (get_or numbers i 0 - 1) k within behind);
+}
+
+module _ (less more : ℕ → ℕ) (place : ℕ) (one : IsOneMore less more place) (sums : List ℕ) (within : place / 64 < length sums) where
+  pub raised : AreSums less sums → AreSums more (set sums (place / 64) (get_or sums (place / 64) 0 + 1))
+  raised are part below =
+      let old : part < length sums = omega (arith, below, length-set sums (place / 64) (get_or sums (place / 64) 0 + 1)) in
+      let here = are part old in
+      elim (cases_eq part (place / 64)) [
+        | inl same ↦
+            let s : get_or (set sums (place / 64) (get_or sums (place / 64) 0 + 1)) part 0 ≡ get_or sums (place / 64) 0 + 1 =
+            ap (λ n. get_or (set sums (place / 64) (get_or sums (place / 64) 0 + 1)) n 0) same ∙ get_or-set_same sums (place / 64) (get_or sums (place / 64) 0 + 1) 0 within in
+            let t : get_or sums part 0 ≡ get_or sums (place / 64) 0 = ap (λ n. get_or sums n 0) same in
+            omega (arith, s, t, here, one.later (64 * part + 64) (omega (arith, same)), one.earlier (64 * part) (omega (arith, same)))
+        | inr differs ↦
+            let s = get_or-set_other sums (place / 64) part (get_or sums (place / 64) 0 + 1) 0 differs in
+            elim (cases_lt part (place / 64)) [
+              | inl low ↦ omega (arith, s, here, one.earlier (64 * part + 64) (omega (arith, low)), one.earlier (64 * part) (omega (arith, low)))
+              | inr high ↦ omega (arith, s, here, one.later (64 * part + 64) (omega (arith, high, differs)), one.later (64 * part) (omega (arith, high, differs)))
+            ]
+      ]
+
+  -- the sum that the one is in has it
+  pub one_within : AreSums more sums → less (64 * (place / 64)) ≤ less (64 * (place / 64) + 64) → 0 < get_or sums (place / 64) 0
+  one_within are rising =
+      omega (arith, rising, are (place / 64) within, one.later (64 * (place / 64) + 64) (omega arith), one.earlier (64 * (place / 64)) (omega arith))
+
+  pub lowered : AreSums more sums → less (64 * (place / 64)) ≤ less (64 * (place / 64) + 64) → AreSums less (set sums (place / 64) (get_or sums (place / 64) 0 - 1))
+  lowered are rising part below =
+      let old : part < length sums = omega (arith, below, length-set sums (place / 64) (get_or sums (place / 64) 0 - 1)) in
+      let here = are part old in
+      elim (cases_eq part (place / 64)) [
+        | inl same ↦
+            let s : get_or (set sums (place / 64) (get_or sums (place / 64) 0 - 1)) part 0 ≡ get_or sums (place / 64) 0 - 1 =
+            ap (λ n. get_or (set sums (place / 64) (get_or sums (place / 64) 0 - 1)) n 0) same ∙ get_or-set_same sums (place / 64) (get_or sums (place / 64) 0 - 1) 0 within in
+            let t : get_or sums part 0 ≡ get_or sums (place / 64) 0 = ap (λ n. get_or sums n 0) same in
+            omega (arith, s, t, here, one_within are rising, one.later (64 * part + 64) (omega (arith, same)), one.earlier (64 * part) (omega (arith, same)))
+        | inr differs ↦
+            let s = get_or-set_other sums (place / 64) part (get_or sums (place / 64) 0 - 1) 0 differs in
+            elim (cases_lt part (place / 64)) [
+              | inl low ↦ omega (arith, s, here, one.earlier (64 * part + 64) (omega (arith, low)), one.earlier (64 * part) (omega (arith, low)))
+              | inr high ↦ omega (arith, s, here, one.later (64 * part + 64) (omega (arith, high, differs)), one.later (64 * part) (omega (arith, high, differs)))
+            ]
+      ]
+
+-- a 0 last, where the count goes on over nothing
+pub zero_last : (before : ℕ → ℕ) (sums : List ℕ) → AreSums before sums → before (64 * length sums + 64) ≡ before (64 * length sums) → AreSums before (sums ++ 0 ∷ [])
+zero_last before sums are nothing part below = elim (cases_lt part (length sums)) [
+  | inl low ↦ omega (arith, are part low, get_or_append_left sums (0 ∷ []) 0 part low)
+  | inr high ↦
+      let same : part ≡ length sums = omega (arith, below, high, length_push sums 0) in
+      let s : get_or (sums ++ 0 ∷ []) part 0 ≡ 0 = get_or_push sums 0 0 part (omega (arith, same)) in
+      let b : before (64 * part + 64) ≡ before (64 * length sums + 64) = ap (λ n. before (64 * n + 64)) same in
+      let d : before (64 * part) ≡ before (64 * length sums) = ap (λ n. before (64 * n)) same in
+      omega (arith, s, b, d, nothing)
+]
+
+-- a 0 behind numbers adds nothing
+pub zero_after : (numbers : List ℕ) (k : ℕ) → sum_before (numbers ++ 0 ∷ []) k ≡ sum_before numbers k
+zero_after numbers k = elim (cases_lt (length numbers) k) [
+  | inl past ↦
+      let more = sum_all (numbers ++ 0 ∷ []) k (omega (arith, past, length_push numbers 0)) in
+      let all = sum_all numbers k (omega (arith, past)) in
+      omega (arith, more, all, sum_by-append (λ x. x) numbers (0 ∷ []))
+  | inr within ↦ ap sum (take-append-le k numbers (0 ∷ []) (omega (arith, within)))
+]
+
+-- the first sums above
+pub first_above : (numbers sums : List ℕ) → length numbers ≡ 64 → sums ≡ sum numbers ∷ 0 ∷ [] → AreSumsOf numbers sums × (length numbers < 64 * length sums)
+first_above numbers sums full is =
+    let long : length sums ≡ 2 = ap length is in (
+      record { each = subst (AreSums (sum_before numbers)) (sym is) two; covered = omega (arith, full, long); fewer = omega (arith, full, long) },
+      omega (arith, full, long),
+    )
+  where
+    two : AreSums (sum_before numbers) (sum numbers ∷ 0 ∷ [])
+    two zero below = omega (arith, sum_all numbers 64 (omega (arith, full)))
+    two (suc zero) below = omega (arith, sum_all numbers 128 (omega (arith, full)), sum_all numbers 64 (omega (arith, full)))
+    two (suc (suc part)) below = absurd (omega (arith, below))
+
+-- what is told of the sums above, once they are there
+pub above_told : (numbers : List ℕ) (above : Option (Box (List ℕ))) (sums : Box (List ℕ)) → AreAbove numbers (unboxed above) → above ≡ Some sums → AreSumsOf numbers sums.value
+above_told numbers above sums are is = subst (λ o. AreAbove numbers (unboxed o)) is are
+
+pub none_above : (numbers : List ℕ) (above : Option (Box (List ℕ))) → above ≡ None → AreAbove numbers (unboxed above)
+none_above numbers above is = subst (λ o. AreAbove numbers (unboxed o)) (sym is) tt
+
+module _ (numbers sums : List ℕ) (are : AreSumsOf numbers sums) where
+  -- the parts before one, and the numbers before it
+  pub part_reach : (part : ℕ) → part ≤ length sums → sum_before sums part ≡ sum_before numbers (part * 64)
+  part_reach part within =
+      let n : 64 * part ≡ part * 64 = omega arith in
+      sums_reach (sum_before numbers) sums refl are.each part within ∙ ap (sum_before numbers) n
+
+  pub all_parts : sum sums ≡ sum numbers
+  all_parts =
+      sym (sum_all sums (length sums) (omega arith)) ∙ part_reach (length sums) (omega arith) ∙ sum_all numbers (length sums * 64) (omega (arith, are.covered))
+
+  -- the parts before a number's own, and what is before it there
+  pub part_and_rest : (i : ℕ) → i ≤ length numbers → sum_before sums (i / 64) + sum (take (i - i / 64 * 64) (drop (i / 64 * 64) numbers)) ≡ sum_before numbers i
+  part_and_rest i within =
+      let n : i / 64 * 64 + (i - i / 64 * 64) ≡ i = omega arith in
+      let e : sum_before numbers (i / 64 * 64 + (i - i / 64 * 64)) ≡ sum_before numbers i = ap (sum_before numbers) n in
+      omega (arith, e, sum_later numbers (i / 64 * 64) (i - i / 64 * 64), part_reach (i / 64) (omega (arith, within, are.covered)))
+
+  pub sums_within : (i : ℕ) → i < length numbers → i / 64 < length sums
+  sums_within i within = omega (arith, within, are.covered)
+
+  -- one more in a number is one more in its part
+  pub raised_above : (i : ℕ) → i < length numbers → (numbers_now sums_now : List ℕ) → numbers_now ≡ set numbers i (get_or numbers i 0 + 1) → sums_now ≡ set sums (i / 64) (get_or sums (i / 64) 0 + 1) → AreSumsOf numbers_now sums_now
+  raised_above i within numbers_now sums_now numbers_are sums_are =
+      let a : length numbers_now ≡ length numbers = ap length numbers_are ∙ length-set numbers i (get_or numbers i 0 + 1) in
+      let b : length sums_now ≡ length sums = ap length sums_are ∙ length-set sums (i / 64) (get_or sums (i / 64) 0 + 1) in
+      record {
+        each = subst (λ l. AreSums (sum_before l) sums_now) (sym numbers_are) (subst (AreSums (sum_before (set numbers i (get_or numbers i 0 + 1)))) (sym sums_are)
+            (raised (sum_before numbers) (sum_before (set numbers i (get_or numbers i 0 + 1))) i (number_raised numbers i within) sums (sums_within i within) are.each));
+        covered = omega (arith, a, b, are.covered);
+        fewer = omega (arith, a, b, are.fewer);
+      }
+
+  pub part_some : (i : ℕ) → i < length numbers → 0 < get_or numbers i 0 → 0 < get_or sums (i / 64) 0
+  part_some i within some =
+      one_within (sum_before (set numbers i (get_or numbers i 0 - 1))) (sum_before numbers) i (number_lowered numbers i within some) sums (sums_within i within) are.each
+      (sum_grows (set numbers i (get_or numbers i 0 - 1)) (64 * (i / 64)) 64)
+
+  -- one less in a number is one less in its part
+  pub lowered_above : (i : ℕ) → i < length numbers → 0 < get_or numbers i 0 → (numbers_now sums_now : List ℕ) → numbers_now ≡ set numbers i (get_or numbers i 0 - 1) → sums_now ≡ set sums (i / 64) (get_or sums (i / 64) 0 - 1) → AreSumsOf numbers_now sums_now
+  lowered_above i within some numbers_now sums_now numbers_are sums_are =
+      let a : length numbers_now ≡ length numbers = ap length numbers_are ∙ length-set numbers i (get_or numbers i 0 - 1) in
+      let b : length sums_now ≡ length sums = ap length sums_are ∙ length-set sums (i / 64) (get_or sums (i / 64) 0 - 1) in
+      record {
+        each = subst (λ l. AreSums (sum_before l) sums_now) (sym numbers_are) (subst (AreSums (sum_before (set numbers i (get_or numbers i 0 - 1)))) (sym sums_are)
+            (lowered (sum_before (set numbers i (get_or numbers i 0 - 1))) (sum_before numbers) i (number_lowered numbers i within some) sums (sums_within i within) are.each
+            (sum_grows (set numbers i (get_or numbers i 0 - 1)) (64 * (i / 64)) 64)));
+        covered = omega (arith, a, b, are.covered);
+        fewer = omega (arith, a, b, are.fewer);
+      }
+
+  -- a 0 last, where there is room for it in the last part
+  pub pushed_below : length numbers < 64 * length sums → AreSumsOf (numbers ++ 0 ∷ []) sums
+  pushed_below room = record {
+    each = λ part below.
+        let a = zero_after numbers (64 * part) in
+        let b = zero_after numbers (64 * part + 64) in
+        omega (arith, a, b, are.each part below);
+    covered = omega (arith, room, length_push numbers 0);
+    fewer = omega (arith, are.fewer, length_push numbers 0);
+  }
+
+  -- one more part, with nothing in it
+  pub pushed_part : length numbers ≡ 64 * length sums → (sums_now : List ℕ) → sums_now ≡ sums ++ 0 ∷ [] → AreSumsOf numbers sums_now × (length numbers < 64 * length sums_now)
+  pushed_part full sums_now sums_are =
+      let long : length sums_now ≡ length sums + 1 = ap length sums_are ∙ length_push sums 0 in
+      let past = sum_all numbers (64 * length sums) (omega (arith, full)) in
+      let past_too = sum_all numbers (64 * length sums + 64) (omega (arith, full)) in (
+        record {
+          each = subst (AreSums (sum_before numbers)) (sym sums_are) (zero_last (sum_before numbers) sums are.each (past_too ∙ sym past));
+          covered = omega (arith, long, full);
+          fewer = omega (arith, long, full, are.fewer);
+        },
+        omega (arith, long, full),
+      )
