@@ -201,8 +201,7 @@ pub(crate) fn del_attr<B: Kind>(
     }
 }
 
-/// An entry with the references of this one. What else it has is not handed on, since nothing is given up for it: a whole entry
-/// would be moved once more, in other pieces than it was written in, for which the processor waits.
+/// An entry with the references of this one. What else it has is not handed on, since nothing is given up for it.
 #[inline(always)]
 fn references_of(entry: Entry) -> Entry
     ensures { entry_references result ≡ entry_references entry }

@@ -2,12 +2,12 @@ use Rattle.std.proofs.Common.{◌∙◌, sym, ap, subst, ◌+◌, Some, None, le
 use Rattle.cg_policy.specs.Policy.{due_of}
 use Rattle.cg_interp.specs.declared.activity.Activity.TheVariants as activity_of
 use Rattle.cg_interp.specs.declared.caller.Caller.TheVariants as caller_of
-use Rattle.cg_interp.specs.Callers.{caller_activity, caller_locals, with_next, ComesNext, StepsFrom}
+use Rattle.cg_interp.specs.Callers.{caller_activity, caller_locals, with_next, StepsFrom}
 use Rattle.cg_interp.specs.Telling.{IsAtTurn}
 use Rattle.cg_interp.proofs.Keeping.{fit_then}
 use Rattle.cg_interp.proofs.NextCommands.{next_there}
 use Rattle.cg_interp.proofs.Quietly.{at_turn_then, comes_from_then, turns_from_then}
-use Rattle.cg_interp.proofs.StepLemmas.{caller_detects_none, comes_next}
+use Rattle.cg_interp.proofs.StepLemmas.{caller_detects_none, comes_next_at}
 use Rattle.cg_interp.proofs.engine.Engine.make_changes.Goals as goal
 
 pub step_change-requires-clause-own : goal.step_change-requires-clause-own
@@ -21,7 +21,7 @@ step_change-requires-clause-stands g c =
     let (script, is, at) = c.requires.stands in (
       script,
       Some c.commands.at,
-      (subst (λ k. ComesNext script k (Some c.commands.at) c.in-Some.command.now) (sym frame) (comes_next script c.args.locals c.args.procedure (Some c.commands.at) c.in-Some.command.now (c.commands.at + 1) c.args.body.now is (next_there c.args.body.now c.commands.at c.in-Some.command.now c.in-Some.ensures.lookup.3.0 c.in-Some.ensures.lookup.1))),
+      (comes_next_at script c.args.locals c.args.procedure c.commands.at c.in-Some.command.now c.args.body.now _ frame is c.in-Some.ensures.lookup.3.0 c.in-Some.ensures.lookup.1),
       subst (λ k. IsAtTurn script (caller_activity (with_next (Some c.commands.at) k)) c.commands.self) (sym frame)
           (at_turn_then script (activity_of.Frame c.args.locals c.args.procedure (Some c.args.number.now)) (activity_of.Frame c.args.locals c.args.procedure (Some c.commands.at)) c.args.self.now c.commands.self (c.commands.invariant.comes script is) c.commands.invariant.fit at),
     )
@@ -33,7 +33,7 @@ returns-in-Some-step_change-clause-steps g c = λ script is.
     (λ w. caller_detects_none script c.commands.self w (caller_of.Frame c.args.locals c.args.procedure (Some c.commands.at))) _ _
     (subst (λ k. StepsFrom script k (Some c.commands.at) c.commands.self c.step_change.new.self (Some c.in-Some-step_change.answer)) frame
     (c.in-Some-step_change.ensures.steps script (Some c.commands.at)
-    (subst (λ k. ComesNext script k (Some c.commands.at) c.in-Some.command.now) (sym frame) (comes_next script c.args.locals c.args.procedure (Some c.commands.at) c.in-Some.command.now (c.commands.at + 1) c.args.body.now is (next_there c.args.body.now c.commands.at c.in-Some.command.now c.in-Some.ensures.lookup.3.0 c.in-Some.ensures.lookup.1)))))
+    (comes_next_at script c.args.locals c.args.procedure c.commands.at c.in-Some.command.now c.args.body.now _ frame is c.in-Some.ensures.lookup.3.0 c.in-Some.ensures.lookup.1)))
 
 pub returns-in-Some-step_change-clause-left : goal.returns-in-Some-step_change-clause-left
 returns-in-Some-step_change-clause-left g c =
@@ -51,7 +51,7 @@ commands-preserved g c =
           (activity_of.Frame c.args.locals c.args.procedure (Some (c.commands.at + 1))) c.step_change.new.self
           (subst (λ k. StepsFrom script k (Some c.commands.at) c.commands.self c.step_change.new.self None) frame
           (c.in-None.ensures.steps script (Some c.commands.at)
-          (subst (λ k. ComesNext script k (Some c.commands.at) c.in-Some.command.now) (sym frame) (comes_next script c.args.locals c.args.procedure (Some c.commands.at) c.in-Some.command.now (c.commands.at + 1) c.args.body.now is (next_there c.args.body.now c.commands.at c.in-Some.command.now c.in-Some.ensures.lookup.3.0 c.in-Some.ensures.lookup.1)))));
+          (comes_next_at script c.args.locals c.args.procedure c.commands.at c.in-Some.command.now c.args.body.now _ frame is c.in-Some.ensures.lookup.3.0 c.in-Some.ensures.lookup.1)));
       fit = fit_then c.args.self.now c.commands.self c.step_change.new.self c.commands.invariant.fit c.step_change.ensures.fit;
       none = ap due_of c.in-None.ensures.policy ∙ c.commands.invariant.none;
       caller = frame;
