@@ -276,9 +276,9 @@ before_within order now closed slot =
     ]
 
 pub closed_counts : (order : List ℕ) (now : List (Option ℕ)) (counts : List ℕ) → now ≡ map (λ index. Some index) order
-    → ((block : ℕ) → block < length counts → get_or counts block 0 ≡ min 64 (length now - 64 * block)) → length now ≤ 64 * length counts → length now < 2 ^ 32 → AreCounts now counts
+    → ((block : ℕ) → block < length counts → get_or counts block 0 ≡ min 16 (length now - 16 * block)) → length now ≤ 16 * length counts → length now < 2 ^ 32 → AreCounts now counts
 closed_counts order now counts closed each covered small = record {
-  each = λ block within. omega (arith, each block within, before_within order now closed (64 * block + 64), before_within order now closed (64 * block));
+  each = λ block within. omega (arith, each block within, before_within order now closed (16 * block + 16), before_within order now closed (16 * block));
   covered = covered;
   small = small;
 }
@@ -376,10 +376,10 @@ pushed_more slots index = record {
       omega (arith, n, before_all (slots ++ Some index ∷ []) k (omega (arith, behind, length_push slots (Some index))), before_all slots k (omega (arith, behind)));
 }
 
-pub pushed_counts : (slots : List (Option ℕ)) (index : ℕ) (counts counts_now : List ℕ) → AreCounts slots counts → length slots < 64 * length counts → length slots + 1 < 2 ^ 32
-    → counts_now ≡ set counts (length slots / 64) (get_or counts (length slots / 64) 0 + 1) → AreCounts (slots ++ Some index ∷ []) counts_now
+pub pushed_counts : (slots : List (Option ℕ)) (index : ℕ) (counts counts_now : List ℕ) → AreCounts slots counts → length slots < 16 * length counts → length slots + 1 < 2 ^ 32
+    → counts_now ≡ set counts (length slots / 16) (get_or counts (length slots / 16) 0 + 1) → AreCounts (slots ++ Some index ∷ []) counts_now
 pushed_counts slots index counts counts_now are room small counts_are =
-    let a : length counts_now ≡ length counts = ap length counts_are ∙ length-set counts (length slots / 64) (get_or counts (length slots / 64) 0 + 1) in
+    let a : length counts_now ≡ length counts = ap length counts_are ∙ length-set counts (length slots / 16) (get_or counts (length slots / 16) 0 + 1) in
     record {
       each = subst (AreSums (pairs_before (slots ++ Some index ∷ []))) (sym counts_are)
           (raised (pairs_before slots) (pairs_before (slots ++ Some index ∷ [])) (length slots) (pushed_more slots index) counts (omega (arith, room)) are.each);
@@ -393,7 +393,7 @@ block_counts slots counts counts_now are counts_are =
     let a : length counts_now ≡ length counts + 1 = ap length counts_are ∙ length_push counts 0 in
     record {
       each = subst (AreSums (pairs_before slots)) (sym counts_are)
-          (zero_last (pairs_before slots) counts are.each (before_all slots (64 * length counts + 64) (omega (arith, are.covered)) ∙ sym (before_all slots (64 * length counts) are.covered)));
+          (zero_last (pairs_before slots) counts are.each (before_all slots (16 * length counts + 16) (omega (arith, are.covered)) ∙ sym (before_all slots (16 * length counts) are.covered)));
       covered = omega (arith, a, are.covered);
       small = are.small;
     }

@@ -93,59 +93,59 @@ gap_less slots slot index pair = record {
 
 module _ (slots : List (Option ℕ)) (counts : List ℕ) (are : AreCounts slots counts) where
   -- the pairs in the blocks before one
-  pub counts_reach : (block : ℕ) → block ≤ length counts → sum_before counts block ≡ pairs_before slots (block * 64)
+  pub counts_reach : (block : ℕ) → block ≤ length counts → sum_before counts block ≡ pairs_before slots (block * 16)
   counts_reach block within =
-      let n : 64 * block ≡ block * 64 = omega arith in
+      let n : 16 * block ≡ block * 16 = omega arith in
       sums_reach (pairs_before slots) counts refl are.each block within ∙ ap (pairs_before slots) n
 
   pub counts_all : sum counts ≡ length (indexes slots)
   counts_all =
-      sym (sum_all counts (length counts) (omega arith)) ∙ counts_reach (length counts) (omega arith) ∙ before_all slots (length counts * 64) (omega (arith, are.covered))
+      sym (sum_all counts (length counts) (omega arith)) ∙ counts_reach (length counts) (omega arith) ∙ before_all slots (length counts * 16) (omega (arith, are.covered))
 
-  pub block_there : (slot : ℕ) → slot < length slots → slot / 64 < length counts
+  pub block_there : (slot : ℕ) → slot < length slots → slot / 16 < length counts
   block_there slot within = omega (arith, within, are.covered)
 
   -- the pairs before a slot's block, and what lies between
-  pub block_and_rest : (slot : ℕ) → slot < length slots → sum_before counts (slot / 64) + length (indexes (between (slot / 64 * 64) slot slots)) ≡ pairs_before slots slot
+  pub block_and_rest : (slot : ℕ) → slot < length slots → sum_before counts (slot / 16) + length (indexes (between (slot / 16 * 16) slot slots)) ≡ pairs_before slots slot
   block_and_rest slot within =
-      let m : slot / 64 * 64 + (slot - slot / 64 * 64) ≡ slot = omega arith in
-      let f : pairs_before slots (slot / 64 * 64 + (slot - slot / 64 * 64)) ≡ pairs_before slots slot = ap (pairs_before slots) m in
-      omega (arith, f, counts_reach (slot / 64) (omega (arith, within, are.covered)), before_later slots (slot / 64 * 64) (slot - slot / 64 * 64))
+      let m : slot / 16 * 16 + (slot - slot / 16 * 16) ≡ slot = omega arith in
+      let f : pairs_before slots (slot / 16 * 16 + (slot - slot / 16 * 16)) ≡ pairs_before slots slot = ap (pairs_before slots) m in
+      omega (arith, f, counts_reach (slot / 16) (omega (arith, within, are.covered)), before_later slots (slot / 16 * 16) (slot - slot / 16 * 16))
 
   -- in a block with no gap each slot has a pair
-  pub full_block : (block k : ℕ) → block < length counts → get_or counts block 0 ≡ 64 → k < 64
-      → (pairs_before slots (block * 64 + k) ≡ pairs_before slots (block * 64) + k) × IsSome (get_or slots (block * 64 + k) None)
+  pub full_block : (block k : ℕ) → block < length counts → get_or counts block 0 ≡ 16 → k < 16
+      → (pairs_before slots (block * 16 + k) ≡ pairs_before slots (block * 16) + k) × IsSome (get_or slots (block * 16 + k) None)
   full_block block k within full below =
-      let n : 64 * block ≡ block * 64 = omega arith in
-      let e : pairs_before slots (64 * block) ≡ pairs_before slots (block * 64) = ap (pairs_before slots) n in
-      let m : 64 * block + 64 ≡ block * 64 + k + (64 - k) = omega arith in
-      let f : pairs_before slots (64 * block + 64) ≡ pairs_before slots (block * 64 + k + (64 - k)) = ap (pairs_before slots) m in
-      let o : 64 * block + 64 ≡ block * 64 + k + 1 + (63 - k) = omega arith in
-      let g : pairs_before slots (64 * block + 64) ≡ pairs_before slots (block * 64 + k + 1 + (63 - k)) = ap (pairs_before slots) o in
+      let n : 16 * block ≡ block * 16 = omega arith in
+      let e : pairs_before slots (16 * block) ≡ pairs_before slots (block * 16) = ap (pairs_before slots) n in
+      let m : 16 * block + 16 ≡ block * 16 + k + (16 - k) = omega arith in
+      let f : pairs_before slots (16 * block + 16) ≡ pairs_before slots (block * 16 + k + (16 - k)) = ap (pairs_before slots) m in
+      let o : 16 * block + 16 ≡ block * 16 + k + 1 + (15 - k) = omega arith in
+      let g : pairs_before slots (16 * block + 16) ≡ pairs_before slots (block * 16 + k + 1 + (15 - k)) = ap (pairs_before slots) o in
       let whole = are.each block within in
-      let here : pairs_before slots (block * 64 + k) ≡ pairs_before slots (block * 64) + k =
-      omega (arith, e, f, whole, full, before_steps slots (block * 64) k, before_steps slots (block * 64 + k) (64 - k)) in
-      let next : pairs_before slots (block * 64 + k) < pairs_before slots (block * 64 + k + 1) =
-      omega (arith, here, e, g, whole, full, before_steps slots (block * 64 + k + 1) (63 - k)) in
-      (here, pair_there slots (block * 64 + k) next)
+      let here : pairs_before slots (block * 16 + k) ≡ pairs_before slots (block * 16) + k =
+      omega (arith, e, f, whole, full, before_steps slots (block * 16) k, before_steps slots (block * 16 + k) (16 - k)) in
+      let next : pairs_before slots (block * 16 + k) < pairs_before slots (block * 16 + k + 1) =
+      omega (arith, here, e, g, whole, full, before_steps slots (block * 16 + k + 1) (15 - k)) in
+      (here, pair_there slots (block * 16 + k) next)
 
   module _ (slot index : ℕ) (pair : get_or slots slot None ≡ Some index) where
     -- no more pairs are before a block without the slot's pair than behind it
-    block_grows : pairs_before (set slots slot None) (64 * (slot / 64)) ≤ pairs_before (set slots slot None) (64 * (slot / 64) + 64)
-    block_grows = before_grows (set slots slot None) (64 * (slot / 64)) (64 * (slot / 64) + 64) (omega arith)
+    block_grows : pairs_before (set slots slot None) (16 * (slot / 16)) ≤ pairs_before (set slots slot None) (16 * (slot / 16) + 16)
+    block_grows = before_grows (set slots slot None) (16 * (slot / 16)) (16 * (slot / 16) + 16) (omega arith)
 
     -- the block of a pair has one
-    pub block_some : slot / 64 < length counts → 0 < get_or counts (slot / 64) 0
+    pub block_some : slot / 16 < length counts → 0 < get_or counts (slot / 16) 0
     block_some within = one_within (pairs_before (set slots slot None)) (pairs_before slots) slot (gap_less slots slot index pair) counts within are.each block_grows
 
     -- one pair less in the block of a new gap
-    pub lowered_counts : slot / 64 < length counts → (now : List (Option ℕ)) (counts_now : List ℕ) → ((k : ℕ) → pairs_before now k ≡ pairs_before (set slots slot None) k) → length now ≡ length slots
-        → counts_now ≡ set counts (slot / 64) (get_or counts (slot / 64) 0 - 1) → AreCounts now counts_now
+    pub lowered_counts : slot / 16 < length counts → (now : List (Option ℕ)) (counts_now : List ℕ) → ((k : ℕ) → pairs_before now k ≡ pairs_before (set slots slot None) k) → length now ≡ length slots
+        → counts_now ≡ set counts (slot / 16) (get_or counts (slot / 16) 0 - 1) → AreCounts now counts_now
     lowered_counts within now counts_now before long counts_are =
-        let a : length counts_now ≡ length counts = ap length counts_are ∙ length-set counts (slot / 64) (get_or counts (slot / 64) 0 - 1) in
+        let a : length counts_now ≡ length counts = ap length counts_are ∙ length-set counts (slot / 16) (get_or counts (slot / 16) 0 - 1) in
         let lower = lowered (pairs_before (set slots slot None)) (pairs_before slots) slot (gap_less slots slot index pair) counts within are.each block_grows in
         record {
-          each = subst (AreSums (pairs_before now)) (sym counts_are) (λ block below. omega (arith, lower block below, before (64 * block + 64), before (64 * block)));
+          each = subst (AreSums (pairs_before now)) (sym counts_are) (λ block below. omega (arith, lower block below, before (16 * block + 16), before (16 * block)));
           covered = omega (arith, a, long, are.covered);
           small = omega (arith, long, are.small);
         }

@@ -30,30 +30,30 @@ pub sum_grows : (numbers : List ℕ) (k more : ℕ) → sum_before numbers k ≤
 sum_grows numbers k more = omega (arith, sum_later numbers k more)
 
 -- sums of parts add up to the count that they are of
-pub sums_reach : (before : ℕ → ℕ) (sums : List ℕ) → before 0 ≡ 0 → AreSums before sums → (part : ℕ) → part ≤ length sums → sum_before sums part ≡ before (64 * part)
+pub sums_reach : (before : ℕ → ℕ) (sums : List ℕ) → before 0 ≡ 0 → AreSums before sums → (part : ℕ) → part ≤ length sums → sum_before sums part ≡ before (16 * part)
 sums_reach before sums none are zero within = sym none
 sums_reach before sums none are (suc part) within =
     let rest = sums_reach before sums none are part (omega (arith, within)) in
     let here = are part (omega (arith, within)) in
-    let n : 64 * part + 64 ≡ 64 * suc part = omega arith in
-    let e : before (64 * part + 64) ≡ before (64 * suc part) = ap before n in
+    let n : 16 * part + 16 ≡ 16 * suc part = omega arith in
+    let e : before (16 * part + 16) ≡ before (16 * suc part) = ap before n in
     let m : part + 1 ≡ suc part = omega arith in
     let f : sum_before sums (part + 1) ≡ sum_before sums (suc part) = ap (sum_before sums) m in
     omega (arith, rest, here, e, f, sum_more sums part (omega (arith, within)))
 
 -- what is counted over a part
-pub sum_here : (numbers : List ℕ) (part : ℕ) → sum_before numbers (64 * part + 64) ≡ sum_before numbers (64 * part) + sum (take 64 (drop (64 * part) numbers))
-sum_here numbers part = sum_later numbers (64 * part) 64
+pub sum_here : (numbers : List ℕ) (part : ℕ) → sum_before numbers (16 * part + 16) ≡ sum_before numbers (16 * part) + sum (take 16 (drop (16 * part) numbers))
+sum_here numbers part = sum_later numbers (16 * part) 16
 
-pub sum_here_part : (numbers : List ℕ) (part : ℕ) → sum (take 64 (drop (64 * part) numbers)) ≤ sum numbers
-sum_here_part numbers part = omega (arith, sum_here numbers part, sum_part numbers (64 * part + 64))
+pub sum_here_part : (numbers : List ℕ) (part : ℕ) → sum (take 16 (drop (16 * part) numbers)) ≤ sum numbers
+sum_here_part numbers part = omega (arith, sum_here numbers part, sum_part numbers (16 * part + 16))
 
 -- a part taken off the rest of the numbers
-pub part_taken : (numbers rest front : List ℕ) (part count : ℕ) → front ≡ take count rest → count ≡ min 64 (length rest) → rest ≡ drop (64 * part) numbers → sum front ≡ sum (take 64 (drop (64 * part) numbers))
-part_taken numbers rest front part count taken few left = ap sum (taken ∙ ap (λ n. take n rest) few ∙ take_min 64 rest ∙ ap (take 64) left)
+pub part_taken : (numbers rest front : List ℕ) (part count : ℕ) → front ≡ take count rest → count ≡ min 16 (length rest) → rest ≡ drop (16 * part) numbers → sum front ≡ sum (take 16 (drop (16 * part) numbers))
+part_taken numbers rest front part count taken few left = ap sum (taken ∙ ap (λ n. take n rest) few ∙ take_min 16 rest ∙ ap (take 16) left)
 
--- numbers that a count is dealt to by 64
-pub dealt_sum : (numbers : List ℕ) (count : ℕ) → ((i : ℕ) → i < length numbers → get_or numbers i 0 ≡ min 64 (count - 64 * i)) → (k : ℕ) → k ≤ length numbers → sum_before numbers k ≡ min (64 * k) count
+-- numbers that a count is dealt to by 16
+pub dealt_sum : (numbers : List ℕ) (count : ℕ) → ((i : ℕ) → i < length numbers → get_or numbers i 0 ≡ min 16 (count - 16 * i)) → (k : ℕ) → k ≤ length numbers → sum_before numbers k ≡ min (16 * k) count
 dealt_sum numbers count dealt zero within = omega arith
 dealt_sum numbers count dealt (suc k) within =
     let rest = dealt_sum numbers count dealt k (omega (arith, within)) in
@@ -90,57 +90,57 @@ number_lowered numbers i within some = record {
   later = λ k behind. omega (arith, some, sum_set numbers i (get_or numbers i 0 - 1) k within behind);
 }
 
-module _ (less more : ℕ → ℕ) (place : ℕ) (one : IsOneMore less more place) (sums : List ℕ) (within : place / 64 < length sums) where
-  pub raised : AreSums less sums → AreSums more (set sums (place / 64) (get_or sums (place / 64) 0 + 1))
+module _ (less more : ℕ → ℕ) (place : ℕ) (one : IsOneMore less more place) (sums : List ℕ) (within : place / 16 < length sums) where
+  pub raised : AreSums less sums → AreSums more (set sums (place / 16) (get_or sums (place / 16) 0 + 1))
   raised are part below =
-      let old : part < length sums = omega (arith, below, length-set sums (place / 64) (get_or sums (place / 64) 0 + 1)) in
+      let old : part < length sums = omega (arith, below, length-set sums (place / 16) (get_or sums (place / 16) 0 + 1)) in
       let here = are part old in
-      elim (cases_eq part (place / 64)) [
+      elim (cases_eq part (place / 16)) [
         | inl same ↦
-            let s : get_or (set sums (place / 64) (get_or sums (place / 64) 0 + 1)) part 0 ≡ get_or sums (place / 64) 0 + 1 =
-            ap (λ n. get_or (set sums (place / 64) (get_or sums (place / 64) 0 + 1)) n 0) same ∙ get_or-set_same sums (place / 64) (get_or sums (place / 64) 0 + 1) 0 within in
-            let t : get_or sums part 0 ≡ get_or sums (place / 64) 0 = ap (λ n. get_or sums n 0) same in
-            omega (arith, s, t, here, one.later (64 * part + 64) (omega (arith, same)), one.earlier (64 * part) (omega (arith, same)))
+            let s : get_or (set sums (place / 16) (get_or sums (place / 16) 0 + 1)) part 0 ≡ get_or sums (place / 16) 0 + 1 =
+            ap (λ n. get_or (set sums (place / 16) (get_or sums (place / 16) 0 + 1)) n 0) same ∙ get_or-set_same sums (place / 16) (get_or sums (place / 16) 0 + 1) 0 within in
+            let t : get_or sums part 0 ≡ get_or sums (place / 16) 0 = ap (λ n. get_or sums n 0) same in
+            omega (arith, s, t, here, one.later (16 * part + 16) (omega (arith, same)), one.earlier (16 * part) (omega (arith, same)))
         | inr differs ↦
-            let s = get_or-set_other sums (place / 64) part (get_or sums (place / 64) 0 + 1) 0 differs in
-            elim (cases_lt part (place / 64)) [
-              | inl low ↦ omega (arith, s, here, one.earlier (64 * part + 64) (omega (arith, low)), one.earlier (64 * part) (omega (arith, low)))
-              | inr high ↦ omega (arith, s, here, one.later (64 * part + 64) (omega (arith, high, differs)), one.later (64 * part) (omega (arith, high, differs)))
+            let s = get_or-set_other sums (place / 16) part (get_or sums (place / 16) 0 + 1) 0 differs in
+            elim (cases_lt part (place / 16)) [
+              | inl low ↦ omega (arith, s, here, one.earlier (16 * part + 16) (omega (arith, low)), one.earlier (16 * part) (omega (arith, low)))
+              | inr high ↦ omega (arith, s, here, one.later (16 * part + 16) (omega (arith, high, differs)), one.later (16 * part) (omega (arith, high, differs)))
             ]
       ]
 
   -- the sum that the one is in has it
-  pub one_within : AreSums more sums → less (64 * (place / 64)) ≤ less (64 * (place / 64) + 64) → 0 < get_or sums (place / 64) 0
+  pub one_within : AreSums more sums → less (16 * (place / 16)) ≤ less (16 * (place / 16) + 16) → 0 < get_or sums (place / 16) 0
   one_within are rising =
-      omega (arith, rising, are (place / 64) within, one.later (64 * (place / 64) + 64) (omega arith), one.earlier (64 * (place / 64)) (omega arith))
+      omega (arith, rising, are (place / 16) within, one.later (16 * (place / 16) + 16) (omega arith), one.earlier (16 * (place / 16)) (omega arith))
 
-  pub lowered : AreSums more sums → less (64 * (place / 64)) ≤ less (64 * (place / 64) + 64) → AreSums less (set sums (place / 64) (get_or sums (place / 64) 0 - 1))
+  pub lowered : AreSums more sums → less (16 * (place / 16)) ≤ less (16 * (place / 16) + 16) → AreSums less (set sums (place / 16) (get_or sums (place / 16) 0 - 1))
   lowered are rising part below =
-      let old : part < length sums = omega (arith, below, length-set sums (place / 64) (get_or sums (place / 64) 0 - 1)) in
+      let old : part < length sums = omega (arith, below, length-set sums (place / 16) (get_or sums (place / 16) 0 - 1)) in
       let here = are part old in
-      elim (cases_eq part (place / 64)) [
+      elim (cases_eq part (place / 16)) [
         | inl same ↦
-            let s : get_or (set sums (place / 64) (get_or sums (place / 64) 0 - 1)) part 0 ≡ get_or sums (place / 64) 0 - 1 =
-            ap (λ n. get_or (set sums (place / 64) (get_or sums (place / 64) 0 - 1)) n 0) same ∙ get_or-set_same sums (place / 64) (get_or sums (place / 64) 0 - 1) 0 within in
-            let t : get_or sums part 0 ≡ get_or sums (place / 64) 0 = ap (λ n. get_or sums n 0) same in
-            omega (arith, s, t, here, one_within are rising, one.later (64 * part + 64) (omega (arith, same)), one.earlier (64 * part) (omega (arith, same)))
+            let s : get_or (set sums (place / 16) (get_or sums (place / 16) 0 - 1)) part 0 ≡ get_or sums (place / 16) 0 - 1 =
+            ap (λ n. get_or (set sums (place / 16) (get_or sums (place / 16) 0 - 1)) n 0) same ∙ get_or-set_same sums (place / 16) (get_or sums (place / 16) 0 - 1) 0 within in
+            let t : get_or sums part 0 ≡ get_or sums (place / 16) 0 = ap (λ n. get_or sums n 0) same in
+            omega (arith, s, t, here, one_within are rising, one.later (16 * part + 16) (omega (arith, same)), one.earlier (16 * part) (omega (arith, same)))
         | inr differs ↦
-            let s = get_or-set_other sums (place / 64) part (get_or sums (place / 64) 0 - 1) 0 differs in
-            elim (cases_lt part (place / 64)) [
-              | inl low ↦ omega (arith, s, here, one.earlier (64 * part + 64) (omega (arith, low)), one.earlier (64 * part) (omega (arith, low)))
-              | inr high ↦ omega (arith, s, here, one.later (64 * part + 64) (omega (arith, high, differs)), one.later (64 * part) (omega (arith, high, differs)))
+            let s = get_or-set_other sums (place / 16) part (get_or sums (place / 16) 0 - 1) 0 differs in
+            elim (cases_lt part (place / 16)) [
+              | inl low ↦ omega (arith, s, here, one.earlier (16 * part + 16) (omega (arith, low)), one.earlier (16 * part) (omega (arith, low)))
+              | inr high ↦ omega (arith, s, here, one.later (16 * part + 16) (omega (arith, high, differs)), one.later (16 * part) (omega (arith, high, differs)))
             ]
       ]
 
 -- a 0 last, where the count goes on over nothing
-pub zero_last : (before : ℕ → ℕ) (sums : List ℕ) → AreSums before sums → before (64 * length sums + 64) ≡ before (64 * length sums) → AreSums before (sums ++ 0 ∷ [])
+pub zero_last : (before : ℕ → ℕ) (sums : List ℕ) → AreSums before sums → before (16 * length sums + 16) ≡ before (16 * length sums) → AreSums before (sums ++ 0 ∷ [])
 zero_last before sums are nothing part below = elim (cases_lt part (length sums)) [
   | inl low ↦ omega (arith, are part low, get_or_append_left sums (0 ∷ []) 0 part low)
   | inr high ↦
       let same : part ≡ length sums = omega (arith, below, high, length_push sums 0) in
       let s : get_or (sums ++ 0 ∷ []) part 0 ≡ 0 = get_or_push sums 0 0 part (omega (arith, same)) in
-      let b : before (64 * part + 64) ≡ before (64 * length sums + 64) = ap (λ n. before (64 * n + 64)) same in
-      let d : before (64 * part) ≡ before (64 * length sums) = ap (λ n. before (64 * n)) same in
+      let b : before (16 * part + 16) ≡ before (16 * length sums + 16) = ap (λ n. before (16 * n + 16)) same in
+      let d : before (16 * part) ≡ before (16 * length sums) = ap (λ n. before (16 * n)) same in
       omega (arith, s, b, d, nothing)
 ]
 
@@ -155,7 +155,7 @@ zero_after numbers k = elim (cases_lt (length numbers) k) [
 ]
 
 -- the first sums above
-pub first_above : (numbers sums : List ℕ) → length numbers ≡ 64 → sums ≡ sum numbers ∷ 0 ∷ [] → AreSumsOf numbers sums × (length numbers < 64 * length sums)
+pub first_above : (numbers sums : List ℕ) → length numbers ≡ 16 → sums ≡ sum numbers ∷ 0 ∷ [] → AreSumsOf numbers sums × (length numbers < 16 * length sums)
 first_above numbers sums full is =
     let long : length sums ≡ 2 = ap length is in (
       record { each = subst (AreSums (sum_before numbers)) (sym is) two; covered = omega (arith, full, long); fewer = omega (arith, full, long) },
@@ -163,8 +163,8 @@ first_above numbers sums full is =
     )
   where
     two : AreSums (sum_before numbers) (sum numbers ∷ 0 ∷ [])
-    two zero below = omega (arith, sum_all numbers 64 (omega (arith, full)))
-    two (suc zero) below = omega (arith, sum_all numbers 128 (omega (arith, full)), sum_all numbers 64 (omega (arith, full)))
+    two zero below = omega (arith, sum_all numbers 16 (omega (arith, full)))
+    two (suc zero) below = omega (arith, sum_all numbers 32 (omega (arith, full)), sum_all numbers 16 (omega (arith, full)))
     two (suc (suc part)) below = absurd (omega (arith, below))
 
 -- what is told of the sums above, once they are there
@@ -176,30 +176,30 @@ none_above numbers above is = subst (λ o. AreAbove numbers (unboxed o)) (sym is
 
 module _ (numbers sums : List ℕ) (are : AreSumsOf numbers sums) where
   -- the parts before one, and the numbers before it
-  pub part_reach : (part : ℕ) → part ≤ length sums → sum_before sums part ≡ sum_before numbers (part * 64)
+  pub part_reach : (part : ℕ) → part ≤ length sums → sum_before sums part ≡ sum_before numbers (part * 16)
   part_reach part within =
-      let n : 64 * part ≡ part * 64 = omega arith in
+      let n : 16 * part ≡ part * 16 = omega arith in
       sums_reach (sum_before numbers) sums refl are.each part within ∙ ap (sum_before numbers) n
 
   pub all_parts : sum sums ≡ sum numbers
   all_parts =
-      sym (sum_all sums (length sums) (omega arith)) ∙ part_reach (length sums) (omega arith) ∙ sum_all numbers (length sums * 64) (omega (arith, are.covered))
+      sym (sum_all sums (length sums) (omega arith)) ∙ part_reach (length sums) (omega arith) ∙ sum_all numbers (length sums * 16) (omega (arith, are.covered))
 
   -- the parts before a number's own, and what is before it there
-  pub part_and_rest : (i : ℕ) → i ≤ length numbers → sum_before sums (i / 64) + sum (take (i - i / 64 * 64) (drop (i / 64 * 64) numbers)) ≡ sum_before numbers i
+  pub part_and_rest : (i : ℕ) → i ≤ length numbers → sum_before sums (i / 16) + sum (take (i - i / 16 * 16) (drop (i / 16 * 16) numbers)) ≡ sum_before numbers i
   part_and_rest i within =
-      let n : i / 64 * 64 + (i - i / 64 * 64) ≡ i = omega arith in
-      let e : sum_before numbers (i / 64 * 64 + (i - i / 64 * 64)) ≡ sum_before numbers i = ap (sum_before numbers) n in
-      omega (arith, e, sum_later numbers (i / 64 * 64) (i - i / 64 * 64), part_reach (i / 64) (omega (arith, within, are.covered)))
+      let n : i / 16 * 16 + (i - i / 16 * 16) ≡ i = omega arith in
+      let e : sum_before numbers (i / 16 * 16 + (i - i / 16 * 16)) ≡ sum_before numbers i = ap (sum_before numbers) n in
+      omega (arith, e, sum_later numbers (i / 16 * 16) (i - i / 16 * 16), part_reach (i / 16) (omega (arith, within, are.covered)))
 
-  pub sums_within : (i : ℕ) → i < length numbers → i / 64 < length sums
+  pub sums_within : (i : ℕ) → i < length numbers → i / 16 < length sums
   sums_within i within = omega (arith, within, are.covered)
 
   -- one more in a number is one more in its part
-  pub raised_above : (i : ℕ) → i < length numbers → (numbers_now sums_now : List ℕ) → numbers_now ≡ set numbers i (get_or numbers i 0 + 1) → sums_now ≡ set sums (i / 64) (get_or sums (i / 64) 0 + 1) → AreSumsOf numbers_now sums_now
+  pub raised_above : (i : ℕ) → i < length numbers → (numbers_now sums_now : List ℕ) → numbers_now ≡ set numbers i (get_or numbers i 0 + 1) → sums_now ≡ set sums (i / 16) (get_or sums (i / 16) 0 + 1) → AreSumsOf numbers_now sums_now
   raised_above i within numbers_now sums_now numbers_are sums_are =
       let a : length numbers_now ≡ length numbers = ap length numbers_are ∙ length-set numbers i (get_or numbers i 0 + 1) in
-      let b : length sums_now ≡ length sums = ap length sums_are ∙ length-set sums (i / 64) (get_or sums (i / 64) 0 + 1) in
+      let b : length sums_now ≡ length sums = ap length sums_are ∙ length-set sums (i / 16) (get_or sums (i / 16) 0 + 1) in
       record {
         each = subst (λ l. AreSums (sum_before l) sums_now) (sym numbers_are) (subst (AreSums (sum_before (set numbers i (get_or numbers i 0 + 1)))) (sym sums_are)
             (raised (sum_before numbers) (sum_before (set numbers i (get_or numbers i 0 + 1))) i (number_raised numbers i within) sums (sums_within i within) are.each));
@@ -207,41 +207,41 @@ module _ (numbers sums : List ℕ) (are : AreSumsOf numbers sums) where
         fewer = omega (arith, a, b, are.fewer);
       }
 
-  pub part_some : (i : ℕ) → i < length numbers → 0 < get_or numbers i 0 → 0 < get_or sums (i / 64) 0
+  pub part_some : (i : ℕ) → i < length numbers → 0 < get_or numbers i 0 → 0 < get_or sums (i / 16) 0
   part_some i within some =
       one_within (sum_before (set numbers i (get_or numbers i 0 - 1))) (sum_before numbers) i (number_lowered numbers i within some) sums (sums_within i within) are.each
-      (sum_grows (set numbers i (get_or numbers i 0 - 1)) (64 * (i / 64)) 64)
+      (sum_grows (set numbers i (get_or numbers i 0 - 1)) (16 * (i / 16)) 16)
 
   -- one less in a number is one less in its part
-  pub lowered_above : (i : ℕ) → i < length numbers → 0 < get_or numbers i 0 → (numbers_now sums_now : List ℕ) → numbers_now ≡ set numbers i (get_or numbers i 0 - 1) → sums_now ≡ set sums (i / 64) (get_or sums (i / 64) 0 - 1) → AreSumsOf numbers_now sums_now
+  pub lowered_above : (i : ℕ) → i < length numbers → 0 < get_or numbers i 0 → (numbers_now sums_now : List ℕ) → numbers_now ≡ set numbers i (get_or numbers i 0 - 1) → sums_now ≡ set sums (i / 16) (get_or sums (i / 16) 0 - 1) → AreSumsOf numbers_now sums_now
   lowered_above i within some numbers_now sums_now numbers_are sums_are =
       let a : length numbers_now ≡ length numbers = ap length numbers_are ∙ length-set numbers i (get_or numbers i 0 - 1) in
-      let b : length sums_now ≡ length sums = ap length sums_are ∙ length-set sums (i / 64) (get_or sums (i / 64) 0 - 1) in
+      let b : length sums_now ≡ length sums = ap length sums_are ∙ length-set sums (i / 16) (get_or sums (i / 16) 0 - 1) in
       record {
         each = subst (λ l. AreSums (sum_before l) sums_now) (sym numbers_are) (subst (AreSums (sum_before (set numbers i (get_or numbers i 0 - 1)))) (sym sums_are)
             (lowered (sum_before (set numbers i (get_or numbers i 0 - 1))) (sum_before numbers) i (number_lowered numbers i within some) sums (sums_within i within) are.each
-            (sum_grows (set numbers i (get_or numbers i 0 - 1)) (64 * (i / 64)) 64)));
+            (sum_grows (set numbers i (get_or numbers i 0 - 1)) (16 * (i / 16)) 16)));
         covered = omega (arith, a, b, are.covered);
         fewer = omega (arith, a, b, are.fewer);
       }
 
   -- a 0 last, where there is room for it in the last part
-  pub pushed_below : length numbers < 64 * length sums → AreSumsOf (numbers ++ 0 ∷ []) sums
+  pub pushed_below : length numbers < 16 * length sums → AreSumsOf (numbers ++ 0 ∷ []) sums
   pushed_below room = record {
     each = λ part below.
-        let a = zero_after numbers (64 * part) in
-        let b = zero_after numbers (64 * part + 64) in
+        let a = zero_after numbers (16 * part) in
+        let b = zero_after numbers (16 * part + 16) in
         omega (arith, a, b, are.each part below);
     covered = omega (arith, room, length_push numbers 0);
     fewer = omega (arith, are.fewer, length_push numbers 0);
   }
 
   -- one more part, with nothing in it
-  pub pushed_part : length numbers ≡ 64 * length sums → (sums_now : List ℕ) → sums_now ≡ sums ++ 0 ∷ [] → AreSumsOf numbers sums_now × (length numbers < 64 * length sums_now)
+  pub pushed_part : length numbers ≡ 16 * length sums → (sums_now : List ℕ) → sums_now ≡ sums ++ 0 ∷ [] → AreSumsOf numbers sums_now × (length numbers < 16 * length sums_now)
   pushed_part full sums_now sums_are =
       let long : length sums_now ≡ length sums + 1 = ap length sums_are ∙ length_push sums 0 in
-      let past = sum_all numbers (64 * length sums) (omega (arith, full)) in
-      let past_too = sum_all numbers (64 * length sums + 64) (omega (arith, full)) in (
+      let past = sum_all numbers (16 * length sums) (omega (arith, full)) in
+      let past_too = sum_all numbers (16 * length sums + 16) (omega (arith, full)) in (
         record {
           each = subst (AreSums (sum_before numbers)) (sym sums_are) (zero_last (sum_before numbers) sums are.each (past_too ∙ sym past));
           covered = omega (arith, long, full);

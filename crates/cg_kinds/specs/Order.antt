@@ -33,14 +33,14 @@ pub record AreClosed (slots : List (Option ℕ)) (homes : List ℕ) : Type 0 whe
 abbrev pub sum_before : List ℕ → ℕ → ℕ
 sum_before numbers k = sum (take k numbers)
 
--- each of these is what a count gains over a part of 64
+-- each of these is what a count gains over a part of 16
 abbrev pub AreSums : (ℕ → ℕ) → List ℕ → Type 0
-AreSums before sums = (part : ℕ) → part < length sums → before (64 * part + 64) ≡ before (64 * part) + slice_index sums part
+AreSums before sums = (part : ℕ) → part < length sums → before (16 * part + 16) ≡ before (16 * part) + slice_index sums part
 
 -- the sums of the parts of numbers; they are fewer
 pub record AreSumsOf (numbers sums : List ℕ) : Type 0 where
   pub each : AreSums (sum_before numbers) sums
-  pub covered : length numbers ≤ 64 * length sums
+  pub covered : length numbers ≤ 16 * length sums
   pub fewer : length sums < length numbers
 
 -- above numbers there are the sums of their parts, or nothing
@@ -48,10 +48,10 @@ abbrev pub AreAbove : List ℕ → Option (List ℕ) → Type 0
 AreAbove numbers None = Unit {0}
 AreAbove numbers (Some sums) = AreSumsOf numbers sums
 
--- the numbers of pairs in each block of 64 slots
+-- the numbers of pairs in each block of 16 slots
 pub record AreCounts (slots : List (Option ℕ)) (counts : List ℕ) : Type 0 where
   pub each : AreSums (pairs_before slots) counts
-  pub covered : length slots ≤ 64 * length counts
+  pub covered : length slots ≤ 16 * length counts
   pub small : length slots < 2 ^ 32
 
 -- the index of a pair after the pair at one index is gone, and the last has come to its place

@@ -124,7 +124,7 @@ fn make_room(
     ensures counts { AreCounts slots.old.items counts.new }
     ensures room { OnOk result (vec_len slots.new < vec_capacity slots.new) }
     ensures room_at_home { OnOk result (vec_len homes.new < vec_capacity homes.new) }
-    ensures block { OnOk result (length slots.old.items < 64 * length counts.new) }
+    ensures block { OnOk result (length slots.old.items < 16 * length counts.new) }
     ensures small { OnOk result (length slots.old.items + 1 < 2 ^ 32) }
 {
     let slot = slots.len();
@@ -153,7 +153,7 @@ impl Order {
         let mut order = Order {
             slots: Vec::with_capacity(alloc, count)?,
             homes: Vec::with_capacity(alloc, count)?,
-            counts: Sums::new(alloc),
+            counts: Sums::with_room(alloc, count / BLOCK + 1)?,
         };
         'indexes: for _ in 0..count {
             order.push()?;

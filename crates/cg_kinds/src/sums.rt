@@ -7,11 +7,11 @@ use std::alloc::{AllocError, Global};
 use std::marker::Model;
 
 /// So many numbers have a sum of their own.
-pub const PART: usize = 64;
+pub const PART: usize = 16;
 
-/// Numbers, and once they are more than 64 the sum of each 64, which have sums above them in their turn.
+/// Numbers, and once they are more than 16 the sum of each 16, which have sums above them in their turn.
 ///
-/// So a number that changes changes one sum of each height, and the sum of all before it is that of at most 64 numbers of each.
+/// So a number that changes changes one sum of each height, and the sum of all before it is that of at most 16 numbers of each.
 #[derive(Drop)]
 pub struct Sums {
     numbers: Vec<u32>,
@@ -66,7 +66,7 @@ fn reached_from(numbers: &[u32], first: usize, count: usize) -> (usize, usize)
     unreachable!()
 }
 
-/// The sum of 64 numbers, and a 0 for those to come.
+/// The sum of 16 numbers, and a 0 for those to come.
 fn first_sums(alloc: Global, numbers: &[u32]) -> Result<Box<Sums>, AllocError>
     requires { sum numbers.now < 2 ^ 32 }
     ensures { IfOk result (λ sums. sums.value ≡ sum numbers.now ∷ 0 ∷ []) }
@@ -84,10 +84,10 @@ fn first_sums(alloc: Global, numbers: &[u32]) -> Result<Box<Sums>, AllocError>
     Ok(boxed)
 }
 
-/// Each number becomes 64, as far as a count goes; one becomes what is left of it, and those behind become 0.
+/// Each number becomes 16, as far as a count goes; one becomes what is left of it, and those behind become 0.
 fn deal_out(numbers: &mut [u32], count: usize)
     ensures long { length numbers.new ≡ length numbers.old }
-    ensures each { (i : ℕ) → i < length numbers.new → slice_index numbers.new i ≡ min 64 (count - 64 * i) }
+    ensures each { (i : ℕ) → i < length numbers.new → slice_index numbers.new i ≡ min 16 (count - 16 * i) }
 {
     let mut left = count;
     'numbers: for i in 0..numbers.len() {
@@ -99,7 +99,7 @@ fn deal_out(numbers: &mut [u32], count: usize)
 
 /// The sums of the parts of numbers.
 fn sum_parts(sums: &mut [u32], numbers: &[u32])
-    requires covered { length numbers.now ≤ 64 * length sums.old }
+    requires covered { length numbers.now ≤ 16 * length sums.old }
     requires small { sum numbers.now < 2 ^ 32 }
     ensures long { length sums.new ≡ length sums.old }
     ensures each { AreSums (sum_before numbers.now) sums.new }
@@ -113,14 +113,15 @@ fn sum_parts(sums: &mut [u32], numbers: &[u32])
 }
 
 impl Sums {
-    /// No numbers.
-    pub fn new(alloc: Global) -> Sums
-        ensures { result ≡ [] }
+    /// No numbers, and room for so many.
+    pub fn with_room(alloc: Global, room: usize) -> Result<Sums, AllocError>
+        ensures { IfOk result (λ sums. sums ≡ []) }
     {
-        Sums {
-            numbers: Vec::new(alloc),
+        let numbers = Vec::with_capacity(alloc, room)?;
+        Ok(Sums {
+            numbers,
             above: None,
-        }
+        })
     }
 
     /// How many numbers there are.
@@ -219,7 +220,7 @@ impl Sums {
 
     /// The sums of the parts of other numbers.
     fn sum_again(&mut self, numbers: &[u32])
-        requires covered { length numbers.now ≤ 64 * length self.old }
+        requires covered { length numbers.now ≤ 16 * length self.old }
         requires small { sum numbers.now < 2 ^ 32 }
         ensures long { length self.new ≡ length self.old }
         ensures each { AreSums (sum_before numbers.now) self.new }
@@ -230,11 +231,11 @@ impl Sums {
         }
     }
 
-    /// Each number becomes 64, as far as a count goes; one becomes what is left of it, and those behind become 0.
+    /// Each number becomes 16, as far as a count goes; one becomes what is left of it, and those behind become 0.
     pub fn deal(&mut self, count: usize)
         requires { count < 2 ^ 32 }
         ensures long { length self.new ≡ length self.old }
-        ensures each { (i : ℕ) → i < length self.new → slice_index self.new i ≡ min 64 (count - 64 * i) }
+        ensures each { (i : ℕ) → i < length self.new → slice_index self.new i ≡ min 16 (count - 16 * i) }
     {
         deal_out(self.numbers.as_mut_slice(), count);
         if let Some(parts) = &mut self.above {

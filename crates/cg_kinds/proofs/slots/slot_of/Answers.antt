@@ -15,7 +15,7 @@ returns-then-at-eq-BLOCK-clause-before c =
     let block = c.reached-block.result.0 in
     let left = c.reached-block.result.1 in
     let reach = counts_reach c.args.slots.now c.args.counts.now c.requires.counts block (omega (arith, c.reached-block.ensures.within)) in
-    let full : get_or c.args.counts.now block 0 ≡ 64 = omega (arith, c.at.ensures, c.if-at-eq-BLOCK.true) in
+    let full : get_or c.args.counts.now block 0 ≡ 16 = omega (arith, c.at.ensures, c.if-at-eq-BLOCK.true) in
     let all = full_block c.args.slots.now c.args.counts.now c.requires.counts block left c.reached-block.ensures.within full (omega (arith, full, c.reached-block.ensures.there)) in
     all.0 ∙ (omega (arith, reach, c.reached-block.ensures.before))
 
@@ -23,7 +23,7 @@ pub returns-then-at-eq-BLOCK-clause-there : goal.returns-then-at-eq-BLOCK-clause
 returns-then-at-eq-BLOCK-clause-there c =
     let block = c.reached-block.result.0 in
     let left = c.reached-block.result.1 in
-    let full : get_or c.args.counts.now block 0 ≡ 64 = omega (arith, c.at.ensures, c.if-at-eq-BLOCK.true) in
+    let full : get_or c.args.counts.now block 0 ≡ 16 = omega (arith, c.at.ensures, c.if-at-eq-BLOCK.true) in
     (full_block c.args.slots.now c.args.counts.now c.requires.counts block left c.reached-block.ensures.within full (omega (arith, full, c.reached-block.ensures.there))).1
 
 pub returns-else-at-eq-BLOCK-clause-before : goal.returns-else-at-eq-BLOCK-clause-before

@@ -3,6 +3,6 @@ use Rattle.cg_kinds.proofs.sums.deal_out.Given as goal
 
 abbrev pub invariant-numbers : goal.invariant-numbers
 invariant-numbers l = record {
-  left : l.left ≡ l.count - 64 * l.i;
-  dealt : (i : ℕ) → i < l.i → slice_index l.numbers i ≡ min 64 (l.count - 64 * i);
+  left : l.left ≡ l.count - 16 * l.i;
+  dealt : (i : ℕ) → i < l.i → slice_index l.numbers i ≡ min 16 (l.count - 16 * i);
 }

@@ -18,19 +18,19 @@ parts-preserved c =
     let rest = c.parts.rest.now in
     let at = c.parts.part in
     let here = part_taken c.args.numbers.now c.parts.rest.now c.split_at.result.0.now c.parts.part c.min.result c.split_at.ensures.front c.min.ensures c.parts.invariant.rest in
-    let n : 64 * at + 64 ≡ 64 * (at + 1) = omega arith in
+    let n : 16 * at + 16 ≡ 16 * (at + 1) = omega arith in
     record {
       rest =
           c.split_at.ensures.back
           ∙ ap (λ n. drop n rest) c.min.ensures
-          ∙ drop_min 64 rest
-          ∙ ap (drop 64) c.parts.invariant.rest
-          ∙ drop-drop 64 (64 * at) numbers
+          ∙ drop_min 16 rest
+          ∙ ap (drop 16) c.parts.invariant.rest
+          ∙ drop-drop 16 (16 * at) numbers
           ∙ ap (λ n. drop n numbers) n;
       summed = λ part below. elim (cases_eq part at) [
         | inl same ↦
             let s : get_or (set c.parts.sums at c.sum_of.result) part 0 ≡ c.sum_of.result = ap (λ n. get_or (set c.parts.sums at c.sum_of.result) n 0) same ∙ get_or-set_same c.parts.sums at c.sum_of.result 0 (omega (arith, c.parts-test.true, c.parts.auto.sums)) in
-            let t : sum (take 64 (drop (64 * part) numbers)) ≡ sum (take 64 (drop (64 * at) numbers)) = ap (λ n. sum (take 64 (drop (64 * n) numbers))) same in
+            let t : sum (take 16 (drop (16 * part) numbers)) ≡ sum (take 16 (drop (16 * at) numbers)) = ap (λ n. sum (take 16 (drop (16 * n) numbers))) same in
             omega (arith, s, t, sum_here numbers part, c.sum_of.ensures, here)
         | inr differs ↦
             let s = get_or-set_other c.parts.sums at part c.sum_of.result 0 differs in

@@ -4,6 +4,6 @@ use Rattle.cg_kinds.proofs.sums.sum_parts.Given as goal
 
 abbrev pub invariant-parts : goal.invariant-parts
 invariant-parts l = record {
-  rest : l.rest ≡ drop (64 * l.part) l.numbers;
-  summed : (part : ℕ) → part < l.part → sum_before l.numbers (64 * part + 64) ≡ sum_before l.numbers (64 * part) + slice_index l.sums part;
+  rest : l.rest ≡ drop (16 * l.part) l.numbers;
+  summed : (part : ℕ) → part < l.part → sum_before l.numbers (16 * part + 16) ≡ sum_before l.numbers (16 * part) + slice_index l.sums part;
 }

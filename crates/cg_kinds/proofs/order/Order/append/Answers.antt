@@ -31,5 +31,5 @@ invariant_of-self-2 c =
       subst (λ l. AreHomes l c.push_reserved-2.new.self.items) (sym slots_are) (subst (AreHomes (items ++ Some (length homes) ∷ [])) (sym homes_are) (pushed_homes items homes c.self.invariant.0)),
       subst (λ l. AreCounts l c.raise.new.self) (sym slots_are)
           (pushed_counts items (length homes) c.make_room.new.counts c.raise.new.self c.make_room.ensures.counts c.in_ok-make_room.ensures.block c.in_ok-make_room.ensures.small
-          (c.raise.ensures ∙ ap (λ n. set c.make_room.new.counts (n / 64) (get_or c.make_room.new.counts (n / 64) 0 + 1)) slot_is)),
+          (c.raise.ensures ∙ ap (λ n. set c.make_room.new.counts (n / 16) (get_or c.make_room.new.counts (n / 16) 0 + 1)) slot_is)),
     )

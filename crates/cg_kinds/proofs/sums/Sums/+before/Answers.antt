@@ -18,8 +18,8 @@ returned : (t : _) (c : goal.After-sum_of t) → c.before-in-Some.result + c.sum
 returned t c =
     let numbers = c.self.inside.numbers.items in
     let above = above_told numbers c.self.inside.above c.in-Some.parts c.self.invariant c.in-Some.is in
-    let first = c.before-in-Some.ensures ∙ ap (λ l. sum_before l (c.args.i / 64)) c.deref.ensures in
-    let rest = c.sum_of.ensures ∙ ap (λ l. sum (take (c.args.i - c.args.i / 64 * 64) (drop (c.args.i / 64 * 64) l))) c.deref-in-Some.ensures.value in
+    let first = c.before-in-Some.ensures ∙ ap (λ l. sum_before l (c.args.i / 16)) c.deref.ensures in
+    let rest = c.sum_of.ensures ∙ ap (λ l. sum (take (c.args.i - c.args.i / 16 * 16) (drop (c.args.i / 16 * 16) l))) c.deref-in-Some.ensures.value in
     let whole : length numbers ≡ length c.args.self.now = ap length c.self.view_is in
     let is : sum_before numbers c.args.i ≡ sum_before c.args.self.now c.args.i = ap (λ l. sum_before l c.args.i) c.self.view_is in
     omega (arith, first, rest, is, part_and_rest numbers c.in-Some.parts.value above c.args.i (omega (arith, c.requires.within, whole)))
@@ -28,7 +28,7 @@ pub sum_of-requires : goal.sum_of-requires
 sum_of-requires t c =
     let numbers = c.self.inside.numbers.items in
     let above = above_told numbers c.self.inside.above c.in-Some.parts c.self.invariant c.in-Some.is in
-    let rest = ap (λ l. sum (take (c.args.i - c.args.i / 64 * 64) (drop (c.args.i / 64 * 64) l))) c.deref-in-Some.ensures.value in
+    let rest = ap (λ l. sum (take (c.args.i - c.args.i / 16 * 16) (drop (c.args.i / 16 * 16) l))) c.deref-in-Some.ensures.value in
     let whole : length numbers ≡ length c.args.self.now = ap length c.self.view_is in
     let all : sum numbers ≡ sum c.args.self.now = ap sum c.self.view_is in
     omega (arith, rest, part_and_rest numbers c.in-Some.parts.value above c.args.i (omega (arith, c.requires.within, whole)), sum_part numbers c.args.i, all, c.requires.small)

@@ -14,7 +14,7 @@ lower-requires t c =
     let whole : length numbers ≡ length c.args.self.now = ap length c.self.view_is in
     let within : c.args.i < length c.self.inside.numbers.items = omega (arith, c.requires.within, whole) in
     let at : get_or numbers c.args.i 0 ≡ get_or c.args.self.now c.args.i 0 = ap (λ l. get_or l c.args.i 0) c.self.view_is in
-    let there : get_or c.deref_mut.result.now (c.args.i / 64) 0 ≡ get_or c.in-Some.parts.value (c.args.i / 64) 0 = ap (λ l. get_or l (c.args.i / 64) 0) c.deref_mut.ensures.value in
+    let there : get_or c.deref_mut.result.now (c.args.i / 16) 0 ≡ get_or c.in-Some.parts.value (c.args.i / 16) 0 = ap (λ l. get_or l (c.args.i / 16) 0) c.deref_mut.ensures.value in
     let part_is = part_some numbers c.in-Some.parts.value above c.args.i within (omega (arith, at, c.requires.some)) in
     (omega (arith, c.decreases, above.fewer, long, whole), (omega (arith, c.requires.within, above.covered, long, whole), omega (arith, part_is, there)))
 
@@ -32,6 +32,6 @@ invariant_of-self t c =
           subst (λ s. AreAbove s.numbers.items (unboxed s.above)) (sym w.self-inside-is)
           (lowered_above numbers parts above i within some _ _
           (ap (λ n. set numbers i (n - 1)) (c.index_mut.ensures.value ∙ get_or_default numbers i _ 0 within))
-          (w.lower.ensures ∙ ap (λ l. set l (i / 64) (get_or l (i / 64) 0 - 1)) w.deref_mut.ensures.value))
+          (w.lower.ensures ∙ ap (λ l. set l (i / 16) (get_or l (i / 16) 0 - 1)) w.deref_mut.ensures.value))
       | in_default w ↦ subst (λ s. AreAbove s.numbers.items (unboxed s.above)) (sym w.self-inside-is) (none_above _ c.self.inside.above w.in_default.is)
     ]

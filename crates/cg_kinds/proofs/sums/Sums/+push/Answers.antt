@@ -27,13 +27,13 @@ invariant_of-self-2 t c =
       | in-Some+then-len+in_ok-push-in-Some w ↦
           let parts = w.in-Some.parts.value in
           let above = above_told numbers c.self.inside.above w.in-Some.parts c.self.invariant w.in-Some.is in
-          let full : length numbers ≡ 64 * length parts = omega (arith, above.covered, w.if-len.true, w.len.ensures, w.len-in-Some.ensures, ap length w.deref.ensures) in
+          let full : length numbers ≡ 16 * length parts = omega (arith, above.covered, w.if-len.true, w.len.ensures, w.len-in-Some.ensures, ap length w.deref.ensures) in
           let more = pushed_part numbers parts above full w.push.new.self (w.in_ok-push-in-Some.ensures.ok ∙ ap (λ l. l ++ 0 ∷ []) w.deref_mut.ensures.value) in
           finish t c _ w.self-inside-is (pushed_below numbers w.push.new.self more.0 more.1)
       | in-Some+else-len w ↦
           let parts = w.in-Some.parts.value in
           let above = above_told numbers c.self.inside.above w.in-Some.parts c.self.invariant w.in-Some.is in
-          let room : length numbers < 64 * length parts = omega (arith, above.covered, w.if-len.false, w.len.ensures, w.len-in-Some.ensures, ap length w.deref.ensures) in
+          let room : length numbers < 16 * length parts = omega (arith, above.covered, w.if-len.false, w.len.ensures, w.len-in-Some.ensures, ap length w.deref.ensures) in
           finish t c _ w.self-inside-is (pushed_below numbers parts above room)
       | in-None+then-len-eq-PART+in_ok-first_sums-in-None+in-Some-1 w ↦
           let sums = w.in_ok-first_sums-in-None.field-0.value in

@@ -28,6 +28,6 @@ invariant_of-self t c =
           subst (λ s. AreAbove s.numbers.items (unboxed s.above)) (sym w.self-inside-is)
           (raised_above numbers parts above i within _ _
           (ap (λ n. set numbers i (n + 1)) (c.index_mut.ensures.value ∙ get_or_default numbers i _ 0 within))
-          (w.raise.ensures ∙ ap (λ l. set l (i / 64) (get_or l (i / 64) 0 + 1)) w.deref_mut.ensures.value))
+          (w.raise.ensures ∙ ap (λ l. set l (i / 16) (get_or l (i / 16) 0 + 1)) w.deref_mut.ensures.value))
       | in_default w ↦ subst (λ s. AreAbove s.numbers.items (unboxed s.above)) (sym w.self-inside-is) (none_above _ c.self.inside.above w.in_default.is)
     ]

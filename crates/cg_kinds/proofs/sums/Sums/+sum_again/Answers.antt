@@ -16,7 +16,7 @@ sum_again-requires t c =
     let parts = ap length c.deref_mut.ensures.value in
     let all : sum c.as_slice.result.now ≡ sum sums = ap sum is in
     let reach = sums_reach (sum_before c.args.numbers.now) sums refl c.sum_parts.ensures.each (length sums) (omega arith) in
-    let whole_sum = sum_all c.args.numbers.now (64 * length sums) (omega (arith, c.requires.covered, long, whole)) in (
+    let whole_sum = sum_all c.args.numbers.now (16 * length sums) (omega (arith, c.requires.covered, long, whole)) in (
       omega (arith, c.decreases, above.fewer, parts, whole),
       (omega (arith, now, long, parts, above.covered), omega (arith, all, reach, whole_sum, sum_all sums (length sums) (omega arith), c.requires.small)),
     )
