@@ -5,8 +5,8 @@ ghost use Rattle.std.specs.Vec.{vec_len, vec_capacity};
 ghost use Rattle.cg_kinds.specs.Order.{indexes, pairs_before as before, renamed, AreHomes, AreCounts, AreClosed, IsSound};
 
 use crate::gap::IndexOrGap;
-use crate::slots::{BLOCK, pairs_before, slot_of};
-use crate::sums::Sums;
+use crate::slots::{pairs_before, slot_of};
+use crate::sums::{PART, Sums};
 use std::alloc::{AllocError, Global};
 use std::marker::Model;
 
@@ -74,7 +74,7 @@ fn take_slot(
     ensures rest { indexes slots.new.items ≡ map (renamed (length homes.old.items - 1) result)
         (remove (indexes slots.old.items) (before slots.old.items slot)) }
 {
-    counts.lower(slot / BLOCK);
+    counts.lower(slot / PART);
     empty_slot(slots.as_mut_slice(), homes, slot)
 }
 
@@ -137,7 +137,7 @@ fn make_room(
     if homes.len() == homes.capacity() {
         grow(homes)?;
     }
-    if slot / BLOCK == counts.len() {
+    if slot / PART == counts.len() {
         counts.push()?;
         Ok(())
     } else {
@@ -153,7 +153,7 @@ impl Order {
         let mut order = Order {
             slots: Vec::with_capacity(alloc, count)?,
             homes: Vec::with_capacity(alloc, count)?,
-            counts: Sums::with_room(alloc, count / BLOCK + 1)?,
+            counts: Sums::with_room(alloc, count / PART + 1)?,
         };
         'indexes: for _ in 0..count {
             order.push()?;
@@ -180,7 +180,7 @@ impl Order {
         make_room(&mut self.slots, &mut self.homes, &mut self.counts)?;
         let slot = self.slots.len();
         let index = self.homes.len();
-        self.counts.raise(slot / BLOCK);
+        self.counts.raise(slot / PART);
         self.slots.push_reserved(IndexOrGap::of(index as u32));
         self.homes.push_reserved(slot as u32);
         Ok(())

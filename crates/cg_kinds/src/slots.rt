@@ -1,12 +1,9 @@
-//! Slots with gaps, and the number of pairs in each block of them.
+//! Slots with gaps, and the number of pairs in each block of 16 of them.
 ghost use Rattle.std.specs.Prelude.{◌≡◌, ◌+◌, ◌<◌, length, None, IsSome, slice_index_or};
 ghost use Rattle.cg_kinds.specs.Order.{indexes, pairs_before as before, AreCounts};
 
 use crate::gap::IndexOrGap;
 use crate::sums::{PART, Sums};
-
-/// The pairs of so many slots have a count of their own.
-pub const BLOCK: usize = PART;
 
 /// The number of pairs in slots.
 #[tactic(auto, using(crate::proofs::SlotLemmas::before_more, crate::proofs::SlotLemmas::before_all, crate::proofs::SlotLemmas::few_before))]
@@ -28,8 +25,8 @@ pub fn pairs_before(slots: &[IndexOrGap], counts: &Sums, slot: usize) -> usize
     requires within { slot < length slots.now }
     ensures { result ≡ before slots.now slot }
 {
-    let block = slot / BLOCK;
-    counts.before(block) + count_pairs(&slots[block * BLOCK..slot])
+    let block = slot / PART;
+    counts.before(block) + count_pairs(&slots[block * PART..slot])
 }
 
 /// The slot, from one on, before which there are so many pairs from that one on.
@@ -58,8 +55,8 @@ pub fn slot_of(slots: &[IndexOrGap], counts: &Sums, i: usize) -> usize
     ensures there { IsSome (slice_index_or slots.now result None) }
 {
     let (block, left) = counts.reached(i);
-    let first = block * BLOCK;
-    if counts.at(block) == BLOCK {
+    let first = block * PART;
+    if counts.at(block) == PART {
         // The block has no gap.
         first + left
     } else {

@@ -195,6 +195,7 @@ impl Sums {
             parts.lower(i / PART);
         }
     }
+
     /// A 0 goes last.
     pub fn push(&mut self) -> Result<(), AllocError>
         requires { sum self.old < 2 ^ 32 }

@@ -162,7 +162,8 @@ fn fit(map: &mut Map, room: &mut usize)
 /// A map gives back all room but that of its pairs and some two fifths of them.
 ///
 /// Each growth leaves holes in the memory of the process, and so there may not be many. Of the parts that were tried this one alone
-/// kept all tables of 25 to 300 pairs, with an order and without, within 300 bytes and 64 a pair.
+/// kept each table that was measured, of 25 to 300 pairs as they were put and of some 90 sizes with an order, within 300 bytes and
+/// 64 a pair.
 #[inline(never)]
 fn give_back(map: &mut Map, room: &mut usize)
     ensures { map.new.entries ≡ map.old.entries }
