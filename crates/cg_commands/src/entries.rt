@@ -62,7 +62,7 @@ pub(crate) fn set_item<B: Kind>(
     let val = value(heap, locals, operand)?;
     let mut near = Near::default();
     let target = object_near(heap, list, Wanted::ScriptList, &mut near)?;
-    let _i = index_in(heap, target, index)?;
+    let _i = index_in(heap, target, near, index)?;
     heap.sound();
     match heap.put_near(target, near, Val::Int(index), val) {
         Ok(old) => Ok(given_up(old)),
@@ -85,8 +85,9 @@ pub(crate) fn del_item<B: Kind>(
     ensures { PerformsOnHeap heap.old locals.now (λ w. effect w (command.DelItem list.now index)) heap.new (gives result) }
 {
     let list = value(heap, locals, list)?;
-    let target = object(heap, list, Wanted::List)?;
-    let i = index_in(heap, target, index)?;
+    let mut near = Near::default();
+    let target = object_near(heap, list, Wanted::List, &mut near)?;
+    let i = index_in(heap, target, near, index)?;
     heap.sound();
     let entry = heap.take(target, i);
     Ok(entry)

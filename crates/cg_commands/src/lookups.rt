@@ -38,10 +38,11 @@ pub(crate) fn item<B: Kind>(
     ensures { PerformsOnHeap heap.old locals.now (λ w. effect w (command.Item name list.now index)) heap.new (gives result) }
 {
     let val = value(heap, locals, list)?;
-    let target = object(heap, val, Wanted::Sequence)?;
-    let i = index_in(heap, target, index)?;
+    let mut near = Near::default();
+    let target = object_near(heap, val, Wanted::Sequence, &mut near)?;
+    let i = index_in(heap, target, near, index)?;
     heap.sound();
-    let entry = heap.entry_at(target, i);
+    let entry = heap.entry_near(target, i, near);
     bind_to(heap, locals, name, entry.val)
 }
 
@@ -122,9 +123,14 @@ pub(crate) fn deref<B: Kind>(
     }
 }
 
-/// An index below the length.
+/// An index below the length of an object that is near.
 #[inline(always)]
-pub(crate) fn index_in<B: Kind>(heap: &Heap<B>, target: u64, index: i64) -> Result<usize, Refusal>
+pub(crate) fn index_in<B: Kind>(
+    heap: &Heap<B>,
+    target: u64,
+    near: Near,
+    index: i64,
+) -> Result<usize, Refusal>
     requires { IsLive heap.now target }
     ensures ok { IfOk result (λ i. valid_index index (length (entries_of heap.now target)) ≡ Some i) }
     ensures below { IfOk result (λ i. i < length (entries_of heap.now target)) }
@@ -135,7 +141,7 @@ pub(crate) fn index_in<B: Kind>(heap: &Heap<B>, target: u64, index: i64) -> Resu
         return Err(Refusal::NoIndex);
     }
     let i = index as usize;
-    if i < heap.len(target) {
+    if i < heap.len_near(target, near) {
         Ok(i)
     } else {
         Err(Refusal::NoIndex)

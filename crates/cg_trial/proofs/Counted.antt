@@ -5,7 +5,6 @@ use Rattle.std.specs.Ordering.{nat_cmp}
 use Rattle.std.specs.FinMap as fin
 use Rattle.std.proofs.lemmas.Bool.{eq-eqb}
 use Rattle.std.proofs.lemmas.List.Sums.{sum_by-append, sum_by-cons}
-use Rattle.cg_value.specs.declared.Place.{Place}
 use Rattle.cg_value.specs.declared.Place.TheVariants.{Cand}
 use Rattle.cg_graph.specs.Member.{Includes}
 use Rattle.cg_graph.specs.Value.{references}
@@ -77,5 +76,5 @@ module _ (store : Store) (sound : IsSound store) where
   pub is_counted : (o : ℕ) → occurrences o (held_by_all (view_of store) (list_at store Cand)) ≤ count_of store o
   is_counted o = omega (arith, occurrences-held_by o (view_of store) (list_at store Cand), held_inside store o (list_at store Cand) (once_at store sound.listed Cand))
 
-  pub is_apart : (kept : Place) → IsNowhereElse kept (view_of store)
-  is_apart kept q o h k i = apart store sound.listed Cand q o (λ e. h (sym e)) i
+  pub is_apart : IsNowhereElse (view_of store)
+  is_apart q o h i = apart store sound.listed Cand q o (λ e. h (sym e)) i

@@ -3,6 +3,7 @@ pub mod Passes
 pub mod Entries
 pub mod Waking
 pub mod Sifts
+pub mod Exchanges
 pub mod Splits
 pub mod Placed
 pub mod Views

@@ -1,10 +1,10 @@
--- The walk: what was passed has the number 0, what was taken out is reached, and whatever that leads to has a number.
-use Rattle.std.proofs.Common.{◌≡◌, ◌≢◌, refl, sym, ◌∙◌, ap, subst, ℕ, ◌+◌, ◌*◌, ◌<◌, ◌≤◌, Bool, cond, ◌⊎◌, inl, inr, List, [], ◌∷◌, ◌++◌, length, Option, Some, None, IsTrue, arith}
+-- The walk: what it has passed has a number, what was set aside has none, and whatever it passed leads to has a number.
+use Rattle.std.proofs.Common.{◌≡◌, ◌≢◌, refl, sym, ◌∙◌, ap, subst, ℕ, ◌+◌, ◌<◌, ◌≤◌, Bool, cond, ◌⊎◌, inl, inr, List, [], ◌∷◌, ◌++◌, length, Option, Some, None, IsTrue, arith, append_assoc, length-append}
 use Rattle.std.proofs.lemmas.Bool.{eq-eqb}
 use Rattle.std.proofs.lemmas.List.Sums.{sum_by_push, sum_by-append, sum_by-cons}
 use Rattle.std.specs.Prelude.{◌==◌, sum_by}
 use Rattle.cg_value.specs.declared.Place.{Place}
-use Rattle.cg_value.specs.declared.Place.TheVariants.{Cand}
+use Rattle.cg_value.specs.declared.Place.TheVariants.{Cand, Back}
 use Rattle.cg_value.specs.declared.Entry.{Entry}
 use Rattle.cg_graph.specs.Member.{Includes}
 use Rattle.cg_graph.specs.Holdings.{occurrences}
@@ -12,54 +12,12 @@ use Rattle.cg_graph.specs.Places.{without_serial}
 use Rattle.cg_trial.specs.View.{IsNext, head_of, View, IsSame, Moved, IsReadyView}
 use Rattle.cg_graph.specs.Value.{references}
 use Rattle.cg_trial.specs.Paths.{entries_in}
-use Rattle.cg_trial.specs.Sift.{Woken, IsRound, zeros, Walk, starts, goes, IsNowhereElse, IsSifted}
-use Rattle.cg_graph.proofs.Members.{either, Includes-append_cases, Includes-append_left, Includes-append_right}
-use Rattle.cg_trial.proofs.Lists.{occurs, occurs_in, same_members, none_or_some, without-absent, without-append, without-cons_yes, once_before, IsAt, head_is, ahead, ahead_is}
-use Rattle.cg_trial.proofs.Passes.{same_itself, same_more, turn_of, stands, at_end}
+use Rattle.cg_trial.specs.Sift.{Woken, IsMember, both, is_zero, zeros, AreOthersSame, Walk, starts, goes, IsParted}
+use Rattle.cg_graph.proofs.Members.{either, Includes-append_cases}
+use Rattle.cg_trial.proofs.Lists.{occurs, occurs_in, none_or_some, without-absent, without-append, without-cons_yes, once_before, IsAt, head_is, ahead, ahead_is}
+use Rattle.cg_trial.proofs.Passes.{same_itself, same_more, turn_of, turn_shorter, stands, at_end}
 use Rattle.cg_trial.proofs.Entries.{refs_same, length_same, live_same}
-use Rattle.cg_trial.proofs.Waking.{woken_ready}
-
--- The walk has come to the cursor. Each candidate is in one of three: passed, ahead, or kept.
-pub record Sifting (kept : Place) (old now : View) (cursor : Option ℕ) : Type 0 where
-  pub front : List ℕ
-  pub back : List ℕ
-  pub at : IsAt (now.listed Cand) cursor front back
-  -- what was passed has the number 0
-  pub passed : (q : ℕ) → Includes front q → now.number q ≡ 0
-  pub same : IsSame old now
-  pub others : (q : Place) → q ≢ Cand → q ≢ kept → now.listed q ≡ old.listed q
-  -- each candidate stands in one of the two lists, as often as before
-  pub sums : (f : ℕ → ℕ) → sum_by f (now.listed Cand) + sum_by f (now.listed kept) ≡ sum_by f (old.listed Cand)
-  pub reached : (q : ℕ) → Includes (now.listed kept) q → Walk old (old.listed Cand) q
-  pub marked : (q : ℕ) → Includes (now.listed Cand) q → now.number q ≢ 0 → Walk old (old.listed Cand) q
-  pub starting : (q : ℕ) → Includes (old.listed Cand) q → old.number q ≢ 0 → Includes (now.listed kept) q ⊎ (now.number q ≢ 0)
-  -- what a kept object leads to is kept, or has a number
-  pub closed : (q p : ℕ) → Includes (now.listed kept) q → Includes (references (old.entries q)) p → Includes (old.listed Cand) p → Includes (now.listed kept) p ⊎ (now.number p ≢ 0)
-
-pub sifting_at : (kept : Place) (old now : View) (cursor : Option ℕ) (o : ℕ) → Sifting kept old now cursor → cursor ≡ Some o → Sifting kept old now (Some o)
-sifting_at kept old now cursor o so is = subst (λ (k : Option ℕ). Sifting kept old now k) is so
-
-pub sifting_first : (kept : Place) (v : View) (cursor : Option ℕ) → v.listed kept ≡ [] → cursor ≡ head_of (v.listed Cand) → Sifting kept v v cursor
-sifting_first kept v cursor empty is = record {
-  front = [];
-  back = v.listed Cand;
-  at = record { parts = refl; at = is };
-  passed = λ q h. absurd h;
-  same = same_itself v;
-  others = λ q h k. refl;
-  sums = λ f. let e : sum_by f (v.listed kept) ≡ 0 = ap (sum_by f) empty in omega arith;
-  reached = λ q h. absurd (nothing q h);
-  marked = λ q h k. starts k h;
-  starting = λ q h k. inr k;
-  closed = λ q p h. absurd (nothing q h);
-}
-  where
-    nothing : (q : ℕ) → Includes (v.listed kept) q → ⊥
-    nothing q h = subst (λ (xs : List ℕ). Includes xs q) empty h
-
--- candidates stand in one of the lists, once
-pub where_now : (kept : Place) (old now : View) (cursor : Option ℕ) → Sifting kept old now cursor → (q : ℕ) → occurrences q (now.listed Cand) + occurrences q (now.listed kept) ≡ occurrences q (old.listed Cand)
-where_now kept old now cursor so q = so.sums (λ x. cond (x == q) 1 0)
+use Rattle.cg_trial.proofs.Waking.{member_of, member_counts}
 
 pub in_lists : (xs ys zs : List ℕ) (q : ℕ) → occurrences q xs + occurrences q ys ≡ occurrences q zs → Includes zs q → Includes ys q ⊎ Includes xs q
 in_lists xs ys zs q sum h = either (none_or_some (occurrences q ys)) (λ e. inr (occurs_in xs q (let k = occurs zs q h in omega arith))) (λ e. inl (occurs_in ys q e))
@@ -67,51 +25,135 @@ in_lists xs ys zs q sum h = either (none_or_some (occurrences q ys)) (λ e. inr 
 pub from_first : (xs ys zs : List ℕ) (q : ℕ) → occurrences q xs + occurrences q ys ≡ occurrences q zs → Includes xs q → Includes zs q
 from_first xs ys zs q sum h = occurs_in zs q (let k = occurs xs q h in omega arith)
 
-pub sifting_ready : (kept : Place) (old now : View) (cursor : Option ℕ) → IsReadyView old → Sifting kept old now cursor → IsReadyView now
-sifting_ready kept old now cursor ready so = record {
-  once = λ q. let e = where_now kept old now cursor so q in let k = ready.once q in omega arith;
-  alive = λ q h. subst (λ (l : ℕ → Bool). IsTrue (l q)) (sym so.same.lives) (ready.alive q (from_first (now.listed Cand) (now.listed kept) (old.listed Cand) q (where_now kept old now cursor so q) h));
-  closed = λ q p live h.
-      subst (λ (l : ℕ → Bool). IsTrue (l p)) (sym so.same.lives)
-      (ready.closed q p (subst (λ (l : ℕ → Bool). IsTrue (l q)) so.same.lives live) (subst (λ (es : ℕ → List Entry). Includes (references (es q)) p) so.same.hold h));
+-- a list without the one that stands between two parts of it
+pub without_middle : (xs front rest : List ℕ) (o : ℕ) → occurrences o xs ≤ 1 → xs ≡ front ++ o ∷ rest → without_serial o xs ≡ front ++ rest
+without_middle xs front rest o once parts =
+    let none = once_before xs front rest o once parts in
+    ap (without_serial o) parts
+    ∙ without-append o front (o ∷ rest)
+    ∙ ap (λ (ys : List ℕ). ys ++ without_serial o (o ∷ rest)) (without-absent o front none.0)
+    ∙ ap (λ (ys : List ℕ). front ++ ys) (without-cons_yes o o rest (eq-eqb o o refl) ∙ without-absent o rest none.1)
+
+-- The walk has come to the cursor. Each candidate is in one of three: passed, ahead, or set aside.
+pub record Sifting (old now : View) (cursor : Option ℕ) (before steps : ℕ) : Type 0 where
+  pub front : List ℕ
+  pub back : List ℕ
+  pub at : IsAt (now.listed Cand) cursor front back
+  pub numbered : (q : ℕ) → Includes front q → now.number q ≢ 0
+  pub asleep : (q : ℕ) → Includes (now.listed Back) q → now.number q ≡ 0
+  pub same : IsSame old now
+  pub others : AreOthersSame old now
+  -- each candidate stands in one of the two lists, as often as before
+  pub sums : (f : ℕ → ℕ) → both f now ≡ sum_by f (old.listed Cand)
+  pub marked : (q : ℕ) → Includes (old.listed Cand) q → now.number q ≢ 0 → Walk old (old.listed Cand) q
+  pub stays : (q : ℕ) → old.number q ≢ 0 → now.number q ≢ 0
+  -- what a passed object leads to has a number
+  pub closed : (q p : ℕ) → Includes front q → Includes (references (old.entries q)) p → Includes (old.listed Cand) p → now.number p ≢ 0
+  pub looks : steps ≡ before + entries_in old front
+
+pub sifting_at : (old now : View) (cursor : Option ℕ) (o before steps : ℕ) → Sifting old now cursor before steps → cursor ≡ Some o → Sifting old now (Some o) before steps
+sifting_at old now cursor o before steps so is = subst (λ (k : Option ℕ). Sifting old now k before steps) is so
+
+pub sifting_first : (v : View) (cursor : Option ℕ) (steps : ℕ) → v.listed Back ≡ [] → cursor ≡ head_of (v.listed Cand) → Sifting v v cursor steps steps
+sifting_first v cursor steps empty is = record {
+  front = [];
+  back = v.listed Cand;
+  at = record { parts = refl; at = is };
+  numbered = λ q h. absurd h;
+  asleep = λ q h. absurd (subst (λ (xs : List ℕ). Includes xs q) empty h);
+  same = same_itself v;
+  others = λ q h k. refl;
+  sums = λ f. let e : sum_by f (v.listed Back) ≡ 0 = ap (sum_by f) empty in omega arith;
+  marked = λ q h k. starts k h;
+  stays = λ q h. h;
+  closed = λ q p h. absurd h;
+  looks = omega arith;
 }
 
-pub sifting_live : (kept : Place) (old now : View) (o : ℕ) → IsReadyView old → Sifting kept old now (Some o) → IsTrue (now.live o)
-sifting_live kept old now o ready so = (sifting_ready kept old now (Some o) ready so).alive o (stands (now.listed Cand) o so.front so.back so.at)
+module _ (old now : View) (cursor : Option ℕ) (before steps : ℕ) (so : Sifting old now cursor before steps) where
+  -- how often one stands in the two lists
+  pub where_now : (q : ℕ) → occurrences q (now.listed Cand) + occurrences q (now.listed Back) ≡ occurrences q (old.listed Cand)
+  where_now q = so.sums (λ x. cond (x == q) 1 0)
 
--- An object with the number 0 is passed.
-pub sifting_pass : (kept : Place) (old now : View) (o : ℕ) (cursor : Option ℕ) → Sifting kept old now (Some o) → now.number o ≡ 0 → IsNext now o cursor → Sifting kept old now cursor
-sifting_pass kept old now o cursor so is next =
-    let turn = turn_of now (now.listed Cand) o cursor so.front so.back refl so.at next in
-    record {
-      front = so.front ++ o ∷ [];
-      back = turn.0;
-      at = turn.3;
-      passed = λ q h. either (Includes-append_cases so.front (o ∷ []) q h) (so.passed q) (λ k. either k (λ i. ap now.number (sym i) ∙ is) (λ k. absurd k));
-      same = so.same;
-      others = so.others;
-      sums = so.sums;
-      reached = so.reached;
-      marked = so.marked;
-      starting = so.starting;
-      closed = so.closed;
-    }
+  pub member_now : (q : ℕ) → Includes (old.listed Cand) q → IsMember now q
+  member_now q h = member_of now q (omega (arith, where_now q, occurs (old.listed Cand) q h))
 
--- twice the candidates with the number 0, and what is ahead
+  pub member_old : (q : ℕ) → IsMember now q → Includes (old.listed Cand) q
+  member_old q h = occurs_in (old.listed Cand) q (omega (arith, where_now q, member_counts now q h))
+
+  pub sifting_ready : IsReadyView old → IsReadyView now
+  sifting_ready ready = record {
+    once = λ q. omega (arith, where_now q, ready.once q);
+    alive = λ q h. live_same old now q so.same (ready.alive q (member_old q (inl h)));
+    closed = λ q p live h.
+        live_same old now p so.same
+        (ready.closed q p (subst (λ (l : ℕ → Bool). IsTrue (l q)) so.same.lives live) (subst (λ (es : ℕ → List Entry). Includes (references (es q)) p) so.same.hold h));
+  }
+
+pub sifting_live : (old now : View) (o before steps : ℕ) → IsReadyView old → Sifting old now (Some o) before steps → IsTrue (now.live o)
+sifting_live old now o before steps ready so = (sifting_ready old now (Some o) before steps so ready).alive o (stands (now.listed Cand) o so.front so.back so.at)
+
+-- those with the number 0, and what is ahead
 abbrev pub weight : View → Option ℕ → ℕ
-weight v cursor = 2 * zeros v + length (ahead cursor (v.listed Cand))
+weight v cursor = zeros v + length (ahead cursor (v.listed Cand))
 
-pub pass_lighter : (kept : Place) (old now : View) (o : ℕ) (was cursor : Option ℕ) → IsReadyView old → Sifting kept old now (Some o) → was ≡ Some o → IsNext now o cursor → weight now cursor < weight now was
-pass_lighter kept old now o was cursor ready so is next =
-    let turn = turn_of now (now.listed Cand) o cursor so.front so.back refl so.at next in
-    let once = (sifting_ready kept old now (Some o) ready so).once in
-    let a : length (ahead was (now.listed Cand)) ≡ length (o ∷ turn.0) = ap (λ (k : Option ℕ). length (ahead k (now.listed Cand))) is ∙ ap length (ahead_is (now.listed Cand) (Some o) so.front so.back once so.at ∙ turn.1) in
-    let b : length (ahead cursor (now.listed Cand)) ≡ length turn.0 = ap length (ahead_is (now.listed Cand) cursor (so.front ++ o ∷ []) turn.0 once turn.3) in
-    omega arith
+-- An object with the number 0 is set aside.
+module _ (old now new : View) (o : ℕ) (cursor : Option ℕ) (before steps : ℕ) (ready : IsReadyView old) (so : Sifting old now (Some o) before steps) (is : now.number o ≡ 0) (next : IsNext now o cursor) (moved : Moved o Back now new) where
+  abbrev turn : (rest : List ℕ) × (so.back ≡ o ∷ rest) × (now.listed Cand ≡ so.front ++ o ∷ rest) × IsAt (now.listed Cand) cursor (so.front ++ o ∷ []) rest
+  turn = turn_of now (now.listed Cand) o cursor so.front so.back refl so.at next
 
--- An object with a number is taken out, once what it refers to is taken back.
-module _ (kept : Place) (old now mid new : View) (o : ℕ) (cursor : Option ℕ) (ready : IsReadyView old) (apart : kept ≢ Cand) (alone : IsNowhereElse kept old) (so : Sifting kept old now (Some o)) (numbered : now.number o ≢ 0)
-    (woken : Woken (references (now.entries o)) now mid) (next : IsNext mid o cursor) (moved : Moved o kept mid new) where
+  once_now : (q : ℕ) → occurrences q (now.listed Cand) ≤ 1
+  once_now = (sifting_ready old now (Some o) before steps so ready).once
+
+  stands_now : Includes (now.listed Cand) o
+  stands_now = stands (now.listed Cand) o so.front so.back so.at
+
+  cand_left : new.listed Cand ≡ so.front ++ turn.0
+  cand_left = moved.others Cand (λ e. absurd (cc)) ∙ without_middle (now.listed Cand) so.front turn.0 o (once_now o) turn.2
+
+  not_aside : occurrences o (now.listed Back) ≡ 0
+  not_aside = omega (arith, where_now old now (Some o) before steps so o, ready.once o, occurs (now.listed Cand) o stands_now)
+
+  aside_more : new.listed Back ≡ now.listed Back ++ o ∷ []
+  aside_more = moved.last ∙ ap (λ (xs : List ℕ). xs ++ o ∷ []) (without-absent o (now.listed Back) not_aside)
+
+  number_new : (q : ℕ) → new.number q ≡ now.number q
+  number_new q = ap (λ (n : ℕ → ℕ). n q) moved.numbers
+
+  same_both : (f : ℕ → ℕ) → both f new ≡ both f now
+  same_both f = omega (arith, ap (sum_by f) cand_left, sum_by-append f so.front turn.0, ap (sum_by f) turn.2, sum_by-append f so.front (o ∷ turn.0), sum_by-cons f o turn.0, ap (sum_by f) aside_more, sum_by_push f (now.listed Back) o)
+
+  absent_elsewhere : (q : Place) → q ≢ Cand → q ≢ Back → occurrences o (old.listed q) ≡ 0 → new.listed q ≡ old.listed q
+  absent_elsewhere q h k none = moved.others q k ∙ ap (without_serial o) (so.others q h k) ∙ without-absent o (old.listed q) none
+
+  pub sifting_aside : ((q : Place) → q ≢ Cand → occurrences o (old.listed q) ≡ 0) → Sifting old new cursor before steps
+  sifting_aside alone = record {
+    front = so.front;
+    back = turn.0;
+    at = record { parts = cand_left; at = turn.3.at };
+    numbered = λ q h k. so.numbered q h (sym (number_new q) ∙ k);
+    asleep = λ q h. number_new q ∙ either (Includes-append_cases (now.listed Back) (o ∷ []) q (subst (λ (xs : List ℕ). Includes xs q) aside_more h))
+        (so.asleep q) (λ k. either k (λ i. subst (λ p. now.number p ≡ 0) i is) (λ k. absurd k));
+    same = same_more so.same moved.same;
+    others = λ q h k. absent_elsewhere q h k (alone q h);
+    sums = λ f. same_both f ∙ so.sums f;
+    marked = λ q h k. so.marked q h (λ z. k (number_new q ∙ z));
+    stays = λ q h k. so.stays q h (sym (number_new q) ∙ k);
+    closed = λ q p h r k z. so.closed q p h r k (sym (number_new p) ∙ z);
+    looks = so.looks;
+  }
+
+  pub aside_lighter : ((q : Place) → q ≢ Cand → occurrences o (old.listed q) ≡ 0) → (was : Option ℕ) → was ≡ Some o → weight new cursor < weight now was
+  aside_lighter alone was start =
+      let z : zeros new ≡ both (is_zero now) new = ap (λ (n : ℕ → ℕ). both (λ q. cond (n q == 0) 1 0) new) moved.numbers in
+      let once_new = (sifting_ready old new cursor before steps (sifting_aside alone) ready).once in
+      let a : length (ahead was (now.listed Cand)) ≡ length (o ∷ turn.0) = ap (λ (k : Option ℕ). length (ahead k (now.listed Cand))) start ∙ ap length (ahead_is (now.listed Cand) (Some o) so.front so.back once_now so.at ∙ turn.1) in
+      let b : length (ahead cursor (new.listed Cand)) ≡ length turn.0 = ap length (ahead_is (new.listed Cand) cursor so.front turn.0 once_new (record { parts = cand_left; at = turn.3.at })) in
+      omega (arith, z, same_both (is_zero now), a, b)
+
+-- An object with a number is passed, once what it refers to is taken back.
+module _ (old now mid : View) (o : ℕ) (cursor : Option ℕ) (before steps later : ℕ) (ready : IsReadyView old) (so : Sifting old now (Some o) before steps) (has : now.number o ≢ 0)
+    (woken : Woken (references (now.entries o)) now mid) (next : IsNext mid o cursor) (looked : later ≡ steps + length (now.entries o)) where
   abbrev rest : List ℕ
   rest = (head_is so.back o so.at.at).0
 
@@ -121,72 +163,14 @@ module _ (kept : Place) (old now mid new : View) (o : ℕ) (cursor : Option ℕ)
   here : now.listed Cand ≡ so.front ++ o ∷ rest
   here = so.at.parts ∙ ap (λ (b : List ℕ). so.front ++ b) was
 
-  ready_now : IsReadyView now
-  ready_now = sifting_ready kept old now (Some o) ready so
+  parts : mid.listed Cand ≡ so.front ++ o ∷ (rest ++ woken.more)
+  parts = woken.longer ∙ ap (λ (xs : List ℕ). xs ++ woken.more) here ∙ append_assoc so.front (o ∷ rest) woken.more
 
-  ready_mid : IsReadyView mid
-  ready_mid = woken_ready (references (now.entries o)) now mid ready_now woken
+  at_next : IsAt (mid.listed Cand) cursor (so.front ++ o ∷ []) (rest ++ woken.more)
+  at_next = record { parts = parts ∙ sym (append_assoc so.front (o ∷ []) (rest ++ woken.more)); at = next Cand so.front (rest ++ woken.more) parts }
 
-  round : IsRound o so.front rest now mid
-  round = woken.splits o so.front rest numbered here
-
-  no_before : (occurrences o round.before ≡ 0) × (occurrences o round.after ≡ 0)
-  no_before = once_before (mid.listed Cand) round.before round.after o (ready_mid.once o) round.parts
-
-  cand_new : new.listed Cand ≡ round.before ++ round.after
-  cand_new =
-      moved.others Cand (λ e. apart (sym e))
-      ∙ ap (without_serial o) round.parts
-      ∙ without-append o round.before (o ∷ round.after)
-      ∙ ap (λ (xs : List ℕ). xs ++ without_serial o (o ∷ round.after)) (without-absent o round.before no_before.0)
-      ∙ ap (λ (xs : List ℕ). round.before ++ xs) (without-cons_yes o o round.after (eq-eqb o o refl) ∙ without-absent o round.after no_before.1)
-
-  stands_now : Includes (now.listed Cand) o
-  stands_now = stands (now.listed Cand) o so.front so.back so.at
-
-  not_kept : occurrences o (now.listed kept) ≡ 0
-  not_kept = let e = where_now kept old now (Some o) so o in let k = ready.once o in let h = occurs (now.listed Cand) o stands_now in omega arith
-
-  kept_new : new.listed kept ≡ now.listed kept ++ o ∷ []
-  kept_new = moved.last ∙ ap (λ (xs : List ℕ). xs ++ o ∷ []) (ap (without_serial o) (woken.others kept apart) ∙ without-absent o (now.listed kept) not_kept)
-
-  number_new : (q : ℕ) → new.number q ≡ mid.number q
-  number_new q = ap (λ (n : ℕ → ℕ). n q) moved.numbers
-
-  has_number : (q : ℕ) → now.number q ≢ 0 → new.number q ≢ 0
-  has_number q h k = woken.stays q h (sym (number_new q) ∙ k)
-
-  in_old : (q : ℕ) → Includes (now.listed Cand) q → Includes (old.listed Cand) q
-  in_old q h = from_first (now.listed Cand) (now.listed kept) (old.listed Cand) q (where_now kept old now (Some o) so q) h
-
-  in_now : (q : ℕ) → Includes (new.listed Cand) q → Includes (now.listed Cand) q
-  in_now q h = same_members (mid.listed Cand) (now.listed Cand) woken.sums q
-      (subst (λ (xs : List ℕ). Includes xs q) (sym round.parts)
-      (either (Includes-append_cases round.before round.after q (subst (λ (xs : List ℕ). Includes xs q) cand_new h))
-      (λ k. Includes-append_left round.before (o ∷ round.after) q k)
-      (λ k. Includes-append_right round.before (o ∷ round.after) q (inr k))))
-
-  kept_more : (q : ℕ) → Includes (now.listed kept) q → Includes (new.listed kept) q
-  kept_more q h = subst (λ (xs : List ℕ). Includes xs q) (sym kept_new) (Includes-append_left (now.listed kept) (o ∷ []) q h)
-
-  kept_cases : {C : Type 0} (q : ℕ) → Includes (new.listed kept) q → (Includes (now.listed kept) q → C) → (o ≡ q → C) → C
-  kept_cases q h f g = either (Includes-append_cases (now.listed kept) (o ∷ []) q (subst (λ (xs : List ℕ). Includes xs q) kept_new h)) f (λ k. either k g (λ k. absurd k))
-
-  still : (q : ℕ) → Includes (now.listed kept) q ⊎ (now.number q ≢ 0) → Includes (new.listed kept) q ⊎ (new.number q ≢ 0)
-  still q h = either h (λ k. inl (kept_more q k)) (λ k. inr (has_number q k))
-
-  all_sums : (f : ℕ → ℕ) → sum_by f (new.listed Cand) + sum_by f (new.listed kept) ≡ sum_by f (old.listed Cand)
-  all_sums f =
-      let a : sum_by f (new.listed Cand) ≡ sum_by f round.before + sum_by f round.after = ap (sum_by f) cand_new ∙ sum_by-append f round.before round.after in
-      let b : sum_by f (new.listed kept) ≡ sum_by f (now.listed kept) + f o = ap (sum_by f) kept_new ∙ sum_by_push f (now.listed kept) o in
-      let c : sum_by f (mid.listed Cand) ≡ sum_by f round.before + sum_by f (o ∷ round.after) = ap (sum_by f) round.parts ∙ sum_by-append f round.before (o ∷ round.after) in
-      let d = sum_by-cons f o round.after in
-      let e = woken.sums f in
-      let k = so.sums f in
-      omega arith
-
-  walk_here : Walk old (old.listed Cand) o
-  walk_here = so.marked o stands_now numbered
+  in_old : Includes (old.listed Cand) o
+  in_old = member_old old now (Some o) before steps so o (inl (stands (now.listed Cand) o so.front so.back so.at))
 
   refs_old : (p : ℕ) → Includes (references (now.entries o)) p → Includes (references (old.entries o)) p
   refs_old p h = subst (λ (r : List ℕ). Includes r p) (refs_same old now o so.same) h
@@ -194,77 +178,101 @@ module _ (kept : Place) (old now mid new : View) (o : ℕ) (cursor : Option ℕ)
   refs_now : (p : ℕ) → Includes (references (old.entries o)) p → Includes (references (now.entries o)) p
   refs_now p h = subst (λ (r : List ℕ). Includes r p) (sym (refs_same old now o so.same)) h
 
-  -- what the object refers to is kept, or has a number now
-  led : (p : ℕ) → Includes (references (old.entries o)) p → Includes (old.listed Cand) p → Includes (new.listed kept) p ⊎ (new.number p ≢ 0)
-  led p h k = either (in_lists (now.listed Cand) (now.listed kept) (old.listed Cand) p (where_now kept old now (Some o) so p) k)
-      (λ i. inl (kept_more p i))
-      (λ i. inr (λ z. woken.woken p (refs_now p h) i (sym (number_new p) ∙ z)))
+  passed_cases : {C : Type 0} (q : ℕ) → Includes (so.front ++ o ∷ []) q → (Includes so.front q → C) → (o ≡ q → C) → C
+  passed_cases q h f g = either (Includes-append_cases so.front (o ∷ []) q h) f (λ k. either k g (λ k. absurd k))
 
-  pub sifting_keep : Sifting kept old new cursor
-  sifting_keep = record {
-    front = round.before;
-    back = round.after;
-    at = record { parts = cand_new; at = next Cand round.before round.after round.parts };
-    passed = λ q h. number_new q ∙ round.passed so.passed q h;
-    same = same_more so.same (same_more woken.same moved.same);
-    others = λ q h k.
-        moved.others q k ∙ ap (without_serial o) (woken.others q h ∙ so.others q h k) ∙ without-absent o (old.listed q) (alone q o h k (in_old o stands_now));
-    sums = all_sums;
-    reached = λ q h. kept_cases q h (so.reached q) (λ i. subst (λ p. Walk old (old.listed Cand) p) i walk_here);
-    marked = λ q h k.
-        either (woken.only q (λ z. k (number_new q ∙ z))) (λ n. so.marked q (in_now q h) n) (λ r. goes walk_here (refs_old q r) (in_old q (in_now q h)));
-    starting = λ q h k. still q (so.starting q h k);
-    closed = λ q p h r k. kept_cases q h (λ i. still p (so.closed q p i r k)) (λ i. led p (subst (λ s. Includes (references (old.entries s)) p) (sym i) r) k);
+  pub sifting_pass : Sifting old mid cursor before later
+  sifting_pass = record {
+    front = so.front ++ o ∷ [];
+    back = rest ++ woken.more;
+    at = at_next;
+    numbered = λ q h. woken.stays q (passed_cases q h (so.numbered q) (λ i. subst (λ p. now.number p ≢ 0) i has));
+    asleep = woken.asleep so.asleep;
+    same = same_more so.same woken.same;
+    others = λ q h k. woken.others q h k ∙ so.others q h k;
+    sums = λ f. woken.sums f ∙ so.sums f;
+    marked = λ q h k. either (woken.only q k) (so.marked q h) (λ r. goes (so.marked o in_old has) (refs_old q r) h);
+    stays = λ q h. woken.stays q (so.stays q h);
+    closed = λ q p h r k. passed_cases q h (λ i. woken.stays p (so.closed q p i r k))
+        (λ i. woken.woken p (refs_now p (subst (λ s. Includes (references (old.entries s)) p) (sym i) r)) (member_now old now (Some o) before steps so p k));
+    looks = omega (arith, so.looks, looked, length_same old now o so.same, sum_by_push (λ q. length (old.entries q)) so.front o);
   }
 
-  pub keep_lighter : (before : Option ℕ) → before ≡ Some o → weight new cursor < weight now before
-  unfolding round sifting_keep
-  keep_lighter before is =
-      let f : ℕ → ℕ = λ q. cond (mid.number q == 0) 1 0 in
-      let z : zeros new ≡ sum_by f (round.before ++ round.after) =
-      ap (λ (n : ℕ → ℕ). sum_by (λ q. cond (n q == 0) 1 0) (new.listed Cand)) moved.numbers ∙ ap (sum_by f) cand_new in
-      let y : zeros mid ≡ sum_by f (round.before ++ o ∷ round.after) = ap (sum_by f) round.parts in
-      let x = sum_by-append f round.before round.after in
-      let w = sum_by-append f round.before (o ∷ round.after) in
-      let v = sum_by-cons f o round.after in
-      let light = round.lighter in
-      let ready_new = sifting_ready kept old new cursor ready sifting_keep in
-      let a : length (ahead before (now.listed Cand)) ≡ length (o ∷ rest) =
-      ap (λ (k : Option ℕ). length (ahead k (now.listed Cand))) is ∙ ap length (ahead_is (now.listed Cand) (Some o) so.front so.back ready_now.once so.at ∙ was) in
-      let b : length (ahead cursor (new.listed Cand)) ≡ length round.after = ap length (ahead_is (new.listed Cand) cursor round.before round.after ready_new.once sifting_keep.at) in
-      omega arith
+  pub pass_lighter : (start : Option ℕ) → start ≡ Some o → weight mid cursor < weight now start
+  pass_lighter start is =
+      let once_now = (sifting_ready old now (Some o) before steps so ready).once in
+      let once_mid = (sifting_ready old mid cursor before later sifting_pass ready).once in
+      let a : length (ahead start (now.listed Cand)) ≡ length (o ∷ rest) = ap (λ (k : Option ℕ). length (ahead k (now.listed Cand))) is ∙ ap length (ahead_is (now.listed Cand) (Some o) so.front so.back once_now so.at ∙ was) in
+      let b : length (ahead cursor (mid.listed Cand)) ≡ length (rest ++ woken.more) = ap length (ahead_is (mid.listed Cand) cursor (so.front ++ o ∷ []) (rest ++ woken.more) once_mid at_next) in
+      omega (arith, a, b, woken.lighter, length-append rest woken.more)
 
-  -- the entries of the kept objects are those of this one more
-  pub keep_looks : entries_in old (new.listed kept) ≡ entries_in old (now.listed kept) + length (now.entries o)
-  keep_looks =
-      let a = sum_by_push (λ q. length (old.entries q)) (now.listed kept) o in
-      let b = length_same old now o so.same in
-      ap (entries_in old) kept_new ∙ omega arith
+pub sifting_alive : (old now mid : View) (o before steps : ℕ) (r : List ℕ) → IsReadyView old → Sifting old now (Some o) before steps → Woken r now mid → IsTrue (mid.live o)
+sifting_alive old now mid o before steps r ready so woken = live_same now mid o woken.same (sifting_live old now o before steps ready so)
 
--- At the end all that stays has the number 0, so what a walk reaches was taken out.
-module _ (kept : Place) (old now : View) (so : Sifting kept old now None) where
-  all_passed : (q : ℕ) → Includes (now.listed Cand) q → now.number q ≡ 0
-  all_passed q h = so.passed q (subst (λ (xs : List ℕ). Includes xs q) (at_end (now.listed Cand) so.front so.back so.at) h)
+-- At the end all that stays was passed, so it has a number, and so has what it leads to.
+module _ (old now : View) (before steps : ℕ) (so : Sifting old now None before steps) where
+  all_passed : now.listed Cand ≡ so.front
+  all_passed = at_end (now.listed Cand) so.front so.back so.at
 
-  kept_then : (q : ℕ) → Includes (old.listed Cand) q → Includes (now.listed kept) q ⊎ (now.number q ≢ 0) → Includes (now.listed kept) q
-  kept_then q h k = either k (λ i. i) (λ n. either (in_lists (now.listed Cand) (now.listed kept) (old.listed Cand) q (where_now kept old now None so q) h) (λ i. i) (λ i. absurd (n (all_passed q i))))
+  passed : (q : ℕ) → Includes (now.listed Cand) q → Includes so.front q
+  passed q h = subst (λ (xs : List ℕ). Includes xs q) all_passed h
 
-  all_kept : (q : ℕ) → Walk old (old.listed Cand) q → Includes (now.listed kept) q
-  all_kept q (starts n h) = kept_then q h (so.starting q h n)
-  all_kept q (goes {o = p} w r h) = kept_then q h (so.closed p q (all_kept p w) r h)
+  left : (q : ℕ) → Includes (old.listed Cand) q → now.number q ≢ 0 → Includes (now.listed Cand) q
+  left q h n = either (member_now old now None before steps so q h) (λ i. i) (λ i. absurd (n (so.asleep q i)))
 
-  pub sifting_end : IsSifted kept old now
-  sifting_end = record { same = so.same; others = so.others; sums = so.sums; reached = so.reached; all_reached = all_kept }
+  all_left : (q : ℕ) → Walk old (old.listed Cand) q → Includes (now.listed Cand) q
+  all_left q (starts n h) = left q h (so.stays q n)
+  all_left q (goes {o = p} w r h) = left q h (so.closed p q (passed p (all_left p w)) r h)
 
-pub sifting_alive : (kept : Place) (old now mid : View) (o : ℕ) (r : List ℕ) → IsReadyView old → Sifting kept old now (Some o) → Woken r now mid → IsTrue (mid.live o)
-sifting_alive kept old now mid o r ready so woken = live_same now mid o woken.same (sifting_live kept old now o ready so)
+  pub sifting_end : IsParted old now
+  sifting_end = record {
+    same = so.same;
+    others = so.others;
+    sums = so.sums;
+    numbered = λ q h. so.numbered q (passed q h);
+    asleep = so.asleep;
+    reached = λ q h. so.marked q (member_old old now None before steps so q (inl h)) (so.numbered q (passed q h));
+    all_reached = all_left;
+  }
 
-pub sifting_done : (kept : Place) (old now : View) (cursor : Option ℕ) → Sifting kept old now cursor → cursor ≡ None → IsSifted kept old now
-sifting_done kept old now cursor so is = sifting_end kept old now (subst (λ (k : Option ℕ). Sifting kept old now k) is so)
+  pub looks_few : steps ≤ before + entries_in old (old.listed Cand)
+  looks_few = omega (arith, so.looks, so.sums (λ q. length (old.entries q)), ap (entries_in old) all_passed)
 
--- the kept objects' entries are some of all
-pub kept_entries : (kept : Place) (old now : View) (cursor : Option ℕ) → Sifting kept old now cursor → entries_in old (now.listed kept) ≤ entries_in old (old.listed Cand)
-kept_entries kept old now cursor so = let e = so.sums (λ q. length (old.entries q)) in omega arith
+pub sifting_done : (old now : View) (cursor : Option ℕ) (before steps : ℕ) → Sifting old now cursor before steps → cursor ≡ None → Sifting old now None before steps
+sifting_done old now cursor before steps so is = subst (λ (k : Option ℕ). Sifting old now k before steps) is so
 
-pub empty_entries : (v : View) (xs : List ℕ) (steps : ℕ) → xs ≡ [] → steps ≡ steps + entries_in v xs
-empty_entries v xs steps empty = let e : entries_in v xs ≡ 0 = ap (entries_in v) empty in omega arith
+-- No candidate before the cursor has a number.
+pub record Looking (v : View) (cursor : Option ℕ) : Type 0 where
+  pub front : List ℕ
+  pub back : List ℕ
+  pub at : IsAt (v.listed Cand) cursor front back
+  pub zero : (q : ℕ) → Includes front q → v.number q ≡ 0
+
+pub looking_first : (v : View) (cursor : Option ℕ) → cursor ≡ head_of (v.listed Cand) → Looking v cursor
+looking_first v cursor is = record { front = []; back = v.listed Cand; at = record { parts = refl; at = is }; zero = λ q h. absurd h }
+
+pub looking_at : (v : View) (cursor : Option ℕ) (o : ℕ) → Looking v cursor → cursor ≡ Some o → Looking v (Some o)
+looking_at v cursor o so is = subst (λ (k : Option ℕ). Looking v k) is so
+
+pub looking_live : (v : View) (o : ℕ) → IsReadyView v → Looking v (Some o) → IsTrue (v.live o)
+looking_live v o ready so = ready.alive o (stands (v.listed Cand) o so.front so.back so.at)
+
+pub looking_more : (v : View) (o : ℕ) (cursor : Option ℕ) → Looking v (Some o) → v.number o ≡ 0 → IsNext v o cursor → Looking v cursor
+looking_more v o cursor so is next =
+    let turn = turn_of v (v.listed Cand) o cursor so.front so.back refl so.at next in
+    record {
+      front = so.front ++ o ∷ [];
+      back = turn.0;
+      at = turn.3;
+      zero = λ q h. either (Includes-append_cases so.front (o ∷ []) q h) (so.zero q) (λ k. either k (λ i. subst (λ p. v.number p ≡ 0) i is) (λ k. absurd k));
+    }
+
+pub looking_shorter : (v : View) (o : ℕ) (was cursor : Option ℕ) → IsReadyView v → Looking v (Some o) → was ≡ Some o → IsNext v o cursor → length (ahead cursor (v.listed Cand)) < length (ahead was (v.listed Cand))
+looking_shorter v o was cursor ready so is next =
+    let turn = turn_of v (v.listed Cand) o cursor so.front so.back refl so.at next in
+    rw is (turn_shorter (v.listed Cand) o cursor so.front so.back turn.0 ready.once so.at turn.1 turn.3)
+
+pub looking_end : (v : View) (cursor : Option ℕ) → Looking v cursor → cursor ≡ None → (o : ℕ) → Includes (v.listed Cand) o → v.number o ≡ 0
+looking_end v cursor so is o h =
+    let all = at_end (v.listed Cand) so.front so.back (subst (λ (k : Option ℕ). IsAt (v.listed Cand) k so.front so.back) is so.at) in
+    so.zero o (subst (λ (xs : List ℕ). Includes xs o) all h)

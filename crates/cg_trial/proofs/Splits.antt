@@ -92,9 +92,9 @@ counted_room v a rest counts counted o h =
     let g = counted o in
     omega arith
 
-pub apart_same : (kept : Place) (v b : View) → IsSameButNumbers v b → IsNowhereElse kept v → IsNowhereElse kept b
-apart_same kept v b rest alone = λ q o h k i.
-    ap (λ (l : Place → List ℕ). occurrences o (l q)) rest.places ∙ alone q o h k (subst (λ (xs : List ℕ). Includes xs o) (cand_same rest) i)
+pub apart_same : (v b : View) → IsSameButNumbers v b → IsNowhereElse v → IsNowhereElse b
+apart_same v b rest alone = λ q o h i.
+    ap (λ (l : Place → List ℕ). occurrences o (l q)) rest.places ∙ alone q o h (subst (λ (xs : List ℕ). Includes xs o) (cand_same rest) i)
 
 pub empty_same : (kept : Place) (v b : View) → IsSameButNumbers v b → v.listed kept ≡ [] → b.listed kept ≡ []
 empty_same kept v b rest empty = ap (λ (l : Place → List ℕ). l kept) rest.places ∙ empty

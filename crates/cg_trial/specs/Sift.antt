@@ -1,43 +1,80 @@
--- What the walk over the candidates changes: some are taken back, and some taken out. (Ours.)
-use Rattle.std.specs.Prelude.{◌≡◌, ◌≢◌, ℕ, ◌+◌, ◌*◌, ◌≤◌, ◌⊎◌, List, ◌∷◌, ◌++◌, ◌==◌, length, sum_by, count_by}
+-- What the walk over the candidates changes: those that look unreachable are set aside, and taken back where a reference to
+-- them is found. (Developer guide, "Identifying reference cycles".)
+use Rattle.std.specs.Prelude.{◌≡◌, ◌≢◌, ℕ, ◌+◌, ◌≤◌, ◌⊎◌, List, ◌++◌, ◌==◌, cond, length, sum_by, IsTrue}
 use Rattle.cg_value.specs.declared.Place.{Place}
-use Rattle.cg_value.specs.declared.Place.TheVariants.{Cand}
+use Rattle.cg_value.specs.declared.Place.TheVariants.{Cand, Back}
 use Rattle.cg_graph.specs.Member.{Includes}
 use Rattle.cg_graph.specs.Value.{references}
 use Rattle.cg_graph.specs.Holdings.{occurrences}
 use Rattle.cg_trial.specs.View.{View, IsSame}
 use Rattle.cg_trial.specs.Paths.{Reached}
 
--- how many candidates have the number 0
+-- a candidate, set aside or not
+abbrev pub IsMember : View → ℕ → Type 0
+IsMember v o = Includes (v.listed Cand) o ⊎ Includes (v.listed Back) o
+
+-- a sum over all of them
+abbrev pub both : (ℕ → ℕ) → View → ℕ
+both f v = sum_by f (v.listed Cand) + sum_by f (v.listed Back)
+
+-- 1 for an object with the number 0
+abbrev pub is_zero : View → ℕ → ℕ
+is_zero v o = cond (v.number o == 0) 1 0
+
+-- how many have the number 0
 abbrev pub zeros : View → ℕ
-zeros v = count_by (λ o. v.number o == 0) (v.listed Cand)
+zeros v = both (is_zero v) v
 
--- Round an object of the list: what stood before it and has the number 0, and what stands after it.
-pub record IsRound (o : ℕ) (front back : List ℕ) (old new : View) : Type 0 where
-  pub before : List ℕ
-  pub after : List ℕ
-  pub parts : new.listed Cand ≡ before ++ o ∷ after
-  pub passed : ((q : ℕ) → Includes front q → old.number q ≡ 0) → (q : ℕ) → Includes before q → new.number q ≡ 0
-  pub lighter : 2 * zeros new + length after ≤ 2 * zeros old + length back
+-- no other list than those two changes
+abbrev pub AreOthersSame : View → View → Type 0
+AreOthersSame old new = (q : Place) → q ≢ Cand → q ≢ Back → new.listed q ≡ old.listed q
 
--- The references among the candidates have a number now, and those that had none stand after each that had one.
+-- The references among the candidates have a number now, and those that were set aside stand last.
 pub record Woken (refs : List ℕ) (old new : View) : Type 0 where
   pub same : IsSame old new
-  pub others : (q : Place) → q ≢ Cand → new.listed q ≡ old.listed q
-  pub sums : (f : ℕ → ℕ) → sum_by f (new.listed Cand) ≡ sum_by f (old.listed Cand)
+  pub others : AreOthersSame old new
+  pub sums : (f : ℕ → ℕ) → both f new ≡ both f old
   pub stays : (p : ℕ) → old.number p ≢ 0 → new.number p ≢ 0
-  pub woken : (p : ℕ) → Includes refs p → Includes (old.listed Cand) p → new.number p ≢ 0
+  pub woken : (p : ℕ) → Includes refs p → IsMember old p → new.number p ≢ 0
   pub only : (p : ℕ) → new.number p ≢ 0 → (old.number p ≢ 0) ⊎ Includes refs p
-  pub splits : (o : ℕ) (front back : List ℕ) → old.number o ≢ 0 → old.listed Cand ≡ front ++ o ∷ back → IsRound o front back old new
+  pub asleep : ((q : ℕ) → Includes (old.listed Back) q → old.number q ≡ 0) → (q : ℕ) → Includes (new.listed Back) q → new.number q ≡ 0
+  pub more : List ℕ
+  pub longer : new.listed Cand ≡ old.listed Cand ++ more
+  pub lighter : zeros new + length more ≤ zeros old
 
 -- A path of members from one that has a number.
 pub data Walk (v : View) (members : List ℕ) : ℕ → Type 0 where
   starts : {o : ℕ} → v.number o ≢ 0 → Includes members o → Walk v members o
   goes : {o p : ℕ} → Walk v members o → Includes (references (v.entries o)) p → Includes members p → Walk v members p
 
--- A candidate stands in no other list than that of the kept place.
-abbrev pub IsNowhereElse : Place → View → Type 0
-IsNowhereElse kept v = (q : Place) (o : ℕ) → q ≢ Cand → q ≢ kept → Includes (v.listed Cand) o → occurrences o (v.listed q) ≡ 0
+-- What a walk reaches stays, with a number, and the other candidates are set aside.
+pub record IsParted (old new : View) : Type 0 where
+  pub same : IsSame old new
+  pub others : AreOthersSame old new
+  pub sums : (f : ℕ → ℕ) → both f new ≡ sum_by f (old.listed Cand)
+  pub numbered : (o : ℕ) → Includes (new.listed Cand) o → new.number o ≢ 0
+  pub asleep : (o : ℕ) → Includes (new.listed Back) o → new.number o ≡ 0
+  pub reached : (o : ℕ) → Includes (new.listed Cand) o → Walk old (old.listed Cand) o
+  pub all_reached : (o : ℕ) → Walk old (old.listed Cand) o → Includes (new.listed Cand) o
+
+-- A candidate stands in no other list.
+abbrev pub IsNowhereElse : View → Type 0
+IsNowhereElse v = (q : Place) (o : ℕ) → q ≢ Cand → Includes (v.listed Cand) o → occurrences o (v.listed q) ≡ 0
+
+-- Each candidate, set aside or not, lives and stands in its list alone, and its number tells which that is.
+pub record IsTwofold (v : View) : Type 0 where
+  pub alive : (o : ℕ) → IsMember v o → IsTrue (v.live o)
+  pub once : (o : ℕ) → occurrences o (v.listed Cand) + occurrences o (v.listed Back) ≤ 1
+  pub alone : (q : Place) (o : ℕ) → q ≢ Cand → q ≢ Back → IsMember v o → occurrences o (v.listed q) ≡ 0
+  pub numbered : (o : ℕ) → Includes (v.listed Cand) o → v.number o ≢ 0
+  pub asleep : (o : ℕ) → Includes (v.listed Back) o → v.number o ≡ 0
+
+-- The candidates and those that were set aside change their places.
+pub record IsExchanged (old new : View) : Type 0 where
+  pub same : IsSame old new
+  pub others : AreOthersSame old new
+  pub candidates : new.listed Cand ≡ old.listed Back
+  pub aside : new.listed Back ≡ old.listed Cand
 
 -- What a walk reaches is kept, and the other candidates stay.
 pub record IsSifted (kept : Place) (old new : View) : Type 0 where

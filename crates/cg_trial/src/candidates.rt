@@ -1,9 +1,10 @@
 //! What the search asks of the heap, over what it sees of it.
-ghost use Rattle.std.specs.Prelude.{◌≡◌, ◌↔◌, ◌<◌, ◌∷◌, [], IsTrue};
+ghost use Rattle.std.specs.Prelude.{◌≡◌, ◌≢◌, ◌↔◌, ◌<◌, ◌∷◌, [], IsTrue};
 ghost use Rattle.cg_graph.specs.Member.{Includes};
+ghost use Rattle.cg_graph.specs.Holdings.{occurrences};
 ghost use Rattle.cg_graph.specs.Store.{place_of};
 ghost use Rattle.cg_arena.specs.Nodes.{IsPlace};
-ghost use Rattle.cg_trial.specs.View.{view_of, Numbered, Moved, Lowered, IsNext};
+ghost use Rattle.cg_trial.specs.View.{view_of, Numbered, Moved, Merged, Lowered, IsNext};
 
 use cg_arena::Near;
 use cg_heap::Heap;
@@ -20,6 +21,19 @@ pub fn is_candidate<B: Kind>(heap: &Heap<B>, object: u64, place: Place) -> bool
 {
     heap.sound();
     matches!(place, Place::Cand)
+}
+
+/// Whether the object, which stands in this place, is set aside. Then it stands there once, and in no other place.
+#[inline(always)]
+pub fn is_set_aside<B: Kind>(heap: &Heap<B>, object: u64, place: Place) -> bool
+    requires live { IsTrue ((view_of heap.now).live object) }
+    requires stands { place ≡ place_of heap.now object }
+    ensures is { IsTrue result ↔ Includes ((view_of heap.now).listed Place.Back) object }
+    ensures once { IsTrue result → occurrences object ((view_of heap.now).listed Place.Back) ≡ 1 }
+    ensures alone { IsTrue result → (p : Place) → p ≢ Place.Back → occurrences object ((view_of heap.now).listed p) ≡ 0 }
+{
+    heap.sound();
+    matches!(place, Place::Back)
 }
 
 /// The object after this one, which is near, in the list of its place, and where that is.
@@ -73,4 +87,15 @@ pub fn move_last<B: Kind>(heap: &mut Heap<B>, object: u64, near: Near, place: Pl
 {
     heap.sound();
     heap.move_near(object, near, place);
+}
+
+/// All objects of one place go to the end of the list of another.
+pub fn move_all<B: Kind>(heap: &mut Heap<B>, from: Place, to: Place)
+    requires from { IsPlace from }
+    requires to { IsPlace to }
+    requires differ { from ≢ to }
+    ensures { Merged from to (view_of heap.old) (view_of heap.new) }
+{
+    heap.sound();
+    heap.merge(from, to);
 }

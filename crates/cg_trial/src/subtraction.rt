@@ -1,19 +1,20 @@
 //! Trial subtraction, and the walk that takes out what is reached.
-ghost use Rattle.std.specs.Prelude.{◌≡◌, ◌≢◌, ◌↔◌, ℕ, ◌+◌, ◌*◌, ◌≤◌, [], length, IsTrue};
+ghost use Rattle.std.specs.Prelude.{◌≡◌, ◌≢◌, ◌↔◌, ℕ, ◌+◌, ◌*◌, ◌≤◌, ◌∷◌, [], false, length, IsTrue};
 ghost use Rattle.cg_graph.specs.Member.{Includes};
 ghost use Rattle.cg_graph.specs.Value.{references};
 ghost use Rattle.cg_graph.specs.Holdings.{occurrences};
-ghost use Rattle.cg_graph.specs.Store.{list_at};
+ghost use Rattle.cg_graph.specs.Store.{list_at, place_of};
 ghost use Rattle.cg_graph.specs.Reachable.{IsReachable, IsUnreachable};
 ghost use Rattle.cg_arena.specs.Nodes.{IsPlace};
 ghost use Rattle.cg_heap.specs.Calls.{IsListed};
 ghost use Rattle.cg_trial.specs.View.{view_of, IsReadyView, IsSameButNumbers, Lowered, targets, held_by};
 ghost use Rattle.cg_trial.specs.Paths.{entries_in};
-ghost use Rattle.cg_trial.specs.Sift.{Woken, IsNowhereElse, IsSifted, IsSieved};
+ghost use Rattle.cg_trial.specs.Sift.{Woken, IsNowhereElse, IsParted, IsTwofold, IsExchanged, IsSifted, IsSieved};
 ghost use Rattle.cg_trial.specs.Split.{IsSplitPlace, kept_place, entry_number_at, IsSameButPlaces};
 
 use crate::candidates::{
-    following, is_candidate, lower_number, move_last, number_by_degree, set_number,
+    following, is_candidate, is_set_aside, lower_number, move_all, move_last, number_by_degree,
+    set_number,
 };
 use cg_arena::Near;
 use cg_heap::{Heap, Steps};
@@ -76,20 +77,34 @@ fn subtract<B: Kind, L: Ledger>(heap: &mut Heap<B>, steps: &mut Steps<L>)
     }
 }
 
-/// A candidate with the number 0 gets the number 1 and the last place in the list, so that the walk comes to it.
+/// A candidate with the number 0 gets the number 1, and where it was set aside, the last place in the list, so that the walk
+/// comes to it.
+#[inline(always)]
 fn take_back<B: Kind>(heap: &mut Heap<B>, value: Val)
-    requires ready { IsReadyView (view_of heap.old) }
     requires live { (o : ℕ) → Includes (targets value) o → IsTrue ((view_of heap.old).live o) }
     ensures { Woken (targets value) (view_of heap.old) (view_of heap.new) }
 {
     if let Val::Ref(object) = value {
         let head = heap.head_of(object);
-        if is_candidate(heap, object, head.place) {
-            if head.number == 0 {
-                set_number(heap, object, 1);
-                move_last(heap, object, Near::default(), Place::Cand);
-            }
+        if head.number == 0 {
+            wake(heap, object, head.place);
         }
+    }
+}
+
+/// The same, of an object in this place that has the number 0.
+#[inline(never)]
+fn wake<B: Kind>(heap: &mut Heap<B>, object: u64, place: Place)
+    requires live { IsTrue ((view_of heap.old).live object) }
+    requires stands { place ≡ place_of heap.old object }
+    requires zero { (view_of heap.old).number object ≡ 0 }
+    ensures { Woken (object ∷ []) (view_of heap.old) (view_of heap.new) }
+{
+    if is_set_aside(heap, object, place) {
+        move_last(heap, object, Near::default(), Place::Cand);
+        set_number(heap, object, 1);
+    } else if is_candidate(heap, object, place) {
+        set_number(heap, object, 1);
     }
 }
 
@@ -112,27 +127,82 @@ fn take_back_all<B: Kind, L: Ledger>(
     }
 }
 
-/// The candidates that have a number, and what they lead to, go to the kept place.
-fn take_out<B: Kind, L: Ledger>(heap: &mut Heap<B>, kept: Place, steps: &mut Steps<L>)
+/// Whether a candidate has a number other than 0.
+fn is_any_held<B: Kind>(heap: &Heap<B>) -> bool
+    requires { IsReadyView (view_of heap.now) }
+    ensures { result ≡ false → (o : ℕ) → Includes ((view_of heap.now).listed Place.Cand) o → (view_of heap.now).number o ≡ 0 }
+{
+    let mut near = Near::default();
+    let mut cursor = heap.first_near(Place::Cand, &mut near);
+    'objects: while let Some(object) = cursor {
+        if heap.head_near(object, near).number != 0 {
+            return true;
+        }
+        cursor = following(heap, object, &mut near);
+    }
+    false
+}
+
+/// The candidates that have a number, and what they lead to, stay; the others are set aside.
+fn set_aside<B: Kind, L: Ledger>(heap: &mut Heap<B>, steps: &mut Steps<L>)
     requires ready { IsReadyView (view_of heap.old) }
-    requires place { IsPlace kept }
-    requires apart { kept ≢ Place.Cand }
-    requires alone { IsNowhereElse kept (view_of heap.old) }
-    requires empty { (view_of heap.old).listed kept ≡ [] }
-    ensures sifted { IsSifted kept (view_of heap.old) (view_of heap.new) }
+    requires alone { IsNowhereElse (view_of heap.old) }
+    requires none { (view_of heap.old).listed Place.Back ≡ [] }
+    ensures parted { IsParted (view_of heap.old) (view_of heap.new) }
     ensures later { steps.old ≤ steps.new }
     ensures looks { steps.new ≤ steps.old + entries_in (view_of heap.old) ((view_of heap.old).listed Place.Cand) }
 {
     let mut near = Near::default();
     let mut cursor = heap.first_near(Place::Cand, &mut near);
     'objects: while let Some(object) = cursor {
-        if heap.head_near(object, near).number == 0 {
+        let here = near;
+        if heap.head_near(object, here).number == 0 {
             cursor = following(heap, object, &mut near);
+            move_last(heap, object, here, Place::Back);
         } else {
-            let here = near;
             take_back_all(heap, object, here, steps);
             cursor = following(heap, object, &mut near);
-            move_last(heap, object, here, kept);
+        }
+    }
+}
+
+/// The candidates, which have numbers, and those that were set aside, which have none, change their places.
+fn exchange<B: Kind>(heap: &mut Heap<B>)
+    requires { IsTwofold (view_of heap.old) }
+    ensures { IsExchanged (view_of heap.old) (view_of heap.new) }
+{
+    move_all(heap, Place::Back, Place::Cand);
+    let mut near = Near::default();
+    let mut cursor = heap.first_near(Place::Cand, &mut near);
+    'numbered: while let Some(object) = cursor {
+        if heap.head_near(object, near).number == 0 {
+            return;
+        }
+        move_last(heap, object, near, Place::Back);
+        cursor = heap.first_near(Place::Cand, &mut near);
+    }
+}
+
+/// The candidates that have a number, and what they lead to, go to the kept place.
+fn take_out<B: Kind, L: Ledger>(heap: &mut Heap<B>, kept: Place, steps: &mut Steps<L>)
+    requires ready { IsReadyView (view_of heap.old) }
+    requires place { IsPlace kept }
+    requires apart { kept ≢ Place.Cand }
+    requires alone { IsNowhereElse (view_of heap.old) }
+    requires empty { (view_of heap.old).listed kept ≡ [] }
+    requires none { (view_of heap.old).listed Place.Back ≡ [] }
+    ensures sifted { IsSifted kept (view_of heap.old) (view_of heap.new) }
+    ensures later { steps.old ≤ steps.new }
+    ensures looks { steps.new ≤ steps.old + entries_in (view_of heap.old) ((view_of heap.old).listed Place.Cand) }
+{
+    if is_any_held(heap) {
+        set_aside(heap, steps);
+        match kept {
+            Place::Back => exchange(heap),
+            _ => {
+                move_all(heap, Place::Cand, kept);
+                move_all(heap, Place::Back, Place::Cand);
+            }
         }
     }
 }
@@ -142,6 +212,7 @@ fn sift<B: Kind, L: Ledger>(heap: &mut Heap<B>, kept: Place, steps: &mut Steps<L
     requires place { IsPlace kept }
     requires apart { kept ≢ Place.Cand }
     requires empty { list_at heap.old kept ≡ [] }
+    requires none { list_at heap.old Place.Back ≡ [] }
     ensures sifted { IsSieved kept (view_of heap.old) (view_of heap.new) }
     ensures listed { IsListed heap.new }
     ensures least { steps.old + entries_in (view_of heap.old) (list_at heap.old Place.Cand) ≤ steps.new }

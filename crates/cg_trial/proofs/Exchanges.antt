@@ -1,0 +1,203 @@
+-- The walk ends: the candidates that it left and those that it set aside go where they are wanted.
+use Rattle.std.proofs.Common.{◌≡◌, ◌≢◌, refl, sym, ◌∙◌, ap, subst, ℕ, ◌<◌, ◌≤◌, ◌⊎◌, inl, inr, List, [], ◌∷◌, ◌++◌, length, Option, Some, None, IsTrue, arith, append_assoc}
+use Rattle.std.proofs.lemmas.Bool.{cases_eq}
+use Rattle.std.proofs.lemmas.List.{append-nil}
+use Rattle.std.specs.Prelude.{sum_by, cond, ◌==◌}
+use Rattle.cg_value.specs.declared.Place.{Place}
+use Rattle.cg_value.specs.declared.Place.TheVariants.{Cand, Back}
+use Rattle.cg_graph.specs.Member.{Includes}
+use Rattle.cg_graph.specs.Holdings.{occurrences}
+use Rattle.cg_graph.specs.Places.{place_number, without_serial}
+use Rattle.cg_graph.proofs.Members.{Includes-append_cases, Includes-append_right}
+use Rattle.cg_graph.proofs.Objects.{occurrences-append}
+use Rattle.cg_trial.specs.View.{View, IsSame, Moved, Merged, IsReadyView, head_of}
+use Rattle.cg_trial.specs.Sift.{AreOthersSame, Walk, starts, goes, IsNowhereElse, IsParted, IsTwofold, IsExchanged, IsSifted, IsMember}
+use Rattle.cg_trial.proofs.Lists.{occurs_in, without-absent, once_before}
+use Rattle.cg_trial.proofs.Passes.{same_itself, same_more}
+use Rattle.cg_trial.proofs.Entries.{live_same}
+use Rattle.cg_trial.proofs.Placed.{one_place}
+use Rattle.cg_trial.proofs.Sifts.{without_middle}
+use Rattle.cg_trial.proofs.Waking.{member_counts}
+
+-- Those that have numbers have left the list of the candidates up to some, which the others follow.
+pub record Exchanging (old now : View) (cursor : Option ℕ) : Type 0 where
+  pub gone : List ℕ
+  pub rest : List ℕ
+  pub whole : old.listed Cand ≡ gone ++ rest
+  pub candidates : now.listed Cand ≡ rest ++ old.listed Back
+  pub aside : now.listed Back ≡ gone
+  pub at : cursor ≡ head_of (now.listed Cand)
+  pub same : IsSame old now
+  pub numbers : now.number ≡ old.number
+  pub others : AreOthersSame old now
+
+pub exchanging_first : (old now : View) (cursor : Option ℕ) → Merged Back Cand old now → cursor ≡ head_of (now.listed Cand) → Exchanging old now cursor
+exchanging_first old now cursor merged is = record {
+  gone = [];
+  rest = old.listed Cand;
+  whole = refl;
+  candidates = merged.joined;
+  aside = merged.emptied;
+  at = is;
+  same = merged.same;
+  numbers = merged.numbers;
+  others = λ q h k. merged.others q k h;
+}
+
+pub exchanging_at : (old now : View) (cursor : Option ℕ) (o : ℕ) → Exchanging old now cursor → cursor ≡ Some o → Exchanging old now (Some o)
+exchanging_at old now cursor o so is = subst (λ (k : Option ℕ). Exchanging old now k) is so
+
+module _ (old now : View) (o : ℕ) (so : Exchanging old now (Some o)) (two : IsTwofold old) where
+  first_is : (x : ℕ) (xs : List ℕ) → now.listed Cand ≡ x ∷ xs → o ≡ x
+  first_is x xs is = let e : Some o ≡ Some x = so.at ∙ ap head_of is in cc
+
+  -- the first of those that are left, or one of those that follow
+  rest_is : now.number o ≢ 0 → (xs : List ℕ) → old.listed Cand ≡ so.gone ++ xs → now.listed Cand ≡ xs ++ old.listed Back → (ys : List ℕ) × (xs ≡ o ∷ ys)
+  rest_is has [] whole is = absurd (has (ap (λ (n : ℕ → ℕ). n o) so.numbers ∙ two.asleep o (first_of (old.listed Back) is)))
+    where
+      first_of : (ys : List ℕ) → now.listed Cand ≡ ys → Includes ys o
+      first_of [] none = absurd (let e : Some o ≡ None = so.at ∙ ap head_of none in cc)
+      first_of (y ∷ ys) some = inl (sym (first_is y ys some))
+  rest_is has (x ∷ xs) whole is = (xs, ap (λ y. y ∷ xs) (sym (first_is x (xs ++ old.listed Back) is)))
+
+  pub exchanging_live : IsTrue (now.live o)
+  exchanging_live = live_same old now o so.same (two.alive o (member (now.listed Cand) refl))
+    where
+      within : Includes (now.listed Cand) o → IsMember old o
+      within h = go (Includes-append_cases so.rest (old.listed Back) o (subst (λ (xs : List ℕ). Includes xs o) so.candidates h))
+        where
+          go : Includes so.rest o ⊎ Includes (old.listed Back) o → IsMember old o
+          go (inl k) = inl (subst (λ (xs : List ℕ). Includes xs o) (sym so.whole) (Includes-append_right so.gone so.rest o k))
+          go (inr k) = inr k
+
+      member : (ys : List ℕ) → now.listed Cand ≡ ys → IsMember old o
+      member [] none = absurd (let e : Some o ≡ None = so.at ∙ ap head_of none in cc)
+      member (y ∷ ys) some = within (subst (λ (xs : List ℕ). Includes xs o) (sym some) (inl (sym (first_is y ys some))))
+
+  -- one that has a number goes to the others that have
+  module _ (has : now.number o ≢ 0) (new : View) (moved : Moved o Back now new) where
+    abbrev later : List ℕ
+    later = (rest_is has so.rest so.whole so.candidates).0
+
+    left : so.rest ≡ o ∷ later
+    left = (rest_is has so.rest so.whole so.candidates).1
+
+    whole : old.listed Cand ≡ so.gone ++ o ∷ later
+    whole = so.whole ∙ ap (λ (xs : List ℕ). so.gone ++ xs) left
+
+    before : now.listed Cand ≡ o ∷ (later ++ old.listed Back)
+    before = so.candidates ∙ ap (λ (xs : List ℕ). xs ++ old.listed Back) left
+
+    in_old : Includes (old.listed Cand) o
+    in_old = subst (λ (xs : List ℕ). Includes xs o) (sym whole) (Includes-append_right so.gone (o ∷ later) o (inl refl))
+
+    once_now : occurrences o (now.listed Cand) ≤ 1
+    once_now = omega (arith, ap (occurrences o) so.candidates, occurrences-append o so.rest (old.listed Back), ap (occurrences o) so.whole, occurrences-append o so.gone so.rest, two.once o)
+
+    not_gone : occurrences o so.gone ≡ 0
+    not_gone = (once_before (old.listed Cand) so.gone later o (omega (arith, two.once o)) whole).0
+
+    candidates_new : new.listed Cand ≡ later ++ old.listed Back
+    candidates_new = moved.others Cand (λ e. absurd (cc)) ∙ without_middle (now.listed Cand) [] (later ++ old.listed Back) o once_now before
+
+    pub exchanging_more : (cursor : Option ℕ) → cursor ≡ head_of (new.listed Cand) → Exchanging old new cursor
+    exchanging_more cursor is = record {
+      gone = so.gone ++ o ∷ [];
+      rest = later;
+      whole = whole ∙ sym (append_assoc so.gone (o ∷ []) later);
+      candidates = candidates_new;
+      aside = moved.last ∙ ap (λ (xs : List ℕ). xs ++ o ∷ []) (ap (without_serial o) so.aside ∙ without-absent o so.gone not_gone);
+      at = is;
+      same = same_more so.same moved.same;
+      numbers = moved.numbers ∙ so.numbers;
+      others = λ q h k. moved.others q k ∙ ap (without_serial o) (so.others q h k) ∙ without-absent o (old.listed q) (two.alone q o h k (inl in_old));
+    }
+
+    pub exchanging_shorter : length (new.listed Cand) < length (now.listed Cand)
+    exchanging_shorter = omega (arith, ap length candidates_new, ap length before)
+
+exchanged : (old now : View) (cursor : Option ℕ) (so : Exchanging old now cursor) → so.rest ≡ [] → IsExchanged old now
+exchanged old now cursor so none = record {
+  same = so.same;
+  others = so.others;
+  candidates = so.candidates ∙ ap (λ (xs : List ℕ). xs ++ old.listed Back) none;
+  aside = so.aside ∙ sym (append-nil so.gone) ∙ ap (λ (xs : List ℕ). so.gone ++ xs) (sym none) ∙ sym so.whole;
+}
+
+-- The next one has no number, so all that have one are gone.
+pub exchanged_stop : (old now : View) (o : ℕ) → Exchanging old now (Some o) → IsTwofold old → now.number o ≡ 0 → IsExchanged old now
+exchanged_stop old now o so two is = exchanged old now (Some o) so (known so.rest so.whole so.candidates)
+  where
+    known : (xs : List ℕ) → old.listed Cand ≡ so.gone ++ xs → now.listed Cand ≡ xs ++ old.listed Back → xs ≡ []
+    known [] whole then = refl
+    known (x ∷ xs) whole then =
+        let e : Some o ≡ Some x = so.at ∙ ap head_of then in
+        let same : o ≡ x = cc in
+        absurd (two.numbered x (subst (λ (ys : List ℕ). Includes ys x) (sym whole) (Includes-append_right so.gone (x ∷ xs) x (inl refl))) (sym (ap (λ (n : ℕ → ℕ). n x) so.numbers) ∙ ap now.number (sym same) ∙ is))
+
+-- There is no next one.
+pub exchanged_all : (old now : View) (cursor : Option ℕ) → Exchanging old now cursor → cursor ≡ None → IsExchanged old now
+exchanged_all old now cursor so is = exchanged old now cursor so (known so.rest so.candidates)
+  where
+    known : (xs : List ℕ) → now.listed Cand ≡ xs ++ old.listed Back → xs ≡ []
+    known [] then = refl
+    known (x ∷ xs) then = absurd (let e : None ≡ Some x = sym is ∙ so.at ∙ ap head_of then in cc)
+
+-- No candidate has a number: nothing is reached.
+pub sifted_none : (kept : Place) (v : View) → v.listed kept ≡ [] → ((o : ℕ) → Includes (v.listed Cand) o → v.number o ≡ 0) → IsSifted kept v v
+sifted_none kept v empty zero = record {
+  same = same_itself v;
+  others = λ q h k. refl;
+  sums = λ f. omega (arith, ap (sum_by f) empty);
+  reached = λ o h. absurd (subst (λ (xs : List ℕ). Includes xs o) empty h);
+  all_reached = λ o w. absurd (nowhere o w);
+}
+  where
+    nowhere : (o : ℕ) → Walk v (v.listed Cand) o → ⊥
+    nowhere o (starts n h) = n (zero o h)
+    nowhere o (goes {o = p} w r h) = nowhere p w
+
+module _ (old mid : View) (parted : IsParted old mid) where
+  pub parted_twofold : IsReadyView old → IsNowhereElse old → IsTwofold mid
+  parted_twofold ready alone = record {
+    alive = λ o h. live_same old mid o parted.same (ready.alive o (member_old o h));
+    once = λ o. omega (arith, parted.sums (λ x. cond (x == o) 1 0), ready.once o);
+    alone = λ q o h k m. ap (occurrences o) (parted.others q h k) ∙ alone q o h (member_old o m);
+    numbered = parted.numbered;
+    asleep = parted.asleep;
+  }
+    where
+      member_old : (o : ℕ) → IsMember mid o → Includes (old.listed Cand) o
+      member_old o h = occurs_in (old.listed Cand) o (omega (arith, parted.sums (λ x. cond (x == o) 1 0), member_counts mid o h))
+
+  pub sifted_exchanged : (new : View) → IsExchanged mid new → IsSifted Back old new
+  sifted_exchanged new then = record {
+    same = same_more parted.same then.same;
+    others = λ q h k. then.others q h k ∙ parted.others q h k;
+    sums = λ f. omega (arith, ap (sum_by f) then.candidates, ap (sum_by f) then.aside, parted.sums f);
+    reached = λ o h. parted.reached o (subst (λ (xs : List ℕ). Includes xs o) then.aside h);
+    all_reached = λ o w. subst (λ (xs : List ℕ). Includes xs o) (sym then.aside) (parted.all_reached o w);
+  }
+
+  -- those that were left go to the kept place, and those that were set aside are the candidates
+  module _ (kept : Place) (half new : View) (apart : kept ≢ Cand) (other : kept ≢ Back) (empty : old.listed kept ≡ []) (none : old.listed Back ≡ []) (first : Merged Cand kept mid half) (then : Merged Back Cand half new) where
+    kept_now : new.listed kept ≡ mid.listed Cand
+    kept_now = then.others kept other apart ∙ first.joined ∙ ap (λ (xs : List ℕ). xs ++ mid.listed Cand) (parted.others kept apart other ∙ empty)
+
+    candidates_now : new.listed Cand ≡ mid.listed Back
+    candidates_now = then.joined ∙ (λ i. first.emptied i ++ first.others Back (λ e. absurd (cc)) (λ e. other (sym e)) i)
+
+    others_now : (q : Place) → q ≢ Cand → q ≢ kept → new.listed q ≡ old.listed q
+    others_now q h k = elim (cases_eq (place_number q) (place_number Back)) [
+      | inl same ↦ let e = one_place q Back same in ap new.listed e ∙ then.emptied ∙ sym none ∙ ap old.listed (sym e)
+      | inr differs ↦ let d : q ≢ Back = λ e. differs (ap place_number e) in then.others q d h ∙ first.others q h k ∙ parted.others q h d
+    ]
+
+    pub sifted_merged : IsSifted kept old new
+    sifted_merged = record {
+      same = same_more parted.same (same_more first.same then.same);
+      others = others_now;
+      sums = λ f. omega (arith, ap (sum_by f) candidates_now, ap (sum_by f) kept_now, parted.sums f);
+      reached = λ o h. parted.reached o (subst (λ (xs : List ℕ). Includes xs o) kept_now h);
+      all_reached = λ o w. subst (λ (xs : List ℕ). Includes xs o) (sym kept_now) (parted.all_reached o w);
+    }
