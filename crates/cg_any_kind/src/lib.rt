@@ -7,7 +7,7 @@ ghost use Rattle.std.specs.FinMap as fin;
 ghost use Rattle.cg_kind.specs.Six.{six_kinds};
 ghost use Rattle.cg_any_kind.specs.AnyKind.{by_kind};
 
-use cg_kind::Kind;
+use cg_kind::{Kind, Noted};
 use cg_kinds::{DictKind, FuncKind, InstKind, ListKind, TupleKind, WeakKind};
 use cg_value::{Entry, KindCode, Val};
 use std::alloc::{AllocError, Global};
@@ -58,6 +58,14 @@ impl Kind for AnyKind {
 
     fn entry_at(&self, at: usize, i: usize) -> Entry {
         pass_on!(self, kind => kind.entry_at(at, i))
+    }
+
+    fn get(&self, at: usize, i: usize) -> Option<Entry> {
+        pass_on!(self, kind => kind.get(at, i))
+    }
+
+    fn note_from(&self, at: usize, from: usize, found: &mut [u64]) -> Noted {
+        pass_on!(self, kind => kind.note_from(at, from, found))
     }
 
     fn find(&self, at: usize, key: Val) -> Option<usize> {

@@ -1,5 +1,5 @@
 //! Names that are bound to what an object holds. Each command answers the entry that is then to be given up.
-ghost use Rattle.std.specs.Prelude.{◌≡◌, ◌<◌, ◌∷◌, ◌++◌, [], IfOk, IfErr, length, Some, None};
+ghost use Rattle.std.specs.Prelude.{◌≡◌, ◌<◌, ◌∷◌, ◌++◌, [], IfOk, IfErr, length, slice_get, Some, None};
 ghost use Rattle.std.specs.List.{All};
 ghost use Rattle.cg_graph.specs.Store.{IsLive, entries_of};
 ghost use Rattle.cg_script.specs.Texts.{operand_texts};
@@ -40,10 +40,9 @@ pub(crate) fn item<B: Kind>(
     let val = value(heap, locals, list)?;
     let mut near = Near::default();
     let target = object_near(heap, val, Wanted::Sequence, &mut near)?;
-    let i = index_in(heap, target, near, index)?;
+    let found = entry_in(heap, target, near, index)?;
     heap.sound();
-    let entry = heap.entry_near(target, i, near);
-    bind_to(heap, locals, name, entry.val)
+    bind_to(heap, locals, name, found.entry.val)
 }
 
 /// `x = get D K`: the name is bound to the value under a key of a dictionary.
@@ -120,6 +119,36 @@ pub(crate) fn deref<B: Kind>(
     match heap.referent_of(target) {
         Some(referent) => bind_to(heap, locals, name, Val::Ref(referent)),
         None => bind_to(heap, locals, name, Val::None),
+    }
+}
+
+/// An entry, and where it stands.
+struct Found {
+    at: usize,
+    entry: Entry,
+}
+
+/// The entry at an index of an object that is near.
+#[inline(always)]
+fn entry_in<B: Kind>(
+    heap: &Heap<B>,
+    target: u64,
+    near: Near,
+    index: i64,
+) -> Result<Found, Refusal>
+    requires { IsLive heap.now target }
+    ensures ok { IfOk result (λ f. valid_index index (length (entries_of heap.now target)) ≡ Some f.at) }
+    ensures entry { IfOk result (λ f. slice_get (entries_of heap.now target) f.at ≡ Some f.entry) }
+    ensures none { IfErr result (λ r. valid_index index (length (entries_of heap.now target)) ≡ None) }
+    ensures err { IfErr result (λ r. r ≡ refusal.NoIndex) }
+{
+    if index < 0 {
+        return Err(Refusal::NoIndex);
+    }
+    let at = index as usize;
+    match heap.get_near(target, at, near) {
+        Some(entry) => Ok(Found { at, entry }),
+        None => Err(Refusal::NoIndex),
     }
 }
 

@@ -1,14 +1,14 @@
 //! The six boxes of kinds, as one.
-ghost use Rattle.std.specs.Prelude.{◌≡◌, ◌≢◌, ◌<◌, ◌≤◌, ◌+◌, ◌-◌, ◌++◌, ◌∷◌, ◌↔◌, [], IsTrue, length, map, IfOk, OnOk, OnErr, IfSome, OnSome, IfNone, IsNone, IsSome, IsOk, None, Some, position, slice_get};
+ghost use Rattle.std.specs.Prelude.{◌≡◌, ◌≢◌, ◌<◌, ◌≤◌, ◌+◌, ◌-◌, ◌++◌, ◌∷◌, ◌↔◌, [], IsTrue, length, map, take, IfOk, OnOk, OnErr, IfSome, OnSome, IfNone, IsNone, IsSome, IsOk, None, Some, position, slice_get};
 ghost use Rattle.std.specs.FinMap as fin;
 ghost use Rattle.cg_value.specs.declared.KindCode.TheVariants as code;
-ghost use Rattle.cg_graph.specs.Value.{item, without_last, value_at, entry_at as entry_under};
+ghost use Rattle.cg_graph.specs.Value.{item, without_last, value_at, references, entry_at as entry_under};
 ghost use Rattle.cg_kind.specs.Bodies.{Holds, entries_at, spare_at, with_body};
-ghost use Rattle.cg_kind.specs.Calls.{has_key, IsParts, CanPut, value_under, after_put, after_take, after_take_key, spare_after_leave};
+ghost use Rattle.cg_kind.specs.Calls.{has_key, next_entries, IsParts, CanPut, value_under, after_put, after_take, after_take_key, spare_after_leave};
 ghost use Rattle.cg_heap.specs.Boxes.{six_kinds, code_index, bodies_at, HasBody, entries_in_box, spare_in_box, boxes_with_body, boxes_without};
 ghost use Rattle.cg_heap.specs.Calls.{IsMutable};
 
-use cg_kind::Kind;
+use cg_kind::{Kind, Noted};
 use cg_value::{Entry, KindCode, Val};
 use std::alloc::AllocError;
 use std::marker::Model;
@@ -110,6 +110,33 @@ impl<B: Kind> Boxes<B> {
     {
         let kind = &self.kinds[index_of(seat.code)];
         kind.entry_at(seat.body, i)
+    }
+
+    /// The entry at a position, if it is below the length.
+    #[inline(always)]
+    pub fn get(&self, seat: Seat, i: usize) -> Option<Entry>
+        requires { HasBody self.now seat.code seat.body }
+        ensures { result ≡ slice_get (entries_in_box self.now seat.code seat.body) i }
+    {
+        let kind = &self.kinds[index_of(seat.code)];
+        kind.get(seat.body, i)
+    }
+
+    /// Writes down the references of some entries from a position on.
+    #[inline(always)]
+    pub fn note_from(&self, seat: Seat, from: usize, found: &mut [u64]) -> Noted
+        requires held { HasBody self.now seat.code seat.body }
+        requires within { from ≤ length (entries_in_box self.now seat.code seat.body) }
+        requires room { 16 ≤ length found.old }
+        ensures next { result.next ≡
+            from + length (next_entries (entries_in_box self.now seat.code seat.body) from) }
+        ensures references { take result.references found.new ≡
+            references (next_entries (entries_in_box self.now seat.code seat.body) from) }
+        ensures few { result.references ≤ 16 }
+        ensures room { length found.new ≡ length found.old }
+    {
+        let kind = &self.kinds[index_of(seat.code)];
+        kind.note_from(seat.body, from, found)
     }
 
     /// The first position with this key.

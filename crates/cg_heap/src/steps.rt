@@ -6,7 +6,7 @@ use std::sync::ledger::{Blank, Book, Ledger, Share};
 
 /// How many entries were looked at: contracts see a number that rises, and nothing stands there at run time.
 ///
-/// Only `Heap::look` lets it rise. (Ours.)
+/// Only `Heap::look` and `Heap::note_near` let it rise. (Ours.)
 #[derive(Drop)]
 pub struct Steps<L: Ledger> {
     book: Book<L>,
@@ -33,10 +33,11 @@ impl<L: Ledger> Steps<L> {
         Steps { book, share }
     }
 
-    /// One entry more was looked at.
-    pub(crate) fn tick(&mut self)
-        ensures { self.new ≡ self.old + 1 }
+    /// So many entries more were looked at.
+    #[inline(always)]
+    pub(crate) fn rise(&mut self, entries: usize)
+        ensures { self.new ≡ self.old + entries }
     {
-        self.book.add(&mut self.share, 1);
+        self.book.add(&mut self.share, entries as u64);
     }
 }

@@ -16,7 +16,7 @@ use Rattle.cg_graph.specs.Store.{Store, objects_of, entries_of, inner, count_of,
 use Rattle.cg_graph.proofs.Members.{either, Includes-append_left, Includes-append_right, Includes-append_cases, Includes-map, Includes-map_cases, Includes-of, includes-of}
 use Rattle.cg_graph.proofs.Objects.{occurrences-append, inner-holdings}
 use Rattle.cg_heap.proofs.HoldLemmas.{outside_live, entries_hold}
-use Rattle.cg_trial.proofs.Entries.{references_more, references_split}
+use Rattle.cg_kind.proofs.References.{references_more, references_split}
 use Rattle.cg_trial.proofs.Lists.{occurs}
 use Rattle.cg_trial.proofs.Objects.{edges_of_objects}
 use Rattle.cg_inspect.specs.Inspection.{holdings_but_entries, HeldElse, arrows_of}
@@ -27,7 +27,7 @@ use Rattle.cg_inspect.proofs.Trails.{next_taken, get_below, get_in, start_more, 
 
 -- the references of one entry more
 pub references_next : (es : List Entry) (i : ℕ) (e : Entry) → slice_get es i ≡ Some e → references (take (i + 1) es) ≡ (references (take i es) ++ references_of_value (Some e.val)) ++ references_of_value (Some e.key)
-references_next es i e at = references_more es i e at
+references_next es i e at = references_more es i e at ∙ sym (append_assoc (references (take i es)) (references_of_value (Some e.val)) (references_of_value (Some e.key)))
 
 pub listed_next : (es : List Entry) (i : ℕ) (e : Entry) (listed half now : List ℕ) → slice_get es i ≡ Some e → listed ≡ references (take i es) → half ≡ listed ++ references_of_value (Some e.val) → now ≡ half ++ references_of_value (Some e.key)
     → now ≡ references (take (i + 1) es)
@@ -39,14 +39,14 @@ includes_append xs ys o = list_any-append (λ x. x == o) xs ys
 
 pub held_by_next : (es : List Entry) (i : ℕ) (e : Entry) (o : ℕ) → slice_get es i ≡ Some e → includes (references (take i es)) o ≡ false → includes (entry_references e) o ≡ false → includes (references (take (i + 1) es)) o ≡ false
 held_by_next es i e o at none here =
-    ap (λ (l : List ℕ). includes l o) (references_next es i e at ∙ append_assoc (references (take i es)) (references_of_value (Some e.val)) (references_of_value (Some e.key)))
+    ap (λ (l : List ℕ). includes l o) (references_more es i e at)
     ∙ includes_append (references (take i es)) (entry_references e) o
     ∙ (λ k. none k || here k)
 
 pub held_by_one : (es : List Entry) (i : ℕ) (e : Entry) (o : ℕ) → slice_get es i ≡ Some e → includes (entry_references e) o ≡ true → includes (references es) o ≡ true
 held_by_one es i e o at here =
     includes-of (references es) o
-    (subst (λ (l : List ℕ). Includes l o) (sym (references_split es i e at ∙ ap (λ (l : List ℕ). references (take i es) ++ l) (sym (append_assoc (references_of_value (Some e.val)) (references_of_value (Some e.key)) (references (drop (i + 1) es))))))
+    (subst (λ (l : List ℕ). Includes l o) (sym (references_split es i e at))
     (Includes-append_right (references (take i es)) (entry_references e ++ references (drop (i + 1) es)) o (Includes-append_left (entry_references e) (references (drop (i + 1) es)) o (Includes-of (entry_references e) o here))))
 
 -- Numbers, one after the other.

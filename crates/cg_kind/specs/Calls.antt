@@ -1,6 +1,6 @@
 -- What the calls of a kind do to the entries and the spare of one object, by the code of the kind. (Ours, after what
 -- Python's lists, tuples and dictionaries do.)
-use Rattle.std.specs.Prelude.{◌≡◌, ℕ, ◌+◌, ◌<◌, ◌≤◌, Bool, All, List, [], Option, None, length, slice_get, slice_set, option_map, remove, pos}
+use Rattle.std.specs.Prelude.{◌≡◌, ℕ, ◌+◌, ◌<◌, ◌≤◌, Bool, All, List, [], Option, None, length, take, drop, slice_get, slice_set, option_map, remove, pos}
 use Rattle.cg_value.specs.declared.Val.{Val}
 use Rattle.cg_value.specs.declared.Val.TheVariants.{None as Nothing, Int}
 use Rattle.cg_value.specs.declared.Entry.{Entry}
@@ -11,6 +11,10 @@ use Rattle.cg_graph.specs.Value.{same_value, item, value_at, put, without_key}
 -- the entry has this key
 abbrev pub has_key : Val → Entry → Bool
 has_key key e = same_value e.key key
+
+-- the entries from a position on, eight of them or as many as there are
+abbrev pub next_entries : List Entry → ℕ → List Entry
+next_entries entries from = take 8 (drop from entries)
 
 -- no entry has a key, as items, cells and callbacks have none
 abbrev pub AreItems : List Entry → Type 0

@@ -4,13 +4,17 @@
 //! known. So a call on one place leaves all other places, and a refusal leaves the map.
 #![tactic(auto)]
 
-ghost use Rattle.std.specs.Prelude.{◌≡◌, ◌≢◌, ◌<◌, ◌≤◌, ◌+◌, ◌-◌, ◌++◌, ◌∷◌, ◌↔◌, [], length, IfOk, OnOk, OnErr, IfSome, OnSome, IfNone, IsNone, IsSome, IsOk, None, Some, position, slice_get};
+ghost use Rattle.std.specs.Prelude.{◌≡◌, ◌≢◌, ◌<◌, ◌≤◌, ◌+◌, ◌-◌, ◌++◌, ◌∷◌, ◌↔◌, [], length, take, IfOk, OnOk, OnErr, IfSome, OnSome, IfNone, IsNone, IsSome, IsOk, None, Some, position, slice_get};
 ghost use Rattle.std.specs.FinMap as fin;
 ghost use Rattle.cg_value.specs.declared.KindCode.{KindCode};
 ghost use Rattle.cg_value.specs.declared.KindCode.TheVariants as code;
-ghost use Rattle.cg_graph.specs.Value.{item, without_last, value_at, entry_at as entry_under};
+ghost use Rattle.cg_graph.specs.Value.{item, without_last, value_at, references, entry_at as entry_under};
 ghost use Rattle.cg_kind.specs.Bodies.{Bodies, Holds, entries_at, spare_at, with_body};
-ghost use Rattle.cg_kind.specs.Calls.{has_key, IsParts, CanPut, value_under, after_put, after_take, after_take_key, spare_after_leave};
+ghost use Rattle.cg_kind.specs.Calls.{has_key, next_entries, IsParts, CanPut, value_under, after_put, after_take, after_take_key, spare_after_leave};
+
+mod notes;
+
+pub use notes::{AT_ONCE, Noted, ROOM, note_entry};
 
 use cg_value::{Entry, KindCode, Val};
 use std::alloc::AllocError;
@@ -51,6 +55,23 @@ pub trait Kind: Drop {
         requires held { Holds (bodies self.now) at }
         requires within { i < length (entries_at (bodies self.now) at) }
         ensures { slice_get (entries_at (bodies self.now) at) i ≡ Some result };
+
+    /// The entry at a position, `None` exactly where that is the length or more.
+    fn get(&self, at: usize, i: usize) -> Option<Entry>
+        requires { Holds (bodies self.now) at }
+        ensures { result ≡ slice_get (entries_at (bodies self.now) at) i };
+
+    /// Goes over the entries from a position on, `AT_ONCE` of them or as many as there are, and writes the references
+    /// that they have to the front of `found`, which has `ROOM` at least: of each entry its value's and then its key's.
+    fn note_from(&self, at: usize, from: usize, found: &mut [u64]) -> Noted
+        requires held { Holds (bodies self.now) at }
+        requires within { from ≤ length (entries_at (bodies self.now) at) }
+        requires room { 16 ≤ length found.old }
+        ensures next { result.next ≡ from + length (next_entries (entries_at (bodies self.now) at) from) }
+        ensures references { take result.references found.new ≡
+            references (next_entries (entries_at (bodies self.now) at) from) }
+        ensures few { result.references ≤ 16 }
+        ensures room { length found.new ≡ length found.old };
 
     /// The first position whose key is this one, `None` exactly where there is none.
     fn find(&self, at: usize, key: Val) -> Option<usize>
@@ -177,6 +198,16 @@ impl Kind for Box<dyn Kind> {
     #[inline(always)]
     fn entry_at(&self, at: usize, i: usize) -> Entry {
         (**self).entry_at(at, i)
+    }
+
+    #[inline(always)]
+    fn get(&self, at: usize, i: usize) -> Option<Entry> {
+        (**self).get(at, i)
+    }
+
+    #[inline(always)]
+    fn note_from(&self, at: usize, from: usize, found: &mut [u64]) -> Noted {
+        (**self).note_from(at, from, found)
     }
 
     #[inline(always)]

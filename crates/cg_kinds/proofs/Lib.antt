@@ -10,3 +10,4 @@ mod SumLemmas
 mod SlotLemmas
 mod OrderLemmas
 mod TableLemmas
+mod NoteLemmas

@@ -6,7 +6,8 @@ use Rattle.std.proofs.lemmas.Option.{none-some}
 use Rattle.std.specs.List.{between}
 use Rattle.std.specs.Option.{option_to_list}
 use Rattle.std.proofs.lemmas.Grind.{flat_map-append}
-use Rattle.std.proofs.lemmas.List.{take_more, append-nil, take-set-le, length-take, length-set, take_all, take-take, drop-take, take-append-drop}
+use Rattle.std.proofs.lemmas.List.{take_more, append-nil, take-set-le, length-take, length-set, length-drop, take_all, take-take, drop-take, take-append-drop, get_or-drop}
+use Rattle.std.proofs.Math.Seq.{take-append_seam, drop-append_seam}
 use Rattle.std.specs.List.{sum}
 use Rattle.cg_kinds.specs.Order.{indexes, pairs_before, sum_before, AreSums, AreCounts}
 use Rattle.cg_kinds.proofs.SumLemmas.{sums_reach, sum_all, IsOneMore, one_within, lowered}
@@ -175,3 +176,40 @@ pair_of slots slot some = by (get_or slots slot None) refl
 -- what a slot is read as, whatever stands for a slot past the last
 pub pair_read : (slots : List (Option ℕ)) (slot index : ℕ) (past read : Option ℕ) → slot < length slots → read ≡ get_or slots slot past → read ≡ Some index → get_or slots slot None ≡ Some index
 pair_read slots slot index past read within told is = get_or_default slots slot None past within ∙ sym told ∙ is
+
+-- the indexes in the slots from one on, with one slot more
+pub indexes_more : (slots : List (Option ℕ)) (first slot : ℕ) (o : Option ℕ) → first ≤ slot → slot < length slots → get_or slots slot None ≡ o
+    → indexes (take (slot + 1 - first) (drop first slots)) ≡ indexes (take (slot - first) (drop first slots)) ++ option_to_list o
+indexes_more slots first slot o behind within is =
+    let rest = drop first slots in
+    let n : slot + 1 - first ≡ slot - first + 1 = omega (arith, behind) in
+    let m : first + (slot - first) ≡ slot = omega (arith, behind) in
+    ap (λ k. indexes (take k rest)) n
+    ∙ ap indexes (take_more rest (slot - first) None (omega (arith, behind, within, length-drop first slots)))
+    ∙ flat_map-append option_to_list (take (slot - first) rest) (get_or rest (slot - first) None ∷ [])
+    ∙ ap (λ (x : Option ℕ). indexes (take (slot - first) rest) ++ (option_to_list x ++ [])) (get_or-drop first slots (slot - first) None ∙ ap (λ k. get_or slots k None) m ∙ is)
+    ∙ ap (λ (l : List ℕ). indexes (take (slot - first) rest) ++ l) (append-nil (option_to_list o))
+
+-- eight of them are the first eight
+pub first_eight : (rest : List (Option ℕ)) (k : ℕ) (some : List ℕ) → some ≡ indexes (take k rest) → length some ≡ 8 → some ≡ take 8 (indexes rest)
+first_eight rest k some is eight =
+    let parts : indexes rest ≡ some ++ indexes (drop k rest) =
+    ap indexes (sym (take-append-drop k rest)) ∙ flat_map-append option_to_list (take k rest) (drop k rest) ∙ ap (λ (l : List ℕ). l ++ indexes (drop k rest)) (sym is) in
+    sym (take-append_seam some (indexes (drop k rest))) ∙ ap (λ n. take n (some ++ indexes (drop k rest))) eight ∙ ap (take 8) (sym parts)
+
+-- no more than eight are all of them
+pub all_eight : (rest : List (Option ℕ)) (k : ℕ) (some : List ℕ) → some ≡ indexes (take k rest) → length rest ≤ k → length some ≤ 8 → some ≡ take 8 (indexes rest)
+all_eight rest k some is all few =
+    let whole : some ≡ indexes rest = is ∙ ap indexes (take_all k rest all) in
+    sym (take_all 8 some few) ∙ ap (take 8) whole
+
+-- those behind so many are in the slots from theirs on
+pub indexes_behind : (slots : List (Option ℕ)) (slot place : ℕ) → pairs_before slots slot ≡ place → indexes (drop slot slots) ≡ drop place (indexes slots)
+indexes_behind slots slot place before =
+    let parts : indexes slots ≡ indexes (take slot slots) ++ indexes (drop slot slots) =
+    ap indexes (sym (take-append-drop slot slots)) ∙ flat_map-append option_to_list (take slot slots) (drop slot slots) in
+    sym (drop-append_seam (indexes (take slot slots)) (indexes (drop slot slots))) ∙ ap (drop (pairs_before slots slot)) (sym parts) ∙ ap (λ n. drop n (indexes slots)) before
+
+pub none_told : (o : Option ℕ) → ((k : ℕ) → o ≡ Some k → ⊥) → o ≡ None
+none_told None not = refl
+none_told (Some k) not = absurd (not k refl)

@@ -4,7 +4,7 @@ ghost use Rattle.std.specs.FinMap as fin;
 ghost use Rattle.cg_kinds.specs.Places.{bodies_of};
 
 use crate::contents::Contents;
-use cg_kind::Kind;
+use cg_kind::{Kind, Noted};
 use cg_value::{Entry, KindCode, Val};
 use slab::Slab;
 use std::alloc::{AllocError, Global};
@@ -50,6 +50,14 @@ impl<C: Contents> Kind for BodySlab<C> {
 
     fn entry_at(&self, at: usize, i: usize) -> Entry {
         self.slab[at].entry_at(i)
+    }
+
+    fn get(&self, at: usize, i: usize) -> Option<Entry> {
+        self.slab[at].get(i)
+    }
+
+    fn note_from(&self, at: usize, from: usize, found: &mut [u64]) -> Noted {
+        self.slab[at].note_from(from, found)
     }
 
     fn find(&self, at: usize, key: Val) -> Option<usize> {

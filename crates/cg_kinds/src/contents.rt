@@ -1,11 +1,12 @@
 //! What one object holds.
-ghost use Rattle.std.specs.Prelude.{◌≡◌, ◌≢◌, ◌<◌, ◌≤◌, ◌-◌, ◌++◌, ◌∷◌, ◌↔◌, [], length, IfOk, OnOk, OnErr, IfSome, OnSome, IfNone, IsNone, IsSome, IsOk, Some, position, slice_get};
+ghost use Rattle.std.specs.Prelude.{◌≡◌, ◌≢◌, ◌<◌, ◌≤◌, ◌+◌, ◌-◌, ◌++◌, ◌∷◌, ◌↔◌, [], length, take, IfOk, OnOk, OnErr, IfSome, OnSome, IfNone, IsNone, IsSome, IsOk, Some, position, slice_get};
 ghost use Rattle.cg_value.specs.declared.KindCode.{KindCode};
 ghost use Rattle.cg_value.specs.declared.KindCode.TheVariants as code;
-ghost use Rattle.cg_graph.specs.Value.{item, without_last, value_at, entry_at as entry_under};
+ghost use Rattle.cg_graph.specs.Value.{item, without_last, value_at, references, entry_at as entry_under};
 ghost use Rattle.cg_kind.specs.Bodies.{Body, body_of};
-ghost use Rattle.cg_kind.specs.Calls.{has_key, IsParts, CanPut, value_under, after_put, after_take, after_take_key, spare_after_leave};
+ghost use Rattle.cg_kind.specs.Calls.{has_key, next_entries, IsParts, CanPut, value_under, after_put, after_take, after_take_key, spare_after_leave};
 
+use cg_kind::{AT_ONCE, Noted, note_entry};
 use cg_value::{Entry, KindCode, Val};
 use std::alloc::{AllocError, Global};
 
@@ -28,6 +29,48 @@ pub trait Contents: Drop {
     fn entry_at(&self, i: usize) -> Entry
         requires { i < length (body self.now).entries }
         ensures { slice_get (body self.now).entries i ≡ Some result };
+
+    #[inline(always)]
+    fn get(&self, i: usize) -> Option<Entry>
+        ensures { result ≡ slice_get (body self.now).entries i }
+    {
+        if i < self.len() {
+            Some(self.entry_at(i))
+        } else {
+            None
+        }
+    }
+
+    fn note_from(&self, from: usize, found: &mut [u64]) -> Noted
+        requires within { from ≤ length (body self.now).entries }
+        requires room { 16 ≤ length found.old }
+        ensures next { result.next ≡ from + length (next_entries (body self.now).entries from) }
+        ensures references { take result.references found.new ≡
+            references (next_entries (body self.now).entries from) }
+        ensures few { result.references ≤ 16 }
+        ensures room { length found.new ≡ length found.old }
+    {
+        self.note_each(from, found)
+    }
+
+    /// `note_from`, by `entry_at` of each position.
+    #[inline(always)]
+    fn note_each(&self, from: usize, found: &mut [u64]) -> Noted
+        requires within { from ≤ length (body self.now).entries }
+        requires room { 16 ≤ length found.old }
+        ensures next { result.next ≡ from + length (next_entries (body self.now).entries from) }
+        ensures references { take result.references found.new ≡
+            references (next_entries (body self.now).entries from) }
+        ensures few { result.references ≤ 16 }
+        ensures room { length found.new ≡ length found.old }
+    {
+        let next = from + AT_ONCE.min(self.len() - from);
+        let mut references = 0;
+        'entries: for i in from..next {
+            references = note_entry(found, references, self.entry_at(i));
+        }
+        Noted { next, references }
+    }
 
     fn find(&self, key: Val) -> Option<usize>
         ensures { result ≡ position (has_key key) (body self.now).entries };

@@ -1,11 +1,12 @@
 //! The pairs of a dictionary or an instance: a few in a list, or any number in a map.
-ghost use Rattle.std.specs.Prelude.{◌≡◌, ◌<◌, ◌++◌, [], length, IfOk, IsOk, IsNone, IsSome, OnOk, OnErr, option_to_list, position, slice_get, remove};
-ghost use Rattle.cg_graph.specs.Value.{value_at, put, without_key, entry_at as entry_under};
-ghost use Rattle.cg_kind.specs.Calls.{has_key};
+ghost use Rattle.std.specs.Prelude.{◌≡◌, ◌<◌, ◌+◌, ◌≤◌, ◌++◌, [], length, take, IfOk, IfSome, IsOk, IsNone, IsSome, OnOk, OnErr, option_to_list, position, slice_get, remove};
+ghost use Rattle.cg_graph.specs.Value.{value_at, put, without_key, references, entry_at as entry_under};
+ghost use Rattle.cg_kind.specs.Calls.{has_key, next_entries};
 ghost use Rattle.cg_kinds.specs.Held.{entries_held};
 
 use crate::few::Few;
 use crate::table::Table;
+use cg_kind::Noted;
 use cg_value::{Entry, Val};
 use std::alloc::{AllocError, Global};
 
@@ -59,6 +60,22 @@ impl Held {
         match self {
             Held::Few(few) => few.entry_at(i),
             Held::Many(table) => table.entry_at(i),
+        }
+    }
+
+    /// Goes over some pairs, as `Table::note_in_order`; a few pairs are in no other order.
+    #[inline(always)]
+    pub fn note_in_order(&self, from: usize, found: &mut [u64]) -> Option<Noted>
+        requires within { from ≤ length (entries_held self.now) }
+        requires room { 16 ≤ length found.old }
+        ensures next { IfSome result (λ noted. noted.next ≡ from + length (next_entries (entries_held self.now) from)) }
+        ensures references { IfSome result (λ noted. take noted.references found.new ≡ references (next_entries (entries_held self.now) from)) }
+        ensures few { IfSome result (λ noted. noted.references ≤ 16) }
+        ensures room { length found.new ≡ length found.old }
+    {
+        match self {
+            Held::Few(_) => None,
+            Held::Many(table) => table.note_in_order(from, found),
         }
     }
 

@@ -1,12 +1,14 @@
 //! The order in which keys came, of a map that fills holes with its last pair.
-ghost use Rattle.std.specs.Prelude.{◌≡◌, ◌≢◌, is_some, ◌+◌, ◌*◌, ◌-◌, ◌<◌, ◌≤◌, ◌^◌, ◌++◌, ◌∷◌, ℕ, [], All, length, map, None, Some, IfOk, IsSome, OnOk, OnErr, remove, slice_get, slice_index, slice_index_or, slice_set};
+ghost use Rattle.std.specs.Prelude.{◌≡◌, ◌≢◌, is_some, ◌+◌, ◌*◌, ◌-◌, ◌<◌, ◌≤◌, ◌^◌, ◌++◌, ◌∷◌, ℕ, [], All, drop, length, map, take, None, Some, IfOk, IsSome, OnOk, OnErr, remove, slice_get, slice_index, slice_index_or, slice_set};
 ghost use Rattle.std.specs.List.{range_with_len};
 ghost use Rattle.std.specs.Vec.{vec_len, vec_capacity};
 ghost use Rattle.cg_kinds.specs.Order.{indexes, pairs_before as before, renamed, AreHomes, AreCounts, AreClosed, IsSound};
 
 use crate::gap::IndexOrGap;
-use crate::slots::{pairs_before, slot_of};
+use crate::slots::{pairs_before, slot_of, some_indexes};
 use crate::sums::{PART, Sums};
+use arrayvec::ArrayVec;
+use cg_kind::AT_ONCE;
 use std::alloc::{AllocError, Global};
 use std::marker::Model;
 
@@ -203,6 +205,19 @@ impl Order {
         match self.slots[slot].index() {
             Some(index) => index as usize,
             None => unreachable!(),
+        }
+    }
+
+    /// The indexes from a place on, `AT_ONCE` of them or as many as there are. The slot of the first alone is looked for.
+    pub fn some_from(&self, i: usize) -> ArrayVec<usize, AT_ONCE>
+        ensures indexes { result.items ≡ take 8 (drop i self.now) }
+        ensures within { All (λ index. index < length self.now) result.items }
+    {
+        if i < self.homes.len() {
+            let slot = slot_of(self.slots.as_slice(), &self.counts, i);
+            some_indexes(self.slots.as_slice(), slot)
+        } else {
+            ArrayVec::new()
         }
     }
 

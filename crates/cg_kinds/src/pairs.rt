@@ -8,6 +8,7 @@ ghost use Rattle.cg_kinds.specs.Held.{entries_held};
 use crate::body_slab::BodySlab;
 use crate::contents::Contents;
 use crate::held::Held;
+use cg_kind::Noted;
 use cg_value::{Entry, KindCode, Val};
 use std::alloc::{AllocError, Global};
 use std::marker::PhantomData;
@@ -94,6 +95,13 @@ impl<K: Keyed> Contents for Pairs<K> {
 
     fn entry_at(&self, i: usize) -> Entry {
         self.held.entry_at(i)
+    }
+
+    fn note_from(&self, from: usize, found: &mut [u64]) -> Noted {
+        match self.held.note_in_order(from, found) {
+            Some(noted) => noted,
+            None => self.note_each(from, found),
+        }
     }
 
     fn find(&self, key: Val) -> Option<usize> {

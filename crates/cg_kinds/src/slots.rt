@@ -1,9 +1,11 @@
 //! Slots with gaps, and the number of pairs in each block of 16 of them.
-ghost use Rattle.std.specs.Prelude.{◌≡◌, ◌+◌, ◌<◌, length, None, IsSome, slice_index_or};
+ghost use Rattle.std.specs.Prelude.{◌≡◌, ◌+◌, ◌<◌, drop, length, take, None, IsSome, slice_index_or};
 ghost use Rattle.cg_kinds.specs.Order.{indexes, pairs_before as before, AreCounts};
 
 use crate::gap::IndexOrGap;
 use crate::sums::{PART, Sums};
+use arrayvec::ArrayVec;
+use cg_kind::AT_ONCE;
 
 /// The number of pairs in slots.
 #[tactic(auto, using(crate::proofs::SlotLemmas::before_more, crate::proofs::SlotLemmas::before_all, crate::proofs::SlotLemmas::few_before))]
@@ -62,4 +64,20 @@ pub fn slot_of(slots: &[IndexOrGap], counts: &Sums, i: usize) -> usize
     } else {
         slot_from(slots, first, left)
     }
+}
+
+/// The indexes in the slots from one on, `AT_ONCE` of them or as many as there are.
+pub fn some_indexes(slots: &[IndexOrGap], first: usize) -> ArrayVec<usize, AT_ONCE>
+    ensures { result.items ≡ take 8 (indexes (drop first slots.now)) }
+{
+    let mut some = ArrayVec::new();
+    'slots: for slot in first..slots.len() {
+        if some.len() == AT_ONCE {
+            return some;
+        }
+        if let Some(index) = slots[slot].index() {
+            some.push(index as usize);
+        }
+    }
+    some
 }

@@ -1,13 +1,14 @@
 //! Pairs in the order in which their keys came, in a map that may have another order.
-ghost use Rattle.std.specs.Prelude.{◌≡◌, ◌<◌, ◌^◌, ◌++◌, ◌∷◌, [], length, Some, None, IfSome, IfNone, IsNone, IsSome, IsOk, IfOk, OnOk, OnErr, OnSome, option_to_list, position, slice_get, remove, swap_remove, take, slice_index_or, option_map, ◌-◌};
+ghost use Rattle.std.specs.Prelude.{◌≡◌, ◌<◌, ◌^◌, ◌+◌, ◌≤◌, ◌++◌, ◌∷◌, [], All, length, Some, None, IfSome, IfNone, IsNone, IsSome, IsOk, IfOk, OnOk, OnErr, OnSome, option_to_list, position, slice_get, remove, swap_remove, take, slice_index_or, option_map, ◌-◌};
 ghost use Rattle.std.specs.List.{range_with_len};
-ghost use Rattle.cg_graph.specs.Value.{value_at, put, without_key, entry_at as entry_under};
-ghost use Rattle.cg_kind.specs.Calls.{has_key};
-ghost use Rattle.cg_kinds.specs.Pairs.{pair_entry, pairs_of, nothing, unboxed, IsSoundOrder};
+ghost use Rattle.cg_graph.specs.Value.{value_at, put, without_key, references, entry_at as entry_under};
+ghost use Rattle.cg_kind.specs.Calls.{has_key, next_entries};
+ghost use Rattle.cg_kinds.specs.Pairs.{pair_entry, pairs_of, nothing, picked, unboxed, IsSoundOrder};
 
 use crate::hasher::{KeyHashing, key_hashing};
 use crate::nine::Nine;
 use crate::order::Order;
+use cg_kind::{AT_ONCE, Noted, note_entry};
 use cg_value::{Entry, Val};
 use indexmap::IndexMap;
 use indexmap::map::Entry as MapEntry;
@@ -67,6 +68,22 @@ fn pair_at(map: &Map, index: usize) -> Entry
         Some((key, val)) => entry_of(key, val),
         None => unreachable!(),
     }
+}
+
+/// Writes down the references of the pairs at these indexes, which are at most eight. It answers how many there are.
+fn note_at(map: &Map, indexes: &[usize], found: &mut [u64]) -> usize
+    requires within { All (λ index. index < length map.now.entries) indexes.now }
+    requires few { length indexes.now ≤ 8 }
+    requires room { 16 ≤ length found.old }
+    ensures references { take result found.new ≡ references (picked (pairs_of map.now.entries) indexes.now) }
+    ensures few { result ≤ 16 }
+    ensures room { length found.new ≡ length found.old }
+{
+    let mut count = 0;
+    'indexes: for index in indexes {
+        count = note_entry(found, count, pair_at(map, *index));
+    }
+    count
 }
 
 /// Takes out the pair at an index. The last one comes to its place.
@@ -255,6 +272,27 @@ impl Table {
         match &self.order {
             Some(order) => pair_at(&self.map, order.index_at(i)),
             None => pair_at(&self.map, i),
+        }
+    }
+
+    /// Goes over some pairs from a position on, as `cg_kind::Kind::note_from` says it, where they are in another order than
+    /// the map's. Else it answers `None`.
+    pub fn note_in_order(&self, from: usize, found: &mut [u64]) -> Option<Noted>
+        requires within { from ≤ length self.now }
+        requires room { 16 ≤ length found.old }
+        ensures next { IfSome result (λ noted. noted.next ≡ from + length (next_entries self.now from)) }
+        ensures references { IfSome result (λ noted. take noted.references found.new ≡ references (next_entries self.now from)) }
+        ensures few { IfSome result (λ noted. noted.references ≤ 16) }
+        ensures room { length found.new ≡ length found.old }
+    {
+        match &self.order {
+            Some(order) => {
+                let next = from + AT_ONCE.min(self.map.len() - from);
+                let some = order.some_from(from);
+                let references = note_at(&self.map, some.as_slice(), found);
+                Some(Noted { next, references })
+            }
+            None => None,
         }
     }
 

@@ -1,51 +1,22 @@
 -- The walk over one object's entries: what the first of them refer to, and what the next one does.
-use Rattle.std.proofs.Common.{◌≡◌, refl, sym, ◌∙◌, ap, subst, ℕ, ◌+◌, ◌≤◌, List, [], ◌∷◌, ◌++◌, length, take, drop, Option, Some, None, Bool, IsTrue, arith, append_assoc}
+use Rattle.std.proofs.Common.{◌≡◌, refl, sym, ◌∙◌, ap, subst, ℕ, ◌+◌, ◌<◌, ◌≤◌, List, [], ◌∷◌, ◌++◌, length, take, drop, get_or, inl, Option, Some, None, Bool, IsTrue, arith, append_assoc}
 use Rattle.std.proofs.lemmas.List.{append-nil, take-append-drop, drop_more, take_more}
+use Rattle.cg_kind.specs.Calls.{next_entries}
+use Rattle.cg_kind.proofs.References.{next_within, next_last, references_next, references_parts}
 use Rattle.std.proofs.Math.Seq.{take-length}
 use Rattle.std.proofs.lemmas.Grind.{flat_map-append}
-use Rattle.std.proofs.lemmas.Option.{slice_get_within, get_or_from_slice_get}
-use Rattle.std.specs.Prelude.{slice_get}
 use Rattle.cg_value.specs.declared.Place.TheVariants.{Cand}
 use Rattle.cg_value.specs.declared.Entry.{Entry}
 use Rattle.cg_graph.specs.Member.{Includes}
 use Rattle.cg_graph.specs.Holdings.{occurrences}
-use Rattle.cg_trial.specs.View.{IsNext, View, IsSame, Lowered, IsReadyView, targets, held_by, head_of}
-use Rattle.cg_graph.specs.Value.{entry_references, references}
+use Rattle.cg_trial.specs.View.{IsNext, View, IsSame, Lowered, IsReadyView, held_by, head_of}
+use Rattle.cg_graph.specs.Value.{references}
 use Rattle.cg_trial.specs.Paths.{entries_in}
 use Rattle.std.proofs.lemmas.List.Sums.{sum_by_push}
 use Rattle.cg_graph.proofs.Members.{Includes-append_left, Includes-append_right}
 use Rattle.cg_graph.proofs.Objects.{occurrences-append}
-use Rattle.cg_trial.proofs.Lists.{IsAt, head_is}
+use Rattle.cg_trial.proofs.Lists.{occurs, IsAt, head_is}
 use Rattle.cg_trial.proofs.Passes.{cand_same, but_numbers_itself, but_numbers_more, turn_of, at_end}
-
-pub references-append : (xs ys : List Entry) → references (xs ++ ys) ≡ references xs ++ references ys
-references-append xs ys = flat_map-append entry_references xs ys
-
--- the entries up to the next one
-pub references_more : (es : List Entry) (i : ℕ) (e : Entry) → slice_get es i ≡ Some e → references (take (i + 1) es) ≡ (references (take i es) ++ targets e.val) ++ targets e.key
-references_more es i e h =
-    ap references (take_more es i e (slice_get_within es i e h) ∙ ap (λ (x : Entry). take i es ++ x ∷ []) (get_or_from_slice_get es i e e h))
-    ∙ references-append (take i es) (e ∷ [])
-    ∙ ap (λ (r : List ℕ). references (take i es) ++ r) (append-nil (entry_references e))
-    ∙ sym (append_assoc (references (take i es)) (targets e.val) (targets e.key))
-
--- all entries: those before, the next one, and those after it
-pub references_split : (es : List Entry) (i : ℕ) (e : Entry) → slice_get es i ≡ Some e → references es ≡ references (take i es) ++ (targets e.val ++ (targets e.key ++ references (drop (i + 1) es)))
-references_split es i e h =
-    ap references (sym (take-append-drop i es) ∙ ap (λ (xs : List Entry). take i es ++ xs) (drop_more es i e (slice_get_within es i e h) ∙ ap (λ (x : Entry). x ∷ drop (i + 1) es) (get_or_from_slice_get es i e e h)))
-    ∙ references-append (take i es) (e ∷ drop (i + 1) es)
-    ∙ ap (λ (r : List ℕ). references (take i es) ++ r) (append_assoc (targets e.val) (targets e.key) (references (drop (i + 1) es)))
-
-pub value_within : (es : List Entry) (i : ℕ) (e : Entry) → slice_get es i ≡ Some e → (p : ℕ) → Includes (targets e.val) p → Includes (references es) p
-value_within es i e h p k = subst (λ (r : List ℕ). Includes r p) (sym (references_split es i e h)) (Includes-append_right (references (take i es)) _ p (Includes-append_left (targets e.val) _ p k))
-
-pub key_within : (es : List Entry) (i : ℕ) (e : Entry) → slice_get es i ≡ Some e → (p : ℕ) → Includes (targets e.key) p → Includes (references es) p
-key_within es i e h p k = subst (λ (r : List ℕ). Includes r p) (sym (references_split es i e h))
-    (Includes-append_right (references (take i es)) _ p (Includes-append_right (targets e.val) _ p (Includes-append_left (targets e.key) _ p k)))
-
--- the entry that was looked at is one of the object's entries as they were
-pub entry_of : (old mid : View) (o i : ℕ) (e : Entry) → IsSame old mid → slice_get (mid.entries o) i ≡ Some e → slice_get (old.entries o) i ≡ Some e
-entry_of old mid o i e same h = subst (λ (es : ℕ → List Entry). slice_get (es o) i ≡ Some e) same.hold h
 
 pub live_same : (old mid : View) (o : ℕ) → IsSame old mid → IsTrue (old.live o) → IsTrue (mid.live o)
 live_same old mid o same h = subst (λ (l : ℕ → Bool). IsTrue (l o)) (sym same.lives) h
@@ -76,37 +47,62 @@ room_next old mid r s t all so room parts o h =
     let g : occurrences o all ≡ occurrences o (r ++ (s ++ t)) = ap (occurrences o) parts in
     omega (arith, occurrences-append o r (s ++ t), occurrences-append o s t)
 
--- Lowering has come to the entry i.
-pub record Lowering (o : ℕ) (old now : View) (i : ℕ) : Type 0 where
-  pub lowered : Lowered (references (take i (old.entries o))) old now
+-- Of some objects: those before one of them, this one, and the rest.
+pub taken_parts : (xs : List ℕ) (i : ℕ) → i < length xs → xs ≡ take i xs ++ (get_or xs i 0 ∷ [] ++ drop (i + 1) xs)
+taken_parts xs i within = sym (take-append-drop i xs) ∙ ap (λ (l : List ℕ). take i xs ++ l) (drop_more xs i 0 within)
 
-pub lowering_first : (o : ℕ) (v : View) → Lowering o v v 0
-lowering_first o v = record { lowered = lowered_none v }
+pub one_of : (xs : List ℕ) (i : ℕ) → i < length xs → Includes xs (get_or xs i 0)
+one_of xs i within =
+    subst (λ (l : List ℕ). Includes l (get_or xs i 0)) (sym (taken_parts xs i within))
+    (Includes-append_right (take i xs) (get_or xs i 0 ∷ drop (i + 1) xs) (get_or xs i 0) (inl refl))
 
-pub lowering_value : (o : ℕ) (old mid new : View) (i : ℕ) (e : Entry) → Lowering o old mid i → Lowered (targets e.val) mid new → Lowered (references (take i (old.entries o)) ++ targets e.val) old new
-lowering_value o old mid new i e so first = lowered_more _ _ _ _ _ so.lowered first
+pub one_room : (old mid : View) (xs : List ℕ) (i : ℕ) → i < length xs → Lowered (take i xs) old mid → ((o : ℕ) → Includes (old.listed Cand) o → occurrences o xs ≤ old.number o)
+    → Includes (mid.listed Cand) (get_or xs i 0) → 0 < mid.number (get_or xs i 0)
+one_room old mid xs i within so room here =
+    let o = get_or xs i 0 in
+    omega (arith, occurs (o ∷ []) o (inl refl), room_next old mid (take i xs) (o ∷ []) (drop (i + 1) xs) xs so room (taken_parts xs i within) o here)
 
-pub lowering_more : (o : ℕ) (old mid half new : View) (i : ℕ) (e : Entry) → Lowering o old mid i → slice_get (mid.entries o) i ≡ Some e → Lowered (targets e.val) mid half → Lowered (targets e.key) half new → Lowering o old new (i + 1)
-lowering_more o old mid half new i e so is first then = record {
-  lowered = subst (λ (r : List ℕ). Lowered r old new) (sym (references_more (old.entries o) i e (entry_of old mid o i e so.lowered.rest.same is)))
-      (lowered_more _ _ _ _ _ (lowered_more _ _ _ _ _ so.lowered first) then);
-}
+-- Lowering has come to the entry `from`.
+pub record Lowering (o : ℕ) (old now : View) (from : ℕ) : Type 0 where
+  pub within : from ≤ length (old.entries o)
+  pub lowered : Lowered (references (take from (old.entries o))) old now
 
-pub lowering_room_value : (o : ℕ) (old mid : View) (i : ℕ) (e : Entry) → Lowering o old mid i → slice_get (mid.entries o) i ≡ Some e → ((p : ℕ) → Includes (old.listed Cand) p → occurrences p (references (old.entries o)) ≤ old.number p)
-    → (p : ℕ) → Includes (mid.listed Cand) p → occurrences p (targets e.val) ≤ mid.number p
-lowering_room_value o old mid i e so is room = room_next old mid (references (take i (old.entries o))) (targets e.val) (targets e.key ++ references (drop (i + 1) (old.entries o))) (references (old.entries o)) so.lowered room (references_split (old.entries o) i e (entry_of old mid o i e so.lowered.rest.same is))
+-- the entries that come next are those that they were
+pub next_same : (old mid : View) (o from : ℕ) → IsSame old mid → next_entries (mid.entries o) from ≡ next_entries (old.entries o) from
+next_same old mid o from same = ap (λ (es : ℕ → List Entry). next_entries (es o) from) same.hold
 
-pub lowering_room_key : (o : ℕ) (old mid half : View) (i : ℕ) (e : Entry) → Lowering o old mid i → slice_get (mid.entries o) i ≡ Some e → Lowered (targets e.val) mid half → ((p : ℕ) → Includes (old.listed Cand) p → occurrences p (references (old.entries o)) ≤ old.number p)
-    → (p : ℕ) → Includes (half.listed Cand) p → occurrences p (targets e.key) ≤ half.number p
-lowering_room_key o old mid half i e so is first room =
-    room_next old half (references (take i (old.entries o)) ++ targets e.val) (targets e.key) (references (drop (i + 1) (old.entries o))) (references (old.entries o)) (lowered_more _ _ _ _ _ so.lowered first) room
-    (references_split (old.entries o) i e (entry_of old mid o i e so.lowered.rest.same is) ∙ sym (append_assoc (references (take i (old.entries o))) (targets e.val) _))
+pub next_live : (old mid : View) (o from : ℕ) → IsReadyView old → IsTrue (old.live o) → IsSame old mid → (p : ℕ) → Includes (references (next_entries (mid.entries o) from)) p → IsTrue (mid.live p)
+next_live old mid o from ready live same p h =
+    let es = old.entries o in
+    let here = subst (λ (ns : List Entry). Includes (references ns) p) (next_same old mid o from same) h in
+    refs_live old mid o p ready live same
+    (subst (λ (r : List ℕ). Includes r p) (sym (references_parts es from))
+    (Includes-append_left (references (take from es) ++ references (next_entries es from)) _ p (Includes-append_right (references (take from es)) (references (next_entries es from)) p here)))
 
-pub entry_live_value : (o : ℕ) (old mid : View) (i : ℕ) (e : Entry) → IsReadyView old → IsTrue (old.live o) → IsSame old mid → slice_get (mid.entries o) i ≡ Some e → (p : ℕ) → Includes (targets e.val) p → IsTrue (mid.live p)
-entry_live_value o old mid i e ready live same is p h = refs_live old mid o p ready live same (value_within (old.entries o) i e (entry_of old mid o i e same is) p h)
+pub lowering_room : (o : ℕ) (old mid : View) (from : ℕ) → Lowering o old mid from → ((p : ℕ) → Includes (old.listed Cand) p → occurrences p (references (old.entries o)) ≤ old.number p)
+    → (p : ℕ) → Includes (mid.listed Cand) p → occurrences p (references (next_entries (mid.entries o) from)) ≤ mid.number p
+lowering_room o old mid from so room p h =
+    let es = old.entries o in
+    subst (λ (ns : List Entry). occurrences p (references ns) ≤ mid.number p) (sym (next_same old mid o from so.lowered.rest.same))
+    (room_next old mid (references (take from es)) (references (next_entries es from)) (references (drop (from + length (next_entries es from)) es)) (references es) so.lowered room
+    (references_parts es from ∙ append_assoc (references (take from es)) (references (next_entries es from)) _) p h)
 
-pub entry_live_key : (o : ℕ) (old mid half : View) (i : ℕ) (e : Entry) → IsReadyView old → IsTrue (old.live o) → IsSame old mid → IsSame mid half → slice_get (mid.entries o) i ≡ Some e → (p : ℕ) → Includes (targets e.key) p → IsTrue (half.live p)
-entry_live_key o old mid half i e ready live same then is p h = live_same mid half p then (refs_live old mid o p ready live same (key_within (old.entries o) i e (entry_of old mid o i e same is) p h))
+pub lowering_more : (o : ℕ) (old mid new : View) (from next : ℕ) → Lowering o old mid from → next ≡ from + length (next_entries (mid.entries o) from) → Lowered (references (next_entries (mid.entries o) from)) mid new → Lowering o old new next
+lowering_more o old mid new from next so is more =
+    let es = old.entries o in
+    let same = next_same old mid o from so.lowered.rest.same in
+    let there : next ≡ from + length (next_entries es from) = is ∙ ap (λ (ns : List Entry). from + length ns) same in
+    record {
+      within = omega (arith, there, next_within es from so.within);
+      lowered = subst (λ (r : List ℕ). Lowered r old new) (sym (ap (λ n. references (take n es)) there ∙ references_next es from))
+          (lowered_more old mid new _ _ so.lowered (subst (λ (ns : List Entry). Lowered (references ns) mid new) same more));
+    }
+
+-- where few came next, these were the last
+pub few_last : (o : ℕ) (old mid : View) (from next : ℕ) → from ≤ length (old.entries o) → IsSame old mid → next ≡ from + length (next_entries (mid.entries o) from) → next < from + 8 → next ≡ length (old.entries o)
+few_last o old mid from next within same is few =
+    let e = ap (λ (ns : List Entry). length ns) (next_same old mid o from same) in
+    omega (arith, is, few, e, next_last (old.entries o) from within (omega (arith, is, few, e)))
 
 pub length_same : (old mid : View) (o : ℕ) → IsSame old mid → length (mid.entries o) ≡ length (old.entries o)
 length_same old mid o same = ap (λ (es : ℕ → List Entry). length (es o)) same.hold

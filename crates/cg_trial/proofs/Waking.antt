@@ -4,20 +4,22 @@ use Rattle.std.proofs.lemmas.Bool.{eqb-true, eq-eqb}
 use Rattle.std.proofs.Math.Seq.{take-length}
 use Rattle.std.proofs.lemmas.List.{append-nil}
 use Rattle.std.proofs.lemmas.List.Sums.{sum_by_push}
-use Rattle.std.specs.Prelude.{◌==◌, sum_by, slice_get}
+use Rattle.std.specs.Prelude.{◌==◌, sum_by}
 use Rattle.cg_value.specs.declared.Place.{Place}
 use Rattle.cg_value.specs.declared.Place.TheVariants.{Cand, Back}
 use Rattle.cg_value.specs.declared.Entry.{Entry}
 use Rattle.cg_graph.specs.Member.{Includes}
 use Rattle.cg_graph.specs.Holdings.{occurrences}
 use Rattle.cg_graph.specs.Places.{without_serial}
-use Rattle.cg_trial.specs.View.{View, Numbered, Moved, targets}
+use Rattle.cg_trial.specs.View.{View, Numbered, Moved}
 use Rattle.cg_graph.specs.Value.{references}
 use Rattle.cg_trial.specs.Sift.{Woken, IsMember, both, is_zero, zeros}
 use Rattle.cg_graph.proofs.Members.{either, cases_of, Includes-append_cases, Includes-append_left, Includes-append_right}
 use Rattle.cg_trial.proofs.Lists.{occurs, occurs_in, none_or_some, sum_by-without, sum_by-parts, without-absent, Includes-without}
 use Rattle.cg_trial.proofs.Passes.{same_itself, same_more}
-use Rattle.cg_trial.proofs.Entries.{references_more, entry_of}
+use Rattle.cg_kind.specs.Calls.{next_entries}
+use Rattle.cg_kind.proofs.References.{next_within, references_next}
+use Rattle.cg_trial.proofs.Entries.{next_same}
 
 -- A list with the same sums as two others has what these have.
 pub member_of : (v : View) (q : ℕ) → 1 ≤ both (λ x. cond (x == q) 1 0) v → IsMember v q
@@ -173,18 +175,24 @@ module _ (p : ℕ) (a m c : View) (zero_was : a.number p ≡ 0) (once : occurren
     lighter = omega (arith, same_sums (is_zero c), fewer p a c zero_was numbers_then, once, alone Cand (λ e. absurd (cc)));
   }
 
--- Taking back has come to the entry i.
-pub record Waking (o : ℕ) (old now : View) (i : ℕ) : Type 0 where
-  pub woken : Woken (references (take i (old.entries o))) old now
+-- Taking back has come to the entry `from`.
+pub record Waking (o : ℕ) (old now : View) (from : ℕ) : Type 0 where
+  pub within : from ≤ length (old.entries o)
+  pub woken : Woken (references (take from (old.entries o))) old now
 
 pub waking_first : (o : ℕ) (v : View) → Waking o v v 0
-waking_first o v = record { woken = woken_none v }
+waking_first o v = record { within = omega arith; woken = woken_none v }
 
-pub waking_more : (o : ℕ) (old mid half new : View) (i : ℕ) (e : Entry) → Waking o old mid i → slice_get (mid.entries o) i ≡ Some e → Woken (targets e.val) mid half → Woken (targets e.key) half new → Waking o old new (i + 1)
-waking_more o old mid half new i e so is first then = record {
-  woken = subst (λ (r : List ℕ). Woken r old new) (sym (references_more (old.entries o) i e (entry_of old mid o i e so.woken.same is)))
-      (woken_more _ _ _ _ _ (woken_more _ _ _ _ _ so.woken first) then);
-}
+pub waking_more : (o : ℕ) (old mid new : View) (from next : ℕ) → Waking o old mid from → next ≡ from + length (next_entries (mid.entries o) from) → Woken (references (next_entries (mid.entries o) from)) mid new → Waking o old new next
+waking_more o old mid new from next so is more =
+    let es = old.entries o in
+    let same = next_same old mid o from so.woken.same in
+    let there : next ≡ from + length (next_entries es from) = is ∙ ap (λ (ns : List Entry). from + length ns) same in
+    record {
+      within = omega (arith, there, next_within es from so.within);
+      woken = subst (λ (r : List ℕ). Woken r old new) (sym (ap (λ n. references (take n es)) there ∙ references_next es from))
+          (woken_more _ _ old mid new so.woken (subst (λ (ns : List Entry). Woken (references ns) mid new) same more));
+    }
 
 pub waking_all : (o : ℕ) (old now : View) (i : ℕ) → i ≡ length (old.entries o) → Waking o old now i → Woken (references (old.entries o)) old now
 waking_all o old now i is so = subst (λ (es : List Entry). Woken (references es) old now) (ap (λ n. take n (old.entries o)) is ∙ take-length (old.entries o)) so.woken

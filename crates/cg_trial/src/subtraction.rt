@@ -7,7 +7,7 @@ ghost use Rattle.cg_graph.specs.Store.{list_at, place_of};
 ghost use Rattle.cg_graph.specs.Reachable.{IsReachable, IsUnreachable};
 ghost use Rattle.cg_arena.specs.Nodes.{IsPlace};
 ghost use Rattle.cg_heap.specs.Calls.{IsListed};
-ghost use Rattle.cg_trial.specs.View.{view_of, IsReadyView, IsSameButNumbers, Lowered, targets, held_by};
+ghost use Rattle.cg_trial.specs.View.{view_of, IsReadyView, IsSameButNumbers, Lowered, held_by};
 ghost use Rattle.cg_trial.specs.Paths.{entries_in};
 ghost use Rattle.cg_trial.specs.Sift.{Woken, IsNowhereElse, IsParted, IsTwofold, IsExchanged, IsSifted, IsSieved};
 ghost use Rattle.cg_trial.specs.Split.{IsSplitPlace, kept_place, entry_number_at, IsSameButPlaces};
@@ -18,8 +18,8 @@ use crate::candidates::{
 };
 use cg_arena::Near;
 use cg_heap::{Heap, Steps};
-use cg_kind::Kind;
-use cg_value::{Place, Val};
+use cg_kind::{AT_ONCE, Kind, ROOM};
+use cg_value::Place;
 use std::sync::ledger::Ledger;
 
 /// Each candidate's number becomes its count.
@@ -36,29 +36,43 @@ fn copy<B: Kind>(heap: &mut Heap<B>)
     }
 }
 
-/// A reference to a candidate lowers its number by one.
-fn lower<B: Kind>(heap: &mut Heap<B>, value: Val)
-    requires live { (o : ℕ) → Includes (targets value) o → IsTrue ((view_of heap.old).live o) }
-    requires room { (o : ℕ) → Includes ((view_of heap.old).listed Place.Cand) o → occurrences o (targets value) ≤ (view_of heap.old).number o }
-    ensures { Lowered (targets value) (view_of heap.old) (view_of heap.new) }
+/// Each of these objects that is a candidate gets a number that is lower by one, as often as it is among them.
+#[inline(always)]
+fn lower_each<B: Kind>(heap: &mut Heap<B>, objects: &[u64])
+    requires live { (o : ℕ) → Includes objects.now o → IsTrue ((view_of heap.old).live o) }
+    requires room { (o : ℕ) → Includes ((view_of heap.old).listed Place.Cand) o → occurrences o objects.now ≤ (view_of heap.old).number o }
+    ensures { Lowered objects.now (view_of heap.old) (view_of heap.new) }
 {
-    if let Val::Ref(object) = value {
-        lower_number(heap, object);
+    'objects: for object in objects {
+        lower_number(heap, *object);
     }
 }
 
-/// Each reference of the entries of an object that is near lowers its candidate's number by one.
-fn lower_all<B: Kind, L: Ledger>(heap: &mut Heap<B>, object: u64, near: Near, steps: &mut Steps<L>)
+/// Each reference of the entries of an object that is near lowers its candidate's number by one. References are written to
+/// `found` on the way.
+fn lower_all<B: Kind, L: Ledger>(
+    heap: &mut Heap<B>,
+    object: u64,
+    near: Near,
+    found: &mut [u64],
+    steps: &mut Steps<L>,
+)
     requires ready { IsReadyView (view_of heap.old) }
     requires live { IsTrue ((view_of heap.old).live object) }
     requires room { (o : ℕ) → Includes ((view_of heap.old).listed Place.Cand) o → occurrences o (references ((view_of heap.old).entries object)) ≤ (view_of heap.old).number o }
+    requires space { 16 ≤ length found.old }
     ensures lowered { Lowered (references ((view_of heap.old).entries object)) (view_of heap.old) (view_of heap.new) }
     ensures looks { steps.new ≡ steps.old + length ((view_of heap.old).entries object) }
+    ensures space { length found.new ≡ length found.old }
 {
-    for i in 0..heap.len_near(object, near) {
-        let entry = heap.look_near(object, i, near, steps);
-        lower(heap, entry.val);
-        lower(heap, entry.key);
+    let mut from = 0;
+    'entries: loop {
+        let noted = heap.note_near(object, from, near, found, steps);
+        lower_each(heap, &found[..noted.references]);
+        if noted.next - from < AT_ONCE {
+            return;
+        }
+        from = noted.next;
     }
 }
 
@@ -69,10 +83,11 @@ fn subtract<B: Kind, L: Ledger>(heap: &mut Heap<B>, steps: &mut Steps<L>)
     ensures lowered { Lowered (held_by (view_of heap.old) ((view_of heap.old).listed Place.Cand)) (view_of heap.old) (view_of heap.new) }
     ensures looks { steps.new ≡ steps.old + entries_in (view_of heap.old) ((view_of heap.old).listed Place.Cand) }
 {
+    let mut found = [0; ROOM];
     let mut near = Near::default();
     let mut cursor = heap.first_near(Place::Cand, &mut near);
     'objects: while let Some(object) = cursor {
-        lower_all(heap, object, near, steps);
+        lower_all(heap, object, near, &mut found, steps);
         cursor = following(heap, object, &mut near);
     }
 }
@@ -80,15 +95,13 @@ fn subtract<B: Kind, L: Ledger>(heap: &mut Heap<B>, steps: &mut Steps<L>)
 /// A candidate with the number 0 gets the number 1, and where it was set aside, the last place in the list, so that the walk
 /// comes to it.
 #[inline(always)]
-fn take_back<B: Kind>(heap: &mut Heap<B>, value: Val)
-    requires live { (o : ℕ) → Includes (targets value) o → IsTrue ((view_of heap.old).live o) }
-    ensures { Woken (targets value) (view_of heap.old) (view_of heap.new) }
+fn take_back<B: Kind>(heap: &mut Heap<B>, object: u64)
+    requires { IsTrue ((view_of heap.old).live object) }
+    ensures { Woken (object ∷ []) (view_of heap.old) (view_of heap.new) }
 {
-    if let Val::Ref(object) = value {
-        let head = heap.head_of(object);
-        if head.number == 0 {
-            wake(heap, object, head.place);
-        }
+    let head = heap.head_of(object);
+    if head.number == 0 {
+        wake(heap, object, head.place);
     }
 }
 
@@ -108,22 +121,40 @@ fn wake<B: Kind>(heap: &mut Heap<B>, object: u64, place: Place)
     }
 }
 
-/// What the entries of an object that is near refer to is taken back.
+/// Each of these objects is taken back.
+#[inline(always)]
+fn take_back_each<B: Kind>(heap: &mut Heap<B>, objects: &[u64])
+    requires { (o : ℕ) → Includes objects.now o → IsTrue ((view_of heap.old).live o) }
+    ensures { Woken objects.now (view_of heap.old) (view_of heap.new) }
+{
+    'objects: for object in objects {
+        take_back(heap, *object);
+    }
+}
+
+/// What the entries of an object that is near refer to is taken back. References are written to `found` on the way.
 fn take_back_all<B: Kind, L: Ledger>(
     heap: &mut Heap<B>,
     object: u64,
     near: Near,
+    found: &mut [u64],
     steps: &mut Steps<L>,
 )
     requires ready { IsReadyView (view_of heap.old) }
     requires live { IsTrue ((view_of heap.old).live object) }
+    requires space { 16 ≤ length found.old }
     ensures woken { Woken (references ((view_of heap.old).entries object)) (view_of heap.old) (view_of heap.new) }
     ensures looks { steps.new ≡ steps.old + length ((view_of heap.old).entries object) }
+    ensures space { length found.new ≡ length found.old }
 {
-    for i in 0..heap.len_near(object, near) {
-        let entry = heap.look_near(object, i, near, steps);
-        take_back(heap, entry.val);
-        take_back(heap, entry.key);
+    let mut from = 0;
+    'entries: loop {
+        let noted = heap.note_near(object, from, near, found, steps);
+        take_back_each(heap, &found[..noted.references]);
+        if noted.next - from < AT_ONCE {
+            return;
+        }
+        from = noted.next;
     }
 }
 
@@ -152,6 +183,7 @@ fn set_aside<B: Kind, L: Ledger>(heap: &mut Heap<B>, steps: &mut Steps<L>)
     ensures later { steps.old ≤ steps.new }
     ensures looks { steps.new ≤ steps.old + entries_in (view_of heap.old) ((view_of heap.old).listed Place.Cand) }
 {
+    let mut found = [0; ROOM];
     let mut near = Near::default();
     let mut cursor = heap.first_near(Place::Cand, &mut near);
     'objects: while let Some(object) = cursor {
@@ -160,7 +192,7 @@ fn set_aside<B: Kind, L: Ledger>(heap: &mut Heap<B>, steps: &mut Steps<L>)
             cursor = following(heap, object, &mut near);
             move_last(heap, object, here, Place::Back);
         } else {
-            take_back_all(heap, object, here, steps);
+            take_back_all(heap, object, here, &mut found, steps);
             cursor = following(heap, object, &mut near);
         }
     }

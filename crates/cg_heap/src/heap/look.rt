@@ -16,7 +16,7 @@ impl<B: Kind> Heap<B> {
         ensures entry { slice_get (entries_of self.now object) i ≡ Some result }
         ensures steps { steps.new ≡ steps.old + 1 }
     {
-        steps.tick();
+        steps.rise(1);
         self.entry_at(object, i)
     }
 }

@@ -1,16 +1,18 @@
 //! Walks over a list, and the objects that stand there: `Near` says where an object's node may lie, and saves the look-up.
-ghost use Rattle.std.specs.Prelude.{◌≡◌, ◌+◌, ◌<◌, IfSome, Some, length, slice_get};
+ghost use Rattle.std.specs.Prelude.{◌≡◌, ◌+◌, ◌<◌, ◌≤◌, IfSome, Some, length, slice_get, take};
 ghost use Rattle.std.specs.FinMap as fin;
+ghost use Rattle.cg_graph.specs.Value.{references};
 ghost use Rattle.cg_graph.specs.Store.{IsLive, entries_of, count_of as in_degree, list_at, place_of as place_at};
 ghost use Rattle.cg_graph.specs.Changes.{moved};
 ghost use Rattle.cg_arena.specs.Nodes.{following, IsPlace, TakesNumber};
 ghost use Rattle.cg_heap.specs.Calls.{with_node, with_number};
+ghost use Rattle.cg_kind.specs.Calls.{next_entries};
 
 use super::Heap;
 use crate::counts::seat_near;
 use crate::steps::Steps;
 use cg_arena::{Head, Near};
-use cg_kind::Kind;
+use cg_kind::{Kind, Noted};
 use cg_value::{Entry, KindCode, Place};
 use std::sync::ledger::Ledger;
 
@@ -74,22 +76,42 @@ impl<B: Kind> Heap<B> {
         self.boxes.entry_at(seat, i)
     }
 
-    /// `look`, where the object is near.
+    /// The entry at a position of an object that is near, `None` exactly where that is the length or more.
     #[inline(always)]
-    pub fn look_near<L: Ledger>(
+    pub fn get_near(&self, object: u64, i: usize, near: Near) -> Option<Entry>
+        requires { IsLive self.now object }
+        ensures { result ≡ slice_get (entries_of self.now object) i }
+    {
+        let seat = seat_near(&self.arena, object, near);
+        self.boxes.get(seat, i)
+    }
+
+    /// Looks at the entries of an object that is near from a position on, `cg_kind::AT_ONCE` of them or as many as there
+    /// are, and writes the references that they have to the front of `found`, which has `cg_kind::ROOM` at least: of each
+    /// entry its value's and then its key's. The counter rises by the number of these entries.
+    #[inline(always)]
+    pub fn note_near<L: Ledger>(
         &self,
         object: u64,
-        i: usize,
+        from: usize,
         near: Near,
+        found: &mut [u64],
         steps: &mut Steps<L>,
-    ) -> Entry
+    ) -> Noted
         requires live { IsLive self.now object }
-        requires within { i < length (entries_of self.now object) }
-        ensures entry { slice_get (entries_of self.now object) i ≡ Some result }
-        ensures steps { steps.new ≡ steps.old + 1 }
+        requires within { from ≤ length (entries_of self.now object) }
+        requires room { 16 ≤ length found.old }
+        ensures next { result.next ≡ from + length (next_entries (entries_of self.now object) from) }
+        ensures references { take result.references found.new ≡
+            references (next_entries (entries_of self.now object) from) }
+        ensures few { result.references ≤ 16 }
+        ensures room { length found.new ≡ length found.old }
+        ensures steps { steps.new ≡ steps.old + length (next_entries (entries_of self.now object) from) }
     {
-        steps.tick();
-        self.entry_near(object, i, near)
+        let seat = seat_near(&self.arena, object, near);
+        let noted = self.boxes.note_from(seat, from, found);
+        steps.rise(noted.next - from);
+        noted
     }
 
     /// The collector's number of an object that is near, which stands in a generation or among the candidates, becomes its

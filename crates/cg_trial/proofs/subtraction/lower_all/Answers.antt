@@ -1,32 +1,50 @@
-use Rattle.cg_trial.specs.View.{view_of}
-use Rattle.std.proofs.Common.{arith}
-use Rattle.cg_trial.proofs.Entries.{lowering_more, lowering_room_value, lowering_room_key, entry_live_value, entry_live_key, live_same, length_same}
+use Rattle.std.proofs.Common.{◌≡◌, ◌≤◌, ◌+◌, List, ℕ, length, sym, ap, subst, arith}
+use Rattle.std.specs.Prelude.{IsTrue}
+use Rattle.cg_graph.specs.Member.{Includes}
+use Rattle.cg_graph.specs.Holdings.{occurrences}
+use Rattle.cg_kind.specs.Calls.{next_entries}
+use Rattle.cg_trial.specs.View.{view_of, Lowered}
+use Rattle.cg_trial.proofs.Entries.{live_same, length_same, next_live, few_last, lowering_room, lowering_more, lowering_all}
 use Rattle.cg_trial.proofs.subtraction.lower_all.Goals as goal
 
-pub lower-requires-clause-live : goal.lower-requires-clause-live
-lower-requires-clause-live g c = let so = c.loop-i.invariant.lowering in
-    entry_live_value _ (view_of c.args.heap.now) (view_of c.loop-i.heap) _ _ c.requires.ready c.requires.live so.lowered.rest.same c.look_near-entry.ensures.entry
+pub note_near-noted-requires-clause-live : goal.note_near-noted-requires-clause-live
+note_near-noted-requires-clause-live g c = live_same (view_of c.args.heap.now) (view_of c.entries.heap) c.args.object c.entries.invariant.lowering.lowered.rest.same c.requires.live
 
-pub lower-requires-clause-room : goal.lower-requires-clause-room
-lower-requires-clause-room g c =
-    lowering_room_value _ (view_of c.args.heap.now) (view_of c.loop-i.heap) _ _ c.loop-i.invariant.lowering c.look_near-entry.ensures.entry c.requires.room
+pub note_near-noted-requires-clause-within : goal.note_near-noted-requires-clause-within
+note_near-noted-requires-clause-within g c = omega (arith, c.entries.invariant.lowering.within, length_same (view_of c.args.heap.now) (view_of c.entries.heap) c.args.object c.entries.invariant.lowering.lowered.rest.same)
 
-pub lower-requires-in-loop-i-clause-live : goal.lower-requires-in-loop-i-clause-live
-lower-requires-in-loop-i-clause-live g c = let so = c.loop-i.invariant.lowering in
-    entry_live_key _ (view_of c.args.heap.now) (view_of c.loop-i.heap) _ _ _ c.requires.ready c.requires.live so.lowered.rest.same c.lower.ensures.rest.same c.look_near-entry.ensures.entry
+pub lower_each-requires-clause-live : goal.lower_each-requires-clause-live
+lower_each-requires-clause-live g c = λ p h.
+    next_live (view_of c.args.heap.now) (view_of c.entries.heap) c.args.object c.entries.from c.requires.ready c.requires.live c.entries.invariant.lowering.lowered.rest.same p
+    (subst (λ (xs : List ℕ). Includes xs p) c.note_near-noted.ensures.references h)
 
-pub lower-requires-in-loop-i-clause-room : goal.lower-requires-in-loop-i-clause-room
-lower-requires-in-loop-i-clause-room g c =
-    lowering_room_key _ (view_of c.args.heap.now) (view_of c.loop-i.heap) _ _ _ c.loop-i.invariant.lowering c.look_near-entry.ensures.entry c.lower.ensures c.requires.room
+pub lower_each-requires-clause-room : goal.lower_each-requires-clause-room
+lower_each-requires-clause-room g c = λ p h.
+    subst (λ (xs : List ℕ). occurrences p xs ≤ (view_of c.entries.heap).number p) (sym c.note_near-noted.ensures.references)
+    (lowering_room c.args.object (view_of c.args.heap.now) (view_of c.entries.heap) c.entries.from c.entries.invariant.lowering c.requires.room p h)
 
-pub loop-i-preserved : goal.loop-i-preserved
-loop-i-preserved g c = record {
-  lowering = lowering_more _ _ _ _ _ _ _ c.loop-i.invariant.lowering c.look_near-entry.ensures.entry c.lower.ensures c.lower-in-loop-i.ensures;
-  looks = omega arith;
+pub returns-then-noted-from-lt-AT_ONCE-clause-lowered : goal.returns-then-noted-from-lt-AT_ONCE-clause-lowered
+returns-then-noted-from-lt-AT_ONCE-clause-lowered g c =
+    lowering_all c.args.object (view_of c.args.heap.now) (view_of c.lower_each.new.heap) c.note_near-noted.result.next
+    (few_last c.args.object (view_of c.args.heap.now) (view_of c.entries.heap) c.entries.from c.note_near-noted.result.next c.entries.invariant.lowering.within c.entries.invariant.lowering.lowered.rest.same c.note_near-noted.ensures.next (omega (arith, c.note_near-noted.ensures.next, c.if-noted-from-lt-AT_ONCE.true)))
+    (lowering_more c.args.object (view_of c.args.heap.now) (view_of c.entries.heap) (view_of c.lower_each.new.heap) c.entries.from c.note_near-noted.result.next c.entries.invariant.lowering c.note_near-noted.ensures.next
+    (subst (λ (xs : List ℕ). Lowered xs (view_of c.entries.heap) (view_of c.lower_each.new.heap)) c.note_near-noted.ensures.references c.lower_each.ensures))
+
+pub returns-then-noted-from-lt-AT_ONCE-clause-looks : goal.returns-then-noted-from-lt-AT_ONCE-clause-looks
+returns-then-noted-from-lt-AT_ONCE-clause-looks g c =
+    omega (arith, c.entries.invariant.looks, c.note_near-noted.ensures.steps, c.note_near-noted.ensures.next,
+    few_last c.args.object (view_of c.args.heap.now) (view_of c.entries.heap) c.entries.from c.note_near-noted.result.next c.entries.invariant.lowering.within c.entries.invariant.lowering.lowered.rest.same c.note_near-noted.ensures.next (omega (arith, c.note_near-noted.ensures.next, c.if-noted-from-lt-AT_ONCE.true)))
+
+pub entries-smaller : goal.entries-smaller
+entries-smaller g c =
+    let so = lowering_more c.args.object (view_of c.args.heap.now) (view_of c.entries.heap) (view_of c.lower_each.new.heap) c.entries.from c.note_near-noted.result.next c.entries.invariant.lowering c.note_near-noted.ensures.next
+    (subst (λ (xs : List ℕ). Lowered xs (view_of c.entries.heap) (view_of c.lower_each.new.heap)) c.note_near-noted.ensures.references c.lower_each.ensures) in
+    omega (arith, so.within, c.if-noted-from-lt-AT_ONCE.false, c.note_near-noted.ensures.next)
+
+pub entries-preserved : goal.entries-preserved
+entries-preserved g c = record {
+  lowering = lowering_more c.args.object (view_of c.args.heap.now) (view_of c.entries.heap) (view_of c.lower_each.new.heap) c.entries.from c.note_near-noted.result.next c.entries.invariant.lowering c.note_near-noted.ensures.next
+    (subst (λ (xs : List ℕ). Lowered xs (view_of c.entries.heap) (view_of c.lower_each.new.heap)) c.note_near-noted.ensures.references c.lower_each.ensures);
+  looks = omega (arith, c.entries.invariant.looks, c.note_near-noted.ensures.steps, c.note_near-noted.ensures.next);
+  space = omega (arith, c.note_near-noted.ensures.room, c.entries.invariant.space);
 }
-
-pub look_near-entry-requires-clause-live : goal.look_near-entry-requires-clause-live
-look_near-entry-requires-clause-live g c = live_same (view_of c.args.heap.now) (view_of c.loop-i.heap) c.args.object c.loop-i.invariant.lowering.lowered.rest.same c.requires.live
-
-pub look_near-entry-requires-clause-within : goal.look_near-entry-requires-clause-within
-look_near-entry-requires-clause-within g c = omega (arith, length_same (view_of c.args.heap.now) (view_of c.loop-i.heap) c.args.object c.loop-i.invariant.lowering.lowered.rest.same)

@@ -1,32 +1,50 @@
+use Rattle.std.proofs.Common.{◌≡◌, ◌+◌, List, ℕ, length, sym, ap, subst, refl, arith}
+use Rattle.std.specs.Prelude.{IsTrue}
+use Rattle.cg_graph.specs.Member.{Includes}
+use Rattle.cg_graph.specs.Holdings.{occurrences}
+use Rattle.cg_kind.specs.Calls.{next_entries}
 use Rattle.cg_trial.specs.View.{view_of}
-use Rattle.std.proofs.Common.{arith}
-use Rattle.cg_trial.proofs.Entries.{entry_live_value, entry_live_key, live_same, length_same}
+use Rattle.cg_trial.specs.Sift.{Woken}
+use Rattle.cg_trial.proofs.Entries.{live_same, length_same, next_live, few_last}
 use Rattle.cg_trial.proofs.Waking.{waking_first, waking_more, waking_all}
 use Rattle.cg_trial.proofs.subtraction.take_back_all.Goals as goal
 
-pub loop-i-init : goal.loop-i-init
-loop-i-init g c = record { waking = waking_first _ _; looks = omega arith }
+pub entries-init : goal.entries-init
+entries-init g c = record { waking = waking_first _ _; looks = omega arith; space = refl }
 
-pub take_back-requires : goal.take_back-requires
-take_back-requires g c =
-    record { live = entry_live_value _ (view_of c.args.heap.now) (view_of c.loop-i.heap) _ _ c.requires.ready c.requires.live c.loop-i.invariant.waking.woken.same c.look_near-entry.ensures.entry }
+pub note_near-noted-requires-clause-live : goal.note_near-noted-requires-clause-live
+note_near-noted-requires-clause-live g c = live_same (view_of c.args.heap.now) (view_of c.entries.heap) c.args.object c.entries.invariant.waking.woken.same c.requires.live
 
-pub take_back-requires-in-loop-i : goal.take_back-requires-in-loop-i
-take_back-requires-in-loop-i g c =
-    record { live = entry_live_key _ (view_of c.args.heap.now) (view_of c.loop-i.heap) _ _ _ c.requires.ready c.requires.live c.loop-i.invariant.waking.woken.same c.take_back.ensures.same c.look_near-entry.ensures.entry }
+pub note_near-noted-requires-clause-within : goal.note_near-noted-requires-clause-within
+note_near-noted-requires-clause-within g c = omega (arith, c.entries.invariant.waking.within, length_same (view_of c.args.heap.now) (view_of c.entries.heap) c.args.object c.entries.invariant.waking.woken.same)
 
-pub loop-i-preserved : goal.loop-i-preserved
-loop-i-preserved g c = record {
-  waking = waking_more _ _ _ _ _ _ _ c.loop-i.invariant.waking c.look_near-entry.ensures.entry c.take_back.ensures c.take_back-in-loop-i.ensures;
-  looks = omega arith;
+pub take_back_each-requires : goal.take_back_each-requires
+take_back_each-requires g c = λ p h.
+    next_live (view_of c.args.heap.now) (view_of c.entries.heap) c.args.object c.entries.from c.requires.ready c.requires.live c.entries.invariant.waking.woken.same p
+    (subst (λ (xs : List ℕ). Includes xs p) c.note_near-noted.ensures.references h)
+
+pub returns-then-noted-from-lt-AT_ONCE-clause-woken : goal.returns-then-noted-from-lt-AT_ONCE-clause-woken
+returns-then-noted-from-lt-AT_ONCE-clause-woken g c =
+    waking_all c.args.object (view_of c.args.heap.now) (view_of c.take_back_each.new.heap) c.note_near-noted.result.next
+    (few_last c.args.object (view_of c.args.heap.now) (view_of c.entries.heap) c.entries.from c.note_near-noted.result.next c.entries.invariant.waking.within c.entries.invariant.waking.woken.same c.note_near-noted.ensures.next (omega (arith, c.note_near-noted.ensures.next, c.if-noted-from-lt-AT_ONCE.true)))
+    (waking_more c.args.object (view_of c.args.heap.now) (view_of c.entries.heap) (view_of c.take_back_each.new.heap) c.entries.from c.note_near-noted.result.next c.entries.invariant.waking c.note_near-noted.ensures.next
+    (subst (λ (xs : List ℕ). Woken xs (view_of c.entries.heap) (view_of c.take_back_each.new.heap)) c.note_near-noted.ensures.references c.take_back_each.ensures))
+
+pub returns-then-noted-from-lt-AT_ONCE-clause-looks : goal.returns-then-noted-from-lt-AT_ONCE-clause-looks
+returns-then-noted-from-lt-AT_ONCE-clause-looks g c =
+    omega (arith, c.entries.invariant.looks, c.note_near-noted.ensures.steps, c.note_near-noted.ensures.next,
+    few_last c.args.object (view_of c.args.heap.now) (view_of c.entries.heap) c.entries.from c.note_near-noted.result.next c.entries.invariant.waking.within c.entries.invariant.waking.woken.same c.note_near-noted.ensures.next (omega (arith, c.note_near-noted.ensures.next, c.if-noted-from-lt-AT_ONCE.true)))
+
+pub entries-smaller : goal.entries-smaller
+entries-smaller g c =
+    let so = waking_more c.args.object (view_of c.args.heap.now) (view_of c.entries.heap) (view_of c.take_back_each.new.heap) c.entries.from c.note_near-noted.result.next c.entries.invariant.waking c.note_near-noted.ensures.next
+    (subst (λ (xs : List ℕ). Woken xs (view_of c.entries.heap) (view_of c.take_back_each.new.heap)) c.note_near-noted.ensures.references c.take_back_each.ensures) in
+    omega (arith, so.within, c.if-noted-from-lt-AT_ONCE.false, c.note_near-noted.ensures.next)
+
+pub entries-preserved : goal.entries-preserved
+entries-preserved g c = record {
+  waking = waking_more c.args.object (view_of c.args.heap.now) (view_of c.entries.heap) (view_of c.take_back_each.new.heap) c.entries.from c.note_near-noted.result.next c.entries.invariant.waking c.note_near-noted.ensures.next
+    (subst (λ (xs : List ℕ). Woken xs (view_of c.entries.heap) (view_of c.take_back_each.new.heap)) c.note_near-noted.ensures.references c.take_back_each.ensures);
+  looks = omega (arith, c.entries.invariant.looks, c.note_near-noted.ensures.steps, c.note_near-noted.ensures.next);
+  space = omega (arith, c.note_near-noted.ensures.room, c.entries.invariant.space);
 }
-
-pub look_near-entry-requires-clause-live : goal.look_near-entry-requires-clause-live
-look_near-entry-requires-clause-live g c = live_same (view_of c.args.heap.now) (view_of c.loop-i.heap) c.args.object c.loop-i.invariant.waking.woken.same c.requires.live
-
-pub look_near-entry-requires-clause-within : goal.look_near-entry-requires-clause-within
-look_near-entry-requires-clause-within g c = omega (arith, length_same (view_of c.args.heap.now) (view_of c.loop-i.heap) c.args.object c.loop-i.invariant.waking.woken.same)
-
-pub returns-clause-woken : goal.returns-clause-woken
-returns-clause-woken g c =
-    waking_all c.args.object (view_of c.args.heap.now) (view_of c.loop-i.heap) c.loop-i.i (omega (arith, c.loop-i-test.false, c.loop-i.auto.i-end, c.len_near-i-end.ensures)) c.loop-i.invariant.waking

@@ -1,10 +1,14 @@
 use Rattle.cg_trial.specs.View.{view_of}
-use Rattle.std.proofs.Common.{◌≡◌, ◌+◌}
+use Rattle.std.proofs.Common.{◌≡◌, ◌+◌, ◌-◌, length}
 use Rattle.cg_trial.proofs.Waking.{Waking}
 use Rattle.cg_trial.proofs.subtraction.take_back_all.Given as goal
 
-abbrev pub invariant-loop-i : goal.invariant-loop-i
-invariant-loop-i g l = record {
-  waking : Waking l.object (view_of l.fn.heap) (view_of l.heap) l.i;
-  looks : l.steps ≡ l.fn.steps + l.i;
+abbrev pub invariant-entries : goal.invariant-entries
+invariant-entries g l = record {
+  waking : Waking l.object (view_of l.fn.heap) (view_of l.heap) l.from;
+  looks : l.steps ≡ l.fn.steps + l.from;
+  space : length l.found ≡ length l.fn.found;
 }
+
+abbrev pub decreases-entries : goal.decreases-entries
+decreases-entries g l = length ((view_of l.fn.heap).entries l.object) - l.from

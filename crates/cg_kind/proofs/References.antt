@@ -1,0 +1,58 @@
+-- The references of some of an object's entries: of the first, of one more, and of those from a place on.
+use Rattle.std.proofs.Common.{◌≡◌, ◌∙◌, refl, ap, sym, ℕ, ◌+◌, ◌<◌, ◌≤◌, List, [], ◌∷◌, ◌++◌, Some, length, take, drop, get_or, arith, inl, inr, append_assoc}
+use Rattle.std.proofs.lemmas.List.{append-nil, length-drop, length-take, take_all, take_more, take-append-drop}
+use Rattle.std.proofs.lemmas.Option.{slice_get_within, get_or_from_slice_get}
+use Rattle.std.specs.Prelude.{slice_get}
+use Rattle.std.proofs.lemmas.Bool.{cases_lt}
+use Rattle.std.proofs.lemmas.Grind.{flat_map-append}
+use Rattle.std.proofs.Math.Seq.{take-add}
+use Rattle.cg_value.specs.declared.Entry.{Entry}
+use Rattle.cg_graph.specs.Value.{entry_references, references}
+use Rattle.cg_kind.specs.Calls.{next_entries}
+
+-- the references of one entry more
+pub references_more : (es : List Entry) (i : ℕ) (e : Entry) → slice_get es i ≡ Some e → references (take (i + 1) es) ≡ references (take i es) ++ entry_references e
+references_more es i e here =
+    ap references (take_more es i e (slice_get_within es i e here))
+    ∙ flat_map-append entry_references (take i es) (get_or es i e ∷ [])
+    ∙ ap (λ x. references (take i es) ++ (entry_references x ++ [])) (get_or_from_slice_get es i e e here)
+    ∙ ap (λ (l : List ℕ). references (take i es) ++ l) (append-nil (entry_references e))
+
+-- those before an entry, its own, and those behind it
+pub references_split : (es : List Entry) (i : ℕ) (e : Entry) → slice_get es i ≡ Some e → references es ≡ references (take i es) ++ (entry_references e ++ references (drop (i + 1) es))
+references_split es i e here =
+    ap references (sym (take-append-drop (i + 1) es))
+    ∙ flat_map-append entry_references (take (i + 1) es) (drop (i + 1) es)
+    ∙ ap (λ (l : List ℕ). l ++ references (drop (i + 1) es)) (references_more es i e here)
+    ∙ append_assoc (references (take i es)) (entry_references e) (references (drop (i + 1) es))
+
+-- as many as a front has are that front
+pub take_again : (es : List Entry) (n k : ℕ) → n ≡ length (take k es) → take n es ≡ take k es
+take_again es n k is = elim (cases_lt k (length es)) [
+  | inl within ↦ (let m : n ≡ k = omega (arith, is, within, length-take k es) in ap (λ j. take j es) m)
+  | inr all ↦ take_all n es (omega (arith, is, all, length-take k es)) ∙ sym (take_all k es all)
+]
+
+-- they end where the entries end, or are eight
+pub next_within : (es : List Entry) (from : ℕ) → from ≤ length es → from + length (next_entries es from) ≤ length es
+next_within es from h = omega (arith, h, length-take 8 (drop from es), length-drop from es)
+
+pub next_last : (es : List Entry) (from : ℕ) → from ≤ length es → length (next_entries es from) < 8 → from + length (next_entries es from) ≡ length es
+next_last es from h few = omega (arith, h, few, length-take 8 (drop from es), length-drop from es)
+
+-- those before and they
+pub taken_next : (es : List Entry) (from : ℕ) → take (from + length (next_entries es from)) es ≡ take from es ++ next_entries es from
+taken_next es from =
+    take-add from (length (next_entries es from)) es
+    ∙ ap (λ (l : List Entry). take from es ++ l) (take_again (drop from es) (length (next_entries es from)) 8 refl)
+
+pub references_next : (es : List Entry) (from : ℕ) → references (take (from + length (next_entries es from)) es) ≡ references (take from es) ++ references (next_entries es from)
+references_next es from = ap references (taken_next es from) ∙ flat_map-append entry_references (take from es) (next_entries es from)
+
+-- those before, they, and those behind
+pub references_parts : (es : List Entry) (from : ℕ) → references es ≡ (references (take from es) ++ references (next_entries es from)) ++ references (drop (from + length (next_entries es from)) es)
+references_parts es from =
+    let to = from + length (next_entries es from) in
+    ap references (sym (take-append-drop to es))
+    ∙ flat_map-append entry_references (take to es) (drop to es)
+    ∙ ap (λ (l : List ℕ). l ++ references (drop to es)) (references_next es from)

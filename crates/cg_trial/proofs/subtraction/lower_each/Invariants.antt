@@ -1,0 +1,6 @@
+use Rattle.cg_trial.specs.View.{view_of, Lowered}
+use Rattle.std.proofs.Common.{take}
+use Rattle.cg_trial.proofs.subtraction.lower_each.Given as goal
+
+abbrev pub invariant-objects : goal.invariant-objects
+invariant-objects g l = Lowered (take l.object-index l.objects) (view_of l.fn.heap) (view_of l.heap)
