@@ -24,7 +24,7 @@ use Rattle.cg_heap.specs.Calls.{IsListed}
 use Rattle.cg_trial.specs.View.{targets}
 use Rattle.cg_trial.specs.Split.{IsSameButPlaces, IsSameNode}
 use Rattle.cg_trial.proofs.Lists.{IsAt, ahead, ahead_is, occurs, without-absent}
-use Rattle.cg_trial.proofs.Entries.{references_more}
+use Rattle.cg_kind.proofs.References.{references_in_turn}
 use Rattle.cg_trial.proofs.Splits.{arrow}
 use Rattle.cg_trial.proofs.Placed.{once_at, apart, is_there}
 use Rattle.cg_collect.specs.Starting.{StaysAt, SetsLegacyAside, SetsFinalizedAside, SetsReferencesAside, Closes, IsLedByLegacy, FollowsLegacy, has_legacy_in}
@@ -89,7 +89,7 @@ setting_first o store = record { so_far = aside_none store }
 
 pub setting_more : (o : ℕ) (old mid half new : Store) (i : ℕ) (e : Entry) → Setting o old mid i → slice_get (entries_of mid o) i ≡ Some e → SetsReferencesAside (targets e.val) mid half → SetsReferencesAside (targets e.key) half new → Setting o old new (i + 1)
 setting_more o old mid half new i e so is one two = record {
-  so_far = subst (λ (r : List ℕ). SetsReferencesAside r old new) (sym (references_more (entries_of old o) i e (ap (λ es. slice_get es i) (sym (entries_on old mid so.so_far.same o)) ∙ is)))
+  so_far = subst (λ (r : List ℕ). SetsReferencesAside r old new) (sym (references_in_turn (entries_of old o) i e (ap (λ es. slice_get es i) (sym (entries_on old mid so.so_far.same o)) ∙ is)))
       (aside_more (references (take i (entries_of old o)) ++ targets e.val) (targets e.key) old half new
       (aside_more (references (take i (entries_of old o))) (targets e.val) old mid half so.so_far one) two);
 }

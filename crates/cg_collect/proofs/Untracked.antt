@@ -25,7 +25,7 @@ use Rattle.cg_heap.specs.Calls.{IsListed, node_may_be_tracked, code_may_be_track
 use Rattle.cg_trial.specs.View.{targets}
 use Rattle.cg_trial.specs.Split.{IsSameButPlaces, IsSameNode}
 use Rattle.cg_trial.proofs.Lists.{IsAt, ahead, ahead_is}
-use Rattle.cg_trial.proofs.Entries.{references-append, references_more}
+use Rattle.cg_kind.proofs.References.{references-append, references_in_turn}
 use Rattle.cg_trial.proofs.Placed.{is_there}
 use Rattle.cg_collect.specs.Starting.{StaysAt, Untracks, WasUntracked, UntracksOne, has_tracked}
 use Rattle.cg_collect.proofs.Standing.{same_itself, same_more, code_on, code_back, entries_on, lives_at}
@@ -119,7 +119,7 @@ some_more : (store : Store) (o i : ℕ) (e : Entry) → slice_get (entries_of st
     → list_any (trackable store) (references (take (i + 1) (entries_of store o))) ≡ ((list_any (trackable store) (references (take i (entries_of store o))) || may_be_tracked store e.val) || may_be_tracked store e.key)
 some_more store o i e at =
     let es = entries_of store o in
-    ap (list_any (trackable store)) (references_more es i e at)
+    ap (list_any (trackable store)) (references_in_turn es i e at)
     ∙ list_any-append (trackable store) (references (take i es) ++ targets e.val) (targets e.key)
     ∙ (λ j. (list_any-append (trackable store) (references (take i es)) (targets e.val) ∙ (λ k. list_any (trackable store) (references (take i es)) || value_any store e.val k)) j || value_any store e.key j)
 

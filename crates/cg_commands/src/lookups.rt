@@ -123,6 +123,7 @@ pub(crate) fn deref<B: Kind>(
 }
 
 /// An entry, and where it stands.
+#[derive(Clone, Copy)]
 struct Found {
     at: usize,
     entry: Entry,

@@ -16,7 +16,7 @@ use Rattle.cg_graph.specs.Store.{Store, objects_of, entries_of, inner, count_of,
 use Rattle.cg_graph.proofs.Members.{either, Includes-append_left, Includes-append_right, Includes-append_cases, Includes-map, Includes-map_cases, Includes-of, includes-of}
 use Rattle.cg_graph.proofs.Objects.{occurrences-append, inner-holdings}
 use Rattle.cg_heap.proofs.HoldLemmas.{outside_live, entries_hold}
-use Rattle.cg_kind.proofs.References.{references_more, references_split}
+use Rattle.cg_kind.proofs.References.{references_more, references_in_turn, references_split}
 use Rattle.cg_trial.proofs.Lists.{occurs}
 use Rattle.cg_trial.proofs.Objects.{edges_of_objects}
 use Rattle.cg_inspect.specs.Inspection.{holdings_but_entries, HeldElse, arrows_of}
@@ -27,7 +27,7 @@ use Rattle.cg_inspect.proofs.Trails.{next_taken, get_below, get_in, start_more, 
 
 -- the references of one entry more
 pub references_next : (es : List Entry) (i : ℕ) (e : Entry) → slice_get es i ≡ Some e → references (take (i + 1) es) ≡ (references (take i es) ++ references_of_value (Some e.val)) ++ references_of_value (Some e.key)
-references_next es i e at = references_more es i e at ∙ sym (append_assoc (references (take i es)) (references_of_value (Some e.val)) (references_of_value (Some e.key)))
+references_next es i e at = references_in_turn es i e at
 
 pub listed_next : (es : List Entry) (i : ℕ) (e : Entry) (listed half now : List ℕ) → slice_get es i ≡ Some e → listed ≡ references (take i es) → half ≡ listed ++ references_of_value (Some e.val) → now ≡ half ++ references_of_value (Some e.key)
     → now ≡ references (take (i + 1) es)

@@ -18,7 +18,7 @@ use Rattle.cg_graph.specs.Value.{references, references_of_value}
 use Rattle.cg_graph.specs.Store.{Store, list_at, place_of, entries_of, count_of}
 use Rattle.cg_heap.specs.Calls.{IsListed}
 use Rattle.cg_arena.specs.Nodes.{following}
-use Rattle.cg_kind.proofs.References.{references_more, references_split}
+use Rattle.cg_kind.proofs.References.{references_in_turn, references_split}
 use Rattle.cg_trial.proofs.Lists.{IsAt, ahead, head_is}
 use Rattle.cg_trial.proofs.Scenes.{Along, along_more, along_end}
 use Rattle.cg_records.specs.Members.{member}
@@ -63,7 +63,7 @@ module _ (store : Store) (d : Detection) where
     pub entry_more : (a b c k : Option (List ℕ)) → Appends a b (r (references (take i es))) → Appends b c (r value) → Appends c k (r key) → Appends a k (r (references (take (i + 1) es)))
     entry_more a b c k so first second =
         subst (Appends a k)
-        (sym (ap r (references_more es i e at ∙ sym (append_assoc (references (take i es)) value key)) ∙ r-append (references (take i es) ++ value) key ∙ ap (λ t. t ++ r key) (r-append (references (take i es)) value)))
+        (sym (ap r (references_in_turn es i e at) ∙ r-append (references (take i es) ++ value) key ∙ ap (λ t. t ++ r key) (r-append (references (take i es)) value)))
         (Appends-trans a c k _ _ (Appends-trans a b c _ _ so first) second)
 
     whole : r (references es) ≡ r (references (take i es)) ++ (r value ++ (r key ++ r (references (drop (i + 1) es))))

@@ -2,27 +2,35 @@
 use Rattle.std.proofs.Common.{◌≡◌, ◌∙◌, refl, ap, sym, ℕ, ◌+◌, ◌<◌, ◌≤◌, List, [], ◌∷◌, ◌++◌, Some, length, take, drop, get_or, arith, inl, inr, append_assoc}
 use Rattle.std.proofs.lemmas.List.{append-nil, length-drop, length-take, take_all, take_more, take-append-drop}
 use Rattle.std.proofs.lemmas.Option.{slice_get_within, get_or_from_slice_get}
-use Rattle.std.specs.Prelude.{slice_get}
+use Rattle.std.specs.Prelude.{slice_get, option_to_list}
 use Rattle.std.proofs.lemmas.Bool.{cases_lt}
 use Rattle.std.proofs.lemmas.Grind.{flat_map-append}
 use Rattle.std.proofs.Math.Seq.{take-add}
 use Rattle.cg_value.specs.declared.Entry.{Entry}
-use Rattle.cg_graph.specs.Value.{entry_references, references}
+use Rattle.cg_graph.specs.Value.{reference_in, entry_references, references}
 use Rattle.cg_kind.specs.Calls.{next_entries}
+
+pub references-append : (xs ys : List Entry) → references (xs ++ ys) ≡ references xs ++ references ys
+references-append xs ys = flat_map-append entry_references xs ys
 
 -- the references of one entry more
 pub references_more : (es : List Entry) (i : ℕ) (e : Entry) → slice_get es i ≡ Some e → references (take (i + 1) es) ≡ references (take i es) ++ entry_references e
 references_more es i e here =
     ap references (take_more es i e (slice_get_within es i e here))
-    ∙ flat_map-append entry_references (take i es) (get_or es i e ∷ [])
+    ∙ references-append (take i es) (get_or es i e ∷ [])
     ∙ ap (λ x. references (take i es) ++ (entry_references x ++ [])) (get_or_from_slice_get es i e e here)
     ∙ ap (λ (l : List ℕ). references (take i es) ++ l) (append-nil (entry_references e))
+
+-- and these in turn: that of its value, and that of its key
+pub references_in_turn : (es : List Entry) (i : ℕ) (e : Entry) → slice_get es i ≡ Some e
+    → references (take (i + 1) es) ≡ (references (take i es) ++ option_to_list (reference_in e.val)) ++ option_to_list (reference_in e.key)
+references_in_turn es i e here = references_more es i e here ∙ sym (append_assoc (references (take i es)) (option_to_list (reference_in e.val)) (option_to_list (reference_in e.key)))
 
 -- those before an entry, its own, and those behind it
 pub references_split : (es : List Entry) (i : ℕ) (e : Entry) → slice_get es i ≡ Some e → references es ≡ references (take i es) ++ (entry_references e ++ references (drop (i + 1) es))
 references_split es i e here =
     ap references (sym (take-append-drop (i + 1) es))
-    ∙ flat_map-append entry_references (take (i + 1) es) (drop (i + 1) es)
+    ∙ references-append (take (i + 1) es) (drop (i + 1) es)
     ∙ ap (λ (l : List ℕ). l ++ references (drop (i + 1) es)) (references_more es i e here)
     ∙ append_assoc (references (take i es)) (entry_references e) (references (drop (i + 1) es))
 
@@ -47,12 +55,12 @@ taken_next es from =
     ∙ ap (λ (l : List Entry). take from es ++ l) (take_again (drop from es) (length (next_entries es from)) 8 refl)
 
 pub references_next : (es : List Entry) (from : ℕ) → references (take (from + length (next_entries es from)) es) ≡ references (take from es) ++ references (next_entries es from)
-references_next es from = ap references (taken_next es from) ∙ flat_map-append entry_references (take from es) (next_entries es from)
+references_next es from = ap references (taken_next es from) ∙ references-append (take from es) (next_entries es from)
 
 -- those before, they, and those behind
 pub references_parts : (es : List Entry) (from : ℕ) → references es ≡ (references (take from es) ++ references (next_entries es from)) ++ references (drop (from + length (next_entries es from)) es)
 references_parts es from =
     let to = from + length (next_entries es from) in
     ap references (sym (take-append-drop to es))
-    ∙ flat_map-append entry_references (take to es) (drop to es)
+    ∙ references-append (take to es) (drop to es)
     ∙ ap (λ (l : List ℕ). l ++ references (drop to es)) (references_next es from)

@@ -1,12 +1,12 @@
 -- What trial subtraction sees of a heap, and what the calls that it makes change of that. (Ours.)
-use Rattle.std.specs.Prelude.{◌≡◌, ◌≢◌, ℕ, ◌+◌, ◌≤◌, Bool, IsTrue, List, [], ◌∷◌, ◌++◌, ◌==◌, cond, Option, Some, None, is_some, option_map, flat_map, slice_get}
+use Rattle.std.specs.Prelude.{◌≡◌, ◌≢◌, ℕ, ◌+◌, ◌≤◌, Bool, IsTrue, List, [], ◌∷◌, ◌++◌, ◌==◌, cond, Option, Some, None, is_some, option_map, option_to_list, flat_map, slice_get}
 use Rattle.std.specs.FinMap as fin
 use Rattle.cg_value.specs.declared.Val.{Val}
 use Rattle.cg_value.specs.declared.Entry.{Entry}
 use Rattle.cg_value.specs.declared.Place.{Place}
 use Rattle.cg_value.specs.declared.Place.TheVariants.{Cand, Untracked}
 use Rattle.cg_graph.specs.Member.{Includes}
-use Rattle.cg_graph.specs.Value.{references}
+use Rattle.cg_graph.specs.Value.{references, reference_in}
 use Rattle.cg_graph.specs.Holdings.{occurrences}
 use Rattle.cg_graph.specs.Places.{without_serial}
 use Rattle.cg_graph.specs.Rows.{Row}
@@ -90,6 +90,10 @@ head_of xs = slice_get xs 0
 -- what comes after an object in a list where it stands
 abbrev pub IsNext : View → ℕ → Option ℕ → Type 0
 IsNext v o result = (place : Place) (front back : List ℕ) → v.listed place ≡ front ++ o ∷ back → result ≡ head_of back
+
+-- the reference of a value, if it is one
+abbrev pub targets : Val → List ℕ
+targets value = option_to_list (reference_in value)
 
 -- what the entries of some objects hold
 abbrev pub held_by : View → List ℕ → List ℕ

@@ -32,8 +32,13 @@ returns-then-noted-from-lt-AT_ONCE-clause-lowered g c =
 
 pub returns-then-noted-from-lt-AT_ONCE-clause-looks : goal.returns-then-noted-from-lt-AT_ONCE-clause-looks
 returns-then-noted-from-lt-AT_ONCE-clause-looks g c =
-    omega (arith, c.entries.invariant.looks, c.note_near-noted.ensures.steps, c.note_near-noted.ensures.next,
-    few_last c.args.object (view_of c.args.heap.now) (view_of c.entries.heap) c.entries.from c.note_near-noted.result.next c.entries.invariant.lowering.within c.entries.invariant.lowering.lowered.rest.same c.note_near-noted.ensures.next (omega (arith, c.note_near-noted.ensures.next, c.if-noted-from-lt-AT_ONCE.true)))
+    omega (
+      arith,
+      c.entries.invariant.looks,
+      c.note_near-noted.ensures.steps,
+      c.note_near-noted.ensures.next,
+      few_last c.args.object (view_of c.args.heap.now) (view_of c.entries.heap) c.entries.from c.note_near-noted.result.next c.entries.invariant.lowering.within c.entries.invariant.lowering.lowered.rest.same c.note_near-noted.ensures.next (omega (arith, c.note_near-noted.ensures.next, c.if-noted-from-lt-AT_ONCE.true)),
+    )
 
 pub entries-smaller : goal.entries-smaller
 entries-smaller g c =
@@ -44,7 +49,7 @@ entries-smaller g c =
 pub entries-preserved : goal.entries-preserved
 entries-preserved g c = record {
   lowering = lowering_more c.args.object (view_of c.args.heap.now) (view_of c.entries.heap) (view_of c.lower_each.new.heap) c.entries.from c.note_near-noted.result.next c.entries.invariant.lowering c.note_near-noted.ensures.next
-    (subst (λ (xs : List ℕ). Lowered xs (view_of c.entries.heap) (view_of c.lower_each.new.heap)) c.note_near-noted.ensures.references c.lower_each.ensures);
+      (subst (λ (xs : List ℕ). Lowered xs (view_of c.entries.heap) (view_of c.lower_each.new.heap)) c.note_near-noted.ensures.references c.lower_each.ensures);
   looks = omega (arith, c.entries.invariant.looks, c.note_near-noted.ensures.steps, c.note_near-noted.ensures.next);
   space = omega (arith, c.note_near-noted.ensures.room, c.entries.invariant.space);
 }
