@@ -131,12 +131,7 @@ struct Found {
 
 /// The entry at an index of an object that is near.
 #[inline(always)]
-fn entry_in<B: Kind>(
-    heap: &Heap<B>,
-    target: u64,
-    near: Near,
-    index: i64,
-) -> Result<Found, Refusal>
+fn entry_in<B: Kind>(heap: &Heap<B>, target: u64, near: Near, index: i64) -> Result<Found, Refusal>
     requires { IsLive heap.now target }
     ensures ok { IfOk result (λ f. valid_index index (length (entries_of heap.now target)) ≡ Some f.at) }
     ensures entry { IfOk result (λ f. slice_get (entries_of heap.now target) f.at ≡ Some f.entry) }

@@ -1,6 +1,6 @@
 -- The walk over one object's entries: what the first of them refer to, and what the next one does.
 use Rattle.std.proofs.Common.{◌≡◌, refl, sym, ◌∙◌, ap, subst, ℕ, ◌+◌, ◌<◌, ◌≤◌, List, [], ◌∷◌, ◌++◌, length, take, drop, get_or, inl, Option, Some, None, Bool, IsTrue, arith, append_assoc}
-use Rattle.std.proofs.lemmas.List.{append-nil, take-append-drop, drop_more, take_more}
+use Rattle.std.proofs.lemmas.List.{append-nil, take-append-drop, drop_more}
 use Rattle.cg_kind.specs.Calls.{next_entries}
 use Rattle.cg_kind.proofs.References.{next_within, next_last, references_next, references_parts}
 use Rattle.std.proofs.Math.Seq.{take-length}

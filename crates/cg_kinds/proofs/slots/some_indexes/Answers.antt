@@ -1,4 +1,4 @@
-use Rattle.std.proofs.Common.{◌≡◌, ◌∙◌, ◌-◌, ◌++◌, ◌∷◌, [], List, ℕ, None, Some, sym, ap, get_or, drop, length, arith, length-append}
+use Rattle.std.proofs.Common.{◌∙◌, ◌-◌, ◌++◌, ◌∷◌, [], List, ℕ, None, Some, sym, ap, get_or, drop, length, arith, length-append}
 use Rattle.std.proofs.lemmas.List.{append-nil, get_or_default, length-drop}
 use Rattle.cg_kinds.proofs.SlotLemmas.{pair_read, indexes_more, first_eight, all_eight, none_told}
 use Rattle.cg_kinds.proofs.slots.some_indexes.Goals as goal

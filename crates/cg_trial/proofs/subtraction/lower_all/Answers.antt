@@ -1,8 +1,6 @@
-use Rattle.std.proofs.Common.{◌≡◌, ◌≤◌, ◌+◌, List, ℕ, length, sym, ap, subst, arith}
-use Rattle.std.specs.Prelude.{IsTrue}
+use Rattle.std.proofs.Common.{◌≤◌, List, ℕ, sym, subst, arith}
 use Rattle.cg_graph.specs.Member.{Includes}
 use Rattle.cg_graph.specs.Holdings.{occurrences}
-use Rattle.cg_kind.specs.Calls.{next_entries}
 use Rattle.cg_trial.specs.View.{view_of, Lowered}
 use Rattle.cg_trial.proofs.Entries.{live_same, length_same, next_live, few_last, lowering_room, lowering_more, lowering_all}
 use Rattle.cg_trial.proofs.subtraction.lower_all.Goals as goal

@@ -1,8 +1,5 @@
-use Rattle.std.proofs.Common.{◌≡◌, ◌+◌, List, ℕ, length, sym, ap, subst, refl, arith}
-use Rattle.std.specs.Prelude.{IsTrue}
+use Rattle.std.proofs.Common.{List, ℕ, subst, refl, arith}
 use Rattle.cg_graph.specs.Member.{Includes}
-use Rattle.cg_graph.specs.Holdings.{occurrences}
-use Rattle.cg_kind.specs.Calls.{next_entries}
 use Rattle.cg_trial.specs.View.{view_of}
 use Rattle.cg_trial.specs.Sift.{Woken}
 use Rattle.cg_trial.proofs.Entries.{live_same, length_same, next_live, few_last}

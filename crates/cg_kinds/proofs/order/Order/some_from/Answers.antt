@@ -1,5 +1,4 @@
-use Rattle.std.proofs.Common.{◌≡◌, ◌∙◌, ◌<◌, List, ℕ, ap, sym, subst, drop, take, length}
-use Rattle.std.specs.Prelude.{All}
+use Rattle.std.proofs.Common.{◌≡◌, ◌∙◌, ap, sym, drop, take}
 use Rattle.cg_kinds.specs.Order.{indexes, pairs_before}
 use Rattle.cg_kinds.proofs.SlotLemmas.{indexes_behind}
 use Rattle.cg_kinds.proofs.OrderLemmas.{sound_order, some_within}

@@ -1,4 +1,4 @@
-use Rattle.std.proofs.Common.{◌≡◌, ◌∙◌, ℕ, ap, sym, Some, length, subst, arith, drop, take}
+use Rattle.std.proofs.Common.{◌≡◌, ◌∙◌, ℕ, ap, sym, length, subst, arith, drop, take}
 use Rattle.cg_value.specs.declared.Entry.{Entry}
 use Rattle.std.proofs.lemmas.List.{length-map, length-take, length-drop, take-map, drop-map}
 use Rattle.std.specs.Prelude.{slice_index_or}
