@@ -1,5 +1,5 @@
 -- Rows by rising weak reference: what a list of them has at each weak reference, and that this tells the whole list.
-use Rattle.std.proofs.Common.{◌≡◌, ◌≢◌, ◌⊎◌, ℕ, ◌<◌, ◌≤◌, Bool, true, false, not, cond, List, [], ◌∷◌, ◌++◌, Option, Some, None, refl, sym, ap, ◌∙◌, subst, inl, inr, arith}
+use Rattle.std.proofs.Common.{◌≡◌, ◌≢◌, ◌⊎◌, ℕ, ◌<◌, ◌≤◌, Bool, true, false, not, cond, List, [], ◌∷◌, ◌++◌, length, Option, Some, None, refl, sym, ap, ◌∙◌, subst, inl, inr, arith}
 use Rattle.std.specs.Prelude.{◌==◌, ◌&&◌, nat_lt, nat_eq, find, option_map, IsSome, if◌then◌else◌}
 use Rattle.std.specs.List.{All}
 use Rattle.std.proofs.lemmas.Bool.{cases_eq, cases_lt, eq-eqb, ne_eqb, lt-ltb, le-ltb}
@@ -270,3 +270,24 @@ found_there test (x ∷ rows) weak has = go (x.weak == weak) has (found_there te
         → IsSome (cond b (Some x) (row_at rows weak))
     go true has rest = refl
     go false has rest = rest has
+
+-- a row put among others is one of them
+put_some : (r : Row) (rows : List Row) → put_row r rows ≡ [] → ⊥
+put_some r [] none = absurd (cc)
+put_some r (x ∷ xs) none = go (nat_lt x.weak r.weak) (r.weak == x.weak) none
+  where
+    go : (a b : Bool) → (if a then x ∷ put_row r xs else (if b then r ∷ xs else r ∷ x ∷ xs)) ≡ [] → ⊥
+    go true b h = absurd (cc)
+    go false true h = absurd (cc)
+    go false false h = absurd (cc)
+
+-- there is no row where there is no node, and only there
+pub none-rows_of : (nodes : List (ℕ × Node)) → length nodes ≡ 0 → rows_of nodes ≡ []
+unfolding rows_of
+none-rows_of [] none = refl
+none-rows_of (e ∷ es) none = absurd (omega (arith, none))
+
+pub some-rows_of : (nodes : List (ℕ × Node)) → rows_of nodes ≡ [] → length nodes ≡ 0
+unfolding rows_of
+some-rows_of [] none = refl
+some-rows_of (e ∷ es) none = absurd (put_some (row_of e.0 e.1) (rows_of es) none)

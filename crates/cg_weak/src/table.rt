@@ -1,5 +1,5 @@
 //! The table: rows by weak reference, and the chains of each object.
-ghost use Rattle.std.specs.Prelude.{◌≡◌, ℕ, ◌+◌, ◌++◌, ◌∷◌, [], ◌<◌, ◌≤◌, slice_get, true, false, nat_eq, if◌then◌else◌, IsSome, Some, OnOk, OnErr, IsOk};
+ghost use Rattle.std.specs.Prelude.{◌≡◌, ℕ, ◌+◌, ◌++◌, ◌∷◌, [], ◌<◌, ◌≤◌, slice_get, true, false, nat_eq, if◌then◌else◌, IsTrue, ◌↔◌, IsSome, Some, OnOk, OnErr, IsOk};
 ghost use Rattle.std.specs.List.{All};
 ghost use Rattle.cg_graph.specs.Rows.{IsRising, referent_in, waited_in, weak_references_in, waiting_in, next_older_in, new_row, with_row_waiting, without_row};
 
@@ -47,6 +47,14 @@ impl WeakTable {
             nodes: IndexMap::with_hasher(alloc, serial_hashing()),
             chains: IndexMap::with_hasher(alloc, serial_hashing()),
         }
+    }
+
+    /// Whether no weak reference has a row: none has a referent, and none waits. (Ours.)
+    #[inline(always)]
+    pub fn is_empty(&self) -> bool
+        ensures { IsTrue result ↔ (self.now.rows ≡ []) }
+    {
+        self.nodes.len() == 0
     }
 
     /// Makes room for one more row, so that `attach_reserved` may be called. (Ours.)

@@ -1,5 +1,5 @@
 //! Weak references: which has which referent, and which wait for their callback with the one that they had.
-ghost use Rattle.std.specs.Prelude.{◌≡◌, IsSome, slice_get};
+ghost use Rattle.std.specs.Prelude.{◌≡◌, ◌↔◌, [], IsTrue, IsSome, slice_get};
 ghost use Rattle.cg_graph.specs.Rows.{referent_in, waited_in, weak_references_in, waiting_in, next_older_in};
 ghost use Rattle.cg_graph.specs.Store.{IsLive};
 ghost use Rattle.cg_heap.specs.Weak.{cleared_weak, forgotten_weak};
@@ -8,6 +8,14 @@ use super::Heap;
 use cg_kind::Kind;
 
 impl<B: Kind> Heap<B> {
+    /// Whether no weak reference has a referent, and none waits for its callback. (Ours.)
+    #[inline(always)]
+    pub fn is_unreferred(&self) -> bool
+        ensures { IsTrue result ↔ (self.now.rows ≡ []) }
+    {
+        self.weak.is_empty()
+    }
+
     /// The referent of a weak reference. `None` comes exactly where the object has no row or waits. (`weakref` manual: a
     /// reference object that is called gives its referent, or None once that is no longer alive.)
     pub fn referent_of(&self, weak: u64) -> Option<u64>
