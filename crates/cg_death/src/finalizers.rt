@@ -13,6 +13,7 @@ ghost use Rattle.cg_death.specs.Activities.{IsUnheld};
 ghost use Rattle.cg_death.specs.Turns.{TakesTurn};
 
 use crate::phase::{Phase, Turn};
+use crate::plain::is_plain;
 use cg_heap::Heap;
 use cg_kind::Kind;
 use cg_machine::{Event, FrameSort, FrameSpec};
@@ -76,12 +77,17 @@ pub fn finalizer_to_run<B: Kind>(heap: &Heap<B>, script: &Script, object: u64) -
     }
 }
 
-/// Runs the finalizer, if it has not run: the object is tracked in generation 0, marked and held for its frame.
+/// Runs the finalizer, if it has not run: the object is tracked in generation 0, marked and held for its frame. Where the death
+/// has nothing else to call either, its contents follow.
 pub fn run_finalizer<B: Kind>(object: u64, heap: &mut Heap<B>, script: &Script) -> Turn
     requires few { HasFewHolds heap.old }
     requires unheld { IsUnheld heap.old object }
     ensures { TakesTurn script.now heap.old object phase_of.Finalizer heap.new result }
 {
+    if is_plain(object, heap, script) {
+        heap.sound();
+        return Turn::to(Phase::Emptying);
+    }
     match finalizer_to_run(heap, script, object) {
         None => Turn::to(Phase::Clearing),
         Some(proc) => {

@@ -6,7 +6,7 @@
 //! - `answer`: what a step answers.
 //! - `release`: references that are given up one after the other.
 //! - `death`: the death of an object; `phase`: where it stands.
-//! - `finalizers`, `weak`, `contents`: its phases.
+//! - `finalizers`, `weak`, `contents`: its phases; `plain`: whether it comes to the last of them at once.
 #![tactic(auto)]
 
 mod answer;
@@ -14,6 +14,7 @@ mod contents;
 mod death;
 mod finalizers;
 mod phase;
+mod plain;
 mod release;
 mod weak;
 

@@ -6,6 +6,7 @@ use Rattle.cg_heap.specs.Calls.{HasFewHolds, with_node, marked}
 use Rattle.cg_heap.proofs.CallerLemmas.{lives_on, kinds-moved, kinds-with_node, total-moved, total-with_node}
 use Rattle.cg_death.specs.declared.phase.Phase.TheVariants as phase_of
 use Rattle.cg_death.proofs.Finalizing.{turn-no_finalizer, turn-finalizer}
+use Rattle.cg_death.proofs.Passing.{turn-plain, steady-plain}
 use Rattle.cg_death.proofs.LeavingTheRest.{rest-same, rest-own_frame}
 use Rattle.cg_death.proofs.Steadying.{steady-no_finalizer, steady-finalizer}
 use Rattle.cg_death.proofs.TakingTurns.{running, goes_on, runs}
@@ -27,9 +28,18 @@ hold-requires-clause-few g c =
     subst HasFewHolds (sym (c.set_finalized.ensures ∙ ap (with_node marked c.args.object) c.move_to.ensures))
     (omega (arith, c.requires.few, total-moved c.args.object (Gen 0) c.args.heap.now, total-with_node marked (λ n. refl) c.args.object (moved c.args.object (Gen 0) c.args.heap.now)))
 
+pub returns-then-is_plain : goal.returns-then-is_plain
+returns-then-is_plain g c =
+    let del = c.is_plain.ensures.del c.if-is_plain.true in
+    let legacy = c.is_plain.ensures.legacy c.if-is_plain.true in
+    let weak = c.is_plain.ensures.weak c.if-is_plain.true in
+    goes_on c.args.script.now c.args.heap.now _ _ refl c.args.object phase_of.Finalizer phase_of.Emptying c.to.result (rest-same c.args.heap.now)
+    (steady-plain c.args.script.now c.args.heap.now c.args.object del legacy weak c.sound.ensures.rows) c.to.ensures
+    (turn-plain c.args.script.now c.args.heap.now c.args.object del legacy weak) (omega arith) (λ over. absurd (cc))
+
 pub returns-in-None : goal.returns-in-None
 returns-in-None g c =
-    goes_on c.args.script.now c.args.heap.now _ _ refl c.args.object phase_of.Finalizer phase_of.Clearing c.to.result (rest-same c.args.heap.now) (steady-no_finalizer c.args.script.now c.args.heap.now c.args.object) c.to.ensures
+    goes_on c.args.script.now c.args.heap.now _ _ refl c.args.object phase_of.Finalizer phase_of.Clearing c.to-in-None.result (rest-same c.args.heap.now) (steady-no_finalizer c.args.script.now c.args.heap.now c.args.object) c.to-in-None.ensures
     (turn-no_finalizer c.args.script.now c.args.heap.now c.args.heap.now c.args.object (sym c.in-None.ensures)) (omega arith) (λ over. absurd (cc))
 
 pub returns-in-Some : goal.returns-in-Some
