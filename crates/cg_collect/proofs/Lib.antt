@@ -31,3 +31,4 @@ pub mod Staging
 pub mod GivingUp
 pub mod Stepping
 mod LookingTwice
+mod Unreferred

@@ -200,9 +200,9 @@ module _ (profile : ℕ) (store : Store) (walk : IsWalk profile store None None)
       missed : loses_in_weak_phase profile w.objects x ≡ true → ⊥
       missed loses = either (walk.none_missed x there (ap (λ (os : List Object). loses_in_weak_phase profile os x) same ∙ loses) plain) (λ k. k) (λ k. either k (λ a. a) (λ b. b.2))
 
-  pub turn-all_cleared : (script : Script) → profile_of script.items ≡ profile → (facts : Facts) (policy : Policy) → CollectSteps script (collection_at facts (phase_of.WeakClearing None None) None) store policy (collection_at facts phase_of.WeakCalling None) store policy answer_of.Continue
-  turn-all_cleared script in_profile facts policy =
-      steps_at script (collection_at facts (phase_of.WeakClearing None None) None) store policy (collection_at facts phase_of.WeakCalling None) store policy answer_of.Continue
+  pub turn-all_cleared : (script : Script) → profile_of script.items ≡ profile → (facts : Facts) (policy : Policy) (member : Option ℕ) → CollectSteps script (collection_at facts (phase_of.WeakClearing member None) None) store policy (collection_at facts phase_of.WeakCalling None) store policy answer_of.Continue
+  turn-all_cleared script in_profile facts policy member =
+      steps_at script (collection_at facts (phase_of.WeakClearing member None) None) store policy (collection_at facts phase_of.WeakCalling None) store policy answer_of.Continue
       (λ asked v below s.
       let pending : List ℕ = list_at store Pend in
       let c : machine.CollectPhase → machine.Collection = collection_of asked (collection_at facts phase_of.WeakCalling None) in

@@ -57,18 +57,22 @@ pub fn tell_living<B: Kind>(facts: Facts, heap: &Heap<B>, next: Option<u64>) -> 
 }
 
 /// The newest weak reference to a member of the final set loses it, without callback; when none to it is left, those to
-/// the next member follow. When none to a member is left, members lose their own referents.
+/// the next member follow. When none to a member is left, members lose their own referents. Where no weak reference has a
+/// referent, the members have their turns at once.
 pub fn detach_one<B: Kind>(heap: &mut Heap<B>, next: Option<u64>) -> Turn
     requires ready { IsReadyForCollectionAt heap.old 0 (phase_of.Detaching next) }
     ensures { (script : AnyScript) (facts : AnyFacts) (policy : Standing) → TakesTurn script facts (phase_of.Detaching next) heap.old policy heap.new policy result }
 {
+    heap.sound();
+    if heap.is_unreferred() {
+        return Turn::to(Phase::Turns);
+    }
     let Some(object) = next else {
         return Turn::to(Phase::Unlinking {
             member: heap.first(Place::Cand),
             weak: None,
         });
     };
-    heap.sound();
     match heap.newest_of(object) {
         Some(weak) => {
             heap.clear_weak(weak, false);

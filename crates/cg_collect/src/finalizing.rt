@@ -15,6 +15,7 @@ ghost use Rattle.cg_collect.specs.Ready.{IsReadyForCollectionAt};
 ghost use Rattle.cg_collect.specs.Turns.{TakesTurn};
 
 use crate::phase::{Phase, Turn};
+use cg_arena::Near;
 use cg_death::{Release, finalizer_frame, finalizer_to_run};
 use cg_heap::Heap;
 use cg_kind::Kind;
@@ -29,8 +30,9 @@ pub fn look_at_one<B: Kind>(heap: &mut Heap<B>, script: &Script) -> Turn
     ensures { (facts : AnyFacts) (policy : Standing) → TakesTurn script.now facts phase_of.Finalizing heap.old policy heap.new policy result }
 {
     heap.sound();
-    match heap.first(Place::Cand) {
-        Some(object) => look_at(heap, script, object),
+    let mut near = Near::default();
+    match heap.first_near(Place::Cand, &mut near) {
+        Some(object) => look_at(heap, script, object, near),
         None => {
             heap.merge(Place::Seen, Place::Cand);
             Turn::to(Phase::Split)
@@ -38,8 +40,8 @@ pub fn look_at_one<B: Kind>(heap: &mut Heap<B>, script: &Script) -> Turn
     }
 }
 
-/// Its finalizer runs, if it has not.
-fn look_at<B: Kind>(heap: &mut Heap<B>, script: &Script, object: u64) -> Turn
+/// Its finalizer runs, if it has not. The object is near.
+fn look_at<B: Kind>(heap: &mut Heap<B>, script: &Script, object: u64, near: Near) -> Turn
     requires ready { IsReadyForCollectionAt heap.old 0 phase_of.Finalizing }
     requires few { HasFewHolds heap.old }
     requires first { slice_get (list_at heap.old place_of.Cand) 0 ≡ Some object }
@@ -49,7 +51,7 @@ fn look_at<B: Kind>(heap: &mut Heap<B>, script: &Script, object: u64) -> Turn
     match finalizer_to_run(heap, script, object) {
         Some(proc) => run(heap, object, proc),
         None => {
-            heap.move_to(object, Place::Seen);
+            heap.move_near(object, near, Place::Seen);
             Turn::to(Phase::Finalizing)
         }
     }

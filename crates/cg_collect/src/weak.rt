@@ -131,13 +131,16 @@ fn waits<B: Kind>(heap: &Heap<B>, weak: u64) -> bool
 }
 
 /// The weak references to the next condemned object are looked at, or those to its referent; when all were, the callbacks
-/// follow.
+/// follow. They follow at once where no weak reference has a referent.
 fn next_member<B: Kind>(heap: &mut Heap<B>, profile: u8, member: Option<u64>) -> Turn
     requires ready { IsReadyForCollectionAt heap.old 0 (phase_of.WeakClearing member None) }
     requires walk { IsWalk profile heap.old member None }
     ensures { (script : AnyScript) → profile_of script.items ≡ profile → (facts : AnyFacts) (policy : Standing) → TakesTurn script facts (phase_of.WeakClearing member None) heap.old policy heap.new policy result }
 {
     heap.sound();
+    if heap.is_unreferred() {
+        return Turn::to(Phase::WeakCalling);
+    }
     match member {
         Some(object) => Turn::to(Phase::WeakClearing {
             member: heap.next(object),

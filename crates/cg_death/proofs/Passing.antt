@@ -68,7 +68,7 @@ module _ (script : Script) (store : Store) (o : ℕ) (p q : DyingPhase) (waits :
       (steps (with_stack (death_of o q ∷ below) v) below (stands_on v below s)))
 
 -- An object of a class without finalizers has none to run, and its own frames made no weak references.
-none_to_run : (script : Script) (x : Option Object) → option_and_then (finalizer_of script) x ≡ None → option_and_then (finalizer_to_run script) x ≡ None
+pub none_to_run : (script : Script) (x : Option Object) → option_and_then (finalizer_of script) x ≡ None → option_and_then (finalizer_to_run script) x ≡ None
 none_to_run script None none = refl
 none_to_run script (Some x) none = go x.finalized
   where

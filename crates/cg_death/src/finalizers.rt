@@ -70,10 +70,12 @@ pub fn finalizer_to_run<B: Kind>(heap: &Heap<B>, script: &Script, object: u64) -
     ensures { result ≡
         option_and_then (finalizer_to_run script.now) (object_at (objects_of heap.now) object) }
 {
+    // Most classes have no finalizer, and so the mark is asked for last.
+    let proc = finalizers_of(heap, script, object).del?;
     if heap.is_finalized(object) {
         None
     } else {
-        finalizers_of(heap, script, object).del
+        Some(proc)
     }
 }
 

@@ -21,7 +21,15 @@ use Rattle.cg_collect.proofs.TakingTurns.{at_phase, in_heap, goes_on, tells}
 use Rattle.cg_collect.proofs.Stopping.{next_from, next_at}
 use Rattle.cg_collect.proofs.Detecting.{turn-passed, turn-detached, turn-lost, apart_lost, behind_lost, lost_refers, Newest, newest_row, from_here}
 use Rattle.cg_collect.proofs.Unlinking.{unlink_begins}
+use Rattle.cg_collect.proofs.Unreferred.{turn-unreferred}
 use Rattle.cg_collect.proofs.detection.detach_one.Goals as goal
+
+-- No weak reference has a referent.
+pub returns-then-is_unreferred : goal.returns-then-is_unreferred
+returns-then-is_unreferred g c = λ script facts policy.
+    let store = c.args.heap.now in
+    goes_on c.to.ensures (turn-unreferred script facts store policy c.args.next (c.is_unreferred.ensures.0 c.if-is_unreferred.true))
+    c.requires.ready.0 tt (inl (omega arith)) (λ n few. few) (omega arith) (keeps_all store)
 
 -- All have lost the final set.
 pub returns-in_default : goal.returns-in_default
@@ -29,7 +37,7 @@ returns-in_default g c = λ script facts policy.
     let store = c.args.heap.now in
     let ready = subst (λ n. IsReadyForCollectionAt store 0 (phase_of.Detaching n)) c.in_default.is c.requires.ready in
     let bare : (o : ℕ) → Includes (list_at store Cand) o → weak_references_in store.rows o ≡ [] = λ o m. either (ready.2 o m) (λ e. absurd e) (λ none. none) in
-    at_phase (ap phase_of.Detaching c.in_default.is) (goes_on c.to.ensures (turn-detached script facts store policy bare c.first.result c.first.ensures)
+    at_phase (ap phase_of.Detaching c.in_default.is) (goes_on c.to-in_default.ensures (turn-detached script facts store policy bare c.first.result c.first.ensures)
     (ready.0, unlink_begins store bare c.first.result c.first.ensures) tt (inl (omega arith)) (λ n few. few) (omega arith) (keeps_all store))
 
 -- the object is a member

@@ -12,8 +12,8 @@ finalizer_to_run-requires g c = (condemned c.args.heap.now c.sound.ensures.liste
 pub run-requires-clause-live : goal.run-requires-clause-live
 run-requires-clause-live g c = (condemned c.args.heap.now c.sound.ensures.listed c.args.object c.requires.first).0
 
-pub move_to-requires-clause-live : goal.move_to-requires-clause-live
-move_to-requires-clause-live g c = (condemned c.args.heap.now c.sound.ensures.listed c.args.object c.requires.first).0
+pub move_near-requires-clause-live : goal.move_near-requires-clause-live
+move_near-requires-clause-live g c = (condemned c.args.heap.now c.sound.ensures.listed c.args.object c.requires.first).0
 
 pub returns-in-Some : goal.returns-in-Some
 returns-in-Some g c = λ facts policy.
@@ -24,6 +24,6 @@ returns-in-Some g c = λ facts policy.
 pub returns-in-None : goal.returns-in-None
 returns-in-None g c = λ facts policy.
     let store = c.args.heap.now in
-    in_heap c.move_to.ensures (goes_on c.to.ensures (turn-looked store c.sound.ensures.listed c.args.object c.requires.first c.args.script.now facts policy (sym c.in-None.ensures))
+    in_heap c.move_near.ensures (goes_on c.to.ensures (turn-looked store c.sound.ensures.listed c.args.object c.requires.first c.args.script.now facts policy (sym c.in-None.ensures))
     (apart_looked store c.sound.ensures.listed c.args.object c.requires.first c.requires.ready) tt (inr (refl, fewer_left store c.sound.ensures.listed c.args.object c.requires.first))
     (λ n few. few) (omega arith) (keeps-moved c.args.object Seen store))
