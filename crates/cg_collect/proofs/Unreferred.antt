@@ -1,5 +1,5 @@
 -- Where no weak reference has a referent, a collection has none to look at.
-use Rattle.std.proofs.Common.{◌≡◌, refl, sym, ◌∙◌, ap, subst, ℕ, Bool, List, [], ◌∷◌, ◌++◌, map, Option, Some, None}
+use Rattle.std.proofs.Common.{◌≡◌, refl, sym, ◌∙◌, ap, subst, ℕ, List, [], ◌∷◌, ◌++◌, map, Option, None}
 use Rattle.std.specs.Prelude.{filter, not}
 use Rattle.std.proofs.lemmas.Option.{none-some}
 use Rattle.cg_value.specs.declared.Place.TheVariants.{Cand}
@@ -7,14 +7,13 @@ use Rattle.cg_script.specs.declared.Script.{Script}
 use Rattle.cg_graph.specs.Object.{Object}
 use Rattle.cg_graph.specs.Rows.{Row, referent_in}
 use Rattle.cg_graph.specs.Store.{Store, list_at, objects_of}
-use Rattle.cg_machine.specs.declared.event.Event.{Event}
 use Rattle.cg_machine.specs.declared.event.Event.TheVariants.{Cleared}
 use Rattle.cg_machine.specs.Represents.{Represents}
 use Rattle.cg_policy.specs.Policy.{Policy}
 use Rattle.cg_collect.specs.declared.answer.CollectStep.TheVariants as answer_of
 use Rattle.cg_collect.specs.declared.collection.Facts.{Facts}
 use Rattle.cg_collect.specs.declared.phase.Phase.TheVariants as phase_of
-use Rattle.cg_collect.specs.Phases.{from_on, cleared_lines, member_lines, members_losing, without_referents, without_rows_of, is_lost_with}
+use Rattle.cg_collect.specs.Phases.{from_on, cleared_lines, members_losing, without_referents, without_rows_of, is_lost_with}
 use Rattle.cg_collect.specs.Ready.{IsWalk}
 use Rattle.cg_collect.specs.Answers.{CollectSteps}
 use Rattle.cg_collect.specs.Turns.{collection_at}

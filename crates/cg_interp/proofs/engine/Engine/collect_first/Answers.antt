@@ -1,4 +1,4 @@
-use Rattle.std.proofs.Common.{◌≡◌, ◌∙◌, sym, ap, subst}
+use Rattle.std.proofs.Common.{◌∙◌, sym, ap, subst}
 use Rattle.cg_interp.specs.Engines.{StandsFor, under}
 use Rattle.cg_interp.specs.Callers.{caller_activity}
 use Rattle.cg_interp.proofs.engine.Engine.collect_first.Goals as goal
