@@ -10,7 +10,7 @@ use Rattle.cg_graph.specs.Places.{place_number, list_of, joins_list}
 use Rattle.cg_arena.specs.declared.slot.Slot.{Slot}
 use Rattle.cg_arena.specs.declared.ends.Ends.{Ends}
 use Rattle.cg_arena.specs.Nodes.{Nodes, ArenaNode, with_node, count_in_list}
-use Rattle.cg_arena.specs.Slots.{before_in, after_in, serial_in, place_in_slot, node_in, node_of}
+use Rattle.cg_arena.specs.Slots.{before_in, after_in, serial_in, place_in_slot, node_in, node_of, after_of}
 use Rattle.cg_arena.specs.Links.{tied, ends_joined, one_end}
 use Rattle.cg_arena.specs.Table.{nodes_of, serials_of, room_of, IsSpelled, IsNamed, ends_at, row_of, IsSound}
 use Rattle.cg_arena.proofs.Standing.{last_of-stands}
@@ -45,7 +45,7 @@ last_there cell ends chain loose spelled q below j is =
     (stands_placed cell ends chain loose spelled q j below
     (last_of-stands (chain q) j (sym (ap (λ (e : Ends). e.last) (spelled.ended q below)) ∙ is)))
 
-module _ (s mid new : Slab Slot) (ends : List Ends) (rows later : List (ℕ × ℕ)) (sound : IsSound s ends rows) (spare : ℕ) (v : Nodes) (view_is : value_of s ends rows spare ≡ v) (t k : ℕ) (c : Slot) (n : ArenaNode) (node_is : node_of c ≡ n) (serial_is : c.serial ≡ t) (after_is : c.after ≡ None) (fresh : fin.get v.nodes t ≡ None) (vacant : get s k ≡ None) (updates : Updates s mid k (Some c)) (len : slab_len mid ≡ slab_len s + 1) (few : slab_len mid < 2 ^ 64) (rows_are : (q : ℕ) → row_of later q ≡ (if nat_eq t q then Some k else row_of rows q)) (q : ℕ) (q_is : q ≡ place_number n.place) (below : q < 10) (tied_is : new ≡ tied (ends_at ends q).last (Some k) mid) (e : Ends) (ends_are : e ≡ ends_joined (ends_at ends q) (one_end k)) where
+module _ (s mid new : Slab Slot) (ends : List Ends) (rows later : List (ℕ × ℕ)) (sound : IsSound s ends rows) (spare : ℕ) (v : Nodes) (view_is : value_of s ends rows spare ≡ v) (t k : ℕ) (c : Slot) (n : ArenaNode) (node_is : node_of c ≡ n) (serial_is : c.serial ≡ t) (after_is : (after_of c) ≡ None) (fresh : fin.get v.nodes t ≡ None) (vacant : get s k ≡ None) (updates : Updates s mid k (Some c)) (len : slab_len mid ≡ slab_len s + 1) (few : slab_len mid < 2 ^ 64) (rows_are : (q : ℕ) → row_of later q ≡ (if nat_eq t q then Some k else row_of rows q)) (q : ℕ) (q_is : q ≡ place_number n.place) (below : q < 10) (tied_is : new ≡ tied (ends_at ends q).last (Some k) mid) (e : Ends) (ends_are : e ≡ ends_joined (ends_at ends q) (one_end k)) where
   no_row : row_of rows t ≡ None
   no_row = no_row_there s ends rows spare v view_is t fresh
 

@@ -10,7 +10,7 @@ use Rattle.cg_graph.specs.Places.{place_number, list_of, without_serial, leaves_
 use Rattle.cg_arena.specs.declared.slot.Slot.{Slot}
 use Rattle.cg_arena.specs.declared.ends.Ends.{Ends}
 use Rattle.cg_arena.specs.Nodes.{Nodes, without_node, place_in, place_of, count_in_list}
-use Rattle.cg_arena.specs.Slots.{before_in, after_in, serial_in, place_in_slot, node_in}
+use Rattle.cg_arena.specs.Slots.{before_in, after_in, serial_in, place_in_slot, node_in, after_of}
 use Rattle.cg_arena.specs.Links.{tied, ends_without}
 use Rattle.cg_arena.specs.Table.{nodes_of, serials_of, room_of, IsSpelled, IsNamed, ends_at, row_of, IsSound}
 use Rattle.cg_arena.proofs.Standing.{occurrences-without_same}
@@ -26,7 +26,7 @@ use Rattle.cg_arena.proofs.Lookups.{list_is, lists_ten, with_serial}
 use Rattle.cg_arena.proofs.Adds.{some_numbered}
 
 -- a node leaves its list: its neighbours are tied, and the ends are those without it
-module _ (s new : Slab Slot) (ends : List Ends) (rows : List (ℕ × ℕ)) (sound : IsSound s ends rows) (t k : ℕ) (c : Slot) (row_is : row_of rows t ≡ Some k) (slot_is : get s k ≡ Some c) (p : ℕ) (p_is : p ≡ place_number c.place) (below : p < 10) (tied_is : new ≡ tied c.word.before c.after s) where
+module _ (s new : Slab Slot) (ends : List Ends) (rows : List (ℕ × ℕ)) (sound : IsSound s ends rows) (t k : ℕ) (c : Slot) (row_is : row_of rows t ≡ Some k) (slot_is : get s k ≡ Some c) (p : ℕ) (p_is : p ≡ place_number c.place) (below : p < 10) (tied_is : new ≡ tied c.word.before (after_of c) s) where
   stood : occurrences k (sound.chain p) ≡ 1
   stood = sound.spelled.standing p k below ∙ ap (λ o. count_in_list p (place_in_slot o)) slot_is ∙ count_in_list-same p c.place (sym p_is)
 
@@ -42,29 +42,29 @@ module _ (s new : Slab Slot) (ends : List Ends) (rows : List (ℕ × ℕ)) (soun
   before_is : before_in (get s k) ≡ c.word.before
   before_is = ap before_in slot_is
 
-  after_is : after_in (get s k) ≡ c.after
+  after_is : after_in (get s k) ≡ after_of c
   after_is = ap after_in slot_is
 
-  leaving_tie : IsTied (get s) (get new) c.word.before c.after
+  leaving_tie : IsTied (get s) (get new) c.word.before (after_of c)
   leaving_tie =
-      subst (λ z. IsTied (get s) (get z) c.word.before c.after) (sym tied_is)
-      (get-tied c.word.before c.after s
+      subst (λ z. IsTied (get s) (get z) c.word.before (after_of c)) (sym tied_is)
+      (get-tied c.word.before (after_of c) s
       (λ j is. neighbour j (before_stands (get s) (ends_at ends) sound.chain None sound.spelled k p below (omega (arith, stood)) j (before_is ∙ is)))
       (λ j is. neighbour j (after_stands (get s) (ends_at ends) sound.chain None sound.spelled k p below (omega (arith, stood)) j (after_is ∙ is))))
 
   pub left_shape : SameShape s new
-  left_shape = subst (SameShape s) (sym tied_is) (shape-tied c.word.before c.after s)
+  left_shape = subst (SameShape s) (sym tied_is) (shape-tied c.word.before (after_of c) s)
 
   pub left_places : (j : ℕ) → place_in_slot (get new j) ≡ place_in_slot (get s j)
-  left_places j = ap (λ z. place_in_slot (get z j)) tied_is ∙ places-tied c.word.before c.after s j
+  left_places j = ap (λ z. place_in_slot (get z j)) tied_is ∙ places-tied c.word.before (after_of c) s j
 
   pub left_nodes : (j : ℕ) → node_in (get new j) ≡ node_in (get s j)
-  left_nodes j = ap (λ z. node_in (get z j)) tied_is ∙ nodes-tied c.word.before c.after s j
+  left_nodes j = ap (λ z. node_in (get z j)) tied_is ∙ nodes-tied c.word.before (after_of c) s j
 
   pub left_there : is_some (get new k) ≡ true
-  left_there = ap (λ z. is_some (get z k)) tied_is ∙ there-tied c.word.before c.after s k ∙ ap is_some slot_is
+  left_there = ap (λ z. is_some (get z k)) tied_is ∙ there-tied c.word.before (after_of c) s k ∙ ap is_some slot_is
 
-  module _ (e : Ends) (ends_are : e ≡ ends_without c.word.before c.after (ends_at ends p)) where
+  module _ (e : Ends) (ends_are : e ≡ ends_without c.word.before (after_of c) (ends_at ends p)) where
     pub left_spelled : IsSpelled (get new) (ends_at (slice_set ends p e)) (λ r. without_serial k (sound.chain r)) (Some k)
     left_spelled =
         leaves_spelled (get s) (get new) (ends_at ends) (ends_at (slice_set ends p e)) sound.chain sound.spelled k p c.place below
@@ -80,7 +80,7 @@ module _ (s new : Slab Slot) (ends : List Ends) (rows : List (ℕ × ℕ)) (soun
         omega (arith, sizes-set ends sound.ten p below e, size, size_there)
 
 -- the node is removed
-module _ (s mid new : Slab Slot) (ends : List Ends) (rows later : List (ℕ × ℕ)) (sound : IsSound s ends rows) (spare : ℕ) (v : Nodes) (view_is : value_of s ends rows spare ≡ v) (t k : ℕ) (c : Slot) (row_is : row_of rows t ≡ Some k) (slot_is : get s k ≡ Some c) (p : ℕ) (p_is : p ≡ place_number c.place) (below : p < 10) (tied_is : mid ≡ tied c.word.before c.after s) (e : Ends) (ends_are : e ≡ ends_without c.word.before c.after (ends_at ends p)) (updates : Updates mid new k None) (len : slab_len new + 1 ≡ slab_len mid) (rows_are : (q : ℕ) → row_of later q ≡ (if nat_eq t q then None else row_of rows q)) where
+module _ (s mid new : Slab Slot) (ends : List Ends) (rows later : List (ℕ × ℕ)) (sound : IsSound s ends rows) (spare : ℕ) (v : Nodes) (view_is : value_of s ends rows spare ≡ v) (t k : ℕ) (c : Slot) (row_is : row_of rows t ≡ Some k) (slot_is : get s k ≡ Some c) (p : ℕ) (p_is : p ≡ place_number c.place) (below : p < 10) (tied_is : mid ≡ tied c.word.before (after_of c) s) (e : Ends) (ends_are : e ≡ ends_without c.word.before (after_of c) (ends_at ends p)) (updates : Updates mid new k None) (len : slab_len new + 1 ≡ slab_len mid) (rows_are : (q : ℕ) → row_of later q ≡ (if nat_eq t q then None else row_of rows q)) where
   shape : SameShape s mid
   shape = left_shape s mid ends rows sound t k c row_is slot_is p p_is below tied_is
 

@@ -11,7 +11,7 @@ use Rattle.cg_graph.proofs.Maps.{same_map}
 use Rattle.cg_arena.specs.declared.slot.Slot.{Slot}
 use Rattle.cg_arena.specs.declared.ends.Ends.{Ends}
 use Rattle.cg_arena.specs.Nodes.{Nodes, ArenaNode, IsPlace, IsListed, following, place_in, place_of, no_nodes, count_in_list}
-use Rattle.cg_arena.specs.Slots.{after_in, serial_in, place_in_slot, node_in, node_of}
+use Rattle.cg_arena.specs.Slots.{after_in, serial_in, place_in_slot, node_in, node_of, after_of}
 use Rattle.cg_arena.specs.Links.{first_or, no_ends, IsLinked}
 use Rattle.cg_arena.specs.Table.{nodes_of, serials_of, room_of, IsSpelled, ends_at, row_of, IsSound}
 use Rattle.cg_arena.proofs.Standing.{one-same, occurrences-cons, occurrences-append, IsBetween, stands_between}
@@ -60,7 +60,7 @@ module _ (s : Slab Slot) (ends : List Ends) (rows : List (ℕ × ℕ)) (spare : 
       ∙ sym (length-map (sound.chain p) (serial_at s))
       ∙ ap length (sym (list_is p below))
 
-  pub next_is : (t k : ℕ) (c : Slot) → row_of rows t ≡ Some k → get s k ≡ Some c → serial_of_slot s c.after ≡ following t (list_of v.lists (place_number (place_of v t)))
+  pub next_is : (t k : ℕ) (c : Slot) → row_of rows t ≡ Some k → get s k ≡ Some c → serial_of_slot s (after_of c) ≡ following t (list_of v.lists (place_number (place_of v t)))
   next_is t k c row_is slot_is =
       let node_is = node_here s ends rows spare v view_is t k c row_is slot_is in
       let below : place_number c.place < 10 = sound.placed k c.place (ap place_in_slot slot_is) in

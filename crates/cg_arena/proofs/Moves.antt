@@ -10,7 +10,7 @@ use Rattle.cg_graph.specs.Places.{place_number, list_of, without_serial, leaves_
 use Rattle.cg_arena.specs.declared.slot.Slot.{Slot}
 use Rattle.cg_arena.specs.declared.ends.Ends.{Ends}
 use Rattle.cg_arena.specs.Nodes.{Nodes, with_node_moved, node_placed, place_in, place_of}
-use Rattle.cg_arena.specs.Slots.{before_in, after_in, serial_in, place_in_slot, node_in, with_place, with_after}
+use Rattle.cg_arena.specs.Slots.{before_in, after_in, serial_in, place_in_slot, node_in, with_place, with_after, after_of}
 use Rattle.cg_arena.specs.Links.{rewritten, tied, ends_without, ends_joined, one_end}
 use Rattle.cg_arena.specs.Table.{nodes_of, serials_of, IsSpelled, ends_at, row_of, IsSound}
 use Rattle.cg_arena.proofs.Chains.{IsTied}
@@ -39,7 +39,7 @@ ended_there None there = absurd (cc)
 ended_there (Some c) there = refl
 
 -- s is left by the node, and is `left` then; there the node gets its place, and then no slot after it; then it is tied to the last of the other list
-module _ (s left placed ended new : Slab Slot) (ends : List Ends) (rows : List (ℕ × ℕ)) (sound : IsSound s ends rows) (spare : ℕ) (v : Nodes) (view_is : value_of s ends rows spare ≡ v) (t k : ℕ) (c : Slot) (row_is : row_of rows t ≡ Some k) (slot_is : get s k ≡ Some c) (p : ℕ) (p_is : p ≡ place_number c.place) (below_p : p < 10) (left_is : left ≡ tied c.word.before c.after s) (d : Ends) (d_is : d ≡ ends_without c.word.before c.after (ends_at ends p)) (place : Place) (placed_is : placed ≡ rewritten (with_place place) k left) (ended_is : ended ≡ rewritten (with_after None) k placed) (q : ℕ) (q_is : q ≡ place_number place) (below_q : q < 10) where
+module _ (s left placed ended new : Slab Slot) (ends : List Ends) (rows : List (ℕ × ℕ)) (sound : IsSound s ends rows) (spare : ℕ) (v : Nodes) (view_is : value_of s ends rows spare ≡ v) (t k : ℕ) (c : Slot) (row_is : row_of rows t ≡ Some k) (slot_is : get s k ≡ Some c) (p : ℕ) (p_is : p ≡ place_number c.place) (below_p : p < 10) (left_is : left ≡ tied c.word.before (after_of c) s) (d : Ends) (d_is : d ≡ ends_without c.word.before (after_of c) (ends_at ends p)) (place : Place) (placed_is : placed ≡ rewritten (with_place place) k left) (ended_is : ended ≡ rewritten (with_after None) k placed) (q : ℕ) (q_is : q ≡ place_number place) (below_q : q < 10) where
   abbrev between_ends : List Ends
   between_ends = slice_set ends p d
 

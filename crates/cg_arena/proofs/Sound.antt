@@ -12,7 +12,7 @@ use Rattle.cg_graph.proofs.Maps.{get-changed_same}
 use Rattle.cg_arena.specs.declared.slot.Slot.{Slot}
 use Rattle.cg_arena.specs.declared.ends.Ends.{Ends}
 use Rattle.cg_arena.specs.Nodes.{Nodes, ArenaNode, HasNode, IsPlace, count_in, count_of, with_node_changed, node_counted_up, node_counted_down, counted_up, counted_down, count_in_list}
-use Rattle.cg_arena.specs.Slots.{before_in, after_in, serial_in, place_in_slot, node_in, node_of}
+use Rattle.cg_arena.specs.Slots.{before_in, after_in, serial_in, place_in_slot, node_in, node_of, after_of}
 use Rattle.cg_arena.specs.Links.{rewritten}
 use Rattle.cg_arena.specs.Table.{nodes_of, serials_of, room_of, IsSpelled, IsNamed, ends_at, row_of, IsSound}
 use Rattle.cg_arena.proofs.Standing.{one-same, one-apart, occurrences-single}
@@ -118,7 +118,7 @@ module _ (s new : Slab Slot) (ends : List Ends) (rows : List (ℕ × ℕ)) (soun
       ∙ sym (list-at s ends sound.chain None sound.ten sound.spelled r below))
 
 -- a field of one node is written
-module _ (f : Slot → Slot) (befores : (x : Slot) → (f x).word.before ≡ x.word.before) (afters : (x : Slot) → (f x).after ≡ x.after) (serial_same : (x : Slot) → (f x).serial ≡ x.serial) (place_same : (x : Slot) → (f x).place ≡ x.place) (s : Slab Slot) (ends : List Ends) (rows : List (ℕ × ℕ)) (sound : IsSound s ends rows) (k : ℕ) where
+module _ (f : Slot → Slot) (befores : (x : Slot) → (f x).word.before ≡ x.word.before) (afters : (x : Slot) → after_of (f x) ≡ after_of x) (serial_same : (x : Slot) → (f x).serial ≡ x.serial) (place_same : (x : Slot) → (f x).place ≡ x.place) (s : Slab Slot) (ends : List Ends) (rows : List (ℕ × ℕ)) (sound : IsSound s ends rows) (k : ℕ) where
   shape : SameShape s (rewritten f k s)
   shape = shape-rewritten f k s serial_same
 

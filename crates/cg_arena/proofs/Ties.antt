@@ -18,7 +18,8 @@ before_set-other (Some k) before s j differs = get-rewritten_other (with_before 
 
 after_written : (after : Option ℕ) (o : Option Slot) → is_some o ≡ true → after_in (option_map (with_after after) o) ≡ after
 after_written after None there = absurd (cc)
-after_written after (Some x) there = refl
+after_written None (Some x) there = refl
+after_written (Some k) (Some x) there = refl
 
 before_written : (before : Option ℕ) (o : Option Slot) → is_some o ≡ true → before_in (option_map (with_before before) o) ≡ before
 before_written before None there = absurd (cc)

@@ -1,7 +1,7 @@
 -- What a slot holds: a node, its serial, and its two links.
-use Rattle.std.specs.Prelude.{ℕ, Option, Some, None}
+use Rattle.std.specs.Prelude.{ℕ, Option, Some, None, is_some, unwrap_or, if◌then◌else◌}
 use Rattle.cg_value.specs.declared.Place.{Place}
-use Rattle.cg_value.specs.declared.Place.TheVariants.{Untracked}
+use Rattle.cg_value.specs.declared.Place.TheVariants.{Untracked, Gen}
 use Rattle.cg_value.specs.declared.KindCode.TheVariants.{List as ListCode}
 use Rattle.cg_arena.specs.Nodes.{ArenaNode, new_node, number_lowered}
 use Rattle.cg_arena.specs.Word.{word_marked, word_numbered, word_linked}
@@ -19,12 +19,21 @@ node_of c = record {
   number = c.word.number;
 }
 
+-- the number of a generation, and 0 of another place
+abbrev pub generation_in : Place → ℕ
+generation_in (Gen i) = i
+generation_in place = 0
+
 -- the slot with one field changed
 abbrev pub with_before : Option ℕ → Slot → Slot
 with_before before c = record c { word = word_linked before c.word }
 
+-- what comes after it in its list, if anything does
+abbrev pub after_of : Slot → Option ℕ
+after_of c = if c.is_followed then Some c.next else None
+
 abbrev pub with_after : Option ℕ → Slot → Slot
-with_after after c = record c { after = after }
+with_after after c = record c { is_followed = is_some after; next = unwrap_or after 0 }
 
 abbrev pub with_place : Place → Slot → Slot
 with_place place c = record c { place = place }
@@ -48,7 +57,7 @@ before_in (Some c) = c.word.before
 
 abbrev pub after_in : Option Slot → Option ℕ
 after_in None = None
-after_in (Some c) = c.after
+after_in (Some c) = after_of c
 
 abbrev pub serial_in : Option Slot → Option ℕ
 serial_in None = None

@@ -5,7 +5,7 @@ ghost use Rattle.slab.specs.Slab.{get, slab_len, HasRoomFor, Updates};
 ghost use Rattle.indexmap.specs.IndexMap.{spare};
 ghost use Rattle.cg_graph.specs.Places.{place_number};
 ghost use Rattle.cg_arena.specs.Table.{row_of, IsNamed};
-ghost use Rattle.cg_arena.specs.Slots.{serial_in};
+ghost use Rattle.cg_arena.specs.Slots.{serial_in, generation_in};
 
 use crate::ends::Ends;
 use crate::hints::Hints;
@@ -64,6 +64,28 @@ fn number_of(place: Place) -> usize
     ensures number { result ≡ place_number place }
     ensures below { result < 10 }
 {
+    first_of(place) + generation_of(place)
+}
+
+/// The number of a generation, and 0 of another place.
+#[inline(always)]
+fn generation_of(place: Place) -> usize
+    ensures { result ≡ generation_in place }
+{
+    match place {
+        Place::Gen(generation) => generation as usize,
+        _ => 0,
+    }
+}
+
+/// The number of a place among the lists, and of a generation that of the first one.
+///
+/// Each answer is a number that is written here, for which a table does. A `match` that also added the generation would become a
+/// jump by way of one.
+#[inline(always)]
+fn first_of(place: Place) -> usize
+    ensures { result + generation_in place ≡ place_number place }
+{
     match place {
         Place::Untracked => 0,
         Place::Frozen => 1,
@@ -72,7 +94,7 @@ fn number_of(place: Place) -> usize
         Place::Back => 4,
         Place::Legacy => 5,
         Place::Pend => 6,
-        Place::Gen(generation) => 7 + generation as usize,
+        Place::Gen(_) => 7,
     }
 }
 
@@ -626,8 +648,9 @@ impl Arena {
         ensures { result ≡ following serial (list_at self.now (place_at self.now serial)) }
     {
         let (_, slot) = slot_near(&self.slots, &self.rows, &self.hints, serial, *near);
-        *near = Near::at(slot.after);
-        serial_at(&self.slots, slot.after)
+        let after = slot.after();
+        *near = Near::at(after);
+        serial_at(&self.slots, after)
     }
 
     /// What comes after a node in its list, or `None` at the end.
@@ -636,7 +659,7 @@ impl Arena {
         ensures { result ≡ following serial (list_at self.now (place_at self.now serial)) }
     {
         let at = slot_of(&self.slots, &self.rows, &self.hints, serial);
-        serial_at(&self.slots, slot_at(&self.slots, at).after)
+        serial_at(&self.slots, slot_at(&self.slots, at).after())
     }
 
     /// How many nodes stand in a place. It tells besides that each node stands once in the list of its place alone.

@@ -1,7 +1,7 @@
 //! Nodes in slots, and the links between them.
 ghost use Rattle.std.specs.Prelude.{◌≡◌, Some, IsSome, option_and_then, option_map, ◌+◌, ◌<◌, ◌^◌};
 ghost use Rattle.slab.specs.Slab.{get, ContainsKey};
-ghost use Rattle.cg_arena.specs.Slots.{with_after, with_before, with_place, with_count, with_mark, with_number, with_lowered, after_in};
+ghost use Rattle.cg_arena.specs.Slots.{with_after, with_before, with_place, with_count, with_mark, with_number, with_lowered, after_in, after_of};
 ghost use Rattle.cg_arena.specs.Links.{rewritten, after_set, before_set, tied, ends_without, ends_joined, place_set, all_placed, chain_from};
 
 use crate::ends::Ends;
@@ -86,7 +86,7 @@ pub fn set_after(slots: &mut Slab<Slot>, at: Option<usize>, after: Option<usize>
 {
     if let Some(at) = at {
         if let Some(slot) = slots.get_mut(at) {
-            slot.after = after;
+            slot.set_after(after);
         }
     }
 }
@@ -113,12 +113,13 @@ fn tie(slots: &mut Slab<Slot>, before: Option<usize>, after: Option<usize>)
 /// Takes a slot out of its list, and answers the ends of the list then.
 pub fn unlink(slots: &mut Slab<Slot>, ends: Ends, slot: Slot) -> Ends
     requires { 0 < ends.size }
-    ensures slots { slots.new ≡ tied slot.word.before slot.after slots.old }
-    ensures ends { result ≡ ends_without slot.word.before slot.after ends }
+    ensures slots { slots.new ≡ tied slot.word.before (after_of slot) slots.old }
+    ensures ends { result ≡ ends_without slot.word.before (after_of slot) ends }
 {
     let before = slot.before();
-    tie(slots, before, slot.after);
-    ends.without(before, slot.after)
+    let after = slot.after();
+    tie(slots, before, after);
+    ends.without(before, after)
 }
 
 /// Appends one list to another, and answers the ends of the whole.
@@ -138,7 +139,7 @@ fn place_one(slots: &mut Slab<Slot>, at: Option<usize>, place: Place) -> Option<
 {
     let slot = slots.get_mut(at?)?;
     slot.place = place;
-    slot.after
+    slot.after()
 }
 
 /// Gives each node of a list another place.

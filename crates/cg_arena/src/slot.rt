@@ -9,38 +9,42 @@ use cg_value::{KindCode, Place};
 
 /// A node, its serial, and the slots before and after it in the list of its place.
 ///
-/// It takes 64 bytes.
+/// It takes 56 bytes, and 64 in its slot. So whether a slot comes after it stands beside the other small fields: an `Option` of
+/// the slot would take eight bytes more.
 #[derive(Clone, Copy)]
 pub struct Slot {
     pub serial: u64,
     pub body: usize,
     word: Word,
-    pub after: Option<usize>,
+    /// The slot after it, 0 where there is none.
+    next: usize,
     pub class: Option<u32>,
     pub count: u32,
     pub place: Place,
     pub code: KindCode,
+    is_followed: bool,
 }
 
 impl Slot {
-    ghost use Rattle.cg_arena.specs.Slots.{node_of, with_mark, with_number, with_lowered, with_before};
+    ghost use Rattle.cg_arena.specs.Slots.{node_of, with_mark, with_number, with_lowered, with_before, with_after, after_of};
 
     /// A new node in no list: count 0, not finalized, the collector's number 0.
     pub fn new(serial: u64, code: KindCode, class: Option<u32>, body: usize, place: Place) -> Slot
         ensures node { node_of result ≡ new_node code class body place }
         ensures serial { result.serial ≡ serial }
         ensures before { result.word.before ≡ None }
-        ensures after { result.after ≡ None }
+        ensures after { after_of result ≡ None }
     {
         Slot {
             serial,
             body,
             word: Word::new(),
-            after: None,
+            next: 0,
             class,
             count: 0,
             place,
             code,
+            is_followed: false,
         }
     }
 
@@ -81,8 +85,7 @@ impl Slot {
         ensures { self.new ≡ with_lowered self.old }
     {
         if let Place::Cand = self.place {
-            let number = self.number().saturating_sub(1);
-            self.set_number(number);
+            self.word.lower();
         }
     }
 
@@ -91,6 +94,27 @@ impl Slot {
         ensures { result ≡ self.now.word.before }
     {
         self.word.before()
+    }
+
+    /// The slot after it in its list.
+    #[inline(always)]
+    pub fn after(&self) -> Option<usize>
+        ensures { result ≡ after_of self.now }
+    {
+        if self.is_followed {
+            Some(self.next)
+        } else {
+            None
+        }
+    }
+
+    /// Names another slot as the one after it.
+    #[inline(always)]
+    pub fn set_after(&mut self, after: Option<usize>)
+        ensures { self.new ≡ with_after after self.old }
+    {
+        self.is_followed = after.is_some();
+        self.next = after.unwrap_or(0);
     }
 
     /// Names another slot as the one before it.

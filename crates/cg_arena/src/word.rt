@@ -1,5 +1,5 @@
 //! What of a node shares one word.
-ghost use Rattle.std.specs.Prelude.{◌≡◌};
+ghost use Rattle.std.specs.Prelude.{◌≡◌, ◌-◌};
 
 use std::marker::Model;
 
@@ -70,6 +70,16 @@ impl Word {
         ensures { self.new ≡ word_numbered number self.old }
     {
         self.low = self.low % 4 + number as u64 * 4;
+    }
+
+    /// Lowers the collector's number by 1, if it is above 0.
+    #[inline(always)]
+    pub fn lower(&mut self)
+        ensures { self.new ≡ word_numbered (self.old.number - 1) self.old }
+    {
+        if self.low >= 4 {
+            self.low -= 4;
+        }
     }
 
     /// The slot before.

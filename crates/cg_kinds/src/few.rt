@@ -70,13 +70,15 @@ fn replace_in(pairs: &mut Vec<Entry>, key: Val, val: Val) -> Option<Val>
     }
 }
 
-/// One more pair. The first takes the room of one alone.
+/// One more pair. A list that is full makes room for half as many again and one: so one pair takes the room of one, and two that
+/// of two, where a vector would make room for four at least.
 fn push_to(pairs: &mut Vec<Entry>, pair: Entry) -> Result<(), AllocError>
     ensures ok { OnOk result (pairs.new.items ≡ pairs.old.items ++ pair ∷ []) }
     ensures err { OnErr result (pairs.new.items ≡ pairs.old.items) }
 {
-    if pairs.is_empty() {
-        pairs.reserve_exact(1)?;
+    if pairs.len() == pairs.capacity() {
+        let more = pairs.len() / 2 + 1;
+        pairs.reserve_exact(more)?;
     }
     pairs.push(pair)?;
     Ok(())

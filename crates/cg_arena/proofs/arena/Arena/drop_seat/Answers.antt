@@ -1,5 +1,6 @@
 use Rattle.std.proofs.Common.{◌≡◌, IfSome, refl, sym, subst}
 use Rattle.indexmap.specs.IndexMap.{spare}
+use Rattle.cg_arena.specs.Slots.{after_of}
 use Rattle.cg_arena.specs.Nodes.{ArenaNode}
 use Rattle.cg_arena.specs.Links.{tied}
 use Rattle.cg_arena.proofs.Sound.{row_there, slot_there, slot_placed, node_here}
@@ -17,7 +18,7 @@ number_of-from-requires c = slot_placed c.self.inside.slots c.self.inside.ends c
 
 pub unlink-requires : goal.unlink-requires
 unlink-requires c =
-    size_there c.self.inside.slots (tied c.slot_at-slot.result.word.before c.slot_at-slot.result.after c.self.inside.slots) c.self.inside.ends c.self.inside.rows.entries c.self.invariant c.args.serial c.take_row-at.result c.slot_at-slot.result c.take_row-at.ensures.at c.slot_at-slot.ensures
+    size_there c.self.inside.slots (tied c.slot_at-slot.result.word.before (after_of c.slot_at-slot.result) c.self.inside.slots) c.self.inside.ends c.self.inside.rows.entries c.self.invariant c.args.serial c.take_row-at.result c.slot_at-slot.result c.take_row-at.ensures.at c.slot_at-slot.ensures
     c.number_of-from.result c.number_of-from.ensures.number c.number_of-from.ensures.below refl
 
 pub remove-requires : goal.remove-requires

@@ -1,6 +1,7 @@
 use Rattle.std.proofs.Common.{◌≡◌, ap, ◌∙◌, arith, refl}
 use Rattle.std.specs.Prelude.{slice_set}
 use Rattle.indexmap.specs.IndexMap.{spare}
+use Rattle.cg_arena.specs.Slots.{after_of}
 use Rattle.cg_arena.specs.declared.ends.Ends.{Ends}
 use Rattle.cg_arena.specs.Links.{tied, ends_joined}
 use Rattle.cg_arena.specs.Table.{ends_at}
@@ -20,7 +21,7 @@ number_of-from-requires c = slot_placed c.self.inside.slots c.self.inside.ends c
 
 pub unlink-requires : goal.unlink-requires
 unlink-requires c =
-    size_there c.self.inside.slots (tied c.slot_near-at.result.1.word.before c.slot_near-at.result.1.after c.self.inside.slots) c.self.inside.ends c.self.inside.rows.entries c.self.invariant c.args.serial c.slot_near-at.result.0 c.slot_near-at.result.1 c.slot_near-at.ensures.at c.slot_near-at.ensures.slot
+    size_there c.self.inside.slots (tied c.slot_near-at.result.1.word.before (after_of c.slot_near-at.result.1) c.self.inside.slots) c.self.inside.ends c.self.inside.rows.entries c.self.invariant c.args.serial c.slot_near-at.result.0 c.slot_near-at.result.1 c.slot_near-at.ensures.at c.slot_near-at.ensures.slot
     c.number_of-from.result c.number_of-from.ensures.number c.number_of-from.ensures.below refl
 
 pub join-requires : goal.join-requires

@@ -1,7 +1,7 @@
-use Rattle.std.proofs.Common.{◌∙◌}
+use Rattle.std.proofs.Common.{◌∙◌, ap}
 use Rattle.indexmap.specs.IndexMap.{spare}
 use Rattle.cg_arena.proofs.Sound.{row_there, slot_there}
-use Rattle.cg_arena.proofs.Lookups.{next_is}
+use Rattle.cg_arena.proofs.Lookups.{serial_of_slot, next_is}
 use Rattle.cg_arena.proofs.arena.Arena.next.Goals as goal
 
 pub slot_of-at-requires-clause-named : goal.slot_of-at-requires-clause-named
@@ -16,4 +16,5 @@ slot_at-requires c = slot_there c.self.inside.slots c.self.inside.ends c.self.in
 pub returns : goal.returns
 returns c =
     c.serial_at.ensures
+    ∙ ap (serial_of_slot c.self.inside.slots) c.after.ensures
     ∙ next_is c.self.inside.slots c.self.inside.ends c.self.inside.rows.entries (spare c.self.inside.rows) c.args.self.now c.self.view_is c.self.invariant c.args.serial c.slot_of-at.result c.slot_at.result c.slot_of-at.ensures c.slot_at.ensures

@@ -1,7 +1,7 @@
-use Rattle.std.proofs.Common.{◌∙◌}
+use Rattle.std.proofs.Common.{◌∙◌, ap}
 use Rattle.indexmap.specs.IndexMap.{spare}
 use Rattle.cg_arena.proofs.Sound.{row_there}
-use Rattle.cg_arena.proofs.Lookups.{next_is}
+use Rattle.cg_arena.proofs.Lookups.{serial_of_slot, next_is}
 use Rattle.cg_arena.proofs.arena.Arena.next_near.Goals as goal
 
 pub slot_near-slot-requires-clause-named : goal.slot_near-slot-requires-clause-named
@@ -13,4 +13,5 @@ slot_near-slot-requires-clause-there c = row_there c.self.inside.slots c.self.in
 pub returns : goal.returns
 returns c =
     c.serial_at.ensures
+    ∙ ap (serial_of_slot c.self.inside.slots) c.after-after.ensures
     ∙ next_is c.self.inside.slots c.self.inside.ends c.self.inside.rows.entries (spare c.self.inside.rows) c.args.self.now c.self.view_is c.self.invariant c.args.serial c.slot_near-slot.result.0 c.slot_near-slot.result.1 c.slot_near-slot.ensures.at c.slot_near-slot.ensures.slot
