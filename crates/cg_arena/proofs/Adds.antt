@@ -1,6 +1,6 @@
 -- The fields once a node is added.
 use Rattle.std.proofs.Common.{◌≡◌, ◌≢◌, ℕ, ◌+◌, ◌-◌, ◌<◌, ◌≤◌, ◌^◌, true, List, [], ◌∷◌, map, Option, Some, None, refl, sym, ap, ◌∙◌, subst, inl, inr, arith}
-use Rattle.std.specs.Prelude.{option_map, is_some, nat_eq, unwrap_or, slice_set, min, if◌then◌else◌}
+use Rattle.std.specs.Prelude.{option_map, is_some, nat_eq, unwrap_or, slice_set, min, ◌==◌, if◌then◌else◌}
 use Rattle.std.proofs.lemmas.Bool.{cases_eq, eq-eqb, ne_eqb}
 use Rattle.std.proofs.lemmas.List.{length-map, length-set}
 use Rattle.std.specs.FinMap as fin
@@ -8,16 +8,19 @@ use Rattle.slab.specs.Slab.{Slab, get, slab_len, Updates}
 use Rattle.cg_graph.specs.Holdings.{occurrences}
 use Rattle.cg_graph.specs.Places.{place_number, list_of, joins_list}
 use Rattle.cg_arena.specs.declared.slot.Slot.{Slot}
+use Rattle.cg_arena.specs.declared.index.SlotIndex.{SlotIndex}
 use Rattle.cg_arena.specs.declared.ends.Ends.{Ends}
 use Rattle.cg_arena.specs.Nodes.{Nodes, ArenaNode, with_node, count_in_list}
 use Rattle.cg_arena.specs.Slots.{before_in, after_in, serial_in, place_in_slot, node_in, node_of, after_of}
 use Rattle.cg_arena.specs.Links.{tied, ends_joined, one_end}
-use Rattle.cg_arena.specs.Table.{nodes_of, serials_of, room_of, IsSpelled, IsNamed, ends_at, row_of, IsSound}
+use Rattle.cg_arena.specs.Table.{nodes_of, rows_of, serials_of, room_of, IsSpelled, IsNamed, ends_at, row_of, IsSound}
+use Rattle.cg_arena.specs.Index.{IsIndex, IsKept}
 use Rattle.cg_arena.proofs.Standing.{last_of-stands}
 use Rattle.cg_arena.proofs.Chains.{IsTied}
 use Rattle.cg_arena.proofs.Ties.{get-tied}
 use Rattle.cg_arena.proofs.Spelled.{stands_placed, vacant_loose, loose_spelled, appended_at, joins_spelled}
 use Rattle.cg_arena.proofs.Shapes.{SameShape, shape-tied, nodes-tied, places-tied}
+use Rattle.cg_arena.proofs.Indexes.{rows_with, index_with}
 use Rattle.cg_arena.proofs.Rows.{get-nodes_of, nodes-insert}
 use Rattle.cg_arena.proofs.Lists.{serials, serials-same, list-at, ten_lists, lists-joined}
 use Rattle.cg_arena.proofs.Sizes.{ends_set-same, ends_set-other, sizes-set}
@@ -45,8 +48,17 @@ last_there cell ends chain loose spelled q below j is =
     (stands_placed cell ends chain loose spelled q j below
     (last_of-stands (chain q) j (sym (ap (λ (e : Ends). e.last) (spelled.ended q below)) ∙ is)))
 
-module _ (s mid new : Slab Slot) (ends : List Ends) (rows later : List (ℕ × ℕ)) (sound : IsSound s ends rows) (spare : ℕ) (v : Nodes) (view_is : value_of s ends rows spare ≡ v) (t k : ℕ) (c : Slot) (n : ArenaNode) (node_is : node_of c ≡ n) (serial_is : c.serial ≡ t) (after_is : (after_of c) ≡ None) (fresh : fin.get v.nodes t ≡ None) (vacant : get s k ≡ None) (updates : Updates s mid k (Some c)) (len : slab_len mid ≡ slab_len s + 1) (few : slab_len mid < 2 ^ 64) (rows_are : (q : ℕ) → row_of later q ≡ (if nat_eq t q then Some k else row_of rows q)) (q : ℕ) (q_is : q ≡ place_number n.place) (below : q < 10) (tied_is : new ≡ tied (ends_at ends q).last (Some k) mid) (e : Ends) (ends_are : e ≡ ends_joined (ends_at ends q) (one_end k)) where
-  no_row : row_of rows t ≡ None
+module _ (s mid new : Slab Slot) (ends : List Ends) (x y : SlotIndex) (kept : IsKept s x ends) (spare : ℕ) (v : Nodes) (view_is : value_of s ends (rows_of s) spare ≡ v) (t k : ℕ) (c : Slot) (n : ArenaNode) (node_is : node_of c ≡ n) (serial_is : c.serial ≡ t) (after_is : (after_of c) ≡ None) (fresh : fin.get v.nodes t ≡ None) (vacant : get s k ≡ None) (updates : Updates s mid k (Some c)) (len : slab_len mid ≡ slab_len s + 1) (few : slab_len mid < 2 ^ 64) (added : IsIndex (λ j. if j == k then Some t else serial_in (get s j)) y) (q : ℕ) (q_is : q ≡ place_number n.place) (below : q < 10) (tied_is : new ≡ tied (ends_at ends q).last (Some k) mid) (e : Ends) (ends_are : e ≡ ends_joined (ends_at ends q) (one_end k)) where
+  abbrev rows : List (ℕ × ℕ)
+  rows = rows_of s
+
+  abbrev later : List (ℕ × ℕ)
+  later = rows_of new
+
+  abbrev sound : IsSound s ends (rows_of s)
+  sound = kept.sound
+
+  no_row : row_of (rows_of s) t ≡ None
   no_row = no_row_there s ends rows spare v view_is t fresh
 
   slot_others : (j : ℕ) → j ≢ k → get mid j ≡ get s j
@@ -55,7 +67,7 @@ module _ (s mid new : Slab Slot) (ends : List Ends) (rows later : List (ℕ × �
   place_is : c.place ≡ n.place
   place_is = ap (λ (m : ArenaNode). m.place) node_is
 
-  loose : IsSpelled (get mid) (ends_at ends) sound.chain (Some k)
+  loose : IsSpelled (get mid) (ends_at ends) kept.sound.chain (Some k)
   loose =
       loose_spelled (get s) (get mid) (ends_at ends) sound.chain k
       (vacant_loose (get s) (ends_at ends) sound.chain k vacant sound.spelled)
@@ -75,7 +87,7 @@ module _ (s mid new : Slab Slot) (ends : List Ends) (rows later : List (ℕ × �
   places : (j : ℕ) → place_in_slot (get new j) ≡ place_in_slot (get mid j)
   places j = ap (λ z. place_in_slot (get z j)) tied_is ∙ places-tied (ends_at ends q).last (Some k) mid j
 
-  added_spelled : IsSpelled (get new) (ends_at (slice_set ends q e)) (appended_at q (k ∷ []) sound.chain) None
+  added_spelled : IsSpelled (get new) (ends_at (slice_set ends q e)) (appended_at q (k ∷ []) kept.sound.chain) None
   added_spelled =
       joins_spelled (get mid) (get new) (ends_at ends) (ends_at (slice_set ends q e)) sound.chain k q loose c.place below
       (ap place_in_slot updates.changed) (ap place_number place_is ∙ sym q_is) (ap after_in updates.changed ∙ after_is)
@@ -89,13 +101,16 @@ module _ (s mid new : Slab Slot) (ends : List Ends) (rows later : List (ℕ × �
   serial_there : (j : ℕ) → j ≢ k → serial_in (get new j) ≡ serial_in (get s j)
   serial_there j differs = shape.serials j ∙ ap serial_in (slot_others j differs)
 
-  row_here : (u : ℕ) → u ≡ t → row_of later u ≡ Some k
+  rows_are : (u : ℕ) → row_of (rows_of new) u ≡ (if nat_eq t u then Some k else row_of (rows_of s) u)
+  rows_are = rows_with s new kept.sound.names t k serial_there no_row vacant serial_here
+
+  row_here : (u : ℕ) → u ≡ t → row_of (rows_of new) u ≡ Some k
   row_here u same = rows_are u ∙ ap (λ b. if b then Some k else row_of rows u) (eq-eqb t u (sym same))
 
-  row_there : (u : ℕ) → u ≢ t → row_of later u ≡ row_of rows u
+  row_there : (u : ℕ) → u ≢ t → row_of (rows_of new) u ≡ row_of (rows_of s) u
   row_there u differs = rows_are u ∙ ap (λ b. if b then Some k else row_of rows u) (ne_eqb t u (λ f. differs (sym f)))
 
-  added_names : IsNamed (λ j. serial_in (get new j)) (row_of later)
+  added_names : IsNamed (λ j. serial_in (get new j)) (row_of (rows_of new))
   added_names =
       record {
         named = λ j u is. elim (cases_eq j k) [
@@ -120,7 +135,7 @@ module _ (s mid new : Slab Slot) (ends : List Ends) (rows later : List (ℕ × �
         ];
       }
 
-  pub added_sound : IsSound new (slice_set ends q e) later
+  added_sound : IsSound new (slice_set ends q e) (rows_of new)
   added_sound =
       let size : e.size ≡ (ends_at ends q).size + 1 = ap (λ (d : Ends). d.size) ends_are in
       record {
@@ -139,14 +154,17 @@ module _ (s mid new : Slab Slot) (ends : List Ends) (rows later : List (ℕ × �
         few = subst (λ m. m < 2 ^ 64) (sym shape.len) few;
       }
 
-  nodes_are : nodes_of later new ≡ fin.insert v.nodes t n
+  pub added_kept : IsKept new y (slice_set ends q e)
+  added_kept = record { sound = added_sound; indexed = index_with s new kept.sound.names t k serial_there no_row vacant serial_here y added }
+
+  nodes_are : nodes_of (rows_of new) new ≡ fin.insert v.nodes t n
   nodes_are =
       nodes-insert rows later s new sound.names t k n vacant rows_are
       (ap (λ z. node_in (get z k)) tied_is ∙ nodes-tied (ends_at ends q).last (Some k) mid k ∙ ap node_in updates.changed ∙ node_is)
       (λ j differs. ap (λ z. node_in (get z j)) tied_is ∙ nodes-tied (ends_at ends q).last (Some k) mid j ∙ ap node_in (slot_others j differs))
       ∙ ap (λ (w : Nodes). fin.insert w.nodes t n) view_is
 
-  absent_before : (r : ℕ) → r < 10 → occurrences k (sound.chain r) ≡ 0
+  absent_before : (r : ℕ) → r < 10 → occurrences k (kept.sound.chain r) ≡ 0
   absent_before r r_below = sound.spelled.standing r k r_below ∙ ap (λ o. count_in_list r (place_in_slot o)) vacant
 
   lists_are : map (serials_of new) (slice_set ends q e) ≡ joins_list v.lists t (place_number n.place)
@@ -163,7 +181,7 @@ module _ (s mid new : Slab Slot) (ends : List Ends) (rows later : List (ℕ × �
       ∙ sym (lists-joined new v.lists sound.chain old_ten old_are t k q (ap (λ o. unwrap_or o 0) serial_here) below r r_below)
       ∙ ap (λ p. list_of (joins_list v.lists t p) r) q_is)
 
-  pub added_view : (left : ℕ) → value_of new (slice_set ends q e) later left ≡ with_node t n (record v { room = room_of left new })
+  pub added_view : (left : ℕ) → value_of new (slice_set ends q e) (rows_of new) left ≡ with_node t n (record v { room = room_of left new })
   added_view left = λ i. record { nodes = nodes_are i; lists = lists_are i; room = room_of left new }
 
   pub added_room : (left : ℕ) → mid.capacity ≡ s.capacity → spare ≤ left + 1 → v.room ≤ room_of left new + 1

@@ -1,6 +1,6 @@
 -- The fields once a node is dropped.
 use Rattle.std.proofs.Common.{◌≡◌, ◌≢◌, ℕ, ◌+◌, ◌-◌, ◌<◌, ◌≤◌, true, List, map, Some, None, sym, ap, ◌∙◌, subst, inl, inr, arith}
-use Rattle.std.specs.Prelude.{is_some, nat_eq, min, slice_set, if◌then◌else◌}
+use Rattle.std.specs.Prelude.{is_some, nat_eq, min, slice_set, ◌==◌, if◌then◌else◌}
 use Rattle.std.proofs.lemmas.Bool.{cases_eq, eq-eqb, ne_eqb}
 use Rattle.std.proofs.lemmas.List.{length-map, length-set}
 use Rattle.std.specs.FinMap as fin
@@ -8,16 +8,19 @@ use Rattle.slab.specs.Slab.{Slab, get, slab_len, Updates}
 use Rattle.cg_graph.specs.Holdings.{occurrences}
 use Rattle.cg_graph.specs.Places.{place_number, list_of, without_serial, leaves_list}
 use Rattle.cg_arena.specs.declared.slot.Slot.{Slot}
+use Rattle.cg_arena.specs.declared.index.SlotIndex.{SlotIndex}
 use Rattle.cg_arena.specs.declared.ends.Ends.{Ends}
 use Rattle.cg_arena.specs.Nodes.{Nodes, without_node, place_in, place_of, count_in_list}
 use Rattle.cg_arena.specs.Slots.{before_in, after_in, serial_in, place_in_slot, node_in, after_of}
 use Rattle.cg_arena.specs.Links.{tied, ends_without}
-use Rattle.cg_arena.specs.Table.{nodes_of, serials_of, room_of, IsSpelled, IsNamed, ends_at, row_of, IsSound}
+use Rattle.cg_arena.specs.Table.{nodes_of, rows_of, serials_of, room_of, IsSpelled, IsNamed, ends_at, row_of, IsSound}
+use Rattle.cg_arena.specs.Index.{IsIndex, IsKept}
 use Rattle.cg_arena.proofs.Standing.{occurrences-without_same}
 use Rattle.cg_arena.proofs.Chains.{IsTied}
 use Rattle.cg_arena.proofs.Ties.{get-tied}
 use Rattle.cg_arena.proofs.Spelled.{count_in_list-same, count_in_list-other, stands_placed, before_stands, after_stands, leaves_spelled, loose_spelled, loose_vacant}
 use Rattle.cg_arena.proofs.Shapes.{SameShape, shape-tied, nodes-tied, places-tied, there-tied}
+use Rattle.cg_arena.proofs.Indexes.{rows_without, index_without}
 use Rattle.cg_arena.proofs.Rows.{nodes-remove}
 use Rattle.cg_arena.proofs.Lists.{serials-same, list-at, ten_lists, lists-left}
 use Rattle.cg_arena.proofs.Sizes.{sizes, ends_set-same, ends_set-other, sizes-set, size_above}
@@ -80,14 +83,23 @@ module _ (s new : Slab Slot) (ends : List Ends) (rows : List (ℕ × ℕ)) (soun
         omega (arith, sizes-set ends sound.ten p below e, size, size_there)
 
 -- the node is removed
-module _ (s mid new : Slab Slot) (ends : List Ends) (rows later : List (ℕ × ℕ)) (sound : IsSound s ends rows) (spare : ℕ) (v : Nodes) (view_is : value_of s ends rows spare ≡ v) (t k : ℕ) (c : Slot) (row_is : row_of rows t ≡ Some k) (slot_is : get s k ≡ Some c) (p : ℕ) (p_is : p ≡ place_number c.place) (below : p < 10) (tied_is : mid ≡ tied c.word.before (after_of c) s) (e : Ends) (ends_are : e ≡ ends_without c.word.before (after_of c) (ends_at ends p)) (updates : Updates mid new k None) (len : slab_len new + 1 ≡ slab_len mid) (rows_are : (q : ℕ) → row_of later q ≡ (if nat_eq t q then None else row_of rows q)) where
+module _ (s mid new : Slab Slot) (ends : List Ends) (x y : SlotIndex) (kept : IsKept s x ends) (spare : ℕ) (v : Nodes) (view_is : value_of s ends (rows_of s) spare ≡ v) (t k : ℕ) (c : Slot) (row_is : row_of (rows_of s) t ≡ Some k) (slot_is : get s k ≡ Some c) (p : ℕ) (p_is : p ≡ place_number c.place) (below : p < 10) (tied_is : mid ≡ tied c.word.before (after_of c) s) (e : Ends) (ends_are : e ≡ ends_without c.word.before (after_of c) (ends_at ends p)) (updates : Updates mid new k None) (len : slab_len new + 1 ≡ slab_len mid) (removed : IsIndex (λ j. if j == k then None else serial_in (get s j)) y) where
+  abbrev rows : List (ℕ × ℕ)
+  rows = rows_of s
+
+  abbrev later : List (ℕ × ℕ)
+  later = rows_of new
+
+  abbrev sound : IsSound s ends (rows_of s)
+  sound = kept.sound
+
   shape : SameShape s mid
   shape = left_shape s mid ends rows sound t k c row_is slot_is p p_is below tied_is
 
   others : (j : ℕ) → j ≢ k → get new j ≡ get mid j
   others j differs = updates.others j differs
 
-  dropped_spelled : IsSpelled (get new) (ends_at (slice_set ends p e)) (λ r. without_serial k (sound.chain r)) None
+  dropped_spelled : IsSpelled (get new) (ends_at (slice_set ends p e)) (λ r. without_serial k (kept.sound.chain r)) None
   dropped_spelled =
       loose_vacant (get new) (ends_at (slice_set ends p e)) (λ r. without_serial k (sound.chain r)) k updates.changed
       (loose_spelled (get mid) (get new) (ends_at (slice_set ends p e)) (λ r. without_serial k (sound.chain r)) k
@@ -101,16 +113,19 @@ module _ (s mid new : Slab Slot) (ends : List Ends) (rows later : List (ℕ × �
   serial_there : (j : ℕ) → j ≢ k → serial_in (get new j) ≡ serial_in (get s j)
   serial_there j differs = ap serial_in (others j differs) ∙ shape.serials j
 
-  row_here : (u : ℕ) → u ≡ t → row_of later u ≡ None
+  rows_are : (u : ℕ) → row_of (rows_of new) u ≡ (if nat_eq t u then None else row_of (rows_of s) u)
+  rows_are = rows_without s new kept.sound.names t k serial_there row_is serial_here
+
+  row_here : (u : ℕ) → u ≡ t → row_of (rows_of new) u ≡ None
   row_here u same = rows_are u ∙ ap (λ b. if b then None else row_of rows u) (eq-eqb t u (sym same))
 
-  row_there : (u : ℕ) → u ≢ t → row_of later u ≡ row_of rows u
+  row_there : (u : ℕ) → u ≢ t → row_of (rows_of new) u ≡ row_of (rows_of s) u
   row_there u differs = rows_are u ∙ ap (λ b. if b then None else row_of rows u) (ne_eqb t u (λ f. differs (sym f)))
 
   was_named : serial_in (get s k) ≡ Some t
   was_named = sound.names.rowed t k row_is
 
-  dropped_names : IsNamed (λ j. serial_in (get new j)) (row_of later)
+  dropped_names : IsNamed (λ j. serial_in (get new j)) (row_of (rows_of new))
   dropped_names =
       record {
         named = λ j u is. elim (cases_eq j k) [
@@ -130,7 +145,7 @@ module _ (s mid new : Slab Slot) (ends : List Ends) (rows later : List (ℕ × �
         ];
       }
 
-  pub dropped_sound : IsSound new (slice_set ends p e) later
+  dropped_sound : IsSound new (slice_set ends p e) (rows_of new)
   dropped_sound =
       record {
         ten = length-set ends p e ∙ sound.ten;
@@ -145,7 +160,10 @@ module _ (s mid new : Slab Slot) (ends : List Ends) (rows later : List (ℕ × �
         few = omega (arith, sound.few, len, shape.len);
       }
 
-  nodes_are : nodes_of later new ≡ fin.remove v.nodes t
+  pub dropped_kept : IsKept new y (slice_set ends p e)
+  dropped_kept = record { sound = dropped_sound; indexed = index_without s new kept.sound.names t k serial_there row_is serial_here y removed }
+
+  nodes_are : nodes_of (rows_of new) new ≡ fin.remove v.nodes t
   nodes_are =
       nodes-remove rows later s new sound.names t k row_is rows_are
       (λ j differs. ap node_in (others j differs) ∙ left_nodes s mid ends rows sound t k c row_is slot_is p p_is below tied_is j)
@@ -154,7 +172,7 @@ module _ (s mid new : Slab Slot) (ends : List Ends) (rows later : List (ℕ × �
   place_is : place_number (place_of v t) ≡ p
   place_is = ap (λ o. place_number (place_in o)) (node_here s ends rows spare v view_is t k c row_is slot_is) ∙ sym p_is
 
-  gone : (r : ℕ) → occurrences k (without_serial k (sound.chain r)) ≡ 0
+  gone : (r : ℕ) → occurrences k (without_serial k (kept.sound.chain r)) ≡ 0
   gone r = occurrences-without_same k (sound.chain r)
 
   lists_are : map (serials_of new) (slice_set ends p e) ≡ leaves_list v.lists t p
@@ -171,7 +189,7 @@ module _ (s mid new : Slab Slot) (ends : List Ends) (rows later : List (ℕ × �
       (absent s mid ends rows sound t k c row_is slot_is p p_is below tied_is)
       r r_below))
 
-  pub dropped_view : (left : ℕ) → value_of new (slice_set ends p e) later left ≡ without_node t (record v { room = room_of left new })
+  pub dropped_view : (left : ℕ) → value_of new (slice_set ends p e) (rows_of new) left ≡ without_node t (record v { room = room_of left new })
   dropped_view left =
       λ i. record {
         nodes = nodes_are i;

@@ -1,4 +1,6 @@
 pub mod Writes
+pub mod Guesses
+pub mod Indexes
 pub mod Standing
 pub mod Chains
 pub mod Ties

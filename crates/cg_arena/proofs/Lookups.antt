@@ -4,16 +4,18 @@ use Rattle.std.specs.Prelude.{option_map, option_and_then, slice_get, unwrap_or,
 use Rattle.std.proofs.lemmas.List.{length-map, get_or-replicate}
 use Rattle.std.specs.Ordering.{nat_cmp}
 use Rattle.std.specs.FinMap as fin
-use Rattle.slab.specs.Slab.{Slab, get, slab_len}
+use Rattle.slab.specs.Slab.{Slab, get, slab_len, entries_from}
 use Rattle.cg_graph.specs.Holdings.{occurrences}
 use Rattle.cg_graph.specs.Places.{place_number, list_of}
 use Rattle.cg_graph.proofs.Maps.{same_map}
 use Rattle.cg_arena.specs.declared.slot.Slot.{Slot}
+use Rattle.cg_arena.specs.declared.index.SlotIndex.{SlotIndex}
 use Rattle.cg_arena.specs.declared.ends.Ends.{Ends}
 use Rattle.cg_arena.specs.Nodes.{Nodes, ArenaNode, IsPlace, IsListed, following, place_in, place_of, no_nodes, count_in_list}
 use Rattle.cg_arena.specs.Slots.{after_in, serial_in, place_in_slot, node_in, node_of, after_of}
 use Rattle.cg_arena.specs.Links.{first_or, no_ends, IsLinked}
-use Rattle.cg_arena.specs.Table.{nodes_of, serials_of, room_of, IsSpelled, ends_at, row_of, IsSound}
+use Rattle.cg_arena.specs.Table.{nodes_of, rows_of, serials_of, room_of, IsSpelled, ends_at, row_of, IsSound}
+use Rattle.cg_arena.specs.Index.{IsKept}
 use Rattle.cg_arena.proofs.Standing.{one-same, occurrences-cons, occurrences-append, IsBetween, stands_between}
 use Rattle.cg_arena.proofs.Chains.{linked_back}
 use Rattle.cg_arena.proofs.Spelled.{stands_placed, count_in_list-same}
@@ -115,15 +117,19 @@ module _ (s : Slab Slot) (ends : List Ends) (rows : List (ℕ × ℕ)) (spare : 
           ∙ sym (ap (count_of_node p) (node_here s ends rows spare v view_is t k found.0 row_is found.1))
 
 -- an arena with no node
-module _ (s : Slab Slot) (e : Ends) (rows : List (ℕ × ℕ)) (vacant : s.slots ≡ []) (ends_are : e ≡ no_ends) (no_rows : rows ≡ []) where
+module _ (s : Slab Slot) (e : Ends) (x : SlotIndex) (vacant : s.slots ≡ []) (ends_are : e ≡ no_ends) (no_rows : x.rows.entries ≡ []) where
+  abbrev rows : List (ℕ × ℕ)
+  rows = rows_of s
+
   abbrev ten_ends : List Ends
   ten_ends = replicate 10 e
 
   nothing_at : (k : ℕ) → get s k ≡ None
   nothing_at k = ap (λ xs. get_or xs k None) vacant
 
-  no_row : (t : ℕ) → row_of rows t ≡ None
-  no_row t = ap (λ es. row_of es t) no_rows
+  no_row : (t : ℕ) → row_of (rows_of s) t ≡ None
+  unfolding rows_of
+  no_row t = ap (λ xs. row_of (map (λ (f : ℕ × Slot). (f.1.serial, f.0)) (entries_from 0 xs)) t) vacant
 
   empty_spelled : IsSpelled (get s) (ends_at ten_ends) (λ p. []) None
   empty_spelled =
@@ -133,7 +139,7 @@ module _ (s : Slab Slot) (e : Ends) (rows : List (ℕ × ℕ)) (vacant : s.slots
         standing = λ p k below. sym (ap (λ o. count_in_list p (place_in_slot o)) (nothing_at k));
       }
 
-  pub new_sound : IsSound s ten_ends rows
+  new_sound : IsSound s ten_ends (rows_of s)
   new_sound =
       let no_len : slab_len s ≡ 0 = ap (λ xs. slab_len (record s { slots = xs })) vacant in
       record {
@@ -149,7 +155,17 @@ module _ (s : Slab Slot) (e : Ends) (rows : List (ℕ × ℕ)) (vacant : s.slots
         few = omega (arith, no_len);
       }
 
-  pub new_value : (spare : ℕ) → value_of s ten_ends rows spare ≡ no_nodes (room_of spare s)
+  pub new_kept : IsKept s x ten_ends
+  new_kept =
+      record {
+        sound = new_sound;
+        indexed = record {
+          found = λ k t is. let none : None ≡ Some t = sym (ap serial_in (nothing_at k)) ∙ is in absurd (cc);
+          right = λ t k is. let none : None ≡ Some k = sym (ap (λ es. row_of es t) no_rows) ∙ is in absurd (cc);
+        };
+      }
+
+  pub new_value : (spare : ℕ) → value_of s ten_ends (rows_of s) spare ≡ no_nodes (room_of spare s)
   new_value spare =
       let nodes_are : nodes_of rows s ≡ fin.empty = same_map (nodes_of rows s) fin.empty (λ q. get-nodes_of rows s q ∙ ap (option_map (λ k. node_in (get s k))) (no_row q) ∙ sym (fin.get-empty nat_cmp q)) in
       let lists_are : map (serials_of s) ten_ends ≡ replicate 10 [] =

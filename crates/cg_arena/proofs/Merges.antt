@@ -9,11 +9,13 @@ use Rattle.cg_graph.specs.Maps.{mapped}
 use Rattle.cg_graph.specs.Holdings.{occurrences}
 use Rattle.cg_graph.specs.Places.{place_number, list_of, merge_lists}
 use Rattle.cg_arena.specs.declared.slot.Slot.{Slot}
+use Rattle.cg_arena.specs.declared.index.SlotIndex.{SlotIndex}
 use Rattle.cg_arena.specs.declared.ends.Ends.{Ends}
 use Rattle.cg_arena.specs.Nodes.{Nodes, with_lists_merged, place_merged, node_placed, count_in_list}
 use Rattle.cg_arena.specs.Slots.{before_in, after_in, serial_in, place_in_slot, node_in, node_of, with_place}
 use Rattle.cg_arena.specs.Links.{tied, all_placed, chain_from, ends_joined, no_ends}
-use Rattle.cg_arena.specs.Table.{nodes_of, serials_of, IsSpelled, ends_at, row_of, IsSound}
+use Rattle.cg_arena.specs.Table.{nodes_of, rows_of, serials_of, IsSpelled, ends_at, row_of, IsSound}
+use Rattle.cg_arena.specs.Index.{IsKept}
 use Rattle.cg_arena.proofs.Standing.{first-stands}
 use Rattle.cg_arena.proofs.Chains.{HasLinks, IsTied, chain-read}
 use Rattle.cg_arena.proofs.Ties.{get-tied}
@@ -23,7 +25,7 @@ use Rattle.cg_arena.proofs.Shapes.{SameShape, shape-trans, shape-tied, shape-all
 use Rattle.cg_arena.proofs.Rows.{nodes-mapped}
 use Rattle.cg_arena.proofs.Lists.{serials, serials-same, list-at, ten_lists, lists-merged}
 use Rattle.cg_arena.proofs.Sizes.{ends_set-same, ends_set-other, sizes-set, two_sizes}
-use Rattle.cg_arena.proofs.Sound.{value_of, the_slot, slot_there, named_still, room_still}
+use Rattle.cg_arena.proofs.Sound.{kept_by, seen_by, value_of, the_slot, slot_there, named_still, room_still}
 use Rattle.cg_arena.proofs.Lookups.{list_is, lists_ten}
 use Rattle.cg_arena.proofs.Adds.{some_numbered, last_there}
 
@@ -39,7 +41,13 @@ place_written place (Some c) there = refl
 pub sizes_fit : (s : Slab Slot) (ends : List Ends) (rows : List (ℕ × ℕ)) → IsSound s ends rows → (p q : ℕ) → p < 10 → q < 10 → p ≢ q → (ends_at ends q).size + (ends_at ends p).size < 2 ^ 64
 sizes_fit s ends rows sound p q below_p below_q differ = omega (arith, two_sizes ends p q sound.ten below_p below_q differ, sound.counted, sound.few)
 
-module _ (s placed new : Slab Slot) (ends : List Ends) (rows : List (ℕ × ℕ)) (sound : IsSound s ends rows) (spare : ℕ) (v : Nodes) (view_is : value_of s ends rows spare ≡ v) (from to : Place) (p q : ℕ) (p_is : p ≡ place_number from) (q_is : q ≡ place_number to) (below_p : p < 10) (below_q : q < 10) (numbers_differ : place_number from ≢ place_number to) (placed_is : placed ≡ all_placed (chain_from s (ends_at ends p).size (ends_at ends p).first) to s) (tied_is : new ≡ tied (ends_at ends q).last (ends_at ends p).first placed) (e : Ends) (ends_are : e ≡ ends_joined (ends_at ends q) (ends_at ends p)) (none : Ends) (none_is : none ≡ no_ends) where
+module _ (s placed new : Slab Slot) (ends : List Ends) (x : SlotIndex) (kept : IsKept s x ends) (spare : ℕ) (v : Nodes) (view_is : value_of s ends (rows_of s) spare ≡ v) (from to : Place) (p q : ℕ) (p_is : p ≡ place_number from) (q_is : q ≡ place_number to) (below_p : p < 10) (below_q : q < 10) (numbers_differ : place_number from ≢ place_number to) (placed_is : placed ≡ all_placed (chain_from s (ends_at ends p).size (ends_at ends p).first) to s) (tied_is : new ≡ tied (ends_at ends q).last (ends_at ends p).first placed) (e : Ends) (ends_are : e ≡ ends_joined (ends_at ends q) (ends_at ends p)) (none : Ends) (none_is : none ≡ no_ends) where
+  abbrev rows : List (ℕ × ℕ)
+  rows = rows_of s
+
+  abbrev sound : IsSound s ends (rows_of s)
+  sound = kept.sound
+
   differ : p ≢ q
   differ same = numbers_differ (sym p_is ∙ same ∙ q_is)
 
@@ -108,7 +116,7 @@ module _ (s placed new : Slab Slot) (ends : List Ends) (rows : List (ℕ × ℕ)
       (ends_set-same (slice_set ends q e) joined_ten p below_p none ∙ none_is)
       (λ r not_to not_from. ends_set-other (slice_set ends q e) p r none not_from ∙ ends_set-other ends q r e not_to)
 
-  pub merged_sound : IsSound new (slice_set (slice_set ends q e) p none) rows
+  merged_sound : IsSound new (slice_set (slice_set ends q e) p none) rows
   merged_sound =
       let size : e.size ≡ (ends_at ends q).size + (ends_at ends p).size = ap (λ (d : Ends). d.size) ends_are in
       let nothing : none.size ≡ 0 = ap (λ (d : Ends). d.size) none_is in
@@ -174,10 +182,14 @@ module _ (s placed new : Slab Slot) (ends : List Ends) (rows : List (ℕ × ℕ)
       list-at new new_ends (merged_chain p q sound.chain) None new_ten all_spelled r below
       ∙ sym (lists-merged new v.lists sound.chain old_ten old_are p q differ below_p below_q r below))
 
-  pub merged_view : value_of new (slice_set (slice_set ends q e) p none) rows spare ≡ with_lists_merged from to v
+  pub merged_kept : IsKept new x (slice_set (slice_set ends q e) p none)
+  merged_kept = kept_by s new shape x ends (slice_set (slice_set ends q e) p none) kept merged_sound
+
+  pub merged_view : value_of new (slice_set (slice_set ends q e) p none) (rows_of new) spare ≡ with_lists_merged from to v
   merged_view =
-      λ i. record {
+      seen_by s new shape (slice_set (slice_set ends q e) p none) spare (with_lists_merged from to v)
+      (λ i. record {
         nodes = nodes_are i;
         lists = (lists_are ∙ (λ j. merge_lists v.lists (p_is j) (q_is j))) i;
         room = (room_still spare s new shape.capacity shape.len ∙ ap (λ (w : Nodes). w.room) view_is) i;
-      }
+      })

@@ -8,11 +8,13 @@ use Rattle.cg_value.specs.declared.Place.{Place}
 use Rattle.cg_graph.specs.Maps.{changed}
 use Rattle.cg_graph.specs.Places.{place_number, list_of, without_serial, leaves_list, move_between}
 use Rattle.cg_arena.specs.declared.slot.Slot.{Slot}
+use Rattle.cg_arena.specs.declared.index.SlotIndex.{SlotIndex}
 use Rattle.cg_arena.specs.declared.ends.Ends.{Ends}
 use Rattle.cg_arena.specs.Nodes.{Nodes, with_node_moved, node_placed, place_in, place_of}
 use Rattle.cg_arena.specs.Slots.{before_in, after_in, serial_in, place_in_slot, node_in, with_place, with_after, after_of}
 use Rattle.cg_arena.specs.Links.{rewritten, tied, ends_without, ends_joined, one_end}
-use Rattle.cg_arena.specs.Table.{nodes_of, serials_of, IsSpelled, ends_at, row_of, IsSound}
+use Rattle.cg_arena.specs.Table.{nodes_of, rows_of, serials_of, IsSpelled, ends_at, row_of, IsSound}
+use Rattle.cg_arena.specs.Index.{IsKept}
 use Rattle.cg_arena.proofs.Chains.{IsTied}
 use Rattle.cg_arena.proofs.Writes.{get-rewritten_same, get-rewritten_other, part-rewritten}
 use Rattle.cg_arena.proofs.Ties.{get-tied}
@@ -21,7 +23,7 @@ use Rattle.cg_arena.proofs.Shapes.{SameShape, shape-trans, shape-rewritten, shap
 use Rattle.cg_arena.proofs.Rows.{nodes-changed}
 use Rattle.cg_arena.proofs.Lists.{serials, serials-same, list-at, ten_lists, lists-left, lists-joined}
 use Rattle.cg_arena.proofs.Sizes.{sizes, ends_set-same, ends_set-other, sizes-set, size_within}
-use Rattle.cg_arena.proofs.Sound.{value_of, node_here, named_still, room_still}
+use Rattle.cg_arena.proofs.Sound.{kept_by, seen_by, value_of, node_here, named_still, room_still}
 use Rattle.cg_arena.proofs.Lookups.{list_is, lists_ten, with_serial}
 use Rattle.cg_arena.proofs.Adds.{last_there}
 use Rattle.cg_arena.proofs.Drops.{absent, left_shape, left_places, left_nodes, left_there, left_spelled, left_sizes}
@@ -39,7 +41,13 @@ ended_there None there = absurd (cc)
 ended_there (Some c) there = refl
 
 -- s is left by the node, and is `left` then; there the node gets its place, and then no slot after it; then it is tied to the last of the other list
-module _ (s left placed ended new : Slab Slot) (ends : List Ends) (rows : List (ℕ × ℕ)) (sound : IsSound s ends rows) (spare : ℕ) (v : Nodes) (view_is : value_of s ends rows spare ≡ v) (t k : ℕ) (c : Slot) (row_is : row_of rows t ≡ Some k) (slot_is : get s k ≡ Some c) (p : ℕ) (p_is : p ≡ place_number c.place) (below_p : p < 10) (left_is : left ≡ tied c.word.before (after_of c) s) (d : Ends) (d_is : d ≡ ends_without c.word.before (after_of c) (ends_at ends p)) (place : Place) (placed_is : placed ≡ rewritten (with_place place) k left) (ended_is : ended ≡ rewritten (with_after None) k placed) (q : ℕ) (q_is : q ≡ place_number place) (below_q : q < 10) where
+module _ (s left placed ended new : Slab Slot) (ends : List Ends) (x : SlotIndex) (kept : IsKept s x ends) (spare : ℕ) (v : Nodes) (view_is : value_of s ends (rows_of s) spare ≡ v) (t k : ℕ) (c : Slot) (row_is : row_of (rows_of s) t ≡ Some k) (slot_is : get s k ≡ Some c) (p : ℕ) (p_is : p ≡ place_number c.place) (below_p : p < 10) (left_is : left ≡ tied c.word.before (after_of c) s) (d : Ends) (d_is : d ≡ ends_without c.word.before (after_of c) (ends_at ends p)) (place : Place) (placed_is : placed ≡ rewritten (with_place place) k left) (ended_is : ended ≡ rewritten (with_after None) k placed) (q : ℕ) (q_is : q ≡ place_number place) (below_q : q < 10) where
+  abbrev rows : List (ℕ × ℕ)
+  rows = rows_of s
+
+  abbrev sound : IsSound s ends (rows_of s)
+  sound = kept.sound
+
   abbrev between_ends : List Ends
   between_ends = slice_set ends p d
 
@@ -126,7 +134,7 @@ module _ (s left placed ended new : Slab Slot) (ends : List Ends) (rows : List (
         (ends_set-same between_ends between_ten q below_q e ∙ ends_are)
         (λ r differs. ends_set-other between_ends q r e differs)
 
-    pub moved_sound : IsSound new (slice_set (slice_set ends p d) q e) rows
+    moved_sound : IsSound new (slice_set (slice_set ends p d) q e) rows
     moved_sound =
         let size : e.size ≡ (ends_at between_ends q).size + 1 = ap (λ (x : Ends). x.size) ends_are in
         record {
@@ -144,6 +152,9 @@ module _ (s left placed ended new : Slab Slot) (ends : List Ends) (rows : List (
           counted = omega (arith, sizes-set between_ends between_ten q below_q e, size, between_sizes, sound.counted, shape.len);
           few = subst (λ m. m < 2 ^ 64) (sym shape.len) sound.few;
         }
+
+    pub moved_kept : IsKept new x (slice_set (slice_set ends p d) q e)
+    moved_kept = kept_by s new shape x ends (slice_set (slice_set ends p d) q e) kept moved_sound
 
     nodes_are : nodes_of rows new ≡ changed (node_placed place) t v.nodes
     nodes_are =
@@ -173,10 +184,11 @@ module _ (s left placed ended new : Slab Slot) (ends : List Ends) (rows : List (
         list-at new (slice_set between_ends q e) (appended_at q (k ∷ []) between_chain) None (length-set between_ends q e ∙ between_ten) moved_spelled r r_below
         ∙ sym (lists-joined new (leaves_list v.lists t p) between_chain left_ten left_are t k q (ap (λ o. unwrap_or o 0) (shape.serials k ∙ sound.names.rowed t k row_is)) below_q r r_below))
 
-    pub moved_view : value_of new (slice_set (slice_set ends p d) q e) rows spare ≡ with_node_moved t place v
+    pub moved_view : value_of new (slice_set (slice_set ends p d) q e) (rows_of new) spare ≡ with_node_moved t place v
     moved_view =
-        λ i. record {
+        seen_by s new shape (slice_set (slice_set ends p d) q e) spare (with_node_moved t place v)
+        (λ i. record {
           nodes = nodes_are i;
           lists = (lists_are ∙ (λ j. move_between v.lists t (sym place_was j) (q_is j))) i;
           room = (room_still spare s new shape.capacity shape.len ∙ ap (λ (w : Nodes). w.room) view_is) i;
-        }
+        })

@@ -9,15 +9,18 @@ use Rattle.cg_value.specs.declared.Place.{Place}
 use Rattle.cg_graph.specs.Holdings.{occurrences}
 use Rattle.cg_arena.specs.declared.slot.Slot.{Slot}
 use Rattle.cg_arena.specs.Slots.{serial_in, place_in_slot, node_in, with_before, with_after, with_place}
+use Rattle.cg_arena.specs.Table.{rows_of}
 use Rattle.cg_arena.specs.Links.{rewritten, after_set, before_set, tied, all_placed}
 use Rattle.cg_arena.proofs.Standing.{one-same, one-apart, occurrences-cons}
 use Rattle.cg_arena.proofs.Writes.{part-rewritten, get-rewritten_same, get-rewritten_other}
 use Rattle.cg_arena.proofs.Ties.{part-tied}
+use Rattle.cg_arena.proofs.Indexes.{rows-rewritten}
 
 pub record SameShape (s new : Slab Slot) : Type 0 where
   pub serials : (k : ℕ) → serial_in (get new k) ≡ serial_in (get s k)
   pub len : slab_len new ≡ slab_len s
   pub capacity : new.capacity ≡ s.capacity
+  pub rows : rows_of new ≡ rows_of s
 
 pub shape-trans : (s mid new : Slab Slot) → SameShape s mid → SameShape mid new → SameShape s new
 shape-trans s mid new first second =
@@ -25,6 +28,7 @@ shape-trans s mid new first second =
       serials = λ k. second.serials k ∙ first.serials k;
       len = second.len ∙ first.len;
       capacity = second.capacity ∙ first.capacity;
+      rows = second.rows ∙ first.rows;
     }
 
 still_some : (f : Slot → Slot) (o : Option Slot) → is_some (option_map f o) ≡ is_some o
@@ -54,10 +58,11 @@ module _ (f : Slot → Slot) (k : ℕ) (s : Slab Slot) where
         serials = part-rewritten serial_in f (λ x. ap Some (keeps x)) k s;
         len = len-rewritten;
         capacity = capacity-rewritten;
+        rows = rows-rewritten f keeps k s;
       }
 
 same_shape : (s : Slab Slot) → SameShape s s
-same_shape s = record { serials = λ k. refl; len = refl; capacity = refl }
+same_shape s = record { serials = λ k. refl; len = refl; capacity = refl; rows = refl }
 
 pub shape-after_set : (at after : Option ℕ) (s : Slab Slot) → SameShape s (after_set at after s)
 shape-after_set None after s = same_shape s

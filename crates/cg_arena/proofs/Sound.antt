@@ -10,15 +10,18 @@ use Rattle.cg_graph.specs.Maps.{mapped, changed}
 use Rattle.cg_graph.specs.Holdings.{occurrences}
 use Rattle.cg_graph.proofs.Maps.{get-changed_same}
 use Rattle.cg_arena.specs.declared.slot.Slot.{Slot}
+use Rattle.cg_arena.specs.declared.index.SlotIndex.{SlotIndex}
 use Rattle.cg_arena.specs.declared.ends.Ends.{Ends}
 use Rattle.cg_arena.specs.Nodes.{Nodes, ArenaNode, HasNode, IsPlace, count_in, count_of, with_node_changed, node_counted_up, node_counted_down, counted_up, counted_down, count_in_list}
 use Rattle.cg_arena.specs.Slots.{before_in, after_in, serial_in, place_in_slot, node_in, node_of, after_of}
 use Rattle.cg_arena.specs.Links.{rewritten}
-use Rattle.cg_arena.specs.Table.{nodes_of, serials_of, room_of, IsSpelled, IsNamed, ends_at, row_of, IsSound}
+use Rattle.cg_arena.specs.Table.{nodes_of, rows_of, serials_of, room_of, IsSpelled, IsNamed, ends_at, row_of, IsSound}
+use Rattle.cg_arena.specs.Index.{IsKept}
 use Rattle.cg_arena.proofs.Standing.{one-same, one-apart, occurrences-single}
 use Rattle.cg_arena.proofs.Chains.{HasLinks, linked_still}
 use Rattle.cg_arena.proofs.Writes.{part-rewritten, get-rewritten_same, get-rewritten_other}
 use Rattle.cg_arena.proofs.Shapes.{SameShape, shape-rewritten}
+use Rattle.cg_arena.proofs.Indexes.{index_still}
 use Rattle.cg_arena.proofs.Rows.{get-nodes_of, nodes-changed}
 use Rattle.cg_arena.proofs.Lists.{serials-same, list-at, ten_lists}
 
@@ -117,8 +120,26 @@ module _ (s new : Slab Slot) (ends : List Ends) (rows : List (ℕ × ℕ)) (soun
       ∙ serials-same s new (sound.chain r) (λ j stands. names j)
       ∙ sym (list-at s ends sound.chain None sound.ten sound.spelled r below))
 
+-- all serials stand where they stood
+module _ (s new : Slab Slot) (shape : SameShape s new) where
+  pub kept_by : (x : SlotIndex) (ends later : List Ends) → IsKept s x ends → IsSound new later (rows_of s) → IsKept new x later
+  kept_by x ends later kept sound =
+      record {
+        sound = subst (IsSound new later) (sym shape.rows) sound;
+        indexed = index_still (λ k. serial_in (get s k)) (λ k. serial_in (get new k)) x shape.serials kept.indexed;
+      }
+
+  pub seen_by : (ends : List Ends) (spare : ℕ) (v : Nodes) → value_of new ends (rows_of s) spare ≡ v → value_of new ends (rows_of new) spare ≡ v
+  seen_by ends spare v is = ap (λ rows. value_of new ends rows spare) shape.rows ∙ is
+
 -- a field of one node is written
-module _ (f : Slot → Slot) (befores : (x : Slot) → (f x).word.before ≡ x.word.before) (afters : (x : Slot) → after_of (f x) ≡ after_of x) (serial_same : (x : Slot) → (f x).serial ≡ x.serial) (place_same : (x : Slot) → (f x).place ≡ x.place) (s : Slab Slot) (ends : List Ends) (rows : List (ℕ × ℕ)) (sound : IsSound s ends rows) (k : ℕ) where
+module _ (f : Slot → Slot) (befores : (x : Slot) → (f x).word.before ≡ x.word.before) (afters : (x : Slot) → after_of (f x) ≡ after_of x) (serial_same : (x : Slot) → (f x).serial ≡ x.serial) (place_same : (x : Slot) → (f x).place ≡ x.place) (s : Slab Slot) (ends : List Ends) (x : SlotIndex) (kept : IsKept s x ends) (k : ℕ) where
+  abbrev rows : List (ℕ × ℕ)
+  rows = rows_of s
+
+  abbrev sound : IsSound s ends (rows_of s)
+  sound = kept.sound
+
   shape : SameShape s (rewritten f k s)
   shape = shape-rewritten f k s serial_same
 
@@ -128,12 +149,12 @@ module _ (f : Slot → Slot) (befores : (x : Slot) → (f x).word.before ≡ x.w
   field_places : (j : ℕ) → place_in_slot (get (rewritten f k s) j) ≡ place_in_slot (get s j)
   field_places j = part-rewritten place_in_slot f (λ x. ap Some (place_same x)) k s j
 
-  pub field_sound : (new : Slab Slot) → new ≡ rewritten f k s → IsSound new ends rows
-  field_sound new is = subst (λ z. IsSound z ends rows) (sym is) (sound_still s (rewritten f k s) ends rows sound field_links field_places shape.serials shape.len)
+  pub field_kept : (new : Slab Slot) → new ≡ rewritten f k s → IsKept new x ends
+  field_kept new is = subst (λ z. IsKept z x ends) (sym is) (kept_by s (rewritten f k s) shape x ends ends kept (sound_still s (rewritten f k s) ends (rows_of s) kept.sound field_links field_places shape.serials shape.len))
 
   -- the value with the node changed
-  pub field_view : (new : Slab Slot) → new ≡ rewritten f k s → (spare : ℕ) (v : Nodes) → value_of s ends rows spare ≡ v → (g : ArenaNode → ArenaNode) (t : ℕ) (c : Slot) → row_of rows t ≡ Some k → get s k ≡ Some c → node_of (f c) ≡ g (node_of c)
-      → value_of new ends rows spare ≡ with_node_changed g t v
+  pub field_view : (new : Slab Slot) → new ≡ rewritten f k s → (spare : ℕ) (v : Nodes) → value_of s ends (rows_of s) spare ≡ v → (g : ArenaNode → ArenaNode) (t : ℕ) (c : Slot) → row_of (rows_of s) t ≡ Some k → get s k ≡ Some c → node_of (f c) ≡ g (node_of c)
+      → value_of new ends (rows_of new) spare ≡ with_node_changed g t v
   field_view new is spare v view_is g t c row_is slot_is node_is =
       let node_here : node_in (get (rewritten f k s) k) ≡ g (node_in (get s k)) =
       ap node_in (get-rewritten_same f k s ∙ ap (option_map f) slot_is) ∙ node_is ∙ ap (λ o. g (node_in o)) (sym slot_is) in
@@ -144,7 +165,9 @@ module _ (f : Slot → Slot) (befores : (x : Slot) → (f x).word.before ≡ x.w
         lists = lists_are i;
         room = room_still spare s (rewritten f k s) shape.capacity shape.len i;
       } in
-      ap (λ z. value_of z ends rows spare) is ∙ changed_is ∙ ap (with_node_changed g t) view_is
+      ap (λ z. value_of z ends (rows_of z) spare) is
+      ∙ seen_by s (rewritten f k s) shape ends spare (with_node_changed g t (value_of s ends rows spare)) changed_is
+      ∙ ap (with_node_changed g t) view_is
 
 -- one count is raised, or lowered
 once_changed : (step : ℕ → ArenaNode → ArenaNode) → ((n : ArenaNode) → step 0 n ≡ n) → (t : ℕ) (m : fin.FinMap nat_cmp ArenaNode) → mapped (λ q n. step (occurrences q (t ∷ [])) n) m ≡ changed (step 1) t m

@@ -4,3 +4,4 @@ pub mod Links
 pub mod Table
 pub mod Word
 pub mod Halves
+pub mod Index

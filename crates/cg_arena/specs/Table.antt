@@ -3,7 +3,7 @@ use Rattle.std.specs.Prelude.{◌≡◌, ℕ, ◌-◌, ◌<◌, ◌^◌, ◌==�
 use Rattle.std.specs.Ordering.{nat_cmp}
 use Rattle.std.specs.FinMap as fin
 use Rattle.std.specs.Map.{lookup}
-use Rattle.slab.specs.Slab.{Slab, get, slab_len}
+use Rattle.slab.specs.Slab.{Slab, get, slab_len, entries}
 use Rattle.cg_graph.specs.Holdings.{occurrences}
 use Rattle.cg_arena.specs.declared.slot.Slot.{Slot}
 use Rattle.cg_arena.specs.declared.ends.Ends.{Ends}
@@ -11,6 +11,10 @@ use Rattle.cg_value.specs.declared.Place.{Place}
 use Rattle.cg_arena.specs.Nodes.{ArenaNode, IsPlace, count_in_list}
 use Rattle.cg_arena.specs.Slots.{serial_in, place_in_slot, node_in}
 use Rattle.cg_arena.specs.Links.{chain_from, IsLinked, ends_of, no_ends}
+
+-- the row of each occupied slot: its serial, and which slot it is
+unfoldable pub rows_of : Slab Slot → List (ℕ × ℕ)
+rows_of s = map (λ e. (e.1.serial, e.0)) (entries s)
 
 -- the nodes of the rows: each row names the slot of a serial
 unfoldable pub nodes_of : List (ℕ × ℕ) → Slab Slot → fin.FinMap nat_cmp ArenaNode

@@ -4,20 +4,17 @@ ghost use Rattle.std.specs.FinMap as map;
 ghost use Rattle.slab.specs.Slab.{get, slab_len, HasRoomFor, Updates};
 ghost use Rattle.indexmap.specs.IndexMap.{spare};
 ghost use Rattle.cg_graph.specs.Places.{place_number};
-ghost use Rattle.cg_arena.specs.Table.{row_of, IsNamed};
-ghost use Rattle.cg_arena.specs.Slots.{serial_in, generation_in};
+ghost use Rattle.cg_arena.specs.Slots.{generation_in};
 
 use crate::ends::Ends;
-use crate::hints::Hints;
+use crate::index::{SlotIndex, node_if};
 use crate::links::{
     join, lower_candidate, mark_finalized, place_all, serial_at, set_after, set_count, set_number,
     set_place, slot_at, unlink,
 };
 use crate::near::Near;
 use crate::slot::{Head, Slot};
-use cg_serial::{SerialHashing, serial_hashing};
 use cg_value::{KindCode, Place};
-use indexmap::IndexMap;
 use slab::Slab;
 use std::alloc::{AllocError, Global};
 use std::marker::Model;
@@ -32,8 +29,7 @@ use std::marker::Model;
 #[derive(Drop)]
 pub struct Arena {
     slots: Slab<Slot>,
-    rows: IndexMap<u64, usize, SerialHashing>,
-    hints: Hints,
+    index: SlotIndex,
     ends: [Ends; 10],
 }
 
@@ -46,15 +42,16 @@ impl Model for Arena {
     ghost coded = { nodes_code };
 
     ghost use Rattle.indexmap.specs.IndexMap.{spare};
-    ghost use Rattle.cg_arena.specs.Table.{nodes_of, serials_of, room_of, IsSound};
+    ghost use Rattle.cg_arena.specs.Table.{nodes_of, rows_of, serials_of, room_of};
+    ghost use Rattle.cg_arena.specs.Index.{IsKept};
 
     ghost view = { λ a. record {
-      nodes = nodes_of a.rows.entries a.slots;
+      nodes = nodes_of (rows_of a.slots) a.slots;
       lists = each (serials_of a.slots) a.ends;
-      room = room_of (spare a.rows) a.slots;
+      room = room_of (spare a.index.rows) a.slots;
     } };
 
-    ghost invariant = { λ a. IsSound a.slots a.ends a.rows.entries };
+    ghost invariant = { λ a. IsKept a.slots a.index a.ends };
 }
 
 /// The number of a place among the lists.
@@ -98,98 +95,10 @@ fn first_of(place: Place) -> usize
     }
 }
 
-/// The slot of a serial that has a row, by its row.
-#[inline(never)]
-fn slot_by_row(rows: &IndexMap<u64, usize, SerialHashing>, serial: u64) -> usize
-    requires { IsSome (row_of rows.now.entries serial) }
-    ensures { row_of rows.now.entries serial ≡ Some result }
-{
-    match rows.get(&serial) {
-        Some(slot) => *slot,
-        None => unreachable!(),
-    }
-}
-
-/// The slot of a serial that has a row. Where the serial stands in the slot that is guessed, its row is not looked up.
-#[inline(always)]
-fn slot_of(
-    slots: &Slab<Slot>,
-    rows: &IndexMap<u64, usize, SerialHashing>,
-    hints: &Hints,
-    serial: u64,
-) -> usize
-    requires named { IsNamed (λ k. serial_in (get slots.now k)) (row_of rows.now.entries) }
-    requires there { IsSome (row_of rows.now.entries serial) }
-    ensures { row_of rows.now.entries serial ≡ Some result }
-{
-    let guess = hints.guess(serial);
-    match slots.get(guess) {
-        Some(slot) if slot.serial == serial => guess,
-        _ => slot_by_row(rows, serial),
-    }
-}
-
-/// `slot_of`, and the node in it.
-#[inline(always)]
-fn slot_with(
-    slots: &Slab<Slot>,
-    rows: &IndexMap<u64, usize, SerialHashing>,
-    hints: &Hints,
-    serial: u64,
-) -> (usize, Slot)
-    requires named { IsNamed (λ k. serial_in (get slots.now k)) (row_of rows.now.entries) }
-    requires there { IsSome (row_of rows.now.entries serial) }
-    ensures at { row_of rows.now.entries serial ≡ Some result.0 }
-    ensures slot { get slots.now result.0 ≡ Some result.1 }
-{
-    let guess = hints.guess(serial);
-    match slots.get(guess) {
-        Some(slot) if slot.serial == serial => (guess, *slot),
-        _ => {
-            let at = slot_by_row(rows, serial);
-            (at, slot_at(slots, at))
-        }
-    }
-}
-
-/// `slot_with`, which looks nothing up where the serial stands in the slot `near`.
-#[inline(always)]
-fn slot_near(
-    slots: &Slab<Slot>,
-    rows: &IndexMap<u64, usize, SerialHashing>,
-    hints: &Hints,
-    serial: u64,
-    near: Near,
-) -> (usize, Slot)
-    requires named { IsNamed (λ k. serial_in (get slots.now k)) (row_of rows.now.entries) }
-    requires there { IsSome (row_of rows.now.entries serial) }
-    ensures at { row_of rows.now.entries serial ≡ Some result.0 }
-    ensures slot { get slots.now result.0 ≡ Some result.1 }
-{
-    match slots.get(near.slot) {
-        Some(slot) if slot.serial == serial => (near.slot, *slot),
-        _ => slot_with(slots, rows, hints, serial),
-    }
-}
-
-/// Makes room for the guess of one more node. Where there is no memory for it, some guesses are wrong.
-#[inline(always)]
-fn make_guesses(hints: &mut Hints, slots: &Slab<Slot>, rows: &IndexMap<u64, usize, SerialHashing>) {
-    if slots.len() >= hints.len() && hints.double() {
-        tell_all(hints, rows);
-    }
-}
-
-/// Tells the slot of each row.
-fn tell_all(hints: &mut Hints, rows: &IndexMap<u64, usize, SerialHashing>) {
-    for (serial, slot) in rows.iter() {
-        hints.tell(*serial, *slot);
-    }
-}
-
 /// Puts a node into a slot that `reserve` made room for.
 fn occupy(slots: &mut Slab<Slot>, slot: Slot) -> usize
     requires { HasRoomFor slots.old 1 }
+    ensures key { result ≡ slots.old.vacant_key }
     ensures vacant { get slots.old result ≡ None }
     ensures updates { Updates slots.old slots.new result (Some slot) }
     ensures len { slab_len slots.new ≡ slab_len slots.old + 1 }
@@ -202,31 +111,6 @@ fn occupy(slots: &mut Slab<Slot>, slot: Slot) -> usize
     at
 }
 
-/// Names the slot of a new serial, in a row that `reserve` made room for.
-fn add_row(rows: &mut IndexMap<u64, usize, SerialHashing>, serial: u64, at: usize)
-    requires { 0 < spare rows.old }
-    ensures rows { (s : ℕ) → row_of rows.new.entries s ≡ (if serial == s then Some at else row_of rows.old.entries s) }
-    ensures room { spare rows.old ≤ spare rows.new + 1 }
-{
-    match rows.insert(serial, at) {
-        Ok(_) => {}
-        Err(_) => unreachable!(),
-    }
-}
-
-/// Takes out the row of a serial that has one, and answers its slot.
-fn take_row(rows: &mut IndexMap<u64, usize, SerialHashing>, serial: u64) -> usize
-    requires { IsSome (row_of rows.old.entries serial) }
-    ensures at { row_of rows.old.entries serial ≡ Some result }
-    ensures rows { (s : ℕ) → row_of rows.new.entries s ≡ (if serial == s then None else row_of rows.old.entries s) }
-    ensures room { spare rows.old ≤ spare rows.new }
-{
-    match rows.swap_remove(&serial) {
-        Some(slot) => slot,
-        None => unreachable!(),
-    }
-}
-
 impl Arena {
     ghost use Rattle.cg_arena.specs.Nodes.{HasNode, IsPlace, TakesNumber, IsListed, count_of as count_at, place_of as place_at, list_at, following, no_nodes, new_node, with_room, with_node, without_node, with_node_changed, node_finalized, node_numbered, node_lowered, counted_up, counted_down, with_node_moved, with_lists_merged};
     ghost use Rattle.cg_arena.specs.Slots.{node_of};
@@ -237,8 +121,7 @@ impl Arena {
     {
         Arena {
             slots: Slab::new(alloc),
-            rows: IndexMap::with_hasher(alloc, serial_hashing()),
-            hints: Hints::new(alloc),
+            index: SlotIndex::new(alloc),
             ends: [Ends::none(); 10],
         }
     }
@@ -252,8 +135,7 @@ impl Arena {
         ensures room { self.old.room ≤ self.new.room }
         ensures succeeds { 0 < self.old.room → IsOk result }
     {
-        self.rows.reserve(1)?;
-        make_guesses(&mut self.hints, &self.slots, &self.rows);
+        self.index.reserve(&self.slots)?;
         self.slots.reserve(1)
     }
 
@@ -298,9 +180,9 @@ impl Arena {
             (with_room self.new.room self.old) }
         ensures room { self.old.room ≤ self.new.room + 1 }
     {
+        let vacant = self.slots.vacant_key();
+        self.index.add(&self.slots, serial, vacant);
         let at = occupy(&mut self.slots, Slot::new(serial, code, class, body, place));
-        add_row(&mut self.rows, serial, at);
-        self.hints.tell(serial, at);
         let list = number_of(place);
         self.ends[list] = join(&mut self.slots, self.ends[list], Ends::one(at));
     }
@@ -324,8 +206,8 @@ impl Arena {
         ensures code { IfSome (map.get self.old.nodes serial) (λ n. result.0 ≡ n.code) }
         ensures body { IfSome (map.get self.old.nodes serial) (λ n. result.1 ≡ n.body) }
     {
-        let at = take_row(&mut self.rows, serial);
-        let slot = slot_at(&self.slots, at);
+        let (at, slot) = self.index.slot_with(&self.slots, serial);
+        self.index.remove(&self.slots, serial, at);
         let seat = (slot.code, slot.body);
         let from = number_of(slot.place);
         self.ends[from] = unlink(&mut self.slots, self.ends[from], slot);
@@ -340,13 +222,13 @@ impl Arena {
         requires room { count_at self.old serial < 2 ^ 32 - 1 }
         ensures { self.new ≡ counted_up (serial ∷ []) self.old }
     {
-        let guess = self.hints.guess(serial);
-        match self.slots.get(guess) {
-            Some(slot) if slot.serial == serial => {
+        let guess = self.index.guess(serial);
+        match node_if(&self.slots, guess, serial) {
+            Some(slot) => {
                 let count = slot.count + 1;
                 set_count(&mut self.slots, guess, count);
             }
-            _ => self.inc_by_row(serial),
+            None => self.inc_by_row(serial),
         }
     }
 
@@ -358,14 +240,14 @@ impl Arena {
         ensures falls { self.new ≡ counted_down (serial ∷ []) self.old }
         ensures none { IsTrue result ↔ (count_at self.new serial ≡ 0) }
     {
-        let guess = self.hints.guess(serial);
-        match self.slots.get(guess) {
-            Some(slot) if slot.serial == serial => {
+        let guess = self.index.guess(serial);
+        match node_if(&self.slots, guess, serial) {
+            Some(slot) => {
                 let count = slot.count - 1;
                 set_count(&mut self.slots, guess, count);
                 count == 0
             }
-            _ => self.dec_by_row(serial),
+            None => self.dec_by_row(serial),
         }
     }
 
@@ -376,8 +258,8 @@ impl Arena {
         requires room { count_at self.old serial < 2 ^ 32 - 1 }
         ensures { self.new ≡ counted_up (serial ∷ []) self.old }
     {
-        let at = slot_by_row(&self.rows, serial);
-        let count = slot_at(&self.slots, at).count + 1;
+        let (at, slot) = self.index.slot_with(&self.slots, serial);
+        let count = slot.count + 1;
         set_count(&mut self.slots, at, count);
     }
 
@@ -388,8 +270,8 @@ impl Arena {
         ensures falls { self.new ≡ counted_down (serial ∷ []) self.old }
         ensures none { IsTrue result ↔ (count_at self.new serial ≡ 0) }
     {
-        let at = slot_by_row(&self.rows, serial);
-        let count = slot_at(&self.slots, at).count - 1;
+        let (at, slot) = self.index.slot_with(&self.slots, serial);
+        let count = slot.count - 1;
         set_count(&mut self.slots, at, count);
         count == 0
     }
@@ -398,7 +280,7 @@ impl Arena {
     pub fn has(&self, serial: u64) -> bool
         ensures { IsTrue result ↔ HasNode self.now serial }
     {
-        self.rows.contains_key(&serial)
+        self.index.has(&self.slots, serial)
     }
 
     /// The node of a serial, in its slot.
@@ -407,7 +289,7 @@ impl Arena {
         requires { HasNode self.now serial }
         ensures { map.get self.now.nodes serial ≡ Some (node_of result) }
     {
-        slot_with(&self.slots, &self.rows, &self.hints, serial).1
+        self.index.slot_with(&self.slots, serial).1
     }
 
     /// `node`, where it is near.
@@ -416,7 +298,7 @@ impl Arena {
         requires { HasNode self.now serial }
         ensures { map.get self.now.nodes serial ≡ Some (node_of result) }
     {
-        slot_near(&self.slots, &self.rows, &self.hints, serial, near).1
+        self.index.slot_near(&self.slots, serial, near).1
     }
 
     /// The count, 0 to 2^32 - 1.
@@ -461,7 +343,7 @@ impl Arena {
         requires { HasNode self.now serial }
         ensures { IfSome (map.get self.now.nodes serial) (λ n. result ≡ n.code) }
     {
-        let (at, slot) = slot_with(&self.slots, &self.rows, &self.hints, serial);
+        let (at, slot) = self.index.slot_with(&self.slots, serial);
         *near = Near::at(Some(at));
         slot.code
     }
@@ -545,7 +427,7 @@ impl Arena {
         requires { HasNode self.old serial }
         ensures { self.new ≡ with_node_changed node_finalized serial self.old }
     {
-        let at = slot_of(&self.slots, &self.rows, &self.hints, serial);
+        let at = self.index.slot_of(&self.slots, serial);
         mark_finalized(&mut self.slots, at);
     }
 
@@ -556,7 +438,7 @@ impl Arena {
         requires place { TakesNumber (place_at self.old serial) }
         ensures { self.new ≡ with_node_changed (node_numbered number) serial self.old }
     {
-        let at = slot_of(&self.slots, &self.rows, &self.hints, serial);
+        let at = self.index.slot_of(&self.slots, serial);
         set_number(&mut self.slots, at, number);
     }
 
@@ -568,7 +450,7 @@ impl Arena {
         requires place { TakesNumber (place_at self.old serial) }
         ensures { self.new ≡ with_node_changed (node_numbered (count_at self.old serial)) serial self.old }
     {
-        let (at, slot) = slot_near(&self.slots, &self.rows, &self.hints, serial, near);
+        let (at, slot) = self.index.slot_near(&self.slots, serial, near);
         set_number(&mut self.slots, at, slot.count);
     }
 
@@ -578,7 +460,20 @@ impl Arena {
         requires { HasNode self.old serial }
         ensures { self.new ≡ with_node_changed node_lowered serial self.old }
     {
-        let at = slot_of(&self.slots, &self.rows, &self.hints, serial);
+        let guess = self.index.guess(serial);
+        match node_if(&self.slots, guess, serial) {
+            Some(_) => lower_candidate(&mut self.slots, guess),
+            None => self.lower_by_row(serial),
+        }
+    }
+
+    /// `lower`, by the row.
+    #[inline(never)]
+    fn lower_by_row(&mut self, serial: u64)
+        requires { HasNode self.old serial }
+        ensures { self.new ≡ with_node_changed node_lowered serial self.old }
+    {
+        let at = self.index.slot_of(&self.slots, serial);
         lower_candidate(&mut self.slots, at);
     }
 
@@ -597,7 +492,7 @@ impl Arena {
         requires place { IsPlace place }
         ensures { self.new ≡ with_node_moved serial place self.old }
     {
-        let (at, slot) = slot_near(&self.slots, &self.rows, &self.hints, serial, near);
+        let (at, slot) = self.index.slot_near(&self.slots, serial, near);
         let from = number_of(slot.place);
         self.ends[from] = unlink(&mut self.slots, self.ends[from], slot);
         set_place(&mut self.slots, at, place);
@@ -647,7 +542,7 @@ impl Arena {
         requires { HasNode self.now serial }
         ensures { result ≡ following serial (list_at self.now (place_at self.now serial)) }
     {
-        let (_, slot) = slot_near(&self.slots, &self.rows, &self.hints, serial, *near);
+        let (_, slot) = self.index.slot_near(&self.slots, serial, *near);
         let after = slot.after();
         *near = Near::at(after);
         serial_at(&self.slots, after)
@@ -658,7 +553,7 @@ impl Arena {
         requires { HasNode self.now serial }
         ensures { result ≡ following serial (list_at self.now (place_at self.now serial)) }
     {
-        let at = slot_of(&self.slots, &self.rows, &self.hints, serial);
+        let at = self.index.slot_of(&self.slots, serial);
         serial_at(&self.slots, slot_at(&self.slots, at).after())
     }
 

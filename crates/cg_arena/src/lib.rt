@@ -7,6 +7,7 @@
 mod arena;
 mod ends;
 mod hints;
+mod index;
 mod links;
 mod near;
 mod slot;

@@ -227,7 +227,7 @@ fn counts_come_down_to_zero(rt: HostRuntime) -> Result<(), Fail> {
     Ok(())
 }
 
-/// These four choose the same one of the first 64 guesses, so that all but the one told last are looked up by their rows.
+/// These four choose the same one of the first 64 guesses, so that all but the one added last are looked up by their rows.
 const SHARING: [u64; 4] = [5, 68, 135, 198];
 
 #[test]
@@ -243,13 +243,45 @@ fn serials_that_share_a_guess_keep_their_nodes(rt: HostRuntime) -> Result<(), Fa
     assert_eq!(rt; marks_of(&arena, 68), Some((1, 0, false)));
     assert_eq!(rt; marks_of(&arena, 135), Some((0, 0, true)));
     assert_eq!(rt; marks_of(&arena, 198), Some((0, 9, false)));
-    // The slot of a node that is gone is another's, and what was guessed of it is wrong.
+    // The slot of a node that is gone is another's.
     discard(&mut arena, 198);
     put(&mut arena, 7, Place::Gen(0))?;
     assert_eq!(rt; marks_of(&arena, 198), None);
     assert_eq!(rt; marks_of(&arena, 68), Some((1, 0, false)));
     assert_eq!(rt; parts_of(&arena, 7), Some((None, 7, Place::Gen(0))));
     assert_eq!(rt; parts_of(&arena, 135), Some((None, 135, Place::Gen(0))));
+    Ok(())
+}
+
+#[test]
+fn nodes_are_found_as_guesses_grow(rt: HostRuntime) -> Result<(), Fail> {
+    let mut arena = Arena::new(rt.alloc());
+    for serial in SHARING {
+        put(&mut arena, serial, Place::Gen(1))?;
+    }
+    // From the 64th node on the guesses are doubled three times.
+    for serial in 0..300 {
+        put(&mut arena, serial, Place::Gen(0))?;
+        let was = if SHARING.contains(&serial) {
+            Place::Gen(1)
+        } else {
+            Place::Gen(0)
+        };
+        assert_eq!(rt;
+            parts_of(&arena, serial),
+            Some((None, serial as usize, was))
+        );
+    }
+    for serial in SHARING {
+        assert_eq!(rt;
+            parts_of(&arena, serial),
+            Some((None, serial as usize, Place::Gen(1)))
+        );
+        discard(&mut arena, serial);
+    }
+    for serial in 0..300 {
+        assert_eq!(rt; arena.has(serial), !SHARING.contains(&serial));
+    }
     Ok(())
 }
 

@@ -1,10 +1,17 @@
 use Rattle.std.proofs.Common.{sym, ◌∙◌}
 use Rattle.indexmap.specs.IndexMap.{spare}
+use Rattle.cg_arena.specs.Table.{rows_of}
 use Rattle.cg_arena.proofs.Sound.{row_there, row_there_back}
 use Rattle.cg_arena.proofs.arena.Arena.has.Goals as goal
 
+pub has-requires-clause-named : goal.has-requires-clause-named
+has-requires-clause-named c = c.self.invariant.sound.names
+
+pub has-requires-clause-index : goal.has-requires-clause-index
+has-requires-clause-index c = c.self.invariant.indexed
+
 pub returns : goal.returns
 returns c = (
-  λ yes. row_there_back c.self.inside.slots c.self.inside.ends c.self.inside.rows.entries (spare c.self.inside.rows) c.args.self.now c.self.view_is c.args.serial (sym c.contains_key.ensures ∙ yes),
-  λ has. c.contains_key.ensures ∙ row_there c.self.inside.slots c.self.inside.ends c.self.inside.rows.entries (spare c.self.inside.rows) c.args.self.now c.self.view_is c.args.serial has,
+  λ yes. row_there_back c.self.inside.slots c.self.inside.ends (rows_of c.self.inside.slots) (spare c.self.inside.index.rows) c.args.self.now c.self.view_is c.args.serial (c.has.ensures.0 yes),
+  λ has. c.has.ensures.1 (row_there c.self.inside.slots c.self.inside.ends (rows_of c.self.inside.slots) (spare c.self.inside.index.rows) c.args.self.now c.self.view_is c.args.serial has),
 )

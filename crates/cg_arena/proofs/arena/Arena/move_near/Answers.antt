@@ -4,30 +4,33 @@ use Rattle.indexmap.specs.IndexMap.{spare}
 use Rattle.cg_arena.specs.Slots.{after_of}
 use Rattle.cg_arena.specs.declared.ends.Ends.{Ends}
 use Rattle.cg_arena.specs.Links.{tied, ends_joined}
-use Rattle.cg_arena.specs.Table.{ends_at}
+use Rattle.cg_arena.specs.Table.{rows_of, ends_at}
 use Rattle.cg_arena.proofs.Sound.{row_there, slot_placed}
 use Rattle.cg_arena.proofs.Drops.{size_there}
-use Rattle.cg_arena.proofs.Moves.{room_for_one, moved_sound, moved_view}
+use Rattle.cg_arena.proofs.Moves.{room_for_one, moved_kept, moved_view}
 use Rattle.cg_arena.proofs.arena.Arena.move_near.Goals as goal
 
 pub slot_near-at-requires-clause-named : goal.slot_near-at-requires-clause-named
-slot_near-at-requires-clause-named c = c.self.invariant.names
+slot_near-at-requires-clause-named c = c.self.invariant.sound.names
+
+pub slot_near-at-requires-clause-index : goal.slot_near-at-requires-clause-index
+slot_near-at-requires-clause-index c = c.self.invariant.indexed
 
 pub slot_near-at-requires-clause-there : goal.slot_near-at-requires-clause-there
-slot_near-at-requires-clause-there c = row_there c.self.inside.slots c.self.inside.ends c.self.inside.rows.entries (spare c.self.inside.rows) c.args.self.now c.self.view_is c.args.serial c.requires.has
+slot_near-at-requires-clause-there c = row_there c.self.inside.slots c.self.inside.ends (rows_of c.self.inside.slots) (spare c.self.inside.index.rows) c.args.self.now c.self.view_is c.args.serial c.requires.has
 
 pub number_of-from-requires : goal.number_of-from-requires
-number_of-from-requires c = slot_placed c.self.inside.slots c.self.inside.ends c.self.inside.rows.entries c.self.invariant c.slot_near-at.result.0 c.slot_near-at.result.1 c.slot_near-at.ensures.slot
+number_of-from-requires c = slot_placed c.self.inside.slots c.self.inside.ends (rows_of c.self.inside.slots) c.self.invariant.sound c.slot_near-at.result.0 c.slot_near-at.result.1 c.slot_near-at.ensures.slot
 
 pub unlink-requires : goal.unlink-requires
 unlink-requires c =
-    size_there c.self.inside.slots (tied c.slot_near-at.result.1.word.before (after_of c.slot_near-at.result.1) c.self.inside.slots) c.self.inside.ends c.self.inside.rows.entries c.self.invariant c.args.serial c.slot_near-at.result.0 c.slot_near-at.result.1 c.slot_near-at.ensures.at c.slot_near-at.ensures.slot
+    size_there c.self.inside.slots (tied c.slot_near-at.result.1.word.before (after_of c.slot_near-at.result.1) c.self.inside.slots) c.self.inside.ends (rows_of c.self.inside.slots) c.self.invariant.sound c.args.serial c.slot_near-at.result.0 c.slot_near-at.result.1 c.slot_near-at.ensures.at c.slot_near-at.ensures.slot
     c.number_of-from.result c.number_of-from.ensures.number c.number_of-from.ensures.below refl
 
 pub join-requires : goal.join-requires
 join-requires c =
     let one : c.one.result.size ≡ 1 = ap (λ (e : Ends). e.size) c.one.ensures in
-    let fits = room_for_one c.self.inside.slots c.unlink.new.slots c.set_place.new.slots c.set_after.new.slots c.set_after.new.slots c.self.inside.ends c.self.inside.rows.entries c.self.invariant (spare c.self.inside.rows) c.args.self.now c.self.view_is
+    let fits = room_for_one c.self.inside.slots c.unlink.new.slots c.set_place.new.slots c.set_after.new.slots c.set_after.new.slots c.self.inside.ends c.self.inside.index c.self.invariant (spare c.self.inside.index.rows) c.args.self.now c.self.view_is
     c.args.serial c.slot_near-at.result.0 c.slot_near-at.result.1 c.slot_near-at.ensures.at c.slot_near-at.ensures.slot
     c.number_of-from.result c.number_of-from.ensures.number c.number_of-from.ensures.below c.unlink.ensures.slots c.unlink.result c.unlink.ensures.ends
     c.args.place c.set_place.ensures c.set_after.ensures c.number_of-to.result c.number_of-to.ensures.number c.number_of-to.ensures.below in
@@ -35,7 +38,7 @@ join-requires c =
 
 pub invariant_of-self : goal.invariant_of-self
 invariant_of-self c =
-    moved_sound c.self.inside.slots c.unlink.new.slots c.set_place.new.slots c.set_after.new.slots c.join.new.slots c.self.inside.ends c.self.inside.rows.entries c.self.invariant (spare c.self.inside.rows) c.args.self.now c.self.view_is
+    moved_kept c.self.inside.slots c.unlink.new.slots c.set_place.new.slots c.set_after.new.slots c.join.new.slots c.self.inside.ends c.self.inside.index c.self.invariant (spare c.self.inside.index.rows) c.args.self.now c.self.view_is
     c.args.serial c.slot_near-at.result.0 c.slot_near-at.result.1 c.slot_near-at.ensures.at c.slot_near-at.ensures.slot
     c.number_of-from.result c.number_of-from.ensures.number c.number_of-from.ensures.below c.unlink.ensures.slots c.unlink.result c.unlink.ensures.ends
     c.args.place c.set_place.ensures c.set_after.ensures c.number_of-to.result c.number_of-to.ensures.number c.number_of-to.ensures.below
@@ -44,7 +47,7 @@ invariant_of-self c =
 
 pub returns : goal.returns
 returns c =
-    moved_view c.self.inside.slots c.unlink.new.slots c.set_place.new.slots c.set_after.new.slots c.join.new.slots c.self.inside.ends c.self.inside.rows.entries c.self.invariant (spare c.self.inside.rows) c.args.self.now c.self.view_is
+    moved_view c.self.inside.slots c.unlink.new.slots c.set_place.new.slots c.set_after.new.slots c.join.new.slots c.self.inside.ends c.self.inside.index c.self.invariant (spare c.self.inside.index.rows) c.args.self.now c.self.view_is
     c.args.serial c.slot_near-at.result.0 c.slot_near-at.result.1 c.slot_near-at.ensures.at c.slot_near-at.ensures.slot
     c.number_of-from.result c.number_of-from.ensures.number c.number_of-from.ensures.below c.unlink.ensures.slots c.unlink.result c.unlink.ensures.ends
     c.args.place c.set_place.ensures c.set_after.ensures c.number_of-to.result c.number_of-to.ensures.number c.number_of-to.ensures.below

@@ -1,17 +1,21 @@
 use Rattle.std.proofs.Common.{◌∙◌, ap}
 use Rattle.indexmap.specs.IndexMap.{spare}
+use Rattle.cg_arena.specs.Table.{rows_of}
 use Rattle.cg_arena.proofs.Sound.{row_there}
 use Rattle.cg_arena.proofs.Lookups.{serial_of_slot, next_is}
 use Rattle.cg_arena.proofs.arena.Arena.next_near.Goals as goal
 
 pub slot_near-slot-requires-clause-named : goal.slot_near-slot-requires-clause-named
-slot_near-slot-requires-clause-named c = c.self.invariant.names
+slot_near-slot-requires-clause-named c = c.self.invariant.sound.names
+
+pub slot_near-slot-requires-clause-index : goal.slot_near-slot-requires-clause-index
+slot_near-slot-requires-clause-index c = c.self.invariant.indexed
 
 pub slot_near-slot-requires-clause-there : goal.slot_near-slot-requires-clause-there
-slot_near-slot-requires-clause-there c = row_there c.self.inside.slots c.self.inside.ends c.self.inside.rows.entries (spare c.self.inside.rows) c.args.self.now c.self.view_is c.args.serial c.requires
+slot_near-slot-requires-clause-there c = row_there c.self.inside.slots c.self.inside.ends (rows_of c.self.inside.slots) (spare c.self.inside.index.rows) c.args.self.now c.self.view_is c.args.serial c.requires
 
 pub returns : goal.returns
 returns c =
     c.serial_at.ensures
     ∙ ap (serial_of_slot c.self.inside.slots) c.after-after.ensures
-    ∙ next_is c.self.inside.slots c.self.inside.ends c.self.inside.rows.entries (spare c.self.inside.rows) c.args.self.now c.self.view_is c.self.invariant c.args.serial c.slot_near-slot.result.0 c.slot_near-slot.result.1 c.slot_near-slot.ensures.at c.slot_near-slot.ensures.slot
+    ∙ next_is c.self.inside.slots c.self.inside.ends (rows_of c.self.inside.slots) (spare c.self.inside.index.rows) c.args.self.now c.self.view_is c.self.invariant.sound c.args.serial c.slot_near-slot.result.0 c.slot_near-slot.result.1 c.slot_near-slot.ensures.at c.slot_near-slot.ensures.slot

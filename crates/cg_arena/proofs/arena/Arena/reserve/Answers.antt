@@ -1,12 +1,18 @@
 use Rattle.indexmap.specs.IndexMap.{spare}
-use Rattle.cg_arena.proofs.Reserves.{reserved_sound, reserved_view}
+use Rattle.cg_arena.specs.Table.{rows_of}
+use Rattle.cg_arena.proofs.Reserves.{reserved_kept, reserved_view}
 use Rattle.cg_arena.proofs.arena.Arena.reserve.Goals as goal
 
+pub reserve-requires-clause-named : goal.reserve-requires-clause-named
+reserve-requires-clause-named c = c.self.invariant.sound.names
+
+pub reserve-requires-clause-index : goal.reserve-requires-clause-index
+reserve-requires-clause-index c = c.self.invariant.indexed
+
 pub invariant_of-self-2 : goal.invariant_of-self-2
-invariant_of-self-2 c =
-    reserved_sound c.self.inside.slots c.reserve-2.new.self c.self.inside.ends c.self.inside.rows.entries c.reserve.new.self.entries c.self.invariant c.reserve-2.ensures.rest_kept c.reserve.ensures.entries
+invariant_of-self-2 c = reserved_kept c.self.inside.slots c.reserve-2.new.self c.self.inside.ends c.self.inside.index c.reserve.new.self c.self.invariant c.reserve-2.ensures.rest_kept c.reserve.ensures.index
 
 pub returns-clause-stays : goal.returns-clause-stays
 returns-clause-stays c =
-    reserved_view c.self.inside.slots c.reserve-2.new.self c.self.inside.ends c.self.inside.rows.entries c.reserve.new.self.entries c.self.invariant c.reserve-2.ensures.rest_kept c.reserve.ensures.entries
-    (spare c.self.inside.rows) (spare c.reserve.new.self) c.args.self.now c.self.view_is
+    reserved_view c.self.inside.slots c.reserve-2.new.self c.self.inside.ends c.self.inside.index c.reserve.new.self c.self.invariant c.reserve-2.ensures.rest_kept c.reserve.ensures.index
+    (spare c.self.inside.index.rows) (spare c.reserve.new.self.rows) c.args.self.now c.self.view_is

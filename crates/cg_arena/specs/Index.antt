@@ -1,0 +1,31 @@
+-- Where the slot of a serial is found: as its guess says, or in a row. (Ours.)
+use Rattle.std.specs.Prelude.{◌≡◌, ◌⊎◌, ℕ, ◌/◌, ◌%◌, ◌^◌, List, Option, Some, slice_index_or, bit_and, bit_xor}
+use Rattle.cg_arena.specs.declared.hints.Hints.{Hints}
+use Rattle.cg_arena.specs.declared.index.SlotIndex.{SlotIndex}
+use Rattle.slab.specs.Slab.{Slab, get}
+use Rattle.cg_arena.specs.declared.slot.Slot.{Slot}
+use Rattle.cg_arena.specs.declared.ends.Ends.{Ends}
+use Rattle.cg_arena.specs.Slots.{serial_in}
+use Rattle.cg_arena.specs.Table.{row_of, rows_of, IsSound}
+
+-- which guess is a serial's: that of its low bits, with those above them mixed in
+unfoldable pub guess_index : Hints → ℕ → ℕ
+guess_index h s = bit_and (bit_xor s (s / 2 ^ (h.bits % 64))) h.mask
+
+-- the slot that is guessed
+abbrev pub guess_at : Hints → ℕ → ℕ
+guess_at h s = slice_index_or h.guesses.items (guess_index h s) 0
+
+-- the index finds a serial in a slot
+abbrev pub LeadsTo : SlotIndex → ℕ → ℕ → Type 0
+LeadsTo x s k = (guess_at x.hints s ≡ k) ⊎ (row_of x.rows.entries s ≡ Some k)
+
+-- it finds the serial of each slot, and no row is wrong
+pub record IsIndex (serial : ℕ → Option ℕ) (x : SlotIndex) : Type 0 where
+  pub found : (k s : ℕ) → serial k ≡ Some s → LeadsTo x s k
+  pub right : (s k : ℕ) → row_of x.rows.entries s ≡ Some k → serial k ≡ Some s
+
+-- what is true of an arena's fields: its chains, and the index of its slots
+pub record IsKept (slots : Slab Slot) (index : SlotIndex) (ends : List Ends) : Type 0 where
+  pub sound : IsSound slots ends (rows_of slots)
+  pub indexed : IsIndex (λ k. serial_in (get slots k)) index
