@@ -4,7 +4,7 @@ use Rattle.cg_arena.specs.Table.{rows_of}
 use Rattle.cg_arena.specs.Slots.{after_of}
 use Rattle.cg_arena.specs.Nodes.{ArenaNode}
 use Rattle.cg_arena.specs.Links.{tied}
-use Rattle.cg_arena.proofs.Sound.{row_there, slot_there, slot_placed, node_here}
+use Rattle.cg_arena.proofs.Sound.{row_there, slot_placed, node_here}
 use Rattle.cg_arena.proofs.Drops.{size_there, left_there, dropped_kept, dropped_view, dropped_room}
 use Rattle.cg_arena.proofs.arena.Arena.drop_seat.Goals as goal
 

@@ -1,5 +1,4 @@
 use Rattle.indexmap.specs.IndexMap.{spare}
-use Rattle.cg_arena.specs.Table.{rows_of}
 use Rattle.cg_arena.proofs.Reserves.{reserved_kept, reserved_view}
 use Rattle.cg_arena.proofs.arena.Arena.reserve.Goals as goal
 

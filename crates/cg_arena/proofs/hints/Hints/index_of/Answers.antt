@@ -1,4 +1,4 @@
-use Rattle.std.proofs.Common.{◌≡◌, ◌∙◌, ap}
+use Rattle.std.proofs.Common.{ap}
 use Rattle.std.specs.Prelude.{bit_and, bit_xor}
 use Rattle.cg_arena.specs.Index.{guess_index}
 use Rattle.cg_arena.proofs.hints.Hints.index_of.Goals as goal

@@ -1,4 +1,4 @@
-use Rattle.std.proofs.Common.{sym, ◌∙◌}
+use Rattle.std.proofs.Common.{◌∙◌}
 use Rattle.cg_arena.proofs.Guesses.{guess-same, guess-other}
 use Rattle.cg_arena.proofs.hints.Hints.tell.Goals as goal
 

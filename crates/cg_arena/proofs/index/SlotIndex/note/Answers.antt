@@ -1,9 +1,7 @@
-use Rattle.std.proofs.Common.{◌≡◌, ◌≢◌, ℕ, Some, sym, ap, ◌∙◌, subst}
+use Rattle.std.proofs.Common.{◌≡◌, ℕ, Some, ap, ◌∙◌, subst}
 use Rattle.std.specs.Prelude.{◌==◌, if◌then◌else◌}
-use Rattle.slab.specs.Slab.{get}
-use Rattle.cg_arena.specs.Slots.{serial_in}
 use Rattle.cg_arena.specs.Table.{row_of}
-use Rattle.cg_arena.specs.Index.{guess_at, guess_index}
+use Rattle.cg_arena.specs.Index.{guess_at}
 use Rattle.cg_arena.proofs.Indexes.{displaced_found}
 use Rattle.cg_arena.proofs.index.SlotIndex.note.Goals as goal
 

@@ -1,7 +1,6 @@
-use Rattle.std.proofs.Common.{◌≢◌, IsSome, Some, refl, sym, ap, ◌∙◌, subst}
+use Rattle.std.proofs.Common.{IsSome, refl, sym, ap, ◌∙◌, subst}
 use Rattle.slab.specs.Slab.{get}
 use Rattle.cg_arena.specs.Slots.{serial_in}
-use Rattle.cg_arena.specs.Index.{guess_at}
 use Rattle.cg_arena.proofs.Indexes.{by_row, here_row}
 use Rattle.cg_arena.proofs.index.SlotIndex.slot_of.Goals as goal
 

@@ -1,7 +1,7 @@
-use Rattle.std.proofs.Common.{IsSome, Some, refl, sym, ap, ◌∙◌, subst}
+use Rattle.std.proofs.Common.{IsSome, refl, sym, ap, ◌∙◌, subst}
 use Rattle.slab.specs.Slab.{get}
 use Rattle.cg_arena.specs.Slots.{serial_in}
-use Rattle.cg_arena.proofs.Indexes.{by_row, here_row, row_stands}
+use Rattle.cg_arena.proofs.Indexes.{by_row, here_row}
 use Rattle.cg_arena.proofs.Sound.{some_serial}
 use Rattle.cg_arena.proofs.index.SlotIndex.slot_with.Goals as goal
 
