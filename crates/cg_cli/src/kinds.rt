@@ -5,7 +5,7 @@ ghost use Rattle.cg_value.specs.declared.KindCode.TheVariants as code;
 ghost use Rattle.cg_heap.specs.Boxes.{six_kinds};
 
 use cg_any_kind::AnyKind;
-use cg_kind::{Kind, Noted};
+use cg_kind::Kind;
 use cg_kinds::ListKind;
 use cg_value::{Entry, KindCode, Val};
 use std::alloc::{AllocError, Global};
@@ -46,14 +46,6 @@ impl Kind for Refusing {
 
     fn entry_at(&self, at: usize, i: usize) -> Entry {
         self.kind.entry_at(at, i)
-    }
-
-    fn get(&self, at: usize, i: usize) -> Option<Entry> {
-        self.kind.get(at, i)
-    }
-
-    fn note_from(&self, at: usize, from: usize, found: &mut [u64]) -> Noted {
-        self.kind.note_from(at, from, found)
     }
 
     fn find(&self, at: usize, key: Val) -> Option<usize> {

@@ -15,7 +15,7 @@ ghost use Rattle.cg_heap.specs.Calls.{CanPutIn, CanTake, IsLiveValue};
 use crate::names::Names;
 use crate::{Heap, HeapFault};
 use cg_any_kind::{AnyKind, six};
-use cg_kind::{Kind, Noted};
+use cg_kind::Kind;
 use cg_value::{Entry, KindCode, Place, Val};
 use std::alloc::{AllocError, Global};
 use std::marker::Model;
@@ -324,14 +324,6 @@ impl Kind for Few {
 
     fn entry_at(&self, at: usize, i: usize) -> Entry {
         self.kind.entry_at(at, i)
-    }
-
-    fn get(&self, at: usize, i: usize) -> Option<Entry> {
-        self.kind.get(at, i)
-    }
-
-    fn note_from(&self, at: usize, from: usize, found: &mut [u64]) -> Noted {
-        self.kind.note_from(at, from, found)
     }
 
     fn find(&self, at: usize, key: Val) -> Option<usize> {

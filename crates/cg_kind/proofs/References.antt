@@ -1,7 +1,7 @@
 -- The references of some of an object's entries: of the first, of one more, and of those from a place on.
-use Rattle.std.proofs.Common.{◌≡◌, ◌∙◌, refl, ap, sym, ℕ, ◌+◌, ◌<◌, ◌≤◌, List, [], ◌∷◌, ◌++◌, Some, length, take, drop, get_or, arith, inl, inr, append_assoc}
-use Rattle.std.proofs.lemmas.List.{append-nil, length-drop, length-take, take_all, take_more, take-append-drop}
-use Rattle.std.proofs.lemmas.Option.{slice_get_within, get_or_from_slice_get}
+use Rattle.std.proofs.Common.{◌≡◌, ◌∙◌, refl, ap, sym, ℕ, ◌+◌, ◌-◌, ◌<◌, ◌≤◌, List, [], ◌∷◌, ◌++◌, Some, length, take, drop, get_or, arith, inl, inr, append_assoc}
+use Rattle.std.proofs.lemmas.List.{append-nil, get_or-drop, length-drop, length-take, take_all, take_more, take-append-drop}
+use Rattle.std.proofs.lemmas.Option.{slice_get_within, slice_get_read, get_or_from_slice_get}
 use Rattle.std.specs.Prelude.{slice_get, option_to_list}
 use Rattle.std.proofs.lemmas.Bool.{cases_lt}
 use Rattle.std.proofs.lemmas.Grind.{flat_map-append}
@@ -20,6 +20,20 @@ references_more es i e here =
     ∙ references-append (take i es) (get_or es i e ∷ [])
     ∙ ap (λ x. references (take i es) ++ (entry_references x ++ [])) (get_or_from_slice_get es i e e here)
     ∙ ap (λ (l : List ℕ). references (take i es) ++ l) (append-nil (entry_references e))
+
+-- what stands so far behind a place
+slice_get_behind : (es : List Entry) (from i : ℕ) (e : Entry) → slice_get es (from + i) ≡ Some e → slice_get (drop from es) i ≡ Some e
+slice_get_behind es from i e here =
+    slice_get_read (drop from es) (length es - from) i e (sym (length-drop from es)) (omega (arith, slice_get_within es (from + i) e here))
+    (sym (get_or-drop from es i e ∙ get_or_from_slice_get es (from + i) e e here))
+
+-- the references of one entry more, from a place on
+pub note_more : (es : List Entry) (from i : ℕ) (e : Entry) → from ≤ i → slice_get es i ≡ Some e → references (take (i + 1 - from) (drop from es)) ≡ references (take (i - from) (drop from es)) ++ entry_references e
+note_more es from i e behind here =
+    let n : i + 1 - from ≡ i - from + 1 = omega (arith, behind) in
+    let m : i ≡ from + (i - from) = omega (arith, behind) in
+    ap (λ k. references (take k (drop from es))) n
+    ∙ references_more (drop from es) (i - from) e (slice_get_behind es from (i - from) e (ap (slice_get es) (sym m) ∙ here))
 
 -- and these in turn: that of its value, and that of its key
 pub references_in_turn : (es : List Entry) (i : ℕ) (e : Entry) → slice_get es i ≡ Some e

@@ -58,19 +58,35 @@ pub trait Kind: Drop {
     /// The entry at a position, `None` exactly where that is the length or more.
     fn get(&self, at: usize, i: usize) -> Option<Entry>
         requires { Holds (bodies self.now) at }
-        ensures { result ≡ slice_get (entries_at (bodies self.now) at) i };
+        ensures { result ≡ slice_get (entries_at (bodies self.now) at) i }
+    {
+        if i < self.len(at) {
+            Some(self.entry_at(at, i))
+        } else {
+            None
+        }
+    }
 
     /// Goes over the entries from a position on, `AT_ONCE` of them or as many as there are, and writes the references
-    /// that they have to the front of `found`, which has `ROOM` at least: of each entry its value's and then its key's.
+    /// that they have to the front of `found`, which has `ROOM` at least: of each entry its value's and then its key's. A
+    /// kind may go over them without asking for each by its position.
     fn note_from(&self, at: usize, from: usize, found: &mut [u64]) -> Noted
         requires held { Holds (bodies self.now) at }
         requires within { from ≤ length (entries_at (bodies self.now) at) }
-        requires room { 16 ≤ length found.old }
+        requires room { ROOM ≤ length found.old }
         ensures next { result.next ≡ from + length (next_entries (entries_at (bodies self.now) at) from) }
         ensures references { take result.references found.new ≡
             references (next_entries (entries_at (bodies self.now) at) from) }
-        ensures few { result.references ≤ 16 }
-        ensures room { length found.new ≡ length found.old };
+        ensures few { result.references ≤ ROOM }
+        ensures room { length found.new ≡ length found.old }
+    {
+        let next = from + AT_ONCE.min(self.len(at) - from);
+        let mut references = 0;
+        'entries: for i in from..next {
+            references = note_entry(found, references, self.entry_at(at, i));
+        }
+        Noted { next, references }
+    }
 
     /// The first position whose key is this one, `None` exactly where there is none.
     fn find(&self, at: usize, key: Val) -> Option<usize>

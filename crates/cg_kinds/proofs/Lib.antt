@@ -10,4 +10,3 @@ mod SumLemmas
 mod SlotLemmas
 mod OrderLemmas
 mod TableLemmas
-mod NoteLemmas

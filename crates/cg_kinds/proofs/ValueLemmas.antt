@@ -17,26 +17,26 @@ value_joined (Str name) back = ap (value_in 2) (or_zero_r name)
 value_joined (Ref serial) back = refl
 
 -- the columns have a sort and a number for each value
-length-sorts : (sorts numbers : List ℕ) → AllZip AreWords sorts numbers → length sorts ≡ length (values_in sorts numbers)
+pub length-sorts : (sorts numbers : List ℕ) → AllZip AreWords sorts numbers → length sorts ≡ length (values_in sorts numbers)
 length-sorts [] [] words = refl
 length-sorts [] (y ∷ ys) words = absurd words
 length-sorts (x ∷ xs) [] words = absurd words
 length-sorts (x ∷ xs) (y ∷ ys) words = ap suc (length-sorts xs ys words.1)
 
-length-numbers : (sorts numbers : List ℕ) → AllZip AreWords sorts numbers → length numbers ≡ length (values_in sorts numbers)
+pub length-numbers : (sorts numbers : List ℕ) → AllZip AreWords sorts numbers → length numbers ≡ length (values_in sorts numbers)
 length-numbers [] [] words = refl
 length-numbers [] (y ∷ ys) words = absurd words
 length-numbers (x ∷ xs) [] words = absurd words
 length-numbers (x ∷ xs) (y ∷ ys) words = ap suc (length-numbers xs ys words.1)
 
 -- a place of both columns
-value-at : (sorts numbers : List ℕ) (i s n : ℕ) → i < length (values_in sorts numbers) → s ≡ get_or sorts i s → n ≡ get_or numbers i n → slice_get (values_in sorts numbers) i ≡ Some (value_in s n)
+pub value-at : (sorts numbers : List ℕ) (i s n : ℕ) → i < length (values_in sorts numbers) → s ≡ get_or sorts i s → n ≡ get_or numbers i n → slice_get (values_in sorts numbers) i ≡ Some (value_in s n)
 value-at [] numbers i s n within sort number = absurd (omega (arith, within))
 value-at (x ∷ xs) [] i s n within sort number = absurd (omega (arith, within))
 value-at (x ∷ xs) (y ∷ ys) zero s n within sort number = λ j. Some (value_in (sym sort j) (sym number j))
 value-at (x ∷ xs) (y ∷ ys) (suc i) s n within sort number = value-at xs ys i s n (omega (arith, within)) sort number
 
-words-at : (sorts numbers : List ℕ) (i s n : ℕ) → AllZip AreWords sorts numbers → i < length (values_in sorts numbers) → s ≡ get_or sorts i s → n ≡ get_or numbers i n → AreWords s n
+pub words-at : (sorts numbers : List ℕ) (i s n : ℕ) → AllZip AreWords sorts numbers → i < length (values_in sorts numbers) → s ≡ get_or sorts i s → n ≡ get_or numbers i n → AreWords s n
 words-at [] numbers i s n words within sort number = absurd (omega (arith, within))
 words-at (x ∷ xs) [] i s n words within sort number = absurd words
 words-at (x ∷ xs) (y ∷ ys) zero s n words within sort number = λ text. subst (λ m. m < 2 ^ 32) (sym number) (words.0 (sym sort ∙ text))

@@ -6,7 +6,7 @@ ghost use Rattle.cg_graph.specs.Value.{item, without_last, value_at, references,
 ghost use Rattle.cg_kind.specs.Bodies.{Body, body_of};
 ghost use Rattle.cg_kind.specs.Calls.{has_key, next_entries, IsParts, CanPut, value_under, after_put, after_take, after_take_key, spare_after_leave};
 
-use cg_kind::{AT_ONCE, Noted, note_entry};
+use cg_kind::{AT_ONCE, Noted, ROOM, note_entry};
 use cg_value::{Entry, KindCode, Val};
 use std::alloc::{AllocError, Global};
 
@@ -41,27 +41,14 @@ pub trait Contents: Drop {
         }
     }
 
+    #[inline(always)]
     fn note_from(&self, from: usize, found: &mut [u64]) -> Noted
         requires within { from ≤ length (body self.now).entries }
-        requires room { 16 ≤ length found.old }
+        requires room { ROOM ≤ length found.old }
         ensures next { result.next ≡ from + length (next_entries (body self.now).entries from) }
         ensures references { take result.references found.new ≡
             references (next_entries (body self.now).entries from) }
-        ensures few { result.references ≤ 16 }
-        ensures room { length found.new ≡ length found.old }
-    {
-        self.note_each(from, found)
-    }
-
-    /// `note_from`, by `entry_at` of each position.
-    #[inline(always)]
-    fn note_each(&self, from: usize, found: &mut [u64]) -> Noted
-        requires within { from ≤ length (body self.now).entries }
-        requires room { 16 ≤ length found.old }
-        ensures next { result.next ≡ from + length (next_entries (body self.now).entries from) }
-        ensures references { take result.references found.new ≡
-            references (next_entries (body self.now).entries from) }
-        ensures few { result.references ≤ 16 }
+        ensures few { result.references ≤ ROOM }
         ensures room { length found.new ≡ length found.old }
     {
         let next = from + AT_ONCE.min(self.len() - from);

@@ -1,11 +1,12 @@
 //! A few pairs, which are searched one after the other.
-ghost use Rattle.std.specs.Prelude.{◌≡◌, ◌<◌, ◌≤◌, ◌↔◌, ◌++◌, ◌∷◌, [], length, IsTrue, None, IfOk, IfNone, IsNone, OnOk, OnErr, OnSome, option_to_list, position, slice_get, remove};
+ghost use Rattle.std.specs.Prelude.{◌≡◌, ◌<◌, ◌≤◌, ◌↔◌, ◌++◌, ◌+◌, ◌∷◌, [], length, take, IsTrue, None, IfOk, IfNone, IsNone, OnOk, OnErr, OnSome, option_to_list, position, slice_get, remove};
 ghost use Rattle.std.specs.List.{position_from};
-ghost use Rattle.cg_graph.specs.Value.{value_at, put, without_key, entry_at as entry_under};
-ghost use Rattle.cg_kind.specs.Calls.{has_key};
+ghost use Rattle.cg_graph.specs.Value.{value_at, put, without_key, references, entry_at as entry_under};
+ghost use Rattle.cg_kind.specs.Calls.{has_key, next_entries};
 ghost use Rattle.cg_kinds.specs.Pairs.{AreKeysOnce};
 
 use crate::table::Table;
+use cg_kind::{AT_ONCE, Noted, ROOM, note_entry};
 use cg_value::{Entry, Val};
 use std::alloc::{AllocError, Global};
 use std::marker::Model;
@@ -126,6 +127,24 @@ impl Few {
         ensures { slice_get self.now i ≡ Some result }
     {
         self.pairs[i]
+    }
+
+    /// Goes over some pairs from a position on, as `cg_kind::Kind::note_from` says it.
+    #[inline(always)]
+    pub fn note_from(&self, from: usize, found: &mut [u64]) -> Noted
+        requires within { from ≤ length self.now }
+        requires room { ROOM ≤ length found.old }
+        ensures next { result.next ≡ from + length (next_entries self.now from) }
+        ensures references { take result.references found.new ≡ references (next_entries self.now from) }
+        ensures few { result.references ≤ ROOM }
+        ensures room { length found.new ≡ length found.old }
+    {
+        let next = from + AT_ONCE.min(self.pairs.len() - from);
+        let mut references = 0;
+        'pairs: for pair in &self.pairs[from..next] {
+            references = note_entry(found, references, *pair);
+        }
+        Noted { next, references }
     }
 
     /// The position of a key.

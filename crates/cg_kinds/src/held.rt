@@ -1,12 +1,12 @@
 //! The pairs of a dictionary or an instance: a few in a list, or any number in a map.
-ghost use Rattle.std.specs.Prelude.{◌≡◌, ◌<◌, ◌+◌, ◌≤◌, ◌++◌, [], length, take, IfOk, IfSome, IsOk, IsNone, IsSome, OnOk, OnErr, option_to_list, position, slice_get, remove};
+ghost use Rattle.std.specs.Prelude.{◌≡◌, ◌<◌, ◌+◌, ◌≤◌, ◌++◌, [], length, take, IfOk, IsOk, IsNone, IsSome, OnOk, OnErr, option_to_list, position, slice_get, remove};
 ghost use Rattle.cg_graph.specs.Value.{value_at, put, without_key, references, entry_at as entry_under};
 ghost use Rattle.cg_kind.specs.Calls.{has_key, next_entries};
 ghost use Rattle.cg_kinds.specs.Held.{entries_held};
 
 use crate::few::Few;
 use crate::table::Table;
-use cg_kind::Noted;
+use cg_kind::{Noted, ROOM};
 use cg_value::{Entry, Val};
 use std::alloc::{AllocError, Global};
 
@@ -63,19 +63,19 @@ impl Held {
         }
     }
 
-    /// Goes over some pairs, as `Table::note_in_order`; a few pairs are in no other order.
+    /// Goes over some pairs from a position on, as `cg_kind::Kind::note_from` says it.
     #[inline(always)]
-    pub fn note_in_order(&self, from: usize, found: &mut [u64]) -> Option<Noted>
+    pub fn note_from(&self, from: usize, found: &mut [u64]) -> Noted
         requires within { from ≤ length (entries_held self.now) }
-        requires room { 16 ≤ length found.old }
-        ensures next { IfSome result (λ noted. noted.next ≡ from + length (next_entries (entries_held self.now) from)) }
-        ensures references { IfSome result (λ noted. take noted.references found.new ≡ references (next_entries (entries_held self.now) from)) }
-        ensures few { IfSome result (λ noted. noted.references ≤ 16) }
+        requires room { ROOM ≤ length found.old }
+        ensures next { result.next ≡ from + length (next_entries (entries_held self.now) from) }
+        ensures references { take result.references found.new ≡ references (next_entries (entries_held self.now) from) }
+        ensures few { result.references ≤ ROOM }
         ensures room { length found.new ≡ length found.old }
     {
         match self {
-            Held::Few(_) => None,
-            Held::Many(table) => table.note_in_order(from, found),
+            Held::Few(few) => few.note_from(from, found),
+            Held::Many(table) => table.note_from(from, found),
         }
     }
 

@@ -8,6 +8,7 @@ use cg_value::{Entry, Val};
 use std::alloc::{AllocError, Global};
 
 /// The entry of a value that has no key.
+#[inline(always)]
 pub fn item_of(val: Val) -> Entry
     ensures { result ≡ item val }
 {

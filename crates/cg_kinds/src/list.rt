@@ -8,6 +8,7 @@ use crate::body_slab::BodySlab;
 use crate::contents::Contents;
 use crate::items::{find_item, item_of};
 use crate::listed::Listed;
+use cg_kind::Noted;
 use cg_value::{Entry, KindCode, Val};
 use std::alloc::{AllocError, Global};
 
@@ -53,6 +54,11 @@ impl Contents for ListItems {
     #[inline(always)]
     fn entry_at(&self, i: usize) -> Entry {
         item_of(self.values.val(i))
+    }
+
+    #[inline(always)]
+    fn note_from(&self, from: usize, found: &mut [u64]) -> Noted {
+        self.values.note_from(from, found)
     }
 
     fn find(&self, key: Val) -> Option<usize> {

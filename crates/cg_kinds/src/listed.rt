@@ -1,11 +1,12 @@
 //! The values of a list: a few in one vector, or any number in columns.
-ghost use Rattle.std.specs.Prelude.{◌≡◌, ◌+◌, ◌-◌, ◌<◌, ◌≤◌, ◌++◌, ◌∷◌, [], length, map, Some, IfOk, OnOk, OnErr, OnSome, IfNone, IsNone, option_to_list, remove, slice_get, slice_set, vec_len, vec_capacity};
-ghost use Rattle.cg_graph.specs.Value.{item};
-ghost use Rattle.cg_kind.specs.Calls.{AreItems};
+ghost use Rattle.std.specs.Prelude.{◌≡◌, ◌+◌, ◌-◌, ◌<◌, ◌≤◌, ◌++◌, ◌∷◌, [], length, map, Some, IfOk, OnOk, OnErr, OnSome, IfNone, IsNone, option_to_list, remove, slice_get, slice_set, take, vec_len, vec_capacity};
+ghost use Rattle.cg_graph.specs.Value.{item, references};
+ghost use Rattle.cg_kind.specs.Calls.{AreItems, next_entries};
 ghost use Rattle.cg_kinds.specs.Listed.{items_listed, room_listed};
 
-use crate::packed::{Packed, packed_values_of};
+use crate::packed::{Packed, note_packed, packed_values_of};
 use crate::values::Values;
+use cg_kind::{Noted, ROOM};
 use cg_value::{Entry, Val};
 use std::alloc::{AllocError, Global};
 
@@ -79,6 +80,22 @@ impl Listed {
         match self {
             Listed::Few(few) => few[i].val(),
             Listed::Many(columns) => columns.val(i),
+        }
+    }
+
+    /// Goes over some items of the values from a position on, as `cg_kind::Kind::note_from` says it.
+    #[inline(always)]
+    pub fn note_from(&self, from: usize, found: &mut [u64]) -> Noted
+        requires within { from ≤ length (items_listed self.now) }
+        requires room { ROOM ≤ length found.old }
+        ensures next { result.next ≡ from + length (next_entries (map item (items_listed self.now)) from) }
+        ensures references { take result.references found.new ≡ references (next_entries (map item (items_listed self.now)) from) }
+        ensures few { result.references ≤ ROOM }
+        ensures room { length found.new ≡ length found.old }
+    {
+        match self {
+            Listed::Few(few) => note_packed(few.as_slice(), from, found),
+            Listed::Many(columns) => columns.note_from(from, found),
         }
     }
 

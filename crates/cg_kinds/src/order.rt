@@ -210,7 +210,7 @@ impl Order {
 
     /// The indexes from a place on, `AT_ONCE` of them or as many as there are. The slot of the first alone is looked for.
     pub fn some_from(&self, i: usize) -> ArrayVec<usize, AT_ONCE>
-        ensures indexes { result.items ≡ take 8 (drop i self.now) }
+        ensures indexes { result.items ≡ take AT_ONCE (drop i self.now) }
         ensures within { All (λ index. index < length self.now) result.items }
     {
         if i < self.homes.len() {

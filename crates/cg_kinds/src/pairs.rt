@@ -98,10 +98,7 @@ impl<K: Keyed> Contents for Pairs<K> {
     }
 
     fn note_from(&self, from: usize, found: &mut [u64]) -> Noted {
-        match self.held.note_in_order(from, found) {
-            Some(noted) => noted,
-            None => self.note_each(from, found),
-        }
+        self.held.note_from(from, found)
     }
 
     fn find(&self, key: Val) -> Option<usize> {

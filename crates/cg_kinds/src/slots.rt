@@ -68,7 +68,7 @@ pub fn slot_of(slots: &[IndexOrGap], counts: &Sums, i: usize) -> usize
 
 /// The indexes in the slots from one on, `AT_ONCE` of them or as many as there are.
 pub fn some_indexes(slots: &[IndexOrGap], first: usize) -> ArrayVec<usize, AT_ONCE>
-    ensures { result.items ≡ take 8 (indexes (drop first slots.now)) }
+    ensures { result.items ≡ take AT_ONCE (indexes (drop first slots.now)) }
 {
     let mut some = ArrayVec::new();
     'slots: for slot in first..slots.len() {

@@ -1,5 +1,5 @@
 //! Pairs in the order in which their keys came, in a map that may have another order.
-ghost use Rattle.std.specs.Prelude.{◌≡◌, ◌<◌, ◌^◌, ◌+◌, ◌≤◌, ◌++◌, ◌∷◌, [], All, length, Some, None, IfSome, IfNone, IsNone, IsSome, IsOk, IfOk, OnOk, OnErr, OnSome, option_to_list, position, slice_get, remove, swap_remove, take, slice_index_or, option_map, ◌-◌};
+ghost use Rattle.std.specs.Prelude.{◌≡◌, ◌<◌, ◌^◌, ◌+◌, ◌≤◌, ◌++◌, ◌∷◌, [], All, length, Some, None, IfSome, IfNone, IsNone, IsSome, IsOk, IfOk, OnOk, OnErr, OnSome, option_to_list, position, slice_get, remove, swap_remove, take, drop, slice_index_or, option_map, ◌-◌};
 ghost use Rattle.std.specs.List.{range_with_len};
 ghost use Rattle.cg_graph.specs.Value.{value_at, put, without_key, references, entry_at as entry_under};
 ghost use Rattle.cg_kind.specs.Calls.{has_key, next_entries};
@@ -8,7 +8,7 @@ ghost use Rattle.cg_kinds.specs.Pairs.{pair_entry, pairs_of, nothing, picked, un
 use crate::hasher::{KeyHashing, key_hashing};
 use crate::nine::Nine;
 use crate::order::Order;
-use cg_kind::{AT_ONCE, Noted, note_entry};
+use cg_kind::{AT_ONCE, Noted, ROOM, note_entry};
 use cg_value::{Entry, Val};
 use indexmap::IndexMap;
 use indexmap::map::Entry as MapEntry;
@@ -73,15 +73,33 @@ fn pair_at(map: &Map, index: usize) -> Entry
 /// Writes down the references of the pairs at these indexes, which are at most eight. It answers how many there are.
 fn note_at(map: &Map, indexes: &[usize], found: &mut [u64]) -> usize
     requires within { All (λ index. index < length map.now.entries) indexes.now }
-    requires few { length indexes.now ≤ 8 }
-    requires room { 16 ≤ length found.old }
+    requires few { length indexes.now ≤ AT_ONCE }
+    requires room { ROOM ≤ length found.old }
     ensures references { take result found.new ≡ references (picked (pairs_of map.now.entries) indexes.now) }
-    ensures few { result ≤ 16 }
+    ensures few { result ≤ ROOM }
     ensures room { length found.new ≡ length found.old }
 {
     let mut count = 0;
     'indexes: for index in indexes {
         count = note_entry(found, count, pair_at(map, *index));
+    }
+    count
+}
+
+/// Writes down the references of the pairs from one index to another, which are at most eight. It answers how many there are.
+fn note_between(map: &Map, from: usize, next: usize, found: &mut [u64]) -> usize
+    requires order { from ≤ next }
+    requires within { next ≤ length map.now.entries }
+    requires few { next ≤ from + AT_ONCE }
+    requires room { ROOM ≤ length found.old }
+    ensures references { take result found.new ≡
+        references (take (next - from) (drop from (pairs_of map.now.entries))) }
+    ensures few { result ≤ ROOM }
+    ensures room { length found.new ≡ length found.old }
+{
+    let mut count = 0;
+    'pairs: for index in from..next {
+        count = note_entry(found, count, pair_at(map, index));
     }
     count
 }
@@ -275,24 +293,26 @@ impl Table {
         }
     }
 
-    /// Goes over some pairs from a position on, as `cg_kind::Kind::note_from` says it, where they are in another order than
-    /// the map's. Else it answers `None`.
-    pub fn note_in_order(&self, from: usize, found: &mut [u64]) -> Option<Noted>
+    /// Goes over some pairs from a position on, as `cg_kind::Kind::note_from` says it. In an order it goes on from slot to slot.
+    pub fn note_from(&self, from: usize, found: &mut [u64]) -> Noted
         requires within { from ≤ length self.now }
-        requires room { 16 ≤ length found.old }
-        ensures next { IfSome result (λ noted. noted.next ≡ from + length (next_entries self.now from)) }
-        ensures references { IfSome result (λ noted. take noted.references found.new ≡ references (next_entries self.now from)) }
-        ensures few { IfSome result (λ noted. noted.references ≤ 16) }
+        requires room { ROOM ≤ length found.old }
+        ensures next { result.next ≡ from + length (next_entries self.now from) }
+        ensures references { take result.references found.new ≡ references (next_entries self.now from) }
+        ensures few { result.references ≤ ROOM }
         ensures room { length found.new ≡ length found.old }
     {
+        let next = from + AT_ONCE.min(self.map.len() - from);
         match &self.order {
             Some(order) => {
-                let next = from + AT_ONCE.min(self.map.len() - from);
                 let some = order.some_from(from);
                 let references = note_at(&self.map, some.as_slice(), found);
-                Some(Noted { next, references })
+                Noted { next, references }
             }
-            None => None,
+            None => {
+                let references = note_between(&self.map, from, next, found);
+                Noted { next, references }
+            }
         }
     }
 

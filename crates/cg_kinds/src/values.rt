@@ -1,9 +1,12 @@
 //! Values in two columns, as lists keep many of them.
-ghost use Rattle.std.specs.Prelude.{◌≡◌, ◌+◌, ◌-◌, ◌<◌, ◌≤◌, ◌^◌, ◌++◌, ◌∷◌, [], length, map, Some, IfOk, OnOk, OnErr, OnSome, IfNone, IsNone, option_to_list, remove, slice_get, slice_set};
-ghost use Rattle.cg_graph.specs.Value.{item};
-ghost use Rattle.cg_kind.specs.Calls.{AreItems};
-ghost use Rattle.cg_kinds.specs.Values.{value_in, sort_of, number_bits, text_bits, serial_bits, AreWords, AreOnlyWords};
+ghost use Rattle.std.specs.Prelude.{◌≡◌, ◌+◌, ◌-◌, ◌<◌, ◌≤◌, ◌^◌, ◌++◌, ◌∷◌, [], length, map, Some, IfOk, OnOk, OnErr, OnSome, IfNone, IsNone, option_to_list, remove, slice_get, slice_set, take, drop};
+ghost use Rattle.std.specs.List.{AllZip};
+ghost use Rattle.cg_graph.specs.Value.{item, references};
+ghost use Rattle.cg_kind.specs.Calls.{AreItems, next_entries};
+ghost use Rattle.cg_kinds.specs.Values.{value_in, values_in, sort_of, number_bits, text_bits, serial_bits, AreWords, AreOnlyWords};
 
+use crate::items::item_of;
+use cg_kind::{AT_ONCE, Noted, ROOM, note_entry};
 use cg_value::{Entry, Val};
 use std::alloc::{AllocError, Global};
 use std::marker::Model;
@@ -104,6 +107,27 @@ pub(crate) fn val_of(sort: u8, number: u64) -> Val
     }
 }
 
+/// Writes down the references of the values from one place of both columns to another, which are at most eight. It answers
+/// how many there are.
+#[inline(always)]
+fn note_between(sorts: &[u8], numbers: &[u64], from: usize, next: usize, found: &mut [u64]) -> usize
+    requires words { AllZip AreWords sorts.now numbers.now }
+    requires order { from ≤ next }
+    requires within { next ≤ length numbers.now }
+    requires few { next ≤ from + AT_ONCE }
+    requires room { ROOM ≤ length found.old }
+    ensures references { take result found.new ≡
+        references (take (next - from) (drop from (map item (values_in sorts.now numbers.now)))) }
+    ensures few { result ≤ ROOM }
+    ensures room { length found.new ≡ length found.old }
+{
+    let mut count = 0;
+    'places: for at in from..next {
+        count = note_entry(found, count, item_of(val_of(sorts[at], numbers[at])));
+    }
+    count
+}
+
 impl Values {
     /// The values of items, in their order.
     pub fn of_items(alloc: Global, parts: &[Entry]) -> Result<Values, AllocError>
@@ -146,6 +170,23 @@ impl Values {
         ensures { slice_get self.now.items i ≡ Some result }
     {
         val_of(self.sorts[i], self.numbers[i])
+    }
+
+    /// Goes over some items of the values from a position on, as `cg_kind::Kind::note_from` says it.
+    #[inline(always)]
+    pub fn note_from(&self, from: usize, found: &mut [u64]) -> Noted
+        requires within { from ≤ length self.now.items }
+        requires room { ROOM ≤ length found.old }
+        ensures next { result.next ≡ from + length (next_entries (map item self.now.items) from) }
+        ensures references { take result.references found.new ≡ references (next_entries (map item self.now.items) from) }
+        ensures few { result.references ≤ ROOM }
+        ensures room { length found.new ≡ length found.old }
+    {
+        let next = from + AT_ONCE.min(self.len() - from);
+        let sorts = self.sorts.as_slice();
+        let numbers = self.numbers.as_slice();
+        let references = note_between(sorts, numbers, from, next, found);
+        Noted { next, references }
     }
 
     /// Puts a value at a place, over the one that is there.

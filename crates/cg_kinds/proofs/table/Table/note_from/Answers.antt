@@ -4,7 +4,7 @@ use Rattle.std.proofs.lemmas.List.{length-map, length-take, length-drop, take-ma
 use Rattle.std.specs.Prelude.{slice_index_or}
 use Rattle.cg_graph.specs.Value.{references}
 use Rattle.cg_kinds.specs.Pairs.{pairs_of, ordered, picked, nothing, unboxed, IsOrderOf}
-use Rattle.cg_kinds.proofs.table.Table.note_in_order.Goals as goal
+use Rattle.cg_kinds.proofs.table.Table.note_from.Goals as goal
 
 pub returns-in-Some-clause-next : goal.returns-in-Some-clause-next
 returns-in-Some-clause-next c =

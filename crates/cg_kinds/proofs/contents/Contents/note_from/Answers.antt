@@ -1,16 +1,17 @@
-use Rattle.std.proofs.Common.{◌∙◌, ◌++◌, ◌-◌, List, ℕ, ap, sym, arith, drop}
+use Rattle.std.proofs.Common.{◌∙◌, ◌++◌, ◌-◌, List, ℕ, ap, sym, arith, drop, take}
 use Rattle.std.proofs.lemmas.List.{length-drop, length-take}
 use Rattle.cg_graph.specs.Value.{entry_references, references}
-use Rattle.cg_kind.proofs.References.{take_again}
-use Rattle.cg_kinds.proofs.NoteLemmas.{note_more}
-use Rattle.cg_kinds.proofs.contents.Contents.note_each.Goals as goal
+use Rattle.cg_kind.proofs.References.{note_more, take_again}
+use Rattle.cg_kinds.proofs.contents.Contents.note_from.Goals as goal
 
 pub returns-clause-references : goal.returns-clause-references
 returns-clause-references g c =
-    let rest = drop c.args.from (g.Self.Contents.body c.args.self.now).entries in
-    c.entries.invariant.noted
-    ∙ ap references (take_again rest (c.entries.i - c.args.from) 8
-    (omega (arith, c.entries-test.false, c.entries.auto.i-end, c.min.ensures, c.len.ensures, length-take 8 rest, length-drop c.args.from (g.Self.Contents.body c.args.self.now).entries)))
+    let all = (g.Self.Contents.body c.args.self.now).entries in
+    let rest = drop c.args.from all in
+    let n = c.entries.i - c.args.from in
+    ◌∙◌ {b = references (take n rest)} c.entries.invariant.noted
+    (ap references (take_again rest n 8
+    (omega (arith, c.entries-test.false, c.entries.auto.i-end, c.min.ensures, c.len.ensures, length-take 8 rest, length-drop c.args.from all))))
 
 pub entries-preserved : goal.entries-preserved
 entries-preserved g c = record {

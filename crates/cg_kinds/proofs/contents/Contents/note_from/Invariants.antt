@@ -1,6 +1,6 @@
 use Rattle.std.proofs.Common.{◌≡◌, ◌≤◌, ◌-◌, ◌*◌, length, take, drop}
 use Rattle.cg_graph.specs.Value.{references}
-use Rattle.cg_kinds.proofs.contents.Contents.note_each.Given as goal
+use Rattle.cg_kinds.proofs.contents.Contents.note_from.Given as goal
 
 abbrev pub invariant-entries : goal.invariant-entries
 invariant-entries g l = record {

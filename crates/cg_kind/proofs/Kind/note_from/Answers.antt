@@ -1,0 +1,25 @@
+use Rattle.std.proofs.Common.{◌∙◌, ◌++◌, ◌-◌, List, ℕ, ap, sym, arith, drop, take}
+use Rattle.std.proofs.lemmas.List.{length-drop, length-take}
+use Rattle.cg_graph.specs.Value.{entry_references, references}
+use Rattle.cg_kind.specs.Bodies.{entries_at}
+use Rattle.cg_kind.proofs.References.{note_more, take_again}
+use Rattle.cg_kind.proofs.Kind.note_from.Goals as goal
+
+pub returns-clause-references : goal.returns-clause-references
+returns-clause-references g c =
+    let all = entries_at (g.Self.Kind.bodies c.args.self.now) c.args.at in
+    let rest = drop c.args.from all in
+    let n = c.entries.i - c.args.from in
+    ◌∙◌ {b = references (take n rest)} c.entries.invariant.noted
+    (ap references (take_again rest n 8
+    (omega (arith, c.entries-test.false, c.entries.auto.i-end, c.min.ensures, c.len.ensures, length-take 8 rest, length-drop c.args.from all))))
+
+pub entries-preserved : goal.entries-preserved
+entries-preserved g c = record {
+  noted =
+      c.note_entry-references.ensures.noted
+      ∙ ap (λ (l : List ℕ). l ++ entry_references c.entry_at.result) c.entries.invariant.noted
+      ∙ sym (note_more (entries_at (g.Self.Kind.bodies c.args.self.now) c.args.at) c.args.from c.entries.i c.entry_at.result (omega arith) c.entry_at.ensures);
+  few = omega (arith, c.entries.invariant.few, c.note_entry-references.ensures.few);
+  room = c.note_entry-references.ensures.room ∙ c.entries.invariant.room;
+}
