@@ -5,6 +5,8 @@ ghost use Rattle.cg_graph.specs.Value.{value_at, put, without_key, references, e
 ghost use Rattle.cg_kind.specs.Calls.{has_key, next_entries};
 ghost use Rattle.cg_kinds.specs.Pairs.{AreKeysOnce};
 
+use crate::nine::Nine;
+use crate::pair::Pair;
 use crate::table::Table;
 use cg_kind::{AT_ONCE, Noted, ROOM, note_entry};
 use cg_value::{Entry, Val};
@@ -20,7 +22,7 @@ const FEW: usize = 24;
 /// They take the room of those pairs, and nothing is hashed for them.
 #[derive(Drop)]
 pub struct Few {
-    pairs: Vec<Entry>,
+    pairs: Vec<Pair>,
 }
 
 impl Model for Few {
@@ -35,20 +37,13 @@ impl Model for Few {
     ghost invariant = { λ f. AreKeysOnce f.pairs.items };
 }
 
-/// Whether an entry has a key.
-#[tactic(auto, using(crate::proofs::KeyLemmas::equal_is))]
-fn is_under(entry: Entry, key: Val) -> bool
-    ensures { result ≡ has_key key entry }
-{
-    key == entry.key
-}
-
 /// The first place of a key.
-fn place_in(pairs: &[Entry], key: Val) -> Option<usize>
+fn place_in(pairs: &[Pair], key: Val) -> Option<usize>
     ensures { result ≡ position_from (has_key key) 0 pairs.now }
 {
+    let wanted = Nine::new(key);
     'pairs: for at in 0..pairs.len() {
-        if is_under(pairs[at], key) {
+        if pairs[at].is_under(&wanted) {
             return Some(at);
         }
     }
@@ -56,15 +51,15 @@ fn place_in(pairs: &[Entry], key: Val) -> Option<usize>
 }
 
 /// Another value for a key, where it is there; it answers the one that the key had.
-fn replace_in(pairs: &mut Vec<Entry>, key: Val, val: Val) -> Option<Val>
+fn replace_in(pairs: &mut Vec<Pair>, key: Val, val: Val) -> Option<Val>
     ensures replaced { result ≡ value_at pairs.old.items key }
     ensures put { OnSome result (pairs.new.items ≡ put pairs.old.items key val) }
     ensures stays { IfNone result (pairs.new.items ≡ pairs.old.items) }
 {
     match place_in(pairs.as_slice(), key) {
         Some(at) => {
-            let was = pairs[at];
-            pairs[at] = Entry { key: was.key, val };
+            let was = pairs[at].entry();
+            pairs[at] = Pair::new(Entry { key: was.key, val });
             Some(was.val)
         }
         None => None,
@@ -73,7 +68,7 @@ fn replace_in(pairs: &mut Vec<Entry>, key: Val, val: Val) -> Option<Val>
 
 /// One more pair. A list that is full makes room for half as many again and one: so one pair takes the room of one, and two that
 /// of two, where a vector would make room for four at least.
-fn push_to(pairs: &mut Vec<Entry>, pair: Entry) -> Result<(), AllocError>
+fn push_to(pairs: &mut Vec<Pair>, pair: Entry) -> Result<(), AllocError>
     ensures ok { OnOk result (pairs.new.items ≡ pairs.old.items ++ pair ∷ []) }
     ensures err { OnErr result (pairs.new.items ≡ pairs.old.items) }
 {
@@ -81,18 +76,19 @@ fn push_to(pairs: &mut Vec<Entry>, pair: Entry) -> Result<(), AllocError>
         let more = pairs.len() / 2 + 1;
         pairs.reserve_exact(more)?;
     }
-    pairs.push(pair)?;
+    pairs.push(Pair::new(pair))?;
     Ok(())
 }
 
 /// The pairs in a map, in the same order, with room for at least one more.
-fn table_of(alloc: Global, pairs: &[Entry]) -> Result<Table, AllocError>
+fn table_of(alloc: Global, pairs: &[Pair]) -> Result<Table, AllocError>
     requires { AreKeysOnce pairs.now }
     ensures { IfOk result (λ table. table ≡ pairs.now) }
 {
     let mut table = Table::with_room(alloc, pairs.len() + 1)?;
     'moved: for at in 0..pairs.len() {
-        let _ = table.put(pairs[at].key, pairs[at].val)?;
+        let pair = pairs[at].entry();
+        let _ = table.put(pair.key, pair.val)?;
     }
     Ok(table)
 }
@@ -126,7 +122,7 @@ impl Few {
         requires { i < length self.now }
         ensures { slice_get self.now i ≡ Some result }
     {
-        self.pairs[i]
+        self.pairs[i].entry()
     }
 
     /// Goes over some pairs from a position on, as `cg_kind::Kind::note_from` says it.
@@ -142,7 +138,7 @@ impl Few {
         let next = from + AT_ONCE.min(self.pairs.len() - from);
         let mut references = 0;
         'pairs: for pair in &self.pairs[from..next] {
-            references = note_entry(found, references, *pair);
+            references = note_entry(found, references, pair.entry());
         }
         Noted { next, references }
     }
@@ -190,7 +186,7 @@ impl Few {
         ensures entry { slice_get self.old i ≡ Some result }
         ensures rest { self.new ≡ remove self.old i }
     {
-        self.pairs.remove(i)
+        self.pairs.remove(i).entry()
     }
 
     /// Takes the pair under a key, if there is one; those behind it move down by one.
@@ -209,7 +205,10 @@ impl Few {
         ensures pairs { self.old ≡ self.new ++ option_to_list result }
         ensures empty { IsNone result → self.old ≡ [] }
     {
-        self.pairs.pop()
+        match self.pairs.pop() {
+            Some(last) => Some(last.entry()),
+            None => None,
+        }
     }
 
     /// The pairs in a map, and another under a new key behind them. These pairs stay as they are.

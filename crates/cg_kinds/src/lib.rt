@@ -28,6 +28,7 @@ mod listed;
 mod nine;
 mod order;
 mod packed;
+mod pair;
 mod pairs;
 mod slots;
 mod sums;

@@ -5,4 +5,4 @@ use Rattle.cg_kinds.proofs.few.place_in.Given as goal
 
 -- the pairs so far have not the key
 abbrev pub invariant-pairs : goal.invariant-pairs
-invariant-pairs l = position_from (has_key l.key) 0 l.pairs ≡ position_from (has_key l.key) l.at (drop l.at l.pairs)
+invariant-pairs l = position_from (has_key l.fn.key) 0 l.pairs ≡ position_from (has_key l.fn.key) l.at (drop l.at l.pairs)

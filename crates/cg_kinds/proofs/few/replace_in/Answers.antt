@@ -1,12 +1,13 @@
 use Rattle.std.proofs.Common.{◌≡◌, sym, ap, ◌∙◌, Some, None, arith, length}
+use Rattle.std.specs.Prelude.{slice_set}
 use Rattle.std.specs.List.{position_from}
 use Rattle.cg_value.specs.declared.Entry.{Entry}
 use Rattle.cg_kind.specs.Calls.{has_key}
 use Rattle.cg_kinds.proofs.FewLemmas.{value_none, found_first, found_within, found_entry, found_put}
 use Rattle.cg_kinds.proofs.few.replace_in.Goals as goal
 
-pub index-was-requires : goal.index-was-requires
-index-was-requires c =
+pub index-requires : goal.index-requires
+index-requires c =
     let some : position_from (has_key c.args.key) 0 c.args.pairs.now.items ≡ Some c.in-Some.at = ap (position_from (has_key c.args.key) 0) (sym c.as_slice.ensures.value) ∙ sym c.place_in.ensures ∙ c.in-Some.is in
     let within = found_within c.args.key c.args.pairs.now.items c.in-Some.at (found_first c.args.key c.args.pairs.now.items c.in-Some.at some) in
     omega (arith, within, ap length c.as_slice.ensures.value, c.as_slice.ensures.len)
@@ -21,13 +22,14 @@ pub returns-in-Some-clause-replaced : goal.returns-in-Some-clause-replaced
 returns-in-Some-clause-replaced c =
     let some : position_from (has_key c.args.key) 0 c.args.pairs.now.items ≡ Some c.in-Some.at = ap (position_from (has_key c.args.key) 0) (sym c.as_slice.ensures.value) ∙ sym c.place_in.ensures ∙ c.in-Some.is in
     let f = found_first c.args.key c.args.pairs.now.items c.in-Some.at some in
-    ap (λ (e : Entry). Some e.val) (c.index-was.ensures ∙ found_entry c.args.key c.args.pairs.now.items c.in-Some.at f _) ∙ sym f.value
+    ap (λ (e : Entry). Some e.val) (c.entry-was.ensures ∙ c.index.ensures ∙ found_entry c.args.key c.args.pairs.now.items c.in-Some.at f _) ∙ sym f.value
 
 pub returns-in-Some-clause-put : goal.returns-in-Some-clause-put
 returns-in-Some-clause-put c =
     let some : position_from (has_key c.args.key) 0 c.args.pairs.now.items ≡ Some c.in-Some.at = ap (position_from (has_key c.args.key) 0) (sym c.as_slice.ensures.value) ∙ sym c.place_in.ensures ∙ c.in-Some.is in
     let f = found_first c.args.key c.args.pairs.now.items c.in-Some.at some in
-    found_put c.args.key c.args.pairs.now.items c.in-Some.at f _ c.args.val (c.index-was.ensures ∙ found_entry c.args.key c.args.pairs.now.items c.in-Some.at f _)
+    ap (slice_set c.args.pairs.now.items c.in-Some.at) c.new.ensures
+    ∙ found_put c.args.key c.args.pairs.now.items c.in-Some.at f _ c.args.val (c.entry-was.ensures ∙ c.index.ensures ∙ found_entry c.args.key c.args.pairs.now.items c.in-Some.at f _)
 
 -- where it was not
 none : (c : goal.In-None) → position_from (has_key c.args.key) 0 c.args.pairs.now.items ≡ None

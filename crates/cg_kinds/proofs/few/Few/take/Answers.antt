@@ -11,4 +11,4 @@ invariant_of-self c = subst AreKeysOnce (sym c.remove.ensures.items) (once_remov
 pub returns-clause-entry : goal.returns-clause-entry
 returns-clause-entry c =
     ap (λ l. slice_get l c.args.i) (sym c.self.view_is)
-    ∙ slice_get-get_or c.self.inside.pairs.items c.args.i _ (omega (arith, c.requires, ap length c.self.view_is)) ∙ ap Some (sym c.remove.ensures.value)
+    ∙ slice_get-get_or c.self.inside.pairs.items c.args.i _ (omega (arith, c.requires, ap length c.self.view_is)) ∙ ap Some (sym (c.entry.ensures ∙ c.remove.ensures.value))
