@@ -1,5 +1,5 @@
 -- What a word picks is found among the words that begin as it does and are as long.
-use Rattle.std.proofs.Common.{◌≡◌, ℕ, List, [], ◌∷◌, Bool, true, false, cond, ◌&&◌, ◌==◌, length, get_or, Option, Some, None, refl, sym, ap, ◌∙◌, arith, eq-eqb}
+use Rattle.std.proofs.Common.{◌≡◌, ℕ, List, [], ◌∷◌, Bool, true, false, cond, ◌&&◌, ◌==◌, length, map, get_or, Some, None, refl, sym, ap, ◌∙◌, arith, eq-eqb}
 use Rattle.std.specs.Str.{bytes_eq}
 use Rattle.std.proofs.lemmas.Slice.Eq.{bytes_eq-Decides}
 use Rattle.cg_script.specs.declared.form.Form.{Form}
@@ -37,6 +37,11 @@ named_forms_like w (f ∷ these) = by (is_alike (get_or w 0 0) (length w) (word_
         → named (by_words (cond b (f ∷ forms_like (get_or w 0 0) (length w) these) (forms_like (get_or w 0 0) (length w) these))) w ≡ cond (bytes_eq w (word_of f)) (Some f) (named (by_words these) w)
     by true e later = ap (λ m. cond (bytes_eq w (word_of f)) (Some f) m) later
     by false e later = later ∙ sym (ap (λ b. cond b (Some f) (named (by_words these) w)) (unlike_is_other w (word_of f) e))
+
+-- in no rows no word is found
+pub none_alike : {A B : Type 0} (f : A → List ℕ × B) (rows : List A) (w : List ℕ) → length rows ≡ 0 → None ≡ named (map f rows) w
+none_alike f [] w e = refl
+none_alike f (row ∷ rows) w e = absurd (omega (arith, e))
 
 -- no value has no bytes
 pub no_atom : (w : List ℕ) → length w ≡ 0 → None ≡ named atoms w

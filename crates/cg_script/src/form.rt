@@ -202,6 +202,7 @@ pub(crate) fn word_of(form: Form) -> &'static [u8]
 }
 
 /// The form among these that has a word.
+#[inline(never)]
 fn form_with(forms: &[Form], word: &[u8]) -> Option<Form>
     ensures { result ≡ named_in (by_words forms.now) word.now }
 {
@@ -261,13 +262,18 @@ const FEWEST_BYTES: usize = 3;
 
 /// The form that this word picks, in a line `x = ..` or in another.
 #[tactic(auto, using(crate::proofs::Found::short_names_none))]
+#[inline(always)]
 pub(crate) fn form_named(word: &[u8]) -> Option<Form>
     ensures { result ≡ named_in words_of_forms word.now }
 {
     if word.len() < FEWEST_BYTES {
         return None;
     }
-    form_with(forms_like(word[0], word.len()), word)
+    let forms = forms_like(word[0], word.len());
+    if forms.is_empty() {
+        return None;
+    }
+    form_with(forms, word)
 }
 
 /// Whether a form is one of lines `x = ..` that a third word picks.

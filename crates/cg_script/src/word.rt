@@ -242,13 +242,18 @@ fn atoms_like(byte: u8, count: usize) -> &'static [(&'static [u8], Operand)]
 }
 
 /// The value with a word of its own that a word is, if it is one.
+#[inline(always)]
 pub(crate) fn atom(word: &[u8]) -> Option<Operand>
     ensures { result ≡ named_in atoms word.now }
 {
     if word.is_empty() {
         return None;
     }
-    named(atoms_like(word[0], word.len()), word)
+    let rows = atoms_like(word[0], word.len());
+    if rows.is_empty() {
+        return None;
+    }
+    named(rows, word)
 }
 
 /// Whether a word stands for a value: `none`, `self`, `ref`, `garbage`, `c0` to `c7`, a string, a variable, or a whole number of
