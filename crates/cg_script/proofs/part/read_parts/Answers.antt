@@ -1,4 +1,4 @@
-use Rattle.std.proofs.Common.{ℕ, List, Bor, ◌+◌, ◌++◌, [], drop, length, refl, ap, ◌∙◌, arith, length-append}
+use Rattle.std.proofs.Common.{ℕ, List, Bor, ◌+◌, ◌++◌, [], drop, refl, ap, ◌∙◌, arith}
 use Rattle.cg_script.specs.Parts.{parts_from}
 use Rattle.cg_script.proofs.Places.{texts_of, fit_here, fit_behind, parts_more, texts_more, parts_end, texts_end, room_more}
 use Rattle.cg_script.proofs.part.read_parts.Goals as goal
