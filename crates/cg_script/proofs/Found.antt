@@ -1,35 +1,16 @@
--- The form that a word picks is found among those whose words begin as it does; by what form it is, it is that of a line `x = ..` or of another.
-use Rattle.std.proofs.Common.{◌≡◌, ℕ, List, [], ◌∷◌, ◌++◌, Bool, true, false, cond, not, ◌&&◌, ◌||◌, ◌==◌, ◌<◌, length, nat_le, get_or, Option, Some, None, refl, sym, ap, ◌∙◌, arith, eq-eqb}
+-- The form that a word picks is found among those whose words begin as it does and are as long; by what form it is, it is that of a line `x = ..` or of another.
+use Rattle.std.proofs.Common.{◌≡◌, ℕ, List, [], ◌∷◌, ◌++◌, Bool, true, false, cond, not, ◌&&◌, ◌||◌, ◌<◌, length, nat_le, get_or, Option, Some, None, refl, sym, ap, ◌∙◌, arith}
 use Rattle.std.specs.List.{list_all}
 use Rattle.std.specs.Option.{is_none}
 use Rattle.std.specs.Str.{bytes_eq}
 use Rattle.std.proofs.lemmas.Bool.Decides.{nat_tests}
-use Rattle.std.proofs.lemmas.Slice.Eq.{bytes_eq-Decides}
 use Rattle.cg_script.specs.declared.form.Form.{Form}
 use Rattle.cg_script.specs.Tables.{named}
 use Rattle.cg_script.specs.Words.{reserves}
-use Rattle.cg_script.specs.Forms.{word_of, by_words, beginning, binds, binding_forms, opening_forms, worded_forms, words_of_forms, openers, bindings}
+use Rattle.cg_script.specs.Forms.{word_of, by_words, binds, binding_forms, opening_forms, worded_forms, words_of_forms, openers, bindings}
 use Rattle.cg_script.proofs.Rows.{by_words-is}
-
--- a form with another first byte has another word
-begins_other : (w : List ℕ) (f : Form) → (get_or (word_of f) 0 0 == get_or w 0 0) ≡ false → bytes_eq w (word_of f) ≡ false
-begins_other w f e = by (bytes_eq w (word_of f)) refl
-  where
-    by : (b : Bool) → bytes_eq w (word_of f) ≡ b → b ≡ false
-    by false eb = refl
-    by true eb =
-        let same : w ≡ word_of f = (bytes_eq-Decides w (word_of f)).0 eb in
-        sym (eq-eqb (get_or (word_of f) 0 0) (get_or w 0 0) (ap (λ u. get_or u 0 0) (sym same))) ∙ e
-
--- those with the first byte of a word are enough
-named_beginning : (w : List ℕ) (these : List Form) → named (by_words (beginning (get_or w 0 0) these)) w ≡ named (by_words these) w
-named_beginning w [] = refl
-named_beginning w (f ∷ these) = by (get_or (word_of f) 0 0 == get_or w 0 0) refl (named_beginning w these)
-  where
-    by : (b : Bool) → (get_or (word_of f) 0 0 == get_or w 0 0) ≡ b → named (by_words (beginning (get_or w 0 0) these)) w ≡ named (by_words these) w
-        → named (by_words (cond b (f ∷ beginning (get_or w 0 0) these) (beginning (get_or w 0 0) these))) w ≡ cond (bytes_eq w (word_of f)) (Some f) (named (by_words these) w)
-    by true e later = ap (λ m. cond (bytes_eq w (word_of f)) (Some f) m) later
-    by false e later = later ∙ sym (ap (λ b. cond b (Some f) (named (by_words these) w)) (begins_other w f e))
+use Rattle.cg_script.specs.Alike.{forms_like}
+use Rattle.cg_script.proofs.Alike.{named_forms_like}
 
 -- what is true of each of some forms is true of the one that is found
 found_all : (p : Form → Bool) (these : List Form) (w : List ℕ) (form : Form) → list_all p these ≡ true → named (by_words these) w ≡ Some form → p form ≡ true
@@ -56,9 +37,9 @@ short_names_none w short = go (named (by_words worded_forms) w) refl
         let same : length w ≡ length (word_of form) = ap length (by_words-is worded_forms w form e) in
         absurd (grind (arith, nat_tests))
 
-pub named_from_first : (w : List ℕ) (found : Option Form) → found ≡ named (by_words (beginning (get_or w 0 0) worded_forms)) w → found ≡ named words_of_forms w
+pub named_from_like : (w : List ℕ) (found : Option Form) → found ≡ named (by_words (forms_like (get_or w 0 0) (length w) worded_forms)) w → found ≡ named words_of_forms w
 unfolding words_of_forms
-named_from_first w found e = e ∙ named_beginning w worded_forms
+named_from_like w found e = e ∙ named_forms_like w worded_forms
 
 named_first : (these others : List Form) (w : List ℕ) (form : Form) → named (by_words these) w ≡ Some form → named (by_words (these ++ others)) w ≡ Some form
 named_first [] others w form e = absurd (cc)

@@ -1,6 +1,7 @@
 pub mod Ascii
 pub mod Cuts
 pub mod Tables
+pub mod Alike
 pub mod Positions
 pub mod Declared
 pub mod Digits

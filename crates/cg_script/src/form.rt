@@ -1,7 +1,8 @@
 //! The table of forms: one row for each command and each declaration.
 ghost use Rattle.std.specs.Prelude.{◌≡◌, true};
-ghost use Rattle.cg_script.specs.Forms.{row as row_of, sort_at as sort_of, word_of as word_in, by_words, beginning, binds, bindings, openers, worded_forms, words_of_forms};
+ghost use Rattle.cg_script.specs.Forms.{row as row_of, sort_at as sort_of, word_of as word_in, by_words, binds, bindings, openers, worded_forms, words_of_forms};
 ghost use Rattle.cg_script.specs.Tables.{named as named_in};
+ghost use Rattle.cg_script.specs.Alike.{forms_like};
 
 /// A form of lines.
 #[derive(Clone, Copy, Debug, PartialEq, Eq)]
@@ -201,6 +202,7 @@ pub(crate) fn word_of(form: Form) -> &'static [u8]
 }
 
 /// The form among these that has a word.
+#[inline(never)]
 fn form_with(forms: &[Form], word: &[u8]) -> Option<Form>
     ensures { result ≡ named_in (by_words forms.now) word.now }
 {
@@ -212,38 +214,45 @@ fn form_with(forms: &[Form], word: &[u8]) -> Option<Form>
     None
 }
 
-/// The forms whose words begin with this byte.
-fn forms_beginning_with(byte: u8) -> &'static [Form]
-    ensures { result.now ≡ beginning byte worded_forms }
+/// The forms whose words begin with this byte and have this number of bytes.
+fn forms_like(byte: u8, count: usize) -> &'static [Form]
+    ensures { result.now ≡ forms_like byte count worded_forms }
 {
-    match byte {
-        b'a' => &[Form::Attr, Form::Append],
-        b'b' => &[Form::Budget],
-        b'c' => &[Form::Call, Form::Collect, Form::Count, Form::Class],
-        b'd' => &[
-            Form::MakeDict,
-            Form::Deref,
-            Form::Del,
-            Form::DelItem,
-            Form::Remove,
-            Form::DelAttr,
-            Form::Disable,
-            Form::Flags,
-            Form::Def,
-        ],
-        b'e' => &[Form::Enable, Form::End],
-        b'f' => &[Form::MakeFunc, Form::Freeze, Form::Finalized],
-        b'g' => &[Form::Get, Form::Gens],
-        b'i' => &[Form::Item],
-        b'l' => &[Form::MakeList],
-        b'n' => &[Form::MakeInst],
-        b'p' => &[Form::Put, Form::Print, Form::Profile],
-        b'q' => &[Form::Quit],
-        b'r' => &[Form::MakeRef, Form::Refs, Form::Referents, Form::Referrers],
-        b's' => &[Form::SetItem, Form::SetAttr, Form::Shutdown],
-        b't' => &[Form::MakeTuple, Form::Threshold, Form::Tracked],
-        b'u' => &[Form::Unfreeze],
-        b'w' => &[Form::Why],
+    match (byte, count) {
+        (b'a', 4) => &[Form::Attr],
+        (b'a', 6) => &[Form::Append],
+        (b'b', 6) => &[Form::Budget],
+        (b'c', 4) => &[Form::Call],
+        (b'c', 5) => &[Form::Count, Form::Class],
+        (b'c', 7) => &[Form::Collect],
+        (b'd', 3) => &[Form::Del, Form::Def],
+        (b'd', 4) => &[Form::MakeDict, Form::Remove],
+        (b'd', 5) => &[Form::Deref, Form::Flags],
+        (b'd', 7) => &[Form::DelItem, Form::DelAttr, Form::Disable],
+        (b'e', 3) => &[Form::End],
+        (b'e', 6) => &[Form::Enable],
+        (b'f', 4) => &[Form::MakeFunc],
+        (b'f', 6) => &[Form::Freeze],
+        (b'f', 9) => &[Form::Finalized],
+        (b'g', 3) => &[Form::Get],
+        (b'g', 4) => &[Form::Gens],
+        (b'i', 4) => &[Form::Item],
+        (b'l', 4) => &[Form::MakeList],
+        (b'n', 3) => &[Form::MakeInst],
+        (b'p', 3) => &[Form::Put],
+        (b'p', 5) => &[Form::Print],
+        (b'p', 7) => &[Form::Profile],
+        (b'q', 4) => &[Form::Quit],
+        (b'r', 3) => &[Form::MakeRef],
+        (b'r', 4) => &[Form::Refs],
+        (b'r', 9) => &[Form::Referents, Form::Referrers],
+        (b's', 7) => &[Form::SetItem, Form::SetAttr],
+        (b's', 8) => &[Form::Shutdown],
+        (b't', 5) => &[Form::MakeTuple],
+        (b't', 7) => &[Form::Tracked],
+        (b't', 9) => &[Form::Threshold],
+        (b'u', 8) => &[Form::Unfreeze],
+        (b'w', 3) => &[Form::Why],
         _ => &[],
     }
 }
@@ -253,13 +262,18 @@ const FEWEST_BYTES: usize = 3;
 
 /// The form that this word picks, in a line `x = ..` or in another.
 #[tactic(auto, using(crate::proofs::Found::short_names_none))]
+#[inline(always)]
 pub(crate) fn form_named(word: &[u8]) -> Option<Form>
     ensures { result ≡ named_in words_of_forms word.now }
 {
     if word.len() < FEWEST_BYTES {
         return None;
     }
-    form_with(forms_beginning_with(word[0]), word)
+    let forms = forms_like(word[0], word.len());
+    if forms.is_empty() {
+        return None;
+    }
+    form_with(forms, word)
 }
 
 /// Whether a form is one of lines `x = ..` that a third word picks.

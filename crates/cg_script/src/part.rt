@@ -14,7 +14,6 @@ use crate::word::{
     after_del, after_legacy, atom, begins_as_name, count_of_word, flag, is_quoted_word,
     number_of_word, text_of, text_of_identifier,
 };
-use arrayvec::ArrayVec;
 use cg_value::Names;
 use std::alloc::AllocError;
 
@@ -54,7 +53,7 @@ pub enum Said {
 }
 
 /// The parts of a line.
-pub(crate) type Parts = ArrayVec<Part, MOST_WORDS>;
+pub(crate) type Parts = Vec<Part>;
 
 /// What a value stands for; its text goes to the names.
 fn read_value(word: &[u8], names: &mut Names) -> Result<Operand, AllocError>
@@ -165,7 +164,7 @@ pub(crate) fn read_parts(
 {
     'places: for place in 0..words.len() {
         let part = read_part(sort_at(form, place), words[place], names, procs, classes)?;
-        parts.push(part);
+        parts.push(part)?;
     }
     Ok(())
 }

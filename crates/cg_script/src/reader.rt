@@ -61,7 +61,7 @@ fn take_lines(draft: &mut Draft, bytes: &[u8]) -> Result<u32, ScriptFault>
     let mut number: u32 = 1;
     let mut rest = bytes;
     let mut words = ArrayVec::new();
-    let mut parts = ArrayVec::new();
+    let mut parts = Vec::new(draft.alloc);
     'lines: while !rest.is_empty() {
         let (line, after, printable) = cut_line(rest);
         match take_line(draft, number, line, printable, &mut words, &mut parts) {

@@ -2,6 +2,7 @@
 ghost use Rattle.std.specs.Prelude.{◌≡◌, ◌≤◌, ◌||◌, true, map, length, slice_index, drop, codes, take, option_map, pos, neg_ℤ};
 ghost use Rattle.std.specs.List.{list_all};
 ghost use Rattle.cg_script.specs.Tables.{named as named_in};
+ghost use Rattle.cg_script.specs.Alike.{rows_like};
 ghost use Rattle.cg_script.specs.Forms.{openers, bindings};
 ghost use Rattle.cg_script.specs.Words.{is_printable, is_digit, is_letter, is_name_byte, begins_name, is_identifier, reserves, is_reserved, is_variable, is_quoted, has_minus, are_digits, decimal_value, is_number, number_of, is_count, is_profile, is_value, atoms, after_prefix, is_identifier_after, names_finalizer, names_legacy, flags};
 
@@ -213,12 +214,8 @@ pub(crate) fn is_profile_word(word: &[u8]) -> bool
     is_count_word(word, MOST_PROFILE) && count_of_word(word) >= 1
 }
 
-/// The values with a word of their own.
-static ATOMS: [(&[u8], Operand); 12] = [
-    (b"none", Operand::None),
-    (b"self", Operand::SelfLocal),
-    (b"ref", Operand::WeakLocal),
-    (b"garbage", Operand::Garbage),
+/// The cells of a function.
+static CELLS: [(&[u8], Operand); 8] = [
     (b"c0", Operand::Cell(0)),
     (b"c1", Operand::Cell(1)),
     (b"c2", Operand::Cell(2)),
@@ -229,11 +226,34 @@ static ATOMS: [(&[u8], Operand); 12] = [
     (b"c7", Operand::Cell(7)),
 ];
 
+/// The values with a word of their own that begins with this byte and has this number of bytes.
 #[tactic(auto, unfolding(crate::specs::Words::atoms))]
+fn atoms_like(byte: u8, count: usize) -> &'static [(&'static [u8], Operand)]
+    ensures { map (λ row. (row.0.now, row.1)) result.now ≡ rows_like byte count atoms }
+{
+    match (byte, count) {
+        (b'n', 4) => &[(b"none", Operand::None)],
+        (b's', 4) => &[(b"self", Operand::SelfLocal)],
+        (b'r', 3) => &[(b"ref", Operand::WeakLocal)],
+        (b'g', 7) => &[(b"garbage", Operand::Garbage)],
+        (b'c', 2) => &CELLS,
+        _ => &[],
+    }
+}
+
+/// The value with a word of its own that a word is, if it is one.
+#[inline(always)]
 pub(crate) fn atom(word: &[u8]) -> Option<Operand>
     ensures { result ≡ named_in atoms word.now }
 {
-    named(&ATOMS, word)
+    if word.is_empty() {
+        return None;
+    }
+    let rows = atoms_like(word[0], word.len());
+    if rows.is_empty() {
+        return None;
+    }
+    named(rows, word)
 }
 
 /// Whether a word stands for a value: `none`, `self`, `ref`, `garbage`, `c0` to `c7`, a string, a variable, or a whole number of

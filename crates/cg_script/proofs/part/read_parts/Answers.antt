@@ -1,4 +1,4 @@
-use Rattle.std.proofs.Common.{ℕ, List, Bor, ◌+◌, ◌++◌, [], drop, length, refl, ap, ◌∙◌, arith, length-append}
+use Rattle.std.proofs.Common.{ℕ, List, Bor, ◌+◌, ◌++◌, [], drop, refl, ap, ◌∙◌, arith}
 use Rattle.cg_script.specs.Parts.{parts_from}
 use Rattle.cg_script.proofs.Places.{texts_of, fit_here, fit_behind, parts_more, texts_more, parts_end, texts_end, room_more}
 use Rattle.cg_script.proofs.part.read_parts.Goals as goal
@@ -10,7 +10,6 @@ places-init c =
       fit = c.requires.fit;
       parts = ap (λ ps. ps ++ parts_from c.args.procs.now c.args.classes.now c.args.names.now c.args.form 0 (texts_of c.args.words.now)) e;
       texts = refl;
-      few = omega (arith, ap length e);
       few_texts = omega arith;
     }
 
@@ -20,9 +19,6 @@ read_part-requires-clause-fits c = fit_here c.args.form c.args.words.now c.place
 pub read_part-requires-clause-room : goal.read_part-requires-clause-room
 read_part-requires-clause-room c = omega (arith, c.places.invariant.few_texts, c.requires.room, c.requires.few)
 
-pub push-requires : goal.push-requires
-push-requires c = (omega arith, omega (arith, c.places.invariant.few, c.requires.few))
-
 pub places-preserved : goal.places-preserved
 places-preserved c =
     let f = c.args.form in
@@ -30,14 +26,13 @@ places-preserved c =
     let i = c.places.place in
     let s = c.sort_at.result in
     let d : Bor (List ℕ) = record { ref_ptr = (0, 0); now = [] } in
-    let items = c.push.ensures.items in
+    let items = c.in_ok-push.ensures.items in
     let texts = c.in_ok-part.ensures.texts in
     record {
       fit = fit_behind f ws i d c.places-test.true s c.sort_at.ensures c.places.invariant.fit;
       parts = ap (λ ps. ps ++ parts_from c.args.procs.now c.args.classes.now c.read_part.new.names f (i + 1) (texts_of (drop (i + 1) ws))) items
           ∙ parts_more f ws i d c.places-test.true s c.sort_at.ensures c.args.procs.now c.args.classes.now c.places.names c.read_part.new.names texts c.in_ok-part.part c.places.parts.items _ c.in_ok-part.ensures.part c.places.invariant.parts;
       texts = texts_more f ws i d c.places-test.true s c.sort_at.ensures c.args.procs.now c.args.classes.now c.places.names c.read_part.new.names texts _ c.places.invariant.texts;
-      few = omega (arith, simp length-append at (ap length items), c.places.invariant.few);
       few_texts = omega (arith, room_more f ws i d c.places-test.true s c.sort_at.ensures c.args.procs.now c.args.classes.now c.places.names c.read_part.new.names texts, c.places.invariant.few_texts);
     }
 

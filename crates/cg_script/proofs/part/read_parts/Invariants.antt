@@ -10,6 +10,5 @@ invariant-places l = record {
   fit : all_fit l.form l.place (texts_of (drop l.place l.words)) ≡ true;
   parts : l.parts.items ++ parts_from l.procs l.classes l.names l.form l.place (texts_of (drop l.place l.words)) ≡ parts_from l.procs l.classes l.fn.names l.form 0 (texts_of l.words);
   texts : texts_from l.names l.form l.place (texts_of (drop l.place l.words)) ≡ texts_from l.fn.names l.form 0 (texts_of l.words);
-  few : length l.parts.items ≤ l.place;
   few_texts : length l.names ≤ length l.fn.names + l.place;
 }
