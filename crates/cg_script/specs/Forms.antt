@@ -1,6 +1,6 @@
 -- The table of forms: for each command and each declaration its word, the number of its words, and what the place of each asks
 -- for. (Ours.)
-use Rattle.std.specs.Prelude.{ℕ, List, [], ◌∷◌, ◌++◌, Bool, true, false, ◌==◌, map, filter, codes, slice_index, slice_index_or}
+use Rattle.std.specs.Prelude.{ℕ, List, [], ◌∷◌, ◌++◌, Bool, true, false, map, codes, slice_index_or}
 use Rattle.cg_script.specs.declared.form.Form.{Form}
 use Rattle.cg_script.specs.declared.form.Form.TheVariants as forms
 use Rattle.cg_script.specs.declared.form.Sort.{Sort}
@@ -105,10 +105,6 @@ worded_forms = binding_forms ++ opening_forms
 
 unfoldable pub words_of_forms : List (List ℕ × Form)
 words_of_forms = by_words worded_forms
-
--- those whose words begin with a byte
-abbrev pub beginning : ℕ → List Form → List Form
-beginning byte these = filter (λ form. slice_index (word_of form) 0 == byte) these
 
 -- whether a form is one of lines `x = ..` that a third word picks
 abbrev pub binds : Form → Bool
