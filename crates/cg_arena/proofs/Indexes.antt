@@ -9,7 +9,7 @@ use Rattle.cg_arena.specs.declared.index.SlotIndex.{SlotIndex}
 use Rattle.cg_arena.specs.Slots.{serial_in}
 use Rattle.cg_arena.specs.Links.{rewritten}
 use Rattle.cg_arena.specs.Table.{row_of, rows_of, IsNamed}
-use Rattle.cg_arena.specs.Index.{guess_at, guess_index, LeadsTo, IsIndex}
+use Rattle.cg_arena.specs.Index.{guess_at, guess_index, LeadsTo, HasRowsBelow, IsIndex}
 
 -- the row of an occupied slot
 abbrev row : ℕ × Slot → ℕ × ℕ
@@ -92,6 +92,7 @@ index_still serial new x same index =
     record {
       found = λ k s is. index.found k s (sym (same k) ∙ is);
       right = λ s k is. same k ∙ index.right s k is;
+      below = index.below;
     }
 
 module _ (s : Slab Slot) (x : SlotIndex) (index : IsIndex (λ k. serial_in (get s k)) x) (named : IsNamed (λ k. serial_in (get s k)) (row_of (rows_of s))) (t : ℕ) where
@@ -132,7 +133,7 @@ displaced_found s x y named t other stands guesses rows k q is leads = elim (cas
 ]
 
 -- a serial that stands nowhere comes to a vacant slot
-module _ (s : Slab Slot) (x y : SlotIndex) (index : IsIndex (λ k. serial_in (get s k)) x) (named : IsNamed (λ k. serial_in (get s k)) (row_of (rows_of s))) (t at : ℕ) (fresh : row_of (rows_of s) t ≡ None) (vacant : get s at ≡ None) (noted : LeadsTo y t at) (others : (k q : ℕ) → serial_in (get s k) ≡ Some q → q ≢ t → LeadsTo x q k → LeadsTo y q k) (rows : (q k : ℕ) → row_of y.rows.entries q ≡ Some k → (row_of x.rows.entries q ≡ Some k) ⊎ ((serial_in (get s k) ≡ Some q) ⊎ ((q ≡ t) × (k ≡ at)))) where
+module _ (s : Slab Slot) (x y : SlotIndex) (index : IsIndex (λ k. serial_in (get s k)) x) (named : IsNamed (λ k. serial_in (get s k)) (row_of (rows_of s))) (t at : ℕ) (fresh : row_of (rows_of s) t ≡ None) (vacant : get s at ≡ None) (below : HasRowsBelow y) (noted : LeadsTo y t at) (others : (k q : ℕ) → serial_in (get s k) ≡ Some q → q ≢ t → LeadsTo x q k → LeadsTo y q k) (rows : (q k : ℕ) → row_of y.rows.entries q ≡ Some k → (row_of x.rows.entries q ≡ Some k) ⊎ ((serial_in (get s k) ≡ Some q) ⊎ ((q ≡ t) × (k ≡ at)))) where
   abbrev with_it : ℕ → Option ℕ
   with_it k = if k == at then Some t else serial_in (get s k)
 
@@ -167,6 +168,7 @@ module _ (s : Slab Slot) (x y : SlotIndex) (index : IsIndex (λ k. serial_in (ge
             | inr here ↦ with-here k here.1 ∙ ap Some (sym here.0)
           ]
         ];
+        below = below;
       }
 
 -- the slot goes by another name
@@ -174,7 +176,7 @@ pub index_at : (s : Slab Slot) (x : SlotIndex) (t at k : ℕ) → at ≡ k → I
 index_at s x t at k same = subst (λ i. IsIndex (λ j. if j == i then Some t else serial_in (get s j)) x) same
 
 -- the serial of a slot goes
-module _ (s : Slab Slot) (x y : SlotIndex) (index : IsIndex (λ k. serial_in (get s k)) x) (named : IsNamed (λ k. serial_in (get s k)) (row_of (rows_of s))) (t at : ℕ) (there : row_of (rows_of s) t ≡ Some at) (guesses : (q : ℕ) → (guess_at y.hints q ≡ guess_at x.hints q) ⊎ (guess_at x.hints q ≡ at)) (rows : (q : ℕ) → row_of y.rows.entries q ≡ (if t == q then None else row_of x.rows.entries q)) where
+module _ (s : Slab Slot) (x y : SlotIndex) (index : IsIndex (λ k. serial_in (get s k)) x) (named : IsNamed (λ k. serial_in (get s k)) (row_of (rows_of s))) (t at : ℕ) (there : row_of (rows_of s) t ≡ Some at) (guesses : (q : ℕ) → (guess_at y.hints q ≡ guess_at x.hints q) ⊎ (guess_at x.hints q ≡ at)) (rows : (q : ℕ) → row_of y.rows.entries q ≡ (if t == q then None else row_of x.rows.entries q)) (most : y.most ≡ x.most) where
   abbrev without_it : ℕ → Option ℕ
   without_it k = if k == at then None else serial_in (get s k)
 
@@ -214,22 +216,28 @@ module _ (s : Slab Slot) (x y : SlotIndex) (index : IsIndex (λ k. serial_in (ge
               let other : k ≢ at = λ same. let both : Some q ≡ Some t = sym was ∙ ap (λ i. serial_in (get s i)) same ∙ row_stands s t at there in differs (cc) in
               without-there k other ∙ was
         ];
+        below = λ q k is. elim (cases_eq q t) [
+          | inl same ↦ let none : None ≡ Some k = sym (row-gone q same) ∙ is in absurd (cc)
+          | inr differs ↦ omega (arith, most, index.below q k (sym (row-there q differs) ∙ is))
+        ];
       }
 
 -- the index finds the serials of the first slots, and no row is wrong
 pub record FindsBelow (s : Slab Slot) (x : SlotIndex) (n : ℕ) : Type 0 where
   pub found : (k q : ℕ) → k < n → serial_in (get s k) ≡ Some q → LeadsTo x q k
   pub right : (q k : ℕ) → row_of x.rows.entries q ≡ Some k → serial_in (get s k) ≡ Some q
+  pub below : HasRowsBelow x
 
 -- room for rows changes nothing
-pub reserved_found : (s : Slab Slot) (x y : SlotIndex) (n : ℕ) → y.hints ≡ x.hints → y.rows.entries ≡ x.rows.entries → FindsBelow s x n → FindsBelow s y n
-reserved_found s x y n hints entries below =
+pub reserved_found : (s : Slab Slot) (x y : SlotIndex) (n : ℕ) → y.hints ≡ x.hints → y.rows.entries ≡ x.rows.entries → y.most ≡ x.most → FindsBelow s x n → FindsBelow s y n
+reserved_found s x y n hints entries most below =
     record {
       found = λ k q within is. elim (below.found k q within is) [
         | inl guessed ↦ inl (ap (λ h. guess_at h q) hints ∙ guessed)
         | inr rowed ↦ inr (ap (λ es. row_of es q) entries ∙ rowed)
       ];
       right = λ q k is. below.right q k (sym (ap (λ es. row_of es q) entries) ∙ is);
+      below = λ q k is. omega (arith, most, below.below q k (sym (ap (λ es. row_of es q) entries) ∙ is));
     }
 
 module _ (s : Slab Slot) (x : SlotIndex) (at : ℕ) (below : FindsBelow s x at) where
@@ -242,14 +250,15 @@ module _ (s : Slab Slot) (x : SlotIndex) (at : ℕ) (below : FindsBelow s x at) 
           | inr differs ↦ below.found k q (omega (arith, within, differs)) is
         ];
         right = below.right;
+        below = below.below;
       }
 
   -- or once its serial is noted down
-  pub noted_found : IsNamed (λ k. serial_in (get s k)) (row_of (rows_of s)) → (y : SlotIndex) (c : Slot) → get s at ≡ Some c → LeadsTo y c.serial at
+  pub noted_found : IsNamed (λ k. serial_in (get s k)) (row_of (rows_of s)) → (y : SlotIndex) → HasRowsBelow y → (c : Slot) → get s at ≡ Some c → LeadsTo y c.serial at
       → ((k q : ℕ) → serial_in (get s k) ≡ Some q → q ≢ c.serial → LeadsTo x q k → LeadsTo y q k)
       → ((q k : ℕ) → row_of y.rows.entries q ≡ Some k → (row_of x.rows.entries q ≡ Some k) ⊎ ((serial_in (get s k) ≡ Some q) ⊎ ((q ≡ c.serial) × (k ≡ at))))
       → FindsBelow s y (at + 1)
-  noted_found named y c here noted others rows =
+  noted_found named y above c here noted others rows =
       record {
         found = λ k q within is. elim (cases_eq k at) [
           | inl same ↦
@@ -267,6 +276,7 @@ module _ (s : Slab Slot) (x : SlotIndex) (at : ℕ) (below : FindsBelow s x at) 
             | inr it ↦ ap (λ i. serial_in (get s i)) it.1 ∙ ap serial_in here ∙ ap Some (sym it.0)
           ]
         ];
+        below = above;
       }
 
 the_serial : (os : List (Option Slot)) (k q : ℕ) → serial_in (get_or os k None) ≡ Some q → k < length os
@@ -280,6 +290,7 @@ all_found s x n enough below =
     record {
       found = λ k q is. below.found k q (omega (arith, enough, the_serial s.slots k q is)) is;
       right = below.right;
+      below = below.below;
     }
 
 -- the rows once a serial comes to a vacant slot, and once that of a slot goes

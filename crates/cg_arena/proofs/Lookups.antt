@@ -162,6 +162,7 @@ module _ (s : Slab Slot) (e : Ends) (x : SlotIndex) (vacant : s.slots ≡ []) (e
         indexed = record {
           found = λ k t is. let none : None ≡ Some t = sym (ap serial_in (nothing_at k)) ∙ is in absurd (cc);
           right = λ t k is. let none : None ≡ Some k = sym (ap (λ es. row_of es t) no_rows) ∙ is in absurd (cc);
+          below = λ t k is. let none : None ≡ Some k = sym (ap (λ es. row_of es t) no_rows) ∙ is in absurd (cc);
         };
       }
 

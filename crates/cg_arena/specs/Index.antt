@@ -1,5 +1,5 @@
 -- Where the slot of a serial is found: as its guess says, or in a row. (Ours.)
-use Rattle.std.specs.Prelude.{◌≡◌, ◌⊎◌, ℕ, ◌/◌, ◌%◌, ◌^◌, List, Option, Some, slice_index_or, bit_and, bit_xor}
+use Rattle.std.specs.Prelude.{◌≡◌, ◌⊎◌, ◌≤◌, ℕ, ◌/◌, ◌%◌, ◌^◌, List, Option, Some, slice_index_or, bit_and, bit_xor}
 use Rattle.cg_arena.specs.declared.hints.Hints.{Hints}
 use Rattle.cg_arena.specs.declared.index.SlotIndex.{SlotIndex}
 use Rattle.slab.specs.Slab.{Slab, get}
@@ -20,10 +20,15 @@ guess_at h s = slice_index_or h.guesses.items (guess_index h s) 0
 abbrev pub LeadsTo : SlotIndex → ℕ → ℕ → Type 0
 LeadsTo x s k = (guess_at x.hints s ≡ k) ⊎ (row_of x.rows.entries s ≡ Some k)
 
+-- no serial above its number has a row
+abbrev pub HasRowsBelow : SlotIndex → Type 0
+HasRowsBelow x = (s k : ℕ) → row_of x.rows.entries s ≡ Some k → s ≤ x.most
+
 -- it finds the serial of each slot, and no row is wrong
 pub record IsIndex (serial : ℕ → Option ℕ) (x : SlotIndex) : Type 0 where
   pub found : (k s : ℕ) → serial k ≡ Some s → LeadsTo x s k
   pub right : (s k : ℕ) → row_of x.rows.entries s ≡ Some k → serial k ≡ Some s
+  pub below : HasRowsBelow x
 
 -- what is true of an arena's fields: its chains, and the index of its slots
 pub record IsKept (slots : Slab Slot) (index : SlotIndex) (ends : List Ends) : Type 0 where

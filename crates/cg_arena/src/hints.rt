@@ -1,5 +1,5 @@
 //! Guesses of where nodes lie.
-ghost use Rattle.std.specs.Prelude.{◌≡◌, ◌≢◌, ◌⊎◌, ℕ, ◌↔◌, IsTrue, IsFalse, IfSome, slice_index_or};
+ghost use Rattle.std.specs.Prelude.{◌≡◌, ◌≢◌, ◌⊎◌, ◌<◌, ◌^◌, ℕ, ◌↔◌, IsTrue, IsFalse, length};
 ghost use Rattle.cg_arena.specs.Index.{guess_at, guess_index};
 
 use std::alloc::{AllocError, Global};
@@ -74,6 +74,7 @@ impl Hints {
     /// answers whether there is a guess for the serial, and the slot's number fits.
     #[inline(always)]
     pub fn tell(&mut self, serial: u64, slot: usize) -> bool
+        ensures can { IsTrue result ↔ (slot < 2 ^ 32) × (guess_index self.old serial < length self.old.guesses.items) }
         ensures told { IsTrue result → guess_at self.new serial ≡ slot }
         ensures others { (q : ℕ) → guess_index self.old q ≢ guess_index self.old serial →
             guess_at self.new q ≡ guess_at self.old q }
@@ -95,7 +96,8 @@ impl Hints {
     /// Forgets that a serial lies in a slot, where its guess says so.
     #[inline(always)]
     pub fn forget(&mut self, serial: u64, slot: usize)
-        ensures { (q : ℕ) → (guess_at self.new q ≡ guess_at self.old q) ⊎ (guess_at self.old q ≡ slot) }
+        ensures others { (q : ℕ) → (guess_at self.new q ≡ guess_at self.old q) ⊎ (guess_at self.old q ≡ slot) }
+        ensures forgotten { guess_at self.new serial ≡ slot → slot ≡ 0 }
     {
         let index = self.index_of(serial);
         if let Some(guess) = self.guesses.get_mut(index) {

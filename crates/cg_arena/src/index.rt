@@ -1,10 +1,10 @@
 //! Where the node of a serial lies.
-ghost use Rattle.std.specs.Prelude.{◌≡◌, ◌≢◌, ◌⊎◌, ℕ, [], ◌+◌, ◌<◌, ◌≤◌, ◌↔◌, ◌==◌, if◌then◌else◌, IsTrue, IsNone, IsSome, IfSome, IfOk, OnOk, IsOk, Some, None};
+ghost use Rattle.std.specs.Prelude.{◌≡◌, max, ◌≢◌, ◌⊎◌, ℕ, [], ◌+◌, ◌<◌, ◌≤◌, ◌↔◌, ◌==◌, if◌then◌else◌, IsTrue, IsNone, IsSome, IfSome, IfOk, OnOk, IsOk, Some, None};
 ghost use Rattle.slab.specs.Slab.{get};
 ghost use Rattle.indexmap.specs.IndexMap.{spare};
 ghost use Rattle.cg_arena.specs.Slots.{serial_in};
 ghost use Rattle.cg_arena.specs.Table.{row_of, rows_of, IsNamed};
-ghost use Rattle.cg_arena.specs.Index.{guess_at, guess_index, LeadsTo, IsIndex};
+ghost use Rattle.cg_arena.specs.Index.{guess_at, guess_index, LeadsTo, HasRowsBelow, IsIndex};
 
 use crate::hints::Hints;
 use crate::links::slot_at;
@@ -22,6 +22,8 @@ use std::alloc::{AllocError, Global};
 pub struct SlotIndex {
     hints: Hints,
     rows: IndexMap<u64, usize, SerialHashing>,
+    // No serial above this one has a row. So most nodes that die young are not sought among the rows.
+    most: u64,
 }
 
 /// The node in a slot, if it is that of a serial.
@@ -58,6 +60,7 @@ impl SlotIndex {
         SlotIndex {
             hints: Hints::new(alloc),
             rows: IndexMap::with_hasher(alloc, serial_hashing()),
+            most: 0,
         }
     }
 
@@ -178,7 +181,9 @@ impl SlotIndex {
     #[inline(always)]
     fn note(&mut self, slots: &Slab<Slot>, serial: u64, at: usize)
         requires named { IsNamed (λ k. serial_in (get slots.now k)) (row_of (rows_of slots.now)) }
+        requires below { HasRowsBelow self.old }
         requires room { 0 < spare self.old.rows }
+        ensures below { HasRowsBelow self.new }
         ensures noted { LeadsTo self.new serial at }
         ensures others { (k q : ℕ) → serial_in (get slots.now k) ≡ Some q → q ≢ serial → LeadsTo self.old q k →
             LeadsTo self.new q k }
@@ -204,9 +209,11 @@ impl SlotIndex {
         requires { 0 < spare self.old.rows }
         ensures rows { (s : ℕ) → row_of self.new.rows.entries s ≡
             (if serial == s then Some at else row_of self.old.rows.entries s) }
+        ensures most { self.new.most ≡ max self.old.most serial }
         ensures hints { self.new.hints ≡ self.old.hints }
         ensures room { spare self.old.rows ≤ spare self.new.rows + 1 }
     {
+        self.most = self.most.max(serial);
         match self.rows.insert(serial, at) {
             Ok(_) => {}
             Err(_) => unreachable!(),
@@ -237,7 +244,7 @@ impl SlotIndex {
         ensures room { spare self.old.rows ≤ spare self.new.rows }
     {
         self.hints.forget(serial, at);
-        if !self.rows.is_empty() {
+        if serial <= self.most {
             self.drop_row(serial);
         }
     }
@@ -247,6 +254,7 @@ impl SlotIndex {
     fn drop_row(&mut self, serial: u64)
         ensures rows { (s : ℕ) → row_of self.new.rows.entries s ≡
             (if serial == s then None else row_of self.old.rows.entries s) }
+        ensures most { self.new.most ≡ self.old.most }
         ensures hints { self.new.hints ≡ self.old.hints }
         ensures room { spare self.old.rows ≤ spare self.new.rows }
     {
@@ -268,6 +276,7 @@ fn index_by(
     let mut index = SlotIndex {
         hints,
         rows: IndexMap::with_hasher(alloc, serial_hashing()),
+        most: 0,
     };
     // No slot lies behind the capacity.
     'slots: for at in 0..slots.capacity() {
