@@ -1,9 +1,12 @@
 -- Where the first piece ends.
-use Rattle.std.proofs.Common.{◌≡◌, ℕ, suc, ◌+◌, ◌-◌, ◌<◌, ◌≤◌, List, [], ◌∷◌, length, take, drop, get_or, Bool, true, false, cond, not, ◌&&◌, ◌==◌, refl, sym, ap, ◌∙◌, arith, filter, nat_lt, Some, None, position, length-drop, eq-eqb}
+use Rattle.std.proofs.Common.{◌≡◌, ◌≢◌, ℕ, suc, ◌+◌, ◌-◌, ◌<◌, ◌≤◌, List, [], ◌∷◌, length, take, drop, get_or, Bool, true, false, cond, not, ◌&&◌, ◌==◌, refl, sym, ap, ◌∙◌, arith, filter, nat_lt, Some, None, position, length-drop, eq-eqb, subst}
 use Rattle.std.proofs.lemmas.Bool.Decides.{nat_tests}
 use Rattle.std.proofs.Math.Seq.{take-length, drop-length}
 use Rattle.std.proofs.Math.ListN.{drop_of_length-le}
-use Rattle.std.proofs.lemmas.List.{take_all}
+use Rattle.std.proofs.lemmas.List.{take_all, get_or-take, length-take-le}
+use Rattle.std.proofs.lemmas.List.Quantifiers.{position-Some}
+use Rattle.std.proofs.lemmas.List.Sums.{prefix_len-le-length, prefix_len_stops}
+use Rattle.std.proofs.lemmas.List.Folds.{list_all_at}
 use Rattle.std.proofs.lemmas.Bool.{ltb-true, ltb-false}
 use Rattle.std.proofs.Math.Numerals.{one-add}
 use Rattle.std.specs.List.{position_or_len, prefix_len}
@@ -33,17 +36,17 @@ pub first_piece : (sep : ℕ) (bytes : List ℕ) → 0 < length bytes
 first_piece sep [] h = absurd (omega arith)
 first_piece sep (b ∷ bs) h = first_step sep b bs (b == sep) (position_or_len (λ c. c == sep) bs) (first_piece sep bs) (no_longer (λ c. not (c == sep)) bs)
 
-all_taken : (m : ℕ) (xs : List ℕ) → take (length xs - m) (drop m xs) ≡ drop m xs
+pub all_taken : (m : ℕ) (xs : List ℕ) → take (length xs - m) (drop m xs) ≡ drop m xs
 all_taken m xs = ap (λ k. take k (drop m xs)) (sym (length-drop m xs)) ∙ take-length (drop m xs)
 
-found : (n k i : ℕ) → cond (nat_lt n k) (Some n) None ≡ Some i → (n ≡ i) × (n < k)
+pub found : (n k i : ℕ) → cond (nat_lt n k) (Some n) None ≡ Some i → (n ≡ i) × (n < k)
 found n k i e = by (nat_lt n k) refl e
   where
     by : (b : Bool) → nat_lt n k ≡ b → cond b (Some n) None ≡ Some i → (n ≡ i) × (n < k)
     by true t e = (cc, ltb-true n k t)
     by false t e = absurd (cc)
 
-absent : (n k : ℕ) → cond (nat_lt n k) (Some n) None ≡ None → k ≤ n
+pub absent : (n k : ℕ) → cond (nat_lt n k) (Some n) None ≡ None → k ≤ n
 absent n k e = by (nat_lt n k) refl e
   where
     by : (b : Bool) → nat_lt n k ≡ b → cond b (Some n) None ≡ None → k ≤ n
@@ -131,3 +134,37 @@ pub last_is_printable : (bytes : List ℕ) → position odd bytes ≡ None → l
 last_is_printable bytes e =
     let far : length bytes ≤ position_or_len odd bytes = absent (position_or_len odd bytes) (length bytes) e in
     ap (list_all is_printable) (sym (take_all (position_or_len odd bytes) bytes far)) ∙ before_odd bytes
+
+same_head : (a b : List ℕ) (after later : List (List ℕ)) → a ∷ after ≡ b ∷ later → a ≡ b
+same_head a b after later e = cc
+
+not_true : (t : Bool) → not t ≡ true → t ≡ false
+not_true true e = absurd (cc)
+not_true false e = refl
+
+-- a line feed comes behind the first byte that is not printable, if that is none
+far_feed : (i p : ℕ) (bytes : List ℕ) → p ≡ position_or_len (λ b. b == 10) bytes → i < length bytes → ((k : ℕ) → k < i → odd (get_or bytes k 0) ≡ false) → get_or bytes i 0 ≢ 10 → i < p
+far_feed i p bytes ep within before other = by (nat_lt i p) refl
+  where
+    feed : p < length bytes → get_or bytes p 0 ≡ 10
+    feed l =
+        let s : not (get_or bytes p 0 == 10) ≡ false = ap (λ k. not (get_or bytes k 0 == 10)) ep ∙ prefix_len_stops (λ b. not (b == 10)) bytes 0 (subst (λ k. k < length bytes) ep l) in
+        grind (arith, nat_tests, s)
+    first : p ≤ i → (t : Bool) → nat_lt p i ≡ t → i < p
+    first l true t = let b = before p (ltb-true p i t) in let f = ap odd (feed (omega (arith, l, within))) in absurd (cc)
+    first l false t = let n : i ≡ p = omega (arith, ltb-false p i t, l) in absurd (other (ap (λ k. get_or bytes k 0) n ∙ feed (omega (arith, l, within))))
+    by : (t : Bool) → nat_lt i p ≡ t → i < p
+    by true t = ltb-true i p t
+    by false t = first (ltb-false i p t) (nat_lt p i) refl
+
+-- a line with a byte that is neither printable nor its line feed
+pub odd_line : (i : ℕ) (bytes line : List ℕ) (later : List (List ℕ)) → position odd bytes ≡ Some i → get_or bytes i 0 ≢ 10 → lines_of bytes ≡ line ∷ later → list_all is_printable line ≡ false
+odd_line i bytes line later e other h =
+    let at = position-Some odd bytes i 0 e in
+    let p = position_or_len (λ b. b == 10) bytes in
+    let some : 0 < length bytes = omega (arith, at.0) in
+    let is : take p bytes ≡ line = same_head _ _ _ _ (sym (first_piece 10 bytes some) ∙ h) in
+    let behind : i < p = far_feed i p bytes refl at.0 at.2 other in
+    let far : p ≤ length bytes = prefix_len-le-length (λ b. not (b == 10)) bytes in
+    let stop : is_printable (get_or (take p bytes) i 0) ≡ false = ap is_printable (get_or-take p bytes i 0 behind) ∙ not_true (is_printable (get_or bytes i 0)) at.1 in
+    ap (list_all is_printable) (sym is) ∙ list_all_at is_printable (take p bytes) i 0 (omega (arith, behind, length-take-le p bytes far)) stop

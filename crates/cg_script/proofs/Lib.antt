@@ -6,6 +6,7 @@ pub mod Positions
 pub mod Declared
 pub mod Digits
 pub mod Places
+pub mod Split
 pub mod Grouped
 pub mod Says
 pub mod Walk

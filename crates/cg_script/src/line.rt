@@ -1,14 +1,13 @@
 //! What a line means by its words alone.
-ghost use Rattle.std.specs.Prelude.{◌≡◌, ◌<◌, ◌≤◌, ◌+◌, [], length, map, codes, drop, true};
+ghost use Rattle.std.specs.Prelude.{◌≡◌, ◌<◌, ◌≤◌, ◌+◌, [], length, map, codes, drop, take, true, false, nat_lt, ◌||◌, ◌==◌};
 ghost use Rattle.std.specs.List.{list_all};
-ghost use Rattle.cg_script.specs.Pieces.{word_is, word_at};
+ghost use Rattle.cg_script.specs.Pieces.{word_is, word_at, words_of};
 ghost use Rattle.cg_script.specs.Words.{is_printable};
 ghost use Rattle.cg_script.specs.Meanings.{fits, all_fit, repeats_finalizer, formed, binding_form, worded, is_passed, meaning};
 ghost use Rattle.cg_script.specs.Views.{meaning_of};
 
 use crate::form::{Form, Sort, binding_named, opener_named, row_for, sort_at};
-use crate::limits::{MOST_BUDGET, MOST_COUNT, MOST_LINE_BYTES, MOST_LINES};
-use crate::pieces::{Words, find_words};
+use crate::limits::{MOST_BUDGET, MOST_COUNT, MOST_FOUND, MOST_LINE_BYTES, MOST_LINES, MOST_WORDS};
 use crate::word::{
     flag, is_count_word, is_identifier_word, is_number_word, is_profile_word, is_value,
     is_variable, names_finalizer_word, names_legacy_word,
@@ -141,28 +140,31 @@ fn is_passed_over(words: &[&[u8]]) -> bool
     }
 }
 
-/// What the line of this number means, and its words, into a list that is empty before.
+/// Whether a line is too long, has too many words, or is one too many.
+fn is_too_long(number: u32, line: &[u8], words: &[&[u8]]) -> bool
+    requires { map (λ w. w.now) words.now ≡ take MOST_FOUND (words_of line.now) }
+    ensures long { result ≡ (nat_lt MOST_LINE_BYTES (length line.now) || nat_lt MOST_WORDS (length (words_of line.now)) || (number == MOST_LINES + 1)) }
+    ensures words { result ≡ false → map (λ w. w.now) words.now ≡ words_of line.now }
+{
+    if words.len() > MOST_WORDS {
+        return true;
+    }
+    line.len() > MOST_LINE_BYTES || number == MOST_LINES + 1
+}
+
+/// What the line of this number means, by its words, if all its bytes are printable.
 #[tactic(auto, unfolding(crate::specs::Meanings::meaning))]
-pub(crate) fn read_line<'a>(
-    number: u32,
-    line: &'a [u8],
-    printable: bool,
-    found: &mut Words<'a>,
-) -> Line
+pub(crate) fn read_line(number: u32, line: &[u8], printable: bool, words: &[&[u8]]) -> Line
     requires printable { printable ≡ list_all is_printable line.now }
-    requires empty { found.old.items ≡ [] }
-    ensures { meaning_of result (map (λ w. w.now) found.new.items) ≡ meaning number line.now }
+    requires words { printable ≡ true → map (λ w. w.now) words.now ≡ take MOST_FOUND (words_of line.now) }
+    ensures { meaning_of result (map (λ w. w.now) words.now) ≡ meaning number line.now }
 {
     if !printable {
         return Line::Bad(NOT_PRINTABLE);
     }
-    if line.len() > MOST_LINE_BYTES || number == MOST_LINES + 1 {
+    if is_too_long(number, line, words) {
         return Line::Bad(TOO_LONG);
     }
-    if !find_words(line, found) {
-        return Line::Bad(TOO_LONG);
-    }
-    let words = found.as_slice();
     if is_passed_over(words) {
         return Line::Passed;
     }

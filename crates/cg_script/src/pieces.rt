@@ -1,15 +1,14 @@
 //! Bytes between separators.
-ghost use Rattle.std.specs.Prelude.{◌≡◌, ◌<◌, ◌≤◌, ◌∷◌, ◌==◌, [], length, map, position, not, true, false};
-ghost use Rattle.std.specs.List.{list_all};
-ghost use Rattle.cg_script.specs.Pieces.{pieces, words_of, lines_of};
+ghost use Rattle.std.specs.Prelude.{◌≡◌, ◌<◌, ◌≤◌, ◌∷◌, ◌++◌, ◌==◌, ◌||◌, [], length, map, filter, position, not, take, unwrap_or, true};
+ghost use Rattle.std.specs.List.{list_all, position_or_len};
+ghost use Rattle.cg_script.specs.Pieces.{pieces, has_bytes, words_of, lines_of};
 ghost use Rattle.cg_script.specs.Words.{is_printable};
 
-use crate::limits::MOST_WORDS;
-use crate::word::is_printable_text;
+use crate::limits::MOST_FOUND;
 use arrayvec::ArrayVec;
 
-/// The words of a line, each a part of it.
-pub(crate) type Words<'a> = ArrayVec<&'a [u8], MOST_WORDS>;
+/// The words of a line, each a part of it: all of them, unless there are too many.
+pub(crate) type Words<'a> = ArrayVec<&'a [u8], MOST_FOUND>;
 
 /// The first place of a byte.
 fn place_of_byte(bytes: &[u8], byte: u8) -> Option<usize>
@@ -20,7 +19,7 @@ fn place_of_byte(bytes: &[u8], byte: u8) -> Option<usize>
 
 /// The first piece, and what follows its separator.
 #[tactic(auto, using(crate::proofs::Cuts::cut_at, crate::proofs::Cuts::cut_none))]
-pub(crate) fn cut(bytes: &[u8], separator: u8) -> (&[u8], &[u8])
+fn cut(bytes: &[u8], separator: u8) -> (&[u8], &[u8])
     requires { 0 < length bytes.now }
     ensures pieces { pieces separator bytes.now ≡ result.0.now ∷ pieces separator result.1.now }
     ensures shorter { length result.1.now < length bytes.now }
@@ -31,52 +30,71 @@ pub(crate) fn cut(bytes: &[u8], separator: u8) -> (&[u8], &[u8])
     }
 }
 
-/// The first place of a byte that is not printable, as a line feed is.
-fn place_of_control(bytes: &[u8]) -> Option<usize>
-    ensures place { result ≡ position (λ b. not (is_printable b)) bytes.now }
+/// The first place of a byte that is a space, or not printable, as a line feed is.
+fn place_of_end(bytes: &[u8]) -> Option<usize>
+    ensures place { result ≡ position (λ b. not (is_printable b) || b == 32) bytes.now }
 {
-    bytes.iter().position(|byte| !(32..=126).contains(byte))
+    bytes.iter().position(|byte| !(33..=126).contains(byte))
 }
 
-/// The first line, what follows its line feed, and whether all bytes of the line are printable.
-pub(crate) fn cut_line(bytes: &[u8]) -> (&[u8], &[u8], bool)
-    requires { 0 < length bytes.now }
+/// Takes a piece of a line as a word, unless it is empty, or the list is full.
+fn push_word<'a>(words: &mut Words<'a>, piece: &'a [u8])
+    ensures { map (λ w. w.now) words.new.items
+        ≡ take MOST_FOUND (map (λ w. w.now) words.old.items ++ filter has_bytes (piece.now ∷ [])) }
+{
+    if words.is_full() {
+        return;
+    }
+    if !piece.is_empty() {
+        words.push(piece);
+    }
+}
+
+/// The first place of a byte that is not printable, as a line feed is. The words before it go into a list that is empty before.
+fn find_words<'a>(bytes: &'a [u8], words: &mut Words<'a>) -> Option<usize>
+    requires { words.old.items ≡ [] }
+    ensures place { result ≡ position (λ b. not (is_printable b)) bytes.now }
+    ensures words { map (λ w. w.now) words.new.items
+        ≡ take MOST_FOUND (words_of (take (unwrap_or result (length bytes.now)) bytes.now)) }
+{
+    let mut at = 0;
+    'words: while at < bytes.len() {
+        match place_of_end(&bytes[at..]) {
+            Some(i) => {
+                push_word(words, &bytes[at..at + i]);
+                if bytes[at + i] != b' ' {
+                    return Some(at + i);
+                }
+                at += i + 1;
+            }
+            None => {
+                push_word(words, &bytes[at..]);
+                return None;
+            }
+        }
+    }
+    None
+}
+
+/// The first line, what follows its line feed, and whether all bytes of the line are printable. If they are, its words go into a
+/// list that is empty before.
+pub(crate) fn cut_line<'a>(bytes: &'a [u8], words: &mut Words<'a>) -> (&'a [u8], &'a [u8], bool)
+    requires some { 0 < length bytes.now }
+    requires empty { words.old.items ≡ [] }
     ensures lines { lines_of bytes.now ≡ result.0.now ∷ lines_of result.1.now }
     ensures shorter { length result.1.now < length bytes.now }
     ensures printable { result.2 ≡ list_all is_printable result.0.now }
+    ensures words { result.2 ≡ true → map (λ w. w.now) words.new.items ≡ take MOST_FOUND (words_of result.0.now) }
 {
-    match place_of_control(bytes) {
+    match find_words(bytes, words) {
         Some(i) => {
             if bytes[i] == b'\n' {
                 (&bytes[..i], &bytes[i + 1..], true)
             } else {
                 let (line, after) = cut(bytes, b'\n');
-                (line, after, is_printable_text(line))
+                (line, after, false)
             }
         }
         None => (bytes, &bytes[bytes.len()..], true),
     }
-}
-
-/// Finds the words of a line in order, into a list that is empty before, unless there are too many.
-pub(crate) fn find_words<'a>(line: &'a [u8], words: &mut Words<'a>) -> bool
-    requires { words.old.items ≡ [] }
-    ensures found { result ≡ true → map (λ w. w.now) words.new.items ≡ words_of line.now }
-    ensures few { result ≡ true → length (words_of line.now) ≤ MOST_WORDS }
-    ensures many { result ≡ false → MOST_WORDS < length (words_of line.now) }
-{
-    let mut rest = line;
-    'pieces: while !rest.is_empty() {
-        let (word, after) = cut(rest, b' ');
-        if !word.is_empty() {
-            if words.is_full() {
-                return false;
-            }
-            words.push(word);
-        }
-        rest = after;
-    }
-    // There are at most `MOST_WORDS`, since that is the room of the list.
-    let _count = words.len();
-    true
 }

@@ -1,9 +1,9 @@
 //! A whole script, line by line.
-ghost use Rattle.std.specs.Prelude.{◌≡◌, ◌+◌, ◌<◌, ◌≤◌, [], ◌∷◌, ℕ, List, length, IfOk, IfErr, OnOk, OnErr};
+ghost use Rattle.std.specs.Prelude.{◌≡◌, ◌+◌, ◌<◌, ◌≤◌, [], ◌∷◌, ℕ, List, length, map, take, true, IfOk, IfErr, OnOk, OnErr};
 ghost use Rattle.std.specs.List.{list_all};
 ghost use Rattle.cg_script.specs.Texts.{TextsAreKnown};
 ghost use Rattle.cg_script.specs.Words.{is_printable};
-ghost use Rattle.cg_script.specs.Pieces.{lines_of};
+ghost use Rattle.cg_script.specs.Pieces.{lines_of, words_of};
 ghost use Rattle.cg_script.specs.Reading.{reading, spells};
 ghost use Rattle.cg_script.specs.Views.{reading_after, IsSmall};
 ghost use Rattle.cg_script.specs.Faults.{IsFault};
@@ -12,38 +12,39 @@ ghost use Rattle.cg_script.specs.Spelled.{IsSpelled};
 use crate::draft::{Draft, empty, take_words};
 use crate::fault::ScriptFault;
 use crate::item::Script;
-use crate::limits::{MOST_LINES, MOST_TEXTS};
+use crate::limits::{MOST_FOUND, MOST_LINES, MOST_TEXTS};
 use crate::line::{Line, read_line};
 use crate::members::Items;
 use crate::part::Parts;
-use crate::pieces::{Words, cut_line};
+use crate::pieces::cut_line;
 use arrayvec::ArrayVec;
 use std::alloc::Global;
 
 /// A procedure that is begun and not ended.
 const NO_END: u8 = 7;
 
-/// Takes the line of this number, whose bytes are all printable or not. Its words and parts go into lists that serve all lines.
-fn take_line<'a>(
+/// Takes the line of this number, whose bytes are all printable or not, by its words. Their parts go into a list that serves all
+/// lines.
+fn take_line(
     draft: &mut Draft,
     number: u32,
-    line: &'a [u8],
+    line: &[u8],
     printable: bool,
-    words: &mut Words<'a>,
+    words: &[&[u8]],
     parts: &mut Parts,
 ) -> Result<(), ScriptFault>
     requires printable { printable ≡ list_all is_printable line.now }
+    requires words { printable ≡ true → map (λ w. w.now) words.now ≡ take MOST_FOUND (words_of line.now) }
     requires small { IsSmall draft.old number }
     ensures ok { OnOk result ((lines : List (List ℕ)) → reading_after draft.new (number + 1) lines ≡ reading_after draft.old number (line.now ∷ lines)) }
     ensures small { OnOk result (IsSmall draft.new (number + 1)) }
     ensures fault { IfErr result (λ fault. (lines : List (List ℕ)) → IsFault fault (reading_after draft.old number (line.now ∷ lines))) }
 {
-    words.clear();
     parts.clear();
     match read_line(number, line, printable, words) {
         Line::Passed => Ok(()),
         Line::Bad(code) => Err(ScriptFault::Bad { line: number, code }),
-        Line::Says(form) => match take_words(draft, form, words.as_slice(), parts) {
+        Line::Says(form) => match take_words(draft, form, words, parts) {
             Ok(None) => Ok(()),
             Ok(Some(code)) => Err(ScriptFault::Bad { line: number, code }),
             Err(_) => Err(ScriptFault::OutOfMemory),
@@ -63,8 +64,9 @@ fn take_lines(draft: &mut Draft, bytes: &[u8]) -> Result<u32, ScriptFault>
     let mut words = ArrayVec::new();
     let mut parts = Vec::new(draft.alloc);
     'lines: while !rest.is_empty() {
-        let (line, after, printable) = cut_line(rest);
-        match take_line(draft, number, line, printable, &mut words, &mut parts) {
+        words.clear();
+        let (line, after, printable) = cut_line(rest, &mut words);
+        match take_line(draft, number, line, printable, words.as_slice(), &mut parts) {
             Ok(()) => {
                 number += 1;
                 rest = after;

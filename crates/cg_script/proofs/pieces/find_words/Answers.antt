@@ -1,22 +1,62 @@
-use Rattle.std.proofs.Common.{◌≡◌, refl, ◌∷◌, ℕ, List, Bor, ◌++◌, ◌≤◌, ◌+◌, [], length, map, arith, ap, length-append}
-use Rattle.std.proofs.lemmas.List.{length-map}
-use Rattle.std.proofs.lemmas.Bool.Decides.{nat_tests}
-use Rattle.cg_script.specs.Pieces.{words_of}
+use Rattle.std.proofs.Common.{◌≡◌, ap, sym, ◌∙◌, arith, length, take, drop, ◌++◌, ◌∷◌, [], filter, subst, take-add, take-append-drop, take_all}
+use Rattle.std.proofs.Math.Seq.{take-length}
+use Rattle.std.specs.List.{list_all}
+use Rattle.cg_script.specs.Words.{is_printable}
+use Rattle.cg_script.proofs.Cuts.{all_taken}
+use Rattle.cg_script.specs.Pieces.{has_bytes, words_of}
+use Rattle.cg_script.proofs.Places.{texts_of}
+use Rattle.cg_script.proofs.Split.{AreFirst, first_more, first_last, first_all, few_found, length-texts, word_here, within_here, same_piece, printable_here, place_here, done_behind, printable_behind, word_last, printable_last, place_none}
 use Rattle.cg_script.proofs.pieces.find_words.Goals as goal
 
--- as many as the list has
-few_in : (words : List (Bor (List ℕ))) (rest all : List (List ℕ)) → map (λ w. w.now) words ++ rest ≡ all → rest ≡ [] → length words ≤ 64 → length all ≤ 64
-few_in words rest all same none few =
-    let n : length (map (λ (w : Bor (List ℕ)). w.now) words) ≡ length words = length-map words (λ w. w.now) in
-    let e : length (map (λ (w : Bor (List ℕ)). w.now) words ++ rest) ≡ length all = ap length same in
-    let r : length rest ≡ 0 = ap length none in
-    let a : length (map (λ (w : Bor (List ℕ)). w.now) words ++ rest) ≡ length (map (λ (w : Bor (List ℕ)). w.now) words) + length rest = length-append (map (λ (w : Bor (List ℕ)). w.now) words) rest in
-    omega (arith, n, e, r, a, few)
+pub words-preserved : goal.words-preserved
+words-preserved c =
+    let bytes = c.args.bytes.now in
+    let at = c.words.at in
+    let i = c.in-Some.i in
+    let k = c.words.invariant in
+    let space = c.if-bytes-at-ne32.false in
+    let found = c.push_word.ensures ∙ ap (λ w. take 65 (texts_of c.words.words.items ++ filter has_bytes (w ∷ []))) (same_piece bytes at k.within k.printable i c.in-Some.ensures.place) in
+    record {
+      within = omega (arith, within_here bytes at k.within k.printable i c.in-Some.ensures.place);
+      printable = printable_behind bytes at k.within k.printable i c.in-Some.ensures.place space;
+      few = few_found c.push_word.new.words.items _ found;
+      found = subst (AreFirst (texts_of c.push_word.new.words.items)) (sym (done_behind bytes at k.within k.printable i c.in-Some.ensures.place space))
+          (first_more (texts_of c.words.words.items) (texts_of c.push_word.new.words.items) (take at bytes) (take i (drop at bytes)) (word_here bytes at k.within k.printable i c.in-Some.ensures.place) found k.found);
+    }
 
--- nothing has no words
-none_of : (rest : List ℕ) → length rest ≡ 0 → words_of rest ≡ []
-none_of [] e = refl
-none_of (x ∷ xs) e = absurd (omega (arith, e))
+pub returns-then-bytes-at-ne32-clause-place : goal.returns-then-bytes-at-ne32-clause-place
+returns-then-bytes-at-ne32-clause-place c = place_here c.args.bytes.now c.words.at c.words.invariant.within c.words.invariant.printable c.in-Some.i c.in-Some.ensures.place c.if-bytes-at-ne32.true
 
-pub returns-clause-few : goal.returns-clause-few
-returns-clause-few c = λ t. few_in c.pieces.words.items _ _ c.pieces.invariant (none_of c.pieces.rest.now (grind (arith, nat_tests, c.pieces-test.false, c.is_empty.ensures))) (omega (arith, c.len-count.ensures.value, c.len-count.ensures.fits))
+pub returns-then-bytes-at-ne32-clause-words : goal.returns-then-bytes-at-ne32-clause-words
+returns-then-bytes-at-ne32-clause-words c =
+    let bytes = c.args.bytes.now in
+    let at = c.words.at in
+    let i = c.in-Some.i in
+    let k = c.words.invariant in
+    let found = c.push_word.ensures ∙ ap (λ w. take 65 (texts_of c.words.words.items ++ filter has_bytes (w ∷ []))) (same_piece bytes at k.within k.printable i c.in-Some.ensures.place) in
+    first_last (texts_of c.words.words.items) (texts_of c.push_word.new.words.items) (take at bytes) (take i (drop at bytes)) (word_here bytes at k.within k.printable i c.in-Some.ensures.place) found k.found
+    ∙ ap (λ bs. take 65 (words_of bs)) (sym (take-add at i bytes))
+
+pub returns-in-None-clause-place : goal.returns-in-None-clause-place
+returns-in-None-clause-place c = place_none c.args.bytes.now (printable_last c.args.bytes.now c.words.at c.words.invariant.within c.words.invariant.printable c.in-None.ensures.place)
+
+pub returns-in-None-clause-words : goal.returns-in-None-clause-words
+returns-in-None-clause-words c =
+    let bytes = c.args.bytes.now in
+    let at = c.words.at in
+    let k = c.words.invariant in
+    let found = c.push_word-in-None.ensures ∙ ap (λ w. take 65 (texts_of c.words.words.items ++ filter has_bytes (w ∷ []))) (all_taken at bytes) in
+    first_last (texts_of c.words.words.items) (texts_of c.push_word-in-None.new.words.items) (take at bytes) (drop at bytes) (word_last bytes at k.within k.printable c.in-None.ensures.place) found k.found
+    ∙ ap (λ bs. take 65 (words_of bs)) (take-append-drop at bytes ∙ sym (take-length bytes))
+
+-- all bytes are gone over
+at_last : (c : goal.After-words) → take c.words.at c.args.bytes.now ≡ c.args.bytes.now
+at_last c = take_all c.words.at c.args.bytes.now (omega (arith, c.words-test.false))
+
+pub returns-clause-place : goal.returns-clause-place
+returns-clause-place c = place_none c.args.bytes.now (ap (list_all is_printable) (sym (at_last c)) ∙ c.words.invariant.printable)
+
+pub returns-clause-words : goal.returns-clause-words
+returns-clause-words c =
+    first_all (texts_of c.words.words.items) (take c.words.at c.args.bytes.now) (omega (arith, length-texts c.words.words.items, c.words.invariant.few)) c.words.invariant.found
+    ∙ ap (λ bs. take 65 (words_of bs)) (at_last c ∙ sym (take-length c.args.bytes.now))

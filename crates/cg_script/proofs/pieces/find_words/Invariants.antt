@@ -1,10 +1,18 @@
-use Rattle.std.proofs.Common.{◌≡◌, ◌++◌, length, map}
-use Rattle.cg_script.specs.Pieces.{words_of}
+use Rattle.std.proofs.Common.{◌≡◌, ◌-◌, ◌≤◌, length, take, true}
+use Rattle.std.specs.List.{list_all}
+use Rattle.cg_script.specs.Words.{is_printable}
+use Rattle.cg_script.proofs.Places.{texts_of}
+use Rattle.cg_script.proofs.Split.{AreFirst}
 use Rattle.cg_script.proofs.pieces.find_words.Given as goal
 
--- the words so far and those of what is left are those of the line
-abbrev pub invariant-pieces : goal.invariant-pieces
-invariant-pieces l = map (λ w. w.now) l.words.items ++ words_of l.rest ≡ words_of l.fn.line
+-- the bytes so far are printable, and their words are found
+abbrev pub invariant-words : goal.invariant-words
+invariant-words l = record {
+  within : l.at ≤ length l.bytes;
+  printable : list_all is_printable (take l.at l.bytes) ≡ true;
+  few : length l.words.items ≤ 65;
+  found : AreFirst (texts_of l.words.items) (take l.at l.bytes);
+}
 
-abbrev pub decreases-pieces : goal.decreases-pieces
-decreases-pieces l = length l.rest
+abbrev pub decreases-words : goal.decreases-words
+decreases-words l = length l.bytes - l.at

@@ -1,0 +1,248 @@
+-- The words at the front of some bytes.
+use Rattle.std.proofs.Common.{◌≡◌, ◌≢◌, ℕ, zero, suc, ◌+◌, ◌-◌, ◌<◌, ◌≤◌, List, [], ◌∷◌, ◌++◌, length, take, drop, map, filter, get_or, Bool, true, false, cond, not, ◌&&◌, ◌||◌, ◌==◌, refl, sym, ap, ◌∙◌, arith, nat_lt, Some, None, position, unwrap_or, length-append, length-drop, append_assoc, append-nil}
+use Rattle.std.proofs.lemmas.Bool.Decides.{nat_tests}
+use Rattle.std.proofs.lemmas.List.{take_all, take_more, take-append-drop, length-take-le, get_or-drop, take-append-le, get_or-take, length-take}
+use Rattle.std.proofs.lemmas.List.Quantifiers.{position-Some}
+use Rattle.std.proofs.Math.Seq.{take-add}
+use Rattle.std.proofs.Math.ListN.{drop_of_length-le}
+use Rattle.std.proofs.Math.Numerals.{one-add}
+use Rattle.std.specs.List.{list_all, position_or_len}
+use Rattle.cg_script.specs.Pieces.{pieces, onto, has_bytes, words_of}
+use Rattle.cg_script.specs.Words.{is_printable}
+use Rattle.cg_script.proofs.Ascii.{both}
+use Rattle.std.specs.Borrow.{Bor}
+use Rattle.std.proofs.lemmas.List.{length-map, map-append}
+use Rattle.cg_script.proofs.Places.{texts_of}
+use Rattle.std.proofs.lemmas.List.Folds.{list_all-append}
+use Rattle.std.proofs.lemmas.List.Sums.{prefix_len_is}
+use Rattle.cg_script.proofs.Cuts.{odd, empty_piece, full_piece, found, absent, all_taken}
+
+is_below : (n m : ℕ) → n < m → nat_lt n m ≡ true
+is_below n m h = grind (arith, nat_tests)
+
+is_not_below : (n : ℕ) → nat_lt n n ≡ false
+is_not_below n = grind (arith, nat_tests)
+
+-- a byte that ends a word
+abbrev pub ends : ℕ → Bool
+ends b = not (is_printable b) || b == 32
+
+abbrev pub plain : ℕ → Bool
+plain b = not (ends b)
+
+plain_other : (b : ℕ) → plain b ≡ true → (b == 32) ≡ false
+plain_other b e = grind (arith, nat_tests)
+
+plain_printable : (b : ℕ) → plain b ≡ true → is_printable b ≡ true
+plain_printable b e = grind (arith, nat_tests)
+
+-- a word ends at its space
+pub word_before : (w rest : List ℕ) → list_all plain w ≡ true → pieces 32 (w ++ 32 ∷ rest) ≡ w ∷ pieces 32 rest
+word_before [] rest h = refl
+word_before (b ∷ w) rest h =
+    let p = both (plain b) (list_all plain w) h in
+    ap (λ t. cond t ([] ∷ pieces 32 (w ++ 32 ∷ rest)) (onto b (pieces 32 (w ++ 32 ∷ rest)))) (plain_other b p.0) ∙ ap (onto b) (word_before w rest p.1)
+
+one_piece : (b : ℕ) (w : List ℕ) → list_all plain (b ∷ w) ≡ true → pieces 32 (b ∷ w) ≡ (b ∷ w) ∷ []
+one_piece b [] h = ap (λ t. cond t ([] ∷ []) ((b ∷ []) ∷ [])) (plain_other b (both (plain b) true h).0)
+one_piece b (c ∷ w) h =
+    let p = both (plain b) (list_all plain (c ∷ w)) h in
+    ap (λ t. cond t ([] ∷ pieces 32 (c ∷ w)) (onto b (pieces 32 (c ∷ w)))) (plain_other b p.0) ∙ ap (onto b) (one_piece c w p.1)
+
+-- with no space all is one word
+pub word_alone : (w : List ℕ) → list_all plain w ≡ true → words_of w ≡ filter has_bytes (w ∷ [])
+word_alone [] h = refl
+word_alone (b ∷ w) h = ap (filter has_bytes) (one_piece b w h)
+
+pub all_plain : (w : List ℕ) → list_all plain w ≡ true → list_all is_printable w ≡ true
+all_plain [] h = refl
+all_plain (b ∷ w) h = let p = both (plain b) (list_all plain w) h in ap (λ t. t && list_all is_printable w) (plain_printable b p.0) ∙ all_plain w p.1
+
+filter_behind : (w : List ℕ) (rest : List (List ℕ)) → filter has_bytes (w ∷ rest) ≡ filter has_bytes (w ∷ []) ++ filter has_bytes rest
+filter_behind [] rest = refl
+filter_behind (b ∷ w) rest = refl
+
+-- what was taken up to a number can be taken again
+pub take_front : {A : Type 0} (n : ℕ) (xs ys : List A) → take n (take n xs ++ ys) ≡ take n (xs ++ ys)
+take_front zero xs ys = refl
+take_front (suc n) [] ys = refl
+take_front (suc n) (x ∷ xs) ys = ap (λ l. x ∷ l) (take_front n xs ys)
+
+-- These words, with those of what follows, are the first ones of some bytes.
+abbrev pub AreFirst : List (List ℕ) → List ℕ → Type 0
+AreFirst words done = (rest : List ℕ) → take 65 (words ++ words_of rest) ≡ take 65 (words_of (done ++ rest))
+
+-- with one word more and its space
+pub first_more : (words now : List (List ℕ)) (done w : List ℕ) → list_all plain w ≡ true → now ≡ take 65 (words ++ filter has_bytes (w ∷ [])) → AreFirst words done
+    → AreFirst now (done ++ (w ++ 32 ∷ []))
+first_more words now done w h e inv rest =
+    let f = filter has_bytes (w ∷ []) in
+    ap (λ ws. take 65 (ws ++ words_of rest)) e
+    ∙ take_front 65 (words ++ f) (words_of rest)
+    ∙ ap (take 65) (append_assoc words f (words_of rest))
+    ∙ ap (λ ws. take 65 (words ++ ws)) (sym (ap (filter has_bytes) (word_before w rest h) ∙ filter_behind w (pieces 32 rest)))
+    ∙ inv (w ++ 32 ∷ rest)
+    ∙ ap (λ bs. take 65 (words_of bs)) (sym (append_assoc done (w ++ 32 ∷ []) rest ∙ ap (λ bs. done ++ bs) (append_assoc w (32 ∷ []) rest)))
+
+-- with one word more, behind which the line ends
+pub first_last : (words now : List (List ℕ)) (done w : List ℕ) → list_all plain w ≡ true → now ≡ take 65 (words ++ filter has_bytes (w ∷ [])) → AreFirst words done
+    → now ≡ take 65 (words_of (done ++ w))
+first_last words now done w h e inv = e ∙ ap (λ ws. take 65 (words ++ ws)) (sym (word_alone w h)) ∙ inv w
+
+-- with nothing more
+pub first_all : (words : List (List ℕ)) (done : List ℕ) → length words ≤ 65 → AreFirst words done → words ≡ take 65 (words_of done)
+first_all words done few inv = sym (ap (take 65) (append-nil words) ∙ take_all 65 words few) ∙ inv [] ∙ ap (λ bs. take 65 (words_of bs)) (append-nil done)
+
+-- as many texts as words
+pub length-texts : (words : List (Bor (List ℕ))) → length (texts_of words) ≡ length words
+length-texts words = length-map words (λ w. w.now)
+
+module _ (words : List (Bor (List ℕ))) where
+  -- a full list takes no more
+  pub full_found : (more : List (List ℕ)) → length words ≡ 65 → texts_of words ≡ take 65 (texts_of words ++ more)
+  full_found more e =
+      let n = length-texts words in
+      sym (take-append-le 65 (texts_of words) more (omega (arith, n, e)) ∙ take_all 65 (texts_of words) (omega (arith, n, e)))
+
+  -- an empty piece is no word
+  pub none_found : (piece : List ℕ) → length words ≤ 65 → length piece ≡ 0 → texts_of words ≡ take 65 (texts_of words ++ filter has_bytes (piece ∷ []))
+  none_found piece few e =
+      let n = length-texts words in
+      sym (ap (λ t. take 65 (texts_of words ++ cond t (piece ∷ []) [])) (empty_piece piece e) ∙ ap (take 65) (append-nil (texts_of words)) ∙ take_all 65 (texts_of words) (omega (arith, n, few)))
+
+  -- another one is
+  pub one_found : (now : List (Bor (List ℕ))) (piece : Bor (List ℕ)) → now ≡ words ++ piece ∷ [] → length words < 65 → 0 < length piece.now
+      → texts_of now ≡ take 65 (texts_of words ++ filter has_bytes (piece.now ∷ []))
+  one_found now piece e few some =
+      let n = length-texts words in
+      let l : length (texts_of words ++ piece.now ∷ []) ≤ 65 = omega (arith, n, few, length-append (texts_of words) (piece.now ∷ [])) in
+      ap texts_of e ∙ map-append (λ w. w.now) words (piece ∷ [])
+      ∙ sym (ap (λ t. take 65 (texts_of words ++ cond t (piece.now ∷ []) [])) (full_piece piece.now some) ∙ take_all 65 (texts_of words ++ piece.now ∷ []) l)
+
+plain_front : (bytes : List ℕ) → list_all plain (take (position_or_len ends bytes) bytes) ≡ true
+plain_front [] = refl
+plain_front (b ∷ bs) = by (ends b) refl (plain_front bs)
+  where
+    by : (t : Bool) → ends b ≡ t → list_all plain (take (position_or_len ends bs) bs) ≡ true → list_all plain (take (cond (not t) (1 + position_or_len ends bs) 0) (b ∷ bs)) ≡ true
+    by true e later = refl
+    by false e later = rw one-add (ap (λ t. not t && list_all plain (take (position_or_len ends bs) bs)) e ∙ later)
+
+-- the bytes before the first that ends a word
+word_at_end : (i : ℕ) (bytes : List ℕ) → position ends bytes ≡ Some i → list_all plain (take i bytes) ≡ true
+word_at_end i bytes e =
+    let at = found (position_or_len ends bytes) (length bytes) i e in
+    ap (λ k. list_all plain (take k bytes)) (sym at.0) ∙ plain_front bytes
+
+-- all bytes, where none ends a word
+word_at_last : (bytes : List ℕ) → position ends bytes ≡ None → list_all plain bytes ≡ true
+word_at_last bytes e =
+    let far : length bytes ≤ position_or_len ends bytes = absent (position_or_len ends bytes) (length bytes) e in
+    ap (list_all plain) (sym (take_all (position_or_len ends bytes) bytes far)) ∙ plain_front bytes
+
+printable_at : (bytes : List ℕ) (k : ℕ) → list_all is_printable bytes ≡ true → k < length bytes → not (odd (get_or bytes k 0)) ≡ true
+printable_at [] k h within = absurd (omega (arith, within))
+printable_at (b ∷ bs) zero h within = ap (λ t. not (not t)) (both (is_printable b) (list_all is_printable bs) h).0
+printable_at (b ∷ bs) (suc k) h within = printable_at bs k (both (is_printable b) (list_all is_printable bs) h).1 (omega (arith, within))
+
+-- the first byte that is not printable
+pub place_some : (n : ℕ) (bytes : List ℕ) → n < length bytes → list_all is_printable (take n bytes) ≡ true → odd (get_or bytes n 0) ≡ true → Some n ≡ position odd bytes
+place_some n bytes within h stop =
+    let few : n ≤ length bytes = omega (arith, within) in
+    let passes : (k : ℕ) → k < n → not (odd (get_or bytes k 0)) ≡ true =
+        λ k l. ap (λ b. not (odd b)) (sym (get_or-take n bytes k 0 l)) ∙ printable_at (take n bytes) k h (omega (arith, l, length-take-le n bytes few)) in
+    let is : position_or_len odd bytes ≡ n = prefix_len_is (λ b. not (odd b)) bytes n 0 few passes (λ w. ap not stop) in
+    sym (ap (λ k. cond (nat_lt k (length bytes)) (Some k) None) is ∙ ap (λ t. cond t (Some n) None) (is_below n (length bytes) within))
+
+-- there is none
+pub place_none : (bytes : List ℕ) → list_all is_printable bytes ≡ true → None ≡ position odd bytes
+place_none bytes h =
+    let whole : length bytes ≤ length bytes = omega arith in
+    let is : position_or_len odd bytes ≡ length bytes = prefix_len_is (λ b. not (odd b)) bytes (length bytes) 0 whole (λ k l. printable_at bytes k h l) (λ w. absurd (omega (arith, w))) in
+    sym (ap (λ k. cond (nat_lt k (length bytes)) (Some k) None) is ∙ ap (λ t. cond t (Some (length bytes)) None) (is_not_below (length bytes)))
+
+ends_odd : (b : ℕ) → ends b ≡ true → b ≢ 32 → odd b ≡ true
+ends_odd b e other = grind (arith, nat_tests)
+
+-- a walk over some bytes that has come to a place behind a space
+module _ (bytes : List ℕ) (at : ℕ) (within : at ≤ length bytes) (printable : list_all is_printable (take at bytes) ≡ true) where
+  front_printable : (w : List ℕ) (k : ℕ) → list_all plain w ≡ true → take k bytes ≡ take at bytes ++ w → list_all is_printable (take k bytes) ≡ true
+  front_printable w k h e =
+      ap (list_all is_printable) e ∙ list_all-append is_printable (take at bytes) w ∙ ap (λ t. t && list_all is_printable w) printable ∙ all_plain w h
+
+  -- and finds a byte that ends a word
+  module _ (i : ℕ) (e : Some i ≡ position ends (take (length bytes - at) (drop at bytes))) where
+    at_end : position ends (drop at bytes) ≡ Some i
+    at_end = sym (e ∙ ap (position ends) (all_taken at bytes))
+
+    pub word_here : list_all plain (take i (drop at bytes)) ≡ true
+    word_here = word_at_end i (drop at bytes) at_end
+
+    inside : i < length (drop at bytes)
+    inside = (position-Some ends (drop at bytes) i 0 at_end).0
+
+    pub within_here : at + i < length bytes
+    within_here = omega (arith, inside, length-drop at bytes, within)
+
+    pub same_piece : take (at + i - at) (drop at bytes) ≡ take i (drop at bytes)
+    same_piece = let n : at + i - at ≡ i = omega arith in ap (λ k. take k (drop at bytes)) n
+
+    pub printable_here : list_all is_printable (take (at + i) bytes) ≡ true
+    printable_here = front_printable (take i (drop at bytes)) (at + i) word_here (take-add at i bytes)
+
+    pub place_here : get_or bytes (at + i) 0 ≢ 32 → Some (at + i) ≡ position odd bytes
+    place_here other =
+        place_some (at + i) bytes within_here printable_here
+        (ends_odd (get_or bytes (at + i) 0) (ap ends (sym (get_or-drop at bytes i 0)) ∙ (position-Some ends (drop at bytes) i 0 at_end).1) other)
+
+    -- a space
+    module _ (space : get_or bytes (at + i) 0 ≡ 32) where
+      pub done_behind : take (at + (i + 1)) bytes ≡ take at bytes ++ (take i (drop at bytes) ++ 32 ∷ [])
+      done_behind =
+          take-add at (i + 1) bytes
+          ∙ ap (λ l. take at bytes ++ l) (take_more (drop at bytes) i 0 inside ∙ ap (λ b. take i (drop at bytes) ++ b ∷ []) (get_or-drop at bytes i 0 ∙ space))
+
+      pub printable_behind : list_all is_printable (take (at + (i + 1)) bytes) ≡ true
+      printable_behind =
+          ap (list_all is_printable) done_behind
+          ∙ list_all-append is_printable (take at bytes) (take i (drop at bytes) ++ 32 ∷ [])
+          ∙ ap (λ t. t && list_all is_printable (take i (drop at bytes) ++ 32 ∷ [])) printable
+          ∙ list_all-append is_printable (take i (drop at bytes)) (32 ∷ [])
+          ∙ ap (λ t. t && true) (all_plain (take i (drop at bytes)) word_here)
+
+  -- and finds none
+  module _ (e : None ≡ position ends (take (length bytes - at) (drop at bytes))) where
+    pub word_last : list_all plain (drop at bytes) ≡ true
+    word_last = word_at_last (drop at bytes) (sym (e ∙ ap (position ends) (all_taken at bytes)))
+
+    pub printable_last : list_all is_printable bytes ≡ true
+    printable_last =
+        ap (list_all is_printable) (sym (take-append-drop at bytes)) ∙ list_all-append is_printable (take at bytes) (drop at bytes)
+        ∙ ap (λ t. t && list_all is_printable (drop at bytes)) printable ∙ all_plain (drop at bytes) word_last
+
+pub few_found : (words : List (Bor (List ℕ))) (all : List (List ℕ)) → texts_of words ≡ take 65 all → length words ≤ 65
+few_found words all e = omega (arith, length-texts words, ap length e, length-take 65 all)
+
+module _ (words : List (Bor (List ℕ))) (all : List (List ℕ)) (e : texts_of words ≡ take 65 all) where
+  -- too many are seen
+  pub too_many : (long last : Bool) → 64 < length words → true ≡ (long || nat_lt 64 (length all) || last)
+  too_many long last many =
+      let n = length-texts words in let k = length-take 65 all in let s = ap length e in
+      let l : 64 < length all = omega (arith, n, k, s, many) in
+      by long (is_below 64 (length all) l)
+    where
+      by : (b : Bool) → nat_lt 64 (length all) ≡ true → true ≡ (b || nat_lt 64 (length all) || last)
+      by true h = refl
+      by false h = sym (ap (λ t. t || last) h)
+
+  -- few are all
+  pub all_found : length words ≤ 64 → texts_of words ≡ all
+  all_found few =
+      let n = length-texts words in let k = length-take 65 all in let s = ap length e in
+      e ∙ take_all 65 all (omega (arith, n, k, s, few))
+
+  pub not_many : (long last : Bool) → length words ≤ 64 → (long || last) ≡ (long || nat_lt 64 (length all) || last)
+  not_many long last few = by long (nat_lt 64 (length all)) (let n = length-texts words in let s = ap length (all_found few) in grind (arith, nat_tests, n, s, few))
+    where
+      by : (a b : Bool) → b ≡ false → (a || last) ≡ (a || b || last)
+      by true b h = refl
+      by false b h = sym (ap (λ t. t || last) h)
