@@ -5,19 +5,13 @@ use Rattle.cg_arena.specs.Slots.{after_of}
 use Rattle.cg_arena.specs.declared.ends.Ends.{Ends}
 use Rattle.cg_arena.specs.Links.{tied, ends_joined}
 use Rattle.cg_arena.specs.Table.{rows_of, ends_at}
-use Rattle.cg_arena.proofs.Sound.{row_there, slot_placed}
+use Rattle.cg_arena.proofs.Sound.{found, slot_placed}
 use Rattle.cg_arena.proofs.Drops.{size_there}
 use Rattle.cg_arena.proofs.Moves.{room_for_one, moved_kept, moved_view}
 use Rattle.cg_arena.proofs.arena.Arena.move_near.Goals as goal
 
-pub slot_near-at-requires-clause-named : goal.slot_near-at-requires-clause-named
-slot_near-at-requires-clause-named c = c.self.invariant.sound.names
-
-pub slot_near-at-requires-clause-index : goal.slot_near-at-requires-clause-index
-slot_near-at-requires-clause-index c = c.self.invariant.indexed
-
-pub slot_near-at-requires-clause-there : goal.slot_near-at-requires-clause-there
-slot_near-at-requires-clause-there c = row_there c.self.inside.slots c.self.inside.ends (rows_of c.self.inside.slots) (spare c.self.inside.index.rows) c.args.self.now c.self.view_is c.args.serial c.requires.has
+pub slot_near-at-requires : goal.slot_near-at-requires
+slot_near-at-requires c = found c.self.inside.slots c.self.inside.ends c.self.inside.index c.self.invariant (spare c.self.inside.index.rows) c.args.self.now c.self.view_is c.args.serial c.requires.has
 
 pub number_of-from-requires : goal.number_of-from-requires
 number_of-from-requires c = slot_placed c.self.inside.slots c.self.inside.ends (rows_of c.self.inside.slots) c.self.invariant.sound c.slot_near-at.result.0 c.slot_near-at.result.1 c.slot_near-at.ensures.slot
