@@ -1,6 +1,6 @@
 -- The fields once a node is added.
 use Rattle.std.proofs.Common.{◌≡◌, ◌≢◌, ◌⊎◌, ℕ, ◌+◌, ◌-◌, ◌<◌, ◌≤◌, ◌^◌, true, List, [], ◌∷◌, map, Option, Some, None, refl, sym, ap, ◌∙◌, subst, inl, inr, arith}
-use Rattle.std.specs.Prelude.{option_map, is_some, nat_eq, unwrap_or, slice_set, min, ◌==◌, if◌then◌else◌}
+use Rattle.std.specs.Prelude.{option_map, is_some, nat_eq, unwrap_or, slice_set, min, if◌then◌else◌}
 use Rattle.std.proofs.lemmas.Bool.{cases_eq, eq-eqb, ne_eqb}
 use Rattle.std.proofs.lemmas.List.{length-map, length-set}
 use Rattle.std.specs.FinMap as fin
