@@ -176,53 +176,6 @@ module _ (s : Slab Slot) (x y : SlotIndex) (index : IsIndexOf s x) (t at : ℕ) 
         below = below;
       }
 
--- the serial of a slot goes
-module _ (s : Slab Slot) (x y : SlotIndex) (index : IsIndexOf s x) (t at : ℕ) (there : row_of (rows_of s) t ≡ Some at) (guesses : (q : ℕ) → (guess_at y.hints q ≡ guess_at x.hints q) ⊎ (guess_at x.hints q ≡ at)) (rows : (q : ℕ) → row_of y.rows.entries q ≡ (if t == q then None else row_of x.rows.entries q)) (most : y.most ≡ x.most) where
-  abbrev without_it : ℕ → Option ℕ
-  without_it k = if k == at then None else serial_in (get s k)
-
-  without-there : (k : ℕ) → k ≢ at → without_it k ≡ serial_in (get s k)
-  without-there k differs = ap (λ b. if b then None else serial_in (get s k)) (ne_eqb k at differs)
-
-  row-there : (q : ℕ) → q ≢ t → row_of y.rows.entries q ≡ row_of x.rows.entries q
-  row-there q differs = rows q ∙ ap (λ b. if b then None else row_of x.rows.entries q) (ne_eqb t q (λ same. differs (sym same)))
-
-  row-gone : (q : ℕ) → q ≡ t → row_of y.rows.entries q ≡ None
-  row-gone q same = rows q ∙ ap (λ b. if b then None else row_of x.rows.entries q) (eq-eqb t q (sym same))
-
-  one-slot : (k q : ℕ) → serial_in (get s k) ≡ Some q → k ≢ at → q ≢ t
-  one-slot k q was differs same =
-      let both : Some k ≡ Some at = sym (index.names.named k q was) ∙ ap (row_of (rows_of s)) same ∙ there in
-      differs (cc)
-
-  pub removed_index : IsIndex (λ k. if k == at then None else serial_in (get s k)) y
-  removed_index =
-      record {
-        found = λ k q is. elim (cases_eq k at) [
-          | inl same ↦ let none : None ≡ Some q = sym (ap (λ b. if b then None else serial_in (get s k)) (eq-eqb k at same)) ∙ is in absurd (cc)
-          | inr differs ↦
-              let was : serial_in (get s k) ≡ Some q = sym (without-there k differs) ∙ is in
-              elim (index.finds.found k q was) [
-                | inl guessed ↦ elim (guesses q) [
-                  | inl kept ↦ inl (kept ∙ guessed)
-                  | inr lost ↦ absurd (differs (sym guessed ∙ lost))
-                ]
-                | inr rowed ↦ inr (row-there q (one-slot k q was differs) ∙ rowed)
-              ]
-        ];
-        right = λ q k is. elim (cases_eq q t) [
-          | inl same ↦ let none : None ≡ Some k = sym (row-gone q same) ∙ is in absurd (cc)
-          | inr differs ↦
-              let was : serial_in (get s k) ≡ Some q = index.finds.right q k (sym (row-there q differs) ∙ is) in
-              let other : k ≢ at = λ same. let both : Some q ≡ Some t = sym was ∙ ap (λ i. serial_in (get s i)) same ∙ row_stands s t at there in differs (cc) in
-              without-there k other ∙ was
-        ];
-        below = λ q k is. elim (cases_eq q t) [
-          | inl same ↦ let none : None ≡ Some k = sym (row-gone q same) ∙ is in absurd (cc)
-          | inr differs ↦ omega (arith, most, index.finds.below q k (sym (row-there q differs) ∙ is))
-        ];
-      }
-
 -- the index finds the serials of the first slots, and no row is wrong
 pub record FindsBelow (s : Slab Slot) (x : SlotIndex) (n : ℕ) : Type 0 where
   pub found : (k q : ℕ) → k < n → serial_in (get s k) ≡ Some q → LeadsTo x q k

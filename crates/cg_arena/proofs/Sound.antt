@@ -73,9 +73,6 @@ some_value (Some x) some = (x, refl)
 pub slot_there : (s : Slab Slot) (ends : List Ends) (rows : List (ℕ × ℕ)) → IsSound s ends rows → (t k : ℕ) → row_of rows t ≡ Some k → IsSome (get s k)
 slot_there s ends rows sound t k row_is = some_serial (get s k) t (sound.names.rowed t k row_is)
 
-pub slot_serial : (s : Slab Slot) (ends : List Ends) (rows : List (ℕ × ℕ)) → IsSound s ends rows → (t k : ℕ) → row_of rows t ≡ Some k → serial_in (get s k) ≡ Some t
-slot_serial s ends rows sound t k row_is = sound.names.rowed t k row_is
-
 -- the place of an occupied slot has a number below 10
 pub slot_placed : (s : Slab Slot) (ends : List Ends) (rows : List (ℕ × ℕ)) → IsSound s ends rows → (k : ℕ) (c : Slot) → get s k ≡ Some c → IsPlace c.place
 slot_placed s ends rows sound k c is = sound.placed k c.place (ap place_in_slot is)
@@ -201,6 +198,7 @@ pub counted_there : (o : Option ArenaNode) → 0 < count_in o → IsSome o
 counted_there None counted = absurd (omega (arith, counted))
 counted_there (Some n) counted = refl
 
+-- what the fields say of the index, and of a serial whose slot is found
 module _ (s : Slab Slot) (ends : List Ends) (x : SlotIndex) (kept : IsKept s x ends) where
   pub index_kept : IsIndexOf s x
   index_kept = record { finds = kept.indexed; names = kept.sound.names }
@@ -233,6 +231,7 @@ module _ (s : Slab Slot) (ends : List Ends) (x : SlotIndex) (kept : IsKept s x e
       pub count_here : count_of v t ≡ c.count
       count_here = ap count_in node_is
 
+      -- its count rises or falls by 1
       pub up_view : (new : Slab Slot) → new ≡ rewritten (with_count (c.count + 1)) k s → value_of new ends (rows_of new) spare ≡ counted_up (t ∷ []) v
       up_view new is =
           field_view (with_count (c.count + 1)) (λ d. refl) (λ d. refl) (λ d. refl) (λ d. refl) s ends x kept k new is spare v view_is (node_counted_up 1) t c row_is slot_is refl

@@ -30,12 +30,12 @@ pub record IsIndex (serial : ℕ → Option ℕ) (x : SlotIndex) : Type 0 where
   pub right : (s k : ℕ) → row_of x.rows.entries s ≡ Some k → serial k ≡ Some s
   pub below : HasRowsBelow x
 
--- it is the index of some slots, in no two of which one serial stands
+-- it is the index of these slots, and no serial stands in two of them
 pub record IsIndexOf (slots : Slab Slot) (x : SlotIndex) : Type 0 where
   pub finds : IsIndex (λ k. serial_in (get slots k)) x
   pub names : IsNamed (λ k. serial_in (get slots k)) (row_of (rows_of slots))
 
--- and a serial stands in one of them
+-- it is the index of these slots, and a serial stands in one of them
 pub record Finds (slots : Slab Slot) (x : SlotIndex) (serial : ℕ) : Type 0 where
   pub index : IsIndexOf slots x
   pub there : IsSome (row_of (rows_of slots) serial)

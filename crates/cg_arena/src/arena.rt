@@ -122,7 +122,7 @@ fn inc_by_row(index: &SlotIndex, slots: &mut Slab<Slot>, serial: u64)
     set_count(slots, at, count);
 }
 
-/// `dec` of such a node.
+/// `dec` of a node that does not lie where its guess says, by its row.
 #[inline(never)]
 fn dec_by_row(index: &SlotIndex, slots: &mut Slab<Slot>, serial: u64) -> bool
     requires { (r : HasRow slots.old index.now serial) × (0 < r.slot.count) }
@@ -136,7 +136,7 @@ fn dec_by_row(index: &SlotIndex, slots: &mut Slab<Slot>, serial: u64) -> bool
     count == 0
 }
 
-/// `lower` of such a node.
+/// `lower` of a node that does not lie where its guess says, by its row.
 #[inline(never)]
 fn lower_by_row(index: &SlotIndex, slots: &mut Slab<Slot>, serial: u64)
     requires { HasRow slots.old index.now serial }
