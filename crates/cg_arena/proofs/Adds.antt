@@ -24,7 +24,7 @@ use Rattle.cg_arena.proofs.Indexes.{added_index, rows_with, index_with}
 use Rattle.cg_arena.proofs.Rows.{get-nodes_of, nodes-insert}
 use Rattle.cg_arena.proofs.Lists.{serials, serials-same, list-at, ten_lists, lists-joined}
 use Rattle.cg_arena.proofs.Sizes.{ends_set-same, ends_set-other, sizes-set}
-use Rattle.cg_arena.proofs.Sound.{value_of, index_kept}
+use Rattle.cg_arena.proofs.Sound.{value_of, StandsFor, index_kept}
 use Rattle.cg_arena.proofs.Lookups.{list_is, lists_ten}
 
 no_value : {X Y : Type 0} (f : X → Y) (o : Option X) → option_map f o ≡ None → o ≡ None
@@ -157,7 +157,7 @@ module _ (s mid new : Slab Slot) (ends : List Ends) (x y : SlotIndex) (kept : Is
         few = subst (λ m. m < 2 ^ 64) (sym shape.len) few;
       }
 
-  pub added_kept : IsKept new y (slice_set ends q e)
+  added_kept : IsKept new y (slice_set ends q e)
   added_kept = record { sound = added_sound; indexed = index_with s new kept.sound.names t k serial_there no_row vacant serial_here y (added_index s x y (index_kept s ends x kept) t k no_row vacant noted_below noted noted_others noted_rows) }
 
   nodes_are : nodes_of (rows_of new) new ≡ fin.insert v.nodes t n
@@ -184,10 +184,8 @@ module _ (s mid new : Slab Slot) (ends : List Ends) (x y : SlotIndex) (kept : Is
       ∙ sym (lists-joined new v.lists sound.chain old_ten old_are t k q (ap (λ o. unwrap_or o 0) serial_here) below r r_below)
       ∙ ap (λ p. list_of (joins_list v.lists t p) r) q_is)
 
-  pub added_view : (left : ℕ) → value_of new (slice_set ends q e) (rows_of new) left ≡ with_node t n (record v { room = room_of left new })
-  added_view left = λ i. record { nodes = nodes_are i; lists = lists_are i; room = room_of left new }
-
-  pub added_room : (left : ℕ) → mid.capacity ≡ s.capacity → spare ≤ left + 1 → v.room ≤ room_of left new + 1
-  added_room left capacity used =
+  pub added : (left : ℕ) → mid.capacity ≡ s.capacity → spare ≤ left + 1 → StandsFor new (slice_set ends q e) y left (with_node t n (record v { room = room_of left new })) × (v.room ≤ room_of left new + 1)
+  added left capacity used =
       let was : v.room ≡ min spare (s.capacity - slab_len s) = ap (λ (w : Nodes). w.room) (sym view_is) in
-      omega (arith, was, capacity, used, len, shape.len, shape.capacity)
+      let room : v.room ≤ room_of left new + 1 = omega (arith, was, capacity, used, len, shape.len, shape.capacity) in
+      (record { kept = added_kept; view = λ i. record { nodes = nodes_are i; lists = lists_are i; room = room_of left new } }, room)

@@ -29,6 +29,11 @@ use Rattle.cg_arena.proofs.Lists.{serials-same, list-at, ten_lists}
 abbrev pub value_of : Slab Slot → List Ends → List (ℕ × ℕ) → ℕ → Nodes
 value_of s ends rows spare = record { nodes = nodes_of rows s; lists = map (serials_of s) ends; room = room_of spare s }
 
+-- some fields are kept, and that is their value
+pub record StandsFor (s : Slab Slot) (ends : List Ends) (x : SlotIndex) (spare : ℕ) (v : Nodes) : Type 0 where
+  pub kept : IsKept s x ends
+  pub view : value_of s ends (rows_of s) spare ≡ v
+
 pub room_still : (spare : ℕ) (s new : Slab Slot) → new.capacity ≡ s.capacity → slab_len new ≡ slab_len s → room_of spare new ≡ room_of spare s
 room_still spare s new capacity len = λ i. min spare (capacity i - len i)
 
