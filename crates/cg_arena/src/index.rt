@@ -95,7 +95,8 @@ impl SlotIndex {
         }
     }
 
-    /// The slot of a serial that has a node, and the node. Where the serial stands in the slot that is guessed, its row is not looked up.
+    /// The slot of a serial that has a node, and the node. Where the serial stands in the slot that is guessed, its row is not
+    /// looked up.
     #[inline(always)]
     pub fn slot_of(&self, slots: &Slab<Slot>, serial: u64) -> (usize, Slot)
         requires { Finds slots.now self.now serial }
