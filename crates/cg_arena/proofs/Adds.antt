@@ -1,6 +1,6 @@
 -- The fields once a node is added.
-use Rattle.std.proofs.Common.{◌≡◌, ◌≢◌, ℕ, ◌+◌, ◌-◌, ◌<◌, ◌≤◌, ◌^◌, true, List, [], ◌∷◌, map, Option, Some, None, refl, sym, ap, ◌∙◌, subst, inl, inr, arith}
-use Rattle.std.specs.Prelude.{option_map, is_some, nat_eq, unwrap_or, slice_set, min, ◌==◌, if◌then◌else◌}
+use Rattle.std.proofs.Common.{◌≡◌, ◌≢◌, ◌⊎◌, ℕ, ◌+◌, ◌-◌, ◌<◌, ◌≤◌, ◌^◌, true, List, [], ◌∷◌, map, Option, Some, None, refl, sym, ap, ◌∙◌, subst, inl, inr, arith}
+use Rattle.std.specs.Prelude.{option_map, is_some, nat_eq, unwrap_or, slice_set, min, if◌then◌else◌}
 use Rattle.std.proofs.lemmas.Bool.{cases_eq, eq-eqb, ne_eqb}
 use Rattle.std.proofs.lemmas.List.{length-map, length-set}
 use Rattle.std.specs.FinMap as fin
@@ -14,17 +14,17 @@ use Rattle.cg_arena.specs.Nodes.{Nodes, ArenaNode, with_node, count_in_list}
 use Rattle.cg_arena.specs.Slots.{before_in, after_in, serial_in, place_in_slot, node_in, node_of, after_of}
 use Rattle.cg_arena.specs.Links.{tied, ends_joined, one_end}
 use Rattle.cg_arena.specs.Table.{nodes_of, rows_of, serials_of, room_of, IsSpelled, IsNamed, ends_at, row_of, IsSound}
-use Rattle.cg_arena.specs.Index.{IsIndex, IsKept}
+use Rattle.cg_arena.specs.Index.{LeadsTo, HasRowsBelow, IsKept}
 use Rattle.cg_arena.proofs.Standing.{last_of-stands}
 use Rattle.cg_arena.proofs.Chains.{IsTied}
 use Rattle.cg_arena.proofs.Ties.{get-tied}
 use Rattle.cg_arena.proofs.Spelled.{stands_placed, vacant_loose, loose_spelled, appended_at, joins_spelled}
 use Rattle.cg_arena.proofs.Shapes.{SameShape, shape-tied, nodes-tied, places-tied}
-use Rattle.cg_arena.proofs.Indexes.{rows_with, index_with}
+use Rattle.cg_arena.proofs.Indexes.{added_index, rows_with, index_with}
 use Rattle.cg_arena.proofs.Rows.{get-nodes_of, nodes-insert}
 use Rattle.cg_arena.proofs.Lists.{serials, serials-same, list-at, ten_lists, lists-joined}
 use Rattle.cg_arena.proofs.Sizes.{ends_set-same, ends_set-other, sizes-set}
-use Rattle.cg_arena.proofs.Sound.{value_of}
+use Rattle.cg_arena.proofs.Sound.{value_of, StandsFor, index_kept}
 use Rattle.cg_arena.proofs.Lookups.{list_is, lists_ten}
 
 no_value : {X Y : Type 0} (f : X → Y) (o : Option X) → option_map f o ≡ None → o ≡ None
@@ -48,7 +48,7 @@ last_there cell ends chain loose spelled q below j is =
     (stands_placed cell ends chain loose spelled q j below
     (last_of-stands (chain q) j (sym (ap (λ (e : Ends). e.last) (spelled.ended q below)) ∙ is)))
 
-module _ (s mid new : Slab Slot) (ends : List Ends) (x y : SlotIndex) (kept : IsKept s x ends) (spare : ℕ) (v : Nodes) (view_is : value_of s ends (rows_of s) spare ≡ v) (t k : ℕ) (c : Slot) (n : ArenaNode) (node_is : node_of c ≡ n) (serial_is : c.serial ≡ t) (after_is : (after_of c) ≡ None) (fresh : fin.get v.nodes t ≡ None) (vacant : get s k ≡ None) (updates : Updates s mid k (Some c)) (len : slab_len mid ≡ slab_len s + 1) (few : slab_len mid < 2 ^ 64) (added : IsIndex (λ j. if j == k then Some t else serial_in (get s j)) y) (q : ℕ) (q_is : q ≡ place_number n.place) (below : q < 10) (tied_is : new ≡ tied (ends_at ends q).last (Some k) mid) (e : Ends) (ends_are : e ≡ ends_joined (ends_at ends q) (one_end k)) where
+module _ (s mid new : Slab Slot) (ends : List Ends) (x y : SlotIndex) (kept : IsKept s x ends) (spare : ℕ) (v : Nodes) (view_is : value_of s ends (rows_of s) spare ≡ v) (t k : ℕ) (c : Slot) (n : ArenaNode) (node_is : node_of c ≡ n) (serial_is : c.serial ≡ t) (after_is : (after_of c) ≡ None) (fresh : fin.get v.nodes t ≡ None) (k_is : k ≡ s.vacant_key) (vacant : get s k ≡ None) (updated : Updates s mid s.vacant_key (Some c)) (len : slab_len mid ≡ slab_len s + 1) (few : slab_len mid < 2 ^ 64) (noted_below : HasRowsBelow y) (noted : LeadsTo y t k) (noted_others : (j u : ℕ) → serial_in (get s j) ≡ Some u → u ≢ t → LeadsTo x u j → LeadsTo y u j) (noted_rows : (u j : ℕ) → row_of y.rows.entries u ≡ Some j → (row_of x.rows.entries u ≡ Some j) ⊎ ((serial_in (get s j) ≡ Some u) ⊎ ((u ≡ t) × (j ≡ k)))) (q : ℕ) (q_is : q ≡ place_number n.place) (below : q < 10) (tied_is : new ≡ tied (ends_at ends q).last (Some k) mid) (e : Ends) (ends_are : e ≡ ends_joined (ends_at ends q) (one_end k)) where
   abbrev rows : List (ℕ × ℕ)
   rows = rows_of s
 
@@ -57,6 +57,9 @@ module _ (s mid new : Slab Slot) (ends : List Ends) (x y : SlotIndex) (kept : Is
 
   abbrev sound : IsSound s ends (rows_of s)
   sound = kept.sound
+
+  updates : Updates s mid k (Some c)
+  updates = subst (λ j. Updates s mid j (Some c)) (sym k_is) updated
 
   no_row : row_of (rows_of s) t ≡ None
   no_row = no_row_there s ends rows spare v view_is t fresh
@@ -154,8 +157,8 @@ module _ (s mid new : Slab Slot) (ends : List Ends) (x y : SlotIndex) (kept : Is
         few = subst (λ m. m < 2 ^ 64) (sym shape.len) few;
       }
 
-  pub added_kept : IsKept new y (slice_set ends q e)
-  added_kept = record { sound = added_sound; indexed = index_with s new kept.sound.names t k serial_there no_row vacant serial_here y added }
+  added_kept : IsKept new y (slice_set ends q e)
+  added_kept = record { sound = added_sound; indexed = index_with s new kept.sound.names t k serial_there no_row vacant serial_here y (added_index s x y (index_kept s ends x kept) t k no_row vacant noted_below noted noted_others noted_rows) }
 
   nodes_are : nodes_of (rows_of new) new ≡ fin.insert v.nodes t n
   nodes_are =
@@ -181,10 +184,8 @@ module _ (s mid new : Slab Slot) (ends : List Ends) (x y : SlotIndex) (kept : Is
       ∙ sym (lists-joined new v.lists sound.chain old_ten old_are t k q (ap (λ o. unwrap_or o 0) serial_here) below r r_below)
       ∙ ap (λ p. list_of (joins_list v.lists t p) r) q_is)
 
-  pub added_view : (left : ℕ) → value_of new (slice_set ends q e) (rows_of new) left ≡ with_node t n (record v { room = room_of left new })
-  added_view left = λ i. record { nodes = nodes_are i; lists = lists_are i; room = room_of left new }
-
-  pub added_room : (left : ℕ) → mid.capacity ≡ s.capacity → spare ≤ left + 1 → v.room ≤ room_of left new + 1
-  added_room left capacity used =
+  pub added : (left : ℕ) → mid.capacity ≡ s.capacity → spare ≤ left + 1 → StandsFor new (slice_set ends q e) y left (with_node t n (record v { room = room_of left new })) × (v.room ≤ room_of left new + 1)
+  added left capacity used =
       let was : v.room ≡ min spare (s.capacity - slab_len s) = ap (λ (w : Nodes). w.room) (sym view_is) in
-      omega (arith, was, capacity, used, len, shape.len, shape.capacity)
+      let room : v.room ≤ room_of left new + 1 = omega (arith, was, capacity, used, len, shape.len, shape.capacity) in
+      (record { kept = added_kept; view = λ i. record { nodes = nodes_are i; lists = lists_are i; room = room_of left new } }, room)

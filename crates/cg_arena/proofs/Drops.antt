@@ -24,7 +24,7 @@ use Rattle.cg_arena.proofs.Indexes.{rows_without, index_without}
 use Rattle.cg_arena.proofs.Rows.{nodes-remove}
 use Rattle.cg_arena.proofs.Lists.{serials-same, list-at, ten_lists, lists-left}
 use Rattle.cg_arena.proofs.Sizes.{sizes, ends_set-same, ends_set-other, sizes-set, size_above}
-use Rattle.cg_arena.proofs.Sound.{value_of, node_here}
+use Rattle.cg_arena.proofs.Sound.{value_of, StandsFor, node_here}
 use Rattle.cg_arena.proofs.Lookups.{list_is, lists_ten, with_serial}
 use Rattle.cg_arena.proofs.Adds.{some_numbered}
 
@@ -160,7 +160,7 @@ module _ (s mid new : Slab Slot) (ends : List Ends) (x y : SlotIndex) (kept : Is
         few = omega (arith, sound.few, len, shape.len);
       }
 
-  pub dropped_kept : IsKept new y (slice_set ends p e)
+  dropped_kept : IsKept new y (slice_set ends p e)
   dropped_kept = record { sound = dropped_sound; indexed = index_without s new kept.sound.names t k serial_there row_is serial_here y removed }
 
   nodes_are : nodes_of (rows_of new) new ≡ fin.remove v.nodes t
@@ -189,15 +189,13 @@ module _ (s mid new : Slab Slot) (ends : List Ends) (x y : SlotIndex) (kept : Is
       (absent s mid ends rows sound t k c row_is slot_is p p_is below tied_is)
       r r_below))
 
-  pub dropped_view : (left : ℕ) → value_of new (slice_set ends p e) (rows_of new) left ≡ without_node t (record v { room = room_of left new })
-  dropped_view left =
-      λ i. record {
+  pub dropped : (left : ℕ) → new.capacity ≡ mid.capacity → spare ≤ left → StandsFor new (slice_set ends p e) y left (without_node t (record v { room = room_of left new })) × (v.room ≤ room_of left new)
+  dropped left capacity more =
+      let was : v.room ≡ min spare (s.capacity - slab_len s) = ap (λ (w : Nodes). w.room) (sym view_is) in
+      let room : v.room ≤ room_of left new = omega (arith, was, capacity, more, len, shape.len, shape.capacity) in
+      let view : value_of new (slice_set ends p e) (rows_of new) left ≡ without_node t (record v { room = room_of left new }) = λ i. record {
         nodes = nodes_are i;
         lists = (lists_are ∙ ap (leaves_list v.lists t) (sym place_is)) i;
         room = room_of left new;
-      }
-
-  pub dropped_room : (left : ℕ) → new.capacity ≡ mid.capacity → spare ≤ left → v.room ≤ room_of left new
-  dropped_room left capacity kept =
-      let was : v.room ≡ min spare (s.capacity - slab_len s) = ap (λ (w : Nodes). w.room) (sym view_is) in
-      omega (arith, was, capacity, kept, len, shape.len, shape.capacity)
+      } in
+      (record { kept = dropped_kept; view = view }, room)

@@ -9,7 +9,7 @@ use Rattle.cg_arena.specs.declared.index.SlotIndex.{SlotIndex}
 use Rattle.cg_arena.specs.Slots.{serial_in}
 use Rattle.cg_arena.specs.Links.{rewritten}
 use Rattle.cg_arena.specs.Table.{row_of, rows_of, IsNamed}
-use Rattle.cg_arena.specs.Index.{guess_at, guess_index, LeadsTo, HasRowsBelow, IsIndex}
+use Rattle.cg_arena.specs.Index.{guess_at, guess_index, LeadsTo, HasRowsBelow, IsIndex, IsIndexOf}
 
 -- the row of an occupied slot
 abbrev row : ℕ × Slot → ℕ × ℕ
@@ -53,7 +53,8 @@ row_stands s q j is =
     let found = listed q (entries s) j is in
     ap serial_in ((Contains-entries s j found.0).0 found.1) ∙ ap Some found.2
 
-the_node : (o : Option Slot) (q : ℕ) → serial_in o ≡ Some q → (c : Slot) × (o ≡ Some c) × (c.serial ≡ q)
+-- what has a serial is a node
+pub the_node : (o : Option Slot) (q : ℕ) → serial_in o ≡ Some q → (c : Slot) × (o ≡ Some c) × (c.serial ≡ q)
 the_node None q is = absurd (cc)
 the_node (Some c) q is = (c, refl, cc)
 
@@ -95,21 +96,25 @@ index_still serial new x same index =
       below = index.below;
     }
 
-module _ (s : Slab Slot) (x : SlotIndex) (index : IsIndex (λ k. serial_in (get s k)) x) (named : IsNamed (λ k. serial_in (get s k)) (row_of (rows_of s))) (t : ℕ) where
+module _ (s : Slab Slot) (x : SlotIndex) (index : IsIndexOf s x) (t : ℕ) where
   -- a serial that does not stand where its guess says has a row
-  pub by_row : serial_in (get s (guess_at x.hints t)) ≢ Some t → row_of x.rows.entries t ≡ row_of (rows_of s) t
-  by_row elsewhere = go (row_of (rows_of s) t) refl (row_of x.rows.entries t) refl
+  pub by_row : (guess : ℕ) → guess ≡ guess_at x.hints t → serial_in (get s guess) ≢ Some t → row_of x.rows.entries t ≡ row_of (rows_of s) t
+  by_row guess guess_is elsewhere = go (row_of (rows_of s) t) refl (row_of x.rows.entries t) refl
     where
       go : (r : Option ℕ) → row_of (rows_of s) t ≡ r → (o : Option ℕ) → row_of x.rows.entries t ≡ o → row_of x.rows.entries t ≡ row_of (rows_of s) t
       go None none None empty = empty ∙ sym none
-      go r are (Some k) is = is ∙ sym (named.named k t (index.right t k is))
-      go (Some k) is None empty = elim (index.found k t (row_stands s t k is)) [
-        | inl guessed ↦ absurd (elsewhere (ap (λ i. serial_in (get s i)) guessed ∙ row_stands s t k is))
+      go r are (Some k) is = is ∙ sym (index.names.named k t (index.finds.right t k is))
+      go (Some k) is None empty = elim (index.finds.found k t (row_stands s t k is)) [
+        | inl guessed ↦ absurd (elsewhere (ap (λ i. serial_in (get s i)) (guess_is ∙ guessed) ∙ row_stands s t k is))
         | inr rowed ↦ rowed ∙ sym is
       ]
 
+  -- and it is right
+  pub row_right : (at : ℕ) → row_of x.rows.entries t ≡ Some at → row_of (rows_of s) t ≡ Some at
+  row_right at is = index.names.named at t (index.finds.right t at is)
+
   pub here_row : (c : Slot) (at : ℕ) → get s at ≡ Some c → c.serial ≡ t → row_of (rows_of s) t ≡ Some at
-  here_row c at is serial = named.named at t (ap serial_in is ∙ ap Some serial)
+  here_row c at is serial = index.names.named at t (ap serial_in is ∙ ap Some serial)
 
 -- the guess that found one serial is told another's slot, and the one has a row
 pub displaced_found : (s : Slab Slot) (x y : SlotIndex) → IsNamed (λ k. serial_in (get s k)) (row_of (rows_of s)) → (t other : ℕ) → serial_in (get s (guess_at x.hints t)) ≡ Some other
@@ -133,7 +138,7 @@ displaced_found s x y named t other stands guesses rows k q is leads = elim (cas
 ]
 
 -- a serial that stands nowhere comes to a vacant slot
-module _ (s : Slab Slot) (x y : SlotIndex) (index : IsIndex (λ k. serial_in (get s k)) x) (named : IsNamed (λ k. serial_in (get s k)) (row_of (rows_of s))) (t at : ℕ) (fresh : row_of (rows_of s) t ≡ None) (vacant : get s at ≡ None) (below : HasRowsBelow y) (noted : LeadsTo y t at) (others : (k q : ℕ) → serial_in (get s k) ≡ Some q → q ≢ t → LeadsTo x q k → LeadsTo y q k) (rows : (q k : ℕ) → row_of y.rows.entries q ≡ Some k → (row_of x.rows.entries q ≡ Some k) ⊎ ((serial_in (get s k) ≡ Some q) ⊎ ((q ≡ t) × (k ≡ at)))) where
+module _ (s : Slab Slot) (x y : SlotIndex) (index : IsIndexOf s x) (t at : ℕ) (fresh : row_of (rows_of s) t ≡ None) (vacant : get s at ≡ None) (below : HasRowsBelow y) (noted : LeadsTo y t at) (others : (k q : ℕ) → serial_in (get s k) ≡ Some q → q ≢ t → LeadsTo x q k → LeadsTo y q k) (rows : (q k : ℕ) → row_of y.rows.entries q ≡ Some k → (row_of x.rows.entries q ≡ Some k) ⊎ ((serial_in (get s k) ≡ Some q) ⊎ ((q ≡ t) × (k ≡ at)))) where
   abbrev with_it : ℕ → Option ℕ
   with_it k = if k == at then Some t else serial_in (get s k)
 
@@ -158,68 +163,17 @@ module _ (s : Slab Slot) (x y : SlotIndex) (index : IsIndex (λ k. serial_in (ge
               subst (λ i. LeadsTo y q i) (sym same) (subst (λ i. LeadsTo y i at) serial noted)
           | inr differs ↦
               let was : serial_in (get s k) ≡ Some q = sym (with-there k differs) ∙ is in
-              let other : q ≢ t = λ same. let none : None ≡ Some k = sym fresh ∙ ap (row_of (rows_of s)) (sym same) ∙ named.named k q was in absurd (cc) in
-              others k q was other (index.found k q was)
+              let other : q ≢ t = λ same. let none : None ≡ Some k = sym fresh ∙ ap (row_of (rows_of s)) (sym same) ∙ index.names.named k q was in absurd (cc) in
+              others k q was other (index.finds.found k q was)
         ];
         right = λ q k is. elim (rows q k is) [
-          | inl old ↦ still q k (index.right q k old)
+          | inl old ↦ still q k (index.finds.right q k old)
           | inr new ↦ elim new [
             | inl stands ↦ still q k stands
             | inr here ↦ with-here k here.1 ∙ ap Some (sym here.0)
           ]
         ];
         below = below;
-      }
-
--- the slot goes by another name
-pub index_at : (s : Slab Slot) (x : SlotIndex) (t at k : ℕ) → at ≡ k → IsIndex (λ j. if j == at then Some t else serial_in (get s j)) x → IsIndex (λ j. if j == k then Some t else serial_in (get s j)) x
-index_at s x t at k same = subst (λ i. IsIndex (λ j. if j == i then Some t else serial_in (get s j)) x) same
-
--- the serial of a slot goes
-module _ (s : Slab Slot) (x y : SlotIndex) (index : IsIndex (λ k. serial_in (get s k)) x) (named : IsNamed (λ k. serial_in (get s k)) (row_of (rows_of s))) (t at : ℕ) (there : row_of (rows_of s) t ≡ Some at) (guesses : (q : ℕ) → (guess_at y.hints q ≡ guess_at x.hints q) ⊎ (guess_at x.hints q ≡ at)) (rows : (q : ℕ) → row_of y.rows.entries q ≡ (if t == q then None else row_of x.rows.entries q)) (most : y.most ≡ x.most) where
-  abbrev without_it : ℕ → Option ℕ
-  without_it k = if k == at then None else serial_in (get s k)
-
-  without-there : (k : ℕ) → k ≢ at → without_it k ≡ serial_in (get s k)
-  without-there k differs = ap (λ b. if b then None else serial_in (get s k)) (ne_eqb k at differs)
-
-  row-there : (q : ℕ) → q ≢ t → row_of y.rows.entries q ≡ row_of x.rows.entries q
-  row-there q differs = rows q ∙ ap (λ b. if b then None else row_of x.rows.entries q) (ne_eqb t q (λ same. differs (sym same)))
-
-  row-gone : (q : ℕ) → q ≡ t → row_of y.rows.entries q ≡ None
-  row-gone q same = rows q ∙ ap (λ b. if b then None else row_of x.rows.entries q) (eq-eqb t q (sym same))
-
-  one-slot : (k q : ℕ) → serial_in (get s k) ≡ Some q → k ≢ at → q ≢ t
-  one-slot k q was differs same =
-      let both : Some k ≡ Some at = sym (named.named k q was) ∙ ap (row_of (rows_of s)) same ∙ there in
-      differs (cc)
-
-  pub removed_index : IsIndex (λ k. if k == at then None else serial_in (get s k)) y
-  removed_index =
-      record {
-        found = λ k q is. elim (cases_eq k at) [
-          | inl same ↦ let none : None ≡ Some q = sym (ap (λ b. if b then None else serial_in (get s k)) (eq-eqb k at same)) ∙ is in absurd (cc)
-          | inr differs ↦
-              let was : serial_in (get s k) ≡ Some q = sym (without-there k differs) ∙ is in
-              elim (index.found k q was) [
-                | inl guessed ↦ elim (guesses q) [
-                  | inl kept ↦ inl (kept ∙ guessed)
-                  | inr lost ↦ absurd (differs (sym guessed ∙ lost))
-                ]
-                | inr rowed ↦ inr (row-there q (one-slot k q was differs) ∙ rowed)
-              ]
-        ];
-        right = λ q k is. elim (cases_eq q t) [
-          | inl same ↦ let none : None ≡ Some k = sym (row-gone q same) ∙ is in absurd (cc)
-          | inr differs ↦
-              let was : serial_in (get s k) ≡ Some q = index.right q k (sym (row-there q differs) ∙ is) in
-              let other : k ≢ at = λ same. let both : Some q ≡ Some t = sym was ∙ ap (λ i. serial_in (get s i)) same ∙ row_stands s t at there in differs (cc) in
-              without-there k other ∙ was
-        ];
-        below = λ q k is. elim (cases_eq q t) [
-          | inl same ↦ let none : None ≡ Some k = sym (row-gone q same) ∙ is in absurd (cc)
-          | inr differs ↦ omega (arith, most, index.below q k (sym (row-there q differs) ∙ is))
-        ];
       }
 
 -- the index finds the serials of the first slots, and no row is wrong
@@ -285,12 +239,15 @@ the_serial (o ∷ os) zero q is = omega arith
 the_serial (o ∷ os) (suc k) q is = omega (arith, the_serial os k q is)
 
 -- all slots were looked at
-pub all_found : (s : Slab Slot) (x : SlotIndex) (n : ℕ) → length s.slots ≤ n → FindsBelow s x n → IsIndex (λ k. serial_in (get s k)) x
-all_found s x n enough below =
+pub all_found : (s : Slab Slot) (x : SlotIndex) (n : ℕ) → IsNamed (λ k. serial_in (get s k)) (row_of (rows_of s)) → length s.slots ≤ n → FindsBelow s x n → IsIndexOf s x
+all_found s x n named enough below =
     record {
-      found = λ k q is. below.found k q (omega (arith, enough, the_serial s.slots k q is)) is;
-      right = below.right;
-      below = below.below;
+      finds = record {
+        found = λ k q is. below.found k q (omega (arith, enough, the_serial s.slots k q is)) is;
+        right = below.right;
+        below = below.below;
+      };
+      names = named;
     }
 
 -- the rows once a serial comes to a vacant slot, and once that of a slot goes

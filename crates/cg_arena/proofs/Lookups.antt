@@ -21,7 +21,7 @@ use Rattle.cg_arena.proofs.Chains.{linked_back}
 use Rattle.cg_arena.proofs.Spelled.{stands_placed, count_in_list-same}
 use Rattle.cg_arena.proofs.Rows.{get-nodes_of}
 use Rattle.cg_arena.proofs.Lists.{serial_at, serials, has_serial, list-at, ten_lists, occurrences-serials, following-serials, serials-absent}
-use Rattle.cg_arena.proofs.Sound.{value_of, node_here, the_slot, slot_there}
+use Rattle.cg_arena.proofs.Sound.{value_of, node_here, some_value, slot_there}
 
 abbrev count_of_node : ℕ → Option ArenaNode → ℕ
 count_of_node p o = count_in_list p (option_map (λ (n : ArenaNode). n.place) o)
@@ -98,7 +98,7 @@ module _ (s : Slab Slot) (ends : List Ends) (rows : List (ℕ × ℕ)) (spare : 
           let none : Some n ≡ None = sym is ∙ node_at t ∙ ap (option_map (λ k. node_in (get s k))) row_is in
           absurd (cc)
       placed_here t n is (Some k) row_is =
-          let found = the_slot (get s k) (slot_there s ends rows sound t k row_is) in
+          let found = some_value (get s k) (slot_there s ends rows sound t k row_is) in
           let both : Some (node_of found.0) ≡ Some n = sym (node_here s ends rows spare v view_is t k found.0 row_is found.1) ∙ is in
           let same : node_of found.0 ≡ n = cc in
           subst (λ (m : ArenaNode). IsPlace m.place) same (sound.placed k found.0.place (ap place_in_slot found.1))
@@ -109,7 +109,7 @@ module _ (s : Slab Slot) (ends : List Ends) (rows : List (ℕ × ℕ)) (spare : 
           ∙ serials-absent s (row_of rows) sound.names t row_is (sound.chain p) (λ j. with_serial j p below)
           ∙ sym (ap (count_of_node p) (node_at t ∙ ap (option_map (λ k. node_in (get s k))) row_is))
       once_here p t below (Some k) row_is =
-          let found = the_slot (get s k) (slot_there s ends rows sound t k row_is) in
+          let found = some_value (get s k) (slot_there s ends rows sound t k row_is) in
           ap (occurrences t) (list_is p below)
           ∙ occurrences-serials s (row_of rows) sound.names t k row_is (sound.chain p) (λ j. with_serial j p below)
           ∙ sound.spelled.standing p k below

@@ -25,7 +25,7 @@ use Rattle.cg_arena.proofs.Shapes.{SameShape, shape-trans, shape-tied, shape-all
 use Rattle.cg_arena.proofs.Rows.{nodes-mapped}
 use Rattle.cg_arena.proofs.Lists.{serials, serials-same, list-at, ten_lists, lists-merged}
 use Rattle.cg_arena.proofs.Sizes.{ends_set-same, ends_set-other, sizes-set, two_sizes}
-use Rattle.cg_arena.proofs.Sound.{kept_by, seen_by, value_of, the_slot, slot_there, named_still, room_still}
+use Rattle.cg_arena.proofs.Sound.{kept_by, seen_by, value_of, some_value, slot_there, named_still, room_still}
 use Rattle.cg_arena.proofs.Lookups.{list_is, lists_ten}
 use Rattle.cg_arena.proofs.Adds.{some_numbered, last_there}
 
@@ -149,7 +149,7 @@ module _ (s placed new : Slab Slot) (ends : List Ends) (x : SlotIndex) (kept : I
 
   node_is : (u j : ℕ) → row_of rows u ≡ Some j → node_in (get new j) ≡ place_merged from to (node_in (get s j))
   node_is u j row_is =
-      let found = the_slot (get s j) (slot_there s ends rows sound u j row_is) in
+      let found = some_value (get s j) (slot_there s ends rows sound u j row_is) in
       let c = found.0 in
       let standing : occurrences j (sound.chain p) ≡ count_in_list p (Some c.place) = sound.spelled.standing p j below_p ∙ ap (λ o. count_in_list p (place_in_slot o)) found.1 in
       nodes j ∙ elim (cases_eq (place_number c.place) (place_number from)) [

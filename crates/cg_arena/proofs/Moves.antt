@@ -23,7 +23,7 @@ use Rattle.cg_arena.proofs.Shapes.{SameShape, shape-trans, shape-rewritten, shap
 use Rattle.cg_arena.proofs.Rows.{nodes-changed}
 use Rattle.cg_arena.proofs.Lists.{serials, serials-same, list-at, ten_lists, lists-left, lists-joined}
 use Rattle.cg_arena.proofs.Sizes.{sizes, ends_set-same, ends_set-other, sizes-set, size_within}
-use Rattle.cg_arena.proofs.Sound.{kept_by, seen_by, value_of, node_here, named_still, room_still}
+use Rattle.cg_arena.proofs.Sound.{kept_by, seen_by, value_of, StandsFor, node_here, named_still, room_still}
 use Rattle.cg_arena.proofs.Lookups.{list_is, lists_ten, with_serial}
 use Rattle.cg_arena.proofs.Adds.{last_there}
 use Rattle.cg_arena.proofs.Drops.{absent, left_shape, left_places, left_nodes, left_there, left_spelled, left_sizes}
@@ -153,7 +153,7 @@ module _ (s left placed ended new : Slab Slot) (ends : List Ends) (x : SlotIndex
           few = subst (λ m. m < 2 ^ 64) (sym shape.len) sound.few;
         }
 
-    pub moved_kept : IsKept new x (slice_set (slice_set ends p d) q e)
+    moved_kept : IsKept new x (slice_set (slice_set ends p d) q e)
     moved_kept = kept_by s new shape x ends (slice_set (slice_set ends p d) q e) kept moved_sound
 
     nodes_are : nodes_of rows new ≡ changed (node_placed place) t v.nodes
@@ -184,7 +184,7 @@ module _ (s left placed ended new : Slab Slot) (ends : List Ends) (x : SlotIndex
         list-at new (slice_set between_ends q e) (appended_at q (k ∷ []) between_chain) None (length-set between_ends q e ∙ between_ten) moved_spelled r r_below
         ∙ sym (lists-joined new (leaves_list v.lists t p) between_chain left_ten left_are t k q (ap (λ o. unwrap_or o 0) (shape.serials k ∙ sound.names.rowed t k row_is)) below_q r r_below))
 
-    pub moved_view : value_of new (slice_set (slice_set ends p d) q e) (rows_of new) spare ≡ with_node_moved t place v
+    moved_view : value_of new (slice_set (slice_set ends p d) q e) (rows_of new) spare ≡ with_node_moved t place v
     moved_view =
         seen_by s new shape (slice_set (slice_set ends p d) q e) spare (with_node_moved t place v)
         (λ i. record {
@@ -192,3 +192,6 @@ module _ (s left placed ended new : Slab Slot) (ends : List Ends) (x : SlotIndex
           lists = (lists_are ∙ (λ j. move_between v.lists t (sym place_was j) (q_is j))) i;
           room = (room_still spare s new shape.capacity shape.len ∙ ap (λ (w : Nodes). w.room) view_is) i;
         })
+
+    pub moved : StandsFor new (slice_set (slice_set ends p d) q e) x spare (with_node_moved t place v)
+    moved = record { kept = moved_kept; view = moved_view }

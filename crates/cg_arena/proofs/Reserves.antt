@@ -7,12 +7,12 @@ use Rattle.cg_arena.specs.declared.ends.Ends.{Ends}
 use Rattle.cg_arena.specs.Nodes.{Nodes}
 use Rattle.cg_arena.specs.Slots.{before_in, after_in, serial_in, place_in_slot, node_in}
 use Rattle.cg_arena.specs.Table.{nodes_of, rows_of, serials_of, room_of, IsSound}
-use Rattle.cg_arena.specs.Index.{IsIndex, IsKept}
+use Rattle.cg_arena.specs.Index.{IsIndexOf, IsKept}
 use Rattle.cg_arena.proofs.Indexes.{index_still}
 use Rattle.cg_arena.proofs.Rows.{nodes-same}
 use Rattle.cg_arena.proofs.Sound.{value_of, sound_still, lists_still}
 
-module _ (s new : Slab Slot) (ends : List Ends) (x y : SlotIndex) (kept : IsKept s x ends) (rest : new ≡ record s { capacity = new.capacity }) (indexed : IsIndex (λ k. serial_in (get s k)) y) where
+module _ (s new : Slab Slot) (ends : List Ends) (x y : SlotIndex) (kept : IsKept s x ends) (rest : new ≡ record s { capacity = new.capacity }) (indexed : IsIndexOf s y) where
   slots_same : (j : ℕ) → get new j ≡ get s j
   slots_same j = ap (λ z. get z j) rest
 
@@ -32,7 +32,7 @@ module _ (s new : Slab Slot) (ends : List Ends) (x y : SlotIndex) (kept : IsKept
   reserved_kept =
       record {
         sound = subst (IsSound new ends) (sym rows_same) still;
-        indexed = index_still (λ k. serial_in (get s k)) (λ k. serial_in (get new k)) y (λ j. ap serial_in (slots_same j)) indexed;
+        indexed = index_still (λ k. serial_in (get s k)) (λ k. serial_in (get new k)) y (λ j. ap serial_in (slots_same j)) indexed.finds;
       }
 
   pub reserved_view : (spare left : ℕ) (v : Nodes) → value_of s ends (rows_of s) spare ≡ v → value_of new ends (rows_of new) left ≡ record v { room = room_of left new }

@@ -1,7 +1,7 @@
 -- What the fields of an arena say of one serial, and what a change of other parts of a slot leaves of them.
-use Rattle.std.proofs.Common.{◌≡◌, ℕ, ◌+◌, ◌-◌, ◌<◌, ◌^◌, List, [], ◌∷◌, map, Option, Some, None, refl, sym, ap, ◌∙◌, subst, inl, inr, arith}
-use Rattle.std.specs.Prelude.{option_map, IsSome, min, ◌==◌, if◌then◌else◌}
-use Rattle.std.proofs.lemmas.Bool.{cases_eq, eq-eqb, ne_eqb}
+use Rattle.std.proofs.Common.{◌≡◌, ◌≢◌, ℕ, ◌+◌, ◌-◌, ◌<◌, ◌^◌, List, [], ◌∷◌, map, Option, Some, None, refl, sym, ap, ◌∙◌, subst, inl, inr, arith}
+use Rattle.std.specs.Prelude.{Bool, ◌↔◌, IsTrue, option_map, IsSome, min, ◌==◌, if◌then◌else◌}
+use Rattle.std.proofs.lemmas.Bool.{cases_eq, eqb-true, eq-eqb, ne_eqb}
 use Rattle.std.proofs.lemmas.List.{length-map}
 use Rattle.std.specs.Ordering.{nat_cmp}
 use Rattle.std.specs.FinMap as fin
@@ -12,22 +12,27 @@ use Rattle.cg_graph.proofs.Maps.{get-changed_same}
 use Rattle.cg_arena.specs.declared.slot.Slot.{Slot}
 use Rattle.cg_arena.specs.declared.index.SlotIndex.{SlotIndex}
 use Rattle.cg_arena.specs.declared.ends.Ends.{Ends}
-use Rattle.cg_arena.specs.Nodes.{Nodes, ArenaNode, HasNode, IsPlace, count_in, count_of, with_node_changed, node_counted_up, node_counted_down, counted_up, counted_down, count_in_list}
-use Rattle.cg_arena.specs.Slots.{before_in, after_in, serial_in, place_in_slot, node_in, node_of, after_of}
+use Rattle.cg_arena.specs.Nodes.{Nodes, ArenaNode, HasNode, IsPlace, count_in, count_of, with_node_changed, node_counted_up, node_counted_down, node_lowered, counted_up, counted_down, count_in_list}
+use Rattle.cg_arena.specs.Slots.{before_in, after_in, serial_in, place_in_slot, node_in, node_of, after_of, with_count, with_lowered}
 use Rattle.cg_arena.specs.Links.{rewritten}
 use Rattle.cg_arena.specs.Table.{nodes_of, rows_of, serials_of, room_of, IsSpelled, IsNamed, ends_at, row_of, IsSound}
-use Rattle.cg_arena.specs.Index.{IsKept}
+use Rattle.cg_arena.specs.Index.{guess_at, IsIndexOf, Finds, HasRow, IsKept}
 use Rattle.cg_arena.proofs.Standing.{one-same, one-apart, occurrences-single}
 use Rattle.cg_arena.proofs.Chains.{HasLinks, linked_still}
 use Rattle.cg_arena.proofs.Writes.{part-rewritten, get-rewritten_same, get-rewritten_other}
 use Rattle.cg_arena.proofs.Shapes.{SameShape, shape-rewritten}
-use Rattle.cg_arena.proofs.Indexes.{index_still}
+use Rattle.cg_arena.proofs.Indexes.{index_still, the_node, by_row, here_row}
 use Rattle.cg_arena.proofs.Rows.{get-nodes_of, nodes-changed}
 use Rattle.cg_arena.proofs.Lists.{serials-same, list-at, ten_lists}
 
 -- the value of some fields
 abbrev pub value_of : Slab Slot → List Ends → List (ℕ × ℕ) → ℕ → Nodes
 value_of s ends rows spare = record { nodes = nodes_of rows s; lists = map (serials_of s) ends; room = room_of spare s }
+
+-- some fields are kept, and that is their value
+pub record StandsFor (s : Slab Slot) (ends : List Ends) (x : SlotIndex) (spare : ℕ) (v : Nodes) : Type 0 where
+  pub kept : IsKept s x ends
+  pub view : value_of s ends (rows_of s) spare ≡ v
 
 pub room_still : (spare : ℕ) (s new : Slab Slot) → new.capacity ≡ s.capacity → slab_len new ≡ slab_len s → room_of spare new ≡ room_of spare s
 room_still spare s new capacity len = λ i. min spare (capacity i - len i)
@@ -64,17 +69,14 @@ module _ (s : Slab Slot) (ends : List Ends) (rows : List (ℕ × ℕ)) (spare : 
       ∙ ap (option_map (λ j. node_in (get s j))) row_is
       ∙ ap (λ o. Some (node_in o)) slot_is
 
--- a slot that is occupied has a content
-pub the_slot : (o : Option Slot) → IsSome o → (c : Slot) × (o ≡ Some c)
-the_slot None some = absurd (cc)
-the_slot (Some c) some = (c, refl)
+-- what is there is something
+pub some_value : {X : Type 0} (o : Option X) → IsSome o → (x : X) × (o ≡ Some x)
+some_value None some = absurd (cc)
+some_value (Some x) some = (x, refl)
 
 -- a row names an occupied slot
 pub slot_there : (s : Slab Slot) (ends : List Ends) (rows : List (ℕ × ℕ)) → IsSound s ends rows → (t k : ℕ) → row_of rows t ≡ Some k → IsSome (get s k)
 slot_there s ends rows sound t k row_is = some_serial (get s k) t (sound.names.rowed t k row_is)
-
-pub slot_serial : (s : Slab Slot) (ends : List Ends) (rows : List (ℕ × ℕ)) → IsSound s ends rows → (t k : ℕ) → row_of rows t ≡ Some k → serial_in (get s k) ≡ Some t
-slot_serial s ends rows sound t k row_is = sound.names.rowed t k row_is
 
 -- the place of an occupied slot has a number below 10
 pub slot_placed : (s : Slab Slot) (ends : List Ends) (rows : List (ℕ × ℕ)) → IsSound s ends rows → (k : ℕ) (c : Slot) → get s k ≡ Some c → IsPlace c.place
@@ -201,8 +203,58 @@ pub counted_there : (o : Option ArenaNode) → 0 < count_in o → IsSome o
 counted_there None counted = absurd (omega (arith, counted))
 counted_there (Some n) counted = refl
 
--- the count after it was lowered
-pub count-down : (t : ℕ) (v w : Nodes) (n : ArenaNode) → fin.get v.nodes t ≡ Some n → w ≡ counted_down (t ∷ []) v → count_of w t ≡ n.count - 1
-count-down t v w n is lowered =
-    ap (λ (x : Nodes). count_of x t) (lowered ∙ sym (down_once t v))
-    ∙ ap count_in (get-changed_same (node_counted_down 1) t v.nodes t refl ∙ ap (option_map (node_counted_down 1)) is)
+-- what the fields say of the index, and of a serial whose slot is found
+module _ (s : Slab Slot) (ends : List Ends) (x : SlotIndex) (kept : IsKept s x ends) where
+  pub index_kept : IsIndexOf s x
+  index_kept = record { finds = kept.indexed; names = kept.sound.names }
+
+  pub lower_kept : (k : ℕ) (new : Slab Slot) → new ≡ rewritten with_lowered k s → IsKept new x ends
+  lower_kept k = field_kept with_lowered (λ c. refl) (λ c. refl) (λ c. refl) (λ c. refl) s ends x kept k
+
+  pub count_kept : (n k : ℕ) (new : Slab Slot) → new ≡ rewritten (with_count n) k s → IsKept new x ends
+  count_kept n k = field_kept (with_count n) (λ c. refl) (λ c. refl) (λ c. refl) (λ c. refl) s ends x kept k
+
+  module _ (spare : ℕ) (v : Nodes) (view_is : value_of s ends (rows_of s) spare ≡ v) (t : ℕ) where
+    -- the index finds what has a node
+    pub found : HasNode v t → Finds s x t
+    found has = record { index = index_kept; there = row_there s ends (rows_of s) spare v view_is t has }
+
+    -- by its row, if it does not lie where its guess says
+    pub found_by_row : HasNode v t → (guess : ℕ) → guess ≡ guess_at x.hints t → serial_in (get s guess) ≢ Some t → HasRow s x t
+    found_by_row has guess guess_is elsewhere =
+        let row = some_value (row_of x.rows.entries t) (subst IsSome (sym (by_row s x index_kept t guess guess_is elsewhere)) (found has).there) in
+        let node = the_node (get s row.0) t (kept.indexed.right t row.0 row.1) in
+        record { at = row.0; slot = node.0; row = row.1; there = node.1; serial_is = node.2 }
+
+    module _ (k : ℕ) (c : Slot) (slot_is : get s k ≡ Some c) (serial_is : c.serial ≡ t) where
+      row_is : row_of (rows_of s) t ≡ Some k
+      row_is = here_row s x index_kept t c k slot_is serial_is
+
+      node_is : fin.get v.nodes t ≡ Some (node_of c)
+      node_is = node_here s ends (rows_of s) spare v view_is t k c row_is slot_is
+
+      pub count_here : count_of v t ≡ c.count
+      count_here = ap count_in node_is
+
+      -- its count rises or falls by 1
+      pub up_view : (new : Slab Slot) → new ≡ rewritten (with_count (c.count + 1)) k s → value_of new ends (rows_of new) spare ≡ counted_up (t ∷ []) v
+      up_view new is =
+          field_view (with_count (c.count + 1)) (λ d. refl) (λ d. refl) (λ d. refl) (λ d. refl) s ends x kept k new is spare v view_is (node_counted_up 1) t c row_is slot_is refl
+          ∙ up_once t v
+
+      pub down_view : (new : Slab Slot) → new ≡ rewritten (with_count (c.count - 1)) k s → value_of new ends (rows_of new) spare ≡ counted_down (t ∷ []) v
+      down_view new is =
+          field_view (with_count (c.count - 1)) (λ d. refl) (λ d. refl) (λ d. refl) (λ d. refl) s ends x kept k new is spare v view_is (node_counted_down 1) t c row_is slot_is refl
+          ∙ down_once t v
+
+      -- whether the count is 0 then
+      pub down_to_none : (b : Bool) → b ≡ (c.count - 1 == 0) → (w : Nodes) → w ≡ counted_down (t ∷ []) v → IsTrue b ↔ (count_of w t ≡ 0)
+      down_to_none b b_is w down = ((λ yes. left ∙ eqb-true (c.count - 1) 0 (sym b_is ∙ yes)), (λ none. b_is ∙ eq-eqb (c.count - 1) 0 (sym left ∙ none)))
+        where
+          left : count_of w t ≡ c.count - 1
+          left =
+              ap (λ (u : Nodes). count_of u t) (down ∙ sym (down_once t v))
+              ∙ ap count_in (get-changed_same (node_counted_down 1) t v.nodes t refl ∙ ap (option_map (node_counted_down 1)) node_is)
+
+      pub lower_view : (new : Slab Slot) → new ≡ rewritten with_lowered k s → value_of new ends (rows_of new) spare ≡ with_node_changed node_lowered t v
+      lower_view new is = field_view with_lowered (λ d. refl) (λ d. refl) (λ d. refl) (λ d. refl) s ends x kept k new is spare v view_is node_lowered t c row_is slot_is refl

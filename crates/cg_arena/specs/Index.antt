@@ -1,12 +1,12 @@
 -- Where the slot of a serial is found: as its guess says, or in a row. (Ours.)
-use Rattle.std.specs.Prelude.{◌≡◌, ◌⊎◌, ◌≤◌, ℕ, ◌/◌, ◌%◌, ◌^◌, List, Option, Some, slice_index_or, bit_and, bit_xor}
+use Rattle.std.specs.Prelude.{◌≡◌, ◌⊎◌, ◌≤◌, ℕ, ◌/◌, ◌%◌, ◌^◌, List, Option, Some, IsSome, slice_index_or, bit_and, bit_xor}
 use Rattle.cg_arena.specs.declared.hints.Hints.{Hints}
 use Rattle.cg_arena.specs.declared.index.SlotIndex.{SlotIndex}
 use Rattle.slab.specs.Slab.{Slab, get}
 use Rattle.cg_arena.specs.declared.slot.Slot.{Slot}
 use Rattle.cg_arena.specs.declared.ends.Ends.{Ends}
 use Rattle.cg_arena.specs.Slots.{serial_in}
-use Rattle.cg_arena.specs.Table.{row_of, rows_of, IsSound}
+use Rattle.cg_arena.specs.Table.{row_of, rows_of, IsNamed, IsSound}
 
 -- which guess is a serial's: that of its low bits, with those above them mixed in
 unfoldable pub guess_index : Hints → ℕ → ℕ
@@ -29,6 +29,24 @@ pub record IsIndex (serial : ℕ → Option ℕ) (x : SlotIndex) : Type 0 where
   pub found : (k s : ℕ) → serial k ≡ Some s → LeadsTo x s k
   pub right : (s k : ℕ) → row_of x.rows.entries s ≡ Some k → serial k ≡ Some s
   pub below : HasRowsBelow x
+
+-- it is the index of these slots, and no serial stands in two of them
+pub record IsIndexOf (slots : Slab Slot) (x : SlotIndex) : Type 0 where
+  pub finds : IsIndex (λ k. serial_in (get slots k)) x
+  pub names : IsNamed (λ k. serial_in (get slots k)) (row_of (rows_of slots))
+
+-- it is the index of these slots, and a serial stands in one of them
+pub record Finds (slots : Slab Slot) (x : SlotIndex) (serial : ℕ) : Type 0 where
+  pub index : IsIndexOf slots x
+  pub there : IsSome (row_of (rows_of slots) serial)
+
+-- the row of a serial names the slot in which it stands
+pub record HasRow (slots : Slab Slot) (x : SlotIndex) (serial : ℕ) : Type 0 where
+  pub at : ℕ
+  pub slot : Slot
+  pub row : row_of x.rows.entries serial ≡ Some at
+  pub there : get slots at ≡ Some slot
+  pub serial_is : slot.serial ≡ serial
 
 -- what is true of an arena's fields: its chains, and the index of its slots
 pub record IsKept (slots : Slab Slot) (index : SlotIndex) (ends : List Ends) : Type 0 where

@@ -4,7 +4,9 @@ ghost use Rattle.std.specs.FinMap as map;
 ghost use Rattle.slab.specs.Slab.{get, slab_len, HasRoomFor, Updates};
 ghost use Rattle.indexmap.specs.IndexMap.{spare};
 ghost use Rattle.cg_graph.specs.Places.{place_number};
-ghost use Rattle.cg_arena.specs.Slots.{generation_in};
+ghost use Rattle.cg_arena.specs.Slots.{generation_in, with_count, with_lowered};
+ghost use Rattle.cg_arena.specs.Links.{rewritten};
+ghost use Rattle.cg_arena.specs.Index.{HasRow};
 
 use crate::ends::Ends;
 use crate::index::{SlotIndex, node_if};
@@ -95,20 +97,52 @@ fn first_of(place: Place) -> usize
     }
 }
 
-/// Puts a node into a slot that `reserve` made room for.
-fn occupy(slots: &mut Slab<Slot>, slot: Slot) -> usize
+/// Puts a node into the vacant slot, which `reserve` made room for.
+fn occupy(slots: &mut Slab<Slot>, slot: Slot)
     requires { HasRoomFor slots.old 1 }
-    ensures key { result ≡ slots.old.vacant_key }
-    ensures vacant { get slots.old result ≡ None }
-    ensures updates { Updates slots.old slots.new result (Some slot) }
+    ensures updates { Updates slots.old slots.new slots.old.vacant_key (Some slot) }
     ensures len { slab_len slots.new ≡ slab_len slots.old + 1 }
     ensures capacity { slots.new.capacity ≡ slots.old.capacity }
     ensures few { slab_len slots.new < 2 ^ 64 }
 {
-    let at = slots.insert_reserved(slot);
+    let _at = slots.insert_reserved(slot);
     // A slab has fewer than 2^64 nodes, since this answer is a `usize`. So no size of a list overflows.
     let _count = slots.len();
-    at
+}
+
+/// `inc` of a node that does not lie where its guess says, by its row.
+#[inline(never)]
+fn inc_by_row(index: &SlotIndex, slots: &mut Slab<Slot>, serial: u64)
+    requires { (r : HasRow slots.old index.now serial) × (r.slot.count < 2 ^ 32 - 1) }
+    ensures { (r : HasRow slots.old index.now serial) →
+        slots.new ≡ rewritten (with_count (r.slot.count + 1)) r.at slots.old }
+{
+    let at = index.slot_by_row(serial);
+    let count = slot_at(slots, at).count + 1;
+    set_count(slots, at, count);
+}
+
+/// `dec` of a node that does not lie where its guess says, by its row.
+#[inline(never)]
+fn dec_by_row(index: &SlotIndex, slots: &mut Slab<Slot>, serial: u64) -> bool
+    requires { (r : HasRow slots.old index.now serial) × (0 < r.slot.count) }
+    ensures falls { (r : HasRow slots.old index.now serial) →
+        slots.new ≡ rewritten (with_count (r.slot.count - 1)) r.at slots.old }
+    ensures none { (r : HasRow slots.old index.now serial) → result ≡ (r.slot.count - 1 == 0) }
+{
+    let at = index.slot_by_row(serial);
+    let count = slot_at(slots, at).count - 1;
+    set_count(slots, at, count);
+    count == 0
+}
+
+/// `lower` of a node that does not lie where its guess says, by its row.
+#[inline(never)]
+fn lower_by_row(index: &SlotIndex, slots: &mut Slab<Slot>, serial: u64)
+    requires { HasRow slots.old index.now serial }
+    ensures { (r : HasRow slots.old index.now serial) → slots.new ≡ rewritten with_lowered r.at slots.old }
+{
+    lower_candidate(slots, index.slot_by_row(serial));
 }
 
 impl Arena {
@@ -180,9 +214,9 @@ impl Arena {
             (with_room self.new.room self.old) }
         ensures room { self.old.room ≤ self.new.room + 1 }
     {
-        let vacant = self.slots.vacant_key();
-        self.index.add(&self.slots, serial, vacant);
-        let at = occupy(&mut self.slots, Slot::new(serial, code, class, body, place));
+        let at = self.slots.vacant_key();
+        self.index.note(&self.slots, serial, at);
+        occupy(&mut self.slots, Slot::new(serial, code, class, body, place));
         let list = number_of(place);
         self.ends[list] = join(&mut self.slots, self.ends[list], Ends::one(at));
     }
@@ -206,7 +240,7 @@ impl Arena {
         ensures code { IfSome (map.get self.old.nodes serial) (λ n. result.0 ≡ n.code) }
         ensures body { IfSome (map.get self.old.nodes serial) (λ n. result.1 ≡ n.body) }
     {
-        let (at, slot) = self.index.slot_with(&self.slots, serial);
+        let (at, slot) = self.index.slot_of(&self.slots, serial);
         self.index.remove(&self.slots, serial, at);
         let seat = (slot.code, slot.body);
         let from = number_of(slot.place);
@@ -228,7 +262,7 @@ impl Arena {
                 let count = slot.count + 1;
                 set_count(&mut self.slots, guess, count);
             }
-            None => self.inc_by_row(serial),
+            None => inc_by_row(&self.index, &mut self.slots, serial),
         }
     }
 
@@ -247,33 +281,8 @@ impl Arena {
                 set_count(&mut self.slots, guess, count);
                 count == 0
             }
-            None => self.dec_by_row(serial),
+            None => dec_by_row(&self.index, &mut self.slots, serial),
         }
-    }
-
-    /// `inc`, by the row.
-    #[inline(never)]
-    fn inc_by_row(&mut self, serial: u64)
-        requires has { HasNode self.old serial }
-        requires room { count_at self.old serial < 2 ^ 32 - 1 }
-        ensures { self.new ≡ counted_up (serial ∷ []) self.old }
-    {
-        let (at, slot) = self.index.slot_with(&self.slots, serial);
-        let count = slot.count + 1;
-        set_count(&mut self.slots, at, count);
-    }
-
-    /// `dec`, by the row.
-    #[inline(never)]
-    fn dec_by_row(&mut self, serial: u64) -> bool
-        requires { 0 < count_at self.old serial }
-        ensures falls { self.new ≡ counted_down (serial ∷ []) self.old }
-        ensures none { IsTrue result ↔ (count_at self.new serial ≡ 0) }
-    {
-        let (at, slot) = self.index.slot_with(&self.slots, serial);
-        let count = slot.count - 1;
-        set_count(&mut self.slots, at, count);
-        count == 0
     }
 
     /// Whether there is a node with this serial.
@@ -289,7 +298,7 @@ impl Arena {
         requires { HasNode self.now serial }
         ensures { map.get self.now.nodes serial ≡ Some (node_of result) }
     {
-        self.index.slot_with(&self.slots, serial).1
+        self.index.slot_of(&self.slots, serial).1
     }
 
     /// `node`, where it is near.
@@ -343,7 +352,7 @@ impl Arena {
         requires { HasNode self.now serial }
         ensures { IfSome (map.get self.now.nodes serial) (λ n. result ≡ n.code) }
     {
-        let (at, slot) = self.index.slot_with(&self.slots, serial);
+        let (at, slot) = self.index.slot_of(&self.slots, serial);
         *near = Near::at(Some(at));
         slot.code
     }
@@ -427,7 +436,7 @@ impl Arena {
         requires { HasNode self.old serial }
         ensures { self.new ≡ with_node_changed node_finalized serial self.old }
     {
-        let at = self.index.slot_of(&self.slots, serial);
+        let (at, _) = self.index.slot_of(&self.slots, serial);
         mark_finalized(&mut self.slots, at);
     }
 
@@ -438,7 +447,7 @@ impl Arena {
         requires place { TakesNumber (place_at self.old serial) }
         ensures { self.new ≡ with_node_changed (node_numbered number) serial self.old }
     {
-        let at = self.index.slot_of(&self.slots, serial);
+        let (at, _) = self.index.slot_of(&self.slots, serial);
         set_number(&mut self.slots, at, number);
     }
 
@@ -463,18 +472,8 @@ impl Arena {
         let guess = self.index.guess(serial);
         match node_if(&self.slots, guess, serial) {
             Some(_) => lower_candidate(&mut self.slots, guess),
-            None => self.lower_by_row(serial),
+            None => lower_by_row(&self.index, &mut self.slots, serial),
         }
-    }
-
-    /// `lower`, by the row.
-    #[inline(never)]
-    fn lower_by_row(&mut self, serial: u64)
-        requires { HasNode self.old serial }
-        ensures { self.new ≡ with_node_changed node_lowered serial self.old }
-    {
-        let at = self.index.slot_of(&self.slots, serial);
-        lower_candidate(&mut self.slots, at);
     }
 
     /// The node goes to the end of the list of a place, which may be its own. (Ours; CPython's `gc_list_move`.)
@@ -553,8 +552,8 @@ impl Arena {
         requires { HasNode self.now serial }
         ensures { result ≡ following serial (list_at self.now (place_at self.now serial)) }
     {
-        let at = self.index.slot_of(&self.slots, serial);
-        serial_at(&self.slots, slot_at(&self.slots, at).after())
+        let (_, slot) = self.index.slot_of(&self.slots, serial);
+        serial_at(&self.slots, slot.after())
     }
 
     /// How many nodes stand in a place. It tells besides that each node stands once in the list of its place alone.

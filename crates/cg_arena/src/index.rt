@@ -4,7 +4,7 @@ ghost use Rattle.slab.specs.Slab.{get};
 ghost use Rattle.indexmap.specs.IndexMap.{spare};
 ghost use Rattle.cg_arena.specs.Slots.{serial_in};
 ghost use Rattle.cg_arena.specs.Table.{row_of, rows_of, IsNamed};
-ghost use Rattle.cg_arena.specs.Index.{guess_at, guess_index, LeadsTo, HasRowsBelow, IsIndex};
+ghost use Rattle.cg_arena.specs.Index.{guess_at, guess_index, LeadsTo, HasRowsBelow, IsIndex, IsIndexOf, Finds};
 
 use crate::hints::Hints;
 use crate::links::slot_at;
@@ -74,8 +74,7 @@ impl SlotIndex {
 
     /// Whether a serial has a node.
     pub fn has(&self, slots: &Slab<Slot>, serial: u64) -> bool
-        requires index { IsIndex (λ k. serial_in (get slots.now k)) self.now }
-        requires named { IsNamed (λ k. serial_in (get slots.now k)) (row_of (rows_of slots.now)) }
+        requires { IsIndexOf slots.now self.now }
         ensures { IsTrue result ↔ IsSome (row_of (rows_of slots.now) serial) }
     {
         match node_if(slots, self.guess(serial), serial) {
@@ -96,27 +95,11 @@ impl SlotIndex {
         }
     }
 
-    /// The slot of a serial that has a node. Where the serial stands in the slot that is guessed, its row is not looked up.
+    /// The slot of a serial that has a node, and the node. Where the serial stands in the slot that is guessed, its row is not
+    /// looked up.
     #[inline(always)]
-    pub fn slot_of(&self, slots: &Slab<Slot>, serial: u64) -> usize
-        requires index { IsIndex (λ k. serial_in (get slots.now k)) self.now }
-        requires named { IsNamed (λ k. serial_in (get slots.now k)) (row_of (rows_of slots.now)) }
-        requires there { IsSome (row_of (rows_of slots.now) serial) }
-        ensures { row_of (rows_of slots.now) serial ≡ Some result }
-    {
-        let guess = self.guess(serial);
-        match node_if(slots, guess, serial) {
-            Some(_) => guess,
-            None => self.slot_by_row(serial),
-        }
-    }
-
-    /// `slot_of`, and the node in it.
-    #[inline(always)]
-    pub fn slot_with(&self, slots: &Slab<Slot>, serial: u64) -> (usize, Slot)
-        requires index { IsIndex (λ k. serial_in (get slots.now k)) self.now }
-        requires named { IsNamed (λ k. serial_in (get slots.now k)) (row_of (rows_of slots.now)) }
-        requires there { IsSome (row_of (rows_of slots.now) serial) }
+    pub fn slot_of(&self, slots: &Slab<Slot>, serial: u64) -> (usize, Slot)
+        requires { Finds slots.now self.now serial }
         ensures at { row_of (rows_of slots.now) serial ≡ Some result.0 }
         ensures slot { get slots.now result.0 ≡ Some result.1 }
     {
@@ -130,27 +113,24 @@ impl SlotIndex {
         }
     }
 
-    /// `slot_with`, which looks nothing up where the serial stands in the slot `near`.
+    /// `slot_of`, which looks nothing up where the serial stands in the slot `near`.
     #[inline(always)]
     pub fn slot_near(&self, slots: &Slab<Slot>, serial: u64, near: Near) -> (usize, Slot)
-        requires index { IsIndex (λ k. serial_in (get slots.now k)) self.now }
-        requires named { IsNamed (λ k. serial_in (get slots.now k)) (row_of (rows_of slots.now)) }
-        requires there { IsSome (row_of (rows_of slots.now) serial) }
+        requires { Finds slots.now self.now serial }
         ensures at { row_of (rows_of slots.now) serial ≡ Some result.0 }
         ensures slot { get slots.now result.0 ≡ Some result.1 }
     {
         match node_if(slots, near.slot, serial) {
             Some(slot) => (near.slot, slot),
-            None => self.slot_with(slots, serial),
+            None => self.slot_of(slots, serial),
         }
     }
 
     /// Makes room for one serial more, and for its guess. Where there is no memory for that, the guesses stay as they are.
     #[inline(always)]
     pub fn reserve(&mut self, slots: &Slab<Slot>) -> Result<(), AllocError>
-        requires index { IsIndex (λ k. serial_in (get slots.now k)) self.old }
-        requires named { IsNamed (λ k. serial_in (get slots.now k)) (row_of (rows_of slots.now)) }
-        ensures index { IsIndex (λ k. serial_in (get slots.now k)) self.new }
+        requires { IsIndexOf slots.now self.old }
+        ensures index { IsIndexOf slots.now self.new }
         ensures ok { OnOk result (0 < spare self.new.rows) }
         ensures room { spare self.old.rows ≤ spare self.new.rows }
         ensures succeeds { 0 < spare self.old.rows → IsOk result }
@@ -164,9 +144,8 @@ impl SlotIndex {
     /// Doubles the guesses, if there is memory for them and for the rows that they leave.
     #[inline(never)]
     fn grow(&mut self, slots: &Slab<Slot>) -> Result<(), AllocError>
-        requires index { IsIndex (λ k. serial_in (get slots.now k)) self.old }
-        requires named { IsNamed (λ k. serial_in (get slots.now k)) (row_of (rows_of slots.now)) }
-        ensures index { IsIndex (λ k. serial_in (get slots.now k)) self.new }
+        requires { IsIndexOf slots.now self.old }
+        ensures index { IsIndexOf slots.now self.new }
         ensures room { spare self.old.rows ≤ spare self.new.rows }
     {
         let room = self.rows.capacity() - self.rows.len();
@@ -179,7 +158,7 @@ impl SlotIndex {
     /// Notes down where a serial lies: by its guess, if there is one for it, else in a row. A node that was found by that guess
     /// gets a row, since objects that were made of late are looked up the most.
     #[inline(always)]
-    fn note(&mut self, slots: &Slab<Slot>, serial: u64, at: usize)
+    pub fn note(&mut self, slots: &Slab<Slot>, serial: u64, at: usize)
         requires named { IsNamed (λ k. serial_in (get slots.now k)) (row_of (rows_of slots.now)) }
         requires below { HasRowsBelow self.old }
         requires room { 0 < spare self.old.rows }
@@ -220,25 +199,10 @@ impl SlotIndex {
         }
     }
 
-    /// A serial that has no node is to lie in a slot that is vacant still.
-    #[inline(always)]
-    pub fn add(&mut self, slots: &Slab<Slot>, serial: u64, at: usize)
-        requires index { IsIndex (λ k. serial_in (get slots.now k)) self.old }
-        requires named { IsNamed (λ k. serial_in (get slots.now k)) (row_of (rows_of slots.now)) }
-        requires fresh { row_of (rows_of slots.now) serial ≡ None }
-        requires vacant { get slots.now at ≡ None }
-        requires room { 0 < spare self.old.rows }
-        ensures index { IsIndex (λ k. if k == at then Some serial else serial_in (get slots.now k)) self.new }
-        ensures room { spare self.old.rows ≤ spare self.new.rows + 1 }
-    {
-        self.note(slots, serial, at);
-    }
-
     /// A serial lies in its slot no more.
     #[inline(always)]
     pub fn remove(&mut self, slots: &Slab<Slot>, serial: u64, at: usize)
-        requires index { IsIndex (λ k. serial_in (get slots.now k)) self.old }
-        requires named { IsNamed (λ k. serial_in (get slots.now k)) (row_of (rows_of slots.now)) }
+        requires index { IsIndexOf slots.now self.old }
         requires there { row_of (rows_of slots.now) serial ≡ Some at }
         ensures index { IsIndex (λ k. if k == at then None else serial_in (get slots.now k)) self.new }
         ensures room { spare self.old.rows ≤ spare self.new.rows }
@@ -270,7 +234,7 @@ fn index_by(
     room: usize,
 ) -> Result<SlotIndex, AllocError>
     requires named { IsNamed (λ k. serial_in (get slots.now k)) (row_of (rows_of slots.now)) }
-    ensures index { IfOk result (IsIndex (λ k. serial_in (get slots.now k))) }
+    ensures index { IfOk result (IsIndexOf slots.now) }
     ensures room { IfOk result (λ x. room ≤ spare x.rows) }
 {
     let mut index = SlotIndex {

@@ -23,5 +23,5 @@ returns-clause-index c =
     let end = c.slots-test.false in
     let enough = c.capacity-at-end.ensures.slots in
     let all : length c.args.slots.now.slots ≤ c.slots.at = omega (arith, end, enough) in
-    all_found c.args.slots.now reserved c.slots.at all
+    all_found c.args.slots.now reserved c.slots.at c.requires.named all
     (reserved_found c.args.slots.now c.slots.index reserved c.slots.at refl c.reserve-2.ensures.entries refl c.slots.invariant)

@@ -1,13 +1,10 @@
 use Rattle.indexmap.specs.IndexMap.{spare}
 use Rattle.cg_arena.specs.Table.{rows_of}
-use Rattle.cg_arena.proofs.Sound.{row_there, row_there_back}
+use Rattle.cg_arena.proofs.Sound.{row_there, row_there_back, index_kept}
 use Rattle.cg_arena.proofs.arena.Arena.has.Goals as goal
 
-pub has-requires-clause-named : goal.has-requires-clause-named
-has-requires-clause-named c = c.self.invariant.sound.names
-
-pub has-requires-clause-index : goal.has-requires-clause-index
-has-requires-clause-index c = c.self.invariant.indexed
+pub has-requires : goal.has-requires
+has-requires c = index_kept c.self.inside.slots c.self.inside.ends c.self.inside.index c.self.invariant
 
 pub returns : goal.returns
 returns c = (

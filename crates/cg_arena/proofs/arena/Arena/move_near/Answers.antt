@@ -3,21 +3,17 @@ use Rattle.std.specs.Prelude.{slice_set}
 use Rattle.indexmap.specs.IndexMap.{spare}
 use Rattle.cg_arena.specs.Slots.{after_of}
 use Rattle.cg_arena.specs.declared.ends.Ends.{Ends}
+use Rattle.cg_arena.specs.Nodes.{with_node_moved}
 use Rattle.cg_arena.specs.Links.{tied, ends_joined}
 use Rattle.cg_arena.specs.Table.{rows_of, ends_at}
-use Rattle.cg_arena.proofs.Sound.{row_there, slot_placed}
+use Rattle.cg_arena.proofs.Sound.{StandsFor, found, slot_placed}
 use Rattle.cg_arena.proofs.Drops.{size_there}
-use Rattle.cg_arena.proofs.Moves.{room_for_one, moved_kept, moved_view}
+use Rattle.cg_arena.proofs.Moves.{room_for_one, moved}
 use Rattle.cg_arena.proofs.arena.Arena.move_near.Goals as goal
+use Rattle.cg_arena.proofs.arena.Arena.move_near.Goals.{After-join}
 
-pub slot_near-at-requires-clause-named : goal.slot_near-at-requires-clause-named
-slot_near-at-requires-clause-named c = c.self.invariant.sound.names
-
-pub slot_near-at-requires-clause-index : goal.slot_near-at-requires-clause-index
-slot_near-at-requires-clause-index c = c.self.invariant.indexed
-
-pub slot_near-at-requires-clause-there : goal.slot_near-at-requires-clause-there
-slot_near-at-requires-clause-there c = row_there c.self.inside.slots c.self.inside.ends (rows_of c.self.inside.slots) (spare c.self.inside.index.rows) c.args.self.now c.self.view_is c.args.serial c.requires.has
+pub slot_near-at-requires : goal.slot_near-at-requires
+slot_near-at-requires c = found c.self.inside.slots c.self.inside.ends c.self.inside.index c.self.invariant (spare c.self.inside.index.rows) c.args.self.now c.self.view_is c.args.serial c.requires.has
 
 pub number_of-from-requires : goal.number_of-from-requires
 number_of-from-requires c = slot_placed c.self.inside.slots c.self.inside.ends (rows_of c.self.inside.slots) c.self.invariant.sound c.slot_near-at.result.0 c.slot_near-at.result.1 c.slot_near-at.ensures.slot
@@ -36,20 +32,17 @@ join-requires c =
     c.args.place c.set_place.ensures c.set_after.ensures c.number_of-to.result c.number_of-to.ensures.number c.number_of-to.ensures.below in
     omega (arith, one, fits)
 
-pub invariant_of-self : goal.invariant_of-self
-invariant_of-self c =
-    moved_kept c.self.inside.slots c.unlink.new.slots c.set_place.new.slots c.set_after.new.slots c.join.new.slots c.self.inside.ends c.self.inside.index c.self.invariant (spare c.self.inside.index.rows) c.args.self.now c.self.view_is
+done : (c : After-join) → StandsFor c.join.new.slots (slice_set (slice_set c.self.inside.ends c.number_of-from.result c.unlink.result) c.number_of-to.result c.join.result) c.self.inside.index (spare c.self.inside.index.rows) (with_node_moved c.args.serial c.args.place c.args.self.now)
+done c =
+    moved c.self.inside.slots c.unlink.new.slots c.set_place.new.slots c.set_after.new.slots c.join.new.slots c.self.inside.ends c.self.inside.index c.self.invariant (spare c.self.inside.index.rows) c.args.self.now c.self.view_is
     c.args.serial c.slot_near-at.result.0 c.slot_near-at.result.1 c.slot_near-at.ensures.at c.slot_near-at.ensures.slot
     c.number_of-from.result c.number_of-from.ensures.number c.number_of-from.ensures.below c.unlink.ensures.slots c.unlink.result c.unlink.ensures.ends
     c.args.place c.set_place.ensures c.set_after.ensures c.number_of-to.result c.number_of-to.ensures.number c.number_of-to.ensures.below
     (c.join.ensures.slots ∙ ap (λ (o : Ends). tied (ends_at (slice_set c.self.inside.ends c.number_of-from.result c.unlink.result) c.number_of-to.result).last o.first c.set_after.new.slots) c.one.ensures) c.join.result
     (c.join.ensures.ends ∙ ap (ends_joined (ends_at (slice_set c.self.inside.ends c.number_of-from.result c.unlink.result) c.number_of-to.result)) c.one.ensures)
 
+pub invariant_of-self : goal.invariant_of-self
+invariant_of-self c = (done (goal.at.invariant_of-self c).After-join).kept
+
 pub returns : goal.returns
-returns c =
-    moved_view c.self.inside.slots c.unlink.new.slots c.set_place.new.slots c.set_after.new.slots c.join.new.slots c.self.inside.ends c.self.inside.index c.self.invariant (spare c.self.inside.index.rows) c.args.self.now c.self.view_is
-    c.args.serial c.slot_near-at.result.0 c.slot_near-at.result.1 c.slot_near-at.ensures.at c.slot_near-at.ensures.slot
-    c.number_of-from.result c.number_of-from.ensures.number c.number_of-from.ensures.below c.unlink.ensures.slots c.unlink.result c.unlink.ensures.ends
-    c.args.place c.set_place.ensures c.set_after.ensures c.number_of-to.result c.number_of-to.ensures.number c.number_of-to.ensures.below
-    (c.join.ensures.slots ∙ ap (λ (o : Ends). tied (ends_at (slice_set c.self.inside.ends c.number_of-from.result c.unlink.result) c.number_of-to.result).last o.first c.set_after.new.slots) c.one.ensures) c.join.result
-    (c.join.ensures.ends ∙ ap (ends_joined (ends_at (slice_set c.self.inside.ends c.number_of-from.result c.unlink.result) c.number_of-to.result)) c.one.ensures)
+returns c = (done (goal.at.returns c).After-join).view

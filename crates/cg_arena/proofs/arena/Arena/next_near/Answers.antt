@@ -1,18 +1,12 @@
 use Rattle.std.proofs.Common.{◌∙◌, ap}
 use Rattle.indexmap.specs.IndexMap.{spare}
 use Rattle.cg_arena.specs.Table.{rows_of}
-use Rattle.cg_arena.proofs.Sound.{row_there}
+use Rattle.cg_arena.proofs.Sound.{found}
 use Rattle.cg_arena.proofs.Lookups.{serial_of_slot, next_is}
 use Rattle.cg_arena.proofs.arena.Arena.next_near.Goals as goal
 
-pub slot_near-slot-requires-clause-named : goal.slot_near-slot-requires-clause-named
-slot_near-slot-requires-clause-named c = c.self.invariant.sound.names
-
-pub slot_near-slot-requires-clause-index : goal.slot_near-slot-requires-clause-index
-slot_near-slot-requires-clause-index c = c.self.invariant.indexed
-
-pub slot_near-slot-requires-clause-there : goal.slot_near-slot-requires-clause-there
-slot_near-slot-requires-clause-there c = row_there c.self.inside.slots c.self.inside.ends (rows_of c.self.inside.slots) (spare c.self.inside.index.rows) c.args.self.now c.self.view_is c.args.serial c.requires
+pub slot_near-slot-requires : goal.slot_near-slot-requires
+slot_near-slot-requires c = found c.self.inside.slots c.self.inside.ends c.self.inside.index c.self.invariant (spare c.self.inside.index.rows) c.args.self.now c.self.view_is c.args.serial c.requires
 
 pub returns : goal.returns
 returns c =

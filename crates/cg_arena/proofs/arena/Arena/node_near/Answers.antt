@@ -1,16 +1,10 @@
 use Rattle.indexmap.specs.IndexMap.{spare}
 use Rattle.cg_arena.specs.Table.{rows_of}
-use Rattle.cg_arena.proofs.Sound.{row_there, node_here}
+use Rattle.cg_arena.proofs.Sound.{found, node_here}
 use Rattle.cg_arena.proofs.arena.Arena.node_near.Goals as goal
 
-pub slot_near-requires-clause-named : goal.slot_near-requires-clause-named
-slot_near-requires-clause-named c = c.self.invariant.sound.names
-
-pub slot_near-requires-clause-index : goal.slot_near-requires-clause-index
-slot_near-requires-clause-index c = c.self.invariant.indexed
-
-pub slot_near-requires-clause-there : goal.slot_near-requires-clause-there
-slot_near-requires-clause-there c = row_there c.self.inside.slots c.self.inside.ends (rows_of c.self.inside.slots) (spare c.self.inside.index.rows) c.args.self.now c.self.view_is c.args.serial c.requires
+pub slot_near-requires : goal.slot_near-requires
+slot_near-requires c = found c.self.inside.slots c.self.inside.ends c.self.inside.index c.self.invariant (spare c.self.inside.index.rows) c.args.self.now c.self.view_is c.args.serial c.requires
 
 pub returns : goal.returns
 returns c = node_here c.self.inside.slots c.self.inside.ends (rows_of c.self.inside.slots) (spare c.self.inside.index.rows) c.args.self.now c.self.view_is c.args.serial c.slot_near.result.0 c.slot_near.result.1 c.slot_near.ensures.at c.slot_near.ensures.slot

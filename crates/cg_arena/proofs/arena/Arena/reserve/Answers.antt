@@ -1,12 +1,10 @@
 use Rattle.indexmap.specs.IndexMap.{spare}
+use Rattle.cg_arena.proofs.Sound.{index_kept}
 use Rattle.cg_arena.proofs.Reserves.{reserved_kept, reserved_view}
 use Rattle.cg_arena.proofs.arena.Arena.reserve.Goals as goal
 
-pub reserve-requires-clause-named : goal.reserve-requires-clause-named
-reserve-requires-clause-named c = c.self.invariant.sound.names
-
-pub reserve-requires-clause-index : goal.reserve-requires-clause-index
-reserve-requires-clause-index c = c.self.invariant.indexed
+pub reserve-requires : goal.reserve-requires
+reserve-requires c = index_kept c.self.inside.slots c.self.inside.ends c.self.inside.index c.self.invariant
 
 pub invariant_of-self-2 : goal.invariant_of-self-2
 invariant_of-self-2 c = reserved_kept c.self.inside.slots c.reserve-2.new.self c.self.inside.ends c.self.inside.index c.reserve.new.self c.self.invariant c.reserve-2.ensures.rest_kept c.reserve.ensures.index

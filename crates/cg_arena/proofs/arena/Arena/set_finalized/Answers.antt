@@ -1,29 +1,20 @@
 use Rattle.std.proofs.Common.{refl}
-use Rattle.slab.specs.Slab.{get}
 use Rattle.indexmap.specs.IndexMap.{spare}
-use Rattle.cg_arena.specs.Table.{rows_of}
 use Rattle.cg_arena.specs.Nodes.{node_finalized}
 use Rattle.cg_arena.specs.Slots.{with_mark}
-use Rattle.cg_arena.proofs.Sound.{row_there, slot_there, the_slot, field_kept, field_view}
+use Rattle.cg_arena.proofs.Sound.{found, field_kept, field_view}
 use Rattle.cg_arena.proofs.arena.Arena.set_finalized.Goals as goal
 
-pub slot_of-at-requires-clause-named : goal.slot_of-at-requires-clause-named
-slot_of-at-requires-clause-named c = c.self.invariant.sound.names
-
-pub slot_of-at-requires-clause-index : goal.slot_of-at-requires-clause-index
-slot_of-at-requires-clause-index c = c.self.invariant.indexed
-
-pub slot_of-at-requires-clause-there : goal.slot_of-at-requires-clause-there
-slot_of-at-requires-clause-there c = row_there c.self.inside.slots c.self.inside.ends (rows_of c.self.inside.slots) (spare c.self.inside.index.rows) c.args.self.now c.self.view_is c.args.serial c.requires
+pub slot_of-at-requires : goal.slot_of-at-requires
+slot_of-at-requires c = found c.self.inside.slots c.self.inside.ends c.self.inside.index c.self.invariant (spare c.self.inside.index.rows) c.args.self.now c.self.view_is c.args.serial c.requires
 
 pub invariant_of-self : goal.invariant_of-self
 invariant_of-self c =
-    field_kept with_mark (λ x. refl) (λ x. refl) (λ x. refl) (λ x. refl) c.self.inside.slots c.self.inside.ends c.self.inside.index c.self.invariant c.slot_of-at.result
+    field_kept with_mark (λ x. refl) (λ x. refl) (λ x. refl) (λ x. refl) c.self.inside.slots c.self.inside.ends c.self.inside.index c.self.invariant c.slot_of-at.result.0
     c.mark_finalized.new.slots c.mark_finalized.ensures
 
 pub returns : goal.returns
 returns c =
-    let found = the_slot (get c.self.inside.slots c.slot_of-at.result) (slot_there c.self.inside.slots c.self.inside.ends (rows_of c.self.inside.slots) c.self.invariant.sound c.args.serial c.slot_of-at.result c.slot_of-at.ensures) in
-    field_view with_mark (λ x. refl) (λ x. refl) (λ x. refl) (λ x. refl) c.self.inside.slots c.self.inside.ends c.self.inside.index c.self.invariant c.slot_of-at.result
+    field_view with_mark (λ x. refl) (λ x. refl) (λ x. refl) (λ x. refl) c.self.inside.slots c.self.inside.ends c.self.inside.index c.self.invariant c.slot_of-at.result.0
     c.mark_finalized.new.slots c.mark_finalized.ensures (spare c.self.inside.index.rows) c.args.self.now c.self.view_is
-    node_finalized c.args.serial found.0 c.slot_of-at.ensures found.1 refl
+    node_finalized c.args.serial c.slot_of-at.result.1 c.slot_of-at.ensures.at c.slot_of-at.ensures.slot refl

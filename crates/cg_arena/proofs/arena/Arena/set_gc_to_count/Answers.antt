@@ -3,17 +3,11 @@ use Rattle.indexmap.specs.IndexMap.{spare}
 use Rattle.cg_arena.specs.Table.{rows_of}
 use Rattle.cg_arena.specs.Nodes.{count_in, count_of, node_numbered, with_node_changed}
 use Rattle.cg_arena.specs.Slots.{with_number}
-use Rattle.cg_arena.proofs.Sound.{row_there, node_here, field_kept, field_view}
+use Rattle.cg_arena.proofs.Sound.{found, node_here, field_kept, field_view}
 use Rattle.cg_arena.proofs.arena.Arena.set_gc_to_count.Goals as goal
 
-pub slot_near-at-requires-clause-named : goal.slot_near-at-requires-clause-named
-slot_near-at-requires-clause-named c = c.self.invariant.sound.names
-
-pub slot_near-at-requires-clause-index : goal.slot_near-at-requires-clause-index
-slot_near-at-requires-clause-index c = c.self.invariant.indexed
-
-pub slot_near-at-requires-clause-there : goal.slot_near-at-requires-clause-there
-slot_near-at-requires-clause-there c = row_there c.self.inside.slots c.self.inside.ends (rows_of c.self.inside.slots) (spare c.self.inside.index.rows) c.args.self.now c.self.view_is c.args.serial c.requires.has
+pub slot_near-at-requires : goal.slot_near-at-requires
+slot_near-at-requires c = found c.self.inside.slots c.self.inside.ends c.self.inside.index c.self.invariant (spare c.self.inside.index.rows) c.args.self.now c.self.view_is c.args.serial c.requires.has
 
 pub invariant_of-self : goal.invariant_of-self
 invariant_of-self c =
