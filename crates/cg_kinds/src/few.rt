@@ -58,9 +58,10 @@ fn replace_in(pairs: &mut Vec<Pair>, key: Val, val: Val) -> Option<Val>
 {
     match place_in(pairs.as_slice(), key) {
         Some(at) => {
-            let was = pairs[at].entry();
-            pairs[at] = Pair::new(Entry { key: was.key, val });
-            Some(was.val)
+            let pair = &mut pairs[at];
+            let was = pair.val();
+            pair.set_val(val);
+            Some(was)
         }
         None => None,
     }

@@ -44,6 +44,22 @@ impl Pair {
         }
     }
 
+    /// The value.
+    #[inline(always)]
+    pub fn val(&self) -> Val
+        ensures { result ≡ self.now.val }
+    {
+        self.val.val()
+    }
+
+    /// Writes another value. The key stays in its bytes.
+    #[inline(always)]
+    pub fn set_val(&mut self, val: Val)
+        ensures { self.new ≡ record { key = self.old.key; val = val } }
+    {
+        self.val = Nine::new(val);
+    }
+
     /// Whether it has a key.
     #[inline(always)]
     #[tactic(auto, using(crate::proofs::KeyLemmas::equal_is))]
