@@ -77,7 +77,7 @@ fn push_to(pairs: &mut Vec<Pair>, pair: Entry) -> Result<(), AllocError>
         let more = pairs.len() / 2 + 1;
         pairs.reserve_exact(more)?;
     }
-    pairs.push(Pair::new(pair))?;
+    pairs.push_reserved(Pair::new(pair));
     Ok(())
 }
 
@@ -156,7 +156,7 @@ impl Few {
         ensures { result ≡ value_at self.now key }
     {
         match self.find(key) {
-            Some(at) => Some(self.entry_at(at).val),
+            Some(at) => Some(self.pairs[at].val()),
             None => None,
         }
     }
@@ -182,6 +182,7 @@ impl Few {
     }
 
     /// Takes the pair at a position; those behind it move down by one.
+    #[inline(always)]
     pub fn take(&mut self, i: usize) -> Entry
         requires { i < length self.old }
         ensures entry { slice_get self.old i ≡ Some result }
@@ -196,7 +197,10 @@ impl Few {
         ensures rest { self.new ≡ without_key self.old key }
     {
         match self.find(key) {
-            Some(at) => Some(self.take(at)),
+            Some(at) => Some(Entry {
+                key,
+                val: self.take(at).val,
+            }),
             None => None,
         }
     }
