@@ -5,10 +5,11 @@ ghost use Rattle.cg_graph.specs.Value.{value_at, put, without_key, references, e
 ghost use Rattle.cg_kind.specs.Calls.{has_key, next_entries};
 ghost use Rattle.cg_kinds.specs.Pairs.{AreKeysOnce};
 
+use crate::kept::{KeepsEntry, note_slice};
 use crate::nine::Nine;
 use crate::pair::Pair;
 use crate::table::Table;
-use cg_kind::{AT_ONCE, Noted, ROOM, note_entry};
+use cg_kind::{Noted, ROOM};
 use cg_value::{Entry, Val};
 use std::alloc::{AllocError, Global};
 use std::marker::Model;
@@ -136,12 +137,7 @@ impl Few {
         ensures few { result.references ≤ ROOM }
         ensures room { length found.new ≡ length found.old }
     {
-        let next = from + AT_ONCE.min(self.pairs.len() - from);
-        let mut references = 0;
-        'pairs: for pair in &self.pairs[from..next] {
-            references = note_entry(found, references, pair.entry());
-        }
-        Noted { next, references }
+        note_slice(self.pairs.as_slice(), from, found)
     }
 
     /// The position of a key.

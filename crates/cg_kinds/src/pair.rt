@@ -2,6 +2,7 @@
 ghost use Rattle.std.specs.Prelude.{◌≡◌};
 ghost use Rattle.cg_kind.specs.Calls.{has_key};
 
+use crate::kept::KeepsEntry;
 use crate::nine::Nine;
 use cg_value::{Entry, Val};
 use std::marker::Model;
@@ -33,17 +34,6 @@ impl Pair {
         }
     }
 
-    /// The entry.
-    #[inline(always)]
-    pub fn entry(&self) -> Entry
-        ensures { result ≡ self.now }
-    {
-        Entry {
-            key: self.key.val(),
-            val: self.val.val(),
-        }
-    }
-
     /// The value.
     #[inline(always)]
     pub fn val(&self) -> Val
@@ -67,5 +57,17 @@ impl Pair {
         ensures { result ≡ has_key key.now self.now }
     {
         *key == self.key
+    }
+}
+
+impl KeepsEntry for Pair {
+    ghost kept = { λ p. p };
+
+    #[inline(always)]
+    fn entry(&self) -> Entry {
+        Entry {
+            key: self.key.val(),
+            val: self.val.val(),
+        }
     }
 }
