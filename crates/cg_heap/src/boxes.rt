@@ -8,7 +8,7 @@ ghost use Rattle.cg_kind.specs.Calls.{has_key, next_entries, IsParts, CanPut, va
 ghost use Rattle.cg_heap.specs.Boxes.{six_kinds, code_index, bodies_at, HasBody, entries_in_box, spare_in_box, boxes_with_body, boxes_without};
 ghost use Rattle.cg_heap.specs.Calls.{IsMutable};
 
-use cg_kind::{Kind, Noted};
+use cg_kind::{Kind, Noted, ROOM};
 use cg_value::{Entry, KindCode, Val};
 use std::alloc::AllocError;
 use std::marker::Model;
@@ -127,12 +127,12 @@ impl<B: Kind> Boxes<B> {
     pub fn note_from(&self, seat: Seat, from: usize, found: &mut [u64]) -> Noted
         requires held { HasBody self.now seat.code seat.body }
         requires within { from ≤ length (entries_in_box self.now seat.code seat.body) }
-        requires room { 16 ≤ length found.old }
+        requires room { ROOM ≤ length found.old }
         ensures next { result.next ≡
             from + length (next_entries (entries_in_box self.now seat.code seat.body) from) }
         ensures references { take result.references found.new ≡
             references (next_entries (entries_in_box self.now seat.code seat.body) from) }
-        ensures few { result.references ≤ 16 }
+        ensures few { result.references ≤ ROOM }
         ensures room { length found.new ≡ length found.old }
     {
         let kind = &self.kinds[index_of(seat.code)];

@@ -8,6 +8,7 @@ use Rattle.std.proofs.lemmas.Grind.{flat_map-append}
 use Rattle.std.proofs.Math.Seq.{take-add}
 use Rattle.cg_value.specs.declared.Entry.{Entry}
 use Rattle.cg_graph.specs.Value.{reference_in, entry_references, references}
+use Rattle.cg_kind.specs.declared.notes.TheConstants.{AT_ONCE}
 use Rattle.cg_kind.specs.Calls.{next_entries}
 
 pub references-append : (xs ys : List Entry) → references (xs ++ ys) ≡ references xs ++ references ys
@@ -55,18 +56,18 @@ take_again es n k is = elim (cases_lt k (length es)) [
   | inr all ↦ take_all n es (omega (arith, is, all, length-take k es)) ∙ sym (take_all k es all)
 ]
 
--- they end where the entries end, or are eight
+-- they end where the entries end, or are `AT_ONCE`
 pub next_within : (es : List Entry) (from : ℕ) → from ≤ length es → from + length (next_entries es from) ≤ length es
-next_within es from h = omega (arith, h, length-take 8 (drop from es), length-drop from es)
+next_within es from h = omega (arith, h, length-take AT_ONCE (drop from es), length-drop from es)
 
-pub next_last : (es : List Entry) (from : ℕ) → from ≤ length es → length (next_entries es from) < 8 → from + length (next_entries es from) ≡ length es
-next_last es from h few = omega (arith, h, few, length-take 8 (drop from es), length-drop from es)
+pub next_last : (es : List Entry) (from : ℕ) → from ≤ length es → length (next_entries es from) < AT_ONCE → from + length (next_entries es from) ≡ length es
+next_last es from h few = omega (arith, h, few, length-take AT_ONCE (drop from es), length-drop from es)
 
 -- those before and they
 pub taken_next : (es : List Entry) (from : ℕ) → take (from + length (next_entries es from)) es ≡ take from es ++ next_entries es from
 taken_next es from =
     take-add from (length (next_entries es from)) es
-    ∙ ap (λ (l : List Entry). take from es ++ l) (take_again (drop from es) (length (next_entries es from)) 8 refl)
+    ∙ ap (λ (l : List Entry). take from es ++ l) (take_again (drop from es) (length (next_entries es from)) AT_ONCE refl)
 
 pub references_next : (es : List Entry) (from : ℕ) → references (take (from + length (next_entries es from)) es) ≡ references (take from es) ++ references (next_entries es from)
 references_next es from = ap references (taken_next es from) ∙ references-append (take from es) (next_entries es from)

@@ -7,14 +7,15 @@ use Rattle.cg_value.specs.declared.Entry.{Entry}
 use Rattle.cg_value.specs.declared.KindCode.{KindCode}
 use Rattle.cg_value.specs.declared.KindCode.TheVariants.{List as ListKind, Tuple, Dict, Inst, Func, Weak}
 use Rattle.cg_graph.specs.Value.{same_value, item, value_at, put, without_key}
+use Rattle.cg_kind.specs.declared.notes.TheConstants.{AT_ONCE}
 
 -- the entry has this key
 abbrev pub has_key : Val → Entry → Bool
 has_key key e = same_value e.key key
 
--- the entries from a position on, eight of them or as many as there are
+-- the entries from a position on, `AT_ONCE` of them or as many as there are
 abbrev pub next_entries : List Entry → ℕ → List Entry
-next_entries entries from = take 8 (drop from entries)
+next_entries entries from = take AT_ONCE (drop from entries)
 
 -- no entry has a key, as items, cells and callbacks have none
 abbrev pub AreItems : List Entry → Type 0

@@ -1,12 +1,16 @@
 -- Entries that are searched one after the other: what a search finds, and what a put leaves.
 use Rattle.std.proofs.Common.{◌≡◌, ℕ, ◌+◌, ◌-◌, ◌<◌, ◌≤◌, Bool, true, false, List, [], ◌∷◌, ◌++◌, Some, None, cond, refl, sym, ap, ◌∙◌, subst, length, drop, get_or, set, arith, length-append}
+use Rattle.std.specs.Prelude.{position, slice_get}
 use Rattle.std.specs.List.{position_from}
 use Rattle.std.proofs.lemmas.List.{drop_more, append-nil}
+use Rattle.std.proofs.lemmas.Option.{get_or_from_slice_get}
+use Rattle.std.proofs.lemmas.List.Quantifiers.{position-Some}
 use Rattle.std.proofs.Math.Seq.{set-append_seam, get_or-append_seam}
 use Rattle.cg_value.specs.declared.Val.{Val}
 use Rattle.cg_value.specs.declared.Entry.{Entry}
 use Rattle.cg_graph.specs.Value.{same_value, value_at, put}
 use Rattle.cg_kind.specs.Calls.{has_key}
+use Rattle.cg_kinds.proofs.KeyLemmas.{same_is}
 
 module _ (key : Val) where
   -- the first of the rest has the key, or has it not
@@ -106,3 +110,8 @@ module _ (key : Val) where
 -- a new key goes last
 pub put_new : (es : List Entry) (key val : Val) → value_at es key ≡ None → put es key val ≡ es ++ record { key = key; val = val } ∷ []
 put_new es key val none = ap (λ l. put l key val) (sym (append-nil es)) ∙ back_put key val es [] none
+
+-- what stands where a key is found has that key
+pub key_there : (es : List Entry) (key : Val) (i : ℕ) (e : Entry) → position (has_key key) es ≡ Some i → slice_get es i ≡ Some e → e.key ≡ key
+key_there es key i e found here =
+    same_is e.key key (ap (has_key key) (sym (get_or_from_slice_get es i e e here)) ∙ (position-Some (has_key key) es i e found).1)

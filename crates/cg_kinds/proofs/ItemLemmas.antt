@@ -43,6 +43,11 @@ module _ (key : Val) where
   found-nothing [] none = refl
   found-nothing (v ∷ values) none = absurd (omega (arith, none))
 
+-- the items of values that stand each in something
+pub items-of : {X : Type 0} (value : X → Val) (xs : List X) → map (λ x. item (value x)) xs ≡ map item (map value xs)
+items-of value [] = refl
+items-of value (x ∷ xs) = ap (λ l. item (value x) ∷ l) (items-of value xs)
+
 -- the entry of the value at an index
 pub item-at : {X : Type 0} (value : X → Val) (xs : List X) (i : ℕ) (d : X) → i < length xs → slice_get (map item (map value xs)) i ≡ Some (item (value (get_or xs i d)))
 item-at value xs i d within =

@@ -9,6 +9,7 @@ use Rattle.std.proofs.lemmas.Bool.{cases_lt, cases_eq}
 use Rattle.std.proofs.lemmas.Bool.Decides.{nat_tests}
 use Rattle.std.proofs.lemmas.List.{length-set, get_or-set_same, get_or-set_other, get_or_append_left, get_or_push, get_or_past, get_or_default, length_push, length-map, length-take, length-drop, get_or-take, get_or-drop, take-append-le}
 use Rattle.std.proofs.lemmas.Grind.{flat_map-append}
+use Rattle.cg_kind.specs.declared.notes.TheConstants.{AT_ONCE}
 use Rattle.cg_kinds.specs.Order.{indexes, pairs_before, renamed, AreHomes, AreSums, AreCounts, AreClosed, IsSound}
 use Rattle.cg_kinds.proofs.SumLemmas.{IsOneMore, raised, zero_last}
 use Rattle.cg_kinds.proofs.SlotLemmas.{pair_within, gap_later, before_all, few_pairs}
@@ -481,10 +482,10 @@ sound_order slots homes are order is = subst IsSound is (record {
 })
 
 -- some of the indexes of an order are below its length
-pub some_within : (order : List ℕ) (i : ℕ) (some : List ℕ) → some ≡ take 8 (drop i order) → IsSound order → All (λ index. index < length order) some
+pub some_within : (order : List ℕ) (i : ℕ) (some : List ℕ) → some ≡ take AT_ONCE (drop i order) → IsSound order → All (λ index. index < length order) some
 some_within order i some is sound k d below =
-    let n : k < length (take 8 (drop i order)) = omega (arith, below, ap length is) in
+    let n : k < length (take AT_ONCE (drop i order)) = omega (arith, below, ap length is) in
     let at : get_or some k d ≡ get_or order (i + k) d =
-    ap (λ l. get_or l k d) is ∙ get_or-take 8 (drop i order) k d (omega (arith, n, length-take 8 (drop i order))) ∙ get_or-drop i order k d in
-    let low = sound.within (i + k) d (omega (arith, n, length-take 8 (drop i order), length-drop i order)) in
+    ap (λ l. get_or l k d) is ∙ get_or-take AT_ONCE (drop i order) k d (omega (arith, n, length-take AT_ONCE (drop i order))) ∙ get_or-drop i order k d in
+    let low = sound.within (i + k) d (omega (arith, n, length-take AT_ONCE (drop i order), length-drop i order)) in
     omega (arith, at, low)

@@ -190,18 +190,18 @@ indexes_more slots first slot o behind within is =
     ∙ ap (λ (x : Option ℕ). indexes (take (slot - first) rest) ++ (option_to_list x ++ [])) (get_or-drop first slots (slot - first) None ∙ ap (λ k. get_or slots k None) m ∙ is)
     ∙ ap (λ (l : List ℕ). indexes (take (slot - first) rest) ++ l) (append-nil (option_to_list o))
 
--- eight of them are the first eight
-pub first_eight : (rest : List (Option ℕ)) (k : ℕ) (some : List ℕ) → some ≡ indexes (take k rest) → length some ≡ 8 → some ≡ take 8 (indexes rest)
-first_eight rest k some is eight =
+-- so many of them are the first so many
+pub first_so_many : (rest : List (Option ℕ)) (k n : ℕ) (some : List ℕ) → some ≡ indexes (take k rest) → length some ≡ n → some ≡ take n (indexes rest)
+first_so_many rest k n some is many =
     let parts : indexes rest ≡ some ++ indexes (drop k rest) =
     ap indexes (sym (take-append-drop k rest)) ∙ flat_map-append option_to_list (take k rest) (drop k rest) ∙ ap (λ (l : List ℕ). l ++ indexes (drop k rest)) (sym is) in
-    sym (take-append_seam some (indexes (drop k rest))) ∙ ap (λ n. take n (some ++ indexes (drop k rest))) eight ∙ ap (take 8) (sym parts)
+    sym (take-append_seam some (indexes (drop k rest))) ∙ ap (λ m. take m (some ++ indexes (drop k rest))) many ∙ ap (take n) (sym parts)
 
--- no more than eight are all of them
-pub all_eight : (rest : List (Option ℕ)) (k : ℕ) (some : List ℕ) → some ≡ indexes (take k rest) → length rest ≤ k → length some ≤ 8 → some ≡ take 8 (indexes rest)
-all_eight rest k some is all few =
+-- no more than so many are all of them
+pub all_so_many : (rest : List (Option ℕ)) (k n : ℕ) (some : List ℕ) → some ≡ indexes (take k rest) → length rest ≤ k → length some ≤ n → some ≡ take n (indexes rest)
+all_so_many rest k n some is all few =
     let whole : some ≡ indexes rest = is ∙ ap indexes (take_all k rest all) in
-    sym (take_all 8 some few) ∙ ap (take 8) whole
+    sym (take_all n some few) ∙ ap (take n) whole
 
 -- those behind so many are in the slots from theirs on
 pub indexes_behind : (slots : List (Option ℕ)) (slot place : ℕ) → pairs_before slots slot ≡ place → indexes (drop slot slots) ≡ drop place (indexes slots)

@@ -5,10 +5,11 @@ ghost use Rattle.cg_graph.specs.Value.{value_at, put, without_key, references, e
 ghost use Rattle.cg_kind.specs.Calls.{has_key, next_entries};
 ghost use Rattle.cg_kinds.specs.Pairs.{AreKeysOnce};
 
+use crate::kept::{KeepsEntry, note_slice};
 use crate::nine::Nine;
 use crate::pair::Pair;
 use crate::table::Table;
-use cg_kind::{AT_ONCE, Noted, ROOM, note_entry};
+use cg_kind::{Noted, ROOM};
 use cg_value::{Entry, Val};
 use std::alloc::{AllocError, Global};
 use std::marker::Model;
@@ -58,9 +59,10 @@ fn replace_in(pairs: &mut Vec<Pair>, key: Val, val: Val) -> Option<Val>
 {
     match place_in(pairs.as_slice(), key) {
         Some(at) => {
-            let was = pairs[at].entry();
-            pairs[at] = Pair::new(Entry { key: was.key, val });
-            Some(was.val)
+            let pair = &mut pairs[at];
+            let was = pair.val();
+            pair.set_val(val);
+            Some(was)
         }
         None => None,
     }
@@ -76,7 +78,7 @@ fn push_to(pairs: &mut Vec<Pair>, pair: Entry) -> Result<(), AllocError>
         let more = pairs.len() / 2 + 1;
         pairs.reserve_exact(more)?;
     }
-    pairs.push(Pair::new(pair))?;
+    pairs.push_reserved(Pair::new(pair));
     Ok(())
 }
 
@@ -135,12 +137,7 @@ impl Few {
         ensures few { result.references ≤ ROOM }
         ensures room { length found.new ≡ length found.old }
     {
-        let next = from + AT_ONCE.min(self.pairs.len() - from);
-        let mut references = 0;
-        'pairs: for pair in &self.pairs[from..next] {
-            references = note_entry(found, references, pair.entry());
-        }
-        Noted { next, references }
+        note_slice(self.pairs.as_slice(), from, found)
     }
 
     /// The position of a key.
@@ -155,7 +152,7 @@ impl Few {
         ensures { result ≡ value_at self.now key }
     {
         match self.find(key) {
-            Some(at) => Some(self.entry_at(at).val),
+            Some(at) => Some(self.pairs[at].val()),
             None => None,
         }
     }
@@ -181,6 +178,7 @@ impl Few {
     }
 
     /// Takes the pair at a position; those behind it move down by one.
+    #[inline(always)]
     pub fn take(&mut self, i: usize) -> Entry
         requires { i < length self.old }
         ensures entry { slice_get self.old i ≡ Some result }
@@ -195,7 +193,10 @@ impl Few {
         ensures rest { self.new ≡ without_key self.old key }
     {
         match self.find(key) {
-            Some(at) => Some(self.take(at)),
+            Some(at) => Some(Entry {
+                key,
+                val: self.take(at).val,
+            }),
             None => None,
         }
     }

@@ -6,7 +6,9 @@ ghost use Rattle.cg_kinds.specs.Contents.{fixed_body};
 use crate::body_slab::BodySlab;
 use crate::contents::Contents;
 use crate::items::{find_item, item_of};
+use crate::kept::{KeepsEntry, note_slice};
 use arrayvec::ArrayVec;
+use cg_kind::Noted;
 use cg_value::{Entry, KindCode, Val};
 use std::alloc::{AllocError, Global};
 
@@ -26,6 +28,17 @@ struct Cell(Val);
 impl Default for Cell {
     fn default() -> Self {
         Cell(Val::None)
+    }
+}
+
+impl KeepsEntry for Cell {
+    ghost use Rattle.cg_graph.specs.Value.{item};
+
+    ghost kept = { λ c. item c.0 };
+
+    #[inline(always)]
+    fn entry(&self) -> Entry {
+        item_of(self.0)
     }
 }
 
@@ -53,6 +66,11 @@ impl Contents for Cells {
 
     fn entry_at(&self, i: usize) -> Entry {
         item_of(self.cells[i].0)
+    }
+
+    #[inline(always)]
+    fn note_from(&self, from: usize, found: &mut [u64]) -> Noted {
+        note_slice(self.cells.as_slice(), from, found)
     }
 
     fn find(&self, key: Val) -> Option<usize> {

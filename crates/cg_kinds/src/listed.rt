@@ -4,7 +4,8 @@ ghost use Rattle.cg_graph.specs.Value.{item, references};
 ghost use Rattle.cg_kind.specs.Calls.{AreItems, next_entries};
 ghost use Rattle.cg_kinds.specs.Listed.{items_listed, room_listed};
 
-use crate::packed::{Packed, note_packed, packed_values_of};
+use crate::kept::note_slice;
+use crate::packed::{Packed, packed_values_of};
 use crate::values::Values;
 use cg_kind::{Noted, ROOM};
 use cg_value::{Entry, Val};
@@ -94,7 +95,7 @@ impl Listed {
         ensures room { length found.new ≡ length found.old }
     {
         match self {
-            Listed::Few(few) => note_packed(few.as_slice(), from, found),
+            Listed::Few(few) => note_slice(few.as_slice(), from, found),
             Listed::Many(columns) => columns.note_from(from, found),
         }
     }

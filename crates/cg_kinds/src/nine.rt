@@ -62,8 +62,9 @@ impl PartialEq for Nine {
 
     #[inline(always)]
     fn eq(&self, other: &Nine) -> bool {
-        self.sort == other.sort
-            && u64::from_le_bytes(self.number) == u64::from_le_bytes(other.number)
+        // Most keys that differ have one sort.
+        u64::from_le_bytes(self.number) == u64::from_le_bytes(other.number)
+            && self.sort == other.sort
     }
 }
 

@@ -1,12 +1,12 @@
 //! Values in plain words, as lists keep a few of them.
-ghost use Rattle.std.specs.Prelude.{◌≡◌, ◌≤◌, ◌+◌, IfOk, length, map, take};
+ghost use Rattle.std.specs.Prelude.{◌≡◌, IfOk, map};
 ghost use Rattle.cg_value.specs.declared.Val.{Val};
-ghost use Rattle.cg_graph.specs.Value.{item, references};
-ghost use Rattle.cg_kind.specs.Calls.{AreItems, next_entries};
+ghost use Rattle.cg_graph.specs.Value.{item};
+ghost use Rattle.cg_kind.specs.Calls.{AreItems};
 ghost use Rattle.cg_kinds.specs.Values.{value_in, AreWords};
 
 use crate::items::item_of;
-use cg_kind::{AT_ONCE, Noted, ROOM, note_entry};
+use crate::kept::KeepsEntry;
 use cg_value::{Entry, Val};
 use std::alloc::{AllocError, Global};
 use std::marker::Model;
@@ -66,6 +66,15 @@ impl Packed {
     }
 }
 
+impl KeepsEntry for Packed {
+    ghost kept = { item };
+
+    #[inline(always)]
+    fn entry(&self) -> Entry {
+        item_of(self.val())
+    }
+}
+
 /// The values of items, in their order.
 pub fn packed_values_of(alloc: Global, parts: &[Entry]) -> Result<Vec<Packed>, AllocError>
     requires { AreItems parts.now }
@@ -76,22 +85,4 @@ pub fn packed_values_of(alloc: Global, parts: &[Entry]) -> Result<Vec<Packed>, A
         values.push(Packed::new(part.val))?;
     }
     Ok(values)
-}
-
-/// Goes over some items of these values from a position on, as `cg_kind::Kind::note_from` says it.
-#[inline(always)]
-pub fn note_packed(values: &[Packed], from: usize, found: &mut [u64]) -> Noted
-    requires within { from ≤ length values.now }
-    requires room { ROOM ≤ length found.old }
-    ensures next { result.next ≡ from + length (next_entries (map item values.now) from) }
-    ensures references { take result.references found.new ≡ references (next_entries (map item values.now) from) }
-    ensures few { result.references ≤ ROOM }
-    ensures room { length found.new ≡ length found.old }
-{
-    let next = from + AT_ONCE.min(values.len() - from);
-    let mut references = 0;
-    'values: for value in &values[from..next] {
-        references = note_entry(found, references, item_of(value.val()));
-    }
-    Noted { next, references }
 }

@@ -2,6 +2,7 @@
 ghost use Rattle.std.specs.Prelude.{◌≡◌};
 ghost use Rattle.cg_kind.specs.Calls.{has_key};
 
+use crate::kept::KeepsEntry;
 use crate::nine::Nine;
 use cg_value::{Entry, Val};
 use std::marker::Model;
@@ -33,15 +34,20 @@ impl Pair {
         }
     }
 
-    /// The entry.
+    /// The value.
     #[inline(always)]
-    pub fn entry(&self) -> Entry
-        ensures { result ≡ self.now }
+    pub fn val(&self) -> Val
+        ensures { result ≡ self.now.val }
     {
-        Entry {
-            key: self.key.val(),
-            val: self.val.val(),
-        }
+        self.val.val()
+    }
+
+    /// Writes another value. The key stays in its bytes.
+    #[inline(always)]
+    pub fn set_val(&mut self, val: Val)
+        ensures { self.new ≡ record { key = self.old.key; val = val } }
+    {
+        self.val = Nine::new(val);
     }
 
     /// Whether it has a key.
@@ -51,5 +57,17 @@ impl Pair {
         ensures { result ≡ has_key key.now self.now }
     {
         *key == self.key
+    }
+}
+
+impl KeepsEntry for Pair {
+    ghost kept = { λ p. p };
+
+    #[inline(always)]
+    fn entry(&self) -> Entry {
+        Entry {
+            key: self.key.val(),
+            val: self.val.val(),
+        }
     }
 }

@@ -5,6 +5,8 @@ ghost use Rattle.cg_kinds.specs.Contents.{fixed_body};
 use crate::body_slab::BodySlab;
 use crate::contents::Contents;
 use crate::items::{find_item, item_of, values_of};
+use crate::kept::note_slice;
+use cg_kind::Noted;
 use cg_value::{Entry, KindCode, Val};
 use std::alloc::{AllocError, Global};
 
@@ -37,6 +39,11 @@ impl Contents for TupleItems {
 
     fn entry_at(&self, i: usize) -> Entry {
         item_of(self.values[i])
+    }
+
+    #[inline(always)]
+    fn note_from(&self, from: usize, found: &mut [u64]) -> Noted {
+        note_slice(self.values.as_slice(), from, found)
     }
 
     fn find(&self, key: Val) -> Option<usize> {

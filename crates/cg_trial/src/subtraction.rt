@@ -60,7 +60,7 @@ fn lower_all<B: Kind, L: Ledger>(
     requires ready { IsReadyView (view_of heap.old) }
     requires live { IsTrue ((view_of heap.old).live object) }
     requires room { (o : ℕ) → Includes ((view_of heap.old).listed Place.Cand) o → occurrences o (references ((view_of heap.old).entries object)) ≤ (view_of heap.old).number o }
-    requires space { 16 ≤ length found.old }
+    requires space { ROOM ≤ length found.old }
     ensures lowered { Lowered (references ((view_of heap.old).entries object)) (view_of heap.old) (view_of heap.new) }
     ensures looks { steps.new ≡ steps.old + length ((view_of heap.old).entries object) }
     ensures space { length found.new ≡ length found.old }
@@ -142,7 +142,7 @@ fn take_back_all<B: Kind, L: Ledger>(
 )
     requires ready { IsReadyView (view_of heap.old) }
     requires live { IsTrue ((view_of heap.old).live object) }
-    requires space { 16 ≤ length found.old }
+    requires space { ROOM ≤ length found.old }
     ensures woken { Woken (references ((view_of heap.old).entries object)) (view_of heap.old) (view_of heap.new) }
     ensures looks { steps.new ≡ steps.old + length ((view_of heap.old).entries object) }
     ensures space { length found.new ≡ length found.old }

@@ -12,7 +12,7 @@ use super::Heap;
 use crate::counts::seat_near;
 use crate::steps::Steps;
 use cg_arena::{Head, Near};
-use cg_kind::{Kind, Noted};
+use cg_kind::{Kind, Noted, ROOM};
 use cg_value::{Entry, KindCode, Place};
 use std::sync::ledger::Ledger;
 
@@ -100,11 +100,11 @@ impl<B: Kind> Heap<B> {
     ) -> Noted
         requires live { IsLive self.now object }
         requires within { from ≤ length (entries_of self.now object) }
-        requires room { 16 ≤ length found.old }
+        requires room { ROOM ≤ length found.old }
         ensures next { result.next ≡ from + length (next_entries (entries_of self.now object) from) }
         ensures references { take result.references found.new ≡
             references (next_entries (entries_of self.now object) from) }
-        ensures few { result.references ≤ 16 }
+        ensures few { result.references ≤ ROOM }
         ensures room { length found.new ≡ length found.old }
         ensures steps { steps.new ≡ steps.old + length (next_entries (entries_of self.now object) from) }
     {

@@ -1,12 +1,13 @@
 use Rattle.std.proofs.Common.{◌∙◌, ◌-◌, ◌++◌, ◌∷◌, [], List, ℕ, None, Some, sym, ap, get_or, drop, length, arith, length-append}
 use Rattle.std.proofs.lemmas.List.{append-nil, get_or_default, length-drop}
-use Rattle.cg_kinds.proofs.SlotLemmas.{pair_read, indexes_more, first_eight, all_eight, none_told}
+use Rattle.cg_kind.specs.declared.notes.TheConstants.{AT_ONCE}
+use Rattle.cg_kinds.proofs.SlotLemmas.{pair_read, indexes_more, first_so_many, all_so_many, none_told}
 use Rattle.cg_kinds.proofs.slots.some_indexes.Goals as goal
 use Rattle.cg_kinds.proofs.slots.some_indexes.Goals.{in-Some, in_default}
 
 pub returns-then-len-eq-AT_ONCE : goal.returns-then-len-eq-AT_ONCE
 returns-then-len-eq-AT_ONCE c =
-    first_eight (drop c.args.first c.args.slots.now) (c.slots.slot - c.args.first) c.slots.some.items c.slots.invariant.some (omega (arith, c.if-len-eq-AT_ONCE.true, c.len.ensures))
+    first_so_many (drop c.args.first c.args.slots.now) (c.slots.slot - c.args.first) AT_ONCE c.slots.some.items c.slots.invariant.some (omega (arith, c.if-len-eq-AT_ONCE.true, c.len.ensures))
 
 pub slots-preserved : goal.slots-preserved
 slots-preserved c =
@@ -33,5 +34,5 @@ slots-preserved c =
 
 pub returns : goal.returns
 returns c =
-    all_eight (drop c.args.first c.args.slots.now) (c.slots.slot - c.args.first) c.slots.some.items c.slots.invariant.some
+    all_so_many (drop c.args.first c.args.slots.now) (c.slots.slot - c.args.first) AT_ONCE c.slots.some.items c.slots.invariant.some
     (omega (arith, c.slots-test.false, length-drop c.args.first c.args.slots.now)) c.slots.invariant.few

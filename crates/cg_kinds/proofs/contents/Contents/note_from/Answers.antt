@@ -1,6 +1,7 @@
 use Rattle.std.proofs.Common.{◌∙◌, ◌++◌, ◌-◌, List, ℕ, ap, sym, arith, drop, take}
 use Rattle.std.proofs.lemmas.List.{length-drop, length-take}
 use Rattle.cg_graph.specs.Value.{entry_references, references}
+use Rattle.cg_kind.specs.declared.notes.TheConstants.{AT_ONCE}
 use Rattle.cg_kind.proofs.References.{note_more, take_again}
 use Rattle.cg_kinds.proofs.contents.Contents.note_from.Goals as goal
 
@@ -10,8 +11,8 @@ returns-clause-references g c =
     let rest = drop c.args.from all in
     let n = c.entries.i - c.args.from in
     ◌∙◌ {b = references (take n rest)} c.entries.invariant.noted
-    (ap references (take_again rest n 8
-    (omega (arith, c.entries-test.false, c.entries.auto.i-end, c.min.ensures, c.len.ensures, length-take 8 rest, length-drop c.args.from all))))
+    (ap references (take_again rest n AT_ONCE
+    (omega (arith, c.entries-test.false, c.entries.auto.i-end, c.min.ensures, c.len.ensures, length-take AT_ONCE rest, length-drop c.args.from all))))
 
 pub entries-preserved : goal.entries-preserved
 entries-preserved g c = record {

@@ -1,4 +1,5 @@
 use Rattle.std.proofs.Common.{◌≡◌, ◌∙◌, ap, sym, drop, take}
+use Rattle.cg_kind.specs.declared.notes.TheConstants.{AT_ONCE}
 use Rattle.cg_kinds.specs.Order.{indexes, pairs_before}
 use Rattle.cg_kinds.proofs.SlotLemmas.{indexes_behind}
 use Rattle.cg_kinds.proofs.OrderLemmas.{sound_order, some_within}
@@ -10,9 +11,9 @@ returns-then-i-len-clause-indexes c =
     let slot = c.slot_of-slot.result in
     let before : pairs_before items slot ≡ c.args.i = ap (λ l. pairs_before l slot) (sym c.as_slice.ensures.value) ∙ c.slot_of-slot.ensures.before in
     c.some_indexes.ensures
-    ∙ ap (λ l. take 8 (indexes (drop slot l))) c.as_slice-then-i-len.ensures.value
-    ∙ ap (take 8) (indexes_behind items slot c.args.i before)
-    ∙ ap (λ l. take 8 (drop c.args.i l)) c.self.view_is
+    ∙ ap (λ l. take AT_ONCE (indexes (drop slot l))) c.as_slice-then-i-len.ensures.value
+    ∙ ap (take AT_ONCE) (indexes_behind items slot c.args.i before)
+    ∙ ap (λ l. take AT_ONCE (drop c.args.i l)) c.self.view_is
 
 pub returns-then-i-len-clause-within : goal.returns-then-i-len-clause-within
 returns-then-i-len-clause-within c =

@@ -3,6 +3,7 @@ use Rattle.cg_value.specs.declared.Entry.{Entry}
 use Rattle.std.proofs.lemmas.List.{length-map, length-take, length-drop, take-map, drop-map}
 use Rattle.std.specs.Prelude.{slice_index_or}
 use Rattle.cg_graph.specs.Value.{references}
+use Rattle.cg_kind.specs.declared.notes.TheConstants.{AT_ONCE}
 use Rattle.cg_kinds.specs.Pairs.{pairs_of, ordered, picked, nothing, unboxed, IsOrderOf}
 use Rattle.cg_kinds.proofs.table.Table.note_from.Goals as goal
 
@@ -14,7 +15,7 @@ returns-in-Some-clause-next c =
     let view : picked (pairs_of pairs) order ≡ c.args.self.now = sym (ap (ordered pairs) is) ∙ c.self.view_is in
     let long : length order ≡ length pairs = subst (IsOrderOf (length pairs)) is c.self.invariant in
     let all = sym (ap length view) ∙ length-map order (λ index. slice_index_or (pairs_of pairs) index nothing) ∙ long in
-    omega (arith, all, c.len.ensures.len, c.min.ensures, length-take 8 (drop c.args.from c.args.self.now), length-drop c.args.from c.args.self.now)
+    omega (arith, all, c.len.ensures.len, c.min.ensures, length-take AT_ONCE (drop c.args.from c.args.self.now), length-drop c.args.from c.args.self.now)
 
 pub returns-in-Some-clause-references : goal.returns-in-Some-clause-references
 returns-in-Some-clause-references c =
@@ -24,5 +25,5 @@ returns-in-Some-clause-references c =
     let view : picked (pairs_of pairs) order ≡ c.args.self.now = sym (ap (ordered pairs) is) ∙ c.self.view_is in
     let pick : ℕ → Entry = λ index. slice_index_or (pairs_of pairs) index nothing in
     c.note_at-references.ensures.references
-    ∙ ap (λ l. references (picked (pairs_of pairs) l)) (c.as_slice.ensures.value ∙ c.some_from-some.ensures.indexes ∙ ap (λ l. take 8 (drop c.args.from l)) c.deref.ensures)
-    ∙ ap references (sym (take-map pick 8 (drop c.args.from order)) ∙ ap (take 8) (sym (drop-map pick c.args.from order)) ∙ ap (λ es. take 8 (drop c.args.from es)) view)
+    ∙ ap (λ l. references (picked (pairs_of pairs) l)) (c.as_slice.ensures.value ∙ c.some_from-some.ensures.indexes ∙ ap (λ l. take AT_ONCE (drop c.args.from l)) c.deref.ensures)
+    ∙ ap references (sym (take-map pick AT_ONCE (drop c.args.from order)) ∙ ap (take AT_ONCE) (sym (drop-map pick c.args.from order)) ∙ ap (λ es. take AT_ONCE (drop c.args.from es)) view)
