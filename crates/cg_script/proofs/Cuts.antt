@@ -101,13 +101,36 @@ same_place : (bytes : List ℕ) → (position_or_len odd bytes < length bytes �
 same_place [] h = refl
 same_place (b ∷ bs) h = step_same b (position_or_len odd bs) (position_or_len (λ c. c == 10) bs) bs (is_printable b) refl (same_place bs) h
 
-before_odd : (bytes : List ℕ) → list_all is_printable (take (position_or_len odd bytes) bytes) ≡ true
-before_odd [] = refl
-before_odd (b ∷ bs) = by (is_printable b) refl (before_odd bs)
-  where
-    by : (t : Bool) → is_printable b ≡ t → list_all is_printable (take (position_or_len odd bs) bs) ≡ true → list_all is_printable (take (cond (not (not t)) (1 + position_or_len odd bs) 0) (b ∷ bs)) ≡ true
-    by false e later = refl
-    by true e later = rw (one_more (position_or_len odd bs) b bs) (ap (λ t. t && list_all is_printable (take (position_or_len odd bs) bs)) e ∙ later)
+-- the bytes before the first one at which a search stops
+module _ (stops passes : ℕ → Bool) (turned : (b : ℕ) → passes b ≡ not (stops b)) where
+  before_stop : (bytes : List ℕ) → list_all passes (take (position_or_len stops bytes) bytes) ≡ true
+  before_stop [] = refl
+  before_stop (b ∷ bs) = by (stops b) refl (before_stop bs)
+    where
+      by : (t : Bool) → stops b ≡ t → list_all passes (take (position_or_len stops bs) bs) ≡ true → list_all passes (take (cond (not t) (1 + position_or_len stops bs) 0) (b ∷ bs)) ≡ true
+      by true e later = refl
+      by false e later = rw (one_more (position_or_len stops bs) b bs) (ap (λ t. t && list_all passes (take (position_or_len stops bs) bs)) (turned b ∙ ap not e) ∙ later)
+
+  pub passes_before : (i : ℕ) (bytes : List ℕ) → position stops bytes ≡ Some i → list_all passes (take i bytes) ≡ true
+  passes_before i bytes e =
+      let at = found (position_or_len stops bytes) (length bytes) i e in
+      ap (λ k. list_all passes (take k bytes)) (sym at.0) ∙ before_stop bytes
+
+  pub all_pass : (bytes : List ℕ) → position stops bytes ≡ None → list_all passes bytes ≡ true
+  all_pass bytes e =
+      let far : length bytes ≤ position_or_len stops bytes = absent (position_or_len stops bytes) (length bytes) e in
+      ap (list_all passes) (sym (take_all (position_or_len stops bytes) bytes far)) ∙ before_stop bytes
+
+not_not : (t : Bool) → t ≡ not (not t)
+not_not true = refl
+not_not false = refl
+
+-- so are those of a line printable
+pub line_is_printable : (i : ℕ) (bytes : List ℕ) → position odd bytes ≡ Some i → list_all is_printable (take i bytes) ≡ true
+line_is_printable = passes_before odd is_printable (λ b. not_not (is_printable b))
+
+pub last_is_printable : (bytes : List ℕ) → position odd bytes ≡ None → list_all is_printable bytes ≡ true
+last_is_printable = all_pass odd is_printable (λ b. not_not (is_printable b))
 
 -- the first line ends at its first byte that is not printable, if that is a line feed
 pub line_at : (i : ℕ) (bytes : List ℕ) → position odd bytes ≡ Some i → get_or bytes i 0 ≡ 10
@@ -117,11 +140,6 @@ line_at i bytes e feed =
     let same : position_or_len (λ b. b == 10) bytes ≡ position_or_len odd bytes = same_place bytes (λ within. ap (λ k. get_or bytes k 0) at.0 ∙ feed) in
     cut_at 10 i bytes (ap (λ k. cond (nat_lt k (length bytes)) (Some k) None) same ∙ e)
 
-pub line_is_printable : (i : ℕ) (bytes : List ℕ) → position odd bytes ≡ Some i → list_all is_printable (take i bytes) ≡ true
-line_is_printable i bytes e =
-    let at = found (position_or_len odd bytes) (length bytes) i e in
-    ap (λ k. list_all is_printable (take k bytes)) (sym at.0) ∙ before_odd bytes
-
 -- a last line with no line feed
 pub last_line : (bytes : List ℕ) → 0 < length bytes → position odd bytes ≡ None
     → lines_of bytes ≡ bytes ∷ lines_of (take (length bytes - length bytes) (drop (length bytes) bytes))
@@ -129,11 +147,6 @@ last_line bytes some e =
     let far : length bytes ≤ position_or_len odd bytes = absent (position_or_len odd bytes) (length bytes) e in
     let same : position_or_len (λ b. b == 10) bytes ≡ position_or_len odd bytes = same_place bytes (λ within. absurd (omega arith)) in
     cut_none 10 bytes some (ap (λ k. cond (nat_lt k (length bytes)) (Some k) None) same ∙ e)
-
-pub last_is_printable : (bytes : List ℕ) → position odd bytes ≡ None → list_all is_printable bytes ≡ true
-last_is_printable bytes e =
-    let far : length bytes ≤ position_or_len odd bytes = absent (position_or_len odd bytes) (length bytes) e in
-    ap (list_all is_printable) (sym (take_all (position_or_len odd bytes) bytes far)) ∙ before_odd bytes
 
 same_head : (a b : List ℕ) (after later : List (List ℕ)) → a ∷ after ≡ b ∷ later → a ≡ b
 same_head a b after later e = cc
@@ -150,9 +163,11 @@ far_feed i p bytes ep within before other = by (nat_lt i p) refl
     feed l =
         let s : not (get_or bytes p 0 == 10) ≡ false = ap (λ k. not (get_or bytes k 0 == 10)) ep ∙ prefix_len_stops (λ b. not (b == 10)) bytes 0 (subst (λ k. k < length bytes) ep l) in
         grind (arith, nat_tests, s)
+
     first : p ≤ i → (t : Bool) → nat_lt p i ≡ t → i < p
     first l true t = let b = before p (ltb-true p i t) in let f = ap odd (feed (omega (arith, l, within))) in absurd (cc)
     first l false t = let n : i ≡ p = omega (arith, ltb-false p i t, l) in absurd (other (ap (λ k. get_or bytes k 0) n ∙ feed (omega (arith, l, within))))
+
     by : (t : Bool) → nat_lt i p ≡ t → i < p
     by true t = ltb-true i p t
     by false t = first (ltb-false i p t) (nat_lt p i) refl

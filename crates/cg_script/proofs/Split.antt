@@ -1,11 +1,9 @@
 -- The words at the front of some bytes.
-use Rattle.std.proofs.Common.{◌≡◌, ◌≢◌, ℕ, zero, suc, ◌+◌, ◌-◌, ◌<◌, ◌≤◌, List, [], ◌∷◌, ◌++◌, length, take, drop, map, filter, get_or, Bool, true, false, cond, not, ◌&&◌, ◌||◌, ◌==◌, refl, sym, ap, ◌∙◌, arith, nat_lt, Some, None, position, unwrap_or, length-append, length-drop, append_assoc, append-nil}
+use Rattle.std.proofs.Common.{◌≡◌, ◌≢◌, ℕ, zero, suc, ◌+◌, ◌-◌, ◌<◌, ◌≤◌, List, [], ◌∷◌, ◌++◌, length, take, drop, filter, get_or, Bool, true, false, cond, not, ◌&&◌, ◌||◌, ◌==◌, refl, sym, ap, ◌∙◌, arith, nat_lt, Some, None, position, length-append, length-drop, append_assoc, append-nil}
 use Rattle.std.proofs.lemmas.Bool.Decides.{nat_tests}
 use Rattle.std.proofs.lemmas.List.{take_all, take_more, take-append-drop, length-take-le, get_or-drop, take-append-le, get_or-take, length-take}
 use Rattle.std.proofs.lemmas.List.Quantifiers.{position-Some}
 use Rattle.std.proofs.Math.Seq.{take-add}
-use Rattle.std.proofs.Math.ListN.{drop_of_length-le}
-use Rattle.std.proofs.Math.Numerals.{one-add}
 use Rattle.std.specs.List.{list_all, position_or_len}
 use Rattle.cg_script.specs.Pieces.{pieces, onto, has_bytes, words_of}
 use Rattle.cg_script.specs.Words.{is_printable}
@@ -15,7 +13,7 @@ use Rattle.std.proofs.lemmas.List.{length-map, map-append}
 use Rattle.cg_script.proofs.Places.{texts_of}
 use Rattle.std.proofs.lemmas.List.Folds.{list_all-append}
 use Rattle.std.proofs.lemmas.List.Sums.{prefix_len_is}
-use Rattle.cg_script.proofs.Cuts.{odd, empty_piece, full_piece, found, absent, all_taken}
+use Rattle.cg_script.proofs.Cuts.{odd, empty_piece, full_piece, all_taken, passes_before, all_pass}
 
 is_below : (n m : ℕ) → n < m → nat_lt n m ≡ true
 is_below n m h = grind (arith, nat_tests)
@@ -119,25 +117,13 @@ module _ (words : List (Bor (List ℕ))) where
       ap texts_of e ∙ map-append (λ w. w.now) words (piece ∷ [])
       ∙ sym (ap (λ t. take 65 (texts_of words ++ cond t (piece.now ∷ []) [])) (full_piece piece.now some) ∙ take_all 65 (texts_of words ++ piece.now ∷ []) l)
 
-plain_front : (bytes : List ℕ) → list_all plain (take (position_or_len ends bytes) bytes) ≡ true
-plain_front [] = refl
-plain_front (b ∷ bs) = by (ends b) refl (plain_front bs)
-  where
-    by : (t : Bool) → ends b ≡ t → list_all plain (take (position_or_len ends bs) bs) ≡ true → list_all plain (take (cond (not t) (1 + position_or_len ends bs) 0) (b ∷ bs)) ≡ true
-    by true e later = refl
-    by false e later = rw one-add (ap (λ t. not t && list_all plain (take (position_or_len ends bs) bs)) e ∙ later)
-
 -- the bytes before the first that ends a word
 word_at_end : (i : ℕ) (bytes : List ℕ) → position ends bytes ≡ Some i → list_all plain (take i bytes) ≡ true
-word_at_end i bytes e =
-    let at = found (position_or_len ends bytes) (length bytes) i e in
-    ap (λ k. list_all plain (take k bytes)) (sym at.0) ∙ plain_front bytes
+word_at_end = passes_before ends plain (λ b. refl)
 
 -- all bytes, where none ends a word
 word_at_last : (bytes : List ℕ) → position ends bytes ≡ None → list_all plain bytes ≡ true
-word_at_last bytes e =
-    let far : length bytes ≤ position_or_len ends bytes = absent (position_or_len ends bytes) (length bytes) e in
-    ap (list_all plain) (sym (take_all (position_or_len ends bytes) bytes far)) ∙ plain_front bytes
+word_at_last = all_pass ends plain (λ b. refl)
 
 printable_at : (bytes : List ℕ) (k : ℕ) → list_all is_printable bytes ≡ true → k < length bytes → not (odd (get_or bytes k 0)) ≡ true
 printable_at [] k h within = absurd (omega (arith, within))
@@ -149,7 +135,7 @@ pub place_some : (n : ℕ) (bytes : List ℕ) → n < length bytes → list_all 
 place_some n bytes within h stop =
     let few : n ≤ length bytes = omega (arith, within) in
     let passes : (k : ℕ) → k < n → not (odd (get_or bytes k 0)) ≡ true =
-        λ k l. ap (λ b. not (odd b)) (sym (get_or-take n bytes k 0 l)) ∙ printable_at (take n bytes) k h (omega (arith, l, length-take-le n bytes few)) in
+    λ k l. ap (λ b. not (odd b)) (sym (get_or-take n bytes k 0 l)) ∙ printable_at (take n bytes) k h (omega (arith, l, length-take-le n bytes few)) in
     let is : position_or_len odd bytes ≡ n = prefix_len_is (λ b. not (odd b)) bytes n 0 few passes (λ w. ap not stop) in
     sym (ap (λ k. cond (nat_lt k (length bytes)) (Some k) None) is ∙ ap (λ t. cond t (Some n) None) (is_below n (length bytes) within))
 

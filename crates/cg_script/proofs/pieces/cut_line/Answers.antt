@@ -1,6 +1,4 @@
-use Rattle.std.proofs.Common.{sym, ap, ◌∙◌, take}
-use Rattle.cg_script.specs.Pieces.{words_of}
-use Rattle.std.proofs.Math.Seq.{take-length}
+use Rattle.std.proofs.Common.{sym}
 use Rattle.cg_script.proofs.Cuts.{line_at, line_is_printable, last_line, last_is_printable, odd_line}
 use Rattle.cg_script.proofs.pieces.cut_line.Goals as goal
 

@@ -1,11 +1,11 @@
-use Rattle.std.proofs.Common.{◌≡◌, ap, sym, ◌∙◌, arith, length, take, drop, ◌++◌, ◌∷◌, [], filter, subst, take-add, take-append-drop, take_all}
+use Rattle.std.proofs.Common.{◌≡◌, ap, sym, ◌∙◌, arith, take, drop, ◌++◌, ◌∷◌, [], filter, subst, take-add, take-append-drop, take_all}
 use Rattle.std.proofs.Math.Seq.{take-length}
 use Rattle.std.specs.List.{list_all}
 use Rattle.cg_script.specs.Words.{is_printable}
 use Rattle.cg_script.proofs.Cuts.{all_taken}
 use Rattle.cg_script.specs.Pieces.{has_bytes, words_of}
 use Rattle.cg_script.proofs.Places.{texts_of}
-use Rattle.cg_script.proofs.Split.{AreFirst, first_more, first_last, first_all, few_found, length-texts, word_here, within_here, same_piece, printable_here, place_here, done_behind, printable_behind, word_last, printable_last, place_none}
+use Rattle.cg_script.proofs.Split.{AreFirst, first_more, first_last, first_all, few_found, length-texts, word_here, within_here, same_piece, place_here, done_behind, printable_behind, word_last, printable_last, place_none}
 use Rattle.cg_script.proofs.pieces.find_words.Goals as goal
 
 pub words-preserved : goal.words-preserved
