@@ -1,11 +1,12 @@
 //! Objects that are made.
-ghost use Rattle.std.specs.Prelude.{◌≡◌, ◌<◌, ◌≤◌, ◌+◌, ◌↔◌, ◌++◌, ◌∷◌, [], ℕ, IfOk, IfSome, OnOk, OnErr, Some, None, Err, true, length, slice_get};
+ghost use Rattle.std.specs.Prelude.{◌≡◌, ◌<◌, ◌≤◌, ◌+◌, ◌↔◌, ◌++◌, ◌∷◌, [], ℕ, List, IfOk, IfSome, OnOk, OnErr, Some, None, Err, true, length, map, slice_get};
 ghost use Rattle.std.specs.List.{All};
 ghost use Rattle.cg_value.specs.declared.KindCode.TheVariants as code;
+ghost use Rattle.cg_value.specs.declared.Val.{Val as AnyVal};
 ghost use Rattle.cg_value.specs.declared.Val.TheVariants as val_of;
 ghost use Rattle.cg_kind.specs.Calls.{IsParts};
 ghost use Rattle.cg_graph.specs.Changes.{held, unheld, named, made};
-ghost use Rattle.cg_graph.specs.Value.{references_of_value};
+ghost use Rattle.cg_graph.specs.Value.{item, references_of_value};
 ghost use Rattle.cg_graph.specs.Store.{IsLive, outside_of};
 ghost use Rattle.cg_script.specs.Texts.{operand_texts, operands_texts};
 ghost use Rattle.cg_script.specs.declared.command.Command.TheVariants as command;
@@ -16,7 +17,7 @@ ghost use Rattle.cg_heap.specs.Weak.{HasReferent, attached};
 ghost use Rattle.cg_machine.specs.Commands.{effect};
 ghost use Rattle.cg_machine.specs.Effects.{makes};
 ghost use Rattle.cg_commands.specs.Answers.{PerformsOnHeap};
-ghost use Rattle.cg_commands.specs.Parts.{AreLive};
+ghost use Rattle.cg_commands.specs.Parts.{AreLive, makes_of};
 ghost use Rattle.cg_commands.specs.Stands.{LocalsLive};
 
 use crate::bindings::given_up;
@@ -50,42 +51,7 @@ pub(crate) fn make_list<B: Kind>(
     ensures performs { PerformsOnHeap heap.old locals.now (λ w. effect w (command.MakeList name items.now)) heap.new result }
     ensures room { OnOk result (room ≡ true) }
 {
-    if items.len() <= FEW {
-        make_list_within::<B, FEW>(heap, locals, name, items, room)
-    } else {
-        make_list_within::<B, 64>(heap, locals, name, items, room)
-    }
-}
-
-/// `make_list` of at most `N` values.
-#[inline(never)]
-fn make_list_within<B: Kind, const N: usize>(
-    heap: &mut Heap<B>,
-    locals: &Option<Locals>,
-    name: u32,
-    items: &[Operand],
-    room: bool,
-) -> Result<Done, Refusal>
-    requires known { All (λ n. n < length heap.old.names) (name ∷ operands_texts items.now) }
-    requires most { N ≤ 64 }
-    requires count { length items.now ≤ N }
-    requires locals { LocalsLive heap.old locals.now }
-    requires few { HasFewHolds heap.old }
-    requires last { heap.old.last < 9223372036854775808 }
-    ensures performs { PerformsOnHeap heap.old locals.now (λ w. effect w (command.MakeList name items.now)) heap.new result }
-    ensures room { OnOk result (room ≡ true) }
-{
-    let parts = gather::<B, N>(heap, locals, items)?;
-    make_bound(
-        heap,
-        locals,
-        name,
-        KindCode::List,
-        None,
-        parts.as_slice(),
-        None,
-        room,
-    )
+    make_sequence(heap, locals, name, KindCode::List, items, room)
 }
 
 /// `x = tuple v v*`: a new tuple.
@@ -104,29 +70,57 @@ pub(crate) fn make_tuple<B: Kind>(
     ensures performs { PerformsOnHeap heap.old locals.now (λ w. effect w (command.MakeTuple name items.now)) heap.new result }
     ensures room { OnOk result (room ≡ true) }
 {
-    if items.len() <= FEW {
-        make_tuple_within::<B, FEW>(heap, locals, name, items, room)
-    } else {
-        make_tuple_within::<B, 64>(heap, locals, name, items, room)
-    }
+    make_sequence(heap, locals, name, KindCode::Tuple, items, room)
 }
 
-/// `make_tuple` of at most `N` values.
-#[inline(never)]
-fn make_tuple_within<B: Kind, const N: usize>(
+/// A list or a tuple.
+fn make_sequence<B: Kind>(
     heap: &mut Heap<B>,
     locals: &Option<Locals>,
     name: u32,
+    code: KindCode,
+    items: &[Operand],
+    room: bool,
+) -> Result<Done, Refusal>
+    requires known { All (λ n. n < length heap.old.names) (name ∷ operands_texts items.now) }
+    requires count { length items.now ≤ 64 }
+    requires parts { (vs : List AnyVal) → IsParts code (map item vs) }
+    requires class { HasClass code None }
+    requires referent { HasReferent code None }
+    requires locals { LocalsLive heap.old locals.now }
+    requires few { HasFewHolds heap.old }
+    requires last { heap.old.last < 9223372036854775808 }
+    ensures performs { PerformsOnHeap heap.old locals.now (λ w. makes_of w name code None items.now) heap.new result }
+    ensures room { OnOk result (room ≡ true) }
+{
+    if items.len() <= FEW {
+        make_of::<B, FEW>(heap, locals, name, code, None, items, room)
+    } else {
+        make_of::<B, 64>(heap, locals, name, code, None, items, room)
+    }
+}
+
+/// Makes an object of the values of at most `N` operands, and binds it to a name.
+#[inline(never)]
+fn make_of<B: Kind, const N: usize>(
+    heap: &mut Heap<B>,
+    locals: &Option<Locals>,
+    name: u32,
+    code: KindCode,
+    class: Option<u32>,
     items: &[Operand],
     room: bool,
 ) -> Result<Done, Refusal>
     requires known { All (λ n. n < length heap.old.names) (name ∷ operands_texts items.now) }
     requires most { N ≤ 64 }
     requires count { length items.now ≤ N }
+    requires parts { (vs : List AnyVal) → length vs ≤ N → IsParts code (map item vs) }
+    requires class { HasClass code class }
+    requires referent { HasReferent code None }
     requires locals { LocalsLive heap.old locals.now }
     requires few { HasFewHolds heap.old }
     requires last { heap.old.last < 9223372036854775808 }
-    ensures performs { PerformsOnHeap heap.old locals.now (λ w. effect w (command.MakeTuple name items.now)) heap.new result }
+    ensures performs { PerformsOnHeap heap.old locals.now (λ w. makes_of w name code class items.now) heap.new result }
     ensures room { OnOk result (room ≡ true) }
 {
     let parts = gather::<B, N>(heap, locals, items)?;
@@ -134,8 +128,8 @@ fn make_tuple_within<B: Kind, const N: usize>(
         heap,
         locals,
         name,
-        KindCode::Tuple,
-        None,
+        code,
+        class,
         parts.as_slice(),
         None,
         room,
@@ -187,7 +181,6 @@ pub(crate) fn make_instance<B: Kind>(
 }
 
 /// `x = func P v*`: a new function of a procedure, with at most 8 cells.
-#[inline(never)]
 pub(crate) fn make_function<B: Kind>(
     heap: &mut Heap<B>,
     locals: &Option<Locals>,
@@ -204,17 +197,7 @@ pub(crate) fn make_function<B: Kind>(
     ensures performs { PerformsOnHeap heap.old locals.now (λ w. effect w (command.MakeFunc name proc cells.now)) heap.new result }
     ensures room { OnOk result (room ≡ true) }
 {
-    let parts = gather::<B, 8>(heap, locals, cells)?;
-    make_bound(
-        heap,
-        locals,
-        name,
-        KindCode::Func,
-        Some(proc),
-        parts.as_slice(),
-        None,
-        room,
-    )
+    make_of::<B, 8>(heap, locals, name, KindCode::Func, Some(proc), cells, room)
 }
 
 /// `x = ref y [f]`: a new weak reference to an instance or a function, with a callback or none.

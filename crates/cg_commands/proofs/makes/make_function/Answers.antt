@@ -1,42 +1,8 @@
-use Rattle.std.proofs.Common.{◌≡◌, ◌∙◌, ap, subst, ℕ, ◌<◌, ◌≤◌, List, length, Some, None, arith}
-use Rattle.std.proofs.lemmas.List.Elements.{All-head}
-use Rattle.std.proofs.lemmas.Result.{err_from_is_err_and}
-use Rattle.cg_machine.specs.Operands.{values}
-use Rattle.cg_commands.proofs.Chains.{stops, goes_on}
-use Rattle.std.proofs.lemmas.List.Elements.{All-tail}
+use Rattle.std.proofs.Common.{refl, map, arith}
+use Rattle.std.proofs.lemmas.List.{length-map}
+use Rattle.cg_graph.specs.Value.{item}
 use Rattle.cg_commands.proofs.PartLemmas.{items-are}
-use Rattle.cg_commands.specs.Answers.{PerformsOnHeap}
-use Rattle.cg_machine.specs.Effects.{makes}
-use Rattle.cg_value.specs.declared.KindCode.TheVariants as kind
-use Rattle.cg_script.specs.Texts.{operands_texts}
 use Rattle.cg_commands.proofs.makes.make_function.Goals as goal
 
-few_cells : {X : Type 0} (xs ys : List X) → xs ≡ ys → {n k : ℕ} → length ys ≡ n → n ≤ k → length xs ≤ k
-few_cells xs ys same {n} {k} counted few = let is : length xs ≡ length ys = ap length same in omega (arith, is, counted, few)
-
-pub returns-in_err-parts : goal.returns-in_err-parts
-returns-in_err-parts g c =
-    let p = err_from_is_err_and c.from_residual.result c.from_residual.ensures.1 in record {
-      performs = rw (p.1, p.2)
-          (stops c.args.heap.now c.args.locals.now (λ w. values w c.args.cells.now) _ c.in_err-parts.field-0.0 c.in_err-parts.ensures.err);
-      room = rw p.1 tt;
-    }
-
-pub gather-requires : goal.gather-requires
-gather-requires g c = (omega arith, (All-tail (λ n. n < length c.args.heap.now.names) c.args.name (operands_texts c.args.cells.now) c.requires.known, (c.requires.locals, c.requires.count)))
-
-pub make_bound-requires-clause-name : goal.make_bound-requires-clause-name
-make_bound-requires-clause-name g c =
-    All-head (λ n. n < length c.args.heap.now.names) c.args.name (operands_texts c.args.cells.now) c.requires.known
-
-pub make_bound-requires-clause-parts : goal.make_bound-requires-clause-parts
-make_bound-requires-clause-parts g c =
-    (items-are c.in_ok-parts.ensures.ok.vals c.as_slice.result.now (c.as_slice.ensures ∙ c.in_ok-parts.ensures.ok.items), few_cells c.as_slice.result.now c.in_ok-parts.parts c.as_slice.ensures c.in_ok-parts.ensures.ok.counted c.requires.count)
-
-pub returns : goal.returns
-returns g c = record {
-  performs =
-      (goes_on c.args.heap.now c.make_bound.new.heap c.args.locals.now (λ w. values w c.args.cells.now) c.in_ok-parts.ensures.ok.vals _ c.make_bound.result c.in_ok-parts.ensures.ok.reads
-      (subst (λ ps. PerformsOnHeap c.args.heap.now c.args.locals.now (λ w. makes w c.args.name kind.Func (Some c.args.proc) ps None) c.make_bound.new.heap c.make_bound.result) (c.as_slice.ensures ∙ c.in_ok-parts.ensures.ok.items) c.make_bound.ensures.performs));
-  room = c.make_bound.ensures.room;
-}
+pub make_of-requires-clause-parts : goal.make_of-requires-clause-parts
+make_of-requires-clause-parts g c = λ vs few. (items-are vs (map item vs) refl, omega (arith, few, length-map vs item))

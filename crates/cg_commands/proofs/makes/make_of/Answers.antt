@@ -1,15 +1,16 @@
-use Rattle.std.proofs.Common.{arith, ◌∙◌, subst, ◌<◌, length, None}
+use Rattle.std.proofs.Common.{arith, ◌≡◌, ◌∙◌, ap, sym, subst, ◌<◌, length, None}
+use Rattle.std.proofs.lemmas.List.{length-map}
+use Rattle.cg_graph.specs.Value.{item}
+use Rattle.cg_kind.specs.Calls.{IsParts}
 use Rattle.std.proofs.lemmas.List.Elements.{All-head}
 use Rattle.std.proofs.lemmas.Result.{err_from_is_err_and}
 use Rattle.cg_machine.specs.Operands.{values}
 use Rattle.cg_commands.proofs.Chains.{stops, goes_on}
 use Rattle.std.proofs.lemmas.List.Elements.{All-tail}
-use Rattle.cg_commands.proofs.PartLemmas.{items-are}
 use Rattle.cg_commands.specs.Answers.{PerformsOnHeap}
 use Rattle.cg_machine.specs.Effects.{makes}
-use Rattle.cg_value.specs.declared.KindCode.TheVariants as kind
 use Rattle.cg_script.specs.Texts.{operands_texts}
-use Rattle.cg_commands.proofs.makes.make_list_within.Goals as goal
+use Rattle.cg_commands.proofs.makes.make_of.Goals as goal
 
 pub returns-in_err-parts : goal.returns-in_err-parts
 returns-in_err-parts g c =
@@ -28,13 +29,16 @@ make_bound-requires-clause-name g c =
 
 pub make_bound-requires-clause-parts : goal.make_bound-requires-clause-parts
 make_bound-requires-clause-parts g c =
-    items-are c.in_ok-parts.ensures.ok.vals c.as_slice.result.now (c.as_slice.ensures ∙ c.in_ok-parts.ensures.ok.items)
+    let found = c.in_ok-parts.ensures.ok in
+    let items = c.as_slice.ensures ∙ found.items in
+    let as_many : length found.vals ≡ length c.args.items.now = sym (ap length found.items ∙ length-map found.vals item) ∙ found.counted in
+    subst (λ ps. IsParts c.args.code ps) (sym items) (c.requires.parts found.vals (omega (arith, as_many, c.requires.count)))
 
 pub returns : goal.returns
 returns g c = record {
   performs =
       (goes_on c.args.heap.now c.make_bound.new.heap c.args.locals.now (λ w. values w c.args.items.now) c.in_ok-parts.ensures.ok.vals _ c.make_bound.result c.in_ok-parts.ensures.ok.reads
-      (subst (λ ps. PerformsOnHeap c.args.heap.now c.args.locals.now (λ w. makes w c.args.name kind.List None ps None) c.make_bound.new.heap c.make_bound.result) (c.as_slice.ensures ∙ c.in_ok-parts.ensures.ok.items) c.make_bound.ensures.performs));
+      (subst (λ ps. PerformsOnHeap c.args.heap.now c.args.locals.now (λ w. makes w c.args.name c.args.code c.args.class ps None) c.make_bound.new.heap c.make_bound.result) (c.as_slice.ensures ∙ c.in_ok-parts.ensures.ok.items) c.make_bound.ensures.performs));
   room = c.make_bound.ensures.room;
 }
 
