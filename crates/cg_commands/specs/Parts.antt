@@ -1,6 +1,5 @@
 -- The entries that the operands of a command make. (Ours.)
-use Rattle.std.specs.Prelude.{◌≡◌, ℕ, ◌<◌, ◌≤◌, List, Option, None, Result, map, length}
-use Rattle.cg_value.specs.declared.KindCode.{KindCode}
+use Rattle.std.specs.Prelude.{◌≡◌, ℕ, ◌<◌, ◌≤◌, List, Option, map, length}
 use Rattle.cg_value.specs.declared.Val.{Val}
 use Rattle.cg_value.specs.declared.Entry.{Entry}
 use Rattle.cg_script.specs.declared.command.Operand.{Operand}
@@ -8,9 +7,7 @@ use Rattle.cg_graph.specs.Holdings.{occurrences}
 use Rattle.cg_graph.specs.Value.{item, references}
 use Rattle.cg_graph.specs.Store.{Store, IsLive}
 use Rattle.cg_machine.specs.Operands.{values}
-use Rattle.cg_machine.specs.World.{World}
-use Rattle.cg_machine.specs.Refusals.{◌>>=◌}
-use Rattle.cg_machine.specs.Effects.{Effect, callback_entries, makes}
+use Rattle.cg_machine.specs.Effects.{callback_entries}
 use Rattle.cg_commands.specs.declared.locals.Locals.{Locals}
 use Rattle.cg_commands.specs.Stands.{Reads}
 
@@ -33,9 +30,3 @@ pub record IsCallback (store : Store) (locals : Option Locals) (callback : Val) 
   pub items : parts ≡ map item vals
   pub single : length parts ≤ 1
   pub live : AreLive store parts
-
--- an object is made of the values of operands, and bound to a name
-abbrev pub makes_of : World → ℕ → KindCode → Option ℕ → List Operand → Result Effect ℕ
-makes_of w name kind class operands = do
-  vs ← values w operands
-  makes w name kind class (map item vs) None

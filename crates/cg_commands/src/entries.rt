@@ -13,7 +13,7 @@ use crate::bindings::given_up;
 use crate::done::{Refusal, refusal_by};
 use crate::locals::Locals;
 use crate::lookups::{index_in, is_hashable};
-use crate::operands::{Wanted, object, object_near, value};
+use crate::operands::{Wanted, object_near, value};
 use cg_arena::Near;
 use cg_heap::Heap;
 use cg_kind::Kind;
@@ -35,9 +35,10 @@ pub(crate) fn append<B: Kind>(
 {
     let list = value(heap, locals, list)?;
     let val = value(heap, locals, operand)?;
-    let target = object(heap, list, Wanted::ScriptList)?;
+    let mut near = Near::default();
+    let target = object_near(heap, list, Wanted::ScriptList, &mut near)?;
     heap.sound();
-    match heap.append(target, val) {
+    match heap.append_near(target, near, val) {
         Ok(()) => Ok(given_up(None)),
         Err(fault) => Err(refusal_by(fault)),
     }
@@ -89,7 +90,7 @@ pub(crate) fn del_item<B: Kind>(
     let target = object_near(heap, list, Wanted::List, &mut near)?;
     let i = index_in(heap, target, near, index)?;
     heap.sound();
-    let entry = heap.take(target, i);
+    let entry = heap.take_near(target, near, i);
     Ok(entry)
 }
 

@@ -15,9 +15,9 @@ ghost use Rattle.cg_heap.specs.Calls.{HasFewHolds, object_number, entry_number};
 ghost use Rattle.cg_heap.specs.Keeps.{HasClass, outside_total};
 ghost use Rattle.cg_heap.specs.Weak.{HasReferent, attached};
 ghost use Rattle.cg_machine.specs.Commands.{effect};
-ghost use Rattle.cg_machine.specs.Effects.{makes};
+ghost use Rattle.cg_machine.specs.Effects.{makes, makes_of};
 ghost use Rattle.cg_commands.specs.Answers.{PerformsOnHeap};
-ghost use Rattle.cg_commands.specs.Parts.{AreLive, makes_of};
+ghost use Rattle.cg_commands.specs.Parts.{AreLive};
 ghost use Rattle.cg_commands.specs.Stands.{LocalsLive};
 
 use crate::bindings::given_up;

@@ -5,10 +5,10 @@ ghost use Rattle.cg_graph.specs.Value.{entry_references, references_of_value};
 use cg_value::{Entry, Val};
 
 /// So many entries are gone over by one call, if there are as many.
-pub const AT_ONCE: usize = 8;
+pub const AT_ONCE: usize = 32;
 
 /// Room for the references of so many entries: each has at most two, one in its value and one in its key.
-pub const ROOM: usize = 16;
+pub const ROOM: usize = 64;
 
 /// How far entries were gone over, and how many references they have.
 #[derive(Clone, Copy, Debug)]

@@ -20,22 +20,16 @@ use Rattle.cg_machine.specs.Holdings.{in_degree, is_collecting, other_holdings}
 use Rattle.cg_machine.specs.Frame.{procedure_of, Transition, Yields, start_frame}
 use Rattle.cg_machine.specs.Refusals.{bad_generation, in_collection, no_attribute, no_index, no_key, no_memory, not_callable, not_weak, unhashable, wrong_kind, unless, ◌>>=◌}
 use Rattle.cg_machine.specs.Operands.{any_object, is_dict, is_list, is_script_list, is_sequence, is_weak, object, object_of, value, values}
-use Rattle.cg_machine.specs.Effects.{Calls, Changes, Collects, Effect, Explains, Quits, binds, bound, callback_entries, frozen, gens_line, given_up_by, has_room, is_hashable, lists, makes, valid_index, prints, puts, referrers, replaced, sets_entries, sets_numbers, unfrozen}
+use Rattle.cg_machine.specs.Effects.{Calls, Changes, Collects, Effect, Explains, Quits, binds, bound, callback_entries, frozen, gens_line, given_up_by, has_room, is_hashable, lists, makes, makes_of, valid_index, prints, puts, referrers, replaced, sets_entries, sets_numbers, unfrozen}
 use Rattle.cg_machine.specs.Weak.{has_weak_references, is_function, is_instance}
 
 -- the command of a world whose top has the commands after it
 abbrev pub effect : World → Command → Result Effect ℕ
-effect w (MakeList name items) = do
-  vs ← values w items
-  makes w name ListKind None (map item vs) None
-effect w (MakeTuple name items) = do
-  vs ← values w items
-  makes w name Tuple None (map item vs) None
+effect w (MakeList name items) = makes_of w name ListKind None items
+effect w (MakeTuple name items) = makes_of w name Tuple None items
 effect w (MakeDict name) = makes w name Dict None [] None
 effect w (MakeInst name class) = makes w name Inst (Some class) [] None
-effect w (MakeFunc name proc cells) = do
-  vs ← values w cells
-  makes w name Func (Some proc) (map item vs) None
+effect w (MakeFunc name proc cells) = makes_of w name Func (Some proc) cells
 effect w (MakeRef name target callback) = do
   v ← value w target
   f ← value w callback

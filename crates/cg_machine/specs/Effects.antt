@@ -6,6 +6,7 @@ use Rattle.cg_value.specs.declared.Entry.{Entry}
 use Rattle.cg_value.specs.declared.KindCode.{KindCode}
 use Rattle.cg_value.specs.declared.Place.{Place}
 use Rattle.cg_value.specs.declared.Place.TheVariants.{Gen, Frozen}
+use Rattle.cg_script.specs.declared.command.Operand.{Operand}
 use Rattle.cg_graph.specs.Value.{item, value_at, put, references_of_value}
 use Rattle.cg_graph.specs.Object.{first_place, Object, with_entries, with_place, is_tracked, may_be_tracked, serials, serials_at}
 use Rattle.cg_graph.specs.Path.{refers_to}
@@ -14,7 +15,7 @@ use Rattle.cg_machine.specs.declared.event.Event.TheVariants.{Made, Listed, Gens
 use Rattle.cg_machine.specs.World.{World, Numbers, with_change}
 use Rattle.cg_graph.specs.declared.limits.TheConstants.{MOST_ENTRIES, MOST_OBJECTS}
 use Rattle.cg_machine.specs.Refusals.{entry_limit, not_callable, object_limit, unless, ◌>>=◌}
-use Rattle.cg_machine.specs.Operands.{is_dict, object, object_of}
+use Rattle.cg_machine.specs.Operands.{is_dict, object, object_of, values}
 use Rattle.cg_machine.specs.Weak.{has_weak_references, is_function}
 
 -- What a command does. Changes: the lines, the references to be given up, and whether memory may be wanted. Explains: the
@@ -77,6 +78,12 @@ makes w name kind class entries referent = do
   _ ← unless (nat_lt (live w) MOST_OBJECTS) object_limit
   _ ← has_room w (length entries)
   Ok (Changes true (Made kind w.next_serial ∷ []) (given_up_by w name) (bound (with_new w kind class entries referent) name (Some (Ref w.next_serial))))
+
+-- an object is made of the values of operands
+abbrev pub makes_of : World → ℕ → KindCode → Option ℕ → List Operand → Result Effect ℕ
+makes_of w name kind class operands = do
+  vs ← values w operands
+  makes w name kind class (map item vs) None
 
 -- the entries of an object change, and references are given up
 abbrev pub sets_entries : World → Object → List Entry → List ℕ → Result Effect ℕ

@@ -33,7 +33,20 @@ impl<B: Kind> Heap<B> {
         ensures rest { self.new ≡ held (entry_references result)
             (rewritten object (remove (entries_of self.old object) i) self.old) }
     {
-        let seat = seat_of(&self.arena, object);
+        self.take_near(object, Near::default(), i)
+    }
+
+    /// `take`, where the object is near.
+    #[inline(always)]
+    pub fn take_near(&mut self, object: u64, near: Near, i: usize) -> Entry
+        requires can { CanTake self.old object }
+        requires within { i < length (entries_of self.old object) }
+        requires few { HasFewHolds self.old }
+        ensures entry { slice_get (entries_of self.old object) i ≡ Some result }
+        ensures rest { self.new ≡ held (entry_references result)
+            (rewritten object (remove (entries_of self.old object) i) self.old) }
+    {
+        let seat = seat_near(&self.arena, object, near);
         let entry = self.boxes.take(seat, i);
         fewer(&mut self.entries, object);
         entry
@@ -108,10 +121,25 @@ impl<B: Kind> Heap<B> {
         ensures objects { result ≢ Err fault.ObjectLimit }
         ensures err { OnErr result (self.new ≡ self.old) }
     {
+        self.append_near(list, Near::default(), val)
+    }
+
+    /// `append`, where the list is near.
+    #[inline(always)]
+    pub fn append_near(&mut self, list: u64, near: Near, val: Val) -> Result<(), HeapFault>
+        requires list { HasCode self.old list code.List }
+        requires other { list ≢ 1 }
+        requires live { IsLiveValue self.old val }
+        ensures ok { OnOk result (self.new ≡
+            rewritten list (entries_of self.old list ++ item val ∷ []) self.old) }
+        ensures limit { (result ≡ Err fault.EntryLimit) ↔ (MOST_ENTRIES ≤ entry_number self.old) }
+        ensures objects { result ≢ Err fault.ObjectLimit }
+        ensures err { OnErr result (self.new ≡ self.old) }
+    {
         if self.entries >= MOST_ENTRIES {
             return Err(HeapFault::EntryLimit);
         }
-        let seat = seat_of(&self.arena, list);
+        let seat = seat_near(&self.arena, list, near);
         match self.boxes.append(seat.body, val) {
             Ok(()) => {
                 count_in(&mut self.arena, val);

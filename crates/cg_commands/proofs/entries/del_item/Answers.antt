@@ -36,14 +36,14 @@ returns-in_err-i g c =
     (goes_on c.args.heap.now c.args.heap.now c.args.locals.now (λ w. object w (test_of wanted.List) (number_of (refusal_of wanted.List)) c.in_ok-list.list) (object_from c.args.heap.now.rows c.in_ok-target.target c.in_ok-target.ensures.ok.node) _ (Err c.in_err-i.field-0.0) (reads-object c.args.heap.now c.args.locals.now (test_of wanted.List) c.in_ok-list.list c.in_ok-target.target c.in_ok-target.ensures.ok (number_of (refusal_of wanted.List)))
     (stops c.args.heap.now c.args.locals.now (λ w. ok_or (valid_index c.args.index (length c.in_ok-target.ensures.ok.node.entries)) no_index) _ c.in_err-i.field-0.0 (no-index c.args.heap.now c.args.locals.now (test_of wanted.List) c.in_ok-list.list c.in_ok-target.target c.in_ok-target.ensures.ok c.args.index (to_z w64 (of_z w64 c.args.index)) (to_z-of_z c.ranges.index) c.in_err-i.field-0.0 c.in_err-i.ensures.err c.in_err-i.ensures.none))))
 
-pub take-entry-requires-clause-can : goal.take-entry-requires-clause-can
-take-entry-requires-clause-can g c =
+pub take_near-entry-requires-clause-can : goal.take_near-entry-requires-clause-can
+take_near-entry-requires-clause-can g c =
     can_take c.args.heap.now wanted.List tt c.in_ok-list.list c.in_ok-target.target c.in_ok-target.ensures.ok
 
 pub returns : goal.returns
 returns g c =
-    (goes_on c.args.heap.now c.take-entry.new.self c.args.locals.now (λ w. value w c.args.list.now) c.in_ok-list.list _ (Ok (done.Gives c.take-entry.result)) c.in_ok-list.ensures.ok
-    (goes_on c.args.heap.now c.take-entry.new.self c.args.locals.now (λ w. object w (test_of wanted.List) (number_of (refusal_of wanted.List)) c.in_ok-list.list) (object_from c.args.heap.now.rows c.in_ok-target.target c.in_ok-target.ensures.ok.node) _ (Ok (done.Gives c.take-entry.result)) (reads-object c.args.heap.now c.args.locals.now (test_of wanted.List) c.in_ok-list.list c.in_ok-target.target c.in_ok-target.ensures.ok (number_of (refusal_of wanted.List)))
-    (goes_on c.args.heap.now c.take-entry.new.self c.args.locals.now (λ w. ok_or (valid_index c.args.index (length c.in_ok-target.ensures.ok.node.entries)) no_index) c.in_ok-i.i _ (Ok (done.Gives c.take-entry.result)) (reads-index c.args.heap.now c.args.locals.now (test_of wanted.List) c.in_ok-list.list c.in_ok-target.target c.in_ok-target.ensures.ok c.args.index (to_z w64 (of_z w64 c.args.index)) (to_z-of_z c.ranges.index) c.in_ok-i.i c.in_ok-i.ensures.ok)
-    (goes_on c.args.heap.now c.take-entry.new.self c.args.locals.now (λ w. ok_or (slice_get c.in_ok-target.ensures.ok.node.entries c.in_ok-i.i) no_index) c.take-entry.result _ (Ok (done.Gives c.take-entry.result)) (reads-entry c.args.heap.now c.args.locals.now (test_of wanted.List) c.in_ok-list.list c.in_ok-target.target c.in_ok-target.ensures.ok c.in_ok-i.i c.take-entry.result c.take-entry.ensures.entry no_index)
-    (takes c.args.heap.now c.sound.ensures c.args.locals.now (test_of wanted.List) c.in_ok-list.list c.in_ok-target.target c.in_ok-target.ensures.ok c.in_ok-i.i c.take-entry.result (remove c.in_ok-target.ensures.ok.node.entries c.in_ok-i.i) c.take-entry.new.self c.take-entry.ensures.entry c.take-entry.ensures.rest refl)))))
+    (goes_on c.args.heap.now c.take_near-entry.new.self c.args.locals.now (λ w. value w c.args.list.now) c.in_ok-list.list _ (Ok (done.Gives c.take_near-entry.result)) c.in_ok-list.ensures.ok
+    (goes_on c.args.heap.now c.take_near-entry.new.self c.args.locals.now (λ w. object w (test_of wanted.List) (number_of (refusal_of wanted.List)) c.in_ok-list.list) (object_from c.args.heap.now.rows c.in_ok-target.target c.in_ok-target.ensures.ok.node) _ (Ok (done.Gives c.take_near-entry.result)) (reads-object c.args.heap.now c.args.locals.now (test_of wanted.List) c.in_ok-list.list c.in_ok-target.target c.in_ok-target.ensures.ok (number_of (refusal_of wanted.List)))
+    (goes_on c.args.heap.now c.take_near-entry.new.self c.args.locals.now (λ w. ok_or (valid_index c.args.index (length c.in_ok-target.ensures.ok.node.entries)) no_index) c.in_ok-i.i _ (Ok (done.Gives c.take_near-entry.result)) (reads-index c.args.heap.now c.args.locals.now (test_of wanted.List) c.in_ok-list.list c.in_ok-target.target c.in_ok-target.ensures.ok c.args.index (to_z w64 (of_z w64 c.args.index)) (to_z-of_z c.ranges.index) c.in_ok-i.i c.in_ok-i.ensures.ok)
+    (goes_on c.args.heap.now c.take_near-entry.new.self c.args.locals.now (λ w. ok_or (slice_get c.in_ok-target.ensures.ok.node.entries c.in_ok-i.i) no_index) c.take_near-entry.result _ (Ok (done.Gives c.take_near-entry.result)) (reads-entry c.args.heap.now c.args.locals.now (test_of wanted.List) c.in_ok-list.list c.in_ok-target.target c.in_ok-target.ensures.ok c.in_ok-i.i c.take_near-entry.result c.take_near-entry.ensures.entry no_index)
+    (takes c.args.heap.now c.sound.ensures c.args.locals.now (test_of wanted.List) c.in_ok-list.list c.in_ok-target.target c.in_ok-target.ensures.ok c.in_ok-i.i c.take_near-entry.result (remove c.in_ok-target.ensures.ok.node.entries c.in_ok-i.i) c.take_near-entry.new.self c.take_near-entry.ensures.entry c.take_near-entry.ensures.rest refl)))))
