@@ -1,5 +1,5 @@
 -- The words of a line, place by place.
-use Rattle.std.proofs.Common.{◌≡◌, ℕ, ◌+◌, ◌<◌, ◌≤◌, List, [], ◌∷◌, ◌++◌, length, map, get_or, drop, Bool, true, false, ◌&&◌, Option, Some, None, sym, ap, ◌∙◌, arith, append_assoc, append-nil, length-append, cond}
+use Rattle.std.proofs.Common.{◌≡◌, ℕ, ◌+◌, ◌<◌, ◌≤◌, List, [], ◌∷◌, ◌++◌, length, map, get_or, drop, Bool, true, false, ◌&&◌, Option, Some, None, sym, ap, ◌∙◌, arith, append_assoc, append-nil, length-append, cond, slice_index_or}
 use Rattle.std.specs.Borrow.{Bor}
 use Rattle.std.proofs.lemmas.List.{drop_more}
 use Rattle.std.proofs.Math.ListN.{drop_of_length-le}
@@ -8,7 +8,8 @@ use Rattle.cg_script.specs.declared.form.Form.{Form}
 use Rattle.cg_script.specs.declared.form.Sort.{Sort}
 use Rattle.cg_script.specs.declared.command.Operand.{Operand}
 use Rattle.cg_script.specs.declared.part.Part.{Part}
-use Rattle.cg_script.specs.Forms.{sort_at}
+use Rattle.cg_script.specs.declared.form.Sort.TheVariants.{Value}
+use Rattle.cg_script.specs.Forms.{row, sort_at}
 use Rattle.cg_script.specs.Meanings.{fits, all_fit}
 use Rattle.cg_script.specs.Parts.{with_text_if, text_in, part_of, parts_from, texts_from}
 use Rattle.cg_script.specs.Commands.{value_or}
@@ -36,6 +37,10 @@ length-with_text texts text = one_more (has_text texts text) texts text
 pub length-with_text_if : (texts : List (List ℕ)) (text : Option (List ℕ)) → length (with_text_if texts text) ≤ length texts + 1
 length-with_text_if texts None = omega arith
 length-with_text_if texts (Some text) = length-with_text texts text
+
+-- the sort of a place by those of the first places
+pub sort_here : (form : Form) (places : List Sort) (i : ℕ) (s : Sort) → places ≡ (row form).places → s ≡ slice_index_or places i Value → s ≡ sort_at form i
+sort_here form places i s are e = e ∙ ap (λ l. slice_index_or l i Value) are
 
 module _ (form : Form) (ws : List (Bor (List ℕ))) (i : ℕ) (d : Bor (List ℕ)) (h : i < length ws) (s : Sort) (es : s ≡ sort_at form i) where
   fit_at : all_fit form i (texts_of (drop i ws)) ≡ (fits s (get_or ws i d).now && all_fit form (i + 1) (texts_of (drop (i + 1) ws)))

@@ -5,6 +5,7 @@ use Rattle.std.proofs.lemmas.List.{take_all, take_more, take-append-drop, length
 use Rattle.std.proofs.lemmas.List.Quantifiers.{position-Some}
 use Rattle.std.proofs.Math.Seq.{take-add}
 use Rattle.std.specs.List.{list_all, position_or_len}
+use Rattle.cg_script.specs.declared.limits.TheConstants.{MOST_FOUND, MOST_WORDS}
 use Rattle.cg_script.specs.Pieces.{pieces, onto, has_bytes, words_of}
 use Rattle.cg_script.specs.Words.{is_printable}
 use Rattle.cg_script.proofs.Ascii.{both}
@@ -68,28 +69,33 @@ take_front (suc n) (x ∷ xs) ys = ap (λ l. x ∷ l) (take_front n xs ys)
 
 -- These words, with those of what follows, are the first ones of some bytes.
 abbrev pub AreFirst : List (List ℕ) → List ℕ → Type 0
-AreFirst words done = (rest : List ℕ) → take 65 (words ++ words_of rest) ≡ take 65 (words_of (done ++ rest))
+AreFirst words done = (rest : List ℕ) → take MOST_FOUND (words ++ words_of rest) ≡ take MOST_FOUND (words_of (done ++ rest))
+
+-- a piece that is found is found however it is written
+pub found_as : (words now : List (List ℕ)) (piece w : List ℕ) → now ≡ take MOST_FOUND (words ++ filter has_bytes (piece ∷ [])) → piece ≡ w
+    → now ≡ take MOST_FOUND (words ++ filter has_bytes (w ∷ []))
+found_as words now piece w e same = e ∙ ap (λ p. take MOST_FOUND (words ++ filter has_bytes (p ∷ []))) same
 
 -- with one word more and its space
-pub first_more : (words now : List (List ℕ)) (done w : List ℕ) → list_all plain w ≡ true → now ≡ take 65 (words ++ filter has_bytes (w ∷ [])) → AreFirst words done
+pub first_more : (words now : List (List ℕ)) (done w : List ℕ) → list_all plain w ≡ true → now ≡ take MOST_FOUND (words ++ filter has_bytes (w ∷ [])) → AreFirst words done
     → AreFirst now (done ++ (w ++ 32 ∷ []))
 first_more words now done w h e inv rest =
     let f = filter has_bytes (w ∷ []) in
-    ap (λ ws. take 65 (ws ++ words_of rest)) e
-    ∙ take_front 65 (words ++ f) (words_of rest)
-    ∙ ap (take 65) (append_assoc words f (words_of rest))
-    ∙ ap (λ ws. take 65 (words ++ ws)) (sym (ap (filter has_bytes) (word_before w rest h) ∙ filter_behind w (pieces 32 rest)))
+    ap (λ ws. take MOST_FOUND (ws ++ words_of rest)) e
+    ∙ take_front MOST_FOUND (words ++ f) (words_of rest)
+    ∙ ap (take MOST_FOUND) (append_assoc words f (words_of rest))
+    ∙ ap (λ ws. take MOST_FOUND (words ++ ws)) (sym (ap (filter has_bytes) (word_before w rest h) ∙ filter_behind w (pieces 32 rest)))
     ∙ inv (w ++ 32 ∷ rest)
-    ∙ ap (λ bs. take 65 (words_of bs)) (sym (append_assoc done (w ++ 32 ∷ []) rest ∙ ap (λ bs. done ++ bs) (append_assoc w (32 ∷ []) rest)))
+    ∙ ap (λ bs. take MOST_FOUND (words_of bs)) (sym (append_assoc done (w ++ 32 ∷ []) rest ∙ ap (λ bs. done ++ bs) (append_assoc w (32 ∷ []) rest)))
 
 -- with one word more, behind which the line ends
-pub first_last : (words now : List (List ℕ)) (done w : List ℕ) → list_all plain w ≡ true → now ≡ take 65 (words ++ filter has_bytes (w ∷ [])) → AreFirst words done
-    → now ≡ take 65 (words_of (done ++ w))
-first_last words now done w h e inv = e ∙ ap (λ ws. take 65 (words ++ ws)) (sym (word_alone w h)) ∙ inv w
+pub first_last : (words now : List (List ℕ)) (done w : List ℕ) → list_all plain w ≡ true → now ≡ take MOST_FOUND (words ++ filter has_bytes (w ∷ [])) → AreFirst words done
+    → now ≡ take MOST_FOUND (words_of (done ++ w))
+first_last words now done w h e inv = e ∙ ap (λ ws. take MOST_FOUND (words ++ ws)) (sym (word_alone w h)) ∙ inv w
 
 -- with nothing more
-pub first_all : (words : List (List ℕ)) (done : List ℕ) → length words ≤ 65 → AreFirst words done → words ≡ take 65 (words_of done)
-first_all words done few inv = sym (ap (take 65) (append-nil words) ∙ take_all 65 words few) ∙ inv [] ∙ ap (λ bs. take 65 (words_of bs)) (append-nil done)
+pub first_all : (words : List (List ℕ)) (done : List ℕ) → length words ≤ MOST_FOUND → AreFirst words done → words ≡ take MOST_FOUND (words_of done)
+first_all words done few inv = sym (ap (take MOST_FOUND) (append-nil words) ∙ take_all MOST_FOUND words few) ∙ inv [] ∙ ap (λ bs. take MOST_FOUND (words_of bs)) (append-nil done)
 
 -- as many texts as words
 pub length-texts : (words : List (Bor (List ℕ))) → length (texts_of words) ≡ length words
@@ -97,25 +103,25 @@ length-texts words = length-map words (λ w. w.now)
 
 module _ (words : List (Bor (List ℕ))) where
   -- a full list takes no more
-  pub full_found : (more : List (List ℕ)) → length words ≡ 65 → texts_of words ≡ take 65 (texts_of words ++ more)
+  pub full_found : (more : List (List ℕ)) → length words ≡ MOST_FOUND → texts_of words ≡ take MOST_FOUND (texts_of words ++ more)
   full_found more e =
       let n = length-texts words in
-      sym (take-append-le 65 (texts_of words) more (omega (arith, n, e)) ∙ take_all 65 (texts_of words) (omega (arith, n, e)))
+      sym (take-append-le MOST_FOUND (texts_of words) more (omega (arith, n, e)) ∙ take_all MOST_FOUND (texts_of words) (omega (arith, n, e)))
 
   -- an empty piece is no word
-  pub none_found : (piece : List ℕ) → length words ≤ 65 → length piece ≡ 0 → texts_of words ≡ take 65 (texts_of words ++ filter has_bytes (piece ∷ []))
+  pub none_found : (piece : List ℕ) → length words ≤ MOST_FOUND → length piece ≡ 0 → texts_of words ≡ take MOST_FOUND (texts_of words ++ filter has_bytes (piece ∷ []))
   none_found piece few e =
       let n = length-texts words in
-      sym (ap (λ t. take 65 (texts_of words ++ cond t (piece ∷ []) [])) (empty_piece piece e) ∙ ap (take 65) (append-nil (texts_of words)) ∙ take_all 65 (texts_of words) (omega (arith, n, few)))
+      sym (ap (λ t. take MOST_FOUND (texts_of words ++ cond t (piece ∷ []) [])) (empty_piece piece e) ∙ ap (take MOST_FOUND) (append-nil (texts_of words)) ∙ take_all MOST_FOUND (texts_of words) (omega (arith, n, few)))
 
   -- another one is
-  pub one_found : (now : List (Bor (List ℕ))) (piece : Bor (List ℕ)) → now ≡ words ++ piece ∷ [] → length words < 65 → 0 < length piece.now
-      → texts_of now ≡ take 65 (texts_of words ++ filter has_bytes (piece.now ∷ []))
+  pub one_found : (now : List (Bor (List ℕ))) (piece : Bor (List ℕ)) → now ≡ words ++ piece ∷ [] → length words < MOST_FOUND → 0 < length piece.now
+      → texts_of now ≡ take MOST_FOUND (texts_of words ++ filter has_bytes (piece.now ∷ []))
   one_found now piece e few some =
       let n = length-texts words in
-      let l : length (texts_of words ++ piece.now ∷ []) ≤ 65 = omega (arith, n, few, length-append (texts_of words) (piece.now ∷ [])) in
+      let l : length (texts_of words ++ piece.now ∷ []) ≤ MOST_FOUND = omega (arith, n, few, length-append (texts_of words) (piece.now ∷ [])) in
       ap texts_of e ∙ map-append (λ w. w.now) words (piece ∷ [])
-      ∙ sym (ap (λ t. take 65 (texts_of words ++ cond t (piece.now ∷ []) [])) (full_piece piece.now some) ∙ take_all 65 (texts_of words ++ piece.now ∷ []) l)
+      ∙ sym (ap (λ t. take MOST_FOUND (texts_of words ++ cond t (piece.now ∷ []) [])) (full_piece piece.now some) ∙ take_all MOST_FOUND (texts_of words ++ piece.now ∷ []) l)
 
 -- the bytes before the first that ends a word
 word_at_end : (i : ℕ) (bytes : List ℕ) → position ends bytes ≡ Some i → list_all plain (take i bytes) ≡ true
@@ -205,29 +211,29 @@ module _ (bytes : List ℕ) (at : ℕ) (within : at ≤ length bytes) (printable
         ap (list_all is_printable) (sym (take-append-drop at bytes)) ∙ list_all-append is_printable (take at bytes) (drop at bytes)
         ∙ ap (λ t. t && list_all is_printable (drop at bytes)) printable ∙ all_plain (drop at bytes) word_last
 
-pub few_found : (words : List (Bor (List ℕ))) (all : List (List ℕ)) → texts_of words ≡ take 65 all → length words ≤ 65
-few_found words all e = omega (arith, length-texts words, ap length e, length-take 65 all)
+pub few_found : (words : List (Bor (List ℕ))) (all : List (List ℕ)) → texts_of words ≡ take MOST_FOUND all → length words ≤ MOST_FOUND
+few_found words all e = omega (arith, length-texts words, ap length e, length-take MOST_FOUND all)
 
-module _ (words : List (Bor (List ℕ))) (all : List (List ℕ)) (e : texts_of words ≡ take 65 all) where
+module _ (words : List (Bor (List ℕ))) (all : List (List ℕ)) (e : texts_of words ≡ take MOST_FOUND all) where
   -- too many are seen
-  pub too_many : (long last : Bool) → 64 < length words → true ≡ (long || nat_lt 64 (length all) || last)
+  pub too_many : (long last : Bool) → MOST_WORDS < length words → true ≡ (long || nat_lt MOST_WORDS (length all) || last)
   too_many long last many =
-      let n = length-texts words in let k = length-take 65 all in let s = ap length e in
-      let l : 64 < length all = omega (arith, n, k, s, many) in
-      by long (is_below 64 (length all) l)
+      let n = length-texts words in let k = length-take MOST_FOUND all in let s = ap length e in
+      let l : MOST_WORDS < length all = omega (arith, n, k, s, many) in
+      by long (is_below MOST_WORDS (length all) l)
     where
-      by : (b : Bool) → nat_lt 64 (length all) ≡ true → true ≡ (b || nat_lt 64 (length all) || last)
+      by : (b : Bool) → nat_lt MOST_WORDS (length all) ≡ true → true ≡ (b || nat_lt MOST_WORDS (length all) || last)
       by true h = refl
       by false h = sym (ap (λ t. t || last) h)
 
   -- few are all
-  pub all_found : length words ≤ 64 → texts_of words ≡ all
+  pub all_found : length words ≤ MOST_WORDS → texts_of words ≡ all
   all_found few =
-      let n = length-texts words in let k = length-take 65 all in let s = ap length e in
-      e ∙ take_all 65 all (omega (arith, n, k, s, few))
+      let n = length-texts words in let k = length-take MOST_FOUND all in let s = ap length e in
+      e ∙ take_all MOST_FOUND all (omega (arith, n, k, s, few))
 
-  pub not_many : (long last : Bool) → length words ≤ 64 → (long || last) ≡ (long || nat_lt 64 (length all) || last)
-  not_many long last few = by long (nat_lt 64 (length all)) (let n = length-texts words in let s = ap length (all_found few) in grind (arith, nat_tests, n, s, few))
+  pub not_many : (long last : Bool) → length words ≤ MOST_WORDS → (long || last) ≡ (long || nat_lt MOST_WORDS (length all) || last)
+  not_many long last few = by long (nat_lt MOST_WORDS (length all)) (let n = length-texts words in let s = ap length (all_found few) in grind (arith, nat_tests, n, s, few))
     where
       by : (a b : Bool) → b ≡ false → (a || last) ≡ (a || b || last)
       by true b h = refl

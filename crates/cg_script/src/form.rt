@@ -1,6 +1,6 @@
 //! The table of forms: one row for each command and each declaration.
-ghost use Rattle.std.specs.Prelude.{◌≡◌, true};
-ghost use Rattle.cg_script.specs.Forms.{row as row_of, sort_at as sort_of, word_of as word_in, by_words, binds, bindings, openers, worded_forms, words_of_forms};
+ghost use Rattle.std.specs.Prelude.{◌≡◌, true, slice_index_or};
+ghost use Rattle.cg_script.specs.Forms.{row as row_of, word_of as word_in, by_words, binds, bindings, openers, worded_forms, words_of_forms};
 ghost use Rattle.cg_script.specs.Tables.{named as named_in};
 ghost use Rattle.cg_script.specs.Alike.{forms_like};
 
@@ -86,7 +86,7 @@ pub(crate) struct FormRow {
     /// Whether no variable may be that word.
     pub reserved: bool,
     /// The sorts of the first places; each place past them asks for a value.
-    places: &'static [Sort],
+    pub places: &'static [Sort],
     /// The least number of words.
     pub fewest: usize,
     /// The greatest.
@@ -184,11 +184,12 @@ pub(crate) fn row_for(form: Form) -> FormRow
     }
 }
 
-/// The sort of a place, counted from 0.
-pub(crate) fn sort_at(form: Form, place: usize) -> Sort
-    ensures { result ≡ sort_of form place }
+/// The sort of a place, counted from 0, by the sorts of the first places.
+#[inline(always)]
+pub(crate) fn sort_in(places: &[Sort], place: usize) -> Sort
+    ensures { result ≡ slice_index_or places.now place Sort.Value }
 {
-    match row_for(form).places.get(place) {
+    match places.get(place) {
         Some(sort) => *sort,
         None => Sort::Value,
     }

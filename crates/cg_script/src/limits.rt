@@ -10,7 +10,7 @@ pub const MOST_LINE_BYTES: usize = 1024;
 pub const MOST_WORDS: usize = 64;
 
 /// The most words that are looked for in a line: one more than it may have, so that too many are seen.
-pub(crate) const MOST_FOUND: usize = 65;
+pub(crate) const MOST_FOUND: usize = MOST_WORDS + 1;
 
 /// The most texts of a script: as many as its lines may have words.
 pub const MOST_TEXTS: u32 = 25_600_000;

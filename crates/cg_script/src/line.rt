@@ -3,10 +3,12 @@ ghost use Rattle.std.specs.Prelude.{◌≡◌, ◌<◌, ◌≤◌, ◌+◌, [], 
 ghost use Rattle.std.specs.List.{list_all};
 ghost use Rattle.cg_script.specs.Pieces.{word_is, word_at, words_of};
 ghost use Rattle.cg_script.specs.Words.{is_printable};
+ghost use Rattle.cg_script.specs.declared.form.Form.{Form as AnyForm};
+ghost use Rattle.cg_script.specs.Forms.{row};
 ghost use Rattle.cg_script.specs.Meanings.{fits, all_fit, repeats_finalizer, formed, binding_form, worded, is_passed, meaning};
 ghost use Rattle.cg_script.specs.Views.{meaning_of};
 
-use crate::form::{Form, Sort, binding_named, opener_named, row_for, sort_at};
+use crate::form::{Form, Sort, binding_named, opener_named, row_for, sort_in};
 use crate::limits::{MOST_BUDGET, MOST_COUNT, MOST_FOUND, MOST_LINE_BYTES, MOST_LINES, MOST_WORDS};
 use crate::word::{
     flag, is_count_word, is_identifier_word, is_number_word, is_profile_word, is_value,
@@ -53,12 +55,12 @@ fn fits_place(sort: Sort, word: &[u8]) -> bool
     }
 }
 
-/// Whether all words have the forms that their places ask for.
-fn all_words_fit(form: Form, words: &[&[u8]]) -> bool
-    ensures { result ≡ all_fit form 0 (map (λ w. w.now) words.now) }
+/// Whether all words have the forms that their places ask for, by the sorts of the first places.
+fn all_words_fit(places: &[Sort], words: &[&[u8]]) -> bool
+    ensures { (form : AnyForm) → places.now ≡ (row form).places → result ≡ all_fit form 0 (map (λ w. w.now) words.now) }
 {
     'places: for place in 0..words.len() {
-        if !fits_place(sort_at(form, place), words[place]) {
+        if !fits_place(sort_in(places, place), words[place]) {
             return false;
         }
     }
@@ -93,7 +95,7 @@ fn formed_line(form: Form, words: &[&[u8]]) -> Line
     if words.len() < row.fewest || row.most < words.len() {
         return Line::Bad(WORD_COUNT);
     }
-    if !all_words_fit(form, words) || has_two_alike(form, words) {
+    if !all_words_fit(row.places, words) || has_two_alike(form, words) {
         return Line::Bad(WORD_FORM);
     }
     Line::Says(form)

@@ -7,7 +7,7 @@ ghost use Rattle.cg_script.specs.Meanings.{fits, all_fit};
 ghost use Rattle.cg_script.specs.Parts.{Known, text_in, with_text_if, value_text, operand_or, numbered, finalizer, legacy, defined_number, finalizer_of, part_of, parts_from, texts_from, has_unknown, is_unknown};
 
 use crate::command::{Command, Operand};
-use crate::form::{Form, Sort, sort_at};
+use crate::form::{Form, Sort, row_for, sort_in};
 use crate::item::Item;
 use crate::limits::MOST_WORDS;
 use crate::word::{
@@ -162,8 +162,9 @@ pub(crate) fn read_parts(
     ensures texts { OnOk result (names.new ≡ texts_from names.old form 0 (map (λ w. w.now) words.now)) }
     ensures few_texts { OnOk result (length names.new ≤ length names.old + length words.now) }
 {
+    let row = row_for(form);
     'places: for place in 0..words.len() {
-        let part = read_part(sort_at(form, place), words[place], names, procs, classes)?;
+        let part = read_part(sort_in(row.places, place), words[place], names, procs, classes)?;
         parts.push(part)?;
     }
     Ok(())

@@ -1,5 +1,6 @@
 use Rattle.std.proofs.Common.{◌≡◌, ◌-◌, ◌≤◌, length, take, true}
 use Rattle.std.specs.List.{list_all}
+use Rattle.cg_script.specs.declared.limits.TheConstants.{MOST_FOUND}
 use Rattle.cg_script.specs.Words.{is_printable}
 use Rattle.cg_script.proofs.Places.{texts_of}
 use Rattle.cg_script.proofs.Split.{AreFirst}
@@ -10,7 +11,7 @@ abbrev pub invariant-words : goal.invariant-words
 invariant-words l = record {
   within : l.at ≤ length l.bytes;
   printable : list_all is_printable (take l.at l.bytes) ≡ true;
-  few : length l.words.items ≤ 65;
+  few : length l.words.items ≤ MOST_FOUND;
   found : AreFirst (texts_of l.words.items) (take l.at l.bytes);
 }
 
