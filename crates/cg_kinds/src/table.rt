@@ -87,7 +87,7 @@ fn note_pair_at(map: &Map, index: usize, found: &mut [u64], count: usize) -> usi
     }
 }
 
-/// Writes down the references of the pairs at these indexes, which are at most eight. It answers how many there are.
+/// Writes down the references of the pairs at these indexes, which are at most `AT_ONCE`. It answers how many there are.
 fn note_at(map: &Map, indexes: &[usize], found: &mut [u64]) -> usize
     requires within { All (λ index. index < length map.now.entries) indexes.now }
     requires few { length indexes.now ≤ AT_ONCE }
@@ -103,7 +103,7 @@ fn note_at(map: &Map, indexes: &[usize], found: &mut [u64]) -> usize
     count
 }
 
-/// Writes down the references of the pairs from one index to another, which are at most eight. It answers how many there are.
+/// Writes down the references of the pairs from one index to another, which are at most `AT_ONCE`. It answers how many there are.
 fn note_between(map: &Map, from: usize, next: usize, found: &mut [u64]) -> usize
     requires order { from ≤ next }
     requires within { next ≤ length map.now.entries }
