@@ -15,7 +15,7 @@ ghost use Rattle.cg_kind.specs.Calls.{has_key, next_entries, IsParts, CanPut, va
 mod notes;
 
 use cg_value::{Entry, KindCode, Val};
-pub use notes::{AT_ONCE, Noted, ROOM, note_entry};
+pub use notes::{AT_ONCE, Noted, ROOM, note_entry, note_reference};
 use std::alloc::AllocError;
 
 /// A kind of objects: it keeps the entries of its objects, each at a place.

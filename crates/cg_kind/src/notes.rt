@@ -1,6 +1,6 @@
 //! References that are written down for whoever goes over entries.
-ghost use Rattle.std.specs.Prelude.{◌≡◌, ◌+◌, ◌<◌, ◌≤◌, ◌++◌, Some, length, take};
-ghost use Rattle.cg_graph.specs.Value.{entry_references, references_of_value};
+ghost use Rattle.std.specs.Prelude.{◌≡◌, ◌+◌, ◌<◌, ◌≤◌, ◌++◌, length, option_to_list, take};
+ghost use Rattle.cg_graph.specs.Value.{entry_references, reference_in};
 
 use cg_value::{Entry, Val};
 
@@ -18,19 +18,30 @@ pub struct Noted {
     pub references: usize,
 }
 
-/// Writes the reference of a value behind so many that are written. It answers how many are written then.
+/// Writes a reference, if there is one, behind so many that are written. It answers how many are written then.
 #[inline(always)]
-fn note_value(found: &mut [u64], count: usize, val: Val) -> usize
+pub fn note_reference(found: &mut [u64], count: usize, reference: Option<u64>) -> usize
     requires { count < length found.old }
-    ensures noted { take result found.new ≡ take count found.old ++ references_of_value (Some val) }
+    ensures noted { take result found.new ≡ take count found.old ++ option_to_list reference }
     ensures few { result ≤ count + 1 }
     ensures room { length found.new ≡ length found.old }
 {
-    if let Val::Ref(serial) = val {
+    if let Some(serial) = reference {
         found[count] = serial;
         count + 1
     } else {
         count
+    }
+}
+
+/// The serial in a value, if it is a reference.
+#[inline(always)]
+fn reference_in(val: Val) -> Option<u64>
+    ensures { result ≡ reference_in val }
+{
+    match val {
+        Val::Ref(serial) => Some(serial),
+        _ => None,
     }
 }
 
@@ -43,7 +54,7 @@ pub fn note_entry(found: &mut [u64], count: usize, entry: Entry) -> usize
     ensures few { result ≤ count + 2 }
     ensures room { length found.new ≡ length found.old }
 {
-    let with_value = note_value(found, count, entry.val);
-    let with_key = note_value(found, with_value, entry.key);
+    let with_value = note_reference(found, count, reference_in(entry.val));
+    let with_key = note_reference(found, with_value, reference_in(entry.key));
     with_key
 }

@@ -5,7 +5,7 @@ ghost use Rattle.cg_graph.specs.Value.{value_at, put, without_key, references, e
 ghost use Rattle.cg_kind.specs.Calls.{has_key, next_entries};
 ghost use Rattle.cg_kinds.specs.Pairs.{AreKeysOnce};
 
-use crate::kept::{KeepsEntry, note_slice};
+use crate::kept::note_slice;
 use crate::nine::Nine;
 use crate::pair::Pair;
 use crate::table::Table;

@@ -8,7 +8,7 @@ use crate::contents::Contents;
 use crate::items::{find_item, item_of};
 use crate::kept::{KeepsEntry, note_slice};
 use arrayvec::ArrayVec;
-use cg_kind::Noted;
+use cg_kind::{Noted, note_entry};
 use cg_value::{Entry, KindCode, Val};
 use std::alloc::{AllocError, Global};
 
@@ -37,8 +37,8 @@ impl KeepsEntry for Cell {
     ghost kept = { λ c. item c.0 };
 
     #[inline(always)]
-    fn entry(&self) -> Entry {
-        item_of(self.0)
+    fn note(&self, found: &mut [u64], count: usize) -> usize {
+        note_entry(found, count, item_of(self.0))
     }
 }
 

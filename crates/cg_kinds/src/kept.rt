@@ -1,19 +1,24 @@
 //! Entries that stand in a slice, in one form or another.
-ghost use Rattle.std.specs.Prelude.{◌≡◌, ◌≤◌, ◌+◌, length, map, take};
+ghost use Rattle.std.specs.Prelude.{◌≡◌, ◌≤◌, ◌+◌, ◌++◌, length, map, take};
 ghost use Rattle.cg_value.specs.declared.Entry.{Entry};
-ghost use Rattle.cg_graph.specs.Value.{references};
+ghost use Rattle.cg_graph.specs.Value.{entry_references, references};
 ghost use Rattle.cg_kind.specs.Calls.{next_entries};
 
 use crate::items::item_of;
 use cg_kind::{AT_ONCE, Noted, ROOM, note_entry};
-use cg_value::{Entry, Val};
+use cg_value::Val;
 
 /// What a slice has for each entry.
 pub trait KeepsEntry {
     ghost kept: { Self → Entry };
 
-    fn entry(&self) -> Entry
-        ensures { result ≡ kept self.now };
+    /// Writes its references, its value's and then its key's, behind so many that are written. It answers how many are written
+    /// then.
+    fn note(&self, found: &mut [u64], count: usize) -> usize
+        requires { count + 2 ≤ length found.old }
+        ensures noted { take result found.new ≡ take count found.old ++ entry_references (kept self.now) }
+        ensures few { result ≤ count + 2 }
+        ensures room { length found.new ≡ length found.old };
 }
 
 impl KeepsEntry for Val {
@@ -22,8 +27,8 @@ impl KeepsEntry for Val {
     ghost kept = { item };
 
     #[inline(always)]
-    fn entry(&self) -> Entry {
-        item_of(*self)
+    fn note(&self, found: &mut [u64], count: usize) -> usize {
+        note_entry(found, count, item_of(*self))
     }
 }
 
@@ -40,7 +45,7 @@ pub fn note_slice<T: KeepsEntry>(slice: &[T], from: usize, found: &mut [u64]) ->
     let next = from + AT_ONCE.min(slice.len() - from);
     let mut references = 0;
     'parts: for part in &slice[from..next] {
-        references = note_entry(found, references, part.entry());
+        references = part.note(found, references);
     }
     Noted { next, references }
 }

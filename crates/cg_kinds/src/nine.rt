@@ -3,6 +3,7 @@ ghost use Rattle.std.specs.Prelude.{◌≡◌};
 ghost use Rattle.cg_value.specs.contracts.ValPartialEq.TheImpl as val_partial_eq;
 ghost use Rattle.cg_value.specs.contracts.ValPartialEq.TheImpl.Laws as val_partial_eq_laws;
 ghost use Rattle.cg_value.specs.contracts.ValEq.TheImpl.Laws as val_eq_laws;
+ghost use Rattle.cg_graph.specs.Value.{reference_in};
 ghost use Rattle.cg_kinds.specs.Numbers.{hashed, equal_hashed};
 
 use crate::values::{val_of, words_of};
@@ -52,6 +53,18 @@ impl Nine {
         ensures { result ≡ self.now }
     {
         val_of(self.sort, u64::from_le_bytes(self.number))
+    }
+
+    /// The serial that it refers to, if it is a reference. The value itself is not unpacked for it.
+    #[inline(always)]
+    pub fn reference(&self) -> Option<u64>
+        ensures { result ≡ reference_in self.now }
+    {
+        if self.sort == 3 {
+            Some(u64::from_le_bytes(self.number))
+        } else {
+            None
+        }
     }
 }
 

@@ -1,12 +1,12 @@
 //! Values in plain words, as lists keep a few of them.
 ghost use Rattle.std.specs.Prelude.{◌≡◌, IfOk, map};
 ghost use Rattle.cg_value.specs.declared.Val.{Val};
-ghost use Rattle.cg_graph.specs.Value.{item};
+ghost use Rattle.cg_graph.specs.Value.{item, reference_in};
 ghost use Rattle.cg_kind.specs.Calls.{AreItems};
 ghost use Rattle.cg_kinds.specs.Values.{value_in, AreWords};
 
-use crate::items::item_of;
 use crate::kept::KeepsEntry;
+use cg_kind::note_reference;
 use cg_value::{Entry, Val};
 use std::alloc::{AllocError, Global};
 use std::marker::Model;
@@ -64,14 +64,26 @@ impl Packed {
             _ => Val::Ref(self.number),
         }
     }
+
+    /// The serial that it refers to, if it is a reference.
+    #[inline(always)]
+    fn reference(&self) -> Option<u64>
+        ensures { result ≡ reference_in self.now }
+    {
+        if self.sort > 2 {
+            Some(self.number)
+        } else {
+            None
+        }
+    }
 }
 
 impl KeepsEntry for Packed {
     ghost kept = { item };
 
     #[inline(always)]
-    fn entry(&self) -> Entry {
-        item_of(self.val())
+    fn note(&self, found: &mut [u64], count: usize) -> usize {
+        note_reference(found, count, self.reference())
     }
 }
 

@@ -1,9 +1,12 @@
 //! Pairs in eighteen bytes, as short dictionaries keep them.
-ghost use Rattle.std.specs.Prelude.{◌≡◌};
+ghost use Rattle.std.specs.Prelude.{◌≡◌, ◌+◌, ◌≤◌, ◌++◌, length, take};
+ghost use Rattle.cg_graph.specs.Value.{entry_references};
 ghost use Rattle.cg_kind.specs.Calls.{has_key};
+ghost use Rattle.cg_kinds.specs.Pairs.{pair_entry};
 
 use crate::kept::KeepsEntry;
 use crate::nine::Nine;
+use cg_kind::note_reference;
 use cg_value::{Entry, Val};
 use std::marker::Model;
 
@@ -31,6 +34,17 @@ impl Pair {
         Pair {
             key: Nine::new(entry.key),
             val: Nine::new(entry.val),
+        }
+    }
+
+    /// The entry.
+    #[inline(always)]
+    pub fn entry(&self) -> Entry
+        ensures { result ≡ self.now }
+    {
+        Entry {
+            key: self.key.val(),
+            val: self.val.val(),
         }
     }
 
@@ -64,10 +78,21 @@ impl KeepsEntry for Pair {
     ghost kept = { λ p. p };
 
     #[inline(always)]
-    fn entry(&self) -> Entry {
-        Entry {
-            key: self.key.val(),
-            val: self.val.val(),
-        }
+    fn note(&self, found: &mut [u64], count: usize) -> usize {
+        note_pair(found, count, &self.key, &self.val)
     }
+}
+
+/// Writes the references of a packed value and its packed key, in this order, behind so many that are written. It answers how
+/// many are written then.
+#[inline(always)]
+pub fn note_pair(found: &mut [u64], count: usize, key: &Nine, val: &Nine) -> usize
+    requires { count + 2 ≤ length found.old }
+    ensures noted { take result found.new ≡ take count found.old ++ entry_references (pair_entry (key.now, val.now)) }
+    ensures few { result ≤ count + 2 }
+    ensures room { length found.new ≡ length found.old }
+{
+    let with_value = note_reference(found, count, val.reference());
+    let with_key = note_reference(found, with_value, key.reference());
+    with_key
 }

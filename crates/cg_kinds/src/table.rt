@@ -1,14 +1,15 @@
 //! Pairs in the order in which their keys came, in a map that may have another order.
 ghost use Rattle.std.specs.Prelude.{◌≡◌, ◌<◌, ◌^◌, ◌+◌, ◌≤◌, ◌++◌, ◌∷◌, [], All, length, Some, None, IfSome, IfNone, IsNone, IsSome, IsOk, IfOk, OnOk, OnErr, OnSome, option_to_list, position, slice_get, remove, swap_remove, take, drop, slice_index_or, option_map, ◌-◌};
 ghost use Rattle.std.specs.List.{range_with_len};
-ghost use Rattle.cg_graph.specs.Value.{value_at, put, without_key, references, entry_at as entry_under};
+ghost use Rattle.cg_graph.specs.Value.{value_at, put, without_key, entry_references, references, entry_at as entry_under};
 ghost use Rattle.cg_kind.specs.Calls.{has_key, next_entries};
 ghost use Rattle.cg_kinds.specs.Pairs.{pair_entry, pairs_of, nothing, picked, unboxed, IsSoundOrder};
 
 use crate::hasher::{KeyHashing, key_hashing};
 use crate::nine::Nine;
 use crate::order::Order;
-use cg_kind::{AT_ONCE, Noted, ROOM, note_entry};
+use crate::pair::note_pair;
+use cg_kind::{AT_ONCE, Noted, ROOM};
 use cg_value::{Entry, Val};
 use indexmap::IndexMap;
 use indexmap::map::Entry as MapEntry;
@@ -70,6 +71,22 @@ fn pair_at(map: &Map, index: usize) -> Entry
     }
 }
 
+/// Writes the references of the pair at an index of a map behind so many that are written. It answers how many are written then.
+#[inline(always)]
+fn note_pair_at(map: &Map, index: usize, found: &mut [u64], count: usize) -> usize
+    requires within { index < length map.now.entries }
+    requires room { count + 2 ≤ length found.old }
+    ensures noted { take result found.new ≡
+        take count found.old ++ entry_references (slice_index_or (pairs_of map.now.entries) index nothing) }
+    ensures few { result ≤ count + 2 }
+    ensures room { length found.new ≡ length found.old }
+{
+    match map.get_index(index) {
+        Some((key, val)) => note_pair(found, count, key, val),
+        None => unreachable!(),
+    }
+}
+
 /// Writes down the references of the pairs at these indexes, which are at most eight. It answers how many there are.
 fn note_at(map: &Map, indexes: &[usize], found: &mut [u64]) -> usize
     requires within { All (λ index. index < length map.now.entries) indexes.now }
@@ -81,7 +98,7 @@ fn note_at(map: &Map, indexes: &[usize], found: &mut [u64]) -> usize
 {
     let mut count = 0;
     'indexes: for index in indexes {
-        count = note_entry(found, count, pair_at(map, *index));
+        count = note_pair_at(map, *index, found, count);
     }
     count
 }
@@ -99,7 +116,7 @@ fn note_between(map: &Map, from: usize, next: usize, found: &mut [u64]) -> usize
 {
     let mut count = 0;
     'pairs: for index in from..next {
-        count = note_entry(found, count, pair_at(map, index));
+        count = note_pair_at(map, index, found, count);
     }
     count
 }
