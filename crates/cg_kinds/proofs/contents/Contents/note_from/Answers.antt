@@ -23,3 +23,8 @@ entries-preserved g c = record {
   few = omega (arith, c.entries.invariant.few, c.note_entry-references.ensures.few);
   room = c.note_entry-references.ensures.room ∙ c.entries.invariant.room;
 }
+
+pub returns-clause-next : goal.returns-clause-next
+returns-clause-next g c =
+    let all = (g.Self.Contents.body c.args.self.now).entries in
+    omega (arith, c.min.ensures, c.len.ensures, length-take AT_ONCE (drop c.args.from all), length-drop c.args.from all)
