@@ -164,7 +164,13 @@ pub(crate) fn read_parts(
 {
     let row = row_for(form);
     'places: for place in 0..words.len() {
-        let part = read_part(sort_in(row.places, place), words[place], names, procs, classes)?;
+        let part = read_part(
+            sort_in(row.places, place),
+            words[place],
+            names,
+            procs,
+            classes,
+        )?;
         parts.push(part)?;
     }
     Ok(())
