@@ -1,8 +1,8 @@
 -- Values in two columns of words: what a place of both holds, and what a change of both does to the values.
-use Rattle.std.proofs.Common.{◌≡◌, ℕ, zero, suc, ◌+◌, ◌-◌, ◌<◌, ◌^◌, List, [], ◌∷◌, ◌++◌, length, get_or, set, remove, Some, Global, refl, sym, ap, subst, ◌∙◌, arith, length-append, bit_or}
+use Rattle.std.proofs.Common.{◌≡◌, ℕ, zero, suc, ◌+◌, ◌-◌, ◌<◌, ◌≤◌, ◌^◌, List, [], ◌∷◌, ◌++◌, length, get_or, set, remove, drop, Some, Global, refl, sym, ap, subst, ◌∙◌, arith, length-append, length-drop, bit_or}
 use Rattle.std.specs.Prelude.{Vec, vec_len, slice_get}
 use Rattle.std.specs.List.{AllZip}
-use Rattle.std.proofs.lemmas.List.{length-set}
+use Rattle.std.proofs.lemmas.List.{length-set, drop-append-le}
 use Rattle.std.proofs.lemmas.List.Edits.{length-remove}
 use Rattle.std.specs.Int.Bits.{or_zero_r}
 use Rattle.cg_value.specs.declared.Val.{Val}
@@ -98,60 +98,135 @@ words-pop (x ∷ []) [] s n words = absurd words.1
 words-pop (x ∷ z ∷ xs) [] s n words = absurd words.1
 words-pop (x ∷ xs) (y ∷ ys) s n words = let front = words-pop xs ys s n words.1 in ((words.0, front.0), front.1)
 
+-- both columns without so many places at the front
+pub values-drop : (n : ℕ) (sorts numbers : List ℕ) → AllZip AreWords sorts numbers → values_in (drop n sorts) (drop n numbers) ≡ drop n (values_in sorts numbers)
+values-drop zero sorts numbers words = refl
+values-drop (suc n) [] [] words = refl
+values-drop (suc n) [] (y ∷ ys) words = absurd words
+values-drop (suc n) (x ∷ xs) [] words = absurd words
+values-drop (suc n) (x ∷ xs) (y ∷ ys) words = values-drop n xs ys words.1
+
+words-drop : (n : ℕ) (sorts numbers : List ℕ) → AllZip AreWords sorts numbers → AllZip AreWords (drop n sorts) (drop n numbers)
+words-drop zero sorts numbers words = words
+words-drop (suc n) [] [] words = words
+words-drop (suc n) [] (y ∷ ys) words = absurd words
+words-drop (suc n) (x ∷ xs) [] words = absurd words
+words-drop (suc n) (x ∷ xs) (y ∷ ys) words = words-drop n xs ys words.1
+
+-- what is left without so many at the front, where one is looked for or taken
+slice_get-drop : {X : Type 0} (n : ℕ) (xs : List X) (i k : ℕ) → k ≡ n + i → slice_get (drop n xs) i ≡ slice_get xs k
+slice_get-drop zero xs i k there = ap (slice_get xs) (omega (arith, there))
+slice_get-drop (suc n) [] zero k there = refl
+slice_get-drop (suc n) [] (suc i) k there = refl
+slice_get-drop (suc n) (x ∷ xs) i zero there = absurd (omega (arith, there))
+slice_get-drop (suc n) (x ∷ xs) i (suc k) there = slice_get-drop n xs i k (omega (arith, there))
+
+pub drop-remove : {X : Type 0} (n : ℕ) (xs : List X) (i k : ℕ) → k ≡ n + i → drop n (remove xs k) ≡ remove (drop n xs) i
+drop-remove zero xs i k there = ap (remove xs) (omega (arith, there))
+drop-remove (suc n) xs i zero there = absurd (omega (arith, there))
+drop-remove (suc n) [] zero (suc k) there = refl
+drop-remove (suc n) [] (suc i) (suc k) there = refl
+drop-remove (suc n) (x ∷ xs) i (suc k) there = drop-remove n xs i k (omega (arith, there))
+
+pub drop-one_more : {X : Type 0} (n : ℕ) (xs : List X) (k : ℕ) → k ≡ n + 1 → drop k xs ≡ remove (drop n xs) 0
+drop-one_more n xs zero there = absurd (omega (arith, there))
+drop-one_more zero [] (suc k) there = refl
+drop-one_more zero (x ∷ xs) (suc k) there = let none : k ≡ 0 = omega (arith, there) in ap (λ n. drop n xs) none
+drop-one_more (suc n) [] (suc k) there = refl
+drop-one_more (suc n) (x ∷ xs) (suc k) there = drop-one_more n xs k (omega (arith, there))
+
 -- what is known of the columns of a list
-module _ (sorts numbers : Vec ℕ Global) (kept : Kept) (items : values_in sorts.items numbers.items ≡ kept.items) (words : AllZip AreWords sorts.items numbers.items) where
-  pub sorts-len : vec_len sorts ≡ length kept.items
-  sorts-len = sorts.ok.0 ∙ length-sorts sorts.items numbers.items words ∙ ap length items
+module _ (sorts numbers : Vec ℕ Global) (first : ℕ) (kept : Kept) (items : drop first (values_in sorts.items numbers.items) ≡ kept.items) (words : AllZip AreWords sorts.items numbers.items) (begins : first ≤ length sorts.items) where
+  all-len : length (values_in sorts.items numbers.items) ≡ first + length kept.items
+  all-len = omega (arith, ap length items, length-drop first (values_in sorts.items numbers.items), length-sorts sorts.items numbers.items words, begins)
 
-  pub numbers-len : vec_len numbers ≡ length kept.items
-  numbers-len = numbers.ok.0 ∙ length-numbers sorts.items numbers.items words ∙ ap length items
+  pub sorts-len : vec_len sorts ≡ first + length kept.items
+  sorts-len = sorts.ok.0 ∙ length-sorts sorts.items numbers.items words ∙ all-len
 
-  module _ (i s n : ℕ) (within : i < length kept.items) (sort : s ≡ get_or sorts.items i s) (number : n ≡ get_or numbers.items i n) where
-    inside : i < length (values_in sorts.items numbers.items)
-    inside = subst (λ xs. i < length xs) (sym items) within
+  pub numbers-len : vec_len numbers ≡ first + length kept.items
+  numbers-len = numbers.ok.0 ∙ length-numbers sorts.items numbers.items words ∙ all-len
+
+  module _ (i s n : ℕ) (within : i < length kept.items) (sort : s ≡ get_or sorts.items (first + i) s) (number : n ≡ get_or numbers.items (first + i) n) where
+    inside : first + i < length (values_in sorts.items numbers.items)
+    inside = omega (arith, all-len, within)
 
     pub words-here : AreWords s n
-    words-here = words-at sorts.items numbers.items i s n words inside sort number
+    words-here = words-at sorts.items numbers.items (first + i) s n words inside sort number
 
     pub value-here : slice_get kept.items i ≡ Some (value_in s n)
-    value-here = ap (λ xs. slice_get xs i) (sym items) ∙ value-at sorts.items numbers.items i s n inside sort number
+    value-here =
+        ap (λ xs. slice_get xs i) (sym items)
+        ∙ slice_get-drop first (values_in sorts.items numbers.items) i (first + i) refl
+        ∙ value-at sorts.items numbers.items (first + i) s n inside sort number
 
 -- the columns stay such
-module _ (sorts numbers sorts' numbers' : List ℕ) (room a b a' b' : ℕ) (columns : AreColumns sorts numbers room a b) (as_sorts : a' ≡ a) (as_numbers : b' ≡ b) where
-  pub columns-set : (i s n : ℕ) → AreWords s n → sorts' ≡ set sorts i s → numbers' ≡ set numbers i n → AreColumns sorts' numbers' room a' b'
+module _ (sorts numbers sorts' numbers' : List ℕ) (first room a b a' b' : ℕ) (columns : AreColumns sorts numbers first room a b) (as_sorts : a' ≡ a) (as_numbers : b' ≡ b) where
+  pub columns-set : (i s n : ℕ) → AreWords s n → sorts' ≡ set sorts i s → numbers' ≡ set numbers i n → AreColumns sorts' numbers' first room a' b'
   columns-set i s n here is_sorts is_numbers = record {
     words = subst (λ xs. AllZip AreWords xs numbers') (sym is_sorts) (subst (AllZip AreWords (set sorts i s)) (sym is_numbers) (words-set sorts numbers i s n columns.words here));
-    behind_sorts = omega (arith, ap length is_sorts, length-set sorts i s, columns.behind_sorts, as_sorts);
-    behind_numbers = omega (arith, ap length is_numbers, length-set numbers i n, columns.behind_numbers, as_numbers);
+    within = omega (arith, ap length is_sorts, length-set sorts i s, columns.within);
+    room_for_sorts = omega (arith, ap length is_sorts, length-set sorts i s, columns.room_for_sorts, as_sorts);
+    room_for_numbers = omega (arith, ap length is_numbers, length-set numbers i n, columns.room_for_numbers, as_numbers);
   }
 
-  pub columns-remove : (i : ℕ) → i < length sorts → i < length numbers → sorts' ≡ remove sorts i → numbers' ≡ remove numbers i → AreColumns sorts' numbers' (room + 1) a' b'
-  columns-remove i in_sorts in_numbers is_sorts is_numbers = record {
+  pub columns-remove : (i : ℕ) → first ≤ i → i < length sorts → i < length numbers → sorts' ≡ remove sorts i → numbers' ≡ remove numbers i → AreColumns sorts' numbers' first (room + 1) a' b'
+  columns-remove i behind in_sorts in_numbers is_sorts is_numbers = record {
     words = subst (λ xs. AllZip AreWords xs numbers') (sym is_sorts) (subst (AllZip AreWords (remove sorts i)) (sym is_numbers) (words-remove sorts numbers i columns.words));
-    behind_sorts = omega (arith, ap length is_sorts, length-remove sorts i in_sorts, columns.behind_sorts, as_sorts);
-    behind_numbers = omega (arith, ap length is_numbers, length-remove numbers i in_numbers, columns.behind_numbers, as_numbers);
+    within = omega (arith, ap length is_sorts, length-remove sorts i in_sorts, behind, in_sorts);
+    room_for_sorts = omega (arith, ap length is_sorts, length-remove sorts i in_sorts, columns.room_for_sorts, as_sorts);
+    room_for_numbers = omega (arith, ap length is_numbers, length-remove numbers i in_numbers, columns.room_for_numbers, as_numbers);
   }
 
-  pub columns-push : (s n : ℕ) → 0 < room → AreWords s n → sorts' ≡ sorts ++ s ∷ [] → numbers' ≡ numbers ++ n ∷ [] → AreColumns sorts' numbers' (room - 1) a' b'
+  pub columns-push : (s n : ℕ) → 0 < room → AreWords s n → sorts' ≡ sorts ++ s ∷ [] → numbers' ≡ numbers ++ n ∷ [] → AreColumns sorts' numbers' first (room - 1) a' b'
   columns-push s n some here is_sorts is_numbers = record {
     words = subst (λ xs. AllZip AreWords xs numbers') (sym is_sorts) (subst (AllZip AreWords (sorts ++ s ∷ [])) (sym is_numbers) (words-push sorts numbers s n columns.words here));
-    behind_sorts = omega (arith, ap length is_sorts, length-append sorts (s ∷ []), columns.behind_sorts, as_sorts, some);
-    behind_numbers = omega (arith, ap length is_numbers, length-append numbers (n ∷ []), columns.behind_numbers, as_numbers, some);
+    within = omega (arith, ap length is_sorts, length-append sorts (s ∷ []), columns.within);
+    room_for_sorts = omega (arith, ap length is_sorts, length-append sorts (s ∷ []), columns.room_for_sorts, as_sorts, some);
+    room_for_numbers = omega (arith, ap length is_numbers, length-append numbers (n ∷ []), columns.room_for_numbers, as_numbers, some);
   }
 
-  module _ (s n : ℕ) (is_sorts : sorts ≡ sorts' ++ s ∷ []) (is_numbers : numbers ≡ numbers' ++ n ∷ []) where
+  pub columns-skip : first < length sorts → sorts' ≡ sorts → numbers' ≡ numbers → AreColumns sorts' numbers' (first + 1) (room + 1) a' b'
+  columns-skip some is_sorts is_numbers = record {
+    words = subst (λ xs. AllZip AreWords xs numbers') (sym is_sorts) (subst (AllZip AreWords sorts) (sym is_numbers) columns.words);
+    within = omega (arith, ap length is_sorts, some);
+    room_for_sorts = omega (arith, ap length is_sorts, columns.room_for_sorts, as_sorts);
+    room_for_numbers = omega (arith, ap length is_numbers, columns.room_for_numbers, as_numbers);
+  }
+
+  module _ (is_sorts : sorts' ≡ drop first sorts) (is_numbers : numbers' ≡ drop first numbers) where
+    begins : first ≤ length numbers
+    begins = omega (arith, columns.within, length-sorts sorts numbers columns.words, length-numbers sorts numbers columns.words)
+
+    pub columns-close : AreColumns sorts' numbers' 0 room a' b'
+    columns-close = record {
+      words = subst (λ xs. AllZip AreWords xs numbers') (sym is_sorts) (subst (AllZip AreWords (drop first sorts)) (sym is_numbers) (words-drop first sorts numbers columns.words));
+      within = omega arith;
+      room_for_sorts = omega (arith, ap length is_sorts, length-drop first sorts, columns.within, columns.room_for_sorts, as_sorts);
+      room_for_numbers = omega (arith, ap length is_numbers, length-drop first numbers, begins, columns.room_for_numbers, as_numbers);
+    }
+
+    pub values-close : values_in sorts' numbers' ≡ drop first (values_in sorts numbers)
+    values-close = (λ j. values_in (is_sorts j) (is_numbers j)) ∙ values-drop first sorts numbers columns.words
+
+  module _ (s n : ℕ) (some : first < length sorts) (is_sorts : sorts ≡ sorts' ++ s ∷ []) (is_numbers : numbers ≡ numbers' ++ n ∷ []) where
     popped : AllZip AreWords sorts' numbers' × AreWords s n
     popped = words-pop sorts' numbers' s n (subst (λ xs. AllZip AreWords xs (numbers' ++ n ∷ [])) is_sorts (subst (AllZip AreWords sorts) is_numbers columns.words))
 
-    pub columns-pop : AreColumns sorts' numbers' (room + 1) a' b'
+    begins' : first ≤ length sorts'
+    begins' = omega (arith, ap length is_sorts, length-append sorts' (s ∷ []), some)
+
+    pub columns-pop : AreColumns sorts' numbers' first (room + 1) a' b'
     columns-pop = record {
       words = popped.0;
-      behind_sorts = omega (arith, ap length is_sorts, length-append sorts' (s ∷ []), columns.behind_sorts, as_sorts);
-      behind_numbers = omega (arith, ap length is_numbers, length-append numbers' (n ∷ []), columns.behind_numbers, as_numbers);
+      within = begins';
+      room_for_sorts = omega (arith, ap length is_sorts, length-append sorts' (s ∷ []), columns.room_for_sorts, as_sorts);
+      room_for_numbers = omega (arith, ap length is_numbers, length-append numbers' (n ∷ []), columns.room_for_numbers, as_numbers);
     }
 
     pub words-last : AreWords s n
     words-last = popped.1
 
-    pub values-pop : values_in sorts numbers ≡ values_in sorts' numbers' ++ value_in s n ∷ []
-    values-pop = (λ i. values_in (is_sorts i) (is_numbers i)) ∙ values-push sorts' numbers' s n popped.0
+    pub values-pop : drop first (values_in sorts numbers) ≡ drop first (values_in sorts' numbers') ++ value_in s n ∷ []
+    values-pop =
+        ap (drop first) ((λ i. values_in (is_sorts i) (is_numbers i)) ∙ values-push sorts' numbers' s n popped.0)
+        ∙ drop-append-le first (values_in sorts' numbers') (value_in s n ∷ []) (omega (arith, begins', length-sorts sorts' numbers' popped.0))

@@ -45,11 +45,13 @@ AreWords sort number = sort ≡ 2 → number < 2 ^ 32
 abbrev pub AreOnlyWords : ℕ → ℕ → Type 0
 AreOnlyWords sort number = AreWords sort number × (sort < 4) × (sort ≡ 0 → number ≡ 0)
 
--- the columns have a sort and a number for each value, and each of the two has this room behind
-pub record AreColumns (sorts numbers : List ℕ) (room sorts_capacity numbers_capacity : ℕ) : Type 0 where
+-- the columns have a sort and a number for each value, the first of which is at this place, and each of the two has this room
+-- behind and in front of it
+pub record AreColumns (sorts numbers : List ℕ) (first room sorts_capacity numbers_capacity : ℕ) : Type 0 where
   pub words : AllZip AreWords sorts numbers
-  pub behind_sorts : length sorts + room ≤ sorts_capacity
-  pub behind_numbers : length numbers + room ≤ numbers_capacity
+  pub within : first ≤ length sorts
+  pub room_for_sorts : length sorts + room ≤ sorts_capacity + first
+  pub room_for_numbers : length numbers + room ≤ numbers_capacity + first
 
 -- the values of a list, and how many more fit without memory
 pub record Kept : Type 0 where

@@ -17,6 +17,8 @@ mod contents;
 #[cfg(test)]
 mod drop_tests;
 mod few;
+#[cfg(test)]
+mod front_tests;
 mod func;
 mod gap;
 mod hasher;

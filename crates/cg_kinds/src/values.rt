@@ -1,9 +1,9 @@
 //! Values in two columns, as lists keep many of them.
-ghost use Rattle.std.specs.Prelude.{◌≡◌, ◌+◌, ◌-◌, ◌<◌, ◌≤◌, ◌^◌, ◌++◌, ◌∷◌, [], length, map, Some, IfOk, OnOk, OnErr, OnSome, IfNone, IsNone, option_to_list, remove, slice_get, slice_set, take, drop};
+ghost use Rattle.std.specs.Prelude.{◌≡◌, ◌+◌, ◌-◌, ◌<◌, ◌≤◌, ◌^◌, ◌++◌, ◌∷◌, [], length, map, Some, IfOk, OnOk, OnErr, OnSome, IfNone, IsNone, option_to_list, remove, slice_get, slice_set, take, drop, vec_len, vec_capacity};
 ghost use Rattle.std.specs.List.{AllZip};
 ghost use Rattle.cg_graph.specs.Value.{item, references};
 ghost use Rattle.cg_kind.specs.Calls.{AreItems, next_entries};
-ghost use Rattle.cg_kinds.specs.Values.{value_in, values_in, sort_of, number_bits, text_bits, serial_bits, AreWords, AreOnlyWords};
+ghost use Rattle.cg_kinds.specs.Values.{value_in, values_in, sort_of, number_bits, text_bits, serial_bits, AreWords, AreOnlyWords, AreColumns};
 
 use crate::items::item_of;
 use cg_kind::{AT_ONCE, Noted, ROOM, note_entry};
@@ -13,24 +13,27 @@ use std::marker::Model;
 
 /// The values of a list, each in nine bytes: its sort in one column, and its number in the other.
 ///
-/// So the values behind one that is taken move as two runs of bytes.
+/// So the values behind one that is taken move as two runs of bytes. Those behind the first stay where they are when it is
+/// taken, and leave a gap in front.
 #[derive(Drop)]
 pub struct Values {
     sorts: Vec<u8>,
     numbers: Vec<u64>,
-    /// So many values more fit into both columns without memory.
+    /// The place of the first value. So many places in front of it hold no value any more.
+    first: usize,
+    /// So many values more fit into both columns without memory, some of them once the gap in front is closed.
     room: usize,
 }
 
 impl Model for Values {
-    ghost use Rattle.std.specs.Prelude.{vec_capacity};
+    ghost use Rattle.std.specs.Prelude.{drop, vec_capacity};
     ghost use Rattle.cg_kinds.specs.Values.{Kept, values_in, AreColumns};
 
     ghost Value = { Kept };
 
-    ghost view = { λ v. record { items = values_in v.sorts.items v.numbers.items; room = v.room } };
+    ghost view = { λ v. record { items = drop v.first (values_in v.sorts.items v.numbers.items); room = v.room } };
 
-    ghost invariant = { λ v. AreColumns v.sorts.items v.numbers.items v.room (vec_capacity v.sorts) (vec_capacity v.numbers) };
+    ghost invariant = { λ v. AreColumns v.sorts.items v.numbers.items v.first v.room (vec_capacity v.sorts) (vec_capacity v.numbers) };
 }
 
 /// The sort of a value.
@@ -128,6 +131,71 @@ fn note_between(sorts: &[u8], numbers: &[u64], from: usize, next: usize, found: 
     count
 }
 
+/// Without so many places at the front. Those behind move down as one run.
+fn lose_front<T: Copy + Drop>(column: &mut Vec<T>, n: usize)
+    requires { n ≤ vec_len column.old }
+    ensures items { column.new.items ≡ drop n column.old.items }
+    ensures capacity { vec_capacity column.new ≡ vec_capacity column.old }
+{
+    let len = column.len();
+    column.copy_within(n..len, 0);
+    column.truncate(len - n);
+}
+
+/// Closes the gap in front of the values.
+#[inline(never)]
+fn close_gap(sorts: &mut Vec<u8>, numbers: &mut Vec<u64>, first: usize)
+    requires in_sorts { first ≤ vec_len sorts.old }
+    requires in_numbers { first ≤ vec_len numbers.old }
+    ensures sorts { sorts.new.items ≡ drop first sorts.old.items }
+    ensures numbers { numbers.new.items ≡ drop first numbers.old.items }
+    ensures sorts_capacity { vec_capacity sorts.new ≡ vec_capacity sorts.old }
+    ensures numbers_capacity { vec_capacity numbers.new ≡ vec_capacity numbers.old }
+{
+    lose_front(sorts, first);
+    lose_front(numbers, first);
+}
+
+/// Makes a place behind both columns, where one value more has room: the gap is closed once a column is full.
+#[inline(never)]
+fn make_place(sorts: &mut Vec<u8>, numbers: &mut Vec<u64>, first: &mut usize, room: usize)
+    requires columns { AreColumns sorts.old.items numbers.old.items first.old room (vec_capacity sorts.old) (vec_capacity numbers.old) }
+    requires some { 0 < room }
+    ensures columns { AreColumns sorts.new.items numbers.new.items first.new room (vec_capacity sorts.new) (vec_capacity numbers.new) }
+    ensures values { drop first.new (values_in sorts.new.items numbers.new.items) ≡ drop first.old (values_in sorts.old.items numbers.old.items) }
+    ensures in_sorts { vec_len sorts.new < vec_capacity sorts.new }
+    ensures in_numbers { vec_len numbers.new < vec_capacity numbers.new }
+{
+    if sorts.len() < sorts.capacity() && numbers.len() < numbers.capacity() {
+        return;
+    }
+    close_gap(sorts, numbers, *first);
+    *first = 0;
+}
+
+/// A place behind both columns, where one value more has room. Where the room is more than the gap, there is one.
+#[inline(always)]
+fn have_place(sorts: &mut Vec<u8>, numbers: &mut Vec<u64>, first: &mut usize, room: usize)
+    requires columns { AreColumns sorts.old.items numbers.old.items first.old room (vec_capacity sorts.old) (vec_capacity numbers.old) }
+    requires some { 0 < room }
+    ensures columns { AreColumns sorts.new.items numbers.new.items first.new room (vec_capacity sorts.new) (vec_capacity numbers.new) }
+    ensures values { drop first.new (values_in sorts.new.items numbers.new.items) ≡ drop first.old (values_in sorts.old.items numbers.old.items) }
+    ensures in_sorts { vec_len sorts.new < vec_capacity sorts.new }
+    ensures in_numbers { vec_len numbers.new < vec_capacity numbers.new }
+{
+    if room <= *first {
+        make_place(sorts, numbers, first, room);
+    }
+}
+
+/// Beside so many values and their room, so many places more are kept free, which no room counts.
+///
+/// So a list without room that loses a value in front for each that it gets behind has its gap closed only after so many.
+#[inline(always)]
+fn spare(len: usize) -> usize {
+    len / 8
+}
+
 impl Values {
     /// The values of items, in their order.
     pub fn of_items(alloc: Global, parts: &[Entry]) -> Result<Values, AllocError>
@@ -146,11 +214,13 @@ impl Values {
         ensures items { IfOk result (λ made. made.items ≡ []) }
         ensures room { IfOk result (λ made. made.room ≡ room) }
     {
-        let sorts = Vec::with_capacity(alloc, room)?;
-        let numbers = Vec::with_capacity(alloc, room)?;
+        let places = room.saturating_add(spare(room));
+        let sorts = Vec::with_capacity(alloc, places)?;
+        let numbers = Vec::with_capacity(alloc, places)?;
         Ok(Values {
             sorts,
             numbers,
+            first: 0,
             room,
         })
     }
@@ -160,7 +230,7 @@ impl Values {
     pub fn len(&self) -> usize
         ensures { result ≡ length self.now.items }
     {
-        self.numbers.len()
+        self.numbers.len() - self.first
     }
 
     /// The value at a place.
@@ -169,7 +239,8 @@ impl Values {
         requires { i < length self.now.items }
         ensures { slice_get self.now.items i ≡ Some result }
     {
-        val_of(self.sorts[i], self.numbers[i])
+        let at = self.first + i;
+        val_of(self.sorts[at], self.numbers[at])
     }
 
     /// Goes over some items of the values from a position on, as `cg_kind::Kind::note_from` says it.
@@ -185,7 +256,8 @@ impl Values {
         let next = from + AT_ONCE.min(self.len() - from);
         let sorts = self.sorts.as_slice();
         let numbers = self.numbers.as_slice();
-        let references = note_between(sorts, numbers, from, next, found);
+        let first = self.first;
+        let references = note_between(sorts, numbers, first + from, first + next, found);
         Noted { next, references }
     }
 
@@ -197,21 +269,60 @@ impl Values {
         ensures room { self.new.room ≡ self.old.room }
     {
         let (sort, number) = words_of(val);
-        self.sorts[i] = sort;
-        self.numbers[i] = number;
+        let at = self.first + i;
+        self.sorts[at] = sort;
+        self.numbers[at] = number;
     }
 
-    /// Takes the value at a place; those behind it move down by one.
+    /// Takes the value at a place. Those behind it move down by one; behind the first they stay, until the gap is closed.
     pub fn remove(&mut self, i: usize) -> Val
         requires { i < length self.old.items }
         ensures val { slice_get self.old.items i ≡ Some result }
         ensures items { self.new.items ≡ remove self.old.items i }
         ensures room { self.new.room ≡ self.old.room + 1 }
     {
-        let sort = self.sorts.remove(i);
-        let number = self.numbers.remove(i);
+        if i == 0 {
+            return self.take_first();
+        }
+        let at = self.first + i;
+        let sort = self.sorts.remove(at);
+        let number = self.numbers.remove(at);
         self.room += 1;
         val_of(sort, number)
+    }
+
+    /// Takes the first value. The gap is closed where it has become wider than what is left.
+    fn take_first(&mut self) -> Val
+        requires { 0 < length self.old.items }
+        ensures val { slice_get self.old.items 0 ≡ Some result }
+        ensures items { self.new.items ≡ remove self.old.items 0 }
+        ensures room { self.new.room ≡ self.old.room + 1 }
+    {
+        let val = self.val(0);
+        self.skip_first();
+        if self.first > self.len() {
+            self.close();
+        }
+        val
+    }
+
+    /// Without the first value.
+    #[inline(always)]
+    fn skip_first(&mut self)
+        requires { 0 < length self.old.items }
+        ensures items { self.new.items ≡ remove self.old.items 0 }
+        ensures room { self.new.room ≡ self.old.room + 1 }
+    {
+        self.first += 1;
+        self.room += 1;
+    }
+
+    /// Closes the gap in front.
+    fn close(&mut self)
+        ensures { self.new ≡ self.old }
+    {
+        close_gap(&mut self.sorts, &mut self.numbers, self.first);
+        self.first = 0;
     }
 
     /// Takes the last value, if there is one.
@@ -255,16 +366,19 @@ impl Values {
     // The room stays as it was until both columns have grown.
     #[inline(never)]
     fn grow(&mut self, n: usize) -> Result<(), AllocError>
+        requires { self.old.room < n }
         ensures items { self.new.items ≡ self.old.items }
         ensures ok { OnOk result (n ≤ self.new.room) }
         ensures no_less { self.old.room ≤ self.new.room }
         ensures err { OnErr result (self.new ≡ self.old) }
     {
-        self.sorts.reserve(n)?;
-        self.numbers.reserve(n)?;
+        self.close();
+        let more = n.saturating_add(spare(self.len()));
+        self.sorts.reserve(more)?;
+        self.numbers.reserve(more)?;
         let behind_sorts = self.sorts.capacity() - self.sorts.len();
         let behind_numbers = self.numbers.capacity() - self.numbers.len();
-        self.room = behind_sorts.min(behind_numbers);
+        self.room = behind_sorts.min(behind_numbers) - (more - n);
         Ok(())
     }
 
@@ -275,6 +389,8 @@ impl Values {
         ensures items { self.new.items ≡ self.old.items ++ val ∷ [] }
         ensures room { self.new.room ≡ self.old.room - 1 }
     {
+        let room = self.room;
+        have_place(&mut self.sorts, &mut self.numbers, &mut self.first, room);
         let (sort, number) = words_of(val);
         self.sorts.push_reserved(sort);
         self.numbers.push_reserved(number);
