@@ -110,7 +110,7 @@ pub(crate) fn val_of(sort: u8, number: u64) -> Val
     }
 }
 
-/// Writes down the references of the values from one place of both columns to another, which are at most eight. It answers
+/// Writes down the references of the values from one place of both columns to another, which are at most `AT_ONCE`. It answers
 /// how many there are.
 #[inline(always)]
 fn note_between(sorts: &[u8], numbers: &[u64], from: usize, next: usize, found: &mut [u64]) -> usize
