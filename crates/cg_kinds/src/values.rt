@@ -156,24 +156,8 @@ fn close_gap(sorts: &mut Vec<u8>, numbers: &mut Vec<u64>, first: usize)
     lose_front(numbers, first);
 }
 
-/// Makes a place behind both columns, where one value more has room: the gap is closed once a column is full.
-#[inline(never)]
-fn make_place(sorts: &mut Vec<u8>, numbers: &mut Vec<u64>, first: &mut usize, room: usize)
-    requires columns { AreColumns sorts.old.items numbers.old.items first.old room (vec_capacity sorts.old) (vec_capacity numbers.old) }
-    requires some { 0 < room }
-    ensures columns { AreColumns sorts.new.items numbers.new.items first.new room (vec_capacity sorts.new) (vec_capacity numbers.new) }
-    ensures values { drop first.new (values_in sorts.new.items numbers.new.items) ≡ drop first.old (values_in sorts.old.items numbers.old.items) }
-    ensures in_sorts { vec_len sorts.new < vec_capacity sorts.new }
-    ensures in_numbers { vec_len numbers.new < vec_capacity numbers.new }
-{
-    if sorts.len() < sorts.capacity() && numbers.len() < numbers.capacity() {
-        return;
-    }
-    close_gap(sorts, numbers, *first);
-    *first = 0;
-}
-
-/// A place behind both columns, where one value more has room. Where the room is more than the gap, there is one.
+/// A place behind both columns, where one value more has room: the gap is closed once a column is full. Where the room is more
+/// than the gap, there is a place.
 #[inline(always)]
 fn have_place(sorts: &mut Vec<u8>, numbers: &mut Vec<u64>, first: &mut usize, room: usize)
     requires columns { AreColumns sorts.old.items numbers.old.items first.old room (vec_capacity sorts.old) (vec_capacity numbers.old) }
@@ -183,9 +167,14 @@ fn have_place(sorts: &mut Vec<u8>, numbers: &mut Vec<u64>, first: &mut usize, ro
     ensures in_sorts { vec_len sorts.new < vec_capacity sorts.new }
     ensures in_numbers { vec_len numbers.new < vec_capacity numbers.new }
 {
-    if room <= *first {
-        make_place(sorts, numbers, first, room);
+    if *first < room {
+        return;
     }
+    if sorts.len() < sorts.capacity() && numbers.len() < numbers.capacity() {
+        return;
+    }
+    close_gap(sorts, numbers, *first);
+    *first = 0;
 }
 
 /// Beside so many values and their room, so many places more are kept free, which no room counts.

@@ -1,6 +1,6 @@
 use Rattle.std.proofs.Common.{arith}
 use Rattle.cg_kinds.proofs.ValueLemmas.{columns-close, values-close}
-use Rattle.cg_kinds.proofs.values.make_place.Goals as goal
+use Rattle.cg_kinds.proofs.values.have_place.Goals as goal
 
 pub returns-clause-columns : goal.returns-clause-columns
 returns-clause-columns c = columns-close _ _ _ _ _ _ _ _ _ _ c.requires.columns c.close_gap.ensures.sorts_capacity c.close_gap.ensures.numbers_capacity c.close_gap.ensures.sorts c.close_gap.ensures.numbers
