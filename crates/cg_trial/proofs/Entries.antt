@@ -2,6 +2,7 @@
 use Rattle.std.proofs.Common.{◌≡◌, refl, sym, ◌∙◌, ap, subst, ℕ, ◌+◌, ◌<◌, ◌≤◌, List, [], ◌∷◌, ◌++◌, length, take, drop, get_or, inl, Option, Some, None, Bool, IsTrue, arith, append_assoc}
 use Rattle.std.proofs.lemmas.List.{append-nil, take-append-drop, drop_more}
 use Rattle.cg_kind.specs.Calls.{next_entries}
+use Rattle.cg_kind.specs.declared.notes.TheConstants.{AT_ONCE}
 use Rattle.cg_kind.proofs.References.{next_within, next_last, references_next, references_parts}
 use Rattle.std.proofs.Math.Seq.{take-length}
 use Rattle.std.proofs.lemmas.Grind.{flat_map-append}
@@ -99,7 +100,7 @@ lowering_more o old mid new from next so is more =
     }
 
 -- where few came next, these were the last
-pub few_last : (o : ℕ) (old mid : View) (from next : ℕ) → from ≤ length (old.entries o) → IsSame old mid → next ≡ from + length (next_entries (mid.entries o) from) → next < from + 8 → next ≡ length (old.entries o)
+pub few_last : (o : ℕ) (old mid : View) (from next : ℕ) → from ≤ length (old.entries o) → IsSame old mid → next ≡ from + length (next_entries (mid.entries o) from) → next < from + AT_ONCE → next ≡ length (old.entries o)
 few_last o old mid from next within same is few =
     let e = ap (λ (ns : List Entry). length ns) (next_same old mid o from same) in
     omega (arith, is, few, e, next_last (old.entries o) from within (omega (arith, is, few, e)))
