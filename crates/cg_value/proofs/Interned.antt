@@ -1,7 +1,10 @@
 -- What a table of texts finds and what goes into it.
-use Rattle.std.proofs.Common.{◌≡◌, ℕ, ◌+◌, List, [], ◌∷◌, ◌++◌, map, length, Bool, true, false, cond, not, ◌||◌, Some, None, position, nat_lt, refl, sym, ap, ◌∙◌, arith}
+use Rattle.std.proofs.Common.{◌<◌, ◌≡◌, ℕ, zero, suc, slice_get, is_some, unwrap_or, subst, true≢false, ◌+◌, List, [], ◌∷◌, ◌++◌, map, length, Bool, true, false, cond, not, ◌||◌, Some, None, position, nat_lt, refl, sym, ap, ◌∙◌, arith}
+use Rattle.std.proofs.lemmas.Option.{slice_get_within}
+use Rattle.std.proofs.lemmas.Map.Keys.{IsDistinct-head, IsDistinct-tail}
+use Rattle.std.specs.Cmp.{IsEquivalence}
 use Rattle.std.proofs.lemmas.List.{length-map}
-use Rattle.std.specs.List.{list_any, position_or_len}
+use Rattle.std.specs.List.{list_any, position_or_len, IsDistinct, AllByRecursion}
 use Rattle.std.specs.Str.{bytes_eq}
 use Rattle.cg_value.specs.Texts.{has_text, text_number, with_text}
 
@@ -59,3 +62,46 @@ module _ {A : Type 0} (f : A → List ℕ) (keys : List A) (text : List ℕ) whe
         ap (map f) (e ∙ ap (λ b. cond b keys (keys ++ x ∷ [])) none) ∙ map_push f keys x ∙ ap (λ t. map f keys ++ t ∷ []) is
             ∙ sym (ap (λ b. cond b (map f keys) (map f keys ++ text ∷ [])) gone),
       )
+
+every_at : {K : Type 0} (P : K → Type 0) (xs : List K) (i : ℕ) (k : K) → AllByRecursion P xs → slice_get xs i ≡ Some k → P k
+every_at P [] i k all at = absurd (true≢false (sym (ap is_some at)))
+every_at P (x ∷ xs) zero k all at = subst P (ap (λ o. unwrap_or o x) at) all.0
+every_at P (x ∷ xs) (suc i) k all at = every_at P xs i k all.1 at
+
+found_first : (b : Bool) (n : ℕ) → b ≡ true → cond (not b) (1 + n) 0 ≡ 0
+found_first true n e = refl
+found_first false n e = cc
+
+found_later : (b : Bool) (n i : ℕ) → b ≡ false → n ≡ i → cond (not b) (1 + n) 0 ≡ suc i
+found_later true n i e is = cc
+found_later false n i e is = omega (arith, is)
+
+within : {A : Type 0} (i n : ℕ) (a b : A) → i < n → cond (nat_lt i n) a b ≡ a
+within i n a b lt = grind (arith, lt)
+
+past_all : {A : Type 0} (n : ℕ) (a b : A) → cond (nat_lt n n) a b ≡ b
+past_all n a b = grind (arith)
+
+-- keys are distinct, so one that passes the test of a key stands at the test's first place
+module _ {K : Type 0} {eq : K → K → Bool} (laws : IsEquivalence eq) (test : K → Bool) (k : K) (passes : test k ≡ true) (same : (x : K) → test x ≡ eq k x) where
+  own_place : (keys : List K) (i : ℕ) → IsDistinct eq keys → slice_get keys i ≡ Some k → position_or_len test keys ≡ i
+  own_place [] i apart at = absurd (true≢false (sym (ap is_some at)))
+  own_place (x ∷ xs) zero apart at = found_first (test x) _ (ap test (ap (λ o. unwrap_or o x) at) ∙ passes)
+  own_place (x ∷ xs) (suc i) apart at =
+      let other : eq x k ≡ false = every_at (λ y. eq x y ≡ false) xs i k (IsDistinct-head eq x xs apart) at in
+      found_later (test x) _ _ (same x ∙ laws.symm k x ∙ other) (own_place xs i (IsDistinct-tail eq x xs apart) at)
+
+  pub own_position : (keys : List K) (i : ℕ) → IsDistinct eq keys → slice_get keys i ≡ Some k → position test keys ≡ Some i
+  own_position keys i apart at =
+      ap (λ n. cond (nat_lt n (length keys)) (Some n) None) (own_place keys i apart at)
+      ∙ within i (length keys) (Some i) None (slice_get_within keys i k at)
+
+-- what has a first place is there
+pub found_there : {A : Type 0} (p : A → Bool) (xs : List A) (i : ℕ) → position p xs ≡ Some i → list_any p xs ≡ true
+found_there p xs i at = by (list_any p xs) refl
+  where
+    by : (b : Bool) → list_any p xs ≡ b → b ≡ true
+    by true e = refl
+    by false e =
+        let past : position p xs ≡ None = ap (λ n. cond (nat_lt n (length xs)) (Some n) None) (absent_place p xs e) ∙ past_all (length xs) (Some (length xs)) None in
+        absurd (true≢false (sym (ap is_some (sym past ∙ at))))

@@ -1,5 +1,5 @@
 //! Interned texts. (Interning is ours; CPython interns identifiers likewise.)
-ghost use Rattle.std.specs.Prelude.{◌≡◌, ◌+◌, ◌-◌, ◌^◌, ◌<◌, List, [], length, map, position, IfOk, OnOk, OnErr, slice_get, Some};
+ghost use Rattle.std.specs.Prelude.{◌≡◌, ◌↔◌, ◌+◌, ◌-◌, ◌^◌, ◌<◌, List, [], length, map, position, IsTrue, IfOk, OnOk, OnErr, slice_get, Some};
 ghost use Rattle.std.specs.String.{string_bytes};
 ghost use Rattle.std.specs.Str.{bytes_eq};
 ghost use Rattle.cg_value.specs.Texts.{has_text, text_number, with_text};
@@ -8,6 +8,24 @@ use indexmap::IndexSet;
 use std::alloc::{AllocError, Global};
 use std::marker::Model;
 
+/// How many guesses there are.
+const GUESSES: usize = 64;
+
+/// Which guess is that of a text. Texts may share one, and then it is the number of the last that was read.
+///
+/// Most names end otherwise than the others, as those that are numbered do, so that all bits of the last byte count.
+#[inline(always)]
+fn guess_place(text: &str) -> usize
+    ensures { result < 64 }
+{
+    let bytes = text.as_bytes();
+    let (first, last) = match (bytes.first(), bytes.last()) {
+        (Some(first), Some(last)) => (*first as usize, *last as usize),
+        _ => (0, 0),
+    };
+    (last ^ (first << 2) ^ (bytes.len() << 4)) % GUESSES
+}
+
 /// Texts by number, each once: contracts see the list of their bytes, in the order of their numbers.
 ///
 /// It has at most 2^32 - 1 texts, so that each number is a `u32`.
@@ -15,6 +33,9 @@ use std::marker::Model;
 pub struct Names {
     alloc: Global,
     texts: IndexSet<String>,
+    // The number that a text may have, by its `guess_place`. Any is right: a text whose number is another is looked up. It only
+    // saves time, since most texts were read a moment ago.
+    guesses: [u32; GUESSES],
 }
 
 impl Model for Names {
@@ -36,13 +57,24 @@ impl Names {
         Names {
             alloc,
             texts: IndexSet::new(alloc),
+            guesses: [0; GUESSES],
         }
     }
 
-    /// The number of a text: its position, after it was appended if it was not there.
-    ///
-    /// It answers `AllocError` for want of memory alone, and then nothing has changed.
-    pub fn intern(&mut self, text: &str) -> Result<u32, AllocError>
+    /// Whether this is a text's number. The text is compared, and not hashed.
+    #[inline(always)]
+    fn is_number_of(&self, number: u32, text: &str) -> bool
+        ensures { IsTrue result ↔ (position (bytes_eq text.now) self.now ≡ Some number) }
+    {
+        match self.texts.as_slice().get(number as usize) {
+            Some(there) => there.as_str() == text,
+            None => false,
+        }
+    }
+
+    /// As `intern`, for a text whose guess is wrong.
+    #[inline(never)]
+    fn look_up(&mut self, text: &str) -> Result<u32, AllocError>
         requires { length self.old < 2 ^ 32 - 1 }
         ensures number { IfOk result (λ number. number ≡ text_number self.old text.now) }
         ensures ok { OnOk result (self.new ≡ with_text self.old text.now) }
@@ -54,6 +86,25 @@ impl Names {
         let number = self.texts.len();
         self.texts.insert(String::from_str(self.alloc, text)?)?;
         Ok(number as u32)
+    }
+
+    /// The number of a text: its position, after it was appended if it was not there.
+    ///
+    /// It answers `AllocError` for want of memory alone, and then nothing has changed.
+    pub fn intern(&mut self, text: &str) -> Result<u32, AllocError>
+        requires { length self.old < 2 ^ 32 - 1 }
+        ensures number { IfOk result (λ number. number ≡ text_number self.old text.now) }
+        ensures ok { OnOk result (self.new ≡ with_text self.old text.now) }
+        ensures err { OnErr result (self.new ≡ self.old) }
+    {
+        let place = guess_place(text);
+        let guess = self.guesses[place];
+        if self.is_number_of(guess, text) {
+            return Ok(guess);
+        }
+        let number = self.look_up(text)?;
+        self.guesses[place] = number;
+        Ok(number)
     }
 
     /// The number of a text, `None` exactly where it is not there.
@@ -94,7 +145,7 @@ impl Names {
 
 #[cfg(test)]
 mod tests {
-    use super::Names;
+    use super::{Names, guess_place};
     use std::test::Fail;
 
     #[test]
@@ -113,6 +164,26 @@ mod tests {
         }
         assert_eq!(rt; names.find("d"), None);
         assert!(rt; !names.has("d"));
+        Ok(())
+    }
+
+    #[test]
+    fn texts_that_share_a_guess_keep_their_numbers(rt: HostRuntime) -> Result<(), Fail> {
+        let mut names = Names::new(rt.alloc());
+        for (text, number) in [
+            ("axb", 0),
+            ("ayb", 1),
+            ("axb", 0),
+            ("azb", 2),
+            ("azb", 2),
+            ("ayb", 1),
+            ("axb", 0),
+        ] {
+            assert!(rt; names.len() < 100);
+            assert_eq!(rt; guess_place(text), guess_place("axb"), "at {text:?}");
+            assert_eq!(rt; names.intern(text)?, number, "at {text:?}");
+        }
+        assert_eq!(rt; names.len(), 3);
         Ok(())
     }
 }
